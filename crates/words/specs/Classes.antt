@@ -1,0 +1,8 @@
+-- The size classes.
+use Rattle.std.specs.Prelude.{ℕ, ◌==◌, IsTrue}
+use Rattle.std.specs.List.{list_any}
+use Rattle.words.specs.declared.class.TheConstants.{CLASSES}
+
+-- so many words are the words of a size class
+abbrev pub IsSizeClass : ℕ → Type 0
+IsSizeClass n = IsTrue (list_any (λ c. c == n) CLASSES)

@@ -1,0 +1,4 @@
+pub mod Bits
+pub mod Classes
+pub mod Placing
+pub mod Refusals

@@ -1,0 +1,26 @@
+-- The codes and names of refusals, as they are printed.
+use Rattle.std.specs.Prelude.{ℕ, List, codes}
+use Rattle.words.specs.declared.refusal.Refusal.{Refusal}
+use Rattle.words.specs.declared.refusal.Refusal.TheVariants.{NoSlot, Misaligned, NoObject, NotBase, BadSize, Full, StackFull, StackEmpty, WrongPhase}
+
+abbrev pub code_of : Refusal → ℕ
+code_of NoSlot = 1
+code_of Misaligned = 2
+code_of NoObject = 3
+code_of NotBase = 4
+code_of BadSize = 5
+code_of Full = 6
+code_of StackFull = 7
+code_of StackEmpty = 8
+code_of WrongPhase = 9
+
+abbrev pub name_of : Refusal → List ℕ
+name_of NoSlot = codes "NoSlot"
+name_of Misaligned = codes "Misaligned"
+name_of NoObject = codes "NoObject"
+name_of NotBase = codes "NotBase"
+name_of BadSize = codes "BadSize"
+name_of Full = codes "Full"
+name_of StackFull = codes "StackFull"
+name_of StackEmpty = codes "StackEmpty"
+name_of WrongPhase = codes "WrongPhase"

@@ -1,0 +1,98 @@
+//! A row of bits, seen as the list of its bits. Its members are the places of the bits that are set.
+ghost use Rattle.std.specs.Prelude.{◌≡◌, ◌≢◌, ◌%◌, ◌==◌, ℕ, ◌+◌, ◌*◌, ◌/◌, ◌^◌, ◌<◌, ◌≤◌, Bool, true, false, List, length, slice_index_or, slice_set, vec_len, IfOk, MatchOption};
+ghost use Rattle.std.specs.Int.{bit_at};
+ghost use Rattle.words.specs.Bits.{bit, bits, IsEmptyFrom, IsFirstFrom, IsOneFrom, IsFirstZero, IsClear};
+
+use crate::scan::one_from;
+use std::alloc::{AllocError, Global};
+use std::marker::Model;
+
+#[derive(Drop)]
+pub struct BitRow {
+    words: Vec<u64>,
+    len: usize,
+}
+
+impl Model for BitRow {
+    ghost Value = { List Bool };
+
+    ghost view = { λ s. bits s.words.items s.len };
+
+    ghost invariant = { λ s. (vec_len s.words ≡ s.len / 64 + 1) × (s.len < 2 ^ 32) };
+}
+
+#[tactic(auto, using(crate::proofs::Rows::rows))]
+impl BitRow {
+    pub fn new(alloc: Global, len: usize) -> Result<BitRow, AllocError>
+        requires { len < 2 ^ 32 }
+        ensures { IfOk result (λ row. IsClear row len) }
+    {
+        let words = vec![in alloc; 0u64; len / 64 + 1]?;
+        Ok(BitRow { words, len })
+    }
+
+    pub fn len(&self) -> usize
+        ensures { result ≡ length self.now }
+    {
+        self.len
+    }
+
+    pub fn is_set(&self, i: usize) -> bool
+        requires { i < length self.now }
+        ensures { result ≡ slice_index_or self.now i false }
+    {
+        (self.words[i / 64] >> (i % 64)) & 1 == 1
+    }
+
+    pub fn set(&mut self, i: usize)
+        requires { i < length self.old }
+        ensures { self.new ≡ slice_set self.old i true }
+    {
+        let word = self.words[i / 64];
+        self.words[i / 64] = word | (1 << (i % 64));
+    }
+
+    pub fn clear(&mut self, i: usize)
+        requires { i < length self.old }
+        ensures { self.new ≡ slice_set self.old i false }
+    {
+        let word = self.words[i / 64];
+        self.words[i / 64] = word & !(1 << (i % 64));
+    }
+
+    pub fn clear_all(&mut self)
+        ensures { IsClear self.new (length self.old) }
+    {
+        self.words.fill(0);
+    }
+
+    // The words, lowest bits first.
+    pub fn as_words(&self) -> &[u64]
+        ensures bits { bits result.now (length self.now) ≡ self.now }
+        ensures size { length result.now ≡ length self.now / 64 + 1 }
+    {
+        self.words.as_slice()
+    }
+
+    // Gives the bits of the word j those of `word`.
+    pub fn set_word(&mut self, j: usize, word: u64)
+        requires { j < length self.old / 64 + 1 }
+        ensures size { length self.new ≡ length self.old }
+        ensures inside { (k : ℕ) → k < length self.old → k / 64 ≡ j → slice_index_or self.new k false ≡ (bit_at word (k % 64) == 1) }
+        ensures others { (k : ℕ) → k / 64 ≢ j → slice_index_or self.new k false ≡ slice_index_or self.old k false }
+    {
+        self.words[j] = word;
+    }
+
+    /// The lowest member from `low` on, found by whole words.
+    #[tactic(auto, using(crate::proofs::Scans::of_row))]
+    pub fn next(&self, low: usize) -> Option<usize>
+        ensures { MatchOption result (IsEmptyFrom self.now low) (λ i. IsFirstFrom self.now low i) }
+    {
+        if low >= self.len {
+            return None;
+        }
+        let i = one_from(self.words.as_slice(), low);
+        if i < self.len { Some(i) } else { None }
+    }
+}

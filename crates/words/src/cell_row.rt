@@ -1,0 +1,78 @@
+//! A row of at most 256 bits that lies in the value itself, seen as the list of its bits.
+ghost use Rattle.std.specs.Prelude.{◌≡◌, ℕ, ◌+◌, ◌*◌, ◌/◌, ◌^◌, ◌<◌, ◌≤◌, Bool, true, false, List, length, replicate, slice_index_or, slice_set, MatchOption, MatchBool};
+ghost use Rattle.words.specs.Bits.{bits, IsFullRow, IsEmptyFrom, IsFirstFrom, IsFirstClear};
+
+use crate::scan::{one_from, zero_in};
+use std::marker::Model;
+
+#[derive(Drop)]
+pub struct CellRow {
+    words: [u64; 4],
+    len: u16,
+}
+
+impl Model for CellRow {
+    ghost Value = { List Bool };
+
+    ghost view = { λ s. bits s.words s.len };
+
+    ghost invariant = { λ s. s.len ≤ 256 };
+}
+
+#[tactic(auto, using(crate::proofs::Rows::rows))]
+impl CellRow {
+    pub fn new(len: u16) -> CellRow
+        requires { len ≤ 256 }
+        ensures { result ≡ replicate len false }
+    {
+        CellRow { words: [0; 4], len }
+    }
+
+    pub fn len(&self) -> u16
+        ensures { result ≡ length self.now }
+    {
+        self.len
+    }
+
+    pub fn is_set(&self, i: u16) -> bool
+        requires { i < length self.now }
+        ensures { result ≡ slice_index_or self.now i false }
+    {
+        (self.words[i as usize / 64] >> (i as usize % 64)) & 1 == 1
+    }
+
+    pub fn set(&mut self, i: u16)
+        requires { i < length self.old }
+        ensures { self.new ≡ slice_set self.old i true }
+    {
+        let word = self.words[i as usize / 64];
+        self.words[i as usize / 64] = word | (1 << (i as usize % 64));
+    }
+
+    pub fn clear(&mut self, i: u16)
+        requires { i < length self.old }
+        ensures { self.new ≡ slice_set self.old i false }
+    {
+        let word = self.words[i as usize / 64];
+        self.words[i as usize / 64] = word & !(1 << (i as usize % 64));
+    }
+
+    #[tactic(auto, using(crate::proofs::Scans::of_row))]
+    pub fn first_clear(&self) -> Option<u16>
+        ensures { MatchOption result (IsFullRow self.now) (λ i. IsFirstClear self.now i) }
+    {
+        let i = zero_in(&self.words);
+        if i < self.len as usize {
+            Some(i as u16)
+        } else {
+            None
+        }
+    }
+
+    #[tactic(auto, using(crate::proofs::Scans::of_row))]
+    pub fn is_empty(&self) -> bool
+        ensures { MatchBool result (IsEmptyFrom self.now 0) ((i : ℕ) × IsFirstFrom self.now 0 i) }
+    {
+        one_from(&self.words, 0) >= self.len as usize
+    }
+}

@@ -1,0 +1,18 @@
+//! The words of the heap: its limits, the small numbers that name its parts, size classes, refusals and
+//! rows of bits. This crate stands on nothing and touches no memory of the heap.
+#![tactic(auto)]
+
+mod bit_row;
+mod cell_row;
+mod class;
+pub mod limits;
+mod places;
+mod refusal;
+mod scan;
+
+pub use bit_row::BitRow;
+pub use cell_row::CellRow;
+pub use class::{CLASSES, Class, Kind, Placement, class_of};
+pub use limits::PageNo;
+pub use places::{Global, Reg, Slot};
+pub use refusal::{OpenError, Refusal};

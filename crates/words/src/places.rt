@@ -1,0 +1,141 @@
+//! The small numbers that name a mutator, a register and a global. Contracts see each as its number.
+ghost use Rattle.std.specs.Prelude.{◌≡◌, ℕ, ◌<◌, ◌≤◌, MatchOption};
+ghost use Rattle.words.specs.declared.limits.TheConstants.{SLOTS, REGISTERS, GLOBALS};
+
+use crate::limits::{GLOBALS, REGISTERS, SLOTS};
+use std::marker::Model;
+
+/// The place of a mutator, below [`SLOTS`].
+#[derive(Clone, Copy, Debug, PartialEq, Eq)]
+pub struct Slot {
+    number: u8,
+}
+
+impl Model for Slot {
+    ghost Value = { ℕ };
+
+    ghost view = { λ s. s.number };
+
+    ghost invariant = { λ s. s.number < SLOTS };
+
+    ghost inverse = { λ n. record { number = n } };
+}
+
+impl Slot {
+    /// The slot of that number, and `None` exactly out of range.
+    pub fn new(number: u8) -> Option<Slot>
+        ensures { MatchOption result (SLOTS ≤ number) (λ slot. (slot ≡ number) × (number < SLOTS)) }
+    {
+        if number < SLOTS {
+            Some(Slot { number })
+        } else {
+            None
+        }
+    }
+
+    /// Its number.
+    pub fn number(self) -> u8
+        ensures value { result ≡ self }
+        ensures range { result < SLOTS }
+    {
+        self.number
+    }
+
+    /// Its number, to index rows with.
+    pub fn index(self) -> usize
+        ensures value { result ≡ self }
+        ensures range { result < SLOTS }
+    {
+        usize::from(self.number)
+    }
+}
+
+/// The place of a register, below [`REGISTERS`].
+#[derive(Clone, Copy, Debug, PartialEq, Eq)]
+pub struct Reg {
+    number: u8,
+}
+
+impl Model for Reg {
+    ghost Value = { ℕ };
+
+    ghost view = { λ r. r.number };
+
+    ghost invariant = { λ r. r.number < REGISTERS };
+
+    ghost inverse = { λ n. record { number = n } };
+}
+
+impl Reg {
+    /// The register of that number, and `None` exactly out of range.
+    pub fn new(number: u8) -> Option<Reg>
+        ensures { MatchOption result (REGISTERS ≤ number) (λ reg. (reg ≡ number) × (number < REGISTERS)) }
+    {
+        if number < REGISTERS {
+            Some(Reg { number })
+        } else {
+            None
+        }
+    }
+
+    /// Its number.
+    pub fn number(self) -> u8
+        ensures value { result ≡ self }
+        ensures range { result < REGISTERS }
+    {
+        self.number
+    }
+
+    /// Its number, to index rows with.
+    pub fn index(self) -> usize
+        ensures value { result ≡ self }
+        ensures range { result < REGISTERS }
+    {
+        usize::from(self.number)
+    }
+}
+
+/// The place of a global, below [`GLOBALS`].
+#[derive(Clone, Copy, Debug, PartialEq, Eq)]
+pub struct Global {
+    number: u8,
+}
+
+impl Model for Global {
+    ghost Value = { ℕ };
+
+    ghost view = { λ g. g.number };
+
+    ghost invariant = { λ g. g.number < GLOBALS };
+
+    ghost inverse = { λ n. record { number = n } };
+}
+
+impl Global {
+    /// The global of that number, and `None` exactly out of range.
+    pub fn new(number: u8) -> Option<Global>
+        ensures { MatchOption result (GLOBALS ≤ number) (λ global. (global ≡ number) × (number < GLOBALS)) }
+    {
+        if number < GLOBALS {
+            Some(Global { number })
+        } else {
+            None
+        }
+    }
+
+    /// Its number.
+    pub fn number(self) -> u8
+        ensures value { result ≡ self }
+        ensures range { result < GLOBALS }
+    {
+        self.number
+    }
+
+    /// Its number, to index rows with.
+    pub fn index(self) -> usize
+        ensures value { result ≡ self }
+        ensures range { result < GLOBALS }
+    {
+        usize::from(self.number)
+    }
+}

@@ -1,0 +1,80 @@
+//! Why a call is refused, and why a heap is not opened.
+ghost use Rattle.std.specs.Prelude.{◌≡◌};
+ghost use Rattle.words.specs.Refusals.{code_of, name_of};
+
+/// Why a call is refused. A refused call changes nothing.
+#[derive(Clone, Copy, Debug, PartialEq, Eq)]
+pub enum Refusal {
+    /// No slot is free for a mutator to come, or the slot has no mutator.
+    NoSlot,
+
+    /// The address is not divisible by the bytes of a word.
+    Misaligned,
+
+    /// The address reads no object.
+    NoObject,
+
+    /// The address lies inside an object and is not its base.
+    NotBase,
+
+    /// A request of no words, or of more than the limit.
+    BadSize,
+
+    /// No place of the heap has room.
+    Full,
+
+    /// The mutator's stack has no room for another word.
+    StackFull,
+
+    /// The mutator's stack has no word.
+    StackEmpty,
+
+    /// The call does not fit the phase of the collector.
+    WrongPhase,
+}
+
+impl Refusal {
+    /// The code as it is printed, from 1.
+    pub fn code(self) -> u8
+        ensures { result ≡ code_of self }
+    {
+        match self {
+            Refusal::NoSlot => 1,
+            Refusal::Misaligned => 2,
+            Refusal::NoObject => 3,
+            Refusal::NotBase => 4,
+            Refusal::BadSize => 5,
+            Refusal::Full => 6,
+            Refusal::StackFull => 7,
+            Refusal::StackEmpty => 8,
+            Refusal::WrongPhase => 9,
+        }
+    }
+
+    /// The name as it is printed.
+    pub fn name(self) -> &'static str
+        ensures { result.now ≡ name_of self }
+    {
+        match self {
+            Refusal::NoSlot => "NoSlot",
+            Refusal::Misaligned => "Misaligned",
+            Refusal::NoObject => "NoObject",
+            Refusal::NotBase => "NotBase",
+            Refusal::BadSize => "BadSize",
+            Refusal::Full => "Full",
+            Refusal::StackFull => "StackFull",
+            Refusal::StackEmpty => "StackEmpty",
+            Refusal::WrongPhase => "WrongPhase",
+        }
+    }
+}
+
+/// Why a heap is not opened.
+#[derive(Clone, Copy, Debug, PartialEq, Eq)]
+pub enum OpenError {
+    /// No page, or more than the limit.
+    BadPages,
+
+    /// A growth of memory was refused.
+    Memory,
+}
