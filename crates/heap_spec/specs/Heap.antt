@@ -1,0 +1,62 @@
+-- The sequential heap as its users see it: no mark, no dirty page, no block and no free list.
+use Rattle.std.specs.Prelude.{◌≡◌, ℕ, ◌==◌, Option, Some, None, List, [], length, replicate, if◌then◌else◌, slice_get, ◌++◌, flat_map}
+use Rattle.words.specs.declared.class.Kind.{Kind}
+use Rattle.words.specs.declared.limits.TheConstants.{SLOTS, GLOBALS}
+use Rattle.heap_spec.specs.Layout.{Reads}
+
+-- An object: which allocation made it, whether the collector reads its words, and its words.
+pub record Object : Type 0 where
+  pub birth : ℕ
+  pub kind : Kind
+  pub words : List ℕ
+
+-- An attached mutator: the words of its registers, and its stack from the bottom.
+pub record Mutator : Type 0 where
+  pub registers : List ℕ
+  pub stack : List ℕ
+
+-- The heap: how many pages it has, the object at each base, the mutator at each slot, the words of the globals, and
+-- how many allocations were granted.
+pub record Heap : Type 0 where
+  pub pages : ℕ
+  pub objects : ℕ → Option Object
+  pub mutators : List (Option Mutator)
+  pub globals : List ℕ
+  pub births : ℕ
+
+-- The heap that opens: no object, no mutator, globals of 0, and no birth.
+abbrev pub opening : ℕ → Heap
+opening pages = record { pages = pages; objects = λ _. None; mutators = replicate SLOTS None; globals = replicate GLOBALS 0; births = 0 }
+
+-- an object has this base
+abbrev pub HasObject : Heap → ℕ → Object → Type 0
+HasObject s base o = s.objects base ≡ Some o
+
+-- a mutator is attached at the slot
+abbrev pub IsAttached : Heap → ℕ → Mutator → Type 0
+IsAttached s slot m = slice_get s.mutators slot ≡ Some (Some m)
+
+-- no mutator is attached at the slot
+abbrev pub IsVacant : Heap → ℕ → Type 0
+IsVacant s slot = slice_get s.mutators slot ≡ Some None
+
+-- a word reads the object with this base
+abbrev pub ReadsObject : Heap → ℕ → ℕ → Object → Type 0
+ReadsObject s w base o = HasObject s base o × Reads w base (length o.words)
+
+-- a word reads no object
+abbrev pub ReadsNothing : Heap → ℕ → Type 0
+ReadsNothing s w = (base : ℕ) (o : Object) → ReadsObject s w base o → ⊥
+
+-- the words of a slot: the registers, and then the stack from the bottom
+abbrev pub words_of : Option Mutator → List ℕ
+words_of None = []
+words_of (Some m) = m.registers ++ m.stack
+
+-- The root words in their order: those of the attached slots, ascending, and then the globals.
+abbrev pub root_words : Heap → List ℕ
+root_words s = flat_map words_of s.mutators ++ s.globals
+
+-- the objects with this at the base, and as before at any other
+abbrev pub with_at : {A : Type 0} → (ℕ → Option A) → ℕ → Option A → ℕ → Option A
+with_at m k v q = if q == k then v else m q

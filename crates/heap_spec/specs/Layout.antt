@@ -1,0 +1,23 @@
+-- Where the heap's bytes lie.
+use Rattle.std.specs.Prelude.{ℕ, ◌+◌, ◌*◌, ◌<◌, ◌≤◌, ◌^◌}
+use Rattle.words.specs.declared.limits.TheConstants.{WORD_BYTES, PAGE_BYTES, FIRST_ADDRESS}
+
+-- words count up to here, and then begin again at 0
+abbrev pub word_end : ℕ
+word_end = 2 ^ 64
+
+-- the address of a page's first byte
+abbrev pub page_start : ℕ → ℕ
+page_start page = FIRST_ADDRESS + PAGE_BYTES * page
+
+-- the address past the last byte of a heap of so many pages
+abbrev pub heap_end : ℕ → ℕ
+heap_end pages = page_start pages
+
+-- A word reads what lies at a base and is so many words long: it is the address of one of its bytes, aligned or not.
+abbrev pub Reads : ℕ → ℕ → ℕ → Type 0
+Reads w base len = (base ≤ w) × (w < base + WORD_BYTES * len)
+
+-- one of the bytes at this base lies on the page
+abbrev pub LiesOn : ℕ → ℕ → ℕ → Type 0
+LiesOn base len page = (base < page_start (page + 1)) × (page_start page < base + WORD_BYTES * len)

@@ -1,0 +1,11 @@
+pub mod Layout
+pub mod Heap
+pub mod Closure
+pub mod Room
+pub mod Steps
+pub mod Replies
+pub mod Runs
+pub mod Cycles
+pub mod Histories
+pub mod Transcripts
+pub mod Objects

@@ -1,0 +1,105 @@
+-- The step of every mutator call.
+use Rattle.std.specs.Prelude.{◌≡◌, ◌≢◌, ℕ, ◌+◌, ◌-◌, ◌*◌, ◌/◌, ◌%◌, ◌<◌, Option, Some, None, List, [], ◌∷◌, ◌++◌, length, replicate, slice_index, slice_set}
+use Rattle.words.specs.declared.limits.TheConstants.{WORD_BYTES, REGISTERS, STACK_WORDS}
+use Rattle.words.specs.declared.class.Kind.{Kind}
+use Rattle.words.specs.declared.class.Placement.{Placement}
+use Rattle.words.specs.declared.refusal.Refusal.TheVariants.{NoSlot, Misaligned, NoObject, NotBase, BadSize, Full, StackFull, StackEmpty}
+use Rattle.words.specs.Placing.{placement_of}
+use Rattle.heap_spec.specs.declared.call.Call.{Call}
+use Rattle.heap_spec.specs.declared.call.Call.TheVariants.{Detach, Set, Copy, Add, Sub, Get, Push, Pop, Load, Store, Alloc, Free, Base, Size, GlobalGet, GlobalPut}
+use Rattle.heap_spec.specs.declared.event.Event.{Event}
+use Rattle.heap_spec.specs.declared.event.Event.TheVariants.{Attach, Mutator, Begin, Roots, Mark, Retrace, Finish, Sweep, Collect, Number}
+use Rattle.heap_spec.specs.declared.reply.Reply.{Reply}
+use Rattle.heap_spec.specs.declared.reply.Reply.TheVariants.{Slot, Done, Word, Count, Refused}
+use Rattle.heap_spec.specs.Layout.{word_end}
+use Rattle.heap_spec.specs.Heap.{Heap, Object, Mutator as HeapMutator, HasObject, IsAttached, IsVacant, ReadsObject, ReadsNothing, with_at}
+use Rattle.heap_spec.specs.Room.{HasRoom, length_of}
+
+-- A mutator comes with registers of 0 and an empty stack.
+abbrev pub newcomer : HeapMutator
+newcomer = record { registers = replicate REGISTERS 0; stack = [] }
+
+-- the heap with this at the slot
+abbrev pub with_mutator : Heap → ℕ → Option HeapMutator → Heap
+with_mutator s slot m = record s { mutators = slice_set s.mutators slot m }
+
+-- the heap with this word in the slot's register
+abbrev pub with_register : Heap → ℕ → HeapMutator → ℕ → ℕ → Heap
+with_register s slot m r w = with_mutator s slot (Some (record m { registers = slice_set m.registers r w }))
+
+-- the heap with this, or no object, at the base
+abbrev pub with_object : Heap → ℕ → Option Object → Heap
+with_object s base o = record s { objects = with_at s.objects base o }
+
+-- the word of a register
+abbrev pub register : HeapMutator → ℕ → ℕ
+register m r = slice_index m.registers r
+
+-- the address that a load or a store goes to
+abbrev pub address : HeapMutator → ℕ → ℕ → ℕ
+address m r offset = (register m r + WORD_BYTES * offset) % word_end
+
+-- the lowest slot with no mutator
+abbrev pub IsLowestVacant : Heap → ℕ → Type 0
+IsLowestVacant s slot = IsVacant s slot × ((k : ℕ) → k < slot → IsVacant s k → ⊥)
+
+-- A mutator comes: the lowest vacant slot becomes its own, and it is refused exactly if none is vacant.
+pub data Attaches (s : Heap) : Reply → Heap → Type 0 where
+  attached : {slot : ℕ} → IsLowestVacant s slot → Attaches s (Slot slot) (with_mutator s slot (Some newcomer))
+  no_slot : ((k : ℕ) → IsVacant s k → ⊥) → Attaches s (Refused NoSlot) s
+
+-- What a call of the mutator m, attached at the slot, may answer, and the heap after it: one constructor an outcome. A
+-- refused call leaves the heap as it is, and a call that meets several refusals answers the first in the order of its lines.
+pub data Acts (s : Heap) (slot : ℕ) (m : HeapMutator) : Call → Reply → Heap → Type 0 where
+  detached : Acts s slot m Detach Done (with_mutator s slot None)
+  set : {r w : ℕ} → Acts s slot m (Set r w) Done (with_register s slot m r w)
+  copied : {d a : ℕ} → Acts s slot m (Copy d a) Done (with_register s slot m d (register m a))
+  added : {d a n : ℕ} → Acts s slot m (Add d a n) Done (with_register s slot m d ((register m a + n) % word_end))
+  subtracted : {d a b : ℕ} → Acts s slot m (Sub d a b) Done (with_register s slot m d ((register m a + word_end - register m b) % word_end))
+  got : {r : ℕ} → Acts s slot m (Get r) (Word (register m r)) s
+  pushed : {r : ℕ} → length m.stack < STACK_WORDS → Acts s slot m (Push r) Done (with_mutator s slot (Some (record m { stack = m.stack ++ register m r ∷ [] })))
+  push_full : {r : ℕ} → length m.stack ≡ STACK_WORDS → Acts s slot m (Push r) (Refused StackFull) s
+  popped : {r w : ℕ} (rest : List ℕ) → m.stack ≡ rest ++ w ∷ [] → Acts s slot m (Pop r) (Word w) (with_register s slot (record m { stack = rest }) r w)
+  pop_empty : {r : ℕ} → m.stack ≡ [] → Acts s slot m (Pop r) (Refused StackEmpty) s
+  loaded : {d a n base : ℕ} {o : Object} → address m a n % WORD_BYTES ≡ 0 → ReadsObject s (address m a n) base o
+      → Acts s slot m (Load d a n) (Word (slice_index o.words ((address m a n - base) / WORD_BYTES)))
+      (with_register s slot m d (slice_index o.words ((address m a n - base) / WORD_BYTES)))
+  load_misaligned : {d a n : ℕ} → address m a n % WORD_BYTES ≢ 0 → Acts s slot m (Load d a n) (Refused Misaligned) s
+  load_nothing : {d a n : ℕ} → address m a n % WORD_BYTES ≡ 0 → ReadsNothing s (address m a n) → Acts s slot m (Load d a n) (Refused NoObject) s
+  stored : {a n r base : ℕ} {o : Object} → address m a n % WORD_BYTES ≡ 0 → ReadsObject s (address m a n) base o
+      → Acts s slot m (Store a n r) Done
+      (with_object s base (Some (record o { words = slice_set o.words ((address m a n - base) / WORD_BYTES) (register m r) })))
+  store_misaligned : {a n r : ℕ} → address m a n % WORD_BYTES ≢ 0 → Acts s slot m (Store a n r) (Refused Misaligned) s
+  store_nothing : {a n r : ℕ} → address m a n % WORD_BYTES ≡ 0 → ReadsNothing s (address m a n) → Acts s slot m (Store a n r) (Refused NoObject) s
+  allocated : {d n : ℕ} {kind : Kind} {place : Placement} (a : ℕ) → placement_of n ≡ Some place → HasRoom s place kind a
+      → Acts s slot m (Alloc d n kind) Done
+      (record (with_register (with_object s a (Some (record { birth = s.births + 1; kind = kind; words = replicate (length_of place) 0 }))) slot m d a) { births = s.births + 1 })
+  bad_size : {d n : ℕ} {kind : Kind} → placement_of n ≡ None → Acts s slot m (Alloc d n kind) (Refused BadSize) s
+  full : {d n : ℕ} {kind : Kind} {place : Placement} → placement_of n ≡ Some place → ((a : ℕ) → HasRoom s place kind a → ⊥) → Acts s slot m (Alloc d n kind) (Refused Full) s
+  freed : {r : ℕ} {o : Object} → HasObject s (register m r) o → Acts s slot m (Free r) Done (with_object s (register m r) None)
+  free_inside : {r base : ℕ} {o : Object} → ReadsObject s (register m r) base o → base ≢ register m r → Acts s slot m (Free r) (Refused NotBase) s
+  free_nothing : {r : ℕ} → ReadsNothing s (register m r) → Acts s slot m (Free r) (Refused NoObject) s
+  based : {d a base : ℕ} {o : Object} → ReadsObject s (register m a) base o → Acts s slot m (Base d a) (Word base) (with_register s slot m d base)
+  base_nothing : {d a : ℕ} → ReadsNothing s (register m a) → Acts s slot m (Base d a) (Refused NoObject) s
+  sized : {r base : ℕ} {o : Object} → ReadsObject s (register m r) base o → Acts s slot m (Size r) (Count (length o.words)) s
+  size_nothing : {r : ℕ} → ReadsNothing s (register m r) → Acts s slot m (Size r) (Refused NoObject) s
+  global_got : {d g : ℕ} → Acts s slot m (GlobalGet d g) (Word (slice_index s.globals g)) (with_register s slot m d (slice_index s.globals g))
+  global_put : {g r : ℕ} → Acts s slot m (GlobalPut g r) Done (record s { globals = slice_set s.globals g (register m r) })
+
+-- A call for a slot: the attached mutator's, and refused exactly if the slot is vacant.
+pub data Calls (s : Heap) (slot : ℕ) (call : Call) : Reply → Heap → Type 0 where
+  acts : {m : HeapMutator} {reply : Reply} {s' : Heap} → IsAttached s slot m → Acts s slot m call reply s' → Calls s slot call reply s'
+  vacant : IsVacant s slot → Calls s slot call (Refused NoSlot) s
+
+-- A step of the heap: the call that an event is, with its reply and the heap after it. Only calls of mutators are steps.
+abbrev pub Step : Heap → Event → Reply → Heap → Type 0
+Step s Attach reply s' = Attaches s reply s'
+Step s (Mutator slot call) reply s' = Calls s slot call reply s'
+Step s Begin reply s' = ⊥
+Step s Roots reply s' = ⊥
+Step s (Mark n) reply s' = ⊥
+Step s Retrace reply s' = ⊥
+Step s Finish reply s' = ⊥
+Step s Sweep reply s' = ⊥
+Step s Collect reply s' = ⊥
+Step s Number reply s' = ⊥

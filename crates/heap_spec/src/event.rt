@@ -1,0 +1,38 @@
+//! The commands of mutators and of the collector.
+
+use crate::call::Call;
+use words::Slot;
+
+/// What may be asked of a heap.
+#[derive(Clone, Copy, Debug, PartialEq, Eq)]
+pub enum Event {
+    /// A mutator comes.
+    Attach,
+
+    /// A mutator calls.
+    Mutator(Slot, Call),
+
+    /// Begins a cycle.
+    Begin,
+
+    /// Marks what root words read.
+    Roots,
+
+    /// Marks on, over at most so many words.
+    Mark(u64),
+
+    /// Reads a dirty page again.
+    Retrace,
+
+    /// Ends the cycle.
+    Finish,
+
+    /// Sweeps a pending block.
+    Sweep,
+
+    /// Collects in full.
+    Collect,
+
+    /// Answers how many collections were granted.
+    Number,
+}
