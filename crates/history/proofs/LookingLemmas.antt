@@ -1,0 +1,103 @@
+-- The loads by which a pass learns more of the history keep the rule.
+use Rattle.std.proofs.Common.{◌≡◌, ℕ, ◌≤◌, ◌⊎◌, leb, inl, inr, Bool, true, false, cond, List, [], ◌∷◌, length, set, refl, ap, sym, subst, arith}
+use Rattle.std.specs.Prelude.{slice_index}
+use mathlib.Core.Option.{some}
+use mathlib.Core.List.{IsPrefix}
+use lib.ListN.{get_elem?}
+use Rattle.std.proofs.lemmas.Bool.{leb-true, leb-false}
+use native.Mathlib.Decide.{dec_le}
+use Rattle.atomic_table.specs.Table.{State, Me, keeps, Allows}
+use Rattle.history.specs.declared.object.Rank.{Rank}
+use Rattle.history.specs.declared.event.Event.{Event}
+use Rattle.history.specs.declared.view.Known.{Known}
+use Rattle.history.specs.declared.view.View.{View}
+use Rattle.history.specs.Passes.{longer}
+use Rattle.history.specs.Plays.{learnt, Learnt, saw, Saw, met, Met}
+use Rattle.history.specs.Rules.{keeping, holding, Follows, Fits, Standing, Kept}
+use Rattle.history.proofs.Fronts.{prefix_self, prefix_trans, prefix_shorter}
+use Rattle.history.proofs.Fitting.{has_one, owned_whole, follows_whole, fits_set, at_keeper}
+use Rattle.history.proofs.Tallies.{tally_set, tally_one}
+
+module _ {C R : Type 0} (rank : C → Rank) (legal : List (Event C R) → Type 0) where
+  -- a step that appends nothing
+  stays : (ws : List ℕ) (views : List (View C R)) (log : List (Event C R)) (id : ℕ) (v w : View C R) → Standing rank legal ws views log → get_elem? views id ≡ some v → Fits rank log w → keeping w ≡ keeping v → ((who : ℕ) → holding who w ≡ holding who v)
+      → Standing rank legal (set ws 0 (slice_index ws 0)) (set views id w) log
+  stays ws views log id v w st at fw kw hw = record {
+    words_are = ap (λ (x : List ℕ). set x 0 (slice_index x 0)) st.words_are;
+    is_legal = st.is_legal;
+    fits = fits_set rank log views id w (λ j u _ there. st.fits j u there) fw;
+    keepers = omega (arith, st.keepers, tally_set keeping views id v w at, kw);
+    holders = λ who. omega (arith, st.holders who, tally_set (holding who) views id v w at, hw who);
+  }
+
+  -- the keeper's guest learns the whole history
+  pub kept_learns : (slots id : ℕ) (me : Me Unit (View C R)) → me.0.keeps ≡ true → me.0.hosts ≡ true
+      → Allows (λ (s : State Unit (View C R)). Kept rank legal s.words s.views) slots id me 0 (λ n. n) (λ n w. Learnt rank me w)
+  kept_learns slots id me kv hv s kept len at lt =
+      let st = at_keeper rank legal s.words s.views id me.0 kept at kv in
+      let f = st.fits id me.0 at in
+      let o = owned_whole rank me.0.log me.0.guest (f.guest hv) in (
+        learnt me.0,
+        keeps,
+        tt,
+        (me.0.log, stays s.words s.views me.0.log id me.0 (learnt me.0) st at (record { keeper = f.keeper; pass = f.pass; guest = λ t. follows_whole rank me.0.log me.0.guest.slot me.0.guest.mine o }) refl (λ who. refl)),
+        record { before = (f.guest hv).prefix; owned = o; view_is = refl },
+      )
+
+  index_of : (ws : List ℕ) (n : ℕ) → ws ≡ n ∷ [] → slice_index ws 0 ≡ n
+  index_of ws n e = ap (λ (x : List ℕ). slice_index x 0) e
+
+  -- a pass sees the history as it is
+  pub kept_sees : (slots id : ℕ) (me : Me Unit (View C R)) → me.0.holds ≡ true
+      → Allows (λ (s : State Unit (View C R)). Kept rank legal s.words s.views) slots id me 0 (λ n. n) (λ n w. Saw rank legal me n w)
+  kept_sees slots id me hv s kept len at lt =
+      let st = kept.1 in
+      let f = st.fits id me.0 at in
+      let o = owned_whole rank kept.0 me.0.pass (f.pass hv) in (
+        saw kept.0 me.0,
+        keeps,
+        tt,
+        (kept.0, stays s.words s.views kept.0 id me.0 (saw kept.0 me.0) st at (record { keeper = f.keeper; pass = λ t. follows_whole rank kept.0 me.0.pass.slot me.0.pass.mine o; guest = f.guest }) refl (λ who. refl)),
+        record { log = kept.0; before = (f.pass hv).prefix; is_legal = st.is_legal; owned = o; found_is = index_of s.words _ st.words_are; view_is = refl },
+      )
+
+  longer_prefix : (xs ys log : List (Event C R)) (b : Bool) → leb (length xs) (length ys) ≡ b → IsPrefix xs log → IsPrefix ys log → IsPrefix (longer xs ys) log
+  longer_prefix xs ys log true e p q = subst (λ (b : Bool). IsPrefix (cond b ys xs) log) (sym e) q
+  longer_prefix xs ys log false e p q = subst (λ (b : Bool). IsPrefix (cond b ys xs) log) (sym e) p
+
+  first_begins : (xs ys log : List (Event C R)) (b : Bool) → leb (length xs) (length ys) ≡ b → IsPrefix xs log → IsPrefix ys log → IsPrefix xs (longer xs ys)
+  first_begins xs ys log true e p q = subst (λ (b : Bool). IsPrefix xs (cond b ys xs)) (sym e) (prefix_shorter xs ys log p q (leb-true (length xs) (length ys) e))
+  first_begins xs ys log false e p q = subst (λ (b : Bool). IsPrefix xs (cond b ys xs)) (sym e) (prefix_self xs)
+
+  second_begins : (xs ys log : List (Event C R)) (b : Bool) → leb (length xs) (length ys) ≡ b → IsPrefix xs log → IsPrefix ys log → IsPrefix ys (longer xs ys)
+  second_begins xs ys log true e p q = subst (λ (b : Bool). IsPrefix ys (cond b ys xs)) (sym e) (prefix_self ys)
+  second_begins xs ys log false e p q = let less = leb-false (length xs) (length ys) e in subst (λ (b : Bool). IsPrefix ys (cond b ys xs)) (sym e) (prefix_shorter ys xs log q p (omega (arith, less)))
+
+  one_begins : (xs ys log : List (Event C R)) → IsPrefix xs log → IsPrefix ys log → Dec (length xs ≤ length ys) → IsPrefix xs ys ⊎ IsPrefix ys xs
+  one_begins xs ys log p q (yes h) = inl (prefix_shorter xs ys log p q h)
+  one_begins xs ys log p q (no n) = inr (prefix_shorter ys xs log q p (omega arith))
+
+  -- a pass that has seen more of the history than before
+  follows_more : (log more : List (Event C R)) (p : Known C R) → Follows rank log p → IsPrefix p.seen more → IsPrefix more log → Follows rank log (record { slot = p.slot; seen = more; mine = p.mine })
+  follows_more log more p f longer_is top = record { prefix = top; between = λ q a b. f.between q (prefix_trans p.seen more q longer_is a) b }
+
+  -- a pass and the guest at its seat take the longer of what the two have seen
+  pub kept_meets : (slots id : ℕ) (me : Me Unit (View C R)) → me.0.holds ≡ true → me.0.hosts ≡ true
+      → Allows (λ (s : State Unit (View C R)). Kept rank legal s.words s.views) slots id me 0 (λ n. n) (λ n w. Met rank me w)
+  kept_meets slots id me hp hg s kept len at lt =
+      let st = kept.1 in
+      let f = st.fits id me.0 at in
+      let p = f.pass hp in
+      let q = f.guest hg in
+      let a = me.0.pass.seen in
+      let b = me.0.guest.seen in
+      let top = longer_prefix a b kept.0 (leb (length a) (length b)) refl p.prefix q.prefix in
+      let a_more = first_begins a b kept.0 (leb (length a) (length b)) refl p.prefix q.prefix in
+      let b_more = second_begins a b kept.0 (leb (length a) (length b)) refl p.prefix q.prefix in
+      let apart = λ (same : me.0.pass.slot ≡ me.0.guest.slot). absurd {A = ⊥} (omega (arith, st.holders me.0.pass.slot, tally_one (holding me.0.pass.slot) s.views id me.0 at, has_one me.0.pass.slot me.0.holds me.0.pass hp refl, has_one me.0.pass.slot me.0.hosts me.0.guest hg (sym same))) in (
+        met me.0,
+        keeps,
+        tt,
+        (kept.0, stays s.words s.views kept.0 id me.0 (met me.0) st at (record { keeper = f.keeper; pass = λ t. follows_more kept.0 (longer a b) me.0.pass p a_more top; guest = λ t. follows_more kept.0 (longer a b) me.0.guest q b_more top }) refl (λ who. refl)),
+        record { one = one_begins a b kept.0 p.prefix q.prefix (dec_le (length a) (length b)); apart = apart; pass_owned = p.between (longer a b) a_more top; guest_owned = q.between (longer a b) b_more top; view_is = refl },
+      )

@@ -1,0 +1,75 @@
+// How the rights of a pass go to another seat and back. Each half is a load of the word, since a view changes only at a step, and the history stays as it is.
+ghost use Rattle.std.specs.Prelude.{◌≡◌, true, false};
+ghost use Rattle.history.specs.Views.{without_pass, only_pass, with_guest, without_guest, only_guest, with_pass, nobody};
+
+use crate::log::Log;
+use crate::object::Object;
+use crate::rule::Naming;
+use crate::view::View;
+use atomic_table::{Join, Seat, Split};
+
+/// A seat's pass becomes the guest of another seat.
+pub struct Lends;
+
+impl<C, R> Split<View<C, R>> for Lends {
+    ghost left = { without_pass };
+
+    ghost right = { only_pass };
+}
+
+impl<C, R> Join<View<C, R>> for Lends {
+    ghost both = { with_guest };
+
+    ghost spent = { nobody };
+}
+
+/// A seat's guest becomes the pass of another seat.
+pub struct Returns;
+
+impl<C, R> Split<View<C, R>> for Returns {
+    ghost left = { without_guest };
+
+    ghost right = { only_guest };
+}
+
+impl<C, R> Join<View<C, R>> for Returns {
+    ghost both = { with_pass };
+
+    ghost spent = { nobody };
+}
+
+impl<O: Object, J: Naming> Log<O, J> {
+    // The pass of `owner` becomes the guest of `host`.
+    pub(crate) fn lend(
+        &self,
+        owner: &mut Seat<(), View<O::Call, O::Reply>>,
+        host: &mut Seat<(), View<O::Call, O::Reply>>,
+    )
+        requires owner { owner.old.table_id ≡ J.table }
+        requires host { host.old.table_id ≡ J.table }
+        ensures owner_here { owner.new.table_id ≡ J.table }
+        ensures owner_is { owner.new.me ≡ (without_pass owner.old.me.0, owner.old.me.1) }
+        ensures host_here { host.new.table_id ≡ J.table }
+        ensures host_is { host.new.me ≡ (with_guest host.old.me.0 (only_pass owner.old.me.0), host.old.me.1) }
+    {
+        let rights = self.table.shared.split_seat::<Lends>(owner);
+        self.table.shared.join_seat::<Lends>(host, rights);
+    }
+
+    // The guest of `host` becomes the pass of `owner`, to whom it belongs.
+    pub(crate) fn give_back(
+        &self,
+        owner: &mut Seat<(), View<O::Call, O::Reply>>,
+        host: &mut Seat<(), View<O::Call, O::Reply>>,
+    )
+        requires owner { owner.old.table_id ≡ J.table }
+        requires host { host.old.table_id ≡ J.table }
+        ensures owner_here { owner.new.table_id ≡ J.table }
+        ensures owner_is { owner.new.me ≡ (with_pass owner.old.me.0 (only_guest host.old.me.0), owner.old.me.1) }
+        ensures host_here { host.new.table_id ≡ J.table }
+        ensures host_is { host.new.me ≡ (without_guest host.old.me.0, host.old.me.1) }
+    {
+        let rights = self.table.shared.split_seat::<Returns>(host);
+        self.table.shared.join_seat::<Returns>(owner, rights);
+    }
+}

@@ -1,0 +1,47 @@
+ghost use Rattle.std.specs.Prelude.{◌≡◌};
+ghost use Rattle.history.specs.Histories.{StandsAfter};
+
+use crate::object::{Object, Quiet};
+use crate::rule::Naming;
+use crate::view::View;
+use atomic_table::Seat;
+use std::marker::{Model, PhantomData};
+
+/// The object with the keeper's seat. It lies under the lock. Contracts see the object and the whole history.
+#[derive(Drop)]
+pub struct Logged<O: Object, J: Naming> {
+    pub(crate) object: O,
+    pub(crate) keeper: Seat<(), View<O::Call, O::Reply>>,
+    pub(crate) of: PhantomData<J>,
+}
+
+impl<O: Object, J: Naming> Model for Logged<O, J> {
+    ghost use Rattle.history.specs.Histories.{StandsAfter};
+    ghost use Rattle.history.specs.Passes.{Recorded};
+    ghost use Rattle.history.specs.Rules.{IsKeeper};
+
+    ghost Value = { Recorded O O.Call O.Reply };
+
+    ghost view = { λ l. record { object = l.object; history = l.keeper.me.0.log } };
+
+    ghost invariant = { λ l. IsKeeper J.table l.keeper.table_id l.keeper.me.0 × StandsAfter O.opens O.step O.stands l.keeper.me.0.log l.object };
+}
+
+impl<O: Object, J: Naming> Logged<O, J> {
+    /// The object. It stands for a state that the history leads to.
+    pub fn object(&self) -> &O
+        ensures object { result.now ≡ self.now.object }
+        ensures stands { StandsAfter O.opens O.step O.stands self.now.history self.now.object }
+    {
+        &self.object
+    }
+
+    /// Runs work on the object that is no event: the history stays as it is.
+    pub fn quiet<Q: Quiet<O>>(&mut self, work: &mut Q) -> Q::Answer
+        ensures gives { Q.gives work.old self.old.object result work.new self.new.object }
+        ensures keeps { (s : O.State) → O.stands self.old.object s → O.stands self.new.object s }
+        ensures history { self.new.history ≡ self.old.history }
+    {
+        work.run(&mut self.object)
+    }
+}
