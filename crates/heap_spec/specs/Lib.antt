@@ -9,3 +9,4 @@ pub mod Cycles
 pub mod Histories
 pub mod Transcripts
 pub mod Objects
+pub mod Ranges
