@@ -1,0 +1,2 @@
+pub mod RegisterSteps
+pub mod Chains

@@ -1,0 +1,11 @@
+//! Tests of `history`: a register behind a lock, whose calls say the sentence that `history` is for.
+#![tactic(auto)]
+
+mod jobs;
+mod register;
+mod shared;
+
+pub use jobs::{Job, make_calls, run_all, settle};
+pub use register::{Call, Register, Reply};
+pub use shared::{Collector, Mutator, ReadValue, SharedRegister};
+
