@@ -10,3 +10,5 @@ pub mod Histories
 pub mod Transcripts
 pub mod Objects
 pub mod Ranges
+pub mod Sound
+pub mod Laws

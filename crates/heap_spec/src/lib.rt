@@ -4,6 +4,7 @@
 
 mod call;
 mod event;
+pub mod laws;
 mod reply;
 
 pub use call::Call;

@@ -1,0 +1,169 @@
+-- Each call keeps a heap sound.
+use Rattle.std.proofs.Common.{◌≡◌, ℕ, ◌+◌, ◌<◌, ◌≤◌, ◌⊎◌, List, [], ◌∷◌, ◌++◌, length, refl, sym, ap, ◌∙◌, subst, arith, ⊎_elim}
+use Rattle.std.specs.Prelude.{Option, Some, None, All, replicate, slice_index, slice_set}
+use Rattle.std.proofs.lemmas.Bool.{cases_lt}
+use Rattle.std.proofs.lemmas.Option.{get_or_from_slice_get, slice_get_within, none-some}
+use Rattle.std.proofs.lemmas.List.{length-set, length-replicate, length_push, get_or_past}
+use Rattle.std.proofs.lemmas.List.Elements.{All-set, All-replicate, All-push, All-pop, All-get_or, All-nil}
+use Rattle.words.specs.declared.class.Kind.{Kind}
+use Rattle.words.specs.declared.class.Placement.{Placement}
+use Rattle.words.specs.Placing.{placement_of}
+use Rattle.heap_spec.specs.declared.call.Call.{Call}
+use Rattle.heap_spec.specs.declared.reply.Reply.{Reply}
+use Rattle.heap_spec.specs.Heap.{Heap, Object, Mutator, IsAttached, opening, with_at}
+use Rattle.heap_spec.specs.Room.{HasRoom, length_of}
+use Rattle.heap_spec.specs.Steps.{newcomer, with_mutator, with_register, with_object, register, Attaches, attached, no_slot, Acts, Calls, acts, vacant}
+use Rattle.heap_spec.specs.Cycles.{TakesOut}
+use Rattle.heap_spec.specs.Ranges.{IsWord, CallInRange}
+use Rattle.heap_spec.specs.Sound.{IsSound, IsRow, IsMutator, IsSlot, AreObjects, IsCell, ArePages, LieInHeap}
+use Rattle.heap_spec.proofs.Layouts.{AreApart, placed, cell_lies, pages_lie}
+use Rattle.heap_spec.proofs.Objects.{objects_freed, objects_stored, objects_without, objects_more, object_lies, room_laid, room_apart}
+
+-- a word of a list of words
+word_at : (words : List ℕ) (i : ℕ) → All IsWord words → IsWord (slice_index words i)
+word_at words i all = ⊎_elim (λ lt. All-get_or IsWord words i 0 lt all) (λ past. rw (get_or_past words i 0 past) (omega arith)) (cases_lt i (length words))
+
+row_set : (n : ℕ) (row : List ℕ) (i w : ℕ) → IsRow n row → IsWord w → IsRow n (slice_set row i w)
+row_set n row i w h fits = record { size = length-set row i w ∙ h.size; words = All-set IsWord row i w fits h.words }
+
+row_of_zeros : (n : ℕ) → IsRow n (replicate n 0)
+row_of_zeros n = record { size = length-replicate n 0; words = All-replicate IsWord n 0 (omega arith) }
+
+-- an attached mutator of a sound heap
+pub attached_is : (s : Heap) (slot : ℕ) (m : Mutator) → IsSound s → IsAttached s slot m → IsMutator m
+attached_is s slot m h at =
+    subst IsSlot (get_or_from_slice_get s.mutators slot (Some m) (Some m) at) (h.mutators slot (Some m) (slice_get_within s.mutators slot (Some m) at))
+
+register_is : (m : Mutator) (r : ℕ) → IsMutator m → IsWord (register m r)
+register_is m r h = word_at m.registers r h.registers.words
+
+newcomer_is : IsMutator newcomer
+newcomer_is = record { registers = row_of_zeros 16; room = omega arith; stack = All-nil IsWord }
+
+-- a sound heap with another mutator at a slot, or none
+slot_kept : (s : Heap) (slot : ℕ) (m : Option Mutator) → IsSound s → IsSlot m → IsSound (with_mutator s slot m)
+slot_kept s slot m h is = record {
+  some_page = h.some_page;
+  few_pages = h.few_pages;
+  objects = h.objects;
+  slots = length-set s.mutators slot m ∙ h.slots;
+  mutators = All-set IsSlot s.mutators slot m is h.mutators;
+  globals = h.globals;
+}
+
+register_kept : (s : Heap) (slot : ℕ) (m : Mutator) (r w : ℕ) → IsSound s → IsMutator m → IsWord w → IsSound (with_register s slot m r w)
+register_kept s slot m r w h is fits = slot_kept s slot _ h (record { registers = row_set _ m.registers r w is.registers fits; room = is.room; stack = is.stack })
+
+pushed_is : (m : Mutator) (w : ℕ) → IsMutator m → length m.stack < 256 → IsWord w → IsMutator (record m { stack = m.stack ++ w ∷ [] })
+pushed_is m w h few fits = record { registers = h.registers; room = (let l : length (m.stack ++ w ∷ []) ≡ length m.stack + 1 = length_push m.stack w in omega arith); stack = All-push IsWord m.stack w h.stack fits }
+
+popped_is : (m : Mutator) (rest : List ℕ) (w : ℕ) → IsMutator m → m.stack ≡ rest ++ w ∷ [] → IsMutator (record m { stack = rest }) × IsWord w
+popped_is m rest w h e =
+    let both = All-pop IsWord m.stack rest (Some w) e h.stack in
+    let l : length m.stack ≡ length rest + 1 = ap length e ∙ length_push rest w in
+    let room = h.room in
+    (record { registers = h.registers; room = omega arith; stack = both.0 }, both.1)
+
+-- a sound heap with other objects
+objects_in : (s : Heap) (objects : ℕ → Option Object) → IsSound s → AreObjects s.pages s.births objects → IsSound (record s { objects = objects })
+objects_in s objects h is = record { some_page = h.some_page; few_pages = h.few_pages; objects = is; slots = h.slots; mutators = h.mutators; globals = h.globals }
+
+alloc_kept : (s : Heap) (slot : ℕ) (m : Mutator) (d n : ℕ) (kind : Kind) (place : Placement) (a : ℕ) → IsSound s → IsMutator m → placement_of n ≡ Some place → HasRoom s place kind a
+    → IsSound (record (with_register (with_object s a (Some (record { birth = s.births + 1; kind = kind; words = replicate (length_of place) 0 }))) slot m d a) { births = s.births + 1 })
+alloc_kept s slot m d n kind place a h is e room = record {
+  some_page = h.some_page;
+  few_pages = h.few_pages;
+  objects = objects;
+  slots = length-set s.mutators slot _ ∙ h.slots;
+  mutators = All-set IsSlot s.mutators slot _ (record { registers = row_set _ m.registers d a is.registers fits; room = is.room; stack = is.stack }) h.mutators;
+  globals = h.globals;
+}
+  where
+    new : Object
+    new = record { birth = s.births + 1; kind = kind; words = replicate (length_of place) 0 }
+
+    size : length new.words ≡ length_of place
+    size = length-replicate (length_of place) 0
+
+    laid : IsCell s.pages a (length_of place) ⊎ ArePages s.pages a (length_of place)
+    laid = room_laid s place kind a (placed n place e) room
+
+    objects : AreObjects s.pages (s.births + 1) (with_at s.objects a (Some new))
+    objects = objects_more s.pages s.births s.objects a new h.objects refl
+        (subst (λ k. IsCell s.pages a k ⊎ ArePages s.pages a k) (sym size) laid)
+        (All-replicate IsWord (length_of place) 0 (omega arith))
+        (λ b p has ne. subst (λ k. AreApart a k b (length p.words)) (sym size) (room_apart s h place kind a (placed n place e) room b p has ne))
+
+    lies : LieInHeap s.pages a (length_of place)
+    lies = ⊎_elim (cell_lies _ _ _) (pages_lie _ _ _) laid
+
+    fits : IsWord a
+    fits = let to = lies.to in let few = h.few_pages in omega arith
+
+-- A call of an attached mutator keeps a sound heap sound.
+pub acts_kept : (s : Heap) (slot : ℕ) (m : Mutator) → IsSound s → IsMutator m → {call : Call} {reply : Reply} {s' : Heap} → Acts s slot m call reply s' → CallInRange call → IsSound s'
+acts_kept s slot m h is Acts.detached range = slot_kept s slot None h tt
+acts_kept s slot m h is (Acts.set {r = r} {w = w}) range = register_kept s slot m r w h is range.1
+acts_kept s slot m h is (Acts.copied {d = d} {a = a}) range = register_kept s slot m d _ h is (register_is m a is)
+acts_kept s slot m h is (Acts.added {d = d}) range = register_kept s slot m d _ h is (omega arith)
+acts_kept s slot m h is (Acts.subtracted {d = d}) range = register_kept s slot m d _ h is (omega arith)
+acts_kept s slot m h is Acts.got range = h
+acts_kept s slot m h is (Acts.pushed {r = r} few) range = slot_kept s slot _ h (pushed_is m (register m r) is few (register_is m r is))
+acts_kept s slot m h is (Acts.push_full e) range = h
+acts_kept s slot m h is (Acts.popped {r = r} {w = w} rest e) range = let p = popped_is m rest w is e in register_kept s slot (record m { stack = rest }) r w h p.0 p.1
+acts_kept s slot m h is (Acts.pop_empty e) range = h
+acts_kept s slot m h is (Acts.loaded {d = d} {base = base} {o = o} al reads) range = register_kept s slot m d _ h is (word_at o.words _ (h.objects.words base o reads.0))
+acts_kept s slot m h is (Acts.load_misaligned al) range = h
+acts_kept s slot m h is (Acts.load_nothing al none) range = h
+acts_kept s slot m h is (Acts.stored {r = r} {base = base} {o = o} al reads) range = objects_in s _ h (objects_stored s.pages s.births s.objects base _ _ o h.objects reads.0 (register_is m r is))
+acts_kept s slot m h is (Acts.store_misaligned al) range = h
+acts_kept s slot m h is (Acts.store_nothing al none) range = h
+acts_kept s slot m h is (Acts.allocated {d = d} {n = n} {kind = kind} {place = place} a e room) range = alloc_kept s slot m d n kind place a h is e room
+acts_kept s slot m h is (Acts.bad_size e) range = h
+acts_kept s slot m h is (Acts.full e none) range = h
+acts_kept s slot m h is (Acts.freed has) range = objects_in s _ h (objects_freed s.pages s.births s.objects _ h.objects)
+acts_kept s slot m h is (Acts.free_inside reads ne) range = h
+acts_kept s slot m h is (Acts.free_nothing none) range = h
+acts_kept s slot m h is (Acts.based {d = d} {base = base} {o = o} reads) range =
+    register_kept s slot m d base h is (let lies = object_lies s h base o reads.0 in let to = lies.to in let few = h.few_pages in omega arith)
+acts_kept s slot m h is (Acts.base_nothing none) range = h
+acts_kept s slot m h is (Acts.sized reads) range = h
+acts_kept s slot m h is (Acts.size_nothing none) range = h
+acts_kept s slot m h is (Acts.global_got {d = d} {g = g}) range = register_kept s slot m d _ h is (word_at s.globals g h.globals.words)
+acts_kept s slot m h is (Acts.global_put {g = g} {r = r}) range = record {
+  some_page = h.some_page;
+  few_pages = h.few_pages;
+  objects = h.objects;
+  slots = h.slots;
+  mutators = h.mutators;
+  globals = row_set _ s.globals g _ h.globals (register_is m r is);
+}
+
+pub calls_kept : (s : Heap) (slot : ℕ) (call : Call) → IsSound s → CallInRange call → {reply : Reply} {s' : Heap} → Calls s slot call reply s' → IsSound s'
+calls_kept s slot call h range (acts {m = m} at act) = acts_kept s slot m h (attached_is s slot m h at) act range
+calls_kept s slot call h range (vacant none) = h
+
+pub attaches_kept : (s : Heap) → IsSound s → {reply : Reply} {s' : Heap} → Attaches s reply s' → IsSound s'
+attaches_kept s h (attached {slot = slot} lowest) = slot_kept s slot (Some newcomer) h newcomer_is
+attaches_kept s h (no_slot none) = h
+
+-- What a collection takes out leaves a sound heap sound.
+pub takes_out_kept : (s : Heap) (bases : List ℕ) (reply : Reply) (s' : Heap) → IsSound s → TakesOut s bases reply s' → IsSound s'
+takes_out_kept s bases reply s' h takes = subst IsSound (sym takes.after) (objects_in s _ h (objects_without s.pages s.births s.objects bases h.objects))
+
+-- a new heap is sound
+pub opening_is : (pages : ℕ) → 1 ≤ pages → pages ≤ 1024 → IsSound (opening pages)
+opening_is pages some few = record {
+  some_page = some;
+  few_pages = few;
+  objects = record {
+    laid = λ base o is. absurd (none-some o is);
+    words = λ base o is. absurd (none-some o is);
+    born = λ base o is. absurd (none-some o is);
+    distinct = λ a b o p io ip e. absurd (none-some o io);
+    apart = λ a b o p io ip lt. absurd (none-some o io);
+  };
+  slots = length-replicate {A = Option Mutator} 16 None;
+  mutators = All-replicate IsSlot 16 None tt;
+  globals = row_of_zeros 64;
+}

@@ -1,0 +1,148 @@
+-- Where objects lie, in numbers: size classes, cells and pages.
+use Rattle.std.proofs.Common.{◌≡◌, ◌≢◌, ℕ, suc, ◌+◌, ◌-◌, ◌*◌, ◌/◌, ◌%◌, ◌<◌, ◌≤◌, ◌⊎◌, Bool, true, false, List, [], ◌∷◌, cond, refl, sym, ap, ◌∙◌, subst, arith, inl, inr, ⊎_elim}
+use Rattle.std.specs.Prelude.{Option, Some, None, find, nat_le, ◌==◌, All}
+use Rattle.std.specs.List.{list_all, list_any}
+use Rattle.std.specs.Option.{option_map}
+use Rattle.std.specs.Int.{div_ceil}
+use Rattle.std.proofs.Math.Nat.{mul-le-mul_left}
+use Rattle.std.proofs.lemmas.Bool.{cases_lt, cases_order, leb-true, leb-false, eqb-true}
+use Rattle.std.proofs.lemmas.Option.{same_Some, none-some}
+use Rattle.std.proofs.lemmas.List.Folds.{Any-from_list_any}
+use Rattle.std.proofs.lemmas.List.Sums.{AllPass-from_list_all}
+use Rattle.words.specs.declared.class.TheConstants.{CLASSES}
+use Rattle.words.specs.declared.class.Placement.{Placement}
+use Rattle.words.specs.declared.class.Placement.TheVariants.{Small, Large}
+use Rattle.words.specs.Classes.{IsSizeClass}
+use Rattle.words.specs.Placing.{placement_of}
+use Rattle.heap_spec.specs.Layout.{page_start, LiesOn}
+use Rattle.heap_spec.specs.Sound.{IsCell, ArePages, LieInHeap}
+
+-- what a search finds in a list is in it, so what holds of each holds of it
+find_holds : {A : Type 0} (P : A → Type 0) (p : A → Bool) (xs : List A) (c : A) → All P xs → find p xs ≡ Some c → P c
+find_holds P p [] c all e = absurd (none-some c e)
+find_holds P p (x ∷ xs) c all e = by (p x) e (find_holds P p xs c (λ k d lt. all (suc k) d (omega arith)))
+  where
+    by : (b : Bool) → cond b (Some x) (find p xs) ≡ Some c → (find p xs ≡ Some c → P c) → P c
+    by true e rest = subst P (same_Some x c e) (all 0 x (omega arith))
+    by false e rest = rest e
+
+-- a test that each class passes
+class_passes : (p : ℕ → Bool) (n : ℕ) → list_all p CLASSES ≡ true → IsSizeClass n → p n ≡ true
+class_passes p n all is =
+    let a = Any-from_list_any (λ c. c == n) CLASSES is in
+    subst (λ x. p x ≡ true) (eqb-true a.1 n a.4) (subst (λ x. p x ≡ true) a.3 (AllPass-from_list_all p CLASSES all a.0 a.1 a.2))
+
+-- a size class has words, an even number of them, and at most 256
+pub class_some : (n : ℕ) → IsSizeClass n → 2 ≤ n
+class_some n is = leb-true 2 n (class_passes (λ c. nat_le 2 c) n refl is)
+
+pub class_few : (n : ℕ) → IsSizeClass n → n ≤ 256
+class_few n is = leb-true n 256 (class_passes (λ c. nat_le c 256) n refl is)
+
+pub class_even : (n : ℕ) → IsSizeClass n → n % 2 ≡ 0
+class_even n is = eqb-true (n % 2) 0 (class_passes (λ c. (c % 2) == 0) n refl is)
+
+-- the place of a request is a size class, or some pages
+abbrev pub IsPlacement : Placement → Type 0
+IsPlacement (Small class) = IsSizeClass class
+IsPlacement (Large pages) = 0 < pages
+
+small_place : (o : Option ℕ) (place : Placement) → ((c : ℕ) → o ≡ Some c → IsSizeClass c) → option_map Small o ≡ Some place → IsPlacement place
+small_place None place h e = absurd (none-some place e)
+small_place (Some c) place h e = subst IsPlacement (same_Some _ _ e) (h c refl)
+
+pub placed : (n : ℕ) (place : Placement) → placement_of n ≡ Some place → IsPlacement place
+placed n place e = outer _ e
+  where
+    classes : All IsSizeClass CLASSES
+    classes = AllPass-from_list_all (λ x. list_any (λ c. c == x) CLASSES) CLASSES refl
+
+    inner : (b : Bool) → nat_le n 256 ≡ b → cond b (option_map Small (find (λ c. nat_le n c) CLASSES)) (Some (Large (div_ceil n 512))) ≡ Some place → IsPlacement place
+    inner true t e = small_place _ place (λ c f. find_holds IsSizeClass (λ c. nat_le n c) CLASSES c classes f) e
+    inner false t e = let more : 256 < n = leb-false n 256 t in subst IsPlacement (same_Some _ _ e) (let some : 0 < div_ceil n 512 = omega arith in some)
+
+    outer : (b : Bool) → cond b None (cond (nat_le n 256) (option_map Small (find (λ c. nat_le n c) CLASSES)) (Some (Large (div_ceil n 512)))) ≡ Some place → IsPlacement place
+    outer true e = absurd (none-some place e)
+    outer false e = inner (nat_le n 256) refl e
+
+-- cells and pages lie in the heap
+pub cell_lies : (pages base len : ℕ) → IsCell pages base len → LieInHeap pages base len
+cell_lies pages base len c =
+    let page : ℕ = c.page in
+    let cell : ℕ = c.cell in
+    let lt : page < pages = c.in_heap in
+    let fits : len * (cell + 1) ≤ 512 = c.in_page in
+    let is : base ≡ page_start page + 8 * (len * cell) = c.is_cell in
+    let some : 2 ≤ len = class_some len c.class in
+    record { some = omega arith; from = omega arith; to = omega arith; aligned = even (len / 2) (let even : len % 2 ≡ 0 = class_even len c.class in omega arith) }
+  where
+    even : (half : ℕ) → len ≡ 2 * half → base % 16 ≡ 0
+    even half e =
+        let is : base ≡ page_start c.page + 8 * (len * c.cell) = c.is_cell in
+        let twice : len * c.cell ≡ 2 * (half * c.cell) = ap (λ x. x * c.cell) e ∙ (let m : 2 * half * c.cell ≡ 2 * (half * c.cell) = omega arith in m) in
+        omega arith
+
+pub pages_lie : (pages base len : ℕ) → ArePages pages base len → LieInHeap pages base len
+pages_lie pages base len p =
+    let some = p.some in
+    let in_heap = p.in_heap in
+    let is = p.is_start in
+    let whole = p.whole in
+    record { some = omega arith; from = omega arith; to = omega arith; aligned = omega arith }
+
+-- so many words at a end before those at b begin, or begin after those end
+abbrev pub AreApart : ℕ → ℕ → ℕ → ℕ → Type 0
+AreApart a n b m = (a + 8 * n ≤ b) ⊎ (b + 8 * m ≤ a)
+
+-- what does not lie on a page is apart from what lies within it
+off_page : (page a n b m : ℕ) → page_start page ≤ a → a + 8 * n ≤ page_start (page + 1) → (LiesOn b m page → ⊥) → AreApart a n b m
+off_page page a n b m from to off =
+    ⊎_elim
+    (λ below. ⊎_elim (λ over. absurd (off (below, over))) (λ under. inr (omega arith)) (cases_lt (page_start page) (b + 8 * m)))
+    (λ above. inl (omega arith))
+    (cases_lt b (page_start (page + 1)))
+
+-- what lies on none of some pages in a row is apart from them
+pub off_pages : (first count b m : ℕ) → 0 < count → 0 < m → ((page : ℕ) → first ≤ page → page < first + count → LiesOn b m page → ⊥)
+    → AreApart (page_start first) (512 * count) b m
+off_pages first count b m some words off =
+    ⊎_elim
+    (λ below. ⊎_elim
+    (λ over. absurd (⊎_elim
+    (λ before. off first (omega arith) (omega arith) (omega arith, omega arith))
+    (λ after. let page : ℕ = (b - page_start 0) / 4096 in off page (omega arith) (omega arith) (omega arith, omega arith))
+    (cases_lt b (page_start first))))
+    (λ under. inr (omega arith))
+    (cases_lt (page_start first) (b + 8 * m)))
+    (λ above. inl (omega arith))
+    (cases_lt b (page_start first + 8 * (512 * count)))
+
+-- two cells of a page that is cut for one class
+cells_apart : (page n i j : ℕ) → i ≢ j → AreApart (page_start page + 8 * (n * i)) n (page_start page + 8 * (n * j)) n
+cells_apart page n i j ne =
+    ⊎_elim (λ same. absurd (ne same))
+    (⊎_elim
+    (λ less. inl (let on : i + 1 ≤ j = omega arith in let h : n * (i + 1) ≤ n * j = mul-le-mul_left n on in omega arith))
+    (λ more. inr (let on : j + 1 ≤ i = omega arith in let h : n * (j + 1) ≤ n * i = mul-le-mul_left n on in omega arith)))
+    (cases_order i j)
+
+-- a cell is apart from what lies off its page, and from another cell of its class
+pub cell_off : (pages a n b m : ℕ) (c : IsCell pages a n) → (LiesOn b m c.page → ⊥) → AreApart a n b m
+cell_off pages a n b m c off = let fits : n * (c.cell + 1) ≤ 512 = c.in_page in let is = c.is_cell in off_page c.page a n b m (omega arith) (omega arith) off
+
+pub cell_apart : (pages a n b : ℕ) (c : IsCell pages a n) → b ≢ a → LiesOn b n c.page → IsCell pages b n → AreApart a n b n
+cell_apart pages a n b c ne on d =
+    let page : ℕ = c.page in
+    let other : ℕ = d.page in
+    let i : ℕ = c.cell in
+    let j : ℕ = d.cell in
+    let fits : n * (i + 1) ≤ 512 = c.in_page in
+    let is : a ≡ page_start page + 8 * (n * i) = c.is_cell in
+    let fits' : n * (j + 1) ≤ 512 = d.in_page in
+    let is' : b ≡ page_start other + 8 * (n * j) = d.is_cell in
+    let lo = on.0 in
+    let hi = on.1 in
+    let same : other ≡ page = omega arith in
+    let here : b ≡ page_start page + 8 * (n * j) = is' ∙ ap (λ p. page_start p + 8 * (n * j)) same in
+    let apart : i ≢ j = λ e. ne (here ∙ sym (is ∙ ap (λ k. page_start page + 8 * (n * k)) e)) in
+    subst (λ x. AreApart x n b n) (sym is) (subst (λ y. AreApart (page_start page + 8 * (n * i)) n y n) (sym here) (cells_apart page n i j apart))

@@ -1,0 +1,6 @@
+pub mod Closures
+pub mod Layouts
+pub mod Objects
+pub mod Calls
+pub mod Runs
+pub mod Loads

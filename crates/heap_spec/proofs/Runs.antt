@@ -1,0 +1,80 @@
+-- What holds in every run of a new heap.
+use Rattle.std.proofs.Common.{◌≡◌, ℕ, false, List, [], ◌∷◌, refl, sym, ap, ◌∙◌, subst}
+use Rattle.std.specs.Prelude.{None, All, Contains, ◌==◌}
+use Rattle.std.specs.List.{list_any}
+use Rattle.std.proofs.lemmas.Bool.{cond-false, eq-eqb, ne_eqb, true≢false}
+use Rattle.std.proofs.lemmas.Option.{none-some}
+use Rattle.std.proofs.lemmas.List.Elements.{All-head, All-tail, All-weaker}
+use Rattle.std.proofs.lemmas.List.Folds.{list_any_none, list_any-from_Any}
+use Rattle.heap_spec.specs.declared.event.Event.{Event}
+use Rattle.heap_spec.specs.declared.event.Event.TheVariants.{Attach, Mutator, Begin, Roots, Mark, Retrace, Finish, Sweep, Collect, Number}
+use Rattle.heap_spec.specs.declared.reply.Reply.{Reply}
+use Rattle.heap_spec.specs.Heap.{Heap, Object, HasObject}
+use Rattle.heap_spec.specs.Closure.{Reached, IsInClosure}
+use Rattle.heap_spec.specs.Runs.{Start, Run, Moment, fresh, heap_after, Touched, touched_after}
+use Rattle.heap_spec.specs.Cycles.{TakesOut}
+use Rattle.heap_spec.specs.Histories.{Happens, IsRun}
+use Rattle.heap_spec.specs.Ranges.{InRange}
+use Rattle.heap_spec.specs.Sound.{IsSound}
+use Rattle.heap_spec.specs.Laws.{IsFreshRun, HasDistinctBirths}
+use Rattle.heap_spec.proofs.Closures.{in_idem, reached_in}
+use Rattle.heap_spec.proofs.Objects.{left_over}
+use Rattle.heap_spec.proofs.Calls.{calls_kept, attaches_kept, takes_out_kept, opening_is}
+
+-- what happens next keeps the heap sound
+pub happens_kept : (start : Start) (run : Run) (event : Event) (reply : Reply) (s' : Heap) → IsSound (heap_after start run) → InRange event → Happens start run event reply s' → IsSound s'
+happens_kept start run Attach reply s' h range step = attaches_kept _ h step
+happens_kept start run (Mutator slot call) reply s' h range step = calls_kept _ slot call h range.1 step
+happens_kept start run Begin reply s' h range step = subst IsSound (sym step.1.1) h
+happens_kept start run Finish reply s' h range step = takes_out_kept _ _ _ s' h step.1.takes
+happens_kept start run Collect reply s' h range step = takes_out_kept _ _ _ s' h step.takes
+happens_kept start run Roots reply s' h range step = absurd step
+happens_kept start run (Mark n) reply s' h range step = absurd step
+happens_kept start run Retrace reply s' h range step = absurd step
+happens_kept start run Sweep reply s' h range step = absurd step
+happens_kept start run Number reply s' h range step = absurd step
+
+pub run_kept : (start : Start) (run : Run) → IsSound start.heap → All (λ (m : Moment). InRange m.told.event) run → IsRun start run → IsSound (heap_after start run)
+run_kept start [] h range runs = h
+run_kept start (m ∷ run) h range runs =
+    happens_kept start run m.told.event m.told.reply m.heap (run_kept start run h (All-tail (λ (m : Moment). InRange m.told.event) m run range) runs.1) (All-head (λ (m : Moment). InRange m.told.event) m run range) runs.0
+
+pub fresh_sound : (pages : ℕ) (run : Run) → IsFreshRun pages run → IsSound (heap_after (fresh pages) run)
+fresh_sound pages run h = run_kept (fresh pages) run (opening_is pages h.some_page h.few_pages) h.in_range h.is_run
+
+-- after any event the touched births are closed
+after_closed : (event : Event) (before : ℕ → Type 0) (old new : Heap) → HasDistinctBirths new → (birth : ℕ) → IsInClosure new (touched_after event before old new) birth → touched_after event before old new birth
+after_closed Begin before old new d birth x = in_idem new _ d birth x
+after_closed _ before old new d birth x = in_idem new _ d birth x
+
+pub touched_closed : (start : Start) (m : Moment) (run : Run) → HasDistinctBirths m.heap → (birth : ℕ) → IsInClosure m.heap (Touched start (m ∷ run)) birth → Touched start (m ∷ run) birth
+touched_closed start m run d birth x = after_closed m.told.event (Touched start run) (heap_after start run) m.heap d birth x
+
+pub fresh_touched_closed : (pages : ℕ) (run : Run) → IsFreshRun pages run → (birth : ℕ) → IsInClosure (heap_after (fresh pages) run) (Touched (fresh pages) run) birth → Touched (fresh pages) run birth
+fresh_touched_closed pages [] h birth x = absurd (none-some x.1 x.2)
+fresh_touched_closed pages (m ∷ run) h birth x = let sound = fresh_sound pages (m ∷ run) h in touched_closed (fresh pages) m run sound.objects.distinct birth x
+
+-- and they hold what is reached
+after_reached : (event : Event) (before : ℕ → Type 0) (old new : Heap) (base : ℕ) (o : Object) → HasObject new base o → Reached new base → touched_after event before old new o.birth
+after_reached Begin before old new base o has r = (base, o, has, refl, r)
+after_reached _ before old new base o has r = (base, o, has, refl, reached_in new _ r)
+
+pub touched_reached : (start : Start) (m : Moment) (run : Run) (base : ℕ) (o : Object) → HasObject m.heap base o → Reached m.heap base → Touched start (m ∷ run) o.birth
+touched_reached start m run base o has r = after_reached m.told.event (Touched start run) (heap_after start run) m.heap base o has r
+
+pub fresh_touched_reached : (pages : ℕ) (run : Run) (base : ℕ) (o : Object) → HasObject (heap_after (fresh pages) run) base o → Reached (heap_after (fresh pages) run) base → Touched (fresh pages) run o.birth
+fresh_touched_reached pages [] base o has r = absurd (none-some o has)
+fresh_touched_reached pages (m ∷ run) base o has r = touched_reached (fresh pages) m run base o has r
+
+-- what a collection takes out has no reached object
+pub keeps_reached : (s : Heap) (bases : List ℕ) (reply : Reply) (s' : Heap) → TakesOut s bases reply s' → (base : ℕ) (o : Object) → HasObject s base o → Reached s base → HasObject s' base o
+keeps_reached s bases reply s' takes base o has r =
+    let none : list_any (λ c. c == base) bases ≡ false = list_any_none (λ c. c == base) bases
+    (All-weaker (λ b. Reached s b → ⊥) (λ c. (c == base) ≡ false) (λ c un. ne_eqb c base (λ e. un (subst (Reached s) (sym e) r))) bases takes.unreached) in
+    ap (λ (t : Heap). t.objects base) takes.after ∙ cond-false _ None (s.objects base) none ∙ has
+
+-- and what it leaves was there, and is none that it took
+pub left_by : (s : Heap) (bases : List ℕ) (reply : Reply) (s' : Heap) → TakesOut s bases reply s' → (base : ℕ) (o : Object) → HasObject s' base o → HasObject s base o × (Contains bases base → ⊥)
+left_by s bases reply s' takes base o has =
+    let left = left_over (list_any (λ c. c == base) bases) (s.objects base) o (sym (ap (λ (t : Heap). t.objects base) takes.after) ∙ has) in
+    (left.1, λ among. true≢false (sym (list_any-from_Any (λ c. c == base) bases (among.0, base, among.1, among.2, eq-eqb base base refl)) ∙ left.0))

@@ -1,0 +1,92 @@
+-- The laws of the sequential heap, each a statement of its own.
+use Rattle.std.specs.Prelude.{◌≡◌, ◌↔◌, ℕ, ◌≤◌, Bool, true, length, Contains, All}
+use Rattle.words.specs.declared.limits.TheConstants.{MAX_PAGES}
+use Rattle.words.specs.declared.class.Kind.TheVariants.{Normal}
+use Rattle.heap_spec.specs.declared.call.Call.TheVariants.{Load, Store}
+use Rattle.heap_spec.specs.declared.event.Event.TheVariants.{Finish, Collect}
+use Rattle.heap_spec.specs.declared.reply.Reply.{Reply}
+use Rattle.heap_spec.specs.declared.reply.Reply.TheVariants.{Done, Word}
+use Rattle.heap_spec.specs.Heap.{Heap, Object, Mutator, HasObject, ReadsObject, IsAttached, root_words}
+use Rattle.heap_spec.specs.Closure.{Closure, Reached, IsInClosure}
+use Rattle.heap_spec.specs.Steps.{Calls, register}
+use Rattle.heap_spec.specs.Runs.{Start, Run, fresh, heap_after, Touched}
+use Rattle.heap_spec.specs.Histories.{Happens, IsRun}
+use Rattle.heap_spec.specs.Ranges.{InRange}
+use Rattle.heap_spec.specs.Sound.{IsSound, LieInHeap}
+
+-- a number is in a set
+abbrev pub IsIn : (ℕ → Bool) → ℕ → Type 0
+IsIn set n = set n ≡ true
+
+-- The rules of a closure keep a set of bases: it has the objects of the births, those that root words read, and with a
+-- Normal object those that its words read.
+pub record KeepsRules (s : Heap) (births bases : ℕ → Type 0) : Type 0 where
+  pub given : (base : ℕ) (o : Object) → HasObject s base o → births o.birth → bases base
+  pub root : (w base : ℕ) (o : Object) → Contains (root_words s) w → ReadsObject s w base o → bases base
+  pub word : (from w base : ℕ) (p o : Object) → bases from → HasObject s from p → p.kind ≡ Normal → Contains p.words w → ReadsObject s w base o → bases base
+
+-- The closure of some births is a set that the rules keep, and lies in each such set.
+pub record ClosureIsLeast : Type 0 where
+  pub keeps : (s : Heap) (births : ℕ → Bool) → KeepsRules s (IsIn births) (Closure s (IsIn births))
+  pub least : (s : Heap) (births bases : ℕ → Bool) → KeepsRules s (IsIn births) (IsIn bases) → (base : ℕ) → Closure s (IsIn births) base → IsIn bases base
+
+-- more births have a larger closure
+abbrev pub ClosureIsMonotone : Type 0
+ClosureIsMonotone = (s : Heap) (births more : ℕ → Bool) → ((birth : ℕ) → IsIn births birth → IsIn more birth)
+    → (base : ℕ) → Closure s (IsIn births) base → Closure s (IsIn more) base
+
+-- no two objects have one birth
+abbrev pub HasDistinctBirths : Heap → Type 0
+HasDistinctBirths s = (a b : ℕ) (o p : Object) → HasObject s a o → HasObject s b p → o.birth ≡ p.birth → a ≡ b
+
+-- the closure of a closure is that closure
+abbrev pub ClosureIsIdempotent : Type 0
+ClosureIsIdempotent = (s : Heap) (births : ℕ → Bool) → HasDistinctBirths s
+    → (birth : ℕ) → IsInClosure s (IsInClosure s (IsIn births)) birth ↔ IsInClosure s (IsIn births) birth
+
+-- A run of a new heap of so many pages, all of whose events are in range.
+pub record IsFreshRun (pages : ℕ) (run : Run) : Type 0 where
+  pub some_page : 1 ≤ pages
+  pub few_pages : pages ≤ MAX_PAGES
+  pub in_range : All (λ m. InRange m.told.event) run
+  pub is_run : IsRun (fresh pages) run
+
+-- the heap is sound after every run
+abbrev pub RunsAreSound : Type 0
+RunsAreSound = (pages : ℕ) (run : Run) → IsFreshRun pages run → IsSound (heap_after (fresh pages) run)
+
+-- each object of a sound heap has words, lies in the heap, and begins at a granule
+abbrev pub ObjectsLieInHeap : Type 0
+ObjectsLieInHeap = (s : Heap) → IsSound s → (base : ℕ) (o : Object) → HasObject s base o → LieInHeap s.pages base (length o.words)
+
+-- a word reads at most one object of a sound heap
+abbrev pub ReadsAtMostOne : Type 0
+ReadsAtMostOne = (s : Heap) → IsSound s → (w a b : ℕ) (o p : Object) → ReadsObject s w a o → ReadsObject s w b p → a ≡ b
+
+-- the touched births are closed at every moment
+abbrev pub TouchedIsClosed : Type 0
+TouchedIsClosed = (pages : ℕ) (run : Run) → IsFreshRun pages run
+    → (birth : ℕ) → IsInClosure (heap_after (fresh pages) run) (Touched (fresh pages) run) birth → Touched (fresh pages) run birth
+
+-- at every moment each reached object is touched
+abbrev pub TouchedHoldsReached : Type 0
+TouchedHoldsReached = (pages : ℕ) (run : Run)
+    → (base : ℕ) (o : Object) → HasObject (heap_after (fresh pages) run) base o → Reached (heap_after (fresh pages) run) base → Touched (fresh pages) run o.birth
+
+-- the end of a cycle takes no reached object
+abbrev pub FinishKeepsReached : Type 0
+FinishKeepsReached = (start : Start) (run : Run) (reply : Reply) (s' : Heap) → Happens start run Finish reply s'
+    → (base : ℕ) (o : Object) → HasObject (heap_after start run) base o → Reached (heap_after start run) base → HasObject s' base o
+
+-- A full collection takes no reached object, and leaves no other.
+pub record CollectKeepsReached : Type 0 where
+  pub reached : (start : Start) (run : Run) (reply : Reply) (s' : Heap) → Happens start run Collect reply s'
+      → (base : ℕ) (o : Object) → HasObject (heap_after start run) base o → Reached (heap_after start run) base → HasObject s' base o
+  pub others : (start : Start) (run : Run) (reply : Reply) (s' : Heap) → Happens start run Collect reply s'
+      → (base : ℕ) (o : Object) → HasObject s' base o → HasObject (heap_after start run) base o × ((Reached (heap_after start run) base → ⊥) → ⊥)
+
+-- After a store, a load at the same place by the same mutator answers the word that was stored.
+abbrev pub LoadAnswersStored : Type 0
+LoadAnswersStored = (s : Heap) → IsSound s → (slot : ℕ) (m : Mutator) → IsAttached s slot m
+    → (a n r d : ℕ) (s' s'' : Heap) (reply : Reply) → Calls s slot (Store a n r) Done s' → Calls s' slot (Load d a n) reply s''
+    → reply ≡ Word (register m r)

@@ -1,0 +1,66 @@
+-- What holds of a heap in every run.
+use Rattle.std.specs.Prelude.{◌≡◌, ℕ, ◌+◌, ◌*◌, ◌%◌, ◌<◌, ◌≤◌, Option, Some, None, List, length, All, ◌⊎◌}
+use Rattle.words.specs.declared.limits.TheConstants.{WORD_BYTES, GRANULE_BYTES, PAGE_WORDS, FIRST_ADDRESS, MAX_PAGES, SLOTS, REGISTERS, STACK_WORDS, GLOBALS}
+use Rattle.words.specs.Classes.{IsSizeClass}
+use Rattle.heap_spec.specs.Layout.{page_start, heap_end}
+use Rattle.heap_spec.specs.Heap.{Heap, Object, Mutator}
+use Rattle.heap_spec.specs.Ranges.{IsWord}
+
+-- so many words
+pub record IsRow (n : ℕ) (row : List ℕ) : Type 0 where
+  pub size : length row ≡ n
+  pub words : All IsWord row
+
+-- A mutator has its registers, and no more on its stack than there is room for.
+pub record IsMutator (m : Mutator) : Type 0 where
+  pub registers : IsRow REGISTERS m.registers
+  pub room : length m.stack ≤ STACK_WORDS
+  pub stack : All IsWord m.stack
+
+-- a slot has no mutator, or one
+abbrev pub IsSlot : Option Mutator → Type 0
+IsSlot None = Unit {0}
+IsSlot (Some m) = IsMutator m
+
+-- so many words at the base are a cell of a page that is cut for their class
+pub record IsCell (pages base len : ℕ) : Type 0 where
+  pub page : ℕ
+  pub cell : ℕ
+  pub class : IsSizeClass len
+  pub in_heap : page < pages
+  pub in_page : len * (cell + 1) ≤ PAGE_WORDS
+  pub is_cell : base ≡ page_start page + WORD_BYTES * (len * cell)
+
+-- so many words at the base are pages
+pub record ArePages (pages base len : ℕ) : Type 0 where
+  pub first : ℕ
+  pub count : ℕ
+  pub some : 0 < count
+  pub in_heap : first + count ≤ pages
+  pub is_start : base ≡ page_start first
+  pub whole : len ≡ PAGE_WORDS * count
+
+-- The objects of a heap of so many pages, after so many births: each is a cell or pages of its own, its words are below
+-- 2 ^ 64, its birth is at least 1, no greater than the count, and no other's, and it ends before the next one begins.
+pub record AreObjects (pages births : ℕ) (objects : ℕ → Option Object) : Type 0 where
+  pub laid : (base : ℕ) (o : Object) → objects base ≡ Some o → IsCell pages base (length o.words) ⊎ ArePages pages base (length o.words)
+  pub words : (base : ℕ) (o : Object) → objects base ≡ Some o → All IsWord o.words
+  pub born : (base : ℕ) (o : Object) → objects base ≡ Some o → (1 ≤ o.birth) × (o.birth ≤ births)
+  pub distinct : (a b : ℕ) (o p : Object) → objects a ≡ Some o → objects b ≡ Some p → o.birth ≡ p.birth → a ≡ b
+  pub apart : (a b : ℕ) (o p : Object) → objects a ≡ Some o → objects b ≡ Some p → a < b → a + WORD_BYTES * length o.words ≤ b
+
+-- What holds of a heap in every run.
+pub record IsSound (s : Heap) : Type 0 where
+  pub some_page : 1 ≤ s.pages
+  pub few_pages : s.pages ≤ MAX_PAGES
+  pub objects : AreObjects s.pages s.births s.objects
+  pub slots : length s.mutators ≡ SLOTS
+  pub mutators : All IsSlot s.mutators
+  pub globals : IsRow GLOBALS s.globals
+
+-- so many words at the base are some, lie in a heap of so many pages, and begin at a granule
+pub record LieInHeap (pages base len : ℕ) : Type 0 where
+  pub some : 0 < len
+  pub from : FIRST_ADDRESS ≤ base
+  pub to : base + WORD_BYTES * len ≤ heap_end pages
+  pub aligned : base % GRANULE_BYTES ≡ 0

@@ -1,0 +1,58 @@
+//! The laws of the sequential heap. Each is a function that does nothing, and its contract is the law: what the
+//! definitions in `specs/` say must be right if these hold.
+ghost use Rattle.heap_spec.specs.Laws.{ClosureIsLeast, ClosureIsMonotone, ClosureIsIdempotent, RunsAreSound, ObjectsLieInHeap, ReadsAtMostOne, TouchedIsClosed, TouchedHoldsReached, FinishKeepsReached, CollectKeepsReached, LoadAnswersStored};
+
+/// The closure of some births is the least set of objects that its rules keep.
+pub fn closure_is_least()
+    ensures { ClosureIsLeast }
+{}
+
+/// More births have a larger closure.
+pub fn closure_is_monotone()
+    ensures { ClosureIsMonotone }
+{}
+
+/// The closure of a closure is that closure.
+pub fn closure_is_idempotent()
+    ensures { ClosureIsIdempotent }
+{}
+
+/// Every run of a new heap leads to a sound one.
+pub fn runs_are_sound()
+    ensures { RunsAreSound }
+{}
+
+/// Objects have words, lie in the heap, and begin at a granule.
+pub fn objects_lie_in_heap()
+    ensures { ObjectsLieInHeap }
+{}
+
+/// A word reads at most one object.
+pub fn reads_at_most_one()
+    ensures { ReadsAtMostOne }
+{}
+
+/// What is touched is closed.
+pub fn touched_is_closed()
+    ensures { TouchedIsClosed }
+{}
+
+/// What is reached is touched.
+pub fn touched_holds_reached()
+    ensures { TouchedHoldsReached }
+{}
+
+/// The end of a cycle takes no reached object.
+pub fn finish_keeps_reached()
+    ensures { FinishKeepsReached }
+{}
+
+/// A full collection takes exactly the objects that are not reached.
+pub fn collect_keeps_reached()
+    ensures { CollectKeepsReached }
+{}
+
+/// A load answers what was stored last.
+pub fn load_answers_stored()
+    ensures { LoadAnswersStored }
+{}
