@@ -85,3 +85,9 @@ pub record Settled (old new : Known Call Reply) (all : List (Event Call Reply)) 
   pub keeps : Keeps old new
   pub seen : new.seen ≡ all
   pub fine : IsFine new
+
+-- One history, `all`, was seen, in which the pass's own events are those that it had before and then these calls with these replies, and these are all that its slot did since its first
+pub record StandsIn (all : List (Event Call Reply)) (old : Known Call Reply) (calls : List Call) (replies : List Reply) (new : Known Call Reply) : Type 0 where
+  pub seen : new.seen ≡ all
+  pub mine : new.mine ≡ old.mine ++ events old.slot calls replies
+  pub fine : IsFine new

@@ -1,7 +1,7 @@
 // Mutators in threads, each with its own calls, and the one history that they leave.
 ghost use Rattle.std.specs.Prelude.{◌≡◌, ◌<◌, ℕ, All, length, slice_index_or};
 ghost use mathlib.Core.List.{IsPrefix};
-ghost use Rattle.history_tests.specs.Calls.{IsPlainCall, IsFine, Ran, Keeps, Settled};
+ghost use Rattle.history_tests.specs.Calls.{IsPlainCall, IsFine, Ran, Keeps, Settled, StandsIn};
 
 use crate::register::{Call, Reply};
 use crate::shared::{Collector, Mutator, SharedRegister};
@@ -99,4 +99,18 @@ pub fn settle<J: Naming>(
     for k in 0..jobs.len() {
         meet_one(shared, collector, &mut jobs[k]);
     }
+}
+
+/// Runs each job in a thread of its own. They leave one history, which all have then seen, and in which each one's calls stand with their replies.
+pub fn run_to_one_history<J: Naming + Send + Sync, R: Threads + Wait + Sync>(
+    rt: &R,
+    shared: &SharedRegister<J>,
+    collector: &mut Collector<J>,
+    jobs: &mut [Job<J>],
+)
+    requires { All (λ j. All IsPlainCall j.calls.items × (length j.replies.items ≡ length j.calls.items)) jobs.old }
+    ensures { (i : ℕ) (d : _) → i < length jobs.old → StandsIn collector.new.seen (slice_index_or jobs.old i d).me (slice_index_or jobs.old i d).calls.items (slice_index_or jobs.new i d).replies.items (slice_index_or jobs.new i d).me }
+{
+    run_all(rt, shared, jobs);
+    settle(shared, collector, jobs);
 }
