@@ -1,5 +1,5 @@
 -- A claim and a look keep the rule of the table.
-use Rattle.std.proofs.Common.{◌≡◌, ◌≢◌, ℕ, ◌+◌, ◌*◌, ◌/◌, ◌%◌, ◌<◌, ◌≤◌, Bool, true, false, cond, ◌==◌, eq-eqb, ne_eqb, List, [], ◌∷◌, length, get_or, set, refl, sym, ap, ◌∙◌, subst, arith, ⊎_elim, length-set, get_or-set_same}
+use Rattle.std.proofs.Common.{◌≡◌, ◌≢◌, ℕ, ◌+◌, ◌*◌, ◌/◌, ◌%◌, ◌<◌, ◌≤◌, Bool, true, false, cond, ◌==◌, eq-eqb, ne_eqb, List, ◌∷◌, length, get_or, set, refl, sym, ap, ◌∙◌, subst, arith, ⊎_elim, length-set, get_or-set_same}
 use Rattle.std.proofs.lemmas.List.{set-get_or}
 use Rattle.std.specs.Int.{bit_at}
 use Rattle.std.specs.Int.RustNames.{bit_or}
@@ -11,7 +11,7 @@ use Rattle.words.specs.Bits.{bit}
 use Rattle.atomic_table.specs.Table.{State, Me, step, keeps, stepped, Allows}
 use Rattle.atomic_table.proofs.Lists.{at_set}
 use Rattle.mark_bits.specs.declared.claimer_view.ClaimerView.{ClaimerView}
-use Rattle.mark_bits.specs.Claims.{times, one, has, knows}
+use Rattle.mark_bits.specs.Claims.{times, one, has}
 use Rattle.mark_bits.specs.Rule.{IsTrueOf, IsWonOnce, mask, after_claim, after_look, Finds, claimed, looked}
 use Rattle.mark_bits.proofs.Sums.{total-set, times-here, times-else}
 use Rattle.mark_bits.proofs.Words.{claimed_words, set_here, set_else, set_up, bit_is, bit_known, same_bit, shows-word}

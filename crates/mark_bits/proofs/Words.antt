@@ -1,5 +1,5 @@
 -- The bits of the words of a table, and what a claimer knows of them.
-use Rattle.std.proofs.Common.{◌≡◌, ◌≢◌, ℕ, zero, suc, ◌+◌, ◌*◌, ◌/◌, ◌%◌, ◌^◌, ◌<◌, ◌≤◌, ◌⊎◌, Bool, true, false, ◌&&◌, ◌||◌, ◌==◌, eq-eqb, ne_eqb, List, [], ◌∷◌, ◌++◌, length, get_or, set, take, refl, sym, ap, ◌∙◌, arith, inl, inr, ⊎_elim}
+use Rattle.std.proofs.Common.{◌≡◌, ◌≢◌, ℕ, zero, suc, ◌*◌, ◌/◌, ◌%◌, ◌^◌, ◌<◌, ◌≤◌, ◌⊎◌, Bool, true, false, ◌&&◌, ◌||◌, ◌==◌, eq-eqb, ne_eqb, List, [], ◌∷◌, ◌++◌, length, get_or, set, take, refl, sym, ap, ◌∙◌, arith, inl, inr, ⊎_elim}
 use Rattle.std.specs.Int.{bit_at, w64}
 use Rattle.std.specs.Int.RustNames.{bit_or}
 use Rattle.std.proofs.lemmas.List.{same_lists, get_or_past, get_or-take}
@@ -53,7 +53,7 @@ module _ (words : List ℕ) (k : ℕ) (inside : k / 64 < length words) where
   set_else j ne =
       let within : k % 64 < 64 = omega arith in let n : ℕ = get_or words (k / 64) 0 in
       bit_else words k (bit_or n (mask k)) true inside (ap (λ x. x == 1) (bit_at_set_same w64 n (k % 64) within)) (λ i lt ne. bit_at_set_other w64 n (k % 64) within i ne) j ne
-          (ℕ_discrete (j / 64) (k / 64))
+      (ℕ_discrete (j / 64) (k / 64))
 
   -- no bit goes
   pub set_up : (j : ℕ) → bit words j ≡ true → bit (claimed_words words k) j ≡ true

@@ -18,7 +18,7 @@
 //! **Closing.** `join` puts a claimer's parts, knowledge and won list into another one. The claimer that has all
 //! parts again gives the marks back by `finish`. A claimer that is dropped takes its part along, and then no
 //! one can.
-ghost use Rattle.std.specs.Prelude.{◌≡◌, ℕ, ◌*◌, ◌<◌, length, true, false, ◌∷◌, if◌then◌else◌, slice_index_or, IfOk, OnErr, IfErr};
+ghost use Rattle.std.specs.Prelude.{◌≡◌, ℕ, ◌*◌, ◌<◌, length, true, false, ◌∷◌, if◌then◌else◌, slice_index_or, IfOk, IfErr};
 ghost use Rattle.std.specs.Slots.{slots_items, slots_len, IsFull};
 ghost use Rattle.words.specs.Bits.{bit};
 ghost use Rattle.words.specs.declared.refusal.OpenError.TheVariants.{Memory};

@@ -1,7 +1,7 @@
 -- Helpers of one table.
-use Rattle.std.specs.Prelude.{◌≡◌, ℕ, ◌<◌, true, length}
+use Rattle.std.specs.Prelude.{◌≡◌, ℕ, ◌<◌, true}
 use Rattle.mark_bits.specs.declared.table.MarkTable.{MarkTable}
-use Rattle.mark_bits.specs.Tables.{view, start_of, IsOf}
+use Rattle.mark_bits.specs.Tables.{view, IsOf}
 use Rattle.mark_bits.specs.Claims.{knows}
 use Rattle.mark_bits_tests.specs.declared.Helper.{Helper}
 
