@@ -1,0 +1,102 @@
+//! The pages that were written since the collector read them. Contracts see the set as one `bool` a page.
+//! The collector takes the pages out from the least one on.
+#![tactic(auto)]
+
+ghost use Rattle.std.specs.Prelude.{◌≡◌, ◌<◌, ◌≤◌, true, false, length, slice_index_or, slice_set, IfOk, IfSome, MatchOption};
+ghost use Rattle.words.specs.Bits.{IsClear, IsEmptyFrom, IsFirstFrom};
+ghost use Rattle.words.specs.declared.limits.TheConstants.{MAX_PAGES};
+
+use std::alloc::{AllocError, Global};
+use std::marker::Model;
+use words::limits::MAX_PAGES;
+use words::{BitRow, PageNo};
+
+/// A set of the pages of a heap.
+#[derive(Drop)]
+pub struct DirtyPages {
+    row: BitRow,
+}
+
+impl Model for DirtyPages {
+    ghost use Rattle.std.specs.Prelude.{List, Bool, ◌≤◌, length};
+    ghost use Rattle.words.specs.declared.limits.TheConstants.{MAX_PAGES};
+
+    ghost Value = { List Bool };
+
+    ghost view = { λ d. d.row };
+
+    ghost invariant = { λ d. length d.row ≤ MAX_PAGES };
+}
+
+impl DirtyPages {
+    /// No page of a heap of so many. The error is want of memory.
+    pub fn new(alloc: Global, pages: PageNo) -> Result<DirtyPages, AllocError>
+        requires { pages ≤ MAX_PAGES }
+        ensures { IfOk result (λ dirty. IsClear dirty pages) }
+    {
+        let row = BitRow::new(alloc, pages as usize)?;
+        Ok(DirtyPages { row })
+    }
+
+    /// Whether the page is in the set.
+    pub fn is_dirty(&self, page: PageNo) -> bool
+        requires { page < length self.now }
+        ensures { result ≡ slice_index_or self.now page false }
+    {
+        self.row.is_set(page as usize)
+    }
+
+    /// Puts the page into the set.
+    pub fn set(&mut self, page: PageNo)
+        requires { page < length self.old }
+        ensures { self.new ≡ slice_set self.old page true }
+    {
+        self.row.set(page as usize);
+    }
+
+    /// Takes the page out of the set.
+    pub fn clear(&mut self, page: PageNo)
+        requires { page < length self.old }
+        ensures { self.new ≡ slice_set self.old page false }
+    {
+        self.row.clear(page as usize);
+    }
+
+    /// Takes all pages out of the set.
+    pub fn clear_all(&mut self)
+        ensures { IsClear self.new (length self.old) }
+    {
+        self.row.clear_all();
+    }
+
+    /// The least page of the set, and `None` exactly where it is empty.
+    pub fn first(&self) -> Option<PageNo>
+        ensures first { MatchOption result (IsEmptyFrom self.now 0) (λ page. IsFirstFrom self.now 0 page) }
+        ensures limit { IfSome result (λ page. page < MAX_PAGES) }
+    {
+        let page = self.row.next(0)?;
+        Some(page as PageNo)
+    }
+}
+
+#[cfg(test)]
+mod tests {
+    use super::*;
+    use std::test::Fail;
+
+    #[test]
+    fn gives_the_least_dirty_page(rt: HostRuntime) -> Result<(), Fail> {
+        let mut dirty = DirtyPages::new(rt.alloc(), MAX_PAGES)?;
+        assert_eq!(rt; dirty.first(), None);
+        dirty.set(1023);
+        dirty.set(200);
+        dirty.set(64);
+        assert_eq!(rt; dirty.first(), Some(64));
+        dirty.clear(64);
+        assert!(rt; !dirty.is_dirty(64) && dirty.is_dirty(200));
+        assert_eq!(rt; dirty.first(), Some(200));
+        dirty.clear_all();
+        assert_eq!(rt; dirty.first(), None);
+        Ok(())
+    }
+}

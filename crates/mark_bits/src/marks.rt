@@ -1,0 +1,78 @@
+//! The set of marked granules, seen as one `bool` a granule of the heap.
+ghost use Rattle.std.specs.Prelude.{◌≡◌, ◌*◌, ◌/◌, ◌<◌, ◌≤◌, true, false, length, slice_index_or, slice_set, IfOk};
+ghost use Rattle.words.specs.Bits.{bits, IsClear};
+ghost use Rattle.words.specs.declared.limits.TheConstants.{FIRST_ADDRESS, MAX_PAGES, PAGE_GRANULES};
+ghost use Rattle.mark_bits.specs.Granules.{granule};
+
+use std::alloc::{AllocError, Global};
+use std::marker::Model;
+use words::limits::{FIRST_ADDRESS, GRANULE_BYTES, MAX_PAGES, PAGE_GRANULES};
+use words::{BitRow, PageNo};
+
+/// The granule at whose words the address lies, from 0.
+pub fn granule_of(address: u64) -> usize
+    requires { FIRST_ADDRESS ≤ address }
+    ensures { result ≡ granule address }
+{
+    ((address - FIRST_ADDRESS) / GRANULE_BYTES) as usize
+}
+
+/// A set of the granules of a heap.
+#[derive(Drop)]
+pub struct Marks {
+    row: BitRow,
+}
+
+impl Model for Marks {
+    ghost use Rattle.std.specs.Prelude.{List, Bool};
+    ghost use Rattle.mark_bits.specs.Granules.{IsOfPages};
+
+    ghost Value = { List Bool };
+
+    ghost view = { λ m. m.row };
+
+    ghost invariant = { λ m. IsOfPages m.row };
+}
+
+impl Marks {
+    /// No mark in a heap of so many pages. The error is want of memory.
+    pub fn new(alloc: Global, pages: PageNo) -> Result<Marks, AllocError>
+        requires some { 0 < pages }
+        requires few { pages ≤ MAX_PAGES }
+        ensures { IfOk result (λ marks. IsClear marks (PAGE_GRANULES * pages)) }
+    {
+        let row = BitRow::new(alloc, (PAGE_GRANULES * u64::from(pages)) as usize)?;
+        Ok(Marks { row })
+    }
+
+    /// How many granules the heap has.
+    pub fn granules(&self) -> usize
+        ensures count { result ≡ length self.now }
+        ensures limit { result ≤ PAGE_GRANULES * MAX_PAGES }
+    {
+        self.row.len()
+    }
+
+    /// Whether the granule is marked.
+    pub fn is_set(&self, granule: usize) -> bool
+        requires { granule < length self.now }
+        ensures { result ≡ slice_index_or self.now granule false }
+    {
+        self.row.is_set(granule)
+    }
+
+    /// Marks the granule.
+    pub fn set(&mut self, granule: usize)
+        requires { granule < length self.old }
+        ensures { self.new ≡ slice_set self.old granule true }
+    {
+        self.row.set(granule);
+    }
+
+    /// Takes all marks away, by whole words.
+    pub fn clear_all(&mut self)
+        ensures { IsClear self.new (length self.old) }
+    {
+        self.row.clear_all();
+    }
+}
