@@ -11,7 +11,7 @@ pub class_bounds : (c : ℕ) → IsSizeClass c → (2 ≤ c) × (c ≤ 256)
 class_bounds c h = grind (arith, nat_tests)
 
 -- the quotient and the rest of a division by a number above 0
-divided : (o d : ℕ) → 0 < d → (o / d * d ≤ o) × (o < o / d * d + d)
+pub divided : (o d : ℕ) → 0 < d → (o / d * d ≤ o) × (o < o / d * d + d)
 divided o d h =
     let e : o / d * d + o % d ≡ o = div-add-mod' o d in
     let r : o % d < d = mod_below o d h in

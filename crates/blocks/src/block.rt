@@ -35,7 +35,8 @@ impl Model for Block {
 impl Block {
     /// A page cut for a class and a kind, with all its cells free.
     pub fn new(class: Class, kind: Kind) -> Block
-        ensures { result ≡ record { class = class; kind = kind; taken = replicate (PAGE_WORDS / class) false } }
+        ensures value { result ≡ record { class = class; kind = kind; taken = replicate (PAGE_WORDS / class) false } }
+        ensures cells { IsCells result }
     {
         Block {
             class,
@@ -65,7 +66,8 @@ impl Block {
     /// end.
     #[inline]
     pub fn cell_of(&self, address: u64) -> Option<u16>
-        ensures { MatchOption result (IsLeftOver self.now.class (address % PAGE_BYTES)) (λ i. IsInCell self.now.class i (address % PAGE_BYTES)) }
+        ensures cell { MatchOption result (IsLeftOver self.now.class (address % PAGE_BYTES)) (λ i. IsInCell self.now.class i (address % PAGE_BYTES)) }
+        ensures cells { IsCells self.now }
     {
         let cell = address % PAGE_BYTES / (WORD_BYTES * u64::from(self.class.words()));
         if cell < u64::from(self.taken.len()) {
