@@ -1,1 +1,4 @@
+pub mod Claims
 pub mod Granules
+pub mod Rule
+pub mod Tables

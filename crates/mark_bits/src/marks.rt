@@ -1,5 +1,6 @@
 //! The set of marked granules, seen as one `bool` a granule of the heap.
-ghost use Rattle.std.specs.Prelude.{◌≡◌, ◌*◌, ◌/◌, ◌<◌, ◌≤◌, true, false, length, slice_index_or, slice_set, IfOk};
+ghost use Rattle.std.specs.Prelude.{◌≡◌, ◌≢◌, ℕ, ◌*◌, ◌/◌, ◌%◌, ◌<◌, ◌≤◌, ◌==◌, true, false, length, slice_index_or, slice_set, IfOk};
+ghost use Rattle.std.specs.Int.{bit_at};
 ghost use Rattle.words.specs.Bits.{bits, IsClear};
 ghost use Rattle.words.specs.declared.limits.TheConstants.{FIRST_ADDRESS, MAX_PAGES, PAGE_GRANULES};
 ghost use Rattle.mark_bits.specs.Granules.{granule};
@@ -74,5 +75,43 @@ impl Marks {
         ensures { IsClear self.new (length self.old) }
     {
         self.row.clear_all();
+    }
+
+    // The words of the row, lowest bits first, and no word beyond them.
+    pub(crate) fn as_words(&self) -> &[u64]
+        ensures bits { bits result.now (length self.now) ≡ self.now }
+        ensures size { 64 * length result.now ≡ length self.now }
+        ensures some { 0 < length result.now }
+    {
+        &self.row.as_words()[..self.row.len() / 64]
+    }
+
+    // Gives the bits of the word j those of `word`.
+    pub(crate) fn set_word(&mut self, j: usize, word: u64)
+        requires { 64 * j < length self.old }
+        ensures size { length self.new ≡ length self.old }
+        ensures inside { (k : ℕ) → k / 64 ≡ j → slice_index_or self.new k false ≡ (bit_at word (k % 64) == 1) }
+        ensures others { (k : ℕ) → k / 64 ≢ j → slice_index_or self.new k false ≡ slice_index_or self.old k false }
+    {
+        self.row.set_word(j, word);
+    }
+}
+
+#[cfg(test)]
+mod tests {
+    use super::*;
+    use std::test::Fail;
+
+    #[test]
+    fn keeps_one_mark_a_granule(rt: HostRuntime) -> Result<(), Fail> {
+        let mut marks = Marks::new(rt.alloc(), MAX_PAGES)?;
+        assert_eq!(rt; marks.granules(), 262_144);
+        let third_of_second_page = granule_of(FIRST_ADDRESS + 4_096 + 2 * 16 + 8);
+        assert_eq!(rt; third_of_second_page, 258);
+        marks.set(258);
+        assert!(rt; marks.is_set(258) && !marks.is_set(257) && !marks.is_set(259));
+        marks.clear_all();
+        assert!(rt; !marks.is_set(258));
+        Ok(())
     }
 }

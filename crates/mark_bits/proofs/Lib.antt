@@ -1,0 +1,4 @@
+pub mod Claiming
+pub mod Passing
+pub mod Sums
+pub mod Words

@@ -1,0 +1,225 @@
+//! The marks while several threads claim them.
+//!
+//! # Who holds what, and when
+//!
+//! **Opening.** `MarkTable::new` copies the words of the marks, one bit a granule, and answers the table with
+//! one [`Claimer`], which holds every part of the right to give the marks back.
+//!
+//! **Sharing.** The table is shared by reference. Each thread has a claimer of its own, which `split` cuts off
+//! from another one with one part. A claimer has no bytes: it is what its thread knows (bits that are set) and
+//! has won (bits that it was the first to set).
+//!
+//! **Stepping.** Two kinds of atomic step touch the words, `fetch_or` in `claim` and `load` in `is_set`. Neither
+//! clears a bit, so what a claimer knows stays true whatever the others do. Neither waits or tries again.
+//!
+//! **The rule.** Between any two steps each bit that is set was set at the start or stands once in one won list,
+//! and a bit that is clear in neither.
+//!
+//! **Closing.** `join` puts a claimer's parts, knowledge and won list into another one. The claimer that has all
+//! parts again gives the marks back by `finish`. A claimer that is dropped takes its part along, and then no
+//! one can.
+ghost use Rattle.std.specs.Prelude.{◌≡◌, ℕ, ◌*◌, ◌<◌, length, true, false, ◌∷◌, if◌then◌else◌, slice_index_or, IfOk, OnErr, IfErr};
+ghost use Rattle.std.specs.Slots.{slots_items, slots_len, IsFull};
+ghost use Rattle.words.specs.Bits.{bit};
+ghost use Rattle.words.specs.declared.refusal.OpenError.TheVariants.{Memory};
+ghost use Rattle.mark_bits.specs.Claims.{all_parts, first_view, kept_part, cut_part, joined, knows, Gathers, LearnsMore};
+
+use crate::claimer_view::ClaimerView;
+use crate::marks::Marks;
+use atomic_table::{Closed, Join, Play, Seat, Split, Table, TableRule};
+use std::alloc::Global;
+use words::OpenError;
+
+struct WonOnce;
+
+impl TableRule<(), ClaimerView, Marks> for WonOnce {
+    ghost use Rattle.mark_bits.specs.Rule.{IsWonOnce};
+    ghost use Rattle.mark_bits.specs.Claims.{first_view};
+
+    ghost holds = { IsWonOnce };
+
+    ghost first = { first_view };
+}
+
+struct Claim;
+
+impl Play<(), ClaimerView> for Claim {
+    ghost use Rattle.mark_bits.specs.Rule.{claimed};
+
+    ghost then = { claimed };
+}
+
+struct Look;
+
+impl Play<(), ClaimerView> for Look {
+    ghost use Rattle.mark_bits.specs.Rule.{looked};
+
+    ghost then = { looked };
+}
+
+struct Parts;
+
+impl Split<ClaimerView> for Parts {
+    ghost use Rattle.mark_bits.specs.Claims.{kept_part, cut_part};
+
+    ghost left = { kept_part };
+
+    ghost right = { cut_part };
+}
+
+impl Join<ClaimerView> for Parts {
+    ghost use Rattle.mark_bits.specs.Claims.{joined, spent};
+
+    ghost both = { joined };
+
+    ghost spent = { spent };
+}
+
+/// The marks while several threads claim them.
+#[derive(Drop)]
+pub struct MarkTable {
+    table: Table<(), ClaimerView, Marks, WonOnce, Global>,
+    ghost whole: { 64 * table.shared.table_id.words ≡ length table.shared.key },
+    ghost some: { 0 < table.shared.table_id.words },
+    ghost no_slot: { table.shared.table_id.slots ≡ 0 },
+}
+
+/// What one thread claims with. It has no bytes.
+#[derive(Drop)]
+pub struct Claimer {
+    seat: Seat<(), ClaimerView>,
+    ghost part: { 0 < seat.me.0.parts },
+    ghost no_slot: { length seat.me.1 ≡ 0 },
+}
+
+impl MarkTable {
+    ghost use Rattle.mark_bits.specs.Tables.{view, start_of, IsOf};
+
+    /// A table that begins with the bits of the marks, and the claimer that has all its parts. The one error is
+    /// [`OpenError::Memory`].
+    pub fn new(alloc: Global, marks: &Marks) -> Result<(MarkTable, Claimer), OpenError>
+        ensures table { IfOk result (λ made. (start_of made.0 ≡ marks.now) × IsOf made.0 made.1) }
+        ensures claimer { IfOk result (λ made. view made.1 ≡ first_view marks.now) }
+        ensures err { IfErr result (λ error. error ≡ Memory) }
+    {
+        let Ok((table, seat)) = Table::of_words(alloc, marks.as_words(), marks) else {
+            return Err(OpenError::Memory);
+        };
+        Ok((MarkTable { table }, Claimer { seat }))
+    }
+
+    /// One more claimer, which knows what this one knows and has won nothing.
+    pub fn split(&self, me: &mut Claimer) -> Claimer
+        requires of { IsOf self.now me.old }
+        requires parts { 1 < (view me.old).parts }
+        ensures of { IsOf self.now me.new × IsOf self.now result }
+        ensures me { view me.new ≡ kept_part (view me.old) }
+        ensures cut { view result ≡ cut_part (view me.old) }
+    {
+        // A load whose answer is not used: a claimer changes only at a step.
+        let seat = self.table.shared.split_seat::<Parts>(&mut me.seat);
+        Claimer { seat }
+    }
+
+    /// Two claimers become one, which knows what either knew and has won what either won.
+    pub fn join(&self, me: &mut Claimer, other: Claimer)
+        requires me { IsOf self.now me.old }
+        requires other { IsOf self.now other }
+        ensures of { IsOf self.now me.new }
+        ensures joined { view me.new ≡ joined (view me.old) (view other) }
+    {
+        let Claimer { seat } = other;
+        // A load whose answer is not used, as in `split`.
+        self.table.shared.join_seat::<Parts>(&mut me.seat, seat);
+    }
+
+    /// Sets the bit. The answer is whether this was the first claim of a bit that was not set at the start, and
+    /// then the claimer has won it.
+    pub fn claim(&self, me: &mut Claimer, bit: usize) -> bool
+        requires of { IsOf self.now me.old }
+        requires bit { bit < length (start_of self.now) }
+        ensures of { IsOf self.now me.new }
+        ensures learns { LearnsMore (view me.old) (view me.new) }
+        ensures known { knows (view me.new) bit ≡ true }
+        ensures won { (view me.new).won ≡ (if result then bit ∷ (view me.old).won else (view me.old).won) }
+        ensures unmarked { result ≡ true → slice_index_or (start_of self.now) bit false ≡ false }
+        ensures unknown { result ≡ true → knows (view me.old) bit ≡ false }
+    {
+        // One step sets the bit and reads what it was, so of two claims of a clear bit one finds it clear.
+        let found = self
+            .table
+            .shared
+            .fetch_or::<Claim>(&mut me.seat, bit / 64, 1 << (bit % 64));
+        (found >> (bit % 64)) & 1 == 0
+    }
+
+    /// Whether the bit is set: true for each bit that was set at the start or that the claimer knows, and true
+    /// only for a set bit, which the claimer then knows.
+    pub fn is_set(&self, me: &mut Claimer, bit: usize) -> bool
+        requires of { IsOf self.now me.old }
+        requires bit { bit < length (start_of self.now) }
+        ensures of { IsOf self.now me.new }
+        ensures learns { LearnsMore (view me.old) (view me.new) }
+        ensures won { (view me.new).won ≡ (view me.old).won }
+        ensures set { result ≡ true → knows (view me.new) bit ≡ true }
+        ensures marked { slice_index_or (start_of self.now) bit false ≡ true → result ≡ true }
+        ensures known { knows (view me.old) bit ≡ true → result ≡ true }
+    {
+        // No step clears a bit, so a bit that was set before this load is still set.
+        let found = self.table.shared.load::<Look>(&mut me.seat, bit / 64);
+        (found >> (bit % 64)) & 1 == 1
+    }
+
+    /// Puts the bits of the table into the marks. It takes the claimer to which all others were joined.
+    pub fn finish(self, claimer: Claimer, marks: &mut Marks)
+        requires of { IsOf self claimer }
+        requires all { (view claimer).parts ≡ all_parts }
+        requires size { length marks.old ≡ length (start_of self) }
+        ensures gathered { Gathers (start_of self) (view claimer).won marks.new }
+        ensures known { (k : ℕ) → knows (view claimer) k ≡ true → slice_index_or marks.new k false ≡ true }
+    {
+        let MarkTable { table } = self;
+        let Claimer { seat } = claimer;
+        let closed = table.close_with(seat);
+        copy_words(&closed, marks);
+        closed.free();
+    }
+}
+
+// The bits of the closed table become the marks.
+fn copy_words(closed: &Closed<(), Global>, marks: &mut Marks)
+    requires full { IsFull closed.now.words }
+    requires words { 64 * slots_len closed.now.words ≡ length marks.old }
+    ensures size { length marks.new ≡ length marks.old }
+    ensures bits { (k : ℕ) → slice_index_or marks.new k false ≡ bit (slots_items closed.now.words) k }
+{
+    for j in 0..marks.granules() / 64 {
+        marks.set_word(j, closed.word(j));
+    }
+}
+
+#[cfg(test)]
+mod tests {
+    use super::*;
+    use std::test::Fail;
+
+    #[test]
+    fn two_claimers_share_the_marks(rt: HostRuntime) -> Result<(), Fail> {
+        let mut marks = Marks::new(rt.alloc(), 1)?;
+        marks.set(3);
+        let Ok((table, mut first)) = MarkTable::new(rt.alloc(), &marks) else {
+            panic!(rt; "no memory for a table of four words")
+        };
+        let mut second = table.split(&mut first);
+        assert!(rt; table.claim(&mut first, 7) && !table.claim(&mut second, 7));
+        assert!(rt; table.claim(&mut second, 70) && !table.claim(&mut first, 3));
+        assert!(rt; table.is_set(&mut second, 7) && !table.is_set(&mut second, 8));
+        table.join(&mut first, second);
+        table.finish(first, &mut marks);
+        for granule in 0..256 {
+            let want = granule == 3 || granule == 7 || granule == 70;
+            assert!(rt; marks.is_set(granule) == want, "at {granule}");
+        }
+        Ok(())
+    }
+}
