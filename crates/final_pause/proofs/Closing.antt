@@ -1,0 +1,61 @@
+-- The end of the marking.
+use Rattle.std.proofs.Common.{◌≡◌, ℕ, ◌+◌, ◌*◌, ◌≤◌, List, [], Contains, Option, Some, sym, subst, arith}
+use Rattle.block_map.specs.declared.found.Found.{Found}
+use Rattle.block_map.specs.Objects.{IsMap}
+use Rattle.words.specs.Bits.{Has}
+use Rattle.mark_bits.specs.Granules.{granule}
+use Rattle.words.specs.declared.limits.TheConstants.{FIRST_ADDRESS}
+use Rattle.marker.specs.Marking.{Marking, IsMarked, IsDone}
+use Rattle.marker.specs.Work.{cost, dirty_pages, newly_pages, entry_words}
+use Rattle.marker.specs.Closure.{Closure, held}
+use Rattle.marker.specs.Invariant.{DirtyPageInvariant, AreRootsMarked}
+use Rattle.marker.specs.Growth.{Traces}
+use Rattle.marker.proofs.Closures.{closure_marked, closure_more}
+use Rattle.marker.proofs.Costs.{newly_rest, dirty_words}
+use Rattle.marker.proofs.Growing.{traces_trans, traces_more}
+
+-- The state of the loop that ends the marking.
+pub record Closes (found : ℕ → Option Found) (words roots : List ℕ) (reads : ℕ) (old : Marking) (now_reads : ℕ) (now : Marking) : Type 0 where
+  pub traces : Traces found words roots old now
+  pub scanned : AreRootsMarked found roots now
+  pub less : now_reads + cost found now ≤ reads + cost found old
+
+none_in : (w : ℕ) → Contains [] w → ⊥
+none_in w h = let l = h.1 in omega arith
+
+at : (i : ℕ) → granule (FIRST_ADDRESS + 16 * i) ≡ i
+at i = omega arith
+
+pub closes_step : (found : ℕ → Option Found) (words roots : List ℕ) (reads : ℕ) (old : Marking) (mid_reads : ℕ) (mid : Marking) (now_reads : ℕ) (now : Marking)
+    → Closes found words roots reads old mid_reads mid → Traces found words [] mid now → now_reads + cost found now ≤ mid_reads + cost found mid → Closes found words roots reads old now_reads now
+closes_step found words roots reads old mid_reads mid now_reads now c t less = record {
+  traces = traces_trans found words roots old mid now c.traces (traces_more found words [] roots mid now (λ w h. absurd (none_in w h)) t);
+  scanned = λ w h g e. t.marks g.base (c.scanned w h g e);
+  less = (let a = c.less in omega arith);
+}
+
+pub closed : (pages : ℕ) (found : ℕ → Option Found) (words roots : List ℕ) (reads : ℕ) (old : Marking) (now_reads : ℕ) (now : Marking) → IsMap pages found → DirtyPageInvariant found words old
+    → Closes found words roots reads old now_reads now → IsDone now
+    → (f : Found) → found f.base ≡ Some f → (IsMarked now f.base → Closure found words roots (IsMarked old) f) × (Closure found words roots (IsMarked old) f → IsMarked now f.base)
+closed pages found words roots reads old now_reads now map t c d f e = (
+  c.traces.within f e,
+  (λ k. closure_marked pages found words roots (IsMarked old) now map (c.traces.keeps t) d c.scanned c.traces.marks k),
+)
+
+-- the words that were read
+pub closed_reads : (found : ℕ → Option Found) (words roots : List ℕ) (reads : ℕ) (old : Marking) (now_reads : ℕ) (now : Marking) → Closes found words roots reads old now_reads now
+    → now_reads ≤ reads + (512 * (dirty_pages old + newly_pages found old now) + entry_words found old)
+unfolding cost
+closed_reads found words roots reads old now_reads now c =
+    let l = c.less in
+    let n = newly_rest found 0 old.marks now.marks c.traces.marks_len (λ i h. subst (Has now.marks) (at i) (c.traces.marks (FIRST_ADDRESS + 16 * i) (subst (Has old.marks) (sym (at i)) h))) in
+    let d = dirty_words old.dirty in
+    omega (arith, l, n, d)
+
+-- where a part of the marking was done before, as by several threads, the closure is that of the marks at the start
+pub closure_same : (found : ℕ → Option Found) (words roots : List ℕ) (old mid : Marking) → Traces found words roots old mid
+    → (f : Found) → (Closure found words roots (IsMarked mid) f → Closure found words roots (IsMarked old) f) × (Closure found words roots (IsMarked old) f → Closure found words roots (IsMarked mid) f)
+closure_same found words roots old mid t f = (
+  (λ c. closure_more found words roots roots (IsMarked mid) (IsMarked old) (λ w h. h) t.within c),
+  (λ c. closure_more found words roots roots (IsMarked old) (IsMarked mid) (λ w h. h) (λ g e k. held e (t.marks g.base k)) c),
+)

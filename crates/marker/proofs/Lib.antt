@@ -1,0 +1,11 @@
+pub mod Closures
+pub mod Growing
+pub mod Costs
+pub mod Spreads
+pub mod MarkWord
+pub mod Reading
+pub mod Scanning
+pub mod Mutating
+pub mod Taking
+pub mod Ordering
+pub mod Sizes

@@ -1,0 +1,110 @@
+-- What mutators do while the heap is marked keeps the invariant.
+use Rattle.std.proofs.Common.{◌≡◌, ◌≢◌, ℕ, ◌+◌, ◌-◌, ◌*◌, ◌/◌, ◌<◌, ◌≤◌, List, length, true, false, get_or, set, Contains, Option, Some, None, refl, sym, ap, ◌∙◌, subst, inl, inr, ⊎_elim, arith, get_or-set_same, get_or-set_other}
+use Rattle.std.specs.Prelude.{◌⊎◌}
+use Rattle.std.proofs.lemmas.Option.{same_Some}
+use Rattle.std.proofs.lemmas.Bool.{false≢true, cases_eq, cases_lt}
+use Rattle.block_map.specs.declared.found.Found.{Found}
+use Rattle.block_map.specs.Objects.{Reads, IsMap}
+use Rattle.words.specs.declared.limits.TheConstants.{FIRST_ADDRESS}
+use Rattle.words.specs.Bits.{Has}
+use Rattle.block_map.specs.Places.{page_of}
+use Rattle.mark_bits.specs.Granules.{granule}
+use Rattle.pages.specs.Memory.{word_at, with_word_at}
+use Rattle.marker.specs.Marking.{Marking, IsFresh, IsMarked, IsPending, word_address}
+use Rattle.marker.specs.Invariant.{DirtyPageInvariant}
+use Rattle.marker.specs.Mutations.{IsWritten, IsAllocated, KeepsWords, HasZeroWords}
+use Rattle.block_map.specs.Changes.{IsAdded, IsRemoved}
+use Rattle.marker.proofs.MarkWord.{same_object}
+use Rattle.marker.proofs.Spreads.{has_set, has_set_back}
+
+-- the entries are the same
+pending_same : (a b : Marking) → b.current ≡ a.current → b.stack ≡ a.stack → (base i : ℕ) → IsPending a base i → IsPending b base i
+pending_same a b c s base i p = record {
+  entry = p.entry;
+  one = ⊎_elim (λ (h : a.current ≡ Some p.entry). inl (c ∙ h)) (λ h. inr (subst (λ y. Contains y p.entry) (sym s) h)) p.one;
+  same = p.same;
+  left = p.left;
+}
+
+-- a word is stored
+pub store_traced : (found : ℕ → Option Found) (words : List ℕ) (address w : ℕ) (old new : Marking) → IsWritten address old new → page_of address < length old.dirty
+    → DirtyPageInvariant found words old → DirtyPageInvariant found (with_word_at words address w) new
+store_traced found words address w old new x inside t f e n k i lt =
+    let b = word_address f i in
+    ⊎_elim
+    (λ (z : page_of (word_address f i) ≡ page_of address).
+    inr (inr (inl (ap (λ q. get_or new.dirty q false) z ∙ ap (λ y. get_or y (page_of address) false) x.dirty ∙ get_or-set_same old.dirty (page_of address) true false inside))))
+    (λ ne.
+    let apart : (word_address f i - FIRST_ADDRESS) / 8 ≢ (address - FIRST_ADDRESS) / 8 = λ m. ne (omega arith) in
+    ⊎_elim (λ h. inl h)
+    (λ r. inr (⊎_elim
+    (λ g. inl (λ o y. subst (λ q. Has q (granule o.base)) (sym x.marks) (g o (ap found (sym (get_or-set_other words ((address - FIRST_ADDRESS) / 8) ((word_address f i - FIRST_ADDRESS) / 8) w 0 apart)) ∙ y))))
+    (λ a. inr (⊎_elim (λ d. inl (subst (λ q. Has q (page_of (word_address f i))) (sym x.dirty) (has_set old.dirty (page_of address) (page_of (word_address f i)) inside d)))
+    (λ p. inr (pending_same old new x.current x.stack f.base i p)) a)) r))
+    (t f e n (subst (λ q. Has q (granule f.base)) x.marks k) i lt))
+    (cases_eq (page_of (word_address f i)) (page_of address))
+
+reads_cases : (w : ℕ) (f : Found) → Reads w f ⊎ (Reads w f → ⊥)
+reads_cases w f =
+    ⊎_elim (λ (lt : w < f.base). inr (λ (r : Reads w f). let a = r.from in absurd (omega arith)))
+    (λ ge. ⊎_elim (λ (lt : w < f.base + 8 * f.len). inl (record { from = omega arith; below = lt })) (λ le. inr (λ (r : Reads w f). let b = r.below in absurd (omega arith))) (cases_lt w (f.base + 8 * f.len)))
+    (cases_lt w f.base)
+
+-- what a word reads once an object has left, it read before
+removed_before : (found after : ℕ → Option Found) (f : Found) → IsRemoved found after f → (w : ℕ) (g : Found) → after w ≡ Some g → found w ≡ Some g
+removed_before found after f r w g e =
+    ⊎_elim
+    (λ (in_it : Reads w f). let x : None ≡ Some g = sym (r.before w in_it) ∙ e in absurd (cc x))
+    (λ (not : Reads w f → ⊥). r.others w not ∙ e)
+    (reads_cases w f)
+
+-- an object leaves
+pub free_traced : (found after : ℕ → Option Found) (words words' : List ℕ) (f : Found) (m : Marking) → IsRemoved found after f → KeepsWords after words words' → DirtyPageInvariant found words m → DirtyPageInvariant after words' m
+free_traced found after words words' x m r same t f e n k i lt =
+    ⊎_elim (λ h. inl h)
+    (λ y. inr (⊎_elim (λ g. inl (λ o z. g o (removed_before found after x r _ o (ap after (sym (same f i e lt)) ∙ z)))) (λ a. inr a) y))
+    (t f (removed_before found after x r f.base f e) n k i lt)
+
+-- an object comes, with words 0
+pub alloc_traced : (pages : ℕ) (found after : ℕ → Option Found) (words words' : List ℕ) (f : Found) (old new : Marking) → IsMap pages after → after f.base ≡ Some f → IsAdded found after f
+    → KeepsWords found words words' → HasZeroWords words' f → IsAllocated f.base old new → granule f.base < length old.marks
+    → DirtyPageInvariant found words old → DirtyPageInvariant after words' new
+alloc_traced pages found after words words' f old new map object added same zero x inside t g e n k i lt =
+    ⊎_elim
+    (λ (r : Reads g.base f).
+    let s : g ≡ f = same_Some g f (sym e ∙ added.after g.base r) in
+    inr (inl (λ o y. absurd (
+    let z : word_at words' (word_address g i) ≡ 0 = ap (λ h. word_at words' (word_address h i)) s ∙ zero i (subst (λ (h : Found). i < h.len) s lt) in
+    let y0 : after 0 ≡ Some o = ap after (sym z) ∙ y in
+    let p = (map.placed 0 o y0).above in let q = (map.reads 0 o y0).from in omega arith))))
+    (λ not.
+    let was : found g.base ≡ Some g = sym (added.others g.base not) ∙ e in
+    let some = (map.placed f.base f object).some in
+    let marked : IsMarked old g.base =
+    ⊎_elim (λ h. h)
+    (λ (z : granule g.base ≡ granule f.base). absurd (not (subst (λ (h : Found). Reads h.base f) (sym (same_object pages after map g f e object z)) (record { from = omega arith; below = omega arith }))))
+    (has_set_back old.marks (granule f.base) (granule g.base) (subst (λ q. Has q (granule g.base)) x.marks k)) in
+    let more = λ (o : Found) (h : IsMarked old o.base). let y : IsMarked new o.base = subst (λ q. Has q (granule o.base)) (sym x.marks) (has_set old.marks (granule f.base) (granule o.base) inside h) in y in
+    let here : IsMarked new f.base = subst (λ q. Has q (granule f.base)) (sym x.marks) (get_or-set_same old.marks (granule f.base) true false inside) in
+    ⊎_elim (λ h. inl h)
+    (λ w. inr (⊎_elim
+    (λ h. inl (λ o y. ⊎_elim
+    (λ (r : Reads (word_at words' (word_address g i)) f). subst (λ (q : Found). IsMarked new q.base) (same_Some f o (sym (added.after _ r) ∙ y)) here)
+    (λ no. more o (h o (ap found (sym (same g i was lt)) ∙ sym (added.others _ no) ∙ y)))
+    (reads_cases (word_at words' (word_address g i)) f)))
+    (λ a. inr (⊎_elim (λ d. inl (subst (λ q. Has q (page_of (word_address g i))) (sym x.dirty) d)) (λ p. inr (pending_same old new x.current x.stack g.base i p)) a)) w))
+    (t g was n marked i lt))
+    (reads_cases g.base f)
+
+-- the object that comes is one that its base reads
+pub alloc_keeps : (pages : ℕ) (found after : ℕ → Option Found) (words words' : List ℕ) (f : Found) (base : ℕ) (old new : Marking) → granule base < length old.marks → IsAllocated base old new → f.base ≡ base
+    → IsMap pages after → after f.base ≡ Some f → IsAdded found after f → KeepsWords found words words' → HasZeroWords words' f → DirtyPageInvariant found words old → DirtyPageInvariant after words' new
+alloc_keeps pages found after words words' f base old new inside x b map object added same zero t =
+    alloc_traced pages found after words words' f old new map object added same zero
+    (subst (λ y. IsAllocated y old new) (sym b) x) (subst (λ y. granule y < length old.marks) (sym b) inside) t
+
+-- nothing is marked
+pub fresh_traced : (pages : ℕ) (found : ℕ → Option Found) (words : List ℕ) (m : Marking) → IsFresh pages m → DirtyPageInvariant found words m
+fresh_traced pages found words m fresh f e n k i lt = absurd (false≢true (sym (fresh.marks.clear (granule f.base)) ∙ k))
+
+pub ruleset mutating = (store_traced, free_traced, alloc_keeps, fresh_traced)

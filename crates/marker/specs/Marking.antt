@@ -1,0 +1,82 @@
+-- What contracts see of a marker.
+use Rattle.std.specs.Prelude.{◌≡◌, ℕ, ◌+◌, ◌-◌, ◌*◌, ◌<◌, ◌≤◌, Bool, List, [], length, Contains, Option, Some, None, ◌⊎◌}
+use Rattle.words.specs.Bits.{Has, IsClear}
+use Rattle.words.specs.declared.limits.TheConstants.{MAX_PAGES, PAGE_GRANULES, WORD_BYTES}
+use Rattle.mark_bits.specs.Granules.{granule}
+use Rattle.block_map.specs.Places.{page_of}
+use Rattle.block_map.specs.declared.found.Found.{Found}
+use Rattle.marker.specs.declared.entry.Entry.{Entry}
+
+-- The marks by granules, the dirty pages, the entry that is being read, and the other entries, the next one last.
+pub record Marking : Type 0 where
+  pub marks : List Bool
+  pub dirty : List Bool
+  pub current : Option Entry
+  pub stack : List Entry
+
+-- the marker is one of a heap of so many pages
+pub record IsSized (pages : ℕ) (m : Marking) : Type 0 where
+  pub marks : length m.marks ≡ PAGE_GRANULES * pages
+  pub dirty : length m.dirty ≡ pages
+  pub few : pages ≤ MAX_PAGES
+
+-- the address of the word i of an object
+abbrev pub word_address : Found → ℕ → ℕ
+word_address f i = f.base + WORD_BYTES * i
+
+-- the page of an object's last byte
+abbrev pub last_page : Found → ℕ
+last_page f = page_of (f.base + WORD_BYTES * f.len - 1)
+
+-- how many pages an object covers
+abbrev pub pages_of : Found → ℕ
+pages_of f = last_page f + 1 - page_of f.base
+
+-- the page is one that the object covers
+abbrev pub Covers : Found → ℕ → Type 0
+Covers f p = (page_of f.base ≤ p) × (p ≤ last_page f)
+
+-- the object with this base is marked
+abbrev pub IsMarked : Marking → ℕ → Type 0
+IsMarked m base = Has m.marks (granule base)
+
+-- the object is marked now and was not before
+abbrev pub IsNewlyMarked : (ℕ → Option Found) → Marking → Marking → Found → Type 0
+IsNewlyMarked found old new f = (found f.base ≡ Some f) × (IsMarked old f.base → ⊥) × IsMarked new f.base
+
+-- the page of the address is dirty
+abbrev pub IsDirtyAt : Marking → ℕ → Type 0
+IsDirtyAt m address = Has m.dirty (page_of address)
+
+-- one of the entries
+abbrev pub IsEntry : Marking → Entry → Type 0
+IsEntry m e = (m.current ≡ Some e) ⊎ Contains m.stack e
+
+-- an entry still has the word i of the object with this base to read
+pub record IsPending (m : Marking) (base i : ℕ) : Type 0 where
+  pub entry : Entry
+  pub one : IsEntry m entry
+  pub same : entry.base ≡ base
+  pub left : entry.next ≤ i
+
+-- no entry is left
+pub record IsEmpty (m : Marking) : Type 0 where
+  pub current : m.current ≡ None
+  pub stack : m.stack ≡ []
+
+-- no page is dirty
+abbrev pub IsClean : Marking → Type 0
+IsClean m = (p : ℕ) → Has m.dirty p → ⊥
+
+-- no page is dirty and no entry is left
+pub record IsDone (m : Marking) : Type 0 where
+  pub clean : (p : ℕ) → Has m.dirty p → ⊥
+  pub current : m.current ≡ None
+  pub stack : m.stack ≡ []
+
+-- nothing is marked, no page is dirty and no entry is left
+pub record IsFresh (pages : ℕ) (m : Marking) : Type 0 where
+  pub marks : IsClear m.marks (PAGE_GRANULES * pages)
+  pub dirty : IsClear m.dirty pages
+  pub current : m.current ≡ None
+  pub stack : m.stack ≡ []

@@ -1,0 +1,125 @@
+//! The marker's state, the marking of one object, and the roots.
+ghost use Rattle.std.specs.Prelude.{◌≡◌, ℕ, Option, ◌+◌, ◌*◌, ◌<◌, ◌≤◌, List, [], None, length, slice_index_or, false, MatchResult, IfOk, ◌⊎◌, ◌↔◌, Err};
+ghost use Rattle.words.specs.declared.limits.TheConstants.{FIRST_ADDRESS, MAX_PAGES, PAGE_GRANULES};
+ghost use Rattle.words.specs.Bits.{IsClear};
+ghost use Rattle.pages.specs.Opening.{IsOpened};
+ghost use Rattle.mark_bits.specs.Granules.{granule};
+ghost use Rattle.block_map.specs.declared.found.Found.{Found};
+ghost use Rattle.block_map.specs.FoundIn.{found_in, IsLawful};
+ghost use Rattle.marker.specs.Marking.{IsSized, IsFresh};
+ghost use Rattle.marker.specs.Work.{cost};
+ghost use Rattle.marker.specs.Invariant.{AreRootsMarked, DirtyPageInvariant};
+ghost use Rattle.marker.specs.Growth.{MarksWord, Traces};
+
+use crate::entry::Entry;
+use crate::spread::dirty_object;
+use arrayvec::ArrayVec;
+use block_map::BlockMap;
+use dirty_pages::DirtyPages;
+use mark_bits::{Marks, granule_of};
+use pages::is_page_count;
+use std::alloc::Global;
+use std::marker::Model;
+use words::{Kind, OpenError, PageNo};
+
+/// Marks, dirty pages and the objects to be read, as one value.
+#[derive(Drop)]
+pub struct Marker {
+    pub(crate) marks: Marks,
+    pub(crate) dirty: DirtyPages,
+    pub(crate) current: Option<Entry>,
+    pub(crate) stack: ArrayVec<Entry, 256>,
+}
+
+impl Model for Marker {
+    ghost use Rattle.marker.specs.Marking.{Marking};
+
+    ghost Value = { Marking };
+
+    ghost view = { λ m. record { marks = m.marks; dirty = m.dirty; current = m.current; stack = m.stack.items } };
+}
+
+impl Marker {
+    /// A marker of a heap of so many pages, with no mark, no dirty page and no entry.
+    pub fn new(alloc: Global, pages: PageNo) -> Result<Marker, OpenError>
+        ensures { IsOpened pages result (λ m. IsFresh pages m) }
+    {
+        if !is_page_count(pages) {
+            return Err(OpenError::BadPages);
+        }
+        let Ok(marks) = Marks::new(alloc, pages) else {
+            return Err(OpenError::Memory);
+        };
+        let Ok(dirty) = DirtyPages::new(alloc, pages) else {
+            return Err(OpenError::Memory);
+        };
+        Ok(Marker {
+            marks,
+            dirty,
+            current: None,
+            stack: ArrayVec::new(),
+        })
+    }
+
+    #[tactic(auto, using(crate::proofs::Mutating::mutating))]
+    /// Begins a cycle: no mark, no dirty page and no entry.
+    pub fn begin(&mut self)
+        requires { IsSized (length self.old.dirty) self.old }
+        ensures fresh { IsFresh (length self.old.dirty) self.new }
+        ensures invariant { (found : ℕ → Option Found) (words : List ℕ) → DirtyPageInvariant found words self.new }
+    {
+        self.marks.clear_all();
+        self.dirty.clear_all();
+        self.current = None;
+        self.stack.clear();
+    }
+
+    #[inline]
+    /// Whether the object with this base is marked.
+    pub fn is_marked(&self, base: u64) -> bool
+        requires low { FIRST_ADDRESS ≤ base }
+        requires inside { granule base < length self.now.marks }
+        ensures { result ≡ slice_index_or self.now.marks (granule base) false }
+    {
+        self.marks.is_set(granule_of(base))
+    }
+
+    // Marks the object that the word reads.
+    pub(crate) fn mark_word(&mut self, map: &BlockMap, word: u64)
+        requires { IsSized (length map.now) self.old }
+        ensures { MarksWord (found_in map.now) word self.old self.new }
+    {
+        let Some(found) = map.find(word) else {
+            return;
+        };
+        let granule = granule_of(found.base);
+        if self.marks.is_set(granule) {
+            return;
+        }
+        self.marks.set(granule);
+        if found.kind == Kind::PointerFree {
+            return;
+        }
+        if self.stack.is_full() {
+            dirty_object(&mut self.dirty, found);
+        } else {
+            self.stack.push(Entry {
+                base: found.base,
+                next: 0,
+            });
+        }
+    }
+
+    /// Marks the objects that root words read.
+    #[tactic(auto, using(crate::proofs::Scanning::scanning))]
+    pub fn scan_roots(&mut self, map: &BlockMap, roots: &[u64])
+        requires { IsSized (length map.now) self.old }
+        ensures traces { (words : List ℕ) → Traces (found_in map.now) words roots.now self.old self.new }
+        ensures roots { AreRootsMarked (found_in map.now) roots.now self.new }
+        ensures cost { cost (found_in map.now) self.new ≤ cost (found_in map.now) self.old }
+    {
+        for word in roots {
+            self.mark_word(map, *word);
+        }
+    }
+}

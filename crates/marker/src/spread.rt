@@ -1,0 +1,26 @@
+//! The pages that an object covers.
+ghost use Rattle.std.specs.Prelude.{◌≡◌, ℕ, ◌+◌, ◌*◌, ◌<◌, ◌≤◌, length};
+ghost use Rattle.words.specs.declared.limits.TheConstants.{MAX_PAGES};
+ghost use Rattle.block_map.specs.Objects.{IsPlaced};
+ghost use Rattle.marker.specs.Marking.{last_page};
+ghost use Rattle.block_map.specs.Places.{page_of};
+ghost use Rattle.marker.specs.Growth.{IsDirtied};
+
+use block_map::Found;
+use dirty_pages::DirtyPages;
+use words::limits::{FIRST_ADDRESS, MAX_PAGES, PAGE_BYTES, WORD_BYTES};
+
+/// Makes the pages that an object covers dirty.
+#[tactic(auto, using(crate::proofs::Spreads::spreads))]
+pub(crate) fn dirty_object(dirty: &mut DirtyPages, found: Found)
+    requires placed { IsPlaced (length dirty.old) found }
+    requires small { length dirty.old ≤ MAX_PAGES }
+    ensures { IsDirtied dirty.old dirty.new (page_of found.base) (last_page found + 1) }
+{
+    let first = ((found.base - FIRST_ADDRESS) / PAGE_BYTES) as u32;
+    let end = found.base + WORD_BYTES * u64::from(found.len);
+    let last = ((end - 1 - FIRST_ADDRESS) / PAGE_BYTES) as u32;
+    for page in first..last + 1 {
+        dirty.set(page);
+    }
+}

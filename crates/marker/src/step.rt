@@ -1,0 +1,135 @@
+//! Steps of marking: words of entries are read, at most so many a call.
+ghost use Rattle.std.specs.Prelude.{◌≡◌, ℕ, ◌+◌, ◌*◌, ◌<◌, ◌≤◌, [], ◌++◌, true, false, length, MatchOption, IfSome, ◌⊎◌, option_to_list, Some};
+ghost use Rattle.words.specs.declared.limits.TheConstants.{MAX_PAGES, PAGE_WORDS};
+ghost use Rattle.block_map.specs.Objects.{IsPlaced};
+ghost use Rattle.block_map.specs.FoundIn.{found_in};
+ghost use Rattle.marker.specs.declared.entry.Entry.{Entry};
+ghost use Rattle.marker.specs.Marking.{IsSized, IsEmpty};
+ghost use Rattle.marker.specs.Work.{cost};
+ghost use Rattle.marker.specs.Growth.{Traces};
+ghost use Rattle.marker.specs.Entries.{IsSpent, IsLive, Settles, ReadsOne, Takes, TakesOff, IsInOrder};
+
+use crate::entry::Entry;
+use crate::marker::Marker;
+use block_map::{BlockMap, Found};
+use pages::Reader;
+use words::Kind;
+use words::limits::WORD_BYTES;
+
+/// What a call of `step` did.
+#[derive(Clone, Copy, Debug)]
+pub struct Marked {
+    /// The words that were read.
+    pub read: u64,
+
+    /// No entry is left.
+    pub empty: bool,
+}
+
+impl Marker {
+    /// Reads words of entries, at most so many.
+    pub fn step(&mut self, map: &BlockMap, reader: &mut Reader, budget: u64) -> Marked
+        requires sized { IsSized (length map.now) self.old }
+        requires memory { length reader.old.words ≡ PAGE_WORDS * length map.now }
+        ensures takes { Takes (found_in map.now) reader.old.words self.old result.read self.new }
+        ensures traces { Traces (found_in map.now) reader.old.words [] self.old self.new }
+        ensures read { result.read ≤ budget }
+        ensures empty { result.empty ≡ true → IsEmpty self.new }
+        ensures fewer { result.read < budget → result.empty ≡ true }
+        ensures taken { TakesOff (found_in map.now) reader.old.words self.old self.new }
+        ensures order { IsInOrder (found_in map.now) reader.old.words self.old self.new }
+        ensures cost { cost (found_in map.now) self.new + result.read ≤ cost (found_in map.now) self.old }
+        ensures words { reader.new.words ≡ reader.old.words }
+        ensures reads { reader.new.reads ≡ reader.old.reads + result.read }
+    {
+        let mut read = 0;
+        while let Some(found) = self.settle(map) {
+            if read == budget {
+                return Marked { read, empty: false };
+            }
+            self.read_word(map, reader, found);
+            read += 1;
+        }
+        Marked { read, empty: true }
+    }
+
+    // Drops entries that have no word to read, up to one that has.
+    fn settle(&mut self, map: &BlockMap) -> Option<Found>
+        requires { IsSized (length map.now) self.old }
+        ensures settles { Settles (found_in map.now) self.old self.new }
+        ensures order { (e : Entry) → self.old.current ≡ Some e → IsSpent (found_in map.now) self.old e ⊎ (self.new ≡ self.old) }
+        ensures live { MatchOption result (IsEmpty self.new) (λ f. IsLive (found_in map.now) self.new f) }
+        ensures placed { IfSome result (λ f. IsPlaced (length map.now) f × (length map.now ≤ MAX_PAGES)) }
+    {
+        loop {
+            if let Some(found) = self.live(map) {
+                return Some(found);
+            }
+            if !self.take_entry() {
+                return None;
+            }
+        }
+    }
+
+    #[tactic(auto, using(crate::proofs::MarkWord::marking))]
+    // Whether the entry that is being read has a word left, and of which object.
+    fn live(&self, map: &BlockMap) -> Option<Found>
+        requires { IsSized (length map.now) self.now }
+        ensures live { MatchOption result ((e : Entry) → self.now.current ≡ Some e → IsSpent (found_in map.now) self.now e) (λ f. IsLive (found_in map.now) self.now f) }
+        ensures placed { IfSome result (λ f. IsPlaced (length map.now) f × (length map.now ≤ MAX_PAGES)) }
+    {
+        let entry = self.current?;
+        let found = map.find(entry.base)?;
+        if found.base != entry.base {
+            return None;
+        }
+        if found.kind == Kind::PointerFree {
+            return None;
+        }
+        if entry.next >= found.len {
+            return None;
+        }
+        if self.is_marked(found.base) {
+            Some(found)
+        } else {
+            None
+        }
+    }
+
+    // Takes the next entry to be read.
+    fn take_entry(&mut self) -> bool
+        ensures marks { self.new.marks ≡ self.old.marks }
+        ensures dirty { self.new.dirty ≡ self.old.dirty }
+        ensures taken { self.old.stack ≡ self.new.stack ++ option_to_list self.new.current }
+        ensures fewer { result ≡ true → length self.new.stack + 1 ≡ length self.old.stack }
+        ensures none { result ≡ false → IsEmpty self.new }
+    {
+        self.current = self.stack.pop();
+        self.current.is_some()
+    }
+
+    // Reads one word of the entry.
+    fn read_word(&mut self, map: &BlockMap, reader: &mut Reader, found: Found)
+        requires sized { IsSized (length map.now) self.old }
+        requires live { IsLive (found_in map.now) self.old found }
+        requires placed { IsPlaced (length map.now) found × (length map.now ≤ MAX_PAGES) }
+        requires memory { length reader.old.words ≡ PAGE_WORDS * length map.now }
+        ensures one { ReadsOne (found_in map.now) reader.old.words self.old self.new }
+        ensures traces { Traces (found_in map.now) reader.old.words [] self.old self.new }
+        ensures taken { TakesOff (found_in map.now) reader.old.words self.old self.new }
+        ensures order { IsInOrder (found_in map.now) reader.old.words self.old self.new }
+        ensures cost { cost (found_in map.now) self.new + 1 ≤ cost (found_in map.now) self.old }
+        ensures words { reader.new.words ≡ reader.old.words }
+        ensures reads { reader.new.reads ≡ reader.old.reads + 1 }
+    {
+        let Some(entry) = self.current else {
+            unreachable!();
+        };
+        let word = reader.read(found.base + WORD_BYTES * u64::from(entry.next));
+        self.mark_word(map, word);
+        self.current = Some(Entry {
+            base: entry.base,
+            next: entry.next + 1,
+        });
+    }
+}
