@@ -1,9 +1,9 @@
 //! A row of bits, seen as the list of its bits. Its members are the places of the bits that are set.
 ghost use Rattle.std.specs.Prelude.{◌≡◌, ◌≢◌, ◌%◌, ◌==◌, ℕ, ◌+◌, ◌*◌, ◌/◌, ◌^◌, ◌<◌, ◌≤◌, Bool, true, false, List, length, slice_index_or, slice_set, vec_len, IfOk, MatchOption};
 ghost use Rattle.std.specs.Int.{bit_at};
-ghost use Rattle.words.specs.Bits.{bit, bits, IsEmptyFrom, IsFirstFrom, IsOneFrom, IsFirstZero, IsClear};
+ghost use Rattle.words.specs.Bits.{bit, bits, IsEmptyFrom, IsFirstFrom, IsOneFrom, IsClear, IsFullFrom, IsFirstClearFrom};
 
-use crate::scan::one_from;
+use crate::scan::{one_from, zero_from};
 use std::alloc::{AllocError, Global};
 use std::marker::Model;
 
@@ -93,6 +93,18 @@ impl BitRow {
             return None;
         }
         let i = one_from(self.words.as_slice(), low);
+        if i < self.len { Some(i) } else { None }
+    }
+
+    /// The lowest place from `low` on that is not a member, found by whole words.
+    #[tactic(auto, using(crate::proofs::Scans::of_row))]
+    pub fn next_clear(&self, low: usize) -> Option<usize>
+        ensures { MatchOption result (IsFullFrom self.now low) (λ i. IsFirstClearFrom self.now low i) }
+    {
+        if low >= self.len {
+            return None;
+        }
+        let i = zero_from(self.words.as_slice(), low);
         if i < self.len { Some(i) } else { None }
     }
 }

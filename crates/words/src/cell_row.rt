@@ -2,7 +2,7 @@
 ghost use Rattle.std.specs.Prelude.{◌≡◌, ℕ, ◌+◌, ◌*◌, ◌/◌, ◌^◌, ◌<◌, ◌≤◌, Bool, true, false, List, length, replicate, slice_index_or, slice_set, MatchOption, MatchBool};
 ghost use Rattle.words.specs.Bits.{bits, IsFullRow, IsEmptyFrom, IsFirstFrom, IsFirstClear};
 
-use crate::scan::{one_from, zero_in};
+use crate::scan::{one_from, zero_from};
 use std::marker::Model;
 
 #[derive(Drop)]
@@ -61,7 +61,7 @@ impl CellRow {
     pub fn first_clear(&self) -> Option<u16>
         ensures { MatchOption result (IsFullRow self.now) (λ i. IsFirstClear self.now i) }
     {
-        let i = zero_in(&self.words);
+        let i = zero_from(&self.words, 0);
         if i < self.len as usize {
             Some(i as u16)
         } else {
@@ -74,5 +74,21 @@ impl CellRow {
         ensures { MatchBool result (IsEmptyFrom self.now 0) ((i : ℕ) × IsFirstFrom self.now 0 i) }
     {
         one_from(&self.words, 0) >= self.len as usize
+    }
+
+    /// The lowest member from `low` on.
+    #[tactic(auto, using(crate::proofs::Scans::of_row))]
+    pub fn next(&self, low: u16) -> Option<u16>
+        ensures { MatchOption result (IsEmptyFrom self.now low) (λ i. IsFirstFrom self.now low i) }
+    {
+        if low >= self.len {
+            return None;
+        }
+        let i = one_from(&self.words, low as usize);
+        if i < self.len as usize {
+            Some(i as u16)
+        } else {
+            None
+        }
     }
 }

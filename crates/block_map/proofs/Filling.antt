@@ -1,0 +1,33 @@
+-- Loops over the pages of a map, seen as their states.
+use Rattle.std.proofs.Common.{◌≡◌, ℕ, ◌-◌, ◌+◌, ◌<◌, ◌≤◌, List, [], ◌∷◌, ◌++◌, zero, suc, length, map, set, get_or, refl, sym, ap, ◌∙◌, arith, ⊎_elim}
+use Rattle.std.proofs.lemmas.List.{map-set, get_or-map, get_or_past, length-map, length-append}
+use Rattle.block_map.specs.declared.page.Page.{Page}
+use Rattle.block_map.specs.declared.page.Page.TheVariants.{Free}
+use Rattle.block_map.specs.States.{PageState, free, state_at, AreAllFree}
+use Rattle.block_map.specs.Shown.{shown}
+use Rattle.block_map.proofs.Spans.{span_start, span_more, large_here, large_else}
+
+pub put_states : (items : List Page) (p : ℕ) (x : Page) → map shown (set items p x) ≡ set (map shown items) p (shown x)
+put_states items p x = map-set shown items p x
+
+pub state_of : (items : List Page) (p : ℕ) (d : Page) → p < length items → state_at (map shown items) p ≡ shown (get_or items p d)
+state_of items p d h = get_or-map shown items p d free h
+
+pub ruleset put = (put_states, state_of)
+
+pub no_pages : AreAllFree [] 0
+no_pages = record { size = refl; each = λ k. get_or_past [] k free (omega arith) }
+
+each_more : (items : List Page) → ((k : ℕ) → state_at (map shown items) k ≡ free) → (k : ℕ) → state_at (map shown (items ++ Free ∷ [])) k ≡ free
+each_more [] all zero = refl
+each_more [] all (suc k) = refl
+each_more (y ∷ ys) all zero = all 0
+each_more (y ∷ ys) all (suc k) = each_more ys (λ j. all (suc j)) k
+
+pub one_more_free : (items : List Page) (n : ℕ) → AreAllFree (map shown items) n → AreAllFree (map shown (items ++ Free ∷ [])) (n + 1)
+one_more_free items n all = record {
+  size = length-map (items ++ Free ∷ []) shown ∙ length-append items (Free ∷ []) ∙ ap (λ m. m + 1) (sym (length-map items shown) ∙ all.size);
+  each = each_more items all.each;
+}
+
+pub ruleset filling = (span_start, span_more, large_here, large_else, no_pages, one_more_free)

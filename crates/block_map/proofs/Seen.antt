@@ -1,0 +1,21 @@
+-- The state of a page that the code has looked at.
+use Rattle.std.proofs.Common.{◌≡◌, ℕ, ◌+◌, ◌<◌, ◌≤◌, List, [], ◌∷◌, zero, suc, length, map, get_or, sym, ap, ◌∙◌, subst, arith}
+use Rattle.std.proofs.lemmas.List.{get_or_past}
+use Rattle.std.proofs.lemmas.Bool.{cases_lt}
+use Rattle.std.proofs.Common.{⊎_elim}
+use Rattle.words.specs.declared.class.Kind.{Kind}
+use Rattle.block_map.specs.declared.page.Page.{Page}
+use Rattle.block_map.specs.States.{PageState, free, cut, head, body, state_at, LaidAt, IsLaid}
+use Rattle.block_map.specs.Shown.{shown}
+
+pub state_read : (items : List Page) (p : ℕ) (x : Page) → p < length items → x ≡ get_or items p x → state_at (map shown items) p ≡ shown x
+state_read [] p x h e = absurd (omega arith)
+state_read (y ∷ ys) zero x h e = ap shown (sym e)
+state_read (y ∷ ys) (suc p) x h e = state_read ys p x (omega arith) e
+
+-- a page where something stands is one of the heap's
+pub within : (s : List PageState) (p : ℕ) → (state_at s p ≡ free → ⊥) → p < length s
+within s p used = ⊎_elim (λ lt. lt) (λ past. absurd (used (get_or_past s p free past))) (cases_lt p (length s))
+
+pub laid_at : (s : List PageState) (p : ℕ) (st : PageState) → IsLaid s → state_at s p ≡ st → p < length s → LaidAt s p st
+laid_at s p st laid is lt = subst (LaidAt s p) is (laid.each p lt)

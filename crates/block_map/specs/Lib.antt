@@ -1,0 +1,6 @@
+pub mod Changes
+pub mod FoundIn
+pub mod Objects
+pub mod Places
+pub mod Shown
+pub mod States

@@ -1,0 +1,11 @@
+//! The map of the heap: what stands on each page, and the object that a word reads. This crate decides which words read
+//! which object, exactly and for every word; it touches no word of the heap.
+#![tactic(auto)]
+
+mod fills;
+mod found;
+mod map;
+mod page;
+
+pub use found::{Found, granule_of};
+pub use map::BlockMap;

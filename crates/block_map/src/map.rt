@@ -1,0 +1,271 @@
+//! The map of a heap, seen as the list of what stands on its pages, and through `found_in` as a function from every
+//! word to the object that it reads.
+ghost use Rattle.std.specs.Prelude.{◌≡◌, ℕ, ◌+◌, ◌*◌, ◌/◌, ◌^◌, ◌<◌, ◌≤◌, Bool, true, false, List, length, map, replicate, slice_index_or, slice_set, vec_len, MatchOption, IfOk, Option, None, Some};
+ghost use Rattle.words.specs.declared.class.Kind.{Kind};
+ghost use Rattle.words.specs.declared.limits.TheConstants.{PAGE_WORDS, MAX_PAGES};
+ghost use Rattle.pages.specs.Opening.{IsOpened};
+ghost use Rattle.block_map.specs.Places.{page_start, IsOnPage, IsOutside};
+ghost use Rattle.block_map.specs.States.{free, cut, head, state_at, all_free, large_states, with_cell, span_of, HasCell, AreAllFree, IsSpanSet};
+ghost use Rattle.block_map.specs.Objects.{IsAnswer, object_on, cell_object, large_object};
+ghost use Rattle.block_map.specs.FoundIn.{found_in, found_in_block, found_large, IsLawful};
+ghost use Rattle.block_map.specs.Changes.{IsSameMap, IsAdded, IsRemoved, IsCleared, IsUncut};
+
+use crate::fills::{fill_free, fill_large, free_pages, put_page, set_cell};
+use crate::found::Found;
+use crate::page::Page;
+use blocks::{Block, LargeHead};
+use pages::is_page_count;
+use std::alloc::Global;
+use std::marker::Model;
+use words::limits::{FIRST_ADDRESS, PAGE_BYTES, PAGE_WORDS, WORD_BYTES};
+use words::{Class, Kind, OpenError, PageNo};
+
+/// What stands on the pages of a heap.
+#[derive(Drop)]
+pub struct BlockMap {
+    pages: Vec<Page>,
+}
+
+impl Model for BlockMap {
+    ghost use Rattle.std.specs.Prelude.{List, map};
+    ghost use Rattle.block_map.specs.States.{PageState, IsLaid};
+
+    ghost Value = { List PageState };
+
+    ghost use Rattle.block_map.specs.Shown.{shown};
+
+    ghost view = { λ m. map shown m.pages.items };
+
+    ghost invariant = { λ m. IsLaid (map shown m.pages.items) };
+}
+
+impl BlockMap {
+    ghost use Rattle.block_map.specs.Shown.{shown};
+    ghost use Rattle.block_map.specs.States.{IsLaid};
+
+    /// So many pages, each of them free.
+    #[tactic(auto, using(crate::proofs::Laid::laid, crate::proofs::Changing::changing))]
+    pub fn new(alloc: Global, pages: u32) -> Result<BlockMap, OpenError>
+        ensures { IsOpened pages result (λ m. AreAllFree m pages) }
+    {
+        if !is_page_count(pages) {
+            return Err(OpenError::BadPages);
+        }
+        let Ok(pages) = free_pages(alloc, pages) else {
+            return Err(OpenError::Memory);
+        };
+        Ok(BlockMap { pages })
+    }
+
+    /// The number of pages.
+    #[tactic(auto, using(crate::proofs::Lawful::laws))]
+    pub fn len(&self) -> u32
+        ensures len { result ≡ length self.now }
+        ensures small { result ≤ MAX_PAGES }
+        ensures laid { IsLaid self.now }
+        ensures lawful { IsLawful self.now }
+    {
+        self.pages.len() as u32
+    }
+
+    /// Cuts a free page into cells of a class. No word reads another object than before.
+    #[tactic(auto, using(crate::proofs::Laid::laid, crate::proofs::Changing::changing))]
+    pub fn cut(&mut self, page: PageNo, class: Class, kind: Kind)
+        requires inside { page < length self.old }
+        requires free { state_at self.old page ≡ free }
+        ensures states { self.new ≡ slice_set self.old page (all_free class kind) }
+        ensures same { IsSameMap (found_in self.old) (found_in self.new) }
+    {
+        put_page(
+            &mut self.pages,
+            page as usize,
+            Page::Cut(Block::new(class, kind)),
+        );
+    }
+
+    /// Makes free pages one large object, which is allocated from then on.
+    #[tactic(auto, using(crate::proofs::Laid::laid, crate::proofs::Changing::changing))]
+    pub fn cut_large(&mut self, first: PageNo, pages: u32, kind: Kind)
+        requires inside { first + pages ≤ length self.old }
+        requires some { 0 < pages }
+        requires free { (k : ℕ) → first ≤ k → k < first + pages → state_at self.old k ≡ free }
+        ensures states { IsSpanSet self.old self.new first pages (large_states first pages kind) }
+        ensures added { IsAdded (found_in self.old) (found_in self.new) (large_object first pages kind) }
+    {
+        fill_large(&mut self.pages, first, pages, kind);
+    }
+
+    /// Makes the page of a block free, or all pages of the large object that begins there.
+    #[tactic(auto, using(crate::proofs::Laid::laid, crate::proofs::Changing::changing))]
+    pub fn uncut(&mut self, page: PageNo)
+        requires inside { page < length self.old }
+        requires used { 0 < span_of (state_at self.old page) }
+        ensures states { IsSpanSet self.old self.new page (span_of (state_at self.old page)) (λ _. free) }
+        ensures cleared { IsCleared (found_in self.old) (found_in self.new) (page_start page) (page_start (page + span_of (state_at self.old page))) }
+        ensures uncut { IsUncut page (state_at self.old page) (found_in self.old) (found_in self.new) }
+    {
+        let count = self.span(page);
+        fill_free(&mut self.pages, page, count);
+    }
+
+    // How many pages what begins on the page has.
+    #[tactic(auto, using(crate::proofs::Laid::laid, crate::proofs::Changing::changing))]
+    fn span(&self, page: PageNo) -> u32
+        requires { page < length self.now }
+        ensures count { result ≡ span_of (state_at self.now page) }
+        ensures fits { page + result ≤ length self.now }
+    {
+        match self.page(page) {
+            Page::Free | Page::Body(_) => 0,
+            Page::Cut(_) => 1,
+            Page::Head(large) => large.pages,
+        }
+    }
+
+    /// Allocates a free cell.
+    #[tactic(auto, using(crate::proofs::Laid::laid, crate::proofs::Changing::changing))]
+    pub fn take(&mut self, page: PageNo, cell: u16)
+        requires inside { page < length self.old }
+        requires cell { HasCell (state_at self.old page) cell false }
+        ensures states { self.new ≡ slice_set self.old page (with_cell (state_at self.old page) cell true) }
+        ensures added { IsAdded (found_in self.old) (found_in self.new) (object_on page (state_at self.old page) cell) }
+    {
+        set_cell(&mut self.pages, page as usize, cell, true);
+    }
+
+    /// Makes an allocated cell free.
+    #[tactic(auto, using(crate::proofs::Laid::laid, crate::proofs::Changing::changing))]
+    pub fn put(&mut self, page: PageNo, cell: u16)
+        requires inside { page < length self.old }
+        requires cell { HasCell (state_at self.old page) cell true }
+        ensures states { self.new ≡ slice_set self.old page (with_cell (state_at self.old page) cell false) }
+        ensures removed { IsRemoved (found_in self.old) (found_in self.new) (object_on page (state_at self.old page) cell) }
+    {
+        set_cell(&mut self.pages, page as usize, cell, false);
+    }
+
+    /// The allocated object that a word reads, and `None` exactly where it reads none.
+    #[inline]
+    pub fn find(&self, w: u64) -> Option<Found>
+        ensures found { result ≡ found_in self.now w }
+        ensures answer { IsAnswer self.now w result }
+        ensures lawful { IsLawful self.now }
+    {
+        let found = self.look_up(w);
+        found
+    }
+
+    #[inline]
+    #[tactic(auto, using(crate::proofs::Finding::finding))]
+    fn look_up(&self, w: u64) -> Option<Found>
+        ensures found { result ≡ found_in self.now w }
+        ensures laid { IsLaid self.now }
+    {
+        let Some(page) = self.page_of(w) else {
+            return None;
+        };
+        match self.page(page) {
+            Page::Free => None,
+            Page::Cut(block) => find_in_block(page, block, w),
+            Page::Head(large) => Some(large_at(page, *large)),
+            Page::Body(first) => Some(self.large(*first)),
+        }
+    }
+
+    // The page that has an address, and `None` exactly for an address outside of the heap.
+    #[inline]
+    #[tactic(auto, using(crate::proofs::Words::page_at))]
+    fn page_of(&self, address: u64) -> Option<PageNo>
+        ensures page { MatchOption result (IsOutside (length self.now) address) (λ page. IsOnPage page address × (page < length self.now)) }
+        ensures laid { IsLaid self.now }
+    {
+        let pages = self.pages.len() as u64;
+        if address < FIRST_ADDRESS {
+            return None;
+        }
+        let page = (address - FIRST_ADDRESS) / PAGE_BYTES;
+        if page < pages {
+            Some(page as PageNo)
+        } else {
+            None
+        }
+    }
+
+    // The large object that begins on a page.
+    #[inline]
+    #[tactic(auto, using(crate::proofs::Finding::finding))]
+    fn large(&self, page: PageNo) -> Found
+        requires inside { page < length self.now }
+        requires head { (n : ℕ) × (kind : Kind) × (state_at self.now page ≡ head n kind) }
+        ensures { found_large page (state_at self.now page) ≡ Some result }
+    {
+        match self.page(page) {
+            Page::Head(large) => large_at(page, *large),
+            _ => unreachable!(),
+        }
+    }
+
+    // What stands on a page.
+    #[inline]
+    #[tactic(auto, using(crate::proofs::Seen::state_read))]
+    fn page(&self, page: PageNo) -> &Page
+        requires { page < length self.now }
+        ensures state { state_at self.now page ≡ shown result.now }
+        ensures laid { IsLaid self.now }
+    {
+        &self.pages[page as usize]
+    }
+}
+
+// The object of a block that a word of its page reads.
+#[inline]
+#[tactic(auto, using(crate::proofs::Finding::on_page))]
+fn find_in_block(page: PageNo, block: &Block, w: u64) -> Option<Found>
+    requires { page < MAX_PAGES }
+    ensures { result ≡ found_in_block page block.now w }
+{
+    let Some(cell) = block.cell_of(w) else {
+        return None;
+    };
+    if block.is_taken(cell) {
+        Some(cell_at(page, block, cell))
+    } else {
+        None
+    }
+}
+
+// The object in a cell of a block.
+#[inline]
+#[tactic(auto, using(crate::proofs::Finding::on_page))]
+fn cell_at(page: PageNo, block: &Block, cell: u16) -> Found
+    requires page { page < MAX_PAGES }
+    requires cell { cell < length block.now.taken }
+    ensures { result ≡ cell_object page block.now cell }
+{
+    let words = block.class().words();
+    Found {
+        base: FIRST_ADDRESS
+            + PAGE_BYTES * u64::from(page)
+            + u64::from(cell) * (WORD_BYTES * u64::from(words)),
+        len: u32::from(words),
+        kind: block.kind(),
+        page,
+        cell,
+    }
+}
+
+// The large object that begins on a page.
+#[inline]
+fn large_at(page: PageNo, large: LargeHead) -> Found
+    requires page { page < MAX_PAGES }
+    requires few { large.pages ≤ MAX_PAGES }
+    ensures { result ≡ large_object page large.pages large.kind }
+{
+    Found {
+        base: FIRST_ADDRESS + PAGE_BYTES * u64::from(page),
+        len: PAGE_WORDS as u32 * large.pages,
+        kind: large.kind,
+        page,
+        cell: 0,
+    }
+}

@@ -1,0 +1,125 @@
+//! A page that is cut into cells of one class. Contracts see the class, the kind and the row of its cells, in which
+//! true is an allocated cell.
+ghost use Rattle.std.specs.Prelude.{◌≡◌, ℕ, ◌+◌, ◌*◌, ◌/◌, ◌%◌, ◌<◌, ◌≤◌, Bool, true, false, List, length, replicate, slice_index_or, slice_set, MatchOption, MatchBool};
+ghost use Rattle.words.specs.declared.limits.TheConstants.{PAGE_WORDS, PAGE_BYTES};
+ghost use Rattle.words.specs.Bits.{IsFullRow, IsEmptyFrom, IsFirstFrom, IsFirstClear};
+ghost use Rattle.words.specs.Classes.{IsSizeClass};
+ghost use Rattle.blocks.specs.Cells.{IsCells, IsInCell, IsLeftOver};
+
+use std::marker::Model;
+use words::limits::{PAGE_BYTES, WORD_BYTES};
+use words::{CellRow, Class, Kind};
+
+/// A page cut for one class and kind, with the cells that are allocated.
+#[derive(Drop)]
+pub struct Block {
+    class: Class,
+    kind: Kind,
+    taken: CellRow,
+}
+
+impl Model for Block {
+    ghost use Rattle.std.specs.Prelude.{◌≡◌, ◌/◌, length};
+    ghost use Rattle.words.specs.declared.limits.TheConstants.{PAGE_WORDS};
+    ghost use Rattle.words.specs.Classes.{IsSizeClass};
+    ghost use Rattle.blocks.specs.Cells.{Cells};
+
+    ghost Value = { Cells };
+
+    ghost view = { λ b. record { class = b.class; kind = b.kind; taken = b.taken } };
+
+    ghost invariant = { λ b. IsSizeClass b.class × (length b.taken ≡ PAGE_WORDS / b.class) };
+}
+
+#[tactic(auto, using(crate::proofs::Places::places))]
+impl Block {
+    /// A page cut for a class and a kind, with all its cells free.
+    pub fn new(class: Class, kind: Kind) -> Block
+        ensures value { result ≡ record { class = class; kind = kind; taken = replicate (PAGE_WORDS / class) false } }
+        ensures cells { IsCells result }
+    {
+        Block {
+            class,
+            kind,
+            taken: CellRow::new(class.cells()),
+        }
+    }
+
+    /// The class of its cells.
+    #[inline]
+    pub fn class(&self) -> Class
+        ensures class { result ≡ self.now.class }
+        ensures cells { IsCells self.now }
+    {
+        self.class
+    }
+
+    /// The kind of its objects.
+    #[inline]
+    pub fn kind(&self) -> Kind
+        ensures { result ≡ self.now.kind }
+    {
+        self.kind
+    }
+
+    /// The cell that has the byte at an address of the page, and `None` exactly for the words left over at the page's
+    /// end.
+    #[inline]
+    pub fn cell_of(&self, address: u64) -> Option<u16>
+        ensures cell { MatchOption result (IsLeftOver self.now.class (address % PAGE_BYTES)) (λ i. IsInCell self.now.class i (address % PAGE_BYTES)) }
+        ensures cells { IsCells self.now }
+    {
+        let cell = address % PAGE_BYTES / (WORD_BYTES * u64::from(self.class.words()));
+        if cell < u64::from(self.taken.len()) {
+            Some(cell as u16)
+        } else {
+            None
+        }
+    }
+
+    /// Whether a cell is allocated.
+    #[inline]
+    pub fn is_taken(&self, cell: u16) -> bool
+        requires { cell < length self.now.taken }
+        ensures { result ≡ slice_index_or self.now.taken cell false }
+    {
+        self.taken.is_set(cell)
+    }
+
+    /// The lowest free cell, and `None` exactly if every cell is allocated.
+    pub fn free_cell(&self) -> Option<u16>
+        ensures { MatchOption result (IsFullRow self.now.taken) (λ i. IsFirstClear self.now.taken i) }
+    {
+        self.taken.first_clear()
+    }
+
+    /// The lowest allocated cell from a cell on.
+    pub fn next_taken(&self, from: u16) -> Option<u16>
+        ensures { MatchOption result (IsEmptyFrom self.now.taken from) (λ i. IsFirstFrom self.now.taken from i) }
+    {
+        self.taken.next(from)
+    }
+
+    /// Allocates a cell.
+    pub fn set(&mut self, cell: u16)
+        requires { cell < length self.old.taken }
+        ensures { self.new ≡ record self.old { taken = slice_set self.old.taken cell true } }
+    {
+        self.taken.set(cell);
+    }
+
+    /// Makes a cell free.
+    pub fn clear(&mut self, cell: u16)
+        requires { cell < length self.old.taken }
+        ensures { self.new ≡ record self.old { taken = slice_set self.old.taken cell false } }
+    {
+        self.taken.clear(cell);
+    }
+
+    /// Whether no cell is allocated.
+    pub fn is_empty(&self) -> bool
+        ensures { MatchBool result (IsEmptyFrom self.now.taken 0) ((i : ℕ) × IsFirstFrom self.now.taken 0 i) }
+    {
+        self.taken.is_empty()
+    }
+}

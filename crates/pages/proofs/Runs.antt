@@ -1,0 +1,82 @@
+-- The search for a run of free pages, and the filling of one.
+use Rattle.std.proofs.Common.{◌≡◌, ◌≢◌, ℕ, ◌-◌, ◌+◌, ◌<◌, ◌≤◌, Bool, true, false, List, length, get_or, set, refl, sym, ap, ◌∙◌, arith, inl, inr, ⊎_elim, length-set, get_or-set_same, get_or-set_other}
+use Rattle.std.proofs.lemmas.Bool.{cases_lt, cases_eq, false≢true}
+use Rattle.words.specs.Bits.{IsEmptyFrom, IsFirstFrom, IsFullFrom, IsFirstClearFrom}
+use Rattle.pages.specs.Runs.{IsFreeRun, IsFirstFreeRun, HasNoFreeRun, IsFilled, IsRunEnd, AreAllFree}
+
+-- no n consecutive pages are free that begin before the page low
+pub record IsSearched (row : List Bool) (n low : ℕ) : Type 0 where
+  pub some : 0 < n
+  pub inside : low ≤ length row
+  pub none : (i : ℕ) → i < low → IsFreeRun row i n → ⊥
+
+-- a run begins at a free page
+begins_free : (row : List Bool) (i n : ℕ) → 0 < n → get_or row i false ≡ false → IsFreeRun row i n → ⊥
+begins_free row i n some taken run = false≢true (sym taken ∙ run.free i (omega arith) (omega arith))
+
+pub search_start : (row : List Bool) (n : ℕ) → 0 < n → IsSearched row n 0
+search_start row n some = record { some = some; inside = omega arith; none = λ i lt run. absurd (omega arith) }
+
+pub search_more : (row : List Bool) (n low first end : ℕ) → IsSearched row n low → IsFirstFrom row low first → IsRunEnd row first end → end - first < n → IsSearched row n end
+search_more row n low first end s next stop short = record {
+  some = s.some;
+  inside = stop.inside;
+  none = λ i lt run. ⊎_elim
+      (λ before. s.none i before run)
+      (λ from. ⊎_elim
+      (λ between. begins_free row i n s.some (next.least i from between) run)
+      (λ inside.
+      let within = run.inside in let past = stop.past in
+      false≢true (sym (stop.stop (omega arith)) ∙ run.free end (omega arith) (omega arith)))
+      (cases_lt i first))
+      (cases_lt i low);
+}
+
+pub search_found : (row : List Bool) (n low first end : ℕ) → IsSearched row n low → IsFirstFrom row low first → IsRunEnd row first end → n ≤ end - first → IsFirstFreeRun row first n
+search_found row n low first end s next stop long =
+    let inside = stop.inside in let some = s.some in
+    record {
+      run = record { inside = omega arith; free = λ k from below. stop.free k from (omega arith) };
+      lowest = λ j lt run. ⊎_elim (λ before. s.none j before run) (λ from. begins_free row j n s.some (next.least j from lt) run) (cases_lt j low);
+    }
+
+pub search_end : (row : List Bool) (n low : ℕ) → IsSearched row n low → IsEmptyFrom row low → HasNoFreeRun row n
+search_end row n low s empty i run =
+    let within = run.inside in let some = s.some in
+    ⊎_elim (λ before. s.none i before run) (λ from. begins_free row i n s.some (empty i from (omega arith)) run) (cases_lt i low)
+
+pub no_pages : (row : List Bool) → IsFirstFreeRun row 0 0
+no_pages row = record { run = record { inside = omega arith; free = λ k a b. absurd (omega arith) }; lowest = λ j lt run. absurd (omega arith) }
+
+pub ruleset searching = (search_start, search_more, search_found, search_end, no_pages)
+
+pub ends_inside : (row : List Bool) (first end : ℕ) → get_or row first false ≡ true → IsFirstClearFrom row first end → IsRunEnd row first end
+ends_inside row first end free next =
+    let from = next.from in
+    record {
+      past = ⊎_elim (λ lt. lt) (λ ge. let e : end ≡ first = omega arith in absurd (false≢true (sym next.clear ∙ ap (λ k. get_or row k false) e ∙ free))) (cases_lt first end);
+      inside = let i = next.inside in omega arith;
+      free = next.least;
+      stop = λ _. next.clear;
+    }
+
+pub ends_last : (row : List Bool) (first : ℕ) → first < length row → IsFullFrom row first → IsRunEnd row first (length row)
+ends_last row first inside full = record { past = inside; inside = omega arith; free = full; stop = λ lt. absurd (omega arith) }
+
+pub ruleset ending = (ends_inside, ends_last)
+
+pub fill_start : (row : List Bool) (i : ℕ) (b : Bool) → IsFilled row row i 0 b
+fill_start row i b = record { size = refl; inside = λ k a c. absurd (omega arith); others = λ k a. refl }
+
+pub fill_more : (old row : List Bool) (i k : ℕ) (b : Bool) → i ≤ k → k < length row → IsFilled old row i (k - i) b → IsFilled old (set row k b) i (k + 1 - i) b
+fill_more old row i k b from lt f = record {
+  size = length-set row k b ∙ f.size;
+  inside = λ j a c. ⊎_elim (λ (e : j ≡ k). ap (λ m. get_or (set row k b) m false) e ∙ get_or-set_same row k b false lt)
+      (λ ne. get_or-set_other row k j b false ne ∙ f.inside j a (omega arith)) (cases_eq j k);
+  others = λ j h. let ne : j ≢ k = (⊎_elim (λ a e. omega arith) (λ a e. omega arith) h) in get_or-set_other row k j b false ne ∙ f.others j (⊎_elim (λ a. inl a) (λ a. inr (omega arith)) h);
+}
+
+pub filled_whole : (old new : List Bool) (n : ℕ) → length old ≡ n → IsFilled old new 0 n true → AreAllFree new n
+filled_whole old new n e f = record { size = f.size ∙ e; free = λ k lt. f.inside k (omega arith) (omega arith) }
+
+pub ruleset filling = (fill_start, fill_more, filled_whole)

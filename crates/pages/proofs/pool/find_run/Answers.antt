@@ -1,0 +1,11 @@
+use Rattle.pages.proofs.Runs.{search_more, search_found, search_end}
+use Rattle.pages.proofs.pool.find_run.Goals as goal
+
+pub returns-then-end-first : goal.returns-then-end-first
+returns-then-end-first c = search_found _ _ _ _ _ c.loop-first.invariant c.in-Some.ensures c.run_end-end.ensures c.if-end-first.true
+
+pub loop-first-preserved : goal.loop-first-preserved
+loop-first-preserved c = search_more _ _ _ _ _ c.loop-first.invariant c.in-Some.ensures c.run_end-end.ensures c.if-end-first.false
+
+pub returns : goal.returns
+returns c = search_end _ _ _ c.loop-first.invariant c.in_default.ensures

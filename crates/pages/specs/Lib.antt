@@ -1,0 +1,4 @@
+pub mod Memory
+pub mod Opening
+pub mod Reads
+pub mod Runs

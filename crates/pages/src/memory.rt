@@ -1,0 +1,85 @@
+//! The words of the heap, seen as their list.
+ghost use Rattle.std.specs.Prelude.{◌≡◌, ℕ, ◌+◌, ◌*◌, ◌^◌, ◌<◌, ◌≤◌, List, length, vec_len};
+ghost use Rattle.words.specs.declared.limits.TheConstants.{PAGE_WORDS, MAX_PAGES, FIRST_ADDRESS};
+ghost use Rattle.pages.specs.Memory.{IsWordAddress, IsZeroMemory, IsZeroed, place, word_at, with_word_at};
+ghost use Rattle.pages.specs.Opening.{IsOpened};
+
+use crate::opening::is_page_count;
+use std::alloc::Global;
+use std::marker::Model;
+use words::OpenError;
+use words::limits::{FIRST_ADDRESS, PAGE_WORDS, WORD_BYTES};
+
+/// The memory of a heap: its words, which no call but these reads or writes.
+#[derive(Drop)]
+pub struct Memory {
+    words: Vec<u64>,
+}
+
+impl Model for Memory {
+    ghost Value = { List ℕ };
+
+    ghost view = { λ m. m.words.items };
+
+    ghost invariant = { λ m. vec_len m.words ≤ PAGE_WORDS * MAX_PAGES };
+}
+
+// The place of an address among the words.
+#[inline]
+fn place(address: u64) -> usize
+    requires { FIRST_ADDRESS ≤ address }
+    ensures { result ≡ place address }
+{
+    ((address - FIRST_ADDRESS) / WORD_BYTES) as usize
+}
+
+impl Memory {
+    /// The words of so many pages, each of them 0.
+    pub fn new(alloc: Global, pages: u32) -> Result<Memory, OpenError>
+        ensures { IsOpened pages result (λ m. IsZeroMemory m (PAGE_WORDS * pages)) }
+    {
+        if !is_page_count(pages) {
+            return Err(OpenError::BadPages);
+        }
+        match vec![in alloc; 0u64; PAGE_WORDS as usize * pages as usize] {
+            Ok(words) => Ok(Memory { words }),
+            Err(_) => Err(OpenError::Memory),
+        }
+    }
+
+    /// The number of words.
+    pub fn len(&self) -> usize
+        ensures len { result ≡ length self.now }
+        ensures small { result ≤ PAGE_WORDS * MAX_PAGES }
+    {
+        self.words.len()
+    }
+
+    /// The word at an address.
+    #[inline]
+    pub fn read(&self, address: u64) -> u64
+        requires { IsWordAddress self.now address }
+        ensures { result ≡ word_at self.now address }
+    {
+        self.words[place(address)]
+    }
+
+    /// Writes a word at an address.
+    #[inline]
+    pub fn write(&mut self, address: u64, word: u64)
+        requires { IsWordAddress self.old address }
+        ensures { self.new ≡ with_word_at self.old address word }
+    {
+        self.words[place(address)] = word;
+    }
+
+    /// Writes 0 into so many words from an address on.
+    pub fn zero(&mut self, address: u64, count: u32)
+        requires address { IsWordAddress self.old address }
+        requires inside { place address + count ≤ length self.old }
+        ensures { IsZeroed self.old self.new (place address) count }
+    {
+        let first = place(address);
+        self.words[first..first + count as usize].fill(0);
+    }
+}

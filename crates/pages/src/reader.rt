@@ -1,0 +1,48 @@
+//! Reads of the heap that contracts count. A reader lends no memory, and costs nothing when it runs.
+ghost use Rattle.std.specs.Prelude.{◌≡◌, ℕ, ◌+◌, List};
+ghost use Rattle.pages.specs.Memory.{IsWordAddress, word_at};
+
+use crate::count::Count;
+use crate::memory::Memory;
+use std::marker::Model;
+
+/// A reader of a heap's words. Contracts see the words, and how many reads it has made.
+#[derive(Drop)]
+pub struct Reader<'a> {
+    memory: &'a Memory,
+    count: Count,
+}
+
+impl<'a> Model for Reader<'a> {
+    ghost use Rattle.std.specs.Prelude.{ℕ, List};
+    ghost use Rattle.pages.specs.Reads.{Reading};
+
+    ghost Value = { Reading };
+
+    ghost view = { λ r. record { words = r.memory.now; reads = r.count.n } };
+}
+
+impl<'a> Reader<'a> {
+    /// A reader that has made no read.
+    pub fn new(memory: &'a Memory) -> Reader<'a>
+        ensures words { result.words ≡ memory.now }
+        ensures none { result.reads ≡ 0 }
+    {
+        Reader {
+            memory,
+            count: Count::zero(),
+        }
+    }
+
+    /// The word at an address.
+    #[inline]
+    pub fn read(&mut self, address: u64) -> u64
+        requires { IsWordAddress self.old.words address }
+        ensures word { result ≡ word_at self.old.words address }
+        ensures words { self.new.words ≡ self.old.words }
+        ensures counted { self.new.reads ≡ self.old.reads + 1 }
+    {
+        self.count = self.count.next();
+        self.memory.read(address)
+    }
+}
