@@ -1,5 +1,5 @@
 //! The registers and the stack of an attached mutator. Contracts see them as the heap has them.
-ghost use Rattle.std.specs.Prelude.{◌≡◌, ℕ, ◌+◌, ◌<◌, ◌≤◌, ◌↔◌, ◌++◌, ◌∷◌, [], IsTrue, IfSome, IfNone, length};
+ghost use Rattle.std.specs.Prelude.{◌≡◌, ℕ, ◌<◌, [], MatchBool, length};
 ghost use Rattle.words.specs.declared.limits.TheConstants.{STACK_WORDS};
 ghost use Rattle.heap_spec.specs.Steps.{newcomer, register, address};
 ghost use Rattle.roots.specs.Roots.{with_word, with_pushed, PopsWord};
@@ -59,15 +59,14 @@ impl Mutator {
 
     /// Whether the stack has no room.
     pub fn is_full(&self) -> bool
-        ensures full { IsTrue result ↔ (length self.now.stack ≡ STACK_WORDS) }
-        ensures most { length self.now.stack ≤ STACK_WORDS }
+        ensures { MatchBool result (length self.now.stack ≡ STACK_WORDS) (length self.now.stack < STACK_WORDS) }
     {
         self.stack.len() == MOST
     }
 
     /// Whether the stack has no word.
     pub fn is_empty(&self) -> bool
-        ensures { IsTrue result ↔ (self.now.stack ≡ []) }
+        ensures { MatchBool result (self.now.stack ≡ []) (0 < length self.now.stack) }
     {
         self.stack.is_empty()
     }

@@ -6,4 +6,4 @@ pub returns-in_default : goal.returns-in_default
 returns-in_default c = refused _ _ _ c.in_default.ensures.none
 
 pub returns : goal.returns
-returns c = sets _ _ _ _ _ c.in-Some.mutator.now _ _ c.in-Some.ensures.some c.set_word.ensures ?
+returns c = sets _ _ _ _ _ c.in-Some.mutator.now _ _ c.in-Some.ensures.some c.set_word.ensures (λ s. rw c.word.ensures Acts.added)
