@@ -1,0 +1,9 @@
+//! The roots of a heap: the registers and stacks of its mutators, and its globals. The calls of mutators that touch
+//! nothing else stand here. This crate touches no object, and takes no memory.
+#![tactic(auto)]
+
+mod mutator;
+mod roots;
+
+pub use mutator::Mutator;
+pub use roots::Roots;

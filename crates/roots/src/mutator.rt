@@ -1,0 +1,101 @@
+//! The registers and the stack of an attached mutator. Contracts see them as the heap has them.
+ghost use Rattle.std.specs.Prelude.{◌≡◌, ℕ, ◌<◌, [], MatchBool, length};
+ghost use Rattle.words.specs.declared.limits.TheConstants.{STACK_WORDS};
+ghost use Rattle.heap_spec.specs.Steps.{newcomer, register, address};
+ghost use Rattle.roots.specs.Roots.{with_word, with_pushed, PopsWord};
+
+use arrayvec::ArrayVec;
+use std::marker::Model;
+use words::Reg;
+use words::limits::{REGISTERS, STACK_WORDS, WORD_BYTES};
+
+const MOST: usize = STACK_WORDS as usize;
+
+/// An attached mutator: the words of its registers, and its stack.
+#[derive(Drop)]
+pub struct Mutator {
+    registers: [u64; REGISTERS as usize],
+    stack: ArrayVec<u64, MOST>,
+}
+
+impl Model for Mutator {
+    ghost use Rattle.std.specs.Prelude.{◌≤◌, length};
+    ghost use Rattle.words.specs.declared.limits.TheConstants.{STACK_WORDS};
+    ghost use Rattle.heap_spec.specs.Heap.{Mutator as HeapMutator};
+
+    ghost Value = { HeapMutator };
+
+    ghost view = { λ m. record { registers = m.registers; stack = m.stack.items } };
+
+    ghost invariant = { λ m. length m.stack.items ≤ STACK_WORDS };
+}
+
+impl Mutator {
+    // A mutator that comes.
+    pub(crate) fn new() -> Mutator
+        ensures { result ≡ newcomer }
+    {
+        Mutator {
+            registers: [0; REGISTERS as usize],
+            stack: ArrayVec::new(),
+        }
+    }
+
+    /// The word of a register.
+    #[inline]
+    pub fn word(&self, reg: Reg) -> u64
+        ensures { result ≡ register self.now reg }
+    {
+        self.registers[reg.index()]
+    }
+
+    /// The address that a load or a store goes to, at an offset in words.
+    #[inline]
+    pub fn address(&self, at: Reg, offset: u64) -> u64
+        ensures { result ≡ address self.now at offset }
+    {
+        self.word(at).wrapping_add(offset.wrapping_mul(WORD_BYTES))
+    }
+
+    /// Whether the stack has no room.
+    pub fn is_full(&self) -> bool
+        ensures { MatchBool result (length self.now.stack ≡ STACK_WORDS) (length self.now.stack < STACK_WORDS) }
+    {
+        self.stack.len() == MOST
+    }
+
+    /// Whether the stack has no word.
+    pub fn is_empty(&self) -> bool
+        ensures { MatchBool result (self.now.stack ≡ []) (0 < length self.now.stack) }
+    {
+        self.stack.is_empty()
+    }
+
+    // Puts a word into a register.
+    #[inline]
+    pub(crate) fn set_word(&mut self, reg: Reg, word: u64)
+        ensures { self.new ≡ with_word self.old reg word }
+    {
+        self.registers[reg.index()] = word;
+    }
+
+    // Puts the word of a register on the stack.
+    pub(crate) fn push(&mut self, from: Reg)
+        requires { length self.old.stack < STACK_WORDS }
+        ensures { self.new ≡ with_pushed self.old from }
+    {
+        self.stack.push(self.registers[from.index()]);
+    }
+
+    // Takes the top word off the stack into a register.
+    pub(crate) fn pop(&mut self, into: Reg) -> u64
+        requires { 0 < length self.old.stack }
+        ensures { PopsWord self.old into result self.new }
+    {
+        let Some(word) = self.stack.pop() else {
+            unreachable!();
+        };
+        self.registers[into.index()] = word;
+        word
+    }
+}

@@ -1,0 +1,95 @@
+//! The roots of a heap: how a slot's mutator is read, and how it changes.
+ghost use Rattle.std.specs.Prelude.{◌≡◌, ◌<◌, Some, IfSome, IfNone, length, slice_get};
+ghost use Rattle.words.specs.declared.limits.TheConstants.{STACK_WORDS};
+ghost use Rattle.heap_spec.specs.Heap.{Mutator as HeapMutator};
+ghost use Rattle.roots.specs.Roots.{no_roots, HasMutator, HasNoMutator, with_word, with_pushed, PopsWord, ChangesSlot, SetsWord};
+
+mod calls;
+
+use crate::mutator::Mutator;
+use std::marker::Model;
+use words::limits::{GLOBALS, SLOTS};
+use words::{Reg, Slot};
+
+type Mutators = [Option<Mutator>; SLOTS as usize];
+
+/// The mutators of a heap by their slots, and its globals.
+#[derive(Drop)]
+pub struct Roots {
+    mutators: Mutators,
+    globals: [u64; GLOBALS as usize],
+}
+
+impl Model for Roots {
+    ghost use Rattle.roots.specs.Roots.{RootSet};
+
+    ghost Value = { RootSet };
+
+    ghost view = { λ r. record { mutators = r.mutators; globals = r.globals } };
+}
+
+// Puts a word into a register of a mutator that is attached.
+fn set_word_of(mutators: &mut Mutators, slot: Slot, reg: Reg, word: u64)
+    requires { (m : HeapMutator) × (slice_get mutators.old slot ≡ Some (Some m)) }
+    ensures { ChangesSlot mutators.old slot (λ before after. after ≡ with_word before reg word) mutators.new }
+{
+    match &mut mutators[slot.index()] {
+        Some(mutator) => mutator.set_word(reg, word),
+        None => unreachable!(),
+    }
+}
+
+// Puts the word of a register on the stack of a mutator that is attached.
+fn push_of(mutators: &mut Mutators, slot: Slot, from: Reg)
+    requires { (m : HeapMutator) × (slice_get mutators.old slot ≡ Some (Some m)) × (length m.stack < STACK_WORDS) }
+    ensures { ChangesSlot mutators.old slot (λ before after. after ≡ with_pushed before from) mutators.new }
+{
+    match &mut mutators[slot.index()] {
+        Some(mutator) => mutator.push(from),
+        None => unreachable!(),
+    }
+}
+
+// Takes the top word off the stack of a mutator that is attached, into a register.
+fn pop_of(mutators: &mut Mutators, slot: Slot, into: Reg) -> u64
+    requires { (m : HeapMutator) × (slice_get mutators.old slot ≡ Some (Some m)) × (0 < length m.stack) }
+    ensures { ChangesSlot mutators.old slot (λ before after. PopsWord before into result after) mutators.new }
+{
+    match &mut mutators[slot.index()] {
+        Some(mutator) => mutator.pop(into),
+        None => unreachable!(),
+    }
+}
+
+impl Roots {
+    /// No mutator, and globals of 0.
+    pub fn new() -> Roots
+        ensures { result ≡ no_roots }
+    {
+        Roots {
+            mutators: [
+                None, None, None, None, None, None, None, None, None, None, None, None, None, None,
+                None, None,
+            ],
+            globals: [0; GLOBALS as usize],
+        }
+    }
+
+    /// The mutator attached at a slot.
+    #[inline]
+    pub fn mutator(&self, slot: Slot) -> Option<&Mutator>
+        ensures some { IfSome result (λ m. HasMutator self.now slot m.now) }
+        ensures none { IfNone result (HasNoMutator self.now slot) }
+    {
+        self.mutators[slot.index()].as_ref()
+    }
+
+    /// Puts a word into a register of a mutator that is attached.
+    #[inline]
+    pub fn set_word(&mut self, slot: Slot, reg: Reg, word: u64)
+        requires { (m : HeapMutator) × HasMutator self.old slot m }
+        ensures { SetsWord self.old slot reg word self.new }
+    {
+        set_word_of(&mut self.mutators, slot, reg, word);
+    }
+}
