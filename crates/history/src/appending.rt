@@ -1,4 +1,5 @@
-// The three steps that make the history longer. Each is one `fetch_add` by the keeper's seat, and only the keeper's view has the history to append to.
+// The three steps that make the history longer. Each is one `fetch_add` by the keeper's seat: only its view has the history to
+// append to. The event joins the history and its slot's pass, which is the keeper's guest, in that one moment.
 ghost use Rattle.std.specs.Prelude.{◌≡◌, [], ◌∷◌, true, false};
 ghost use Rattle.history.specs.Histories.{event, weight, is_first, is_last, is_live, Legal};
 ghost use Rattle.history.specs.Plays.{Acted, Began, Ended, MayAppend};
@@ -72,12 +73,14 @@ impl<O: Object, J: Naming> Log<O, J> {
         reply: &O::Reply,
     )
         requires here { keeper.old.table_id ≡ J.table }
-        requires may { MayAppend O.rank_of (Legal O.opens O.step) E.said add keeper.old.me.0 (event who call.now reply.now) }
+        requires may { MayAppend O.rank_of (Legal O.opens O.step) E.said add keeper.old.me.0
+            (event who call.now reply.now) }
         requires guest { (keeper.old.me.0.hosts ≡ true) × (keeper.old.me.0.guest.slot ≡ who) }
         requires rank { (is_first (O.rank_of call.now) ≡ false) × (is_last (O.rank_of call.now) ≡ false) }
         ensures here { keeper.new.table_id ≡ J.table }
         ensures acted { Acted O.rank_of (event who call.now reply.now ∷ []) keeper.old.me keeper.new.me }
     {
+        // The guest sees the whole history with the event, and has it as its own: two steps would leave one without the other.
         self.table.shared.fetch_add::<Acts<O, E>>(keeper, 0, add);
     }
 
@@ -91,12 +94,14 @@ impl<O: Object, J: Naming> Log<O, J> {
         reply: &O::Reply,
     )
         requires here { keeper.old.table_id ≡ J.table }
-        requires may { MayAppend O.rank_of (Legal O.opens O.step) E.said add keeper.old.me.0 (event who call.now reply.now) }
+        requires may { MayAppend O.rank_of (Legal O.opens O.step) E.said add keeper.old.me.0
+            (event who call.now reply.now) }
         requires free { is_live O.rank_of who keeper.old.me.0.log ≡ false }
         requires rank { (is_first (O.rank_of call.now) ≡ true) × (is_last (O.rank_of call.now) ≡ false) }
         ensures here { keeper.new.table_id ≡ J.table }
         ensures began { Began O.rank_of (event who call.now reply.now ∷ []) keeper.old.me keeper.new.me }
     {
+        // No seat has a pass of the slot, since its last event, if any, was its last, and every pass would say otherwise.
         self.table.shared.fetch_add::<Begins<O, E>>(keeper, 0, add);
     }
 
@@ -110,12 +115,14 @@ impl<O: Object, J: Naming> Log<O, J> {
         reply: &O::Reply,
     )
         requires here { keeper.old.table_id ≡ J.table }
-        requires may { MayAppend O.rank_of (Legal O.opens O.step) E.said add keeper.old.me.0 (event who call.now reply.now) }
+        requires may { MayAppend O.rank_of (Legal O.opens O.step) E.said add keeper.old.me.0
+            (event who call.now reply.now) }
         requires guest { (keeper.old.me.0.hosts ≡ true) × (keeper.old.me.0.guest.slot ≡ who) }
         requires rank { is_last (O.rank_of call.now) ≡ true }
         ensures here { keeper.new.table_id ≡ J.table }
         ensures ended { Ended O.rank_of (event who call.now reply.now ∷ []) keeper.old.me keeper.new.me }
     {
+        // The guest is spent in the step that appends its last event, so that no pass is left that doesn't have it.
         self.table.shared.fetch_add::<Ends<O, E>>(keeper, 0, add);
     }
 }

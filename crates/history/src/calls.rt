@@ -1,4 +1,5 @@
-// The three calls that are events. Each is made under the lock, and the object acts before its event is appended.
+// The three calls that are events. Each is made under the lock. The object acts first, since the event has its reply, and no other
+// call comes between, since only this lock's holder has the keeper's seat.
 ghost use Rattle.std.specs.Prelude.{◌≡◌, ◌<◌, [], ◌∷◌, ◌++◌, true, false};
 ghost use mathlib.Core.List.{IsPrefix};
 ghost use Rattle.history.specs.declared.object.TheConstants.{COLLECTOR as collector};
@@ -30,7 +31,11 @@ impl<O: Object, J: Naming> Log<O, J> {
         requires free { is_live O.rank_of who logged.old.history ≡ false }
         ensures step { StepsFrom O.stands O.step logged.old.object who call.now result.1 logged.new.object }
         ensures history { logged.new.history ≡ logged.old.history ++ event who call.now result.1 ∷ [] }
-        ensures pass { result.0 ≡ record { slot = who; seen = logged.new.history; mine = event who call.now result.1 ∷ [] } }
+        ensures pass { result.0 ≡ record {
+          slot = who;
+          seen = logged.new.history;
+          mine = event who call.now result.1 ∷ [];
+        } }
         ensures agrees { Agrees O.rank_of O.opens O.step result.0 }
     {
         let add = weight_of(&O::rank(call));
@@ -52,7 +57,11 @@ impl<O: Object, J: Naming> Log<O, J> {
         ensures step { StepsFrom O.stands O.step logged.old.object pass.old.slot call.now result logged.new.object }
         ensures history { logged.new.history ≡ logged.old.history ++ event pass.old.slot call.now result ∷ [] }
         ensures before { IsPrefix pass.old.seen logged.old.history }
-        ensures pass { pass.new ≡ record { slot = pass.old.slot; seen = logged.new.history; mine = pass.old.mine ++ event pass.old.slot call.now result ∷ [] } }
+        ensures pass { pass.new ≡ record {
+          slot = pass.old.slot;
+          seen = logged.new.history;
+          mine = pass.old.mine ++ event pass.old.slot call.now result ∷ [];
+        } }
         ensures agrees { Agrees O.rank_of O.opens O.step pass.new }
     {
         let add = weight_of(&O::rank(call));

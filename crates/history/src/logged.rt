@@ -24,7 +24,8 @@ impl<O: Object, J: Naming> Model for Logged<O, J> {
 
     ghost view = { λ l. record { object = l.object; history = l.keeper.me.0.log } };
 
-    ghost invariant = { λ l. IsKeeper J.table l.keeper.table_id l.keeper.me.0 × StandsAfter O.opens O.step O.stands l.keeper.me.0.log l.object };
+    ghost invariant = { λ l. IsKeeper J.table l.keeper.table_id l.keeper.me.0
+        × StandsAfter O.opens O.step O.stands l.keeper.me.0.log l.object };
 }
 
 impl<O: Object, J: Naming> Logged<O, J> {

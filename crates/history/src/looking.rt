@@ -1,4 +1,4 @@
-// The calls that are no events: a pass learns more of the history, which stays as it is. Their one step on the word is a load.
+// The calls that are no events: a pass learns more of the history, which stays as it is. Each has one load by which it learns.
 ghost use Rattle.std.specs.Prelude.{◌≡◌, ◌≢◌, ◌%◌, ◌^◌, ◌⊎◌};
 ghost use mathlib.Core.List.{IsPrefix};
 ghost use Rattle.history.specs.Histories.{count, Legal};
@@ -76,7 +76,7 @@ impl<O: Object, J: Naming> Log<O, J> {
         ensures b_agrees { Agrees O.rank_of O.opens O.step b.new }
     {
         self.lend(&mut b.seat, &mut a.seat);
-        // Both have seen beginnings of one history, so one begins the other. A step tells of one seat alone, so both are at `a`'s for it.
+        // Both have seen beginnings of one history, so one begins the other. A step tells of one seat, so both are at `a`'s for it.
         self.table.shared.load::<Meets<O>>(&mut a.seat, 0);
         self.give_back(&mut b.seat, &mut a.seat);
     }

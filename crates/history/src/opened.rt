@@ -29,7 +29,8 @@ impl<O: Object> Model for Opened<O> {
 
     ghost view = { λ o. record { object = o.object; table = o.table.shared.table_id } };
 
-    ghost invariant = { λ o. AreOpened O.opens O.stands o.table.shared.table_id o.keeper.table_id o.pass.table_id o.keeper.me.0 o.pass.me.0 o.object };
+    ghost invariant = { λ o. AreOpened O.opens O.stands o.table.shared.table_id o.keeper.table_id o.pass.table_id
+        o.keeper.me.0 o.pass.me.0 o.object };
 }
 
 /// An empty history of an object. Its one error is want of memory, for the word: no later call on the history takes any.
@@ -49,7 +50,8 @@ pub fn open<O: Object + Drop>(alloc: Global, object: O) -> Result<Opened<O>, All
 }
 
 impl<O: Object> Opened<O> {
-    /// The parts, under the name that was picked for the table: the log, the object with its history, and the collector's pass, which has seen nothing.
+    /// The parts, under the name that was picked for the table: the log, the object with its empty history, and the
+    /// collector's pass, which has seen nothing.
     pub fn named<J: Naming>(self) -> (Log<O, J>, Logged<O, J>, Pass<O, J>)
         requires { self.table ≡ J.table }
         ensures logged { result.1 ≡ record { object = self.object; history = [] } }

@@ -7,8 +7,8 @@ use crate::view::View;
 use atomic_table::TableRule;
 use std::marker::{Brand, PhantomData};
 
-/// The rule of the table, true between any two steps: some legal history has the word as its count, the keeper knows it whole, each pass has seen
-/// a beginning of it after which no event of its slot came, and no two passes have one slot.
+/// The rule of the table, true between any two steps: some legal history has the word as its count, the keeper knows it whole, each
+/// pass has seen a beginning of it after which no event of its slot came, and no two passes have one slot.
 pub struct Rule<O> {
     of: PhantomData<O>,
 }
@@ -19,7 +19,7 @@ impl<O: Object> TableRule<(), View<O::Call, O::Reply>, ()> for Rule<O> {
     ghost first = { λ _. opener };
 }
 
-/// Which table it is. A function that is generic in it is called at `Brand`, and its caller picks the table that was just opened.
+/// Which table it is. A function that is generic in it is called at `Brand`, and its caller's proof picks the table that was just opened.
 pub trait Naming {
     ghost use Rattle.atomic_table.specs.Seated.{TableId};
 

@@ -2,14 +2,16 @@
 use crate::event::Event;
 use std::collections::LinkedList;
 
-/// What contracts see of a pass: its slot, the beginning of the history that it has seen, and the slot's own events in it since its first.
+/// What contracts see of a pass: its slot, the beginning of the history that it has seen, and the slot's own events in it since its
+/// first, oldest first.
 pub struct Known<C, R> {
     pub slot: u8,
     pub seen: LinkedList<Event<C, R>>,
     pub mine: LinkedList<Event<C, R>>,
 }
 
-/// What a seat knows. One that keeps has the whole history, one that holds has a pass of its own, and one that hosts has taken in another's.
+/// What a seat knows. One that keeps has the whole history in `log`, one that holds has a pass of its own, and one that hosts has taken
+/// in another's.
 pub struct View<C, R> {
     pub keeps: bool,
     pub log: LinkedList<Event<C, R>>,
