@@ -8,12 +8,11 @@ ghost use Rattle.mark_table_cost.specs.Ready.{IsReady};
 
 use mark_bits::{Claimer, MarkTable, Marks};
 use std::alloc::{AllocError, Global};
-use std::io;
 use std::marker::Sync;
 use std::rt::Clock;
-use std::thread;
 use std::thread::Threads;
 use std::time::Instant;
+use std::{io, thread};
 use words::limits::MAX_PAGES;
 
 const ROUNDS: u8 = 10;

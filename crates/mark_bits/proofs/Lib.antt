@@ -1,4 +1,5 @@
 pub mod Claiming
+pub mod Gathered
 pub mod Passing
 pub mod Sums
 pub mod Words

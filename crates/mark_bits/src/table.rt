@@ -30,6 +30,7 @@ use atomic_table::{Closed, Join, Play, Seat, Split, Table, TableRule};
 use std::alloc::Global;
 use words::OpenError;
 
+// The rule: each bit that is set was set at the start or was won once.
 struct WonOnce;
 
 impl TableRule<(), ClaimerView, Marks> for WonOnce {
@@ -41,6 +42,7 @@ impl TableRule<(), ClaimerView, Marks> for WonOnce {
     ghost first = { first_view };
 }
 
+// What `fetch_or` tells: the word as it was, and so whether the bit is won.
 struct Claim;
 
 impl Play<(), ClaimerView> for Claim {
@@ -49,6 +51,7 @@ impl Play<(), ClaimerView> for Claim {
     ghost then = { claimed };
 }
 
+// What `load` tells: the word, which has each bit that the claimer knows.
 struct Look;
 
 impl Play<(), ClaimerView> for Look {
@@ -57,6 +60,7 @@ impl Play<(), ClaimerView> for Look {
     ghost then = { looked };
 }
 
+// How a claimer is cut in two, and how two become one.
 struct Parts;
 
 impl Split<ClaimerView> for Parts {
