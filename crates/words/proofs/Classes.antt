@@ -1,6 +1,6 @@
 -- The size classes, and the table that finds them.
-use Rattle.std.proofs.Common.{◌≡◌, ℕ, ◌/◌, ◌%◌, ◌<◌, ◌≤◌, Bool, true, length, get_or, refl, ◌∙◌, subst, arith}
-use Rattle.std.specs.Prelude.{Some, find, nat_le, nat_lt, ◌==◌, slice_get}
+use Rattle.std.proofs.Common.{◌≡◌, ℕ, ◌%◌, ◌<◌, ◌≤◌, Bool, true, get_or, refl, ◌∙◌, subst, arith}
+use Rattle.std.specs.Prelude.{Some, find, nat_le, nat_lt, ◌==◌}
 use Rattle.std.specs.List.{list_all, list_any, position_or_len}
 use Rattle.std.specs.Int.{div_ceil}
 use Rattle.std.proofs.lemmas.Bool.{agree_below_at, eqb-true, ltb-true, leb-true}

@@ -12,7 +12,14 @@ use std::marker::Model;
 pub const CLASSES: [u16; 13] = [2, 4, 6, 8, 12, 16, 24, 32, 48, 64, 96, 128, 256];
 
 // The place among the classes of the least one that holds so many granules.
-const INDEX_OF_GRANULES: [u8; 129] = [0, 0, 1, 2, 3, 4, 4, 5, 5, 6, 6, 6, 6, 7, 7, 7, 7, 8, 8, 8, 8, 8, 8, 8, 8, 9, 9, 9, 9, 9, 9, 9, 9, 10, 10, 10, 10, 10, 10, 10, 10, 10, 10, 10, 10, 10, 10, 10, 10, 11, 11, 11, 11, 11, 11, 11, 11, 11, 11, 11, 11, 11, 11, 11, 11, 12, 12, 12, 12, 12, 12, 12, 12, 12, 12, 12, 12, 12, 12, 12, 12, 12, 12, 12, 12, 12, 12, 12, 12, 12, 12, 12, 12, 12, 12, 12, 12, 12, 12, 12, 12, 12, 12, 12, 12, 12, 12, 12, 12, 12, 12, 12, 12, 12, 12, 12, 12, 12, 12, 12, 12, 12, 12, 12, 12, 12, 12, 12, 12];
+const INDEX_OF_GRANULES: [u8; 129] = [
+    0, 0, 1, 2, 3, 4, 4, 5, 5, 6, 6, 6, 6, 7, 7, 7, 7, 8, 8, 8, 8, 8, 8, 8, 8, 9, 9, 9, 9, 9, 9, 9,
+    9, 10, 10, 10, 10, 10, 10, 10, 10, 10, 10, 10, 10, 10, 10, 10, 10, 11, 11, 11, 11, 11, 11, 11,
+    11, 11, 11, 11, 11, 11, 11, 11, 11, 12, 12, 12, 12, 12, 12, 12, 12, 12, 12, 12, 12, 12, 12, 12,
+    12, 12, 12, 12, 12, 12, 12, 12, 12, 12, 12, 12, 12, 12, 12, 12, 12, 12, 12, 12, 12, 12, 12, 12,
+    12, 12, 12, 12, 12, 12, 12, 12, 12, 12, 12, 12, 12, 12, 12, 12, 12, 12, 12, 12, 12, 12, 12, 12,
+    12,
+];
 
 /// Whether the collector reads an object's words.
 #[derive(Clone, Copy, Debug, PartialEq, Eq)]
@@ -97,5 +104,7 @@ fn class_for(words: u64) -> Class
     ensures { find (λ c. nat_le words c) CLASSES ≡ Some result }
 {
     let granules = words.div_ceil(GRANULE_WORDS) as usize;
-    Class { words: CLASSES[usize::from(INDEX_OF_GRANULES[granules])] }
+    Class {
+        words: CLASSES[usize::from(INDEX_OF_GRANULES[granules])],
+    }
 }

@@ -10,7 +10,6 @@ pub mod limits;
 mod places;
 mod refusal;
 mod scan;
-
 #[cfg(test)]
 mod tests;
 

@@ -14,7 +14,11 @@ fn class_of_small(words: u64) -> Option<Class> {
 #[test]
 fn requests_of_a_class(rt: HostRuntime) {
     for (words, room) in [(1, 2), (2, 2), (3, 4), (13, 16), (129, 256), (256, 256)] {
-        assert_eq!(rt; class_of_small(words).map(|class| class.words()), Some(room), "at {words}");
+        assert_eq!(rt;
+            class_of_small(words).map(|class| class.words()),
+            Some(room),
+            "at {words}"
+        );
     }
 }
 
@@ -30,24 +34,57 @@ fn requests_of_pages(rt: HostRuntime) {
 
 #[test]
 fn cells_of_a_page(rt: HostRuntime) {
-    for (words, cells) in [(2, 256), (6, 85), (12, 42), (24, 21), (48, 10), (96, 5), (256, 2)] {
-        assert_eq!(rt; class_of_small(words).map(|class| class.cells()), Some(cells), "at {words}");
+    for (words, cells) in [
+        (2, 256),
+        (6, 85),
+        (12, 42),
+        (24, 21),
+        (48, 10),
+        (96, 5),
+        (256, 2),
+    ] {
+        assert_eq!(rt;
+            class_of_small(words).map(|class| class.cells()),
+            Some(cells),
+            "at {words}"
+        );
     }
 }
 
 #[test]
 fn classes_in_their_order(rt: HostRuntime) {
-    for (words, index) in [(2, 0), (6, 2), (12, 4), (24, 6), (48, 8), (96, 10), (256, 12)] {
-        assert_eq!(rt; class_of_small(words).map(|class| class.index()), Some(index), "at {words}");
+    for (words, index) in [
+        (2, 0),
+        (6, 2),
+        (12, 4),
+        (24, 6),
+        (48, 8),
+        (96, 10),
+        (256, 12),
+    ] {
+        assert_eq!(rt;
+            class_of_small(words).map(|class| class.index()),
+            Some(index),
+            "at {words}"
+        );
     }
 }
 
 #[test]
 fn refusals_as_they_are_printed(rt: HostRuntime) {
-    assert_eq!(rt; (Refusal::NoSlot.code(), Refusal::NoSlot.name()), (1, "NoSlot"));
-    assert_eq!(rt; (Refusal::NotBase.code(), Refusal::NotBase.name()), (4, "NotBase"));
+    assert_eq!(rt;
+        (Refusal::NoSlot.code(), Refusal::NoSlot.name()),
+        (1, "NoSlot")
+    );
+    assert_eq!(rt;
+        (Refusal::NotBase.code(), Refusal::NotBase.name()),
+        (4, "NotBase")
+    );
     assert_eq!(rt; (Refusal::Full.code(), Refusal::Full.name()), (6, "Full"));
-    assert_eq!(rt; (Refusal::WrongPhase.code(), Refusal::WrongPhase.name()), (9, "WrongPhase"));
+    assert_eq!(rt;
+        (Refusal::WrongPhase.code(), Refusal::WrongPhase.name()),
+        (9, "WrongPhase")
+    );
 }
 
 #[test]
