@@ -1,19 +1,19 @@
 -- Where objects lie, in numbers: size classes, cells and pages.
 use Rattle.std.proofs.Common.{◌≡◌, ◌≢◌, ℕ, suc, ◌+◌, ◌-◌, ◌*◌, ◌/◌, ◌%◌, ◌<◌, ◌≤◌, ◌⊎◌, Bool, true, false, List, [], ◌∷◌, cond, refl, sym, ap, ◌∙◌, subst, arith, inl, inr, ⊎_elim}
 use Rattle.std.specs.Prelude.{Option, Some, None, find, nat_le, ◌==◌, All}
-use Rattle.std.specs.List.{list_all, list_any}
+use Rattle.std.specs.List.{list_any}
 use Rattle.std.specs.Option.{option_map}
 use Rattle.std.specs.Int.{div_ceil}
 use Rattle.std.proofs.Math.Nat.{mul-le-mul_left}
-use Rattle.std.proofs.lemmas.Bool.{cases_lt, cases_order, leb-true, leb-false, eqb-true}
+use Rattle.std.proofs.lemmas.Bool.{cases_lt, cases_order, leb-false}
 use Rattle.std.proofs.lemmas.Option.{same_Some, none-some}
-use Rattle.std.proofs.lemmas.List.Folds.{Any-from_list_any}
 use Rattle.std.proofs.lemmas.List.Sums.{AllPass-from_list_all}
 use Rattle.words.specs.declared.class.TheConstants.{CLASSES}
 use Rattle.words.specs.declared.class.Placement.{Placement}
 use Rattle.words.specs.declared.class.Placement.TheVariants.{Small, Large}
 use Rattle.words.specs.Classes.{IsSizeClass}
 use Rattle.words.specs.Placing.{placement_of}
+use Rattle.words.proofs.Classes.{class_even, class_some}
 use Rattle.heap_spec.specs.Layout.{page_start, LiesOn}
 use Rattle.heap_spec.specs.Sound.{IsCell, ArePages, LieInHeap}
 
@@ -25,22 +25,6 @@ find_holds P p (x ∷ xs) c all e = by (p x) e (find_holds P p xs c (λ k d lt. 
     by : (b : Bool) → cond b (Some x) (find p xs) ≡ Some c → (find p xs ≡ Some c → P c) → P c
     by true e rest = subst P (same_Some x c e) (all 0 x (omega arith))
     by false e rest = rest e
-
--- a test that each class passes
-class_passes : (p : ℕ → Bool) (n : ℕ) → list_all p CLASSES ≡ true → IsSizeClass n → p n ≡ true
-class_passes p n all is =
-    let a = Any-from_list_any (λ c. c == n) CLASSES is in
-    subst (λ x. p x ≡ true) (eqb-true a.1 n a.4) (subst (λ x. p x ≡ true) a.3 (AllPass-from_list_all p CLASSES all a.0 a.1 a.2))
-
--- a size class has words, an even number of them, and at most 256
-pub class_some : (n : ℕ) → IsSizeClass n → 2 ≤ n
-class_some n is = leb-true 2 n (class_passes (λ c. nat_le 2 c) n refl is)
-
-pub class_few : (n : ℕ) → IsSizeClass n → n ≤ 256
-class_few n is = leb-true n 256 (class_passes (λ c. nat_le c 256) n refl is)
-
-pub class_even : (n : ℕ) → IsSizeClass n → n % 2 ≡ 0
-class_even n is = eqb-true (n % 2) 0 (class_passes (λ c. (c % 2) == 0) n refl is)
 
 -- the place of a request is a size class, or some pages
 abbrev pub IsPlacement : Placement → Type 0

@@ -9,12 +9,13 @@ use Rattle.std.proofs.lemmas.List.Elements.{All-set}
 use Rattle.words.specs.declared.class.Kind.{Kind}
 use Rattle.words.specs.declared.class.Placement.{Placement}
 use Rattle.words.specs.declared.class.Placement.TheVariants.{Small, Large}
+use Rattle.words.proofs.Classes.{class_few}
 use Rattle.heap_spec.specs.Layout.{page_start, LiesOn}
 use Rattle.heap_spec.specs.Heap.{Heap, Object, HasObject, ReadsObject, with_at}
 use Rattle.heap_spec.specs.Room.{HasRoom, length_of}
 use Rattle.heap_spec.specs.Ranges.{IsWord}
 use Rattle.heap_spec.specs.Sound.{IsSound, AreObjects, IsCell, ArePages, LieInHeap}
-use Rattle.heap_spec.proofs.Layouts.{IsPlacement, AreApart, cell_lies, pages_lie, off_pages, cell_off, cell_apart, class_few}
+use Rattle.heap_spec.proofs.Layouts.{IsPlacement, AreApart, cell_lies, pages_lie, off_pages, cell_off, cell_apart}
 
 -- what is at a base after a change at one
 pub with_at-same : {A : Type 0} (m : ℕ → Option A) (k : ℕ) (v : Option A) (q : ℕ) → q ≡ k → with_at m k v q ≡ v

@@ -1,15 +1,25 @@
 //! Size classes, kinds, and where a request goes.
-ghost use Rattle.std.specs.Prelude.{◌≡◌, ℕ, ◌<◌, ◌≤◌, ◌*◌, ◌/◌, ◌%◌, Some, slice_get};
+ghost use Rattle.std.specs.Prelude.{◌≡◌, ℕ, ◌<◌, ◌≤◌, ◌*◌, ◌/◌, ◌%◌, Some, find, nat_le, slice_get};
 ghost use Rattle.words.specs.declared.class.TheConstants.{CLASSES};
-ghost use Rattle.words.specs.declared.limits.TheConstants.{PAGE_WORDS};
+ghost use Rattle.words.specs.declared.limits.TheConstants.{MAX_SMALL_WORDS, PAGE_WORDS};
 ghost use Rattle.words.specs.Classes.{IsSizeClass};
 ghost use Rattle.words.specs.Placing.{placement_of};
 
-use crate::limits::{MAX_REQUEST_WORDS, MAX_SMALL_WORDS, PAGE_WORDS};
+use crate::limits::{GRANULE_WORDS, MAX_REQUEST_WORDS, MAX_SMALL_WORDS, PAGE_WORDS};
 use std::marker::Model;
 
 /// The words of each size class, from the least.
 pub const CLASSES: [u16; 13] = [2, 4, 6, 8, 12, 16, 24, 32, 48, 64, 96, 128, 256];
+
+// The place among the classes of the least one that holds so many granules.
+const INDEX_OF_GRANULES: [u8; 129] = [
+    0, 0, 1, 2, 3, 4, 4, 5, 5, 6, 6, 6, 6, 7, 7, 7, 7, 8, 8, 8, 8, 8, 8, 8, 8, 9, 9, 9, 9, 9, 9, 9,
+    9, 10, 10, 10, 10, 10, 10, 10, 10, 10, 10, 10, 10, 10, 10, 10, 10, 11, 11, 11, 11, 11, 11, 11,
+    11, 11, 11, 11, 11, 11, 11, 11, 11, 12, 12, 12, 12, 12, 12, 12, 12, 12, 12, 12, 12, 12, 12, 12,
+    12, 12, 12, 12, 12, 12, 12, 12, 12, 12, 12, 12, 12, 12, 12, 12, 12, 12, 12, 12, 12, 12, 12, 12,
+    12, 12, 12, 12, 12, 12, 12, 12, 12, 12, 12, 12, 12, 12, 12, 12, 12, 12, 12, 12, 12, 12, 12, 12,
+    12,
+];
 
 /// Whether the collector reads an object's words.
 #[derive(Clone, Copy, Debug, PartialEq, Eq)]
@@ -53,12 +63,7 @@ impl Class {
     pub fn index(self) -> usize
         ensures { slice_get CLASSES result ≡ Some self }
     {
-        for index in 0..CLASSES.len() {
-            if CLASSES[index] == self.words {
-                return index;
-            }
-        }
-        unreachable!()
+        usize::from(INDEX_OF_GRANULES[(u64::from(self.words) / GRANULE_WORDS) as usize])
     }
 
     /// How many cells a page has that is cut for this class.
@@ -90,10 +95,16 @@ pub fn class_of(words: u64) -> Option<Placement>
     if words > MAX_SMALL_WORDS {
         return Some(Placement::Large(words.div_ceil(PAGE_WORDS) as u32));
     }
-    for class in CLASSES {
-        if words <= u64::from(class) {
-            return Some(Placement::Small(Class { words: class }));
-        }
+    Some(Placement::Small(class_for(words)))
+}
+
+// The least class that holds so many words.
+fn class_for(words: u64) -> Class
+    requires { words ≤ MAX_SMALL_WORDS }
+    ensures { find (λ c. nat_le words c) CLASSES ≡ Some result }
+{
+    let granules = words.div_ceil(GRANULE_WORDS) as usize;
+    Class {
+        words: CLASSES[usize::from(INDEX_OF_GRANULES[granules])],
     }
-    None
 }

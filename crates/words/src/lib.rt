@@ -5,10 +5,13 @@
 mod bit_row;
 mod cell_row;
 mod class;
+pub mod laws;
 pub mod limits;
 mod places;
 mod refusal;
 mod scan;
+#[cfg(test)]
+mod tests;
 
 pub use bit_row::BitRow;
 pub use cell_row::CellRow;

@@ -8,17 +8,17 @@ use std::marker::Model;
 /// The place of a mutator, below [`SLOTS`].
 #[derive(Clone, Copy, Debug, PartialEq, Eq)]
 pub struct Slot {
-    number: u8,
+    slot: u8,
 }
 
 impl Model for Slot {
     ghost Value = { ℕ };
 
-    ghost view = { λ s. s.number };
+    ghost view = { λ s. s.slot };
 
-    ghost invariant = { λ s. s.number < SLOTS };
+    ghost invariant = { λ s. s.slot < SLOTS };
 
-    ghost inverse = { λ n. record { number = n } };
+    ghost inverse = { λ n. record { slot = n } };
 }
 
 impl Slot {
@@ -27,7 +27,7 @@ impl Slot {
         ensures { MatchOption result (SLOTS ≤ number) (λ slot. (slot ≡ number) × (number < SLOTS)) }
     {
         if number < SLOTS {
-            Some(Slot { number })
+            Some(Slot { slot: number })
         } else {
             None
         }
@@ -38,7 +38,7 @@ impl Slot {
         ensures value { result ≡ self }
         ensures range { result < SLOTS }
     {
-        self.number
+        self.slot
     }
 
     /// Its number, to index rows with.
@@ -46,24 +46,24 @@ impl Slot {
         ensures value { result ≡ self }
         ensures range { result < SLOTS }
     {
-        usize::from(self.number)
+        usize::from(self.slot)
     }
 }
 
 /// The place of a register, below [`REGISTERS`].
 #[derive(Clone, Copy, Debug, PartialEq, Eq)]
 pub struct Reg {
-    number: u8,
+    register: u8,
 }
 
 impl Model for Reg {
     ghost Value = { ℕ };
 
-    ghost view = { λ r. r.number };
+    ghost view = { λ r. r.register };
 
-    ghost invariant = { λ r. r.number < REGISTERS };
+    ghost invariant = { λ r. r.register < REGISTERS };
 
-    ghost inverse = { λ n. record { number = n } };
+    ghost inverse = { λ n. record { register = n } };
 }
 
 impl Reg {
@@ -72,7 +72,7 @@ impl Reg {
         ensures { MatchOption result (REGISTERS ≤ number) (λ reg. (reg ≡ number) × (number < REGISTERS)) }
     {
         if number < REGISTERS {
-            Some(Reg { number })
+            Some(Reg { register: number })
         } else {
             None
         }
@@ -83,7 +83,7 @@ impl Reg {
         ensures value { result ≡ self }
         ensures range { result < REGISTERS }
     {
-        self.number
+        self.register
     }
 
     /// Its number, to index rows with.
@@ -91,24 +91,24 @@ impl Reg {
         ensures value { result ≡ self }
         ensures range { result < REGISTERS }
     {
-        usize::from(self.number)
+        usize::from(self.register)
     }
 }
 
 /// The place of a global, below [`GLOBALS`].
 #[derive(Clone, Copy, Debug, PartialEq, Eq)]
 pub struct Global {
-    number: u8,
+    global: u8,
 }
 
 impl Model for Global {
     ghost Value = { ℕ };
 
-    ghost view = { λ g. g.number };
+    ghost view = { λ g. g.global };
 
-    ghost invariant = { λ g. g.number < GLOBALS };
+    ghost invariant = { λ g. g.global < GLOBALS };
 
-    ghost inverse = { λ n. record { number = n } };
+    ghost inverse = { λ n. record { global = n } };
 }
 
 impl Global {
@@ -117,7 +117,7 @@ impl Global {
         ensures { MatchOption result (GLOBALS ≤ number) (λ global. (global ≡ number) × (number < GLOBALS)) }
     {
         if number < GLOBALS {
-            Some(Global { number })
+            Some(Global { global: number })
         } else {
             None
         }
@@ -128,7 +128,7 @@ impl Global {
         ensures value { result ≡ self }
         ensures range { result < GLOBALS }
     {
-        self.number
+        self.global
     }
 
     /// Its number, to index rows with.
@@ -136,6 +136,6 @@ impl Global {
         ensures value { result ≡ self }
         ensures range { result < GLOBALS }
     {
-        usize::from(self.number)
+        usize::from(self.global)
     }
 }
