@@ -108,9 +108,9 @@ impl BlockMap {
         fill_free(&mut self.pages, page, count);
     }
 
-    // How many pages what begins on the page has.
+    /// How many pages what begins on a page has: 1 for a block, those of a large object, and 0 where nothing begins.
     #[tactic(auto, using(crate::proofs::Laid::laid, crate::proofs::Changing::changing))]
-    fn span(&self, page: PageNo) -> u32
+    pub fn span(&self, page: PageNo) -> u32
         requires { page < length self.now }
         ensures count { result ≡ span_of (state_at self.now page) }
         ensures fits { page + result ≤ length self.now }
