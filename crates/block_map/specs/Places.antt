@@ -1,18 +1,7 @@
--- Where pages and granules lie.
-use Rattle.std.specs.Prelude.{ℕ, ◌+◌, ◌-◌, ◌*◌, ◌/◌, ◌<◌, ◌≤◌, ◌⊎◌}
-use Rattle.words.specs.declared.limits.TheConstants.{FIRST_ADDRESS, PAGE_BYTES, GRANULE_BYTES}
-
--- the first address of a page, and of the page after the last one the heap's end
-abbrev pub page_start : ℕ → ℕ
-page_start page = FIRST_ADDRESS + PAGE_BYTES * page
-
--- the page of an address
-abbrev pub page_of : ℕ → ℕ
-page_of address = (address - FIRST_ADDRESS) / PAGE_BYTES
-
--- the granule of an address
-abbrev pub granule : ℕ → ℕ
-granule address = (address - FIRST_ADDRESS) / GRANULE_BYTES
+-- Which words are addresses of a page.
+use Rattle.std.specs.Prelude.{ℕ, ◌+◌, ◌<◌, ◌≤◌, ◌⊎◌}
+use Rattle.words.specs.declared.limits.TheConstants.{FIRST_ADDRESS}
+pub use Rattle.words.specs.Layout.{page_start, page_of, granule}
 
 -- the word is an address of the page
 pub record IsOnPage (page w : ℕ) : Type 0 where

@@ -9,5 +9,6 @@ mod map;
 mod page;
 mod walk;
 
-pub use found::{Found, granule_of};
+pub use found::Found;
+pub use words::granule_of;
 pub use map::BlockMap;

@@ -1,14 +1,11 @@
 -- Where the heap's bytes lie.
 use Rattle.std.specs.Prelude.{ℕ, ◌+◌, ◌*◌, ◌<◌, ◌≤◌, ◌^◌}
-use Rattle.words.specs.declared.limits.TheConstants.{WORD_BYTES, PAGE_BYTES, FIRST_ADDRESS}
+use Rattle.words.specs.declared.limits.TheConstants.{WORD_BYTES}
+pub use Rattle.words.specs.Layout.{page_start}
 
 -- words count up to here, and then begin again at 0
 abbrev pub word_end : ℕ
 word_end = 2 ^ 64
-
--- the address of a page's first byte
-abbrev pub page_start : ℕ → ℕ
-page_start page = FIRST_ADDRESS + PAGE_BYTES * page
 
 -- the address past the last byte of a heap of so many pages
 abbrev pub heap_end : ℕ → ℕ

@@ -1,9 +1,7 @@
--- Which granule an address lies in, and rows of one bit a granule.
-use Rattle.std.specs.Prelude.{◌≡◌, ℕ, ◌-◌, ◌*◌, ◌/◌, ◌<◌, ◌≤◌, Bool, List, length}
-use Rattle.words.specs.declared.limits.TheConstants.{FIRST_ADDRESS, GRANULE_BYTES, MAX_PAGES, PAGE_GRANULES}
-
-abbrev pub granule : ℕ → ℕ
-granule address = (address - FIRST_ADDRESS) / GRANULE_BYTES
+-- Rows of one bit a granule.
+use Rattle.std.specs.Prelude.{◌≡◌, ◌*◌, ◌/◌, ◌<◌, ◌≤◌, Bool, List, length}
+use Rattle.words.specs.declared.limits.TheConstants.{MAX_PAGES, PAGE_GRANULES}
+pub use Rattle.words.specs.Layout.{granule}
 
 -- the row has all granules of some pages, as many as a heap may have
 pub record IsOfPages (row : List Bool) : Type 0 where

@@ -11,5 +11,6 @@ mod table;
 
 pub use claimer_view::ClaimerView;
 pub use gathers::gathered_marks;
-pub use marks::{Marks, granule_of};
+pub use marks::Marks;
+pub use words::granule_of;
 pub use table::{Claimer, MarkTable};

@@ -10,14 +10,6 @@ use std::marker::Model;
 use words::limits::{FIRST_ADDRESS, GRANULE_BYTES, MAX_PAGES, PAGE_GRANULES};
 use words::{BitRow, PageNo};
 
-/// The granule at whose words the address lies, from 0.
-pub fn granule_of(address: u64) -> usize
-    requires { FIRST_ADDRESS ≤ address }
-    ensures { result ≡ granule address }
-{
-    ((address - FIRST_ADDRESS) / GRANULE_BYTES) as usize
-}
-
 /// A set of the granules of a heap.
 #[derive(Drop)]
 pub struct Marks {

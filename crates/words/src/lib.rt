@@ -5,6 +5,7 @@
 mod bit_row;
 mod cell_row;
 mod class;
+mod layout;
 pub mod laws;
 pub mod limits;
 mod places;
@@ -16,6 +17,7 @@ mod tests;
 pub use bit_row::BitRow;
 pub use cell_row::CellRow;
 pub use class::{CLASSES, Class, Kind, Placement, class_of};
+pub use layout::granule_of;
 pub use limits::PageNo;
 pub use places::{Global, Reg, Slot};
 pub use refusal::{OpenError, Refusal};
