@@ -1,16 +1,13 @@
 -- What a call answers, and what it leaves.
-use Rattle.std.proofs.Common.{◌≡◌, ◌≢◌, ℕ, ◌+◌, ◌-◌, ◌*◌, ◌/◌, ◌%◌, ◌<◌, ◌≤◌, List, [], ◌∷◌, ◌++◌, length, refl, sym, ap, ◌∙◌, subst, arith}
-use Rattle.std.specs.Prelude.{Option, Some, None, slice_index, slice_set}
+use Rattle.std.proofs.Common.{◌≡◌, ℕ, ◌+◌, ◌-◌, ◌/◌, List, [], ◌∷◌, ◌++◌, length, refl, sym, ap, ◌∙◌, subst, arith}
+use Rattle.std.specs.Prelude.{Some, None, slice_index, slice_set}
 use Rattle.std.proofs.lemmas.Option.{same_Some, none-some}
 use Rattle.std.proofs.lemmas.List.{same_from_push, length_push}
-use Rattle.words.specs.declared.class.Kind.{Kind}
-use Rattle.words.specs.declared.class.Placement.{Placement}
 use Rattle.words.specs.declared.refusal.Refusal.{Refusal}
-use Rattle.words.specs.Placing.{placement_of}
 use Rattle.heap_spec.specs.declared.call.Call.{Call}
 use Rattle.heap_spec.specs.declared.reply.Reply.{Reply}
 use Rattle.heap_spec.specs.declared.reply.Reply.TheVariants.{Word, Count, Refused}
-use Rattle.heap_spec.specs.Heap.{Heap, Object, Mutator, HasObject, ReadsObject, ReadsNothing, IsAttached, IsVacant}
+use Rattle.heap_spec.specs.Heap.{Heap, Object, Mutator, HasObject, ReadsObject}
 use Rattle.heap_spec.specs.Room.{HasRoom}
 use Rattle.heap_spec.specs.Steps.{Acts, Calls, acts, vacant, with_register, with_object, register, address}
 use Rattle.heap_spec.specs.Sound.{IsSound}
@@ -83,9 +80,11 @@ acts_same s h slot m (Acts.load_nothing al none) (Acts.loaded {base = b} {o = o}
 acts_same s h slot m (Acts.load_nothing al none) (Acts.load_misaligned ne) = absurd (ne al)
 acts_same s h slot m (Acts.load_nothing al none) (Acts.load_nothing al' none') = (refl, λ no. refl)
 acts_same s h slot m (Acts.stored {a = a} {n = n} {r = r} {base = b} {o = o} al reads) (Acts.stored {base = c} {o = p} al' reads') =
-    let e = same_read s h (address m a n) b c o p reads reads' in
-    (refl, λ no. ap (λ (x : Object). with_object s b (Some (record x { words = slice_set x.words ((address m a n - b) / 8) (register m r) }))) e.1
-        ∙ ap (λ x. with_object s x (Some (record p { words = slice_set p.words ((address m a n - x) / 8) (register m r) }))) e.0)
+    let e = same_read s h (address m a n) b c o p reads reads' in (
+      refl,
+      λ no. ap (λ (x : Object). with_object s b (Some (record x { words = slice_set x.words ((address m a n - b) / 8) (register m r) }))) e.1
+          ∙ ap (λ x. with_object s x (Some (record p { words = slice_set p.words ((address m a n - x) / 8) (register m r) }))) e.0,
+    )
 acts_same s h slot m (Acts.stored al reads) (Acts.store_misaligned ne) = absurd (ne al)
 acts_same s h slot m (Acts.stored {base = b} {o = o} al reads) (Acts.store_nothing al' none) = absurd (none b o reads)
 acts_same s h slot m (Acts.store_misaligned ne) (Acts.stored al reads) = absurd (ne al)

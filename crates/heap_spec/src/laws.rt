@@ -60,11 +60,9 @@ pub fn load_answers_stored()
 /// A refused call changes nothing.
 pub fn refused_changes_nothing()
     ensures { RefusedChangesNothing }
-{
-}
+{}
 
 /// A call has one reply, and one heap after it but for the place of an allocation.
 pub fn calls_have_one_outcome()
     ensures { CallsHaveOneOutcome }
-{
-}
+{}
