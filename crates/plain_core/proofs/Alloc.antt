@@ -1,0 +1,185 @@
+-- An allocation, and that the core stays sound.
+use Rattle.std.proofs.Common.{◌≡◌, ℕ, ◌+◌, ◌-◌, ◌*◌, ◌/◌, ◌%◌, ◌<◌, ◌≤◌, ◌⊎◌, Bool, true, false, List, [], ◌∷◌, ◌++◌, length, get_or, map, take, drop, set, replicate, eqb, refl, sym, ap, ◌∙◌, subst, arith, inl, inr, ⊎_elim, cond}
+use Rattle.std.specs.Prelude.{Result, Ok, Err, IsOk, is_ok, ◌≢◌, Option, Some, None, All, Contains, slice_get}
+use Rattle.std.proofs.Math.Nat.{mul_assoc, mul-mod_right}
+use Rattle.std.proofs.lemmas.List.{ext_get_or, get_or-take, get_or-drop, get_or-replicate, length-replicate, length-set, length_push}
+use Rattle.std.proofs.lemmas.List.Elements.{All-nil, All-contains, All-push, Contains-push_cases, Contains-push, Contains-append_left, Contains-get_or}
+use Rattle.std.proofs.lemmas.Option.{same_Some, none-some}
+use Rattle.std.proofs.lemmas.Bool.{cases_lt, cases_eq}
+use Rattle.words.specs.declared.class.Kind.{Kind}
+use Rattle.words.specs.declared.class.Placement.{Placement}
+use Rattle.words.specs.declared.class.Placement.TheVariants.{Small, Large}
+use Rattle.words.specs.declared.limits.TheConstants.{WORD_BYTES, PAGE_WORDS, PAGE_GRANULES, FIRST_ADDRESS, MAX_PAGES, SLOTS}
+use Rattle.words.specs.Placing.{placement_of}
+use Rattle.heap_spec.specs.declared.call.Call.TheVariants.{Alloc}
+use Rattle.heap_spec.specs.declared.reply.Reply.TheVariants.{Done}
+use Rattle.heap_spec.specs.Layout.{Reads, LiesOn, page_start}
+use Rattle.heap_spec.specs.Heap.{Heap, Object, Mutator, HasObject}
+use Rattle.heap_spec.specs.Room.{IsFree, IsCutFor, HasRoom, length_of}
+use Rattle.heap_spec.specs.Steps.{Acts, acts, with_register, with_object}
+use Rattle.plain_core.specs.declared.extent.Extent.{Extent}
+use Rattle.plain_core.specs.Contents.{Contents, IsSound, IsInHeap, IsCell, HasPages, IsPlaced, granule}
+use Rattle.plain_core.specs.Places.{IsPlace, IsPlaceOn, IsFreePage, IsCutPage, IsSized}
+use Rattle.plain_core.specs.Standing.{StandsFor, IsShown, place, words_at}
+use Rattle.plain_core.proofs.Rows.{with_at-same, with_at-other}
+use Rattle.plain_core.proofs.Stands.{StepsCall, mutator_at}
+use Rattle.plain_core.proofs.Memory.{length_words}
+use Rattle.plain_core.proofs.Objects.{in_heap, object_of, extent_of, none_at, none_in}
+use Rattle.plain_core.proofs.Freshness.{IsFresh, fresh_small, fresh_large, distinct_push, distinct_none, few_objects}
+
+use Rattle.plain_core.proofs.Rooms.{room_of}
+
+-- a new core
+pub new_sound : (pages : ℕ) (words : List ℕ) (objects : List Extent) (mutators : List (Option Mutator)) (globals : List ℕ) → pages ≤ MAX_PAGES → length words ≡ PAGE_WORDS * pages → objects ≡ [] → length mutators ≡ SLOTS
+    → IsSound (record { pages = pages; words = words; objects = objects; mutators = mutators; globals = globals })
+new_sound pages words objects mutators globals p w o m = record {
+  pages = p;
+  words = w;
+  slots = m;
+  in_heap = rw o (All-nil (IsInHeap pages));
+  placed = rw o (All-nil IsPlaced);
+  distinct = distinct_none objects o;
+  apart = λ e f x he hf re rf. absurd (All-contains (λ (g : Extent). ⊥) objects e (rw o (All-nil (λ (g : Extent). ⊥))) he);
+}
+
+even_product : (l i : ℕ) → l % 2 ≡ 0 → (l * i) % 2 ≡ 0
+even_product l i even =
+    let e : l ≡ 2 * (l / 2) = omega arith in
+    ap (λ x. (x * i) % 2) e ∙ ap (λ x. x % 2) (mul_assoc 2 (l / 2) i) ∙ mul-mod_right 2 ((l / 2) * i)
+
+-- where an object goes it is in the heap, has a proper place, and shares no word
+pub new_in_heap : (pages : ℕ) (row : List Extent) (place : Placement) (kind : Kind) (e : Extent) → IsSized place → e.length ≡ length_of place → IsPlace row pages place kind e.base → IsInHeap pages e
+new_in_heap pages row (Small class) kind e sized l p =
+    let i = p.on.is_cell in let f = p.on.in_page in let q = p.in_heap in
+    let even : (class * p.on.cell) % 2 ≡ 0 = even_product class p.on.cell sized.2 in
+    record { start = omega arith; aligned = omega arith; some = omega arith; ends = omega arith }
+new_in_heap pages row (Large count) kind e sized l p =
+    let i = p.is_start in let q = p.in_heap in
+    record { start = omega arith; aligned = omega arith; some = omega arith; ends = omega arith }
+
+pub new_placed : (pages : ℕ) (row : List Extent) (place : Placement) (kind : Kind) (e : Extent) → IsSized place → e.length ≡ length_of place → IsPlace row pages place kind e.base → IsPlaced e
+new_placed pages row (Small class) kind e sized l p = inl (record { page = p.page; cell = p.on.cell; few = omega arith; in_page = rw l p.on.in_page; is_cell = rw l p.on.is_cell })
+new_placed pages row (Large count) kind e sized l p = inr (record { first = p.first; count = count; some = sized; whole = l; is_start = p.is_start })
+
+pub new_fresh : (pages : ℕ) (row : List Extent) (place : Placement) (kind : Kind) (e : Extent) → All IsPlaced row → IsSized place → e.length ≡ length_of place → IsPlace row pages place kind e.base → IsFresh row e
+new_fresh pages row (Small class) kind e placed sized l p = fresh_small p.page kind row e placed (omega arith) (rw l p.on)
+new_fresh pages row (Large count) kind e placed sized l p = fresh_large pages count row e l p
+
+-- an object put at a base is there, and the others are as they were
+after_cases : (s : Heap) (base : ℕ) (o' : Object) (b : ℕ) (p : Object) → HasObject (with_object s base (Some o')) b p → ((b ≡ base) × (o' ≡ p)) ⊎ ((b ≢ base) × HasObject s b p)
+after_cases s base o' b p is =
+    ⊎_elim
+      (λ same. inl (same, same_Some _ _ (sym (with_at-same s.objects base (Some o') b same) ∙ is)))
+      (λ other. inr (other, sym (with_at-other s.objects base (Some o') b other) ∙ is))
+      (cases_eq b base)
+
+-- the words that a new object's place has
+pub record IsZeroed (old new : List ℕ) (e : Extent) : Type 0 where
+  pub long : length new ≡ length old
+  pub zeroed : (k : ℕ) → place e.base ≤ k → k < place e.base + e.length → get_or new k 0 ≡ 0
+  pub others : (k : ℕ) → (k < place e.base) ⊎ (place e.base + e.length ≤ k) → get_or new k 0 ≡ get_or old k 0
+
+words_index : (row : List ℕ) (e : Extent) (i : ℕ) → i < e.length → get_or (words_at row e) i 0 ≡ get_or row (place e.base + i) 0
+words_index row e i lt = get_or-take e.length (drop (place e.base) row) i 0 lt ∙ get_or-drop (place e.base) row i 0
+
+zero_words : (old new : List ℕ) (pages : ℕ) (e : Extent) → length old ≡ PAGE_WORDS * pages → IsInHeap pages e → IsZeroed old new e → replicate e.length 0 ≡ words_at new e
+zero_words old new pages e l i z =
+    ext_get_or 0 _ _ (length-replicate e.length 0 ∙ sym (length_words new pages e (z.long ∙ l) i))
+      (λ k lt. let h : k < e.length = rw length-replicate at lt in
+        get_or-replicate e.length k 0 0 h ∙ sym (words_index new e k h ∙ z.zeroed (place e.base + k) (omega arith) (omega arith)))
+
+other_words : (old new : List ℕ) (pages : ℕ) (e g : Extent) → length old ≡ PAGE_WORDS * pages → IsInHeap pages e → IsInHeap pages g → IsZeroed old new e → ((w : ℕ) → Reads w e.base e.length → Reads w g.base g.length → ⊥) → words_at old g ≡ words_at new g
+other_words old new pages e g l ie ig z apart =
+    ext_get_or 0 _ _ (length_words old pages g l ig ∙ sym (length_words new pages g (z.long ∙ l) ig))
+      (λ k lt. let h : k < g.length = rw (length_words old pages g l ig) at lt in
+        words_index old g k h ∙ sym (words_index new g k h ∙ z.others (place g.base + k) (outside k h)))
+  where
+    outside : (k : ℕ) → k < g.length → (place g.base + k < place e.base) ⊎ (place e.base + e.length ≤ place g.base + k)
+    outside k h = ⊎_elim (λ before. inl before) (λ from. ⊎_elim (λ inside. absurd (apart (g.base + WORD_BYTES * k) (omega arith, omega arith) (omega arith, omega arith))) (λ past. inr past) (cases_lt (place g.base + k) (place e.base + e.length))) (cases_lt (place g.base + k) (place e.base))
+
+pub allocates : (c : Contents) (k d n : ℕ) (kind : Kind) (m : Mutator) (place : Placement) (e : Extent) (row : List ℕ) → IsSound c → slice_get c.mutators k ≡ Some (Some m) → placement_of n ≡ Some place → IsPlace c.objects c.pages place kind e.base → e.kind ≡ kind → e.length ≡ length_of place
+    → IsInHeap c.pages e → IsFresh c.objects e → IsZeroed c.words row e
+    → StepsCall c k (Alloc d n kind) Done (record c { words = row; objects = c.objects ++ e ∷ []; mutators = set c.mutators k (Some (record m { registers = set m.registers d e.base })) })
+allocates c k d n kind m place e row sound at is room same_kind same_length new fresh zeroed s h =
+    (after, acts (mutator_at c s h k (Some m) at) (Acts.allocated e.base is (room_of c sound s h place kind e.base room)), record {
+      pages = h.pages;
+      mutators = ap (λ xs. set xs k (Some m')) h.mutators;
+      globals = h.globals;
+      kept = λ g hg. ⊎_elim
+        (λ old. let kept = h.kept g old in (kept.0, with_at-other s.objects e.base (Some o) g.base (λ same. fresh g g.base old (base_in e new g.base same) (base_in g (in_heap c sound g old) g.base refl)) ∙ kept.1,
+          record { kind = kept.2.kind; words = kept.2.words ∙ other_words c.words row c.pages e g sound.words new (in_heap c sound g old) zeroed (λ w re rg. fresh g w old re rg) }))
+        (λ same. subst (λ (x : Extent). (p : Object) × HasObject after x.base p × IsShown row x p) same
+          (o, with_at-same s.objects e.base (Some o) e.base refl, record { kind = sym same_kind; words = ap (λ x. replicate x 0) (sym same_length) ∙ zero_words c.words row c.pages e sound.words new zeroed }))
+        (Contains-push_cases c.objects e g hg);
+      only = λ b p has. ⊎_elim
+        (λ q. (e, Contains-push c.objects e, sym q.0))
+        (λ q. let f = h.only b p q.1 in (f.0, Contains-append_left c.objects (e ∷ []) f.0 f.1, f.2))
+        (after_cases s e.base o b p has);
+      born = λ b p has. ⊎_elim
+        (λ q. subst (λ (x : Object). (1 ≤ x.birth) × (x.birth ≤ s.births + 1)) q.1 (omega arith, omega arith))
+        (λ q. let r = h.born b p q.1 in (r.0, omega (arith, r.1)))
+        (after_cases s e.base o b p has);
+      distinct = λ a b p q ha hb same. ⊎_elim
+        (λ x. ⊎_elim (λ y. x.0 ∙ sym y.0) (λ y. absurd (too_late b q (p.birth) y.1 (ap (λ (z : Object). z.birth) x.1) same)) (after_cases s e.base o b q hb))
+        (λ x. ⊎_elim (λ y. absurd (too_late a p (q.birth) x.1 (ap (λ (z : Object). z.birth) y.1) (sym same))) (λ y. h.distinct a b p q x.1 y.1 same) (after_cases s e.base o b q hb))
+        (after_cases s e.base o a p ha);
+    })
+  where
+    m' : Mutator
+    m' = record m { registers = set m.registers d e.base }
+    o : Object
+    o = record { birth = s.births + 1; kind = kind; words = replicate (length_of place) 0 }
+    after : Heap
+    after = record (with_register (with_object s e.base (Some o)) k m d e.base) { births = s.births + 1 }
+    base_in : (g : Extent) → IsInHeap c.pages g → (w : ℕ) → w ≡ g.base → Reads w g.base g.length
+    base_in g i w same = (omega arith, omega arith)
+    too_late : (b : ℕ) (q : Object) (x : ℕ) → HasObject s b q → s.births + 1 ≡ x → x ≡ q.birth → ⊥
+    too_late b q x has is same = let r = h.born b q has in let l = r.1 in omega arith
+
+-- the core stays sound
+pub sound_after : (c : Contents) (e : Extent) (row : List ℕ) → IsSound c → IsInHeap c.pages e → IsPlaced e → IsFresh c.objects e → length row ≡ length c.words
+    → IsSound (record c { words = row; objects = c.objects ++ e ∷ [] })
+sound_after c e row sound new placed fresh long = record {
+  pages = sound.pages;
+  words = long ∙ sound.words;
+  slots = sound.slots;
+  in_heap = All-push (IsInHeap c.pages) c.objects e sound.in_heap new;
+  placed = All-push IsPlaced c.objects e sound.placed placed;
+  distinct = distinct_push c.pages c.objects e sound.in_heap new fresh sound.distinct;
+  apart = λ f g w hf hg rf rg. ⊎_elim
+    (λ x. ⊎_elim (λ y. sound.apart f g w x y rf rg) (λ y. absurd (fresh f w x (subst (λ (z : Extent). Reads w z.base z.length) (sym y) rg) rf)) (Contains-push_cases c.objects e g hg))
+    (λ x. ⊎_elim (λ y. absurd (fresh g w y (subst (λ (z : Extent). Reads w z.base z.length) (sym x) rf) rg)) (λ y. sym x ∙ y) (Contains-push_cases c.objects e g hg))
+    (Contains-push_cases c.objects e f hf);
+}
+
+-- there is room for one more
+pub has_room : (c : Contents) (e : Extent) → IsSound c → IsInHeap c.pages e → IsFresh c.objects e → length c.objects < PAGE_GRANULES * c.pages
+has_room c e sound new fresh =
+    let l : length (c.objects ++ e ∷ []) ≤ PAGE_GRANULES * c.pages = few_objects c.pages (c.objects ++ e ∷ []) (All-push (IsInHeap c.pages) c.objects e sound.in_heap new) (distinct_push c.pages c.objects e sound.in_heap new fresh sound.distinct) in
+    let m : length c.objects + 1 ≤ PAGE_GRANULES * c.pages = rw length_push at l in
+    omega arith
+
+-- what a push that succeeds leaves
+pub pushed_items : {T E : Type 0} (r : Result T E) (xs ys zs : List Extent) → IsOk r → zs ≡ cond (is_ok r) xs ys → zs ≡ xs
+pushed_items (Ok v) xs ys zs ok is = is
+pushed_items (Err e) xs ys zs ok is = absurd (cc)
+
+module _ (c : Contents) (placement : Placement) (kind : Kind) (e : Extent) (sound : IsSound c) (sized : IsSized placement) (long : e.length ≡ length_of placement) (room : IsPlace c.objects c.pages placement kind e.base) where
+  new : IsInHeap c.pages e
+  new = new_in_heap c.pages c.objects placement kind e sized long room
+
+  fresh : IsFresh c.objects e
+  fresh = new_fresh c.pages c.objects placement kind e sound.placed sized long room
+
+  pub room_left : length c.objects < PAGE_GRANULES * c.pages
+  room_left = has_room c e sound new fresh
+
+  pub fits_row : place e.base + e.length ≤ length c.words
+  fits_row = let i = new in let w = sound.words in omega (arith, i.start, i.aligned, i.ends)
+
+  pub alloc_steps : (k d n : ℕ) (m : Mutator) (row : List ℕ) (objects : List Extent) → slice_get c.mutators k ≡ Some (Some m) → placement_of n ≡ Some placement → e.kind ≡ kind → IsZeroed c.words row e → objects ≡ c.objects ++ e ∷ []
+      → StepsCall c k (Alloc d n kind) Done (record c { words = row; objects = objects; mutators = set c.mutators k (Some (record m { registers = set m.registers d e.base })) })
+  alloc_steps k d n m row objects at is same zeroed pushed = rw pushed (allocates c k d n kind m placement e row sound at is room same long new fresh zeroed)
+
+  pub alloc_sound : (row : List ℕ) (objects : List Extent) → length row ≡ length c.words → objects ≡ c.objects ++ e ∷ [] → IsSound (record c { words = row; objects = objects })
+  alloc_sound row objects l pushed = rw pushed (sound_after c e row sound new (new_placed c.pages c.objects placement kind e sized long room) fresh l)

@@ -1,0 +1,92 @@
+-- A new object shares no word with those that are there, and there are no more objects than granules.
+use Rattle.std.proofs.Common.{◌≡◌, ℕ, ◌+◌, ◌-◌, ◌*◌, ◌/◌, ◌%◌, ◌<◌, ◌≤◌, ◌⊎◌, Bool, true, false, List, [], ◌∷◌, ◌++◌, length, get_or, map, eqb, refl, sym, ap, ◌∙◌, subst, arith, inl, inr, ⊎_elim}
+use Rattle.std.specs.Prelude.{◌≢◌, Option, Some, None, All, Contains}
+use Rattle.std.specs.List.{list_any, IsDistinct}
+use Rattle.std.proofs.Math.Nat.{mul-le-mul_left}
+use Rattle.std.proofs.lemmas.List.{map_push, length-map, length_push}
+use Rattle.std.proofs.lemmas.List.Elements.{All-contains, All-map, All-weaker, All-push, All-get_or, Contains-push_cases, Contains-get_or}
+use Rattle.std.proofs.lemmas.List.Folds.{list_any_none, Any-from_list_any}
+use Rattle.std.proofs.lemmas.Map.Keys.{IsDistinct-push}
+use Rattle.std.proofs.lemmas.Map.Steps.{length-le_from_distinct_below}
+use Rattle.std.proofs.lemmas.Bool.{cases_lt, eqb-true}
+use Rattle.std.specs.Cmp.{nat_eq_equiv}
+use Rattle.words.specs.declared.class.Kind.{Kind}
+use Rattle.words.specs.declared.limits.TheConstants.{WORD_BYTES, PAGE_BYTES, PAGE_WORDS, PAGE_GRANULES, FIRST_ADDRESS, MAX_SMALL_WORDS}
+use Rattle.heap_spec.specs.Layout.{Reads, LiesOn, page_start}
+use Rattle.plain_core.specs.declared.extent.Extent.{Extent}
+use Rattle.plain_core.specs.Contents.{IsInHeap, IsCell, HasPages, IsPlaced, granule}
+use Rattle.plain_core.proofs.Rows.{eqb_ne}
+use Rattle.plain_core.specs.Places.{IsPlaceOn, IsLargePlace, IsFreePage, IsCutPage, IsNoBase}
+
+-- two cells of one length that have a word in common are one
+pub same_cell : (length i j x : ℕ) → length * i ≤ x → x < length * (i + 1) → length * j ≤ x → x < length * (j + 1) → i ≡ j
+same_cell length i j x a b c d =
+    ⊎_elim (λ less. absurd (let h : length * (i + 1) ≤ length * j = mul-le-mul_left length (before less) in omega arith))
+      (λ more. ⊎_elim (λ less. absurd (let h : length * (j + 1) ≤ length * i = mul-le-mul_left length (after less) in omega arith)) (λ le. omega arith) (cases_lt j i))
+      (cases_lt i j)
+  where
+    before : i < j → i + 1 ≤ j
+    before less = omega arith
+    after : j < i → j + 1 ≤ i
+    after less = omega arith
+
+-- no object shares a word with a new one
+abbrev pub IsFresh : List Extent → Extent → Type 0
+IsFresh row e = (f : Extent) (w : ℕ) → Contains row f → Reads w e.base e.length → Reads w f.base f.length → ⊥
+
+pub fresh_small : (page : ℕ) (kind : Kind) (row : List Extent) (e : Extent) → All (IsPlaced) row → e.length ≤ MAX_SMALL_WORDS → IsPlaceOn row page e.length kind e.base → IsFresh row e
+fresh_small page kind row e placed few p f w has re rf =
+    ⊎_elim (λ free. All-contains (λ (g : Extent). LiesOn g.base g.length page → ⊥) row f free has lies) (λ cut. in_cut cut.0 cut.1) p.cut
+  where
+    cell : ℕ
+    cell = p.cell
+    is_cell : e.base ≡ page_start page + WORD_BYTES * (e.length * cell)
+    is_cell = p.is_cell
+    in_page : e.length * (cell + 1) ≤ PAGE_WORDS
+    in_page = p.in_page
+    lies : LiesOn f.base f.length page
+    lies = (omega arith, omega arith)
+    in_cut : IsCutPage row page e.length kind → IsNoBase row e.base → ⊥
+    in_cut cut none = ⊎_elim small large (All-contains (IsPlaced) row f placed has)
+      where
+        agrees : (f.length ≡ e.length) × (f.kind ≡ kind)
+        agrees = All-contains (λ (g : Extent). LiesOn g.base g.length page → (g.length ≡ e.length) × (g.kind ≡ kind)) row f cut has lies
+        large : HasPages f → ⊥
+        large l = let a = agrees.0 in let s = l.some in let h = l.whole in omega arith
+        small : IsCell f → ⊥
+        small s =
+            let a = agrees.0 in
+            let g : f.base ≡ page_start s.page + WORD_BYTES * (e.length * s.cell) = rw (← a) s.is_cell in
+            let h : e.length * (s.cell + 1) ≤ PAGE_WORDS = rw (← a) s.in_page in
+            let q : s.page ≡ page = omega arith in
+            let x : s.cell ≡ cell = same_cell e.length s.cell cell ((w - page_start page) / WORD_BYTES) (omega arith) (omega arith) (omega arith) (omega arith) in
+            All-contains (λ (g : Extent). g.base ≡ e.base → ⊥) row f none has (g ∙ ap (λ y. page_start y + WORD_BYTES * (e.length * s.cell)) q ∙ ap (λ y. page_start page + WORD_BYTES * (e.length * y)) x ∙ sym is_cell)
+
+pub fresh_large : (pages count : ℕ) (row : List Extent) (e : Extent) → e.length ≡ PAGE_WORDS * count → IsLargePlace row pages count e.base → IsFresh row e
+fresh_large pages count row e whole p f w has re rf =
+    let i = p.is_start in
+    let page : ℕ = (w - FIRST_ADDRESS) / PAGE_BYTES in
+    All-contains (λ (g : Extent). LiesOn g.base g.length page → ⊥) row f (p.free page (omega arith) (omega arith)) has (omega arith, omega arith)
+
+-- the granules of the objects are below their number in the heap
+below_all : (pages : ℕ) (row : List Extent) → All (IsInHeap pages) row → (q : ℕ) → list_any (eqb q) (map granule row) ≡ true → q < PAGE_GRANULES * pages
+below_all pages row h q is =
+    let a = Any-from_list_any (eqb q) (map granule row) is in
+    let b : All (λ g. g < PAGE_GRANULES * pages) (map granule row) = All-map (λ g. g < PAGE_GRANULES * pages) granule row (All-weaker (IsInHeap pages) (λ e. granule e < PAGE_GRANULES * pages) (λ e i. omega arith) row h) in
+    rw (eqb-true q a.1 a.4) (rw a.3 at (b a.0 a.1 a.2))
+
+-- there are no more objects than granules
+pub few_objects : (pages : ℕ) (row : List Extent) → All (IsInHeap pages) row → IsDistinct eqb (map granule row) → length row ≤ PAGE_GRANULES * pages
+few_objects pages row h d = let l : length (map granule row) ≤ PAGE_GRANULES * pages = length-le_from_distinct_below (map granule row) (PAGE_GRANULES * pages) d (below_all pages row h) in rw length-map at l
+
+-- with a new object the granules stay distinct
+pub distinct_push : (pages : ℕ) (row : List Extent) (e : Extent) → All (IsInHeap pages) row → IsInHeap pages e → IsFresh row e → IsDistinct eqb (map granule row) → IsDistinct eqb (map granule (row ++ e ∷ []))
+distinct_push pages row e h new fresh d = rw map_push (IsDistinct-push nat_eq_equiv (map granule row) (granule e) d
+    (list_any_none (eqb (granule e)) (map granule row) (All-map (λ g. eqb (granule e) g ≡ false) granule row (λ k g lt. apart (get_or row k g) (Contains-get_or row k g lt)))))
+  where
+    apart : (f : Extent) → Contains row f → eqb (granule e) (granule f) ≡ false
+    apart f has = eqb_ne _ _ (λ same. let i : IsInHeap pages f = All-contains (IsInHeap pages) row f h has in fresh f e.base has (omega arith, omega arith) (omega arith, omega arith))
+
+pub distinct_none : (row : List Extent) → row ≡ [] → IsDistinct eqb (map granule row)
+unfolding IsDistinct
+distinct_none row e = rw e tt

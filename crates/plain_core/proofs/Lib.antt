@@ -1,0 +1,10 @@
+pub mod Rows
+pub mod Mutators
+pub mod Stands
+pub mod Memory
+pub mod Objects
+pub mod LoadStore
+pub mod Placing
+pub mod Freshness
+pub mod Rooms
+pub mod Alloc

@@ -1,0 +1,4 @@
+pub mod Mutators
+pub mod Contents
+pub mod Places
+pub mod Standing

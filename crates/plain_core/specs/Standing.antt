@@ -1,0 +1,30 @@
+-- The heap that a plain core stands for.
+use Rattle.std.specs.Prelude.{◌≡◌, ℕ, ◌-◌, ◌/◌, ◌≤◌, List, take, drop, Contains}
+use Rattle.words.specs.declared.limits.TheConstants.{WORD_BYTES, FIRST_ADDRESS}
+use Rattle.heap_spec.specs.Heap.{Heap, Object, HasObject}
+use Rattle.plain_core.specs.declared.extent.Extent.{Extent}
+use Rattle.plain_core.specs.Contents.{Contents}
+
+-- where the word at an address stands in the row of words
+abbrev pub place : ℕ → ℕ
+place a = (a - FIRST_ADDRESS) / WORD_BYTES
+
+-- the words of an object in the row
+abbrev pub words_at : List ℕ → Extent → List ℕ
+words_at row e = take e.length (drop (place e.base) row)
+
+-- the object of the heap that lies there
+pub record IsShown (row : List ℕ) (e : Extent) (o : Object) : Type 0 where
+  pub kind : o.kind ≡ e.kind
+  pub words : o.words ≡ words_at row e
+
+-- The heap has the core's pages, its objects with their kinds and words, its mutators and its globals. Births are not
+-- kept, so any distinct ones from 1 up to their number fit.
+pub record StandsFor (c : Contents) (s : Heap) : Type 0 where
+  pub pages : s.pages ≡ c.pages
+  pub mutators : s.mutators ≡ c.mutators
+  pub globals : s.globals ≡ c.globals
+  pub kept : (e : Extent) → Contains c.objects e → (o : Object) × HasObject s e.base o × IsShown c.words e o
+  pub only : (base : ℕ) (o : Object) → HasObject s base o → (e : Extent) × Contains c.objects e × (e.base ≡ base)
+  pub born : (base : ℕ) (o : Object) → HasObject s base o → (1 ≤ o.birth) × (o.birth ≤ s.births)
+  pub distinct : (a b : ℕ) (o p : Object) → HasObject s a o → HasObject s b p → o.birth ≡ p.birth → a ≡ b

@@ -1,0 +1,47 @@
+//! Where an object lies.
+ghost use Rattle.std.specs.Prelude.{◌≡◌, ℕ, ◌+◌, ◌*◌, ◌<◌, ◌≤◌, IfSome, IfNone, IsTrue, false, Contains, All};
+ghost use Rattle.heap_spec.specs.Layout.{Reads, LiesOn};
+
+use words::Kind;
+use words::limits::{FIRST_ADDRESS, PAGE_BYTES, PageNo, WORD_BYTES};
+
+/// Where an object lies, from its base and over so many words, and its kind.
+#[derive(Clone, Copy, Debug, PartialEq, Eq)]
+pub struct Extent {
+    pub base: u64,
+    pub kind: Kind,
+    pub length: u64,
+}
+
+impl Extent {
+    /// Whether the address is that of one of its bytes.
+    fn is_read_by(&self, address: u64) -> bool
+        ensures yes { IsTrue result → Reads address self.now.base self.now.length }
+        ensures no { result ≡ false → Reads address self.now.base self.now.length → ⊥ }
+    {
+        self.base <= address && (address - self.base) / WORD_BYTES < self.length
+    }
+
+    /// Whether one of its bytes lies on the page.
+    pub fn lies_on(&self, page: PageNo) -> bool
+        ensures yes { IsTrue result → LiesOn self.now.base self.now.length page }
+        ensures no { result ≡ false → LiesOn self.now.base self.now.length page → ⊥ }
+    {
+        let start = u128::from(FIRST_ADDRESS) + u128::from(PAGE_BYTES) * u128::from(page);
+        let end = u128::from(self.base) + u128::from(WORD_BYTES) * u128::from(self.length);
+        u128::from(self.base) < start + u128::from(PAGE_BYTES) && start < end
+    }
+}
+
+/// The object that the address reads.
+pub fn object_at(objects: &[Extent], address: u64) -> Option<Extent>
+    ensures some { IfSome result (λ e. Contains objects.now e × Reads address e.base e.length) }
+    ensures none { IfNone result (All (λ e. Reads address e.base e.length → ⊥) objects.now) }
+{
+    for object in objects {
+        if object.is_read_by(address) {
+            return Some(*object);
+        }
+    }
+    None
+}

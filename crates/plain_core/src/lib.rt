@@ -1,0 +1,14 @@
+//! A heap core that is plain and slow: one row of words, one list of objects, and nothing of blocks, marks or dirty
+//! pages. Each of its calls is proved to be a step of the sequential heap. It takes memory when it is made and never
+//! again, and no thread, lock or atomic word.
+#![tactic(auto)]
+
+mod extent;
+mod mutator;
+mod places;
+mod plain;
+
+pub use plain::Core;
+
+#[cfg(test)]
+mod tests;

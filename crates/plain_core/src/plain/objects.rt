@@ -1,0 +1,72 @@
+//! The calls that touch objects.
+ghost use Rattle.heap_spec.specs.Replies.{IsStep, done_reply, word_reply};
+
+use super::Core;
+use crate::extent::object_at;
+use crate::places::{place_for, zero};
+use heap_spec::{Call, Event};
+use words::limits::{FIRST_ADDRESS, WORD_BYTES};
+use words::{Kind, Refusal, Reg, Slot, class_of};
+
+impl Core {
+    ghost use Rattle.plain_core.specs.Standing.{StandsFor};
+
+    /// Loads a heap word into a register.
+    pub fn load(&mut self, slot: Slot, into: Reg, at: Reg, offset: u64) -> Result<u64, Refusal>
+        ensures { IsStep (StandsFor self.old) (Event.Mutator slot (Call.Load into at offset)) (word_reply result) (StandsFor self.new) }
+    {
+        let Some(mut mutator) = self.mutator(slot) else {
+            return Err(Refusal::NoSlot);
+        };
+        let address = mutator.address(at, offset);
+        if address % WORD_BYTES != 0 {
+            return Err(Refusal::Misaligned);
+        }
+        let Some(_object) = object_at(&self.objects, address) else {
+            return Err(Refusal::NoObject);
+        };
+        let word = self.words[((address - FIRST_ADDRESS) / WORD_BYTES) as usize];
+        mutator.set_register(into, word);
+        self.put(slot, Some(mutator));
+        Ok(word)
+    }
+
+    /// Stores a register's word in the heap.
+    pub fn store(&mut self, slot: Slot, at: Reg, offset: u64, from: Reg) -> Result<(), Refusal>
+        ensures { IsStep (StandsFor self.old) (Event.Mutator slot (Call.Store at offset from)) (done_reply result) (StandsFor self.new) }
+    {
+        let Some(mutator) = self.mutator(slot) else {
+            return Err(Refusal::NoSlot);
+        };
+        let address = mutator.address(at, offset);
+        if address % WORD_BYTES != 0 {
+            return Err(Refusal::Misaligned);
+        }
+        let Some(_object) = object_at(&self.objects, address) else {
+            return Err(Refusal::NoObject);
+        };
+        self.words[((address - FIRST_ADDRESS) / WORD_BYTES) as usize] = mutator.register(from);
+        Ok(())
+    }
+
+    /// Allocates a zeroed object of at least so many words, and puts its base into a register.
+    pub fn alloc(&mut self, slot: Slot, into: Reg, words: u64, kind: Kind) -> Result<(), Refusal>
+        ensures { IsStep (StandsFor self.old) (Event.Mutator slot (Call.Alloc into words kind)) (done_reply result) (StandsFor self.new) }
+    {
+        let Some(mut mutator) = self.mutator(slot) else {
+            return Err(Refusal::NoSlot);
+        };
+        let Some(placement) = class_of(words) else {
+            return Err(Refusal::BadSize);
+        };
+        let Some(object) = place_for(&self.objects, self.pages, placement, kind) else {
+            return Err(Refusal::Full);
+        };
+        let start = ((object.base - FIRST_ADDRESS) / WORD_BYTES) as usize;
+        zero(&mut self.words, start, object.length as usize);
+        let _pushed = self.objects.push(object);
+        mutator.set_register(into, object.base);
+        self.put(slot, Some(mutator));
+        Ok(())
+    }
+}
