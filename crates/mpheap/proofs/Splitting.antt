@@ -1,13 +1,11 @@
 -- The words of a line.
-use Rattle.std.proofs.Common.{◌≡◌, ℕ, ◌+◌, ◌-◌, ◌<◌, ◌≤◌, Bool, true, false, eqb, List, [], ◌∷◌, ◌++◌, length, get_or, take, drop, refl, sym, ap, ◌∙◌, subst, arith}
-use Rattle.std.specs.Prelude.{All, Option, Some, None, is_none, MatchBool}
-use Rattle.std.specs.Borrow.{Bor}
+use Rattle.std.proofs.Common.{◌≡◌, ℕ, ◌+◌, ◌-◌, ◌<◌, ◌≤◌, Bool, true, false, eqb, List, [], ◌∷◌, ◌++◌, length, get_or, take, drop, sym, ap, ◌∙◌, subst, arith}
+use Rattle.std.specs.Prelude.{All}
 use Rattle.std.specs.List.{slice_split}
 use Rattle.std.proofs.lemmas.List.{take-append-drop, drop_more, get_or-take, length-take, take_rest, take_all}
 use Rattle.std.proofs.lemmas.List.Elements.{All-from_get_or}
 use Rattle.std.proofs.lemmas.List.Splits.{slice_split_at, slice_split_none, length-slice_split}
 use Rattle.mpheap.specs.Grammar.{words_of}
-use Rattle.mpheap.specs.WordsLeft.{words_left}
 
 abbrev is_space : ℕ → Bool
 is_space b = eqb b 32
@@ -28,10 +26,6 @@ split_here line i lt h yes' =
 pub split_none : (line : List ℕ) (i : ℕ) → length line ≤ i → ((k : ℕ) → k < i → is_space (get_or line k 0) ≡ false) → slice_split is_space line ≡ line ∷ []
 split_none line i le h = slice_split_none is_space line (subst (All (λ b. is_space b ≡ false)) (take_all i line le) (front_all line i h))
 
-words_nonempty : (line : List ℕ) → words_of line ≡ [] → ⊥
+-- a line has a word
+pub words_nonempty : (line : List ℕ) → words_of line ≡ [] → ⊥
 words_nonempty line e = let count = length-slice_split is_space line in let none : length (words_of line) ≡ 0 = ap length e in omega (arith, count, none)
-
--- no word is left exactly if there is no rest
-pub done_exactly : (rest : Option (Bor (List ℕ))) (b : Bool) → b ≡ is_none rest → MatchBool b (words_left rest ≡ []) (words_left rest ≡ [] → ⊥)
-done_exactly None b e = let P : Bool → Type 0 = λ v. MatchBool v (words_left None ≡ []) (words_left None ≡ [] → ⊥) in subst P (sym e) refl
-done_exactly (Some s) b e = let P : Bool → Type 0 = λ v. MatchBool v (words_left (Some s) ≡ []) (words_left (Some s) ≡ [] → ⊥) in subst P (sym e) (words_nonempty s.now)

@@ -6,3 +6,6 @@ pub mod Calls
 pub mod Lines
 pub mod Reading
 pub mod Printing
+pub mod Answers
+pub mod Turns
+pub mod Faults

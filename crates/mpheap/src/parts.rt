@@ -93,6 +93,9 @@ impl<'a> Words<'a> {
     pub fn is_done(&self) -> bool
         ensures { MatchBool result (self.now ≡ []) (self.now ≡ [] → ⊥) }
     {
-        self.rest.is_none()
+        match self.rest {
+            None => true,
+            Some(_) => false,
+        }
     }
 }

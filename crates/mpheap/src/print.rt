@@ -1,7 +1,8 @@
 //! Replies as lines.
-ghost use Rattle.std.specs.Prelude.{◌≡◌, ℕ, ◌<◌, ◌≤◌, take, OnOk, OnErr};
+ghost use Rattle.std.specs.Prelude.{◌≡◌, ℕ, ◌<◌, ◌≤◌, length, take, OnOk, OnErr};
 ghost use Rattle.std.specs.Io.KnownBytes.{Appends};
 ghost use Rattle.words.specs.declared.limits.TheConstants.{MAX_PAGES};
+ghost use Rattle.mpheap.specs.declared.limits.TheConstants.{REPLY_BYTES};
 ghost use Rattle.mpheap.specs.Printing.{reply_text, reply_line};
 
 use crate::limits::REPLY_BYTES;
@@ -14,7 +15,8 @@ use words::limits::{FIRST_ADDRESS, PAGE_BYTES};
 /// Puts a reply's text, without its newline, in the place of what was there.
 fn put_reply(text: &mut ArrayString<REPLY_BYTES>, pages: u32, reply: Reply)
     requires { pages ≤ MAX_PAGES }
-    ensures { text.new.bytes ≡ reply_text pages reply }
+    ensures text { text.new.bytes ≡ reply_text pages reply }
+    ensures room { length text.new.bytes < REPLY_BYTES }
 {
     let mut number = Buffer::new();
     text.clear();

@@ -1,5 +1,5 @@
-use Rattle.mpheap.proofs.Splitting.{done_exactly}
+use Rattle.mpheap.proofs.Splitting.{words_nonempty}
 use Rattle.mpheap.proofs.parts.Words.is_done.Goals as goal
 
-pub returns : goal.returns
-returns c = rw c.self.view_is (done_exactly _ _ c.is_none.ensures)
+pub returns-in-Some : goal.returns-in-Some
+returns-in-Some c = rw (← c.self.view_is, c.in-Some.is) (words_nonempty c.in-Some.field-0.now)
