@@ -1,11 +1,11 @@
 -- The state of a page that the code has looked at.
-use Rattle.std.proofs.Common.{◌≡◌, ℕ, ◌+◌, ◌<◌, ◌≤◌, List, [], ◌∷◌, zero, suc, length, map, get_or, sym, ap, ◌∙◌, subst, arith}
+use Rattle.std.proofs.Common.{◌≡◌, ℕ, ◌<◌, ◌≤◌, Bool, false, List, [], ◌∷◌, zero, suc, length, map, get_or, sym, ap, ◌∙◌, subst, arith}
 use Rattle.std.proofs.lemmas.List.{get_or_past}
 use Rattle.std.proofs.lemmas.Bool.{cases_lt}
 use Rattle.std.proofs.Common.{⊎_elim}
-use Rattle.words.specs.declared.class.Kind.{Kind}
+use Rattle.blocks.specs.Cells.{Cells}
 use Rattle.block_map.specs.declared.page.Page.{Page}
-use Rattle.block_map.specs.States.{PageState, free, cut, head, body, state_at, LaidAt, IsLaid}
+use Rattle.block_map.specs.States.{PageState, free, cut, head, body, state_at, LaidAt, IsLaid, HasCell}
 use Rattle.block_map.specs.Shown.{shown}
 
 pub state_read : (items : List Page) (p : ℕ) (x : Page) → p < length items → x ≡ get_or items p x → state_at (map shown items) p ≡ shown x
@@ -19,3 +19,7 @@ within s p used = ⊎_elim (λ lt. lt) (λ past. absurd (used (get_or_past s p f
 
 pub laid_at : (s : List PageState) (p : ℕ) (st : PageState) → IsLaid s → state_at s p ≡ st → p < length s → LaidAt s p st
 laid_at s p st laid is lt = subst (LaidAt s p) is (laid.each p lt)
+
+-- a cell of a block that has been looked at
+pub has_cell : (st : PageState) (b : Cells) (i : ℕ) (taken : Bool) → st ≡ cut b → i < length b.taken → get_or b.taken i false ≡ taken → HasCell st i taken
+has_cell st b i taken is inside e = subst (λ x. HasCell x i taken) (sym is) (inside, e)

@@ -62,6 +62,14 @@ impl Block {
         self.kind
     }
 
+    /// The number of its cells.
+    #[inline]
+    pub fn cells(&self) -> u16
+        ensures { result ≡ length self.now.taken }
+    {
+        self.taken.len()
+    }
+
     /// The cell that has the byte at an address of the page, and `None` exactly for the words left over at the page's
     /// end.
     #[inline]
