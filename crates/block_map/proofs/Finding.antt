@@ -72,11 +72,13 @@ pub ruleset finding = (outside, on_free, on_cut, on_head, on_body, large_found, 
 pub in_cell : (b : Cells) (w i : ℕ) → IsInCell b.class i (w % 4096) → cell_at b w ≡ i
 in_cell b w i cell = quotient_is (8 * b.class) (w % 4096) i cell.from cell.below
 
-pub block_taken : (p w i : ℕ) (b : Cells) (f : Found) → IsInCell b.class i (w % 4096) → get_or b.taken i false ≡ true → f ≡ cell_object p b i → Some f ≡ found_in_block p b w
-block_taken p w i b f cell taken e =
-    let c = in_cell b w i cell in
+pub block_here : (p w i : ℕ) (b : Cells) → cell_at b w ≡ i → get_or b.taken i false ≡ true → Some (cell_object p b i) ≡ found_in_block p b w
+block_here p w i b c taken =
     let t : get_or b.taken (cell_at b w) false ≡ true = ap (λ j. get_or b.taken j false) c ∙ taken in
-    ap Some e ∙ ap (λ j. Some (cell_object p b j)) (sym c) ∙ sym (cond-true (get_or b.taken (cell_at b w) false) (Some (cell_object p b (cell_at b w))) None t)
+    ap (λ j. Some (cell_object p b j)) (sym c) ∙ sym (cond-true (get_or b.taken (cell_at b w) false) (Some (cell_object p b (cell_at b w))) None t)
+
+pub block_taken : (p w i : ℕ) (b : Cells) (f : Found) → IsInCell b.class i (w % 4096) → get_or b.taken i false ≡ true → f ≡ cell_object p b i → Some f ≡ found_in_block p b w
+block_taken p w i b f cell taken e = ap Some e ∙ block_here p w i b (in_cell b w i cell) taken
 
 pub block_none : (p w : ℕ) (b : Cells) → get_or b.taken (cell_at b w) false ≡ false → None ≡ found_in_block p b w
 block_none p w b t = sym (cond-false (get_or b.taken (cell_at b w) false) (Some (cell_object p b (cell_at b w))) None t)
@@ -91,17 +93,20 @@ cells_left c i h =
     let e : (i + 1) * (8 * c) ≡ i * (8 * c) + 8 * c = omega arith in
     omega (arith, m, e)
 
-pub block_left : (p w : ℕ) (b : Cells) → IsCells b → IsLeftOver b.class (w % 4096) → None ≡ found_in_block p b w
-block_left p w b cells left =
-    block_none p w b (get_or_past b.taken (cell_at b w) false
-    (let bounds = class_bounds b.class cells.class in
+-- the words left over lie past the cells
+pub past_cells : (b : Cells) (w : ℕ) → IsCells b → IsLeftOver b.class (w % 4096) → length b.taken ≤ cell_at b w
+past_cells b w cells left =
+    let bounds = class_bounds b.class cells.class in
     let pos : 0 < 8 * b.class = omega (arith, bounds.0) in
     let q = divided (w % 4096) (8 * b.class) pos in
     let size = cells.size in
     ⊎_elim
     (λ (lt : cell_at b w < 512 / b.class). absurd (let z = cells_left b.class (cell_at b w) lt in omega (arith, z, q.1, left)))
     (λ ge. omega arith)
-    (cases_lt (cell_at b w) (512 / b.class))))
+    (cases_lt (cell_at b w) (512 / b.class))
+
+pub block_left : (p w : ℕ) (b : Cells) → IsCells b → IsLeftOver b.class (w % 4096) → None ≡ found_in_block p b w
+block_left p w b cells left = block_none p w b (get_or_past b.taken (cell_at b w) false (past_cells b w cells left))
 
 pub cell_fits : (c i : ℕ) → i < 512 / c → i * (8 * c) + 8 * c ≤ 4096
 cell_fits c i h = cells_end c i h

@@ -5,4 +5,5 @@ pub mod Laid
 pub mod Lawful
 pub mod Seen
 pub mod Spans
+pub mod Walking
 pub mod Words

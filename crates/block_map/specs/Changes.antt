@@ -34,15 +34,3 @@ IsUncut page free old new = IsSameMap old new
 IsUncut page (cut b) old new = HasNoObject b.taken → IsSameMap old new
 IsUncut page (head n kind) old new = IsRemoved old new (large_object page n kind)
 IsUncut page (body first) old new = Unit {0}
-
--- the object is the first one that a word from `low` on and below `high` reads
-pub record IsNextObject (found : ℕ → Option Found) (low high : ℕ) (f : Found) : Type 0 where
-  pub at : ℕ
-  pub after : low ≤ at
-  pub below : at < high
-  pub reads : found at ≡ Some f
-  pub least : (w : ℕ) → low ≤ w → w < at → found w ≡ None
-
--- no word from `low` on and below `high` reads an object
-pub record IsNoObject (found : ℕ → Option Found) (low high : ℕ) : Type 0 where
-  pub none : (w : ℕ) → low ≤ w → w < high → found w ≡ None

@@ -4,3 +4,4 @@ pub mod Objects
 pub mod Places
 pub mod Shown
 pub mod States
+pub mod Walks

@@ -4,8 +4,10 @@
 
 mod fills;
 mod found;
+mod look;
 mod map;
 mod page;
+mod walk;
 
 pub use found::{Found, granule_of};
 pub use map::BlockMap;

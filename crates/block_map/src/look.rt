@@ -1,0 +1,133 @@
+//! The object that a word reads. No search: the word's page, one look at what stands there, and in a block one division.
+ghost use Rattle.std.specs.Prelude.{◌≡◌, ℕ, ◌<◌, ◌≤◌, length, MatchOption, Option, None, Some};
+ghost use Rattle.words.specs.declared.class.Kind.{Kind};
+ghost use Rattle.words.specs.declared.limits.TheConstants.{MAX_PAGES};
+ghost use Rattle.block_map.specs.Places.{IsOnPage, IsOutside};
+ghost use Rattle.block_map.specs.States.{head, state_at};
+ghost use Rattle.block_map.specs.Objects.{IsAnswer, cell_object, large_object};
+ghost use Rattle.block_map.specs.FoundIn.{found_in, found_in_block, found_large, IsLawful};
+
+use crate::found::Found;
+use crate::map::BlockMap;
+use crate::page::Page;
+use blocks::{Block, LargeHead};
+use words::PageNo;
+use words::limits::{FIRST_ADDRESS, PAGE_BYTES, PAGE_WORDS, WORD_BYTES};
+
+impl BlockMap {
+    ghost use Rattle.block_map.specs.States.{IsLaid};
+
+    /// The allocated object that a word reads, and `None` exactly where it reads none.
+    #[inline]
+    pub fn find(&self, w: u64) -> Option<Found>
+        ensures found { result ≡ found_in self.now w }
+        ensures answer { IsAnswer self.now w result }
+        ensures lawful { IsLawful self.now }
+    {
+        let found = self.look_up(w);
+        found
+    }
+
+    #[inline]
+    #[tactic(auto, using(crate::proofs::Finding::finding))]
+    fn look_up(&self, w: u64) -> Option<Found>
+        ensures found { result ≡ found_in self.now w }
+        ensures laid { IsLaid self.now }
+    {
+        let Some(page) = self.page_of(w) else {
+            return None;
+        };
+        match self.page(page) {
+            Page::Free => None,
+            Page::Cut(block) => find_in_block(page, block, w),
+            Page::Head(large) => Some(large_at(page, *large)),
+            Page::Body(first) => Some(self.large(*first)),
+        }
+    }
+
+    // The page that has an address, and `None` exactly for an address outside of the heap.
+    #[inline]
+    #[tactic(auto, using(crate::proofs::Words::page_at))]
+    fn page_of(&self, address: u64) -> Option<PageNo>
+        ensures page { MatchOption result (IsOutside (length self.now) address) (λ page. IsOnPage page address × (page < length self.now)) }
+        ensures laid { IsLaid self.now }
+    {
+        let pages = u64::from(self.len());
+        if address < FIRST_ADDRESS {
+            return None;
+        }
+        let page = (address - FIRST_ADDRESS) / PAGE_BYTES;
+        if page < pages {
+            Some(page as PageNo)
+        } else {
+            None
+        }
+    }
+
+    // The large object that begins on a page.
+    #[inline]
+    #[tactic(auto, using(crate::proofs::Finding::finding))]
+    pub(crate) fn large(&self, page: PageNo) -> Found
+        requires inside { page < length self.now }
+        requires head { (n : ℕ) × (kind : Kind) × (state_at self.now page ≡ head n kind) }
+        ensures { found_large page (state_at self.now page) ≡ Some result }
+    {
+        match self.page(page) {
+            Page::Head(large) => large_at(page, *large),
+            _ => unreachable!(),
+        }
+    }
+}
+
+// The object of a block that a word of its page reads.
+#[inline]
+#[tactic(auto, using(crate::proofs::Finding::on_page))]
+fn find_in_block(page: PageNo, block: &Block, w: u64) -> Option<Found>
+    requires { page < MAX_PAGES }
+    ensures { result ≡ found_in_block page block.now w }
+{
+    let Some(cell) = block.cell_of(w) else {
+        return None;
+    };
+    if block.is_taken(cell) {
+        Some(cell_at(page, block, cell))
+    } else {
+        None
+    }
+}
+
+// The object in a cell of a block.
+#[inline]
+#[tactic(auto, using(crate::proofs::Finding::on_page))]
+pub(crate) fn cell_at(page: PageNo, block: &Block, cell: u16) -> Found
+    requires page { page < MAX_PAGES }
+    requires cell { cell < length block.now.taken }
+    ensures { result ≡ cell_object page block.now cell }
+{
+    let words = block.class().words();
+    Found {
+        base: FIRST_ADDRESS
+            + PAGE_BYTES * u64::from(page)
+            + u64::from(cell) * (WORD_BYTES * u64::from(words)),
+        len: u32::from(words),
+        kind: block.kind(),
+        page,
+        cell,
+    }
+}
+
+// The large object that begins on a page.
+#[inline]
+pub(crate) fn large_at(page: PageNo, large: LargeHead) -> Found
+    requires page { page < MAX_PAGES }
+    requires few { large.pages ≤ MAX_PAGES }
+    ensures { result ≡ large_object page large.pages large.kind }
+{
+    Found {
+        base: FIRST_ADDRESS + PAGE_BYTES * u64::from(page),
+        len: PAGE_WORDS as u32 * large.pages,
+        kind: large.kind,
+        page,
+        cell: 0,
+    }
+}
