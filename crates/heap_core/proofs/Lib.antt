@@ -6,3 +6,6 @@ pub mod Lookups
 pub mod Rooms
 pub mod Allocations
 pub mod Opening
+pub mod Frees
+pub mod Calls
+pub mod Placing

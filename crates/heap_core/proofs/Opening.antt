@@ -5,7 +5,7 @@ use Rattle.block_map.specs.States.{PageState, AreAllFree}
 use Rattle.block_map.specs.Objects.{IsObjectOn}
 use Rattle.block_map.specs.FoundIn.{found_in}
 use Rattle.block_map.specs.declared.found.Found.{Found}
-use Rattle.block_map.proofs.Spans.{laid_free}
+use Rattle.block_map.proofs.Laid.{laid_free}
 use Rattle.block_map.proofs.Lawful.{map_laws}
 use Rattle.heap_core.specs.Contents.{Store}
 use Rattle.heap_core.specs.Standing.{Stores}

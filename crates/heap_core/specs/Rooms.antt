@@ -10,10 +10,10 @@ use Rattle.heap_spec.specs.Steps.{with_object}
 use Rattle.blocks.specs.Cells.{Cells}
 use Rattle.pages.specs.Memory.{IsZeroed, place}
 use Rattle.pages.specs.Runs.{IsFreeRun, IsFilled}
-use Rattle.block_map.specs.Changes.{IsAdded, IsSameMap}
+use Rattle.block_map.specs.Changes.{IsAdded, IsRemoved, IsSameMap}
 use Rattle.block_map.specs.FoundIn.{found_in}
 use Rattle.block_map.specs.Objects.{object_on}
-use Rattle.block_map.specs.States.{PageState, cut, state_at, all_free, with_cell}
+use Rattle.block_map.specs.States.{PageState, free, cut, state_at, all_free, with_cell, IsSpanSet}
 use Rattle.heap_core.specs.Contents.{Store}
 use Rattle.heap_core.specs.Standing.{Stores}
 
@@ -50,7 +50,7 @@ Frees old base new = (s : Heap) → Stores old s → Stores new (with_object s b
 
 -- A free cell is allocated, and its words are 0. Nothing else has changed.
 pub record TakesCell (words words' : List ℕ) (states states' : List PageState) (page cell base : ℕ) : Type 0 where
-  pub states : states' ≡ slice_set states page (with_cell (state_at states page) cell true)
+  pub became : states' ≡ slice_set states page (with_cell (state_at states page) cell true)
   pub added : IsAdded (found_in states) (found_in states') (object_on page (state_at states page) cell)
   pub at : base ≡ (object_on page (state_at states page) cell).base
   pub zeroed : IsZeroed words words' (place base) (object_on page (state_at states page) cell).len
@@ -59,10 +59,25 @@ pub record TakesCell (words words' : List ℕ) (states states' : List PageState)
 pub record CutsPage (free free' : List Bool) (states states' : List PageState) (class : ℕ) (kind : Kind) (page : ℕ) : Type 0 where
   pub run : IsFreeRun free page 1
   pub taken : IsFilled free free' page 1 false
-  pub states : states' ≡ slice_set states page (all_free class kind)
+  pub became : states' ≡ slice_set states page (all_free class kind)
   pub same : IsSameMap (found_in states) (found_in states')
 
 -- the pages of a large request: some, and no more than the largest request has
 abbrev pub IsSized : Placement → Type 0
 IsSized (Small class) = Unit {0}
 IsSized (Large pages) = (0 < pages) × (PAGE_WORDS * pages ≤ MAX_REQUEST_WORDS)
+
+-- the map with this cell free
+abbrev pub without_cell : List PageState → ℕ → ℕ → List PageState
+without_cell states page cell = slice_set states page (with_cell (state_at states page) cell false)
+
+-- A cell becomes free: its page keeps another object, or it has none left and becomes free too.
+pub data EmptiesCell (row row' : List Bool) (states states' : List PageState) (page cell : ℕ) : Type 0 where
+  keeps : (b : Cells) (i : ℕ) → state_at states' page ≡ cut b → slice_index_or b.taken i false ≡ true → row' ≡ row → states' ≡ without_cell states page cell
+      → EmptiesCell row row' states states' page cell
+  gives : IsFilled row row' page 1 true → IsSpanSet (without_cell states page cell) states' page 1 (λ _. free) → EmptiesCell row row' states states' page cell
+
+-- A cell was freed, and its object is gone.
+pub record FreesCell (row row' : List Bool) (states states' : List PageState) (page cell : ℕ) : Type 0 where
+  pub pages : EmptiesCell row row' states states' page cell
+  pub removed : IsRemoved (found_in states) (found_in states') (object_on page (state_at states page) cell)

@@ -1,8 +1,9 @@
 //! Where a new object goes: into a cell of a page that is cut for its class and kind, onto a page that is cut for it now,
 //! or onto pages of its own.
-ghost use Rattle.std.specs.Prelude.{◌≡◌, ◌*◌, ◌<◌, IfNone, IfSome, length};
+ghost use Rattle.std.specs.Prelude.{◌≡◌, ℕ, ◌*◌, ◌<◌, IfNone, IfSome, length};
 ghost use Rattle.words.specs.declared.limits.TheConstants.{PAGE_WORDS};
 ghost use Rattle.words.specs.Classes.{IsSizeClass};
+ghost use Rattle.words.specs.declared.class.Kind.{Kind};
 ghost use Rattle.heap_spec.specs.Layout.{page_start};
 ghost use Rattle.pages.specs.Runs.{HasNoFreeRun};
 ghost use Rattle.block_map.specs.FoundIn.{IsLawful};
@@ -13,7 +14,7 @@ ghost use Rattle.heap_core.specs.Rooms.{IsSized, IsFreeCell, HasNoFreeCell, Take
 use super::Objects;
 use block_map::BlockMap;
 use pages::{Memory, PagePool};
-use words::limits::{FIRST_ADDRESS, MAX_PAGES, PAGE_BYTES, PAGE_WORDS, PageNo, WORD_BYTES};
+use words::limits::{FIRST_ADDRESS, PAGE_BYTES, PAGE_WORDS, PageNo, WORD_BYTES};
 use words::{Class, Kind, Placement};
 
 // A cell of a page.
@@ -39,7 +40,10 @@ fn cell_on(map: &BlockMap, page: PageNo, class: Class, kind: Kind) -> Option<u16
     let Some(block) = map.block(page) else {
         return None;
     };
-    if block.class().words() != class.words() || block.kind() != kind {
+    if block.class().words() != class.words() {
+        return None;
+    }
+    if block.kind() != kind {
         return None;
     }
     block.free_cell()
@@ -101,5 +105,35 @@ impl Objects {
             return None;
         };
         Some(take_cell(&mut self.memory, &mut self.map, place, words))
+    }
+
+    // A place for a large object.
+    fn allocate_large(&mut self, pages: u32, kind: Kind) -> Option<u64>
+        requires { IsSized (Placement.Large pages) }
+        ensures some { IfSome result (λ base. Allocates self.old (Placement.Large pages) kind base self.new) }
+        ensures none { IfNone result (HasNoRoom self.old (Placement.Large pages) kind × (self.new ≡ self.old)) }
+    {
+        if pages > self.map.len() {
+            return None;
+        }
+        let Some(first) = self.pool.take_run(pages) else {
+            return None;
+        };
+        self.map.cut_large(first, pages, kind);
+        let base = start_of(first);
+        self.memory.zero(base, PAGE_WORDS as u32 * pages);
+        Some(base)
+    }
+
+    /// Takes a place for a new object, writes 0 into its words, and answers its base. `None` exactly if no address has room.
+    pub fn allocate(&mut self, placement: Placement, kind: Kind) -> Option<u64>
+        requires { IsSized placement }
+        ensures some { IfSome result (λ base. Allocates self.old placement kind base self.new) }
+        ensures none { IfNone result (HasNoRoom self.old placement kind × (self.new ≡ self.old)) }
+    {
+        match placement {
+            Placement::Small(class) => self.allocate_small(class, kind),
+            Placement::Large(pages) => self.allocate_large(pages, kind),
+        }
     }
 }
