@@ -3,18 +3,20 @@
 use Rattle.std.proofs.Common.{◌≡◌, ℕ, ◌+◌, ◌-◌, ◌*◌, ◌/◌, ◌<◌, ◌≤◌, ◌⊎◌, Bool, true, false, List, length, get_or, set, Option, Some, None, refl, sym, ap, ◌∙◌, subst, arith, inl, inr, ⊎_elim, length-set, get_or-set_same, get_or-set_other}
 use Rattle.std.specs.Prelude.{◌≢◌}
 use Rattle.std.proofs.lemmas.Bool.{cases_lt, cases_eq}
+use Rattle.std.proofs.lemmas.List.{get_or_past}
+use Rattle.words.specs.Bits.{IsEmptyFrom, IsFirstFrom}
 use Rattle.words.specs.declared.class.Kind.{Kind}
 use Rattle.heap_spec.specs.Heap.{Heap, with_at}
 use Rattle.pages.specs.Runs.{IsFilled}
 use Rattle.blocks.specs.Cells.{Cells}
-use Rattle.block_map.specs.States.{PageState, free, cut, head, body, state_at, IsSpanSet, HasCell, with_cell}
+use Rattle.block_map.specs.States.{PageState, free, cut, head, body, state_at, span_of, IsCut, IsSpanSet, HasCell, with_cell}
 use Rattle.block_map.specs.Objects.{cell_object, large_object, object_on, IsObjectOn, IsObject}
-use Rattle.block_map.specs.Changes.{IsRemoved, IsSameMap}
+use Rattle.block_map.specs.Changes.{IsRemoved, IsSameMap, IsUncut, HasNoObject}
 use Rattle.block_map.specs.FoundIn.{found_in, IsLawful}
 use Rattle.block_map.specs.declared.found.Found.{Found}
 use Rattle.heap_core.specs.Contents.{Store, IsSound, Agree}
 use Rattle.heap_core.specs.Standing.{Stores, Shows}
-use Rattle.heap_core.specs.Rooms.{Frees}
+use Rattle.heap_core.specs.Rooms.{Frees, FreesCell, EmptiesCell, keeps, gives, without_cell}
 use Rattle.heap_core.proofs.Changes.{shows_removed}
 use Rattle.heap_core.proofs.Allocations.{shows_same}
 
@@ -122,3 +124,83 @@ removed_same found mid after f gone same = record {
   after = gone.after;
   others = λ w n. gone.others w n ∙ sym (same.same w);
 }
+
+-- a cell is freed, and another of its page is allocated still
+pub frees_kept : (row : List Bool) (states states' : List PageState) (page cell : ℕ) (b : Cells) → states' ≡ without_cell states page cell → state_at states' page ≡ cut b → (i : ℕ) × IsFirstFrom b.taken 0 i
+    → IsRemoved (found_in states) (found_in states') (object_on page (state_at states page) cell) → FreesCell row row states states' page cell
+frees_kept row states states' page cell b became is first removed = record { pages = keeps b first.0 is first.1.member refl became; removed = removed }
+
+-- the last cell of a page is freed
+pub frees_last : (row row' : List Bool) (states mid states' : List PageState) (page cell : ℕ) (b : Cells) → mid ≡ without_cell states page cell → state_at mid page ≡ cut b → IsEmptyFrom b.taken 0
+    → IsRemoved (found_in states) (found_in mid) (object_on page (state_at states page) cell) → IsSpanSet mid states' page (span_of (state_at mid page)) (λ _. free)
+    → IsUncut page (state_at mid page) (found_in mid) (found_in states') → IsFilled row row' page 1 true → FreesCell row row' states states' page cell
+frees_last row row' states mid states' page cell b became is empty removed span uncut given = record {
+  pages = gives given (subst (λ m. IsSpanSet m states' page 1 (λ _. free)) became (subst (λ n. IsSpanSet mid states' page n (λ _. free)) (ap span_of is) span));
+  removed = removed_same (found_in states) (found_in mid) (found_in states') (object_on page (state_at states page) cell) removed (same none);
+}
+  where
+    none : HasNoObject b.taken
+    none k = ⊎_elim (λ lt. empty k (omega arith) lt) (λ past. get_or_past b.taken k false past) (cases_lt k (length b.taken))
+    same : HasNoObject b.taken → IsSameMap (found_in mid) (found_in states')
+    same = subst (λ st. IsUncut page st (found_in mid) (found_in states')) is uncut
+
+-- a store whose cell was freed
+module _ (t : Store) (sound : IsSound t) (page cell : ℕ) (b : Cells) (is : state_at t.states page ≡ cut b) (inside : page < length t.states) (row' : List Bool) (states' : List PageState) where
+  pub sound_freed : EmptiesCell t.free row' t.states states' page cell → IsSound (record t { free = row'; states = states' })
+  sound_freed (keeps c i at bit row became) =
+      let same : c ≡ emptied t sound page cell b is inside states' became = cells_same c _ (sym at ∙ state_after t sound page cell b is inside states' became) in
+      subst (λ r. IsSound (record t { free = r; states = states' })) (sym row)
+        (sound_kept t sound page cell b is inside states' became i (ap (λ (x : Cells). get_or x.taken i false) (sym same) ∙ bit))
+    where
+      cells_same : (x y : Cells) → cut x ≡ cut y → x ≡ y
+      cells_same x y e = cc
+  sound_freed (gives given span) = sound_emptied t sound page cell b is inside (without_cell t.states page cell) refl row' states' given span
+
+  pub size_freed : EmptiesCell t.free row' t.states states' page cell → length states' ≡ length t.states
+  size_freed (keeps c i at bit row became) = ap length became ∙ length-set t.states page _
+  size_freed (gives given span) = span.size ∙ length-set t.states page _
+
+  pub frees_cell : (f : Found) → IsLawful t.states → found_in t.states f.base ≡ Some f → f ≡ cell_object page b cell → FreesCell t.free row' t.states states' page cell → Frees t f.base (record t { free = row'; states = states' })
+  frees_cell f lawful found same freed =
+      let object : object_on page (state_at t.states page) cell ≡ f = ap (λ st. object_on page st cell) is ∙ sym same in
+      frees t (record t { free = row'; states = states' }) f lawful found refl (size_freed freed.pages) (subst (IsRemoved (found_in t.states) (found_in states')) object freed.removed)
+
+-- what is on the page of an object that is found
+pub on_page : (t : Store) (f : Found) → IsLawful t.states → found_in t.states f.base ≡ Some f → IsObject t.states f
+on_page t f lawful is = lawful.object f.base f is
+
+pub in_block : (t : Store) (f : Found) (b : Cells) → IsObject t.states f → state_at t.states f.page ≡ cut b → (f ≡ cell_object f.page b f.cell) × HasCell (state_at t.states f.page) f.cell true
+in_block t f b o is =
+    let on : IsObjectOn (cut b) f = subst (λ st. IsObjectOn st f) is o.on in
+    (on.0, subst (λ st. HasCell st f.cell true) (sym is) (on.1, on.2))
+
+-- and if it isn't a block, the object is a large one
+pub in_large : (t : Store) (f : Found) → IsObject t.states f → (IsCut (state_at t.states f.page) → ⊥) → (n : ℕ) × (k : Kind) × (state_at t.states f.page ≡ head n k) × (f ≡ large_object f.page n k)
+in_large t f o uncut = by (state_at t.states f.page) refl o.on uncut
+  where
+    by : (st : PageState) → state_at t.states f.page ≡ st → IsObjectOn st f → (IsCut st → ⊥) → (n : ℕ) × (k : Kind) × (state_at t.states f.page ≡ head n k) × (f ≡ large_object f.page n k)
+    by free is on uncut = absurd on
+    by (cut b) is on uncut = absurd (uncut tt)
+    by (head n k) is on uncut = (n, k, is, on)
+    by (body q) is on uncut = absurd on
+
+-- where the large object lies
+pub large_here : (t : Store) (f : Found) → IsLawful t.states → found_in t.states f.base ≡ Some f → (IsCut (state_at t.states f.page) → ⊥)
+    → (k : Kind) × (state_at t.states f.page ≡ head (f.len / 512) k) × (0 < f.len / 512) × (f.page + f.len / 512 ≤ length t.states) × (f ≡ large_object f.page (f.len / 512) k)
+large_here t f lawful is uncut = by (in_large t f (on_page t f lawful is) uncut)
+  where
+    by : (n : ℕ) × (k : Kind) × (state_at t.states f.page ≡ head n k) × (f ≡ large_object f.page n k)
+        → (k : Kind) × (state_at t.states f.page ≡ head (f.len / 512) k) × (0 < f.len / 512) × (f.page + f.len / 512 ≤ length t.states) × (f ≡ large_object f.page (f.len / 512) k)
+    by l =
+        let base : f.base ≡ 268435456 + 4096 * f.page = ap (λ (x : Found). x.base) l.3 in
+        let len : f.len ≡ 512 * l.0 = ap (λ (x : Found). x.len) l.3 in
+        let n : l.0 ≡ f.len / 512 = omega arith in
+        let some = (lawful.map.placed f.base f is).some in
+        let ends = (lawful.map.placed f.base f is).below in
+        (l.1, l.2 ∙ ap (λ m. head m l.1) n, omega arith, omega arith, l.3 ∙ ap (λ m. large_object f.page m l.1) n)
+
+-- a large object goes
+pub frees_large : (t : Store) (f : Found) (row' : List Bool) (states' : List PageState) (k : Kind) (n : ℕ) → IsLawful t.states → found_in t.states f.base ≡ Some f → f ≡ large_object f.page n k → IsSpanSet t.states states' f.page n (λ _. free)
+    → IsRemoved (found_in t.states) (found_in states') (large_object f.page n k) → Frees t f.base (record t { free = row'; states = states' })
+frees_large t f row' states' k n lawful is same span removed =
+    frees t (record t { free = row'; states = states' }) f lawful is refl span.size (subst (IsRemoved (found_in t.states) (found_in states')) (sym same) removed)

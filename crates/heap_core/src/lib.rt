@@ -7,3 +7,6 @@ mod objects;
 
 pub use heap::Core;
 pub use heap_spec::{Event, Reply};
+
+#[cfg(test)]
+mod tests;

@@ -8,6 +8,7 @@ ghost use Rattle.pages.specs.Opening.{IsOpened};
 ghost use Rattle.block_map.specs.FoundIn.{found_in, IsLawful};
 ghost use Rattle.heap_core.specs.Standing.{Stores};
 
+mod frees;
 mod rooms;
 
 use block_map::{BlockMap, Found};

@@ -5,7 +5,7 @@ ghost use Rattle.heap_core.specs.Standing.{StandsFor};
 use super::Core;
 use heap_spec::{Call, Event};
 use words::limits::WORD_BYTES;
-use words::{Reg, Refusal, Slot};
+use words::{Kind, Reg, Refusal, Slot, class_of};
 
 impl Core {
     /// Loads the word at the address of `at` and an offset in words into `into`.
@@ -88,5 +88,47 @@ impl Core {
             return Err(Refusal::NoObject);
         };
         Ok(u64::from(found.len))
+    }
+    /// Allocates an object of at least so many words, all 0, and puts its base into `into`.
+    ///
+    /// # Errors
+    /// [`Refusal::NoSlot`] if the slot has no mutator, else [`Refusal::BadSize`] for a request of no words or of more than
+    /// the limit, and else [`Refusal::Full`] exactly if no address has room.
+    pub fn alloc(&mut self, slot: Slot, into: Reg, words: u64, kind: Kind) -> Result<(), Refusal>
+        ensures { IsStep (StandsFor self.old) (Event.Mutator slot (Call.Alloc into words kind)) (done_reply result) (StandsFor self.new) }
+    {
+        let Some(_) = self.roots.mutator(slot) else {
+            return Err(Refusal::NoSlot);
+        };
+        let Some(placement) = class_of(words) else {
+            return Err(Refusal::BadSize);
+        };
+        let Some(base) = self.objects.allocate(placement, kind) else {
+            return Err(Refusal::Full);
+        };
+        self.roots.set_word(slot, into, base);
+        Ok(())
+    }
+
+    /// Frees the object whose base a register has.
+    ///
+    /// # Errors
+    /// [`Refusal::NoSlot`] if the slot has no mutator, else [`Refusal::NoObject`] if the word reads no object, and else
+    /// [`Refusal::NotBase`] if it isn't the object's base.
+    pub fn free(&mut self, slot: Slot, reg: Reg) -> Result<(), Refusal>
+        ensures { IsStep (StandsFor self.old) (Event.Mutator slot (Call.Free reg)) (done_reply result) (StandsFor self.new) }
+    {
+        let Some(mutator) = self.roots.mutator(slot) else {
+            return Err(Refusal::NoSlot);
+        };
+        let word = mutator.word(reg);
+        let Some(found) = self.objects.find(word) else {
+            return Err(Refusal::NoObject);
+        };
+        if found.base != word {
+            return Err(Refusal::NotBase);
+        }
+        self.objects.release(found);
+        Ok(())
     }
 }
