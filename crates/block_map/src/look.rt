@@ -24,8 +24,7 @@ impl BlockMap {
         ensures answer { IsAnswer self.now w result }
         ensures lawful { IsLawful self.now }
     {
-        let found = self.look_up(w);
-        found
+        self.look_up(w)
     }
 
     #[inline]

@@ -1,23 +1,20 @@
 //! The map of a heap, seen as the list of what stands on its pages, and through `found_in` as a function from every
 //! word to the object that it reads.
-ghost use Rattle.std.specs.Prelude.{◌≡◌, ℕ, ◌+◌, ◌*◌, ◌/◌, ◌^◌, ◌<◌, ◌≤◌, Bool, true, false, List, length, map, replicate, slice_index_or, slice_set, vec_len, MatchOption, IfOk, Option, None, Some};
-ghost use Rattle.words.specs.declared.class.Kind.{Kind};
-ghost use Rattle.words.specs.declared.limits.TheConstants.{PAGE_WORDS, MAX_PAGES};
+ghost use Rattle.std.specs.Prelude.{◌≡◌, ℕ, ◌+◌, ◌<◌, ◌≤◌, true, false, length, map, slice_set};
+ghost use Rattle.words.specs.declared.limits.TheConstants.{MAX_PAGES};
 ghost use Rattle.pages.specs.Opening.{IsOpened};
-ghost use Rattle.block_map.specs.Places.{page_start, IsOnPage, IsOutside};
-ghost use Rattle.block_map.specs.States.{free, cut, head, state_at, all_free, large_states, with_cell, span_of, HasCell, AreAllFree, IsSpanSet};
-ghost use Rattle.block_map.specs.Objects.{IsAnswer, object_on, cell_object, large_object};
-ghost use Rattle.block_map.specs.FoundIn.{found_in, found_in_block, found_large, IsLawful};
+ghost use Rattle.block_map.specs.Places.{page_start};
+ghost use Rattle.block_map.specs.States.{free, state_at, all_free, large_states, with_cell, span_of, HasCell, AreAllFree, IsSpanSet};
+ghost use Rattle.block_map.specs.Objects.{object_on, large_object};
+ghost use Rattle.block_map.specs.FoundIn.{found_in, IsLawful};
 ghost use Rattle.block_map.specs.Changes.{IsSameMap, IsAdded, IsRemoved, IsCleared, IsUncut};
 
 use crate::fills::{fill_free, fill_large, free_pages, put_page, set_cell};
-use crate::found::Found;
 use crate::page::Page;
-use blocks::{Block, LargeHead};
+use blocks::Block;
 use pages::is_page_count;
 use std::alloc::Global;
 use std::marker::Model;
-use words::limits::{FIRST_ADDRESS, PAGE_BYTES, PAGE_WORDS, WORD_BYTES};
 use words::{Class, Kind, OpenError, PageNo};
 
 /// What stands on the pages of a heap.

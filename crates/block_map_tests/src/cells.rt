@@ -1,28 +1,36 @@
 //! The cells of a page, against a plain loop over them.
 use blocks::Block;
+use std::process::Abort;
 use std::test::Fail;
-use words::{CLASSES, Kind, Placement, class_of};
+use words::{CLASSES, Class, Kind, Placement, class_of};
 
 // The cell of so many words that has the byte.
 fn cell_with(words: u16, offset: u64) -> Option<u16> {
-    let mut first = 0;
-    for cell in 0..256 {
+    for cell in 0..256u16 {
+        let first = 8 * u64::from(words) * u64::from(cell);
         let end = first + 8 * u64::from(words);
         if first <= offset && offset < end && end <= 4_096 {
             return Some(cell);
         }
-        first = end;
     }
     None
+}
+
+// The class of a request of so many words.
+fn small_class(rt: &impl Abort, words: u64) -> Class {
+    let Some(placement) = class_of(words) else {
+        panic!(rt; "{words} words are a request");
+    };
+    match placement {
+        Placement::Small(class) => class,
+        Placement::Large(_) => panic!(rt; "{words} words are a class"),
+    }
 }
 
 #[test]
 fn each_byte_has_its_cell(rt: HostRuntime) -> Result<(), Fail> {
     for words in CLASSES {
-        let Some(Placement::Small(class)) = class_of(u64::from(words)) else {
-            panic!(rt; "{words} words are a class");
-        };
-        let block = Block::new(class, Kind::Normal);
+        let block = Block::new(small_class(&rt, u64::from(words)), Kind::Normal);
         for offset in 0..4_096 {
             assert_eq!(rt;
                 block.cell_of(268_435_456 + offset),
@@ -36,10 +44,7 @@ fn each_byte_has_its_cell(rt: HostRuntime) -> Result<(), Fail> {
 
 #[test]
 fn fills_from_below(rt: HostRuntime) -> Result<(), Fail> {
-    let Some(Placement::Small(class)) = class_of(96) else {
-        panic!(rt; "96 words are a class");
-    };
-    let mut block = Block::new(class, Kind::PointerFree);
+    let mut block = Block::new(small_class(&rt, 96), Kind::PointerFree);
     assert!(rt;
         block.is_empty() && block.kind() == Kind::PointerFree && block.class().words() == 96
     );

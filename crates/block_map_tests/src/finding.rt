@@ -215,7 +215,7 @@ fn forgets_what_is_given_back(rt: HostRuntime) -> Result<(), Fail> {
     assert_walks(&rt, &map, &[kept]);
     assert!(rt; put(&mut map, 0, 8) && uncut(&mut map, 0) && !uncut(&mut map, 0));
     assert_finds(&rt, &map, &[]);
-    for page in 0..5 {
+    for page in 0..map.len() {
         assert!(rt; map.is_free(page));
     }
     Ok(())

@@ -35,6 +35,7 @@ fn takes_the_lowest_run(rt: HostRuntime) -> Result<(), Fail> {
         let n = (seed >> 33) as usize % 9 + 1;
         let first = (seed >> 41) as usize % (PAGES - 9);
         if step % 3 == 2 {
+            assert!(rt; first + n <= pool.len() as usize);
             pool.give(first as u32, n as u32);
             free[first..first + n].fill(true);
         } else {
@@ -42,10 +43,12 @@ fn takes_the_lowest_run(rt: HostRuntime) -> Result<(), Fail> {
             assert_eq!(rt; answer, lowest_run(&free, n), "step {step}");
             if let Some(first) = answer {
                 let first = first as usize;
+                assert!(rt; first + n <= PAGES);
                 free[first..first + n].fill(false);
             }
         }
     }
+    assert_eq!(rt; pool.len(), PAGES as u32);
     for page in 0..PAGES {
         assert_eq!(rt; pool.is_free(page as u32), free[page]);
     }

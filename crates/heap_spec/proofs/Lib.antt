@@ -4,3 +4,4 @@ pub mod Objects
 pub mod Calls
 pub mod Runs
 pub mod Loads
+pub mod Outcomes

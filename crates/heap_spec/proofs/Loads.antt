@@ -44,7 +44,7 @@ load_acts s h slot m a n r base o al reads (Acts.load_misaligned ne) = absurd (n
 load_acts s h slot m a n r base o al reads (Acts.load_nothing al' none) = absurd (none base _ (still_reads s m a n r base o reads))
 
 -- two mutators at one slot are one
-same_mutator : (s : Heap) (slot : ℕ) (m k : Mutator) → IsAttached s slot m → IsAttached s slot k → m ≡ k
+pub same_mutator : (s : Heap) (slot : ℕ) (m k : Mutator) → IsAttached s slot m → IsAttached s slot k → m ≡ k
 same_mutator s slot m k at at' = same_Some m k (same_Some (Some m) (Some k) (sym at ∙ at'))
 
 load_calls : (s : Heap) → IsSound s → (slot : ℕ) (m : Mutator) → IsAttached s slot m → (a n r base : ℕ) (o : Object) → address m a n % 8 ≡ 0 → ReadsObject s (address m a n) base o

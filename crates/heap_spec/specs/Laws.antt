@@ -2,10 +2,12 @@
 use Rattle.std.specs.Prelude.{◌≡◌, ◌↔◌, ℕ, ◌≤◌, Bool, true, length, Contains, All}
 use Rattle.words.specs.declared.limits.TheConstants.{MAX_PAGES}
 use Rattle.words.specs.declared.class.Kind.TheVariants.{Normal}
-use Rattle.heap_spec.specs.declared.call.Call.TheVariants.{Load, Store}
+use Rattle.words.specs.declared.refusal.Refusal.{Refusal}
+use Rattle.heap_spec.specs.declared.call.Call.{Call}
+use Rattle.heap_spec.specs.declared.call.Call.TheVariants.{Load, Store, Alloc}
 use Rattle.heap_spec.specs.declared.event.Event.TheVariants.{Finish, Collect}
 use Rattle.heap_spec.specs.declared.reply.Reply.{Reply}
-use Rattle.heap_spec.specs.declared.reply.Reply.TheVariants.{Done, Word}
+use Rattle.heap_spec.specs.declared.reply.Reply.TheVariants.{Done, Word, Refused}
 use Rattle.heap_spec.specs.Heap.{Heap, Object, Mutator, HasObject, ReadsObject, IsAttached, root_words}
 use Rattle.heap_spec.specs.Closure.{Closure, Reached, IsInClosure}
 use Rattle.heap_spec.specs.Steps.{Calls, register}
@@ -90,3 +92,17 @@ abbrev pub LoadAnswersStored : Type 0
 LoadAnswersStored = (s : Heap) → IsSound s → (slot : ℕ) (m : Mutator) → IsAttached s slot m
     → (a n r d : ℕ) (s' s'' : Heap) (reply : Reply) → Calls s slot (Store a n r) Done s' → Calls s' slot (Load d a n) reply s''
     → reply ≡ Word (register m r)
+
+-- a refused call changes nothing
+abbrev pub RefusedChangesNothing : Type 0
+RefusedChangesNothing = (s : Heap) (slot : ℕ) (call : Call) (why : Refusal) (s' : Heap) → Calls s slot call (Refused why) s' → s' ≡ s
+
+-- the call is no allocation
+abbrev pub IsNoAlloc : Call → Type 0
+IsNoAlloc (Alloc d n kind) = ⊥
+IsNoAlloc _ = Unit {0}
+
+-- A call has one reply, and one heap after it too, but for the place that an allocation takes.
+abbrev pub CallsHaveOneOutcome : Type 0
+CallsHaveOneOutcome = (s : Heap) → IsSound s → (slot : ℕ) (call : Call) (reply reply' : Reply) (t t' : Heap)
+    → Calls s slot call reply t → Calls s slot call reply' t' → (reply ≡ reply') × (IsNoAlloc call → t ≡ t')

@@ -1,6 +1,6 @@
 //! The laws of the sequential heap. Each is a function that does nothing, and its contract is the law: what the
 //! definitions in `specs/` say must be right if these hold.
-ghost use Rattle.heap_spec.specs.Laws.{ClosureIsLeast, ClosureIsMonotone, ClosureIsIdempotent, RunsAreSound, ObjectsLieInHeap, ReadsAtMostOne, TouchedIsClosed, TouchedHoldsReached, FinishKeepsReached, CollectKeepsReached, LoadAnswersStored};
+ghost use Rattle.heap_spec.specs.Laws.{ClosureIsLeast, ClosureIsMonotone, ClosureIsIdempotent, RunsAreSound, ObjectsLieInHeap, ReadsAtMostOne, TouchedIsClosed, TouchedHoldsReached, FinishKeepsReached, CollectKeepsReached, LoadAnswersStored, RefusedChangesNothing, CallsHaveOneOutcome};
 
 /// The closure of some births is the least set of objects that its rules keep.
 pub fn closure_is_least()
@@ -55,4 +55,14 @@ pub fn collect_keeps_reached()
 /// A load answers what was stored last.
 pub fn load_answers_stored()
     ensures { LoadAnswersStored }
+{}
+
+/// A refused call changes nothing.
+pub fn refused_changes_nothing()
+    ensures { RefusedChangesNothing }
+{}
+
+/// A call has one reply, and one heap after it but for the place of an allocation.
+pub fn calls_have_one_outcome()
+    ensures { CallsHaveOneOutcome }
 {}

@@ -3,7 +3,7 @@ use Rattle.std.proofs.Common.{◌≡◌, ℕ, ◌+◌, ◌<◌, ◌≢◌, ◌==
 use native.Mathlib.Decide.{ℕ_discrete}
 use Rattle.history.specs.declared.event.Event.{Event}
 use Rattle.history.proofs.Snocs.{count_snoc}
-use Rattle.history.specs.Passes.{Owned, Agrees}
+use Rattle.history.specs.Passes.{Owned}
 use Rattle.history.specs.Histories.{event, weight, count, is_first, is_last, own_with, own_from, own, live_from, is_live, Walks, Reaches, Legal}
 use Rattle.history_tests.specs.declared.register.Register.{Register}
 use Rattle.history_tests.specs.declared.register.Call.{Call}

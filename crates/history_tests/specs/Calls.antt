@@ -1,10 +1,10 @@
 -- What a call through the lock tells its caller.
-use Rattle.std.specs.Prelude.{◌≡◌, ℕ, Bool, true, false, List, [], ◌∷◌, ◌++◌}
+use Rattle.std.specs.Prelude.{◌≡◌, ℕ, Bool, true, false, All, length, List, [], ◌∷◌, ◌++◌}
 use mathlib.Core.List.{IsPrefix}
 use Rattle.history.specs.declared.event.Event.{Event}
 use Rattle.history.specs.declared.view.Known.{Known}
-use Rattle.history.specs.Histories.{event, Legal}
-use Rattle.history.specs.Passes.{Owned, Agrees}
+use Rattle.history.specs.Histories.{event}
+use Rattle.history.specs.Passes.{Agrees}
 use Rattle.history_tests.specs.declared.register.Call.{Call}
 use Rattle.history_tests.specs.declared.register.Call.TheVariants.{Attach, Set, Add, Get, Begin, Finish, Collect, Detach}
 use Rattle.history_tests.specs.declared.register.Reply.{Reply}
@@ -20,6 +20,10 @@ IsPlainCall Begin = ⊥
 IsPlainCall Finish = ⊥
 IsPlainCall Collect = ⊥
 IsPlainCall Detach = ⊥
+
+-- calls of that kind, with room for each reply
+abbrev pub AreReady : List Call → List Reply → Type 0
+AreReady calls replies = All IsPlainCall calls × (length replies ≡ length calls)
 
 abbrev pub marked : Bool → Call → Bool
 marked b Attach = b
@@ -43,7 +47,8 @@ is_running es = running_from false es
 abbrev pub IsFine : Known Call Reply → Type 0
 IsFine pass = Agrees rank_of IsOpening Steps pass
 
--- The headline. The call gives this reply at one point of one growing legal history, which begins with all that the caller had seen, ends with the call, and holds the caller's own calls since its first, each once, in their order
+-- The headline. The call gives this reply at one point of one growing legal history, which begins with all that the caller had seen, ends
+-- with the call, and holds the caller's own calls since its first, each once, in their order
 pub record Extends (old : Known Call Reply) (call : Call) (reply : Reply) (new : Known Call Reply) : Type 0 where
   pub slot : new.slot ≡ old.slot
   pub seen : (between : List (Event Call Reply)) × (new.seen ≡ (old.seen ++ between) ++ event old.slot call reply ∷ [])
@@ -86,7 +91,8 @@ pub record Settled (old new : Known Call Reply) (all : List (Event Call Reply)) 
   pub seen : new.seen ≡ all
   pub fine : IsFine new
 
--- One history, `all`, was seen, in which the pass's own events are those that it had before and then these calls with these replies, and these are all that its slot did since its first
+-- One history, `all`, was seen, in which the pass's own events are those that it had before and then these calls with these replies. They
+-- are all that its slot did since its first
 pub record StandsIn (all : List (Event Call Reply)) (old : Known Call Reply) (calls : List Call) (replies : List Reply) (new : Known Call Reply) : Type 0 where
   pub seen : new.seen ≡ all
   pub mine : new.mine ≡ old.mine ++ events old.slot calls replies

@@ -1,7 +1,8 @@
 // Mutators in threads, each with its own calls, and the one history that they leave.
-ghost use Rattle.std.specs.Prelude.{◌≡◌, ◌<◌, ℕ, All, length, slice_index_or};
+ghost use Rattle.std.specs.Prelude.{◌≡◌, All, length};
 ghost use mathlib.Core.List.{IsPrefix};
-ghost use Rattle.history_tests.specs.Calls.{IsPlainCall, IsFine, Ran, Keeps, Settled, StandsIn};
+ghost use Rattle.history_tests.specs.Calls.{IsPlainCall, IsFine, Ran, Keeps};
+ghost use Rattle.history_tests.specs.Jobs.{CanRun, AllRan, AllSettled, AllStandIn};
 
 use crate::register::{Call, Reply};
 use crate::shared::{Collector, Mutator, SharedRegister};
@@ -36,8 +37,7 @@ pub fn make_calls<J: Naming>(
 }
 
 fn run_job<J: Naming>(rt: &impl Wait, shared: &SharedRegister<J>, job: &mut Job<J>)
-    requires plain { All IsPlainCall job.old.calls.items }
-    requires room { length job.old.replies.items ≡ length job.old.calls.items }
+    requires { CanRun job.old }
     ensures calls { job.new.calls ≡ job.old.calls }
     ensures ran { Ran job.old.me job.old.calls.items job.new.replies.items job.new.me }
 {
@@ -56,8 +56,8 @@ pub fn run_all<J: Naming + Send + Sync, R: Threads + Wait + Sync>(
     shared: &SharedRegister<J>,
     jobs: &mut [Job<J>],
 )
-    requires { All (λ j. All IsPlainCall j.calls.items × (length j.replies.items ≡ length j.calls.items)) jobs.old }
-    ensures { (i : ℕ) (d : _) → i < length jobs.old → Ran (slice_index_or jobs.old i d).me (slice_index_or jobs.old i d).calls.items (slice_index_or jobs.new i d).replies.items (slice_index_or jobs.new i d).me }
+    requires { All CanRun jobs.old }
+    ensures { AllRan jobs.old jobs.new }
 {
     if jobs.is_empty() {
         return;
@@ -68,7 +68,7 @@ pub fn run_all<J: Naming + Send + Sync, R: Threads + Wait + Sync>(
         jobs,
         threads,
         &|_, job: &mut Job<J>|
-            requires { All IsPlainCall job.now.calls.items × (length job.now.replies.items ≡ length job.now.calls.items) }
+            requires { CanRun job.now }
             ensures { Ran job.entry.now.me job.entry.now.calls.items job.exit.now.replies.items job.exit.now.me }
         { run_job(rt, shared, job) },
     );
@@ -85,13 +85,14 @@ fn meet_one<J: Naming>(shared: &SharedRegister<J>, collector: &mut Collector<J>,
     shared.meet_collector(&mut job.me, collector);
 }
 
-/// After two rounds of meetings all mutators and the collector have seen one history, in which each one's own calls stand.
+/// After two rounds of meetings all mutators and the collector have seen one history: in the first round the collector learns what
+/// each has seen, and in the second each learns what the collector has.
 pub fn settle<J: Naming>(
     shared: &SharedRegister<J>,
     collector: &mut Collector<J>,
     jobs: &mut [Job<J>],
 )
-    ensures { (i : ℕ) (d : _) → i < length jobs.old → Settled (slice_index_or jobs.old i d).me (slice_index_or jobs.new i d).me collector.new.seen × ((slice_index_or jobs.new i d).calls ≡ (slice_index_or jobs.old i d).calls) × ((slice_index_or jobs.new i d).replies ≡ (slice_index_or jobs.old i d).replies) }
+    ensures { AllSettled jobs.old jobs.new collector.new.seen }
 {
     for i in 0..jobs.len() {
         meet_one(shared, collector, &mut jobs[i]);
@@ -101,15 +102,16 @@ pub fn settle<J: Naming>(
     }
 }
 
-/// Runs each job in a thread of its own. They leave one history, which all have then seen, and in which each one's calls stand with their replies.
+/// Runs each job in a thread of its own. They leave one history, which all have then seen, and in which each one's calls stand, once
+/// and in order, with the replies that they were given.
 pub fn run_to_one_history<J: Naming + Send + Sync, R: Threads + Wait + Sync>(
     rt: &R,
     shared: &SharedRegister<J>,
     collector: &mut Collector<J>,
     jobs: &mut [Job<J>],
 )
-    requires { All (λ j. All IsPlainCall j.calls.items × (length j.replies.items ≡ length j.calls.items)) jobs.old }
-    ensures { (i : ℕ) (d : _) → i < length jobs.old → StandsIn collector.new.seen (slice_index_or jobs.old i d).me (slice_index_or jobs.old i d).calls.items (slice_index_or jobs.new i d).replies.items (slice_index_or jobs.new i d).me }
+    requires { All CanRun jobs.old }
+    ensures { AllStandIn collector.new.seen jobs.old jobs.new }
 {
     run_all(rt, shared, jobs);
     settle(shared, collector, jobs);

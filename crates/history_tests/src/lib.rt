@@ -9,6 +9,5 @@ pub use jobs::{Job, make_calls, run_all, run_to_one_history, settle};
 pub use register::{Call, Register, Reply};
 pub use shared::{Collector, Mutator, ReadValue, SharedRegister};
 
-
 #[cfg(test)]
 mod tests;

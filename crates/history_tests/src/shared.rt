@@ -10,7 +10,7 @@ ghost use Rattle.history_tests.specs.declared.register.Reply.TheVariants.{Slot, 
 ghost use Rattle.history_tests.specs.declared.register.Register.{Register as RegisterValue};
 
 use crate::register::{Call, Register, Reply};
-use history::{Log, Logged, Naming, Opened, Pass, Quiet};
+use history::{COLLECTOR, Log, Logged, Naming, Opened, Pass, Quiet};
 use std::marker::Model;
 use std::sync::{Mutex, Wait};
 
@@ -80,7 +80,7 @@ impl Quiet<Register> for ReadValue {
 fn free_slot(register: &Register) -> Option<u8>
     ensures { IfSome result (λ k. (k < collector) × (slice_index_or register.now.attached k false ≡ false)) }
 {
-    for k in 0..16u8 {
+    for k in 0..COLLECTOR {
         if !register.attached[k as usize] {
             return Some(k);
         }

@@ -1,5 +1,5 @@
-ghost use Rattle.std.specs.Prelude.{◌≡◌, All, IfOk, length};
-ghost use Rattle.history_tests.specs.Calls.{IsPlainCall};
+ghost use Rattle.std.specs.Prelude.{◌≡◌, IfOk};
+ghost use Rattle.history_tests.specs.Calls.{AreReady};
 
 use super::*;
 use history::{Naming, Opened, open};
@@ -20,7 +20,7 @@ struct Lines {
 }
 
 fn additions(alloc: Global, count: usize) -> Result<Lines, AllocError>
-    ensures { IfOk result (λ l. All IsPlainCall l.calls.items × (length l.replies.items ≡ length l.calls.items)) }
+    ensures { IfOk result (λ l. AreReady l.calls.items l.replies.items) }
 {
     let calls = vec![in alloc; Call::Add(1); count]?;
     let replies = vec![in alloc; Reply::Done; count]?;
@@ -77,10 +77,10 @@ fn add_in_threads<J: Naming + Send + Sync, R: Threads + Wait + Abort + Sync>(
     found: &mut [bool],
 ) -> u64
     requires table { opened.table ≡ J.table }
-    requires a { (All IsPlainCall a.calls.items) × (length a.replies.items ≡ length a.calls.items) }
-    requires b { (All IsPlainCall b.calls.items) × (length b.replies.items ≡ length b.calls.items) }
-    requires c { (All IsPlainCall c.calls.items) × (length c.replies.items ≡ length c.calls.items) }
-    requires d { (All IsPlainCall d.calls.items) × (length d.replies.items ≡ length d.calls.items) }
+    requires a { AreReady a.calls.items a.replies.items }
+    requires b { AreReady b.calls.items b.replies.items }
+    requires c { AreReady c.calls.items c.replies.items }
+    requires d { AreReady d.calls.items d.replies.items }
 {
     let (shared, mut collector) = SharedRegister::<J>::new(opened);
     let mut jobs = [

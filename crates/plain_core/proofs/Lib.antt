@@ -8,3 +8,5 @@ pub mod Placing
 pub mod Freshness
 pub mod Rooms
 pub mod Alloc
+pub mod Roots
+pub mod Free

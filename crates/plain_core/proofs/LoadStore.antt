@@ -1,12 +1,12 @@
--- Loads and stores.
+-- Loads, stores and sizes.
 use Rattle.std.proofs.Common.{◌≡◌, ℕ, ◌+◌, ◌-◌, ◌*◌, ◌/◌, ◌%◌, ◌<◌, ◌≤◌, List, get_or, set, refl, sym, ap, ◌∙◌, subst, arith, ⊎_elim}
 use Rattle.std.specs.Prelude.{Some, slice_get, Contains}
 use Rattle.std.proofs.lemmas.Option.{same_Some}
 use Rattle.std.proofs.lemmas.List.{get_or_read}
 use Rattle.std.proofs.lemmas.Bool.{cases_eq}
 use Rattle.words.specs.declared.limits.TheConstants.{WORD_BYTES, FIRST_ADDRESS}
-use Rattle.heap_spec.specs.declared.call.Call.TheVariants.{Load, Store}
-use Rattle.heap_spec.specs.declared.reply.Reply.TheVariants.{Done, Word}
+use Rattle.heap_spec.specs.declared.call.Call.TheVariants.{Load, Store, Size}
+use Rattle.heap_spec.specs.declared.reply.Reply.TheVariants.{Done, Word, Count}
 use Rattle.heap_spec.specs.Layout.{Reads}
 use Rattle.heap_spec.specs.Heap.{Heap, Object, Mutator, HasObject}
 use Rattle.heap_spec.specs.Steps.{Acts, acts, with_object, with_register, register, address}
@@ -14,9 +14,9 @@ use Rattle.plain_core.specs.declared.extent.Extent.{Extent}
 use Rattle.plain_core.specs.Contents.{Contents, IsSound, IsInHeap}
 use Rattle.plain_core.specs.Standing.{StandsFor, IsShown, place}
 use Rattle.plain_core.proofs.Rows.{with_at-same, with_at-other}
-use Rattle.plain_core.proofs.Stands.{StepsCall, mutator_at, changes_mutator}
+use Rattle.plain_core.proofs.Stands.{StepsCall, mutator_at, keeps_all, changes_mutator}
 use Rattle.plain_core.proofs.Memory.{word_in, written_in, written_out}
-use Rattle.plain_core.proofs.Objects.{in_heap, reads_base, in_row, length_shown}
+use Rattle.plain_core.proofs.Objects.{in_heap, reads_base, in_row, length_shown, reads_object}
 
 pub loads : (c : Contents) (k d r n w : ℕ) (m : Mutator) (e : Extent) → IsSound c → slice_get c.mutators k ≡ Some (Some m) → Contains c.objects e
     → Reads (address m r n) e.base e.length → address m r n % WORD_BYTES ≡ 0 → w ≡ get_or c.words (place (address m r n)) w
@@ -31,6 +31,12 @@ loads c k d r n w m e sound at has reads al is =
         ∙ word_in c.words c.pages a e (in_heap c sound e has) reads
         ∙ sym (get_or_read c.words (place a) w (in_row c sound e has a reads) is 0) in
     subst (λ v. Acts s k m (Load d r n) (Word v) (with_register s k m d v)) word (Acts.loaded al (kept.1, rw (length_shown c sound e has kept.0 kept.2) reads)))
+
+pub sizes : (c : Contents) (k r : ℕ) (m : Mutator) (e : Extent) → IsSound c → slice_get c.mutators k ≡ Some (Some m) → Contains c.objects e → Reads (register m r) e.base e.length
+    → StepsCall c k (Size r) (Count e.length) c
+sizes c k r m e sound at has reads =
+    keeps_all c k (Size r) (Count e.length) m at
+    (λ s h. let o = reads_object c sound s h e has (register m r) reads in subst (λ n. Acts s k m (Size r) (Count n) s) o.2 (Acts.sized o.1))
 
 -- an object that takes the place of one of the same birth
 module _ (s : Heap) (base : ℕ) (o o' : Object) (has : HasObject s base o) (birth : o'.birth ≡ o.birth) where

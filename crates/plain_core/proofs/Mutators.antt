@@ -1,6 +1,6 @@
 -- The slots of a core as the heap has them.
 use Rattle.std.proofs.Common.{◌≡◌, ℕ, ◌<◌, true, false, List, length, get_or, refl, sym, ap, ◌∙◌}
-use Rattle.std.specs.Prelude.{is_some, Option, Some, None, slice_get}
+use Rattle.std.specs.Prelude.{MatchOption, Option, Some, None, slice_get}
 use Rattle.std.specs.Option.{option_map}
 use Rattle.std.proofs.lemmas.Option.{slice_get-map, slice_get-get_or, none-some}
 use Rattle.std.proofs.lemmas.List.{length-map}
@@ -28,10 +28,8 @@ vacant_row (Some (Some m)) e = cc
 pub vacant_shown : (row : List (Option Mutator)) (k : ℕ) → slice_get (all_shown row) k ≡ Some None → slice_get row k ≡ Some None
 vacant_shown row k e = vacant_row _ (sym (slice_get-map (option_map shown) row k) ∙ e)
 
-pub none_is : {A : Type 0} (o : Option A) → is_some o ≡ false → o ≡ None
-none_is None e = refl
-none_is (Some x) e = cc
-
-pub some_of : {A : Type 0} (o : Option A) → is_some o ≡ true → (x : A) × (o ≡ Some x)
-some_of None e = absurd (cc)
-some_of (Some x) e = (x, refl)
+-- what is told of a slot by what it has
+pub slot_is : (row : List (Option Mutator)) (k : ℕ) (m : Option Mutator) → slice_get row k ≡ Some m
+    → MatchOption m (slice_get (all_shown row) k ≡ Some None) (λ m. slice_get (all_shown row) k ≡ Some (Some (shown m)))
+slot_is row k None e = slot_shown row k None e
+slot_is row k (Some m) e = slot_shown row k (Some m) e

@@ -1,5 +1,5 @@
 //! Where an object lies.
-ghost use Rattle.std.specs.Prelude.{◌≡◌, ℕ, ◌+◌, ◌*◌, ◌<◌, ◌≤◌, IfSome, IfNone, IsTrue, false, Contains, All};
+ghost use Rattle.std.specs.Prelude.{◌≡◌, ℕ, ◌+◌, ◌*◌, ◌<◌, ◌≤◌, IfSome, IfNone, IsTrue, false, Contains, All, Some, slice_get};
 ghost use Rattle.heap_spec.specs.Layout.{Reads, LiesOn};
 
 use words::Kind;
@@ -33,15 +33,26 @@ impl Extent {
     }
 }
 
+/// The index of the object that the address reads.
+pub fn index_at(objects: &[Extent], address: u64) -> Option<usize>
+    ensures some { IfSome result (λ i. (e : Extent) × (slice_get objects.now i ≡ Some e) × Reads address e.base e.length) }
+    ensures none { IfNone result (All (λ e. Reads address e.base e.length → ⊥) objects.now) }
+{
+    for index in 0..objects.len() {
+        if objects[index].is_read_by(address) {
+            return Some(index);
+        }
+    }
+    None
+}
+
 /// The object that the address reads.
 pub fn object_at(objects: &[Extent], address: u64) -> Option<Extent>
     ensures some { IfSome result (λ e. Contains objects.now e × Reads address e.base e.length) }
     ensures none { IfNone result (All (λ e. Reads address e.base e.length → ⊥) objects.now) }
 {
-    for object in objects {
-        if object.is_read_by(address) {
-            return Some(*object);
-        }
-    }
-    None
+    let Some(index) = index_at(objects, address) else {
+        return None;
+    };
+    Some(objects[index])
 }

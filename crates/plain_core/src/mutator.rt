@@ -1,5 +1,5 @@
 //! The registers and the stack of an attached mutator. Contracts see them as the heap has them.
-ghost use Rattle.std.specs.Prelude.{◌≡◌, ℕ, ◌+◌, ◌*◌, ◌<◌, ◌≤◌, ◌%◌, ◌++◌, ◌∷◌, [], IfSome, IfNone, length, slice_set};
+ghost use Rattle.std.specs.Prelude.{◌≡◌, ℕ, ◌+◌, ◌*◌, ◌<◌, ◌≤◌, ◌%◌, ◌++◌, ◌∷◌, [], MatchBool, MatchOption, length, slice_set};
 ghost use Rattle.words.specs.declared.limits.TheConstants.{STACK_WORDS};
 ghost use Rattle.heap_spec.specs.Steps.{address, newcomer, register};
 
@@ -41,6 +41,34 @@ impl Mutator {
         ensures { shown self.new ≡ record (shown self.old) { registers = slice_set (shown self.old).registers name word } }
     {
         self.registers[name.index()] = word;
+    }
+
+    /// Whether the stack has no room for another word.
+    pub fn is_full(&self) -> bool
+        ensures { MatchBool result (length (shown self.now).stack ≡ STACK_WORDS) (length (shown self.now).stack < STACK_WORDS) }
+    {
+        self.depth == STACK_WORDS as usize
+    }
+
+    /// Puts a word on the stack.
+    pub fn push(&mut self, word: u64)
+        requires { length (shown self.old).stack < STACK_WORDS }
+        ensures { shown self.new ≡ record (shown self.old) { stack = (shown self.old).stack ++ word ∷ [] } }
+    {
+        self.stack[self.depth] = word;
+        self.depth += 1;
+    }
+
+    /// Takes the top word off the stack.
+    pub fn pop(&mut self) -> Option<u64>
+        ensures registers { (shown self.new).registers ≡ (shown self.old).registers }
+        ensures stack { MatchOption result ((shown self.old).stack ≡ []) (λ word. (shown self.old).stack ≡ (shown self.new).stack ++ word ∷ []) }
+    {
+        if self.depth == 0 {
+            return None;
+        }
+        self.depth -= 1;
+        Some(self.stack[self.depth])
     }
 
     /// The address that a load or a store goes to.

@@ -1,8 +1,8 @@
 //! The core, how it is made, and how mutators come and go.
-ghost use Rattle.std.specs.Prelude.{◌≡◌, ℕ, ◌<◌, ◌≤◌, ◌*◌, ◌+◌, IfSome, IfNone, IfOk, slice_get, slice_set, Some, None, Err, ◌⊎◌};
+ghost use Rattle.std.specs.Prelude.{◌≡◌, ℕ, ◌<◌, ◌≤◌, ◌*◌, ◌+◌, ◌↔◌, IfSome, IfNone, IfOk, MatchOption, slice_get, slice_set, Some, None, Err, ◌⊎◌};
 ghost use Rattle.std.specs.Option.{option_map};
 ghost use Rattle.words.specs.declared.limits.TheConstants.{MAX_PAGES};
-ghost use Rattle.words.specs.declared.refusal.OpenError.TheVariants.{BadPages, Memory};
+ghost use Rattle.words.specs.declared.refusal.OpenError.TheVariants.{BadPages};
 ghost use Rattle.heap_spec.specs.Heap.{opening};
 ghost use Rattle.heap_spec.specs.Replies.{IsStep, done_reply, slot_reply, word_reply};
 ghost use Rattle.plain_core.specs.Mutators.{shown};
@@ -62,9 +62,8 @@ impl Core {
 
     /// A core of so many pages. All memory that it ever takes is taken here.
     pub fn new(alloc: Global, pages: u32) -> Result<Core, OpenError>
-        ensures ok { IfOk result (λ core. StandsFor core (opening pages) × (1 ≤ pages) × (pages ≤ MAX_PAGES)) }
-        ensures bad_pages { result ≡ Err BadPages → (pages ≡ 0) ⊎ (MAX_PAGES < pages) }
-        ensures memory { result ≡ Err Memory → (1 ≤ pages) × (pages ≤ MAX_PAGES) }
+        ensures ok { IfOk result (λ core. StandsFor core (opening pages)) }
+        ensures bad_pages { (result ≡ Err BadPages) ↔ ((pages ≡ 0) ⊎ (MAX_PAGES < pages)) }
     {
         if pages == 0 || pages > MAX_PAGES {
             return Err(OpenError::BadPages);
@@ -86,7 +85,7 @@ impl Core {
 
     // The mutator of a slot.
     fn mutator(&self, slot: Slot) -> Option<Mutator>
-        ensures { slice_get self.now.mutators slot ≡ Some (option_map shown result) }
+        ensures { MatchOption result (slice_get self.now.mutators slot ≡ Some None) (λ m. slice_get self.now.mutators slot ≡ Some (Some (shown m))) }
     {
         self.mutators[slot.index()]
     }
@@ -113,9 +112,9 @@ impl Core {
     pub fn detach(&mut self, slot: Slot) -> Result<(), Refusal>
         ensures { IsStep (StandsFor self.old) (Event.Mutator slot Call.Detach) (done_reply result) (StandsFor self.new) }
     {
-        if self.mutator(slot).is_none() {
+        let Some(_mutator) = self.mutator(slot) else {
             return Err(Refusal::NoSlot);
-        }
+        };
         self.put(slot, None);
         Ok(())
     }

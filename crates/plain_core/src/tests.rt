@@ -2,7 +2,7 @@
 
 use crate::Core;
 use std::test::Fail;
-use words::{Kind, OpenError, Refusal, Reg, Slot};
+use words::{Global, Kind, OpenError, Refusal, Reg};
 
 fn register(number: u8) -> Result<Reg, Fail> {
     Ok(Reg::new(number).ok_or("register")?)
@@ -36,5 +36,64 @@ fn pages_are_one_to_the_limit(rt: HostRuntime) -> Result<(), Fail> {
     assert_eq!(rt; Core::new(rt.alloc(), 1025).err(), Some(OpenError::BadPages));
     assert!(rt; Core::new(rt.alloc(), 1).is_ok());
     assert!(rt; Core::new(rt.alloc(), 1024).is_ok());
+    Ok(())
+}
+
+#[test]
+fn registers_wrap(rt: HostRuntime) -> Result<(), Fail> {
+    let mut core = Core::new(rt.alloc(), 1).ok().ok_or("open")?;
+    let slot = core.attach().ok().ok_or("attach")?;
+    let (r1, r2, r3) = (register(1)?, register(2)?, register(3)?);
+    assert_eq!(rt; core.set(slot, r1, 5), Ok(()));
+    assert_eq!(rt; core.copy(slot, r2, r1), Ok(()));
+    assert_eq!(rt; core.add(slot, r2, r2, 3), Ok(()));
+    assert_eq!(rt; core.get(slot, r2), Ok(8));
+    assert_eq!(rt; core.sub(slot, r3, r2, r1), Ok(()));
+    assert_eq!(rt; core.get(slot, r3), Ok(3));
+    assert_eq!(rt; core.sub(slot, r3, r1, r2), Ok(()));
+    assert_eq!(rt; core.get(slot, r3), Ok(18_446_744_073_709_551_613));
+    assert_eq!(rt; core.add(slot, r3, r3, 4), Ok(()));
+    assert_eq!(rt; core.get(slot, r3), Ok(1));
+    Ok(())
+}
+
+#[test]
+fn stack_and_globals(rt: HostRuntime) -> Result<(), Fail> {
+    let mut core = Core::new(rt.alloc(), 1).ok().ok_or("open")?;
+    let slot = core.attach().ok().ok_or("attach")?;
+    let (r1, r2) = (register(1)?, register(2)?);
+    let global = Global::new(63).ok_or("global")?;
+    assert_eq!(rt; core.pop(slot, r1), Err(Refusal::StackEmpty));
+    for word in 0..256u64 {
+        assert_eq!(rt; core.set(slot, r1, word), Ok(()));
+        assert_eq!(rt; core.push(slot, r1), Ok(()));
+    }
+    assert_eq!(rt; core.push(slot, r1), Err(Refusal::StackFull));
+    assert_eq!(rt; core.pop(slot, r2), Ok(255));
+    assert_eq!(rt; core.pop(slot, r2), Ok(254));
+    assert_eq!(rt; core.gput(slot, global, r2), Ok(()));
+    assert_eq!(rt; core.gget(slot, r1, global), Ok(254));
+    assert_eq!(rt; core.get(slot, r1), Ok(254));
+    Ok(())
+}
+
+#[test]
+fn objects_are_freed_by_their_base(rt: HostRuntime) -> Result<(), Fail> {
+    let mut core = Core::new(rt.alloc(), 1).ok().ok_or("open")?;
+    let slot = core.attach().ok().ok_or("attach")?;
+    let (r1, r2, r3) = (register(1)?, register(2)?, register(3)?);
+    assert_eq!(rt; core.alloc(slot, r1, 5, Kind::PointerFree), Ok(()));
+    assert_eq!(rt; core.add(slot, r2, r1, 47), Ok(()));
+    let first = core.get(slot, r1);
+    assert_eq!(rt; core.base(slot, r3, r2), first);
+    assert_eq!(rt; core.size(slot, r2), Ok(6));
+    assert_eq!(rt; core.free(slot, r2), Err(Refusal::NotBase));
+    assert_eq!(rt; core.add(slot, r2, r1, 48), Ok(()));
+    assert_eq!(rt; core.free(slot, r2), Err(Refusal::NoObject));
+    assert_eq!(rt; core.base(slot, r3, r2), Err(Refusal::NoObject));
+    assert_eq!(rt; core.free(slot, r1), Ok(()));
+    assert_eq!(rt; core.size(slot, r1), Err(Refusal::NoObject));
+    assert_eq!(rt; core.alloc(slot, r1, 512, Kind::Normal), Ok(()));
+    assert_eq!(rt; core.size(slot, r1), Ok(512));
     Ok(())
 }

@@ -7,3 +7,6 @@ mod roots;
 
 pub use mutator::Mutator;
 pub use roots::Roots;
+
+#[cfg(test)]
+mod tests;

@@ -1,8 +1,8 @@
 //! The calls that touch objects.
-ghost use Rattle.heap_spec.specs.Replies.{IsStep, done_reply, word_reply};
+ghost use Rattle.heap_spec.specs.Replies.{IsStep, done_reply, word_reply, count_reply};
 
 use super::Core;
-use crate::extent::object_at;
+use crate::extent::{index_at, object_at};
 use crate::places::{place_for, zero};
 use heap_spec::{Call, Event};
 use words::limits::{FIRST_ADDRESS, WORD_BYTES};
@@ -68,5 +68,52 @@ impl Core {
         mutator.set_register(into, object.base);
         self.put(slot, Some(mutator));
         Ok(())
+    }
+
+    /// Frees the object whose base a register has.
+    pub fn free(&mut self, slot: Slot, at: Reg) -> Result<(), Refusal>
+        ensures { IsStep (StandsFor self.old) (Event.Mutator slot (Call.Free at)) (done_reply result) (StandsFor self.new) }
+    {
+        let Some(mutator) = self.mutator(slot) else {
+            return Err(Refusal::NoSlot);
+        };
+        let address = mutator.register(at);
+        let Some(index) = index_at(&self.objects, address) else {
+            return Err(Refusal::NoObject);
+        };
+        let object = self.objects[index];
+        if object.base != address {
+            return Err(Refusal::NotBase);
+        }
+        let _freed = self.objects.swap_remove(index);
+        Ok(())
+    }
+
+    /// Puts the base of the object that a register reads into a register.
+    pub fn base(&mut self, slot: Slot, into: Reg, at: Reg) -> Result<u64, Refusal>
+        ensures { IsStep (StandsFor self.old) (Event.Mutator slot (Call.Base into at)) (word_reply result) (StandsFor self.new) }
+    {
+        let Some(mut mutator) = self.mutator(slot) else {
+            return Err(Refusal::NoSlot);
+        };
+        let Some(object) = object_at(&self.objects, mutator.register(at)) else {
+            return Err(Refusal::NoObject);
+        };
+        mutator.set_register(into, object.base);
+        self.put(slot, Some(mutator));
+        Ok(object.base)
+    }
+
+    /// The length in words of the object that a register reads.
+    pub fn size(&self, slot: Slot, at: Reg) -> Result<u64, Refusal>
+        ensures { IsStep (StandsFor self.now) (Event.Mutator slot (Call.Size at)) (count_reply result) (StandsFor self.now) }
+    {
+        let Some(mutator) = self.mutator(slot) else {
+            return Err(Refusal::NoSlot);
+        };
+        let Some(object) = object_at(&self.objects, mutator.register(at)) else {
+            return Err(Refusal::NoObject);
+        };
+        Ok(object.length)
     }
 }

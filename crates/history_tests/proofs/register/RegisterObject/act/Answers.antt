@@ -1,4 +1,4 @@
-use Rattle.std.proofs.Common.{◌∙◌, ◌≡◌, true, false, refl, sym, ap, subst}
+use Rattle.std.proofs.Common.{◌∙◌, true, false, refl, sym, ap, subst}
 use Rattle.history_tests.specs.declared.register.Call.{Call}
 use Rattle.std.specs.Prelude.{◌+◌, ◌%◌, ◌^◌}
 use Rattle.history_tests.specs.declared.register.Reply.TheVariants.{Slot, Done, Value}

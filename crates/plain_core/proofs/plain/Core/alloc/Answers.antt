@@ -1,6 +1,5 @@
 use Rattle.std.proofs.Common.{subst, get_or, ◌≡◌, ◌<◌, ◌≤◌, ◌*◌, ap, ◌∙◌, Some, sym, length, arith}
 use Rattle.std.specs.Vec.{vec_capacity}
-use Rattle.std.specs.Option.{option_map}
 use Rattle.std.proofs.lemmas.List.{with_items_is}
 use Rattle.words.specs.declared.limits.TheConstants.{PAGE_GRANULES}
 use Rattle.heap_spec.specs.Steps.{Acts}
@@ -13,15 +12,15 @@ use Rattle.plain_core.proofs.Alloc.{pushed_items, IsZeroed, room_left, fits_row,
 use Rattle.plain_core.proofs.plain.Core.alloc.Goals as goal
 
 pub returns-in_default : goal.returns-in_default
-returns-in_default c = refused_vacant _ _ _ (c.mutator.ensures ∙ ap (λ m. Some (option_map shown m)) c.in_default.is)
+returns-in_default c = refused_vacant _ _ _ c.in_default.ensures
 
 pub returns-in_default-class_of : goal.returns-in_default-class_of
-returns-in_default-class_of c = keeps_all _ _ _ _ (shown c.in-Some.mutator) (c.mutator.ensures ∙ ap (λ m. Some (option_map shown m)) c.in-Some.is) (λ s h. Acts.bad_size (sym c.class_of.ensures ∙ c.in_default-class_of.is))
+returns-in_default-class_of c = keeps_all _ _ _ _ (shown c.in-Some.mutator) c.in-Some.ensures (λ s h. Acts.bad_size (sym c.class_of.ensures ∙ c.in_default-class_of.is))
 
 pub returns-in_default-place_for : goal.returns-in_default-place_for
 returns-in_default-place_for c =
     rw (← c.self.view_is)
-    (let at = rw (← c.self.view_is) at (c.mutator.ensures ∙ ap (λ m. Some (option_map shown m)) c.in-Some.is) in
+    (let at = rw (← c.self.view_is) at c.in-Some.ensures in
     let none = rw c.deref.ensures.value at c.in_default-place_for.ensures.none in
     keeps_all _ _ _ _ (shown c.in-Some.mutator) at (λ s h. Acts.full (sym c.class_of.ensures ∙ c.in-Some-class_of.is) (λ a room. none a (place_of _ c.self.invariant.0 s h _ _ a room))))
 
@@ -49,6 +48,6 @@ returns c =
     let zeroed : IsZeroed c.self.inside.words.items c.zero.new.words object = record { long = long; zeroed = c.zero.ensures.zeroed; others = λ k h. c.zero.ensures.others k h ∙ ap (λ xs. get_or xs k 0) c.deref_mut.ensures.value } in
     rw (c.put.ensures, c.set_register.ensures, ← c.self.view_is)
     (alloc_steps _ c.in-Some-class_of.placement c.args.kind object c.self.invariant.0 fits c.in-Some-place_for.ensures.some.1 room
-    _ _ _ (shown c.in-Some.mutator) _ _ (rw (← c.self.view_is) at (c.mutator.ensures ∙ ap (λ m. Some (option_map shown m)) c.in-Some.is)) (sym c.class_of.ensures ∙ c.in-Some-class_of.is) c.in-Some-place_for.ensures.some.0
+    _ _ _ (shown c.in-Some.mutator) _ _ (rw (← c.self.view_is) at c.in-Some.ensures) (sym c.class_of.ensures ∙ c.in-Some-class_of.is) c.in-Some-place_for.ensures.some.0
     (subst (λ r. IsZeroed c.self.inside.words.items r object) (sym (with_items_is c.self.inside.words c.zero.new.words (long ∙ sym c.self.inside.words.ok.0))) zeroed)
     (pushed_items _ _ _ _ (c.push-pushed.ensures.succeeds (let ok = c.self.inside.objects.ok in omega (arith, ok.0))) c.push-pushed.ensures.items))

@@ -1,15 +1,10 @@
-use Rattle.std.proofs.Common.{ap, ◌∙◌, Some, None}
-use Rattle.std.specs.Option.{option_map}
+use Rattle.std.proofs.Common.{None}
 use Rattle.heap_spec.specs.Steps.{Acts}
-use Rattle.plain_core.specs.Mutators.{shown}
-use Rattle.plain_core.proofs.Mutators.{some_of, none_is}
 use Rattle.plain_core.proofs.Stands.{refused_vacant, changes_mutator}
 use Rattle.plain_core.proofs.plain.Core.detach.Goals as goal
 
-pub returns-then-is_none : goal.returns-then-is_none
-returns-then-is_none c = refused_vacant _ _ _ (c.mutator.ensures ∙ ap (λ m. Some (option_map shown m)) (none_is _ c.if-is_none.ensures))
+pub returns-in_default : goal.returns-in_default
+returns-in_default c = refused_vacant _ _ _ c.in_default.ensures
 
 pub returns : goal.returns
-returns c =
-    let m = some_of c.mutator.result c.if-is_none.ensures in
-    rw c.put.ensures (changes_mutator _ _ _ _ (shown m.0) None (c.mutator.ensures ∙ ap (λ m. Some (option_map shown m)) m.1) (λ s h. Acts.detached))
+returns c = rw c.put.ensures (changes_mutator _ _ _ _ _ None c.in-Some.ensures (λ s h. Acts.detached))

@@ -1,5 +1,3 @@
-use Rattle.std.proofs.Common.{ap, ◌∙◌, Some}
-use Rattle.std.specs.Option.{option_map}
 use Rattle.heap_spec.specs.Steps.{Acts}
 use Rattle.plain_core.specs.Mutators.{shown}
 use Rattle.plain_core.proofs.Stands.{refused_vacant, keeps_all}
@@ -8,24 +6,24 @@ use Rattle.plain_core.proofs.LoadStore.{stores}
 use Rattle.plain_core.proofs.plain.Core.store.Goals as goal
 
 pub returns-in_default : goal.returns-in_default
-returns-in_default c = refused_vacant _ _ _ (c.mutator.ensures ∙ ap (λ m. Some (option_map shown m)) c.in_default.is)
+returns-in_default c = refused_vacant _ _ _ c.in_default.ensures
 
 pub returns-then-address-ne0 : goal.returns-then-address-ne0
 returns-then-address-ne0 c =
-    let at = c.mutator.ensures ∙ ap (λ m. Some (option_map shown m)) c.in-Some.is in
+    let at = c.in-Some.ensures in
     keeps_all _ _ _ _ (shown c.in-Some.mutator) at (λ s h. Acts.store_misaligned (rw c.address-address.ensures at c.if-address-ne0.true))
 
 pub returns-in_default-object_at : goal.returns-in_default-object_at
 returns-in_default-object_at c =
     rw (← c.self.view_is)
-    (let at = rw (← c.self.view_is) at (c.mutator.ensures ∙ ap (λ m. Some (option_map shown m)) c.in-Some.is) in
+    (let at = rw (← c.self.view_is) at c.in-Some.ensures in
     let none = rw (c.deref.ensures.value, c.address-address.ensures) at c.in_default-object_at.ensures.none in
     keeps_all _ _ _ _ (shown c.in-Some.mutator) at (λ s h. Acts.store_nothing (rw c.address-address.ensures at c.if-address-ne0.false) (reads_nothing _ c.self.invariant.0 s h _ none)))
 
 pub returns : goal.returns
 returns c =
     rw (← c.self.view_is, c.address-address.ensures, c.register.ensures)
-    (stores _ _ _ _ _ (shown c.in-Some.mutator) _ c.self.invariant.0 (rw (← c.self.view_is) at (c.mutator.ensures ∙ ap (λ m. Some (option_map shown m)) c.in-Some.is))
+    (stores _ _ _ _ _ (shown c.in-Some.mutator) _ c.self.invariant.0 (rw (← c.self.view_is) at c.in-Some.ensures)
     (rw c.deref.ensures.value at c.in-Some-object_at.ensures.some.0)
     (rw c.address-address.ensures at c.in-Some-object_at.ensures.some.1)
     (rw c.address-address.ensures at c.if-address-ne0.false))

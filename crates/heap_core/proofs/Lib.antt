@@ -1,0 +1,11 @@
+pub mod Tables
+pub mod Shown
+pub mod Changes
+pub mod Roots
+pub mod Lookups
+pub mod Rooms
+pub mod Allocations
+pub mod Opening
+pub mod Frees
+pub mod Calls
+pub mod Placing

@@ -1,0 +1,29 @@
+-- A store that opens.
+use Rattle.std.proofs.Common.{◌≡◌, ℕ, ◌≤◌, Option, Some, None, sym, subst}
+use Rattle.heap_spec.specs.Heap.{Object, opening}
+use Rattle.block_map.specs.States.{PageState, AreAllFree}
+use Rattle.block_map.specs.Objects.{IsObjectOn}
+use Rattle.block_map.specs.FoundIn.{found_in}
+use Rattle.block_map.specs.declared.found.Found.{Found}
+use Rattle.block_map.proofs.Laid.{laid_free}
+use Rattle.block_map.proofs.Lawful.{map_laws}
+use Rattle.heap_core.specs.Contents.{Store}
+use Rattle.heap_core.specs.Standing.{Stores}
+
+none_some : {A : Type 0} (x : A) → None ≡ Some x → ⊥
+none_some x e = cc
+
+-- all pages are free, so there is no object
+pub opens : (t : Store) (pages : ℕ) → AreAllFree t.states pages → pages ≤ 1024 → Stores t (opening pages)
+opens t pages all few = record {
+  pages = sym all.size;
+  shows = record {
+    kept = λ f is. absurd (nothing f is);
+    only = λ base o is. absurd (none_some o is);
+    born = λ base o is. absurd (none_some o is);
+    distinct = λ a b o p x y same. absurd (none_some o x);
+  };
+}
+  where
+    nothing : (f : Found) → found_in t.states f.base ≡ Some f → ⊥
+    nothing f is = subst (λ st. IsObjectOn st f) (all.each f.page) ((map_laws t.states (laid_free t.states pages all few)).object f.base f is).on

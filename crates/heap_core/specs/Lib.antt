@@ -1,0 +1,3 @@
+pub mod Contents
+pub mod Rooms
+pub mod Standing

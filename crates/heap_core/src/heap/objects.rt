@@ -1,0 +1,134 @@
+//! The calls that reach objects. A refused call changes nothing.
+ghost use Rattle.heap_spec.specs.Replies.{IsStep, count_reply, done_reply, word_reply};
+ghost use Rattle.heap_core.specs.Standing.{StandsFor};
+
+use super::Core;
+use heap_spec::{Call, Event};
+use words::limits::WORD_BYTES;
+use words::{Kind, Reg, Refusal, Slot, class_of};
+
+impl Core {
+    /// Loads the word at the address of `at` and an offset in words into `into`.
+    ///
+    /// # Errors
+    /// [`Refusal::NoSlot`] if the slot has no mutator, else [`Refusal::Misaligned`] if the address isn't that of a word,
+    /// and else [`Refusal::NoObject`] if it reads no object.
+    #[inline]
+    pub fn load(&mut self, slot: Slot, into: Reg, at: Reg, offset: u64) -> Result<u64, Refusal>
+        ensures { IsStep (StandsFor self.old) (Event.Mutator slot (Call.Load into at offset)) (word_reply result) (StandsFor self.new) }
+    {
+        let Some(mutator) = self.roots.mutator(slot) else {
+            return Err(Refusal::NoSlot);
+        };
+        let address = mutator.address(at, offset);
+        if address % WORD_BYTES != 0 {
+            return Err(Refusal::Misaligned);
+        }
+        let Some(_) = self.objects.find(address) else {
+            return Err(Refusal::NoObject);
+        };
+        let word = self.objects.read(address);
+        self.roots.set_word(slot, into, word);
+        Ok(word)
+    }
+
+    /// Stores the word of `from` at the address of `at` and an offset in words.
+    ///
+    /// # Errors
+    /// As [`Core::load`].
+    #[inline]
+    pub fn store(&mut self, slot: Slot, at: Reg, offset: u64, from: Reg) -> Result<(), Refusal>
+        ensures { IsStep (StandsFor self.old) (Event.Mutator slot (Call.Store at offset from)) (done_reply result) (StandsFor self.new) }
+    {
+        let Some(mutator) = self.roots.mutator(slot) else {
+            return Err(Refusal::NoSlot);
+        };
+        let address = mutator.address(at, offset);
+        let word = mutator.word(from);
+        if address % WORD_BYTES != 0 {
+            return Err(Refusal::Misaligned);
+        }
+        let Some(_) = self.objects.find(address) else {
+            return Err(Refusal::NoObject);
+        };
+        self.objects.write(address, word);
+        Ok(())
+    }
+
+    /// Puts the base of the object that `from` reads into `into`.
+    ///
+    /// # Errors
+    /// [`Refusal::NoSlot`] if the slot has no mutator, and else [`Refusal::NoObject`] if the word reads no object.
+    pub fn base(&mut self, slot: Slot, into: Reg, from: Reg) -> Result<u64, Refusal>
+        ensures { IsStep (StandsFor self.old) (Event.Mutator slot (Call.Base into from)) (word_reply result) (StandsFor self.new) }
+    {
+        let Some(mutator) = self.roots.mutator(slot) else {
+            return Err(Refusal::NoSlot);
+        };
+        let word = mutator.word(from);
+        let Some(found) = self.objects.find(word) else {
+            return Err(Refusal::NoObject);
+        };
+        self.roots.set_word(slot, into, found.base);
+        Ok(found.base)
+    }
+
+    /// The words of the object that a register reads.
+    ///
+    /// # Errors
+    /// As [`Core::base`].
+    pub fn size(&self, slot: Slot, reg: Reg) -> Result<u64, Refusal>
+        ensures { IsStep (StandsFor self.now) (Event.Mutator slot (Call.Size reg)) (count_reply result) (StandsFor self.now) }
+    {
+        let Some(mutator) = self.roots.mutator(slot) else {
+            return Err(Refusal::NoSlot);
+        };
+        let word = mutator.word(reg);
+        let Some(found) = self.objects.find(word) else {
+            return Err(Refusal::NoObject);
+        };
+        Ok(u64::from(found.len))
+    }
+    /// Allocates an object of at least so many words, all 0, and puts its base into `into`.
+    ///
+    /// # Errors
+    /// [`Refusal::NoSlot`] if the slot has no mutator, else [`Refusal::BadSize`] for a request of no words or of more than
+    /// the limit, and else [`Refusal::Full`] exactly if no address has room.
+    pub fn alloc(&mut self, slot: Slot, into: Reg, words: u64, kind: Kind) -> Result<(), Refusal>
+        ensures { IsStep (StandsFor self.old) (Event.Mutator slot (Call.Alloc into words kind)) (done_reply result) (StandsFor self.new) }
+    {
+        let Some(_) = self.roots.mutator(slot) else {
+            return Err(Refusal::NoSlot);
+        };
+        let Some(placement) = class_of(words) else {
+            return Err(Refusal::BadSize);
+        };
+        let Some(base) = self.objects.allocate(placement, kind) else {
+            return Err(Refusal::Full);
+        };
+        self.roots.set_word(slot, into, base);
+        Ok(())
+    }
+
+    /// Frees the object whose base a register has.
+    ///
+    /// # Errors
+    /// [`Refusal::NoSlot`] if the slot has no mutator, else [`Refusal::NoObject`] if the word reads no object, and else
+    /// [`Refusal::NotBase`] if it isn't the object's base.
+    pub fn free(&mut self, slot: Slot, reg: Reg) -> Result<(), Refusal>
+        ensures { IsStep (StandsFor self.old) (Event.Mutator slot (Call.Free reg)) (done_reply result) (StandsFor self.new) }
+    {
+        let Some(mutator) = self.roots.mutator(slot) else {
+            return Err(Refusal::NoSlot);
+        };
+        let word = mutator.word(reg);
+        let Some(found) = self.objects.find(word) else {
+            return Err(Refusal::NoObject);
+        };
+        if found.base != word {
+            return Err(Refusal::NotBase);
+        }
+        self.objects.release(found);
+        Ok(())
+    }
+}

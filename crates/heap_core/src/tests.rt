@@ -1,0 +1,95 @@
+use crate::Core;
+use std::test::Fail;
+use words::limits::{FIRST_ADDRESS, MAX_REQUEST_WORDS, PAGE_WORDS};
+use words::{CLASSES, Kind, Refusal, Reg, Slot};
+
+fn reg(number: u8) -> Result<Reg, Fail> {
+    Ok(Reg::new(number).ok_or("a register")?)
+}
+
+fn core_of(rt: &HostRuntime, pages: u32) -> Result<(Core, Slot), Fail> {
+    let mut core = Core::new(rt.alloc(), pages).ok().ok_or("a heap")?;
+    let slot = core.attach().ok().ok_or("a mutator")?;
+    Ok((core, slot))
+}
+
+#[test]
+fn words_are_stored_and_loaded(rt: HostRuntime) -> Result<(), Fail> {
+    let (mut core, slot) = core_of(&rt, 4)?;
+    let (object, word, copy) = (reg(1)?, reg(2)?, reg(3)?);
+    assert_eq!(rt; core.alloc(slot, object, 3, Kind::Normal), Ok(()));
+    assert_eq!(rt; core.get(slot, object), Ok(FIRST_ADDRESS));
+    assert_eq!(rt; core.size(slot, object), Ok(4));
+    assert_eq!(rt; core.set(slot, word, 77), Ok(()));
+    assert_eq!(rt; core.store(slot, object, 3, word), Ok(()));
+    assert_eq!(rt; core.load(slot, copy, object, 3), Ok(77));
+    assert_eq!(rt; core.load(slot, copy, object, 2), Ok(0));
+    assert_eq!(rt; core.load(slot, copy, object, 4), Err(Refusal::NoObject));
+    assert_eq!(rt; core.add(slot, copy, object, 31), Ok(()));
+    assert_eq!(rt; core.base(slot, word, copy), Ok(FIRST_ADDRESS));
+    assert_eq!(rt; core.load(slot, word, copy, 0), Err(Refusal::Misaligned));
+    Ok(())
+}
+
+#[test]
+fn each_class_is_filled_and_emptied(rt: HostRuntime) -> Result<(), Fail> {
+    for class in CLASSES {
+        let words = u64::from(class);
+        let (mut core, slot) = core_of(&rt, 2)?;
+        let object = reg(0)?;
+        let mut bases = Vec::new(rt.alloc());
+        while core.alloc(slot, object, words, Kind::Normal) == Ok(()) {
+            assert_eq!(rt; core.size(slot, object), Ok(words));
+            bases.push(core.get(slot, object).ok().ok_or("a base")?)?;
+        }
+        assert_eq!(rt; bases.len() as u64, 2 * (PAGE_WORDS / words));
+        assert_eq!(rt; core.alloc(slot, object, words, Kind::Normal), Err(Refusal::Full));
+        for base in &bases {
+            assert_eq!(rt; core.set(slot, object, *base), Ok(()));
+            assert_eq!(rt; core.free(slot, object), Ok(()));
+            assert_eq!(rt; core.free(slot, object), Err(Refusal::NoObject));
+        }
+        assert_eq!(rt; core.alloc(slot, object, 2 * PAGE_WORDS, Kind::Normal), Ok(()));
+    }
+    Ok(())
+}
+
+#[test]
+fn words_are_zero_again(rt: HostRuntime) -> Result<(), Fail> {
+    let (mut core, slot) = core_of(&rt, 1)?;
+    let (object, word) = (reg(0)?, reg(1)?);
+    assert_eq!(rt; core.alloc(slot, object, 2, Kind::Normal), Ok(()));
+    assert_eq!(rt; core.store(slot, object, 1, object), Ok(()));
+    assert_eq!(rt; core.free(slot, object), Ok(()));
+    assert_eq!(rt; core.alloc(slot, object, 512, Kind::PointerFree), Ok(()));
+    for offset in 0..PAGE_WORDS {
+        assert_eq!(rt; core.load(slot, word, object, offset), Ok(0));
+    }
+    Ok(())
+}
+
+#[test]
+fn refusals_come_in_their_order(rt: HostRuntime) -> Result<(), Fail> {
+    let (mut core, slot) = core_of(&rt, 1)?;
+    let other = Slot::new(5).ok_or("a slot")?;
+    let (object, inner) = (reg(0)?, reg(1)?);
+    assert_eq!(rt; core.alloc(other, object, 0, Kind::Normal), Err(Refusal::NoSlot));
+    assert_eq!(rt; core.alloc(slot, object, 0, Kind::Normal), Err(Refusal::BadSize));
+    assert_eq!(rt; core.alloc(slot, object, MAX_REQUEST_WORDS + 1, Kind::Normal), Err(Refusal::BadSize));
+    assert_eq!(rt; core.alloc(slot, object, MAX_REQUEST_WORDS, Kind::Normal), Err(Refusal::Full));
+    assert_eq!(rt; core.alloc(slot, object, 2, Kind::Normal), Ok(()));
+    assert_eq!(rt; core.alloc(slot, object, 2, Kind::PointerFree), Err(Refusal::Full));
+    assert_eq!(rt; core.add(slot, inner, object, 15), Ok(()));
+    assert_eq!(rt; core.free(slot, inner), Err(Refusal::NotBase));
+    assert_eq!(rt; core.add(slot, inner, object, 16), Ok(()));
+    assert_eq!(rt; core.free(slot, inner), Err(Refusal::NoObject));
+    assert_eq!(rt; core.size(slot, inner), Err(Refusal::NoObject));
+    Ok(())
+}
+
+#[test]
+fn heaps_have_some_pages(rt: HostRuntime) -> Result<(), Fail> {
+    assert!(rt; Core::new(rt.alloc(), 0).is_err() && Core::new(rt.alloc(), 1025).is_err());
+    assert!(rt; Core::new(rt.alloc(), 1024).is_ok());
+    Ok(())
+}

@@ -1,0 +1,38 @@
+-- Lines that are no command's.
+use Rattle.std.proofs.Common.{◌≡◌, ℕ, ◌<◌, ◌≤◌, List, [], ◌∷◌, length, sym, ap, ◌∙◌, codes}
+use Rattle.std.specs.Prelude.{decimal}
+use Rattle.words.specs.declared.limits.TheConstants.{SLOTS}
+use Rattle.heap_spec.specs.declared.call.Call.{Call}
+use Rattle.heap_spec.specs.declared.event.Event.{Event}
+use Rattle.heap_spec.specs.declared.event.Event.TheVariants.{Attach, Mutator}
+use Rattle.mpheap.specs.declared.limits.TheConstants.{LINE_BYTES}
+use Rattle.mpheap.specs.Grammar.{words_of, call_words, IsLineOf, IsBad}
+use Rattle.mpheap.specs.Calls.{AreCallWords}
+use Rattle.mpheap.proofs.Commands.{rest_of, first_of_words, not_attach}
+
+-- more words than `attach`
+pub more_than_attach : (line first : List ℕ) (rest : List (List ℕ)) → words_of line ≡ first ∷ rest → first ≡ codes "attach" → (rest ≡ [] → ⊥) → IsBad line
+more_than_attach line first rest is same more Attach w = more (rest_of (sym is ∙ w.words))
+more_than_attach line first rest is same more (Mutator slot call) w = not_attach slot w.in_range.0 (sym (first_of_words (sym is ∙ w.words)) ∙ same)
+more_than_attach line first rest is same more _ w = w.served
+
+-- a first word that is neither `attach` nor a slot
+pub no_slot : (line first : List ℕ) (rest : List (List ℕ)) → words_of line ≡ first ∷ rest → (first ≡ codes "attach" → ⊥) → ((n : ℕ) → n < SLOTS → first ≡ decimal n → ⊥) → IsBad line
+no_slot line first rest is other none Attach w = other (first_of_words (sym is ∙ w.words))
+no_slot line first rest is other none (Mutator slot call) w = none slot w.in_range.0 (first_of_words (sym is ∙ w.words))
+no_slot line first rest is other none _ w = w.served
+
+-- a slot with no call behind it
+pub no_call : (line first : List ℕ) (rest : List (List ℕ)) → words_of line ≡ first ∷ rest → (first ≡ codes "attach" → ⊥) → ((call : Call) → AreCallWords rest call → ⊥) → IsBad line
+no_call line first rest is other none Attach w = other (first_of_words (sym is ∙ w.words))
+no_call line first rest is other none (Mutator slot call) w = none call (record { are = rest_of (sym is ∙ w.words); in_range = w.in_range.1; served = w.served })
+no_call line first rest is other none _ w = w.served
+
+-- a slot and a call
+pub call_line : (line first : List ℕ) (rest : List (List ℕ)) (slot : ℕ) (call : Call) → length line ≤ LINE_BYTES → words_of line ≡ first ∷ rest → first ≡ decimal slot → slot < SLOTS → AreCallWords rest call → IsLineOf line (Mutator slot call)
+call_line line first rest slot call short is same fits w = record {
+  short = short;
+  words = is ∙ ap (λ x. x ∷ rest) same ∙ ap (λ ws. decimal slot ∷ ws) w.are;
+  in_range = (fits, w.in_range);
+  served = w.served;
+}

@@ -1,0 +1,8 @@
+pub mod Bytes
+pub mod Walks
+pub mod Numbers
+pub mod Splitting
+pub mod Commands
+pub mod BadLines
+pub mod Texts
+pub mod Serving

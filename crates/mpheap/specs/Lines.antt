@@ -1,0 +1,16 @@
+-- The lines of a text.
+use Rattle.std.specs.Prelude.{◌≡◌, ℕ, ◌==◌, Bool, if◌then◌else◌, List, [], ◌∷◌, take, count_by}
+use Rattle.std.specs.List.{onto_first}
+
+-- a newline
+abbrev pub newline : ℕ
+newline = 10
+
+-- The lines of a text, without their newlines. The last may lack its newline, and an empty text has no line.
+abbrev pub lines_of : List ℕ → List (List ℕ)
+lines_of [] = []
+lines_of (b ∷ text) = if b == newline then [] ∷ lines_of text else onto_first b (lines_of text)
+
+-- the lines that have their newline
+abbrev pub whole_lines_of : List ℕ → List (List ℕ)
+whole_lines_of text = take (count_by (λ b. b == newline) text) (lines_of text)

@@ -1,0 +1,50 @@
+//! The program: a script of commands is read, run over a heap, and answered.
+#![tactic(auto)]
+
+mod block;
+mod command;
+mod count;
+mod errors;
+mod fault;
+mod limits;
+mod line;
+mod number;
+mod parts;
+mod print;
+mod program;
+mod run_script;
+mod serve;
+mod source;
+mod std_io;
+#[cfg(test)]
+mod tests;
+
+use crate::fault::Fault;
+use crate::program::program;
+use crate::std_io::Std;
+use std::process::ExitCode;
+use std::{env, io};
+
+fn main(rt: HostRuntime) -> ExitCode {
+    let mut errors = Std::new(rt.stderr());
+    let words = match env::args(&rt) {
+        Ok(words) => words,
+        Err(error) => {
+            let fault = if error.kind() == io::ErrorKind::OutOfMemory {
+                Fault::Memory
+            } else {
+                Fault::BadCommand
+            };
+            fault.tell(&mut errors);
+            return ExitCode::from(fault.status());
+        }
+    };
+    let Ok(words) = words.skip(1).collect::<Vec<String>>(rt.alloc()) else {
+        Fault::Memory.tell(&mut errors);
+        return ExitCode::from(Fault::Memory.status());
+    };
+    let mut input = Std::new(rt.reader());
+    let mut output = Std::new(io::writer(&rt));
+    let status = program(rt.alloc(), &rt, words.as_slice(), &mut input, &mut output, &mut errors);
+    ExitCode::from(status)
+}

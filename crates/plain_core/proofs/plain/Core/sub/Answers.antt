@@ -1,0 +1,11 @@
+use Rattle.heap_spec.specs.Steps.{Acts}
+use Rattle.plain_core.specs.Mutators.{shown}
+use Rattle.plain_core.proofs.Stands.{refused_vacant, changes_mutator}
+use Rattle.plain_core.proofs.Roots.{wrapped}
+use Rattle.plain_core.proofs.plain.Core.sub.Goals as goal
+
+pub returns-in_default : goal.returns-in_default
+returns-in_default c = refused_vacant _ _ _ c.in_default.ensures
+
+pub returns : goal.returns
+returns c = rw (c.put.ensures, c.set_register.ensures, wrapped c.register.result c.register-2.result c.register-2.type_inv, c.register.ensures, c.register-2.ensures) (changes_mutator _ _ _ _ _ _ c.in-Some.ensures (λ s h. Acts.subtracted))
