@@ -104,7 +104,7 @@ impl BitRow {
         if low >= self.len {
             return None;
         }
-        let i = zero_from(self.words.as_slice(), low);
-        if i < self.len { Some(i) } else { None }
+        let clear = zero_from(self.words.as_slice(), low);
+        if clear < self.len { Some(clear) } else { None }
     }
 }

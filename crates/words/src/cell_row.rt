@@ -84,9 +84,9 @@ impl CellRow {
         if low >= self.len {
             return None;
         }
-        let i = one_from(&self.words, low as usize);
-        if i < self.len as usize {
-            Some(i as u16)
+        let member = one_from(&self.words, low as usize);
+        if member < self.len as usize {
+            Some(member as u16)
         } else {
             None
         }
