@@ -1,32 +1,31 @@
 -- An allocation, and that the core stays sound.
-use Rattle.std.proofs.Common.{◌≡◌, ℕ, ◌+◌, ◌-◌, ◌*◌, ◌/◌, ◌%◌, ◌<◌, ◌≤◌, ◌⊎◌, Bool, true, false, List, [], ◌∷◌, ◌++◌, length, get_or, map, take, drop, set, replicate, eqb, refl, sym, ap, ◌∙◌, subst, arith, inl, inr, ⊎_elim, cond}
-use Rattle.std.specs.Prelude.{Result, Ok, Err, IsOk, is_ok, ◌≢◌, Option, Some, None, All, Contains, slice_get}
+use Rattle.std.proofs.Common.{◌≡◌, ℕ, ◌+◌, ◌*◌, ◌/◌, ◌%◌, ◌<◌, ◌≤◌, ◌⊎◌, List, [], ◌∷◌, ◌++◌, length, get_or, drop, set, replicate, refl, sym, ap, ◌∙◌, subst, arith, inl, inr, ⊎_elim, cond}
+use Rattle.std.specs.Prelude.{Result, Ok, Err, IsOk, is_ok, ◌≢◌, Option, Some, All, slice_get}
 use Rattle.std.proofs.Math.Nat.{mul_assoc, mul-mod_right}
-use Rattle.std.proofs.lemmas.List.{ext_get_or, get_or-take, get_or-drop, get_or-replicate, length-replicate, length-set, length_push}
-use Rattle.std.proofs.lemmas.List.Elements.{All-nil, All-contains, All-push, Contains-push_cases, Contains-push, Contains-append_left, Contains-get_or}
-use Rattle.std.proofs.lemmas.Option.{same_Some, none-some}
+use Rattle.std.proofs.lemmas.List.{ext_get_or, get_or-take, get_or-drop, get_or-replicate, length-replicate, length_push}
+use Rattle.std.proofs.lemmas.List.Elements.{All-nil, All-contains, All-push, Contains-push_cases, Contains-push, Contains-append_left}
+use Rattle.std.proofs.lemmas.Option.{same_Some}
 use Rattle.std.proofs.lemmas.Bool.{cases_lt, cases_eq}
 use Rattle.words.specs.declared.class.Kind.{Kind}
 use Rattle.words.specs.declared.class.Placement.{Placement}
 use Rattle.words.specs.declared.class.Placement.TheVariants.{Small, Large}
-use Rattle.words.specs.declared.limits.TheConstants.{WORD_BYTES, PAGE_WORDS, PAGE_GRANULES, FIRST_ADDRESS, MAX_PAGES, SLOTS}
+use Rattle.words.specs.declared.limits.TheConstants.{WORD_BYTES, PAGE_WORDS, PAGE_GRANULES, MAX_PAGES, SLOTS}
 use Rattle.words.specs.Placing.{placement_of}
 use Rattle.heap_spec.specs.declared.call.Call.TheVariants.{Alloc}
 use Rattle.heap_spec.specs.declared.reply.Reply.TheVariants.{Done}
-use Rattle.heap_spec.specs.Layout.{Reads, LiesOn, page_start}
+use Rattle.heap_spec.specs.Layout.{Reads}
 use Rattle.heap_spec.specs.Heap.{Heap, Object, Mutator, HasObject}
-use Rattle.heap_spec.specs.Room.{IsFree, IsCutFor, HasRoom, length_of}
+use Rattle.heap_spec.specs.Room.{length_of}
 use Rattle.heap_spec.specs.Steps.{Acts, acts, with_register, with_object}
 use Rattle.plain_core.specs.declared.extent.Extent.{Extent}
-use Rattle.plain_core.specs.Contents.{Contents, IsSound, IsInHeap, IsCell, HasPages, IsPlaced, granule}
-use Rattle.plain_core.specs.Places.{IsPlace, IsPlaceOn, IsFreePage, IsCutPage, IsSized}
-use Rattle.plain_core.specs.Standing.{StandsFor, IsShown, place, words_at}
+use Rattle.plain_core.specs.Contents.{Contents, IsSound, IsInHeap, IsPlaced}
+use Rattle.plain_core.specs.Places.{IsPlace, IsSized}
+use Rattle.plain_core.specs.Standing.{IsShown, place, words_at}
 use Rattle.plain_core.proofs.Rows.{with_at-same, with_at-other}
 use Rattle.plain_core.proofs.Stands.{StepsCall, mutator_at}
 use Rattle.plain_core.proofs.Memory.{length_words}
-use Rattle.plain_core.proofs.Objects.{in_heap, object_of, extent_of, none_at, none_in}
+use Rattle.plain_core.proofs.Objects.{in_heap}
 use Rattle.plain_core.proofs.Freshness.{IsFresh, fresh_small, fresh_large, distinct_push, distinct_none, few_objects}
-
 use Rattle.plain_core.proofs.Rooms.{room_of}
 
 -- a new core
@@ -69,9 +68,9 @@ new_fresh pages row (Large count) kind e placed sized l p = fresh_large pages co
 after_cases : (s : Heap) (base : ℕ) (o' : Object) (b : ℕ) (p : Object) → HasObject (with_object s base (Some o')) b p → ((b ≡ base) × (o' ≡ p)) ⊎ ((b ≢ base) × HasObject s b p)
 after_cases s base o' b p is =
     ⊎_elim
-      (λ same. inl (same, same_Some _ _ (sym (with_at-same s.objects base (Some o') b same) ∙ is)))
-      (λ other. inr (other, sym (with_at-other s.objects base (Some o') b other) ∙ is))
-      (cases_eq b base)
+    (λ same. inl (same, same_Some _ _ (sym (with_at-same s.objects base (Some o') b same) ∙ is)))
+    (λ other. inr (other, sym (with_at-other s.objects base (Some o') b other) ∙ is))
+    (cases_eq b base)
 
 -- the words that a new object's place has
 pub record IsZeroed (old new : List ℕ) (e : Extent) : Type 0 where
@@ -85,14 +84,14 @@ words_index row e i lt = get_or-take e.length (drop (place e.base) row) i 0 lt �
 zero_words : (old new : List ℕ) (pages : ℕ) (e : Extent) → length old ≡ PAGE_WORDS * pages → IsInHeap pages e → IsZeroed old new e → replicate e.length 0 ≡ words_at new e
 zero_words old new pages e l i z =
     ext_get_or 0 _ _ (length-replicate e.length 0 ∙ sym (length_words new pages e (z.long ∙ l) i))
-      (λ k lt. let h : k < e.length = rw length-replicate at lt in
-        get_or-replicate e.length k 0 0 h ∙ sym (words_index new e k h ∙ z.zeroed (place e.base + k) (omega arith) (omega arith)))
+    (λ k lt. let h : k < e.length = rw length-replicate at lt in
+    get_or-replicate e.length k 0 0 h ∙ sym (words_index new e k h ∙ z.zeroed (place e.base + k) (omega arith) (omega arith)))
 
 other_words : (old new : List ℕ) (pages : ℕ) (e g : Extent) → length old ≡ PAGE_WORDS * pages → IsInHeap pages e → IsInHeap pages g → IsZeroed old new e → ((w : ℕ) → Reads w e.base e.length → Reads w g.base g.length → ⊥) → words_at old g ≡ words_at new g
 other_words old new pages e g l ie ig z apart =
     ext_get_or 0 _ _ (length_words old pages g l ig ∙ sym (length_words new pages g (z.long ∙ l) ig))
-      (λ k lt. let h : k < g.length = rw (length_words old pages g l ig) at lt in
-        words_index old g k h ∙ sym (words_index new g k h ∙ z.others (place g.base + k) (outside k h)))
+    (λ k lt. let h : k < g.length = rw (length_words old pages g l ig) at lt in
+    words_index old g k h ∙ sym (words_index new g k h ∙ z.others (place g.base + k) (outside k h)))
   where
     outside : (k : ℕ) → k < g.length → (place g.base + k < place e.base) ⊎ (place e.base + e.length ≤ place g.base + k)
     outside k h = ⊎_elim (λ before. inl before) (λ from. ⊎_elim (λ inside. absurd (apart (g.base + WORD_BYTES * k) (omega arith, omega arith) (omega arith, omega arith))) (λ past. inr past) (cases_lt (place g.base + k) (place e.base + e.length))) (cases_lt (place g.base + k) (place e.base))
@@ -100,39 +99,49 @@ other_words old new pages e g l ie ig z apart =
 pub allocates : (c : Contents) (k d n : ℕ) (kind : Kind) (m : Mutator) (place : Placement) (e : Extent) (row : List ℕ) → IsSound c → slice_get c.mutators k ≡ Some (Some m) → placement_of n ≡ Some place → IsPlace c.objects c.pages place kind e.base → e.kind ≡ kind → e.length ≡ length_of place
     → IsInHeap c.pages e → IsFresh c.objects e → IsZeroed c.words row e
     → StepsCall c k (Alloc d n kind) Done (record c { words = row; objects = c.objects ++ e ∷ []; mutators = set c.mutators k (Some (record m { registers = set m.registers d e.base })) })
-allocates c k d n kind m place e row sound at is room same_kind same_length new fresh zeroed s h =
-    (after, acts (mutator_at c s h k (Some m) at) (Acts.allocated e.base is (room_of c sound s h place kind e.base room)), record {
-      pages = h.pages;
-      mutators = ap (λ xs. set xs k (Some m')) h.mutators;
-      globals = h.globals;
-      kept = λ g hg. ⊎_elim
-        (λ old. let kept = h.kept g old in (kept.0, with_at-other s.objects e.base (Some o) g.base (λ same. fresh g g.base old (base_in e new g.base same) (base_in g (in_heap c sound g old) g.base refl)) ∙ kept.1,
-          record { kind = kept.2.kind; words = kept.2.words ∙ other_words c.words row c.pages e g sound.words new (in_heap c sound g old) zeroed (λ w re rg. fresh g w old re rg) }))
+allocates c k d n kind m place e row sound at is room same_kind same_length new fresh zeroed s h = (
+  after,
+  acts (mutator_at c s h k (Some m) at) (Acts.allocated e.base is (room_of c sound s h place kind e.base room)),
+  record {
+    pages = h.pages;
+    mutators = ap (λ xs. set xs k (Some m')) h.mutators;
+    globals = h.globals;
+    kept = λ g hg. ⊎_elim
+        (λ old. let kept = h.kept g old in (
+          kept.0,
+          with_at-other s.objects e.base (Some o) g.base (λ same. fresh g g.base old (base_in e new g.base same) (base_in g (in_heap c sound g old) g.base refl)) ∙ kept.1,
+          record { kind = kept.2.kind; words = kept.2.words ∙ other_words c.words row c.pages e g sound.words new (in_heap c sound g old) zeroed (λ w re rg. fresh g w old re rg) },
+        ))
         (λ same. subst (λ (x : Extent). (p : Object) × HasObject after x.base p × IsShown row x p) same
-          (o, with_at-same s.objects e.base (Some o) e.base refl, record { kind = sym same_kind; words = ap (λ x. replicate x 0) (sym same_length) ∙ zero_words c.words row c.pages e sound.words new zeroed }))
+        (o, with_at-same s.objects e.base (Some o) e.base refl, record { kind = sym same_kind; words = ap (λ x. replicate x 0) (sym same_length) ∙ zero_words c.words row c.pages e sound.words new zeroed }))
         (Contains-push_cases c.objects e g hg);
-      only = λ b p has. ⊎_elim
+    only = λ b p has. ⊎_elim
         (λ q. (e, Contains-push c.objects e, sym q.0))
         (λ q. let f = h.only b p q.1 in (f.0, Contains-append_left c.objects (e ∷ []) f.0 f.1, f.2))
         (after_cases s e.base o b p has);
-      born = λ b p has. ⊎_elim
+    born = λ b p has. ⊎_elim
         (λ q. subst (λ (x : Object). (1 ≤ x.birth) × (x.birth ≤ s.births + 1)) q.1 (omega arith, omega arith))
         (λ q. let r = h.born b p q.1 in (r.0, omega (arith, r.1)))
         (after_cases s e.base o b p has);
-      distinct = λ a b p q ha hb same. ⊎_elim
+    distinct = λ a b p q ha hb same. ⊎_elim
         (λ x. ⊎_elim (λ y. x.0 ∙ sym y.0) (λ y. absurd (too_late b q (p.birth) y.1 (ap (λ (z : Object). z.birth) x.1) same)) (after_cases s e.base o b q hb))
         (λ x. ⊎_elim (λ y. absurd (too_late a p (q.birth) x.1 (ap (λ (z : Object). z.birth) y.1) (sym same))) (λ y. h.distinct a b p q x.1 y.1 same) (after_cases s e.base o b q hb))
         (after_cases s e.base o a p ha);
-    })
+  },
+)
   where
     m' : Mutator
     m' = record m { registers = set m.registers d e.base }
+
     o : Object
     o = record { birth = s.births + 1; kind = kind; words = replicate (length_of place) 0 }
+
     after : Heap
     after = record (with_register (with_object s e.base (Some o)) k m d e.base) { births = s.births + 1 }
+
     base_in : (g : Extent) → IsInHeap c.pages g → (w : ℕ) → w ≡ g.base → Reads w g.base g.length
     base_in g i w same = (omega arith, omega arith)
+
     too_late : (b : ℕ) (q : Object) (x : ℕ) → HasObject s b q → s.births + 1 ≡ x → x ≡ q.birth → ⊥
     too_late b q x has is same = let r = h.born b q has in let l = r.1 in omega arith
 
@@ -147,9 +156,9 @@ sound_after c e row sound new placed fresh long = record {
   placed = All-push IsPlaced c.objects e sound.placed placed;
   distinct = distinct_push c.pages c.objects e sound.in_heap new fresh sound.distinct;
   apart = λ f g w hf hg rf rg. ⊎_elim
-    (λ x. ⊎_elim (λ y. sound.apart f g w x y rf rg) (λ y. absurd (fresh f w x (subst (λ (z : Extent). Reads w z.base z.length) (sym y) rg) rf)) (Contains-push_cases c.objects e g hg))
-    (λ x. ⊎_elim (λ y. absurd (fresh g w y (subst (λ (z : Extent). Reads w z.base z.length) (sym x) rf) rg)) (λ y. sym x ∙ y) (Contains-push_cases c.objects e g hg))
-    (Contains-push_cases c.objects e f hf);
+      (λ x. ⊎_elim (λ y. sound.apart f g w x y rf rg) (λ y. absurd (fresh f w x (subst (λ (z : Extent). Reads w z.base z.length) (sym y) rg) rf)) (Contains-push_cases c.objects e g hg))
+      (λ x. ⊎_elim (λ y. absurd (fresh g w y (subst (λ (z : Extent). Reads w z.base z.length) (sym x) rf) rg)) (λ y. sym x ∙ y) (Contains-push_cases c.objects e g hg))
+      (Contains-push_cases c.objects e f hf);
 }
 
 -- there is room for one more

@@ -1,6 +1,6 @@
 -- An object goes.
-use Rattle.std.proofs.Common.{◌≡◌, ℕ, ◌-◌, ◌/◌, zero, suc, false, List, [], ◌∷◌, map, get_or, length, ◌<◌, eqb, refl, sym, ap, ◌∙◌, subst, arith, ⊎_elim, ◌⊎◌, inl, inr}
-use Rattle.std.specs.Prelude.{◌≢◌, Some, None, All, Contains, IsPermutation, slice_get, nat_eq}
+use Rattle.std.proofs.Common.{◌≡◌, ℕ, ◌-◌, ◌/◌, zero, suc, false, List, [], ◌∷◌, map, get_or, length, ◌<◌, eqb, sym, ap, ◌∙◌, subst, arith, ⊎_elim, ◌⊎◌, inl, inr}
+use Rattle.std.specs.Prelude.{◌≢◌, Some, None, Contains, IsPermutation, slice_get, nat_eq}
 use Rattle.std.specs.List.{IsDistinct, AllByRecursion, swap_remove}
 use Rattle.std.proofs.lemmas.List.Elements.{All-contains, Contains-get_or, Contains-append_right, Contains-append_cases, Contains-push_cases}
 use Rattle.std.proofs.lemmas.List.Sorted.{Contains-permutation, IsPermutation-map, IsPermutation-sym, IsPermutation-swap_remove}
@@ -15,7 +15,7 @@ use Rattle.heap_spec.specs.Heap.{Heap, Object, Mutator, HasObject}
 use Rattle.heap_spec.specs.Steps.{Acts, acts, with_object, register}
 use Rattle.plain_core.specs.declared.extent.Extent.{Extent}
 use Rattle.plain_core.specs.Contents.{Contents, IsSound, IsInHeap, IsPlaced, granule}
-use Rattle.plain_core.specs.Standing.{StandsFor, IsShown}
+use Rattle.plain_core.specs.Standing.{IsShown}
 use Rattle.plain_core.proofs.Rows.{with_at-same, with_at-other}
 use Rattle.plain_core.proofs.Stands.{StepsCall, mutator_at, keeps_all}
 use Rattle.plain_core.proofs.Objects.{reads_object}
@@ -69,21 +69,22 @@ module _ (c : Contents) (sound : IsSound c) (e : Extent) (rest : List Extent) (p
       (other, sym (with_at-other s.objects e.base None b other) ∙ is)
 
   pub frees : (k r : ℕ) (m : Mutator) → slice_get c.mutators k ≡ Some (Some m) → Contains c.objects e → e.base ≡ register m r → StepsCall c k (Free r) Done (record c { objects = rest })
-  frees k r m at has same s h =
-      (with_object s e.base None,
-       acts (mutator_at c s h k (Some m) at) (subst (λ (b : ℕ). Acts s k m (Free r) Done (with_object s b None)) (sym same) (Acts.freed (subst (λ (b : ℕ). HasObject s b kept.0) same kept.1))),
-       record {
-         pages = h.pages;
-         mutators = h.mutators;
-         globals = h.globals;
-         kept = λ f hf. let old = h.kept f (was_in f hf) in (old.0, with_at-other s.objects e.base None f.base (other_base f hf) ∙ old.1, old.2);
-         only = λ b p is.
-             let was = was_there s b p is in
-             let f = h.only b p was.1 in
-             ⊎_elim (λ gone. absurd (was.0 (sym f.2 ∙ ap (λ (x : Extent). x.base) gone))) (λ stays. (f.0, stays, f.2)) (stays_in f.0 f.1);
-         born = λ b p is. h.born b p (was_there s b p is).1;
-         distinct = λ a b p q ip iq birth. h.distinct a b p q (was_there s a p ip).1 (was_there s b q iq).1 birth;
-       })
+  frees k r m at has same s h = (
+    with_object s e.base None,
+    acts (mutator_at c s h k (Some m) at) (subst (λ (b : ℕ). Acts s k m (Free r) Done (with_object s b None)) (sym same) (Acts.freed (subst (λ (b : ℕ). HasObject s b kept.0) same kept.1))),
+    record {
+      pages = h.pages;
+      mutators = h.mutators;
+      globals = h.globals;
+      kept = λ f hf. let old = h.kept f (was_in f hf) in (old.0, with_at-other s.objects e.base None f.base (other_base f hf) ∙ old.1, old.2);
+      only = λ b p is.
+          let was = was_there s b p is in
+          let f = h.only b p was.1 in
+          ⊎_elim (λ gone. absurd (was.0 (sym f.2 ∙ ap (λ (x : Extent). x.base) gone))) (λ stays. (f.0, stays, f.2)) (stays_in f.0 f.1);
+      born = λ b p is. h.born b p (was_there s b p is).1;
+      distinct = λ a b p q ip iq birth. h.distinct a b p q (was_there s a p ip).1 (was_there s b q iq).1 birth;
+    },
+  )
     where
       kept : (o : Object) × HasObject s e.base o × IsShown c.words e o
       kept = h.kept e has

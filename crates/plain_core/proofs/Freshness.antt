@@ -1,10 +1,10 @@
 -- A new object shares no word with those that are there, and there are no more objects than granules.
-use Rattle.std.proofs.Common.{◌≡◌, ℕ, ◌+◌, ◌-◌, ◌*◌, ◌/◌, ◌%◌, ◌<◌, ◌≤◌, ◌⊎◌, Bool, true, false, List, [], ◌∷◌, ◌++◌, length, get_or, map, eqb, refl, sym, ap, ◌∙◌, subst, arith, inl, inr, ⊎_elim}
-use Rattle.std.specs.Prelude.{◌≢◌, Option, Some, None, All, Contains}
+use Rattle.std.proofs.Common.{◌≡◌, ℕ, ◌+◌, ◌-◌, ◌*◌, ◌/◌, ◌<◌, ◌≤◌, true, false, List, [], ◌∷◌, ◌++◌, length, get_or, map, eqb, sym, ap, ◌∙◌, arith, ⊎_elim}
+use Rattle.std.specs.Prelude.{All, Contains}
 use Rattle.std.specs.List.{list_any, IsDistinct}
 use Rattle.std.proofs.Math.Nat.{mul-le-mul_left}
-use Rattle.std.proofs.lemmas.List.{map_push, length-map, length_push}
-use Rattle.std.proofs.lemmas.List.Elements.{All-contains, All-map, All-weaker, All-push, All-get_or, Contains-push_cases, Contains-get_or}
+use Rattle.std.proofs.lemmas.List.{map_push, length-map}
+use Rattle.std.proofs.lemmas.List.Elements.{All-contains, All-map, All-weaker, Contains-get_or}
 use Rattle.std.proofs.lemmas.List.Folds.{list_any_none, Any-from_list_any}
 use Rattle.std.proofs.lemmas.Map.Keys.{IsDistinct-push}
 use Rattle.std.proofs.lemmas.Map.Steps.{length-le_from_distinct_below}
@@ -16,17 +16,18 @@ use Rattle.heap_spec.specs.Layout.{Reads, LiesOn, page_start}
 use Rattle.plain_core.specs.declared.extent.Extent.{Extent}
 use Rattle.plain_core.specs.Contents.{IsInHeap, IsCell, HasPages, IsPlaced, granule}
 use Rattle.plain_core.proofs.Rows.{eqb_ne}
-use Rattle.plain_core.specs.Places.{IsPlaceOn, IsLargePlace, IsFreePage, IsCutPage, IsNoBase}
+use Rattle.plain_core.specs.Places.{IsPlaceOn, IsLargePlace, IsCutPage, IsNoBase}
 
 -- two cells of one length that have a word in common are one
 pub same_cell : (length i j x : ℕ) → length * i ≤ x → x < length * (i + 1) → length * j ≤ x → x < length * (j + 1) → i ≡ j
 same_cell length i j x a b c d =
     ⊎_elim (λ less. absurd (let h : length * (i + 1) ≤ length * j = mul-le-mul_left length (before less) in omega arith))
-      (λ more. ⊎_elim (λ less. absurd (let h : length * (j + 1) ≤ length * i = mul-le-mul_left length (after less) in omega arith)) (λ le. omega arith) (cases_lt j i))
-      (cases_lt i j)
+    (λ more. ⊎_elim (λ less. absurd (let h : length * (j + 1) ≤ length * i = mul-le-mul_left length (after less) in omega arith)) (λ le. omega arith) (cases_lt j i))
+    (cases_lt i j)
   where
     before : i < j → i + 1 ≤ j
     before less = omega arith
+
     after : j < i → j + 1 ≤ i
     after less = omega arith
 
@@ -40,19 +41,25 @@ fresh_small page kind row e placed few p f w has re rf =
   where
     cell : ℕ
     cell = p.cell
+
     is_cell : e.base ≡ page_start page + WORD_BYTES * (e.length * cell)
     is_cell = p.is_cell
+
     in_page : e.length * (cell + 1) ≤ PAGE_WORDS
     in_page = p.in_page
+
     lies : LiesOn f.base f.length page
     lies = (omega arith, omega arith)
+
     in_cut : IsCutPage row page e.length kind → IsNoBase row e.base → ⊥
     in_cut cut none = ⊎_elim small large (All-contains (IsPlaced) row f placed has)
       where
         agrees : (f.length ≡ e.length) × (f.kind ≡ kind)
         agrees = All-contains (λ (g : Extent). LiesOn g.base g.length page → (g.length ≡ e.length) × (g.kind ≡ kind)) row f cut has lies
+
         large : HasPages f → ⊥
         large l = let a = agrees.0 in let s = l.some in let h = l.whole in omega arith
+
         small : IsCell f → ⊥
         small s =
             let a = agrees.0 in

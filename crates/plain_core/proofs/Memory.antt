@@ -1,6 +1,5 @@
 -- The words of an object in the row of words, and what a write does to them.
-use Rattle.std.proofs.Common.{◌≡◌, ℕ, ◌+◌, ◌-◌, ◌*◌, ◌/◌, ◌%◌, ◌<◌, ◌≤◌, ◌⊎◌, Bool, true, false, List, [], length, get_or, take, drop, set, refl, sym, ap, ◌∙◌, subst, arith, inl, inr, ⊎_elim}
-use Rattle.std.specs.Prelude.{◌≢◌, All, Contains}
+use Rattle.std.proofs.Common.{◌≡◌, ℕ, ◌+◌, ◌-◌, ◌*◌, ◌/◌, ◌%◌, ◌<◌, ◌≤◌, ◌⊎◌, List, length, get_or, take, drop, set, sym, ap, ◌∙◌, arith, inl, inr, ⊎_elim}
 use Rattle.std.proofs.Math.Seq.{take-set-lt}
 use Rattle.std.proofs.lemmas.List.{length-take, length-drop, get_or-take, get_or-drop, drop-set-add, drop-set-lt, take-set-le}
 use Rattle.std.proofs.lemmas.Bool.{cases_lt}
@@ -53,9 +52,9 @@ outside pages a e h low al n =
 pub written_out : (row : List ℕ) (pages a v : ℕ) (e : Extent) → IsInHeap pages e → FIRST_ADDRESS ≤ a → a % WORD_BYTES ≡ 0 → (Reads a e.base e.length → ⊥) → words_at (set row (place a) v) e ≡ words_at row e
 written_out row pages a v e h low al n =
     ⊎_elim
-      (λ after. ap (λ i. take e.length (drop (place e.base) (set row i v))) (sum_of after) ∙ written_after row (place e.base) (place a - place e.base) e.length v (omega arith))
-      (λ before. written_before row (place a) (place e.base) e.length v before)
-      (outside pages a e h low al n)
+    (λ after. ap (λ i. take e.length (drop (place e.base) (set row i v))) (sum_of after) ∙ written_after row (place e.base) (place a - place e.base) e.length v (omega arith))
+    (λ before. written_before row (place a) (place e.base) e.length v before)
+    (outside pages a e h low al n)
   where
     sum_of : place e.base + e.length ≤ place a → place a ≡ place e.base + (place a - place e.base)
     sum_of after = omega arith

@@ -1,31 +1,17 @@
 -- Where a core has a place, the heaps that it stands for have room, and the other way round.
-use Rattle.std.proofs.Common.{◌≡◌, ℕ, ◌+◌, ◌-◌, ◌*◌, ◌/◌, ◌%◌, ◌<◌, ◌≤◌, ◌⊎◌, Bool, true, false, List, [], ◌∷◌, ◌++◌, length, get_or, map, take, drop, set, replicate, eqb, refl, sym, ap, ◌∙◌, subst, arith, inl, inr, ⊎_elim, cond}
-use Rattle.std.specs.Prelude.{Result, Ok, Err, IsOk, is_ok, ◌≢◌, Option, Some, None, All, Contains, slice_get}
-use Rattle.std.proofs.Math.Nat.{mul_assoc, mul-mod_right}
-use Rattle.std.proofs.lemmas.List.{ext_get_or, get_or-take, get_or-drop, get_or-replicate, length-replicate, length-set, length_push}
-use Rattle.std.proofs.lemmas.List.Elements.{All-nil, All-contains, All-push, Contains-push_cases, Contains-push, Contains-append_left, Contains-get_or}
-use Rattle.std.proofs.lemmas.Option.{same_Some, none-some}
-use Rattle.std.proofs.lemmas.Bool.{cases_lt, cases_eq}
+use Rattle.std.proofs.Common.{◌≡◌, ℕ, get_or, sym, ◌∙◌, inl, inr, ⊎_elim}
+use Rattle.std.proofs.lemmas.List.Elements.{All-contains, Contains-get_or}
 use Rattle.words.specs.declared.class.Kind.{Kind}
 use Rattle.words.specs.declared.class.Placement.{Placement}
 use Rattle.words.specs.declared.class.Placement.TheVariants.{Small, Large}
-use Rattle.words.specs.declared.limits.TheConstants.{WORD_BYTES, PAGE_WORDS, PAGE_GRANULES, FIRST_ADDRESS, MAX_PAGES}
-use Rattle.words.specs.Placing.{placement_of}
-use Rattle.heap_spec.specs.declared.call.Call.TheVariants.{Alloc}
-use Rattle.heap_spec.specs.declared.reply.Reply.TheVariants.{Done}
-use Rattle.heap_spec.specs.Layout.{Reads, LiesOn, page_start}
-use Rattle.heap_spec.specs.Heap.{Heap, Object, Mutator, HasObject}
-use Rattle.heap_spec.specs.Room.{IsFree, IsCutFor, HasRoom, length_of}
-use Rattle.heap_spec.specs.Steps.{Acts, acts, with_register, with_object}
+use Rattle.heap_spec.specs.Layout.{LiesOn}
+use Rattle.heap_spec.specs.Heap.{Heap}
+use Rattle.heap_spec.specs.Room.{IsFree, IsCutFor, HasRoom}
 use Rattle.plain_core.specs.declared.extent.Extent.{Extent}
-use Rattle.plain_core.specs.Contents.{Contents, IsSound, IsInHeap, IsCell, HasPages, IsPlaced, granule}
-use Rattle.plain_core.specs.Places.{IsPlace, IsPlaceOn, IsFreePage, IsCutPage, IsSized}
-use Rattle.plain_core.specs.Standing.{StandsFor, IsShown, place, words_at}
-use Rattle.plain_core.proofs.Rows.{with_at-same, with_at-other}
-use Rattle.plain_core.proofs.Stands.{StepsCall, mutator_at}
-use Rattle.plain_core.proofs.Memory.{length_words}
-use Rattle.plain_core.proofs.Objects.{in_heap, object_of, extent_of, none_at, none_in}
-use Rattle.plain_core.proofs.Freshness.{IsFresh, fresh_small, fresh_large, distinct_push, distinct_none, few_objects}
+use Rattle.plain_core.specs.Contents.{Contents, IsSound}
+use Rattle.plain_core.specs.Places.{IsPlace, IsFreePage, IsCutPage}
+use Rattle.plain_core.specs.Standing.{StandsFor}
+use Rattle.plain_core.proofs.Objects.{object_of, extent_of, none_at, none_in}
 
 module _ (c : Contents) (sound : IsSound c) (s : Heap) (h : StandsFor c s) where
   free_of : (page : ℕ) → IsFreePage c.objects page → IsFree s page
@@ -52,20 +38,34 @@ module _ (c : Contents) (sound : IsSound c) (s : Heap) (h : StandsFor c s) where
 
   pub room_of : (place : Placement) (kind : Kind) (a : ℕ) → IsPlace c.objects c.pages place kind a → HasRoom s place kind a
   room_of (Small class) kind a p = record {
-    page = p.page; cell = p.on.cell; in_heap = rw h.pages p.in_heap; in_page = p.on.in_page; is_cell = p.on.is_cell;
+    page = p.page;
+    cell = p.on.cell;
+    in_heap = rw h.pages p.in_heap;
+    in_page = p.on.in_page;
+    is_cell = p.on.is_cell;
     cut = ⊎_elim (λ free. inl (free_of p.page free)) (λ cut. inr (cut_of p.page class kind cut.0, none_at c sound s h a cut.1)) p.on.cut;
   }
   room_of (Large count) kind a p = record {
-    first = p.first; in_heap = rw h.pages p.in_heap; is_start = p.is_start; free = λ page low high. free_of page (p.free page low high);
+    first = p.first;
+    in_heap = rw h.pages p.in_heap;
+    is_start = p.is_start;
+    free = λ page low high. free_of page (p.free page low high);
   }
 
   pub place_of : (place : Placement) (kind : Kind) (a : ℕ) → HasRoom s place kind a → IsPlace c.objects c.pages place kind a
   place_of (Small class) kind a r = record {
-    page = r.page; in_heap = rw (← h.pages) r.in_heap;
-    on = record { cell = r.cell; in_page = r.in_page; is_cell = r.is_cell;
-      cut = ⊎_elim (λ free. inl (free_in r.page free)) (λ cut. inr (cut_in r.page class kind cut.0, none_in c sound s h a cut.1)) r.cut };
+    page = r.page;
+    in_heap = rw (← h.pages) r.in_heap;
+    on = record {
+      cell = r.cell;
+      in_page = r.in_page;
+      is_cell = r.is_cell;
+      cut = ⊎_elim (λ free. inl (free_in r.page free)) (λ cut. inr (cut_in r.page class kind cut.0, none_in c sound s h a cut.1)) r.cut;
+    };
   }
   place_of (Large count) kind a r = record {
-    first = r.first; in_heap = rw (← h.pages) r.in_heap; is_start = r.is_start; free = λ page low high. free_in page (r.free page low high);
+    first = r.first;
+    in_heap = rw (← h.pages) r.in_heap;
+    is_start = r.is_start;
+    free = λ page low high. free_in page (r.free page low high);
   }
-

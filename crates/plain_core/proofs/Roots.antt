@@ -26,13 +26,16 @@ gets_global c k d g m at =
 
 pub puts_global : (c : Contents) (k g r : ℕ) (m : Mutator) → slice_get c.mutators k ≡ Some (Some m)
     → StepsCall c k (GlobalPut g r) Done (record c { globals = set c.globals g (register m r) })
-puts_global c k g r m at s h =
-    (record s { globals = set s.globals g (register m r) }, acts (mutator_at c s h k (Some m) at) Acts.global_put, record {
-      pages = h.pages;
-      mutators = h.mutators;
-      globals = ap (λ xs. set xs g (register m r)) h.globals;
-      kept = h.kept;
-      only = h.only;
-      born = h.born;
-      distinct = h.distinct;
-    })
+puts_global c k g r m at s h = (
+  record s { globals = set s.globals g (register m r) },
+  acts (mutator_at c s h k (Some m) at) Acts.global_put,
+  record {
+    pages = h.pages;
+    mutators = h.mutators;
+    globals = ap (λ xs. set xs g (register m r)) h.globals;
+    kept = h.kept;
+    only = h.only;
+    born = h.born;
+    distinct = h.distinct;
+  },
+)

@@ -21,8 +21,14 @@ fn first_run(rt: HostRuntime) -> Result<(), Fail> {
     assert_eq!(rt; core.load(slot, r3, r1, 1), Ok(0));
     assert_eq!(rt; core.load(slot, r3, r1, 4), Err(Refusal::NoObject));
     assert_eq!(rt; core.load(slot, r3, r2, 0), Err(Refusal::Misaligned));
-    assert_eq!(rt; core.alloc(slot, r1, 0, Kind::Normal), Err(Refusal::BadSize));
-    assert_eq!(rt; core.alloc(slot, r1, 16384, Kind::Normal), Err(Refusal::Full));
+    assert_eq!(rt;
+        core.alloc(slot, r1, 0, Kind::Normal),
+        Err(Refusal::BadSize)
+    );
+    assert_eq!(rt;
+        core.alloc(slot, r1, 16384, Kind::Normal),
+        Err(Refusal::Full)
+    );
     assert_eq!(rt; core.alloc(slot, r1, 1025, Kind::Normal), Ok(()));
     assert_eq!(rt; core.alloc(slot, r1, 257, Kind::Normal), Err(Refusal::Full));
     assert_eq!(rt; core.detach(slot), Ok(()));
@@ -33,7 +39,10 @@ fn first_run(rt: HostRuntime) -> Result<(), Fail> {
 #[test]
 fn pages_are_one_to_the_limit(rt: HostRuntime) -> Result<(), Fail> {
     assert_eq!(rt; Core::new(rt.alloc(), 0).err(), Some(OpenError::BadPages));
-    assert_eq!(rt; Core::new(rt.alloc(), 1025).err(), Some(OpenError::BadPages));
+    assert_eq!(rt;
+        Core::new(rt.alloc(), 1025).err(),
+        Some(OpenError::BadPages)
+    );
     assert!(rt; Core::new(rt.alloc(), 1).is_ok());
     assert!(rt; Core::new(rt.alloc(), 1024).is_ok());
     Ok(())

@@ -51,7 +51,10 @@ impl Core {
         let Some(mut mutator) = self.mutator(slot) else {
             return Err(Refusal::NoSlot);
         };
-        mutator.set_register(into, mutator.register(from).wrapping_sub(mutator.register(less)));
+        mutator.set_register(
+            into,
+            mutator.register(from).wrapping_sub(mutator.register(less)),
+        );
         self.put(slot, Some(mutator));
         Ok(())
     }

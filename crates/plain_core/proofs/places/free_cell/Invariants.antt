@@ -1,4 +1,4 @@
-use Rattle.std.proofs.Common.{ℕ, ◌≡◌, ◌<◌, ◌+◌, ◌*◌}
+use Rattle.std.proofs.Common.{ℕ, ◌<◌, ◌+◌, ◌*◌}
 use Rattle.words.specs.declared.limits.TheConstants.{WORD_BYTES}
 use Rattle.heap_spec.specs.Layout.{page_start}
 use Rattle.plain_core.specs.Places.{IsNoBase}

@@ -1,4 +1,4 @@
-use Rattle.std.proofs.Common.{take, ◌≡◌}
+use Rattle.std.proofs.Common.{take}
 use Rattle.plain_core.specs.Places.{IsNoBase}
 use Rattle.plain_core.proofs.places.is_base.Given as goal
 

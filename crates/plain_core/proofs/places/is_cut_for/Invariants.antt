@@ -1,6 +1,5 @@
-use Rattle.std.proofs.Common.{take, ◌≡◌}
-use Rattle.std.specs.Prelude.{All}
-use Rattle.plain_core.specs.Places.{IsFreePage, IsCutPage}
+use Rattle.std.proofs.Common.{take}
+use Rattle.plain_core.specs.Places.{IsCutPage}
 use Rattle.plain_core.proofs.places.is_cut_for.Given as goal
 
 -- so far

@@ -1,4 +1,4 @@
-use Rattle.std.proofs.Common.{ℕ, ◌≤◌, ◌<◌, ◌+◌, below_more, arith, refl}
+use Rattle.std.proofs.Common.{ℕ, ◌≤◌, ◌<◌, ◌+◌, below_more, arith}
 use Rattle.plain_core.specs.Places.{IsFreePage}
 use Rattle.plain_core.proofs.places.large_place.Goals as goal
 

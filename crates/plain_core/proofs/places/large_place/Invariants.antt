@@ -1,5 +1,5 @@
-use Rattle.std.proofs.Common.{ℕ, ◌≡◌, ◌<◌, ◌≤◌, ◌+◌, ◌*◌}
-use Rattle.plain_core.specs.Places.{IsPlaceOn, IsFreePage}
+use Rattle.std.proofs.Common.{ℕ, ◌<◌, ◌≤◌, ◌+◌}
+use Rattle.plain_core.specs.Places.{IsFreePage}
 use Rattle.plain_core.proofs.places.large_place.Given as goal
 
 -- so far

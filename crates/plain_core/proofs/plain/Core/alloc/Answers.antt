@@ -1,4 +1,4 @@
-use Rattle.std.proofs.Common.{subst, get_or, ◌≡◌, ◌<◌, ◌≤◌, ◌*◌, ap, ◌∙◌, Some, sym, length, arith}
+use Rattle.std.proofs.Common.{subst, get_or, ◌≡◌, ◌<◌, ◌≤◌, ◌*◌, ap, ◌∙◌, sym, length, arith}
 use Rattle.std.specs.Vec.{vec_capacity}
 use Rattle.std.proofs.lemmas.List.{with_items_is}
 use Rattle.words.specs.declared.limits.TheConstants.{PAGE_GRANULES}
@@ -8,7 +8,7 @@ use Rattle.plain_core.specs.Places.{IsPlace}
 use Rattle.plain_core.proofs.Stands.{refused_vacant, keeps_all}
 use Rattle.plain_core.proofs.Rooms.{place_of}
 use Rattle.plain_core.proofs.Placing.{sized}
-use Rattle.plain_core.proofs.Alloc.{pushed_items, IsZeroed, room_left, fits_row, alloc_sound, alloc_steps}
+use Rattle.plain_core.proofs.Alloc.{pushed_items, IsZeroed, room_left, alloc_sound, alloc_steps}
 use Rattle.plain_core.proofs.plain.Core.alloc.Goals as goal
 
 pub returns-in_default : goal.returns-in_default
@@ -31,11 +31,12 @@ invariant_of-self c =
     let room : IsPlace c.self.inside.objects.items c.self.inside.pages c.in-Some-class_of.placement c.args.kind object.base = rw c.deref.ensures.value at c.in-Some-place_for.ensures.some.2 in
     let left : length c.self.inside.objects.items < PAGE_GRANULES * c.self.inside.pages = room_left _ c.in-Some-class_of.placement c.args.kind object c.self.invariant.0 fits c.in-Some-place_for.ensures.some.1 room in
     let spare : PAGE_GRANULES * c.self.inside.pages ≤ vec_capacity c.self.inside.objects = c.self.invariant.1 in
-    let long : length c.zero.new.words ≡ length c.self.inside.words.items = c.zero.auto.words ∙ ap length c.deref_mut.ensures.value in
-    (alloc_sound _ c.in-Some-class_of.placement c.args.kind object c.self.invariant.0 fits c.in-Some-place_for.ensures.some.1 room _ _
-      (ap length (with_items_is c.self.inside.words c.zero.new.words (long ∙ sym c.self.inside.words.ok.0)) ∙ long)
-      (pushed_items _ _ _ _ (c.push-pushed.ensures.succeeds (let ok = c.self.inside.objects.ok in omega (arith, ok.0))) c.push-pushed.ensures.items),
-     omega (arith, c.push-pushed.ensures.capacity))
+    let long : length c.zero.new.words ≡ length c.self.inside.words.items = c.zero.auto.words ∙ ap length c.deref_mut.ensures.value in (
+      alloc_sound _ c.in-Some-class_of.placement c.args.kind object c.self.invariant.0 fits c.in-Some-place_for.ensures.some.1 room _ _
+          (ap length (with_items_is c.self.inside.words c.zero.new.words (long ∙ sym c.self.inside.words.ok.0)) ∙ long)
+          (pushed_items _ _ _ _ (c.push-pushed.ensures.succeeds (let ok = c.self.inside.objects.ok in omega (arith, ok.0))) c.push-pushed.ensures.items),
+      omega (arith, c.push-pushed.ensures.capacity),
+    )
 
 pub returns : goal.returns
 returns c =

@@ -1,5 +1,4 @@
 use Rattle.heap_spec.specs.Steps.{Acts}
-use Rattle.plain_core.specs.Mutators.{shown}
 use Rattle.plain_core.proofs.Stands.{refused_vacant, keeps_all, changes_mutator}
 use Rattle.plain_core.proofs.Objects.{reads_nothing, reads_object}
 use Rattle.plain_core.proofs.plain.Core.base.Goals as goal

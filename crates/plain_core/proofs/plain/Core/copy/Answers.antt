@@ -1,5 +1,4 @@
 use Rattle.heap_spec.specs.Steps.{Acts}
-use Rattle.plain_core.specs.Mutators.{shown}
 use Rattle.plain_core.proofs.Stands.{refused_vacant, changes_mutator}
 use Rattle.plain_core.proofs.plain.Core.copy.Goals as goal
 

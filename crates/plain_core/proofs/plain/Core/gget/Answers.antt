@@ -1,5 +1,3 @@
-use Rattle.heap_spec.specs.Steps.{Acts}
-use Rattle.plain_core.specs.Mutators.{shown}
 use Rattle.plain_core.proofs.Stands.{refused_vacant}
 use Rattle.plain_core.proofs.Roots.{gets_global}
 use Rattle.plain_core.proofs.plain.Core.gget.Goals as goal

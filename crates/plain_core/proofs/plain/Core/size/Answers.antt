@@ -1,5 +1,4 @@
 use Rattle.heap_spec.specs.Steps.{Acts}
-use Rattle.plain_core.specs.Mutators.{shown}
 use Rattle.plain_core.proofs.Stands.{refused_vacant, keeps_all}
 use Rattle.plain_core.proofs.Objects.{reads_nothing}
 use Rattle.plain_core.proofs.LoadStore.{sizes}
