@@ -1,4 +1,5 @@
 //! Readers and writers that fail where they are told to.
+ghost use Rattle.std.specs.Prelude.{None};
 
 use crate::count::Count;
 use crate::source::{Failed, Sink, Source};
