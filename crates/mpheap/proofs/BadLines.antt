@@ -3,10 +3,9 @@ use Rattle.std.proofs.Common.{◌≡◌, ℕ, ◌<◌, ◌≤◌, List, [], ◌�
 use Rattle.std.specs.Prelude.{decimal}
 use Rattle.words.specs.declared.limits.TheConstants.{SLOTS}
 use Rattle.heap_spec.specs.declared.call.Call.{Call}
-use Rattle.heap_spec.specs.declared.event.Event.{Event}
 use Rattle.heap_spec.specs.declared.event.Event.TheVariants.{Attach, Mutator}
 use Rattle.mpheap.specs.declared.limits.TheConstants.{LINE_BYTES}
-use Rattle.mpheap.specs.Grammar.{words_of, call_words, IsLineOf, IsBad}
+use Rattle.mpheap.specs.Grammar.{words_of, IsLineOf, IsBad}
 use Rattle.mpheap.specs.Calls.{AreCallWords}
 use Rattle.mpheap.proofs.Commands.{rest_of, first_of_words, not_attach}
 

@@ -1,13 +1,13 @@
 -- The words of each call.
 use Rattle.std.proofs.Common.{◌≡◌, ℕ, ◌<◌, Bool, true, false, eqb, List, [], ◌∷◌, sym, ap, ◌∙◌, subst, arith, codes, length}
-use Rattle.std.specs.Prelude.{Option, Some, None, MatchOption, decimal}
+use Rattle.std.specs.Prelude.{Option, decimal}
 use Rattle.std.specs.Cmp.Lexicographic.{pointwise}
 use Rattle.std.proofs.lemmas.Fmt.{length-decimal-le}
 use Rattle.words.specs.declared.class.Kind.{Kind}
 use Rattle.words.specs.declared.limits.TheConstants.{SLOTS, REGISTERS}
 use Rattle.heap_spec.specs.Layout.{word_end}
 use Rattle.heap_spec.specs.declared.call.Call.{Call}
-use Rattle.heap_spec.specs.declared.call.Call.TheVariants.{Detach, Set, Copy, Add, Sub, Get, Push, Pop, Load, Store, Alloc, Free, Base, Size, GlobalGet, GlobalPut}
+use Rattle.heap_spec.specs.declared.call.Call.TheVariants.{Detach, Set, Load, Store, Alloc}
 use Rattle.mpheap.specs.Grammar.{kind_word, call_words}
 use Rattle.mpheap.specs.Calls.{AreCallWords, ReadsCall}
 

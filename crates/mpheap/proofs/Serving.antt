@@ -1,6 +1,6 @@
 -- A run of lines is answered: one line more, and each way to end.
-use Rattle.std.proofs.Common.{◌≡◌, ℕ, ◌+◌, ◌-◌, ◌<◌, ◌≤◌, Bool, true, false, List, [], ◌∷◌, ◌++◌, length, take, map, refl, sym, ap, ◌∙◌, subst, arith, append_assoc, inl, inr, suc}
-use Rattle.std.specs.Prelude.{flat_map, All, Option, Some, None, Result, Ok, Err, slice_get, ⊤, ◌⊎◌}
+use Rattle.std.proofs.Common.{◌≡◌, ℕ, ◌+◌, ◌-◌, ◌<◌, ◌≤◌, List, [], ◌∷◌, ◌++◌, length, take, map, refl, sym, ap, ◌∙◌, subst, arith, append_assoc, inl, inr, suc}
+use Rattle.std.specs.Prelude.{All, Option, Some, None, Result, Ok, Err, slice_get, ⊤, ◌⊎◌}
 use Rattle.std.specs.List.{AllZip}
 use Rattle.std.specs.Io.KnownBytes.{Consumes, Appends, IsAtEnd}
 use Rattle.std.proofs.lemmas.List.{map_push, append-nil}
@@ -24,7 +24,7 @@ use Rattle.mpheap.specs.Grammar.{IsLineOf, IsBad}
 use Rattle.mpheap.specs.Lines.{newline, lines_of, whole_lines_of}
 use Rattle.mpheap.specs.Reading.{left_of, IsPlain, IsFound}
 use Rattle.mpheap.specs.Printing.{reply_line, printed}
-use Rattle.mpheap.specs.Answers.{Answers, HasBadLine, BeginsAnswer, IsAnswered, Serves}
+use Rattle.mpheap.specs.Answers.{Answers, BeginsAnswer, IsAnswered, Serves}
 use Rattle.mpheap.specs.Turns.{IsRun, IsTurn, HasRun, IsUpTo, text_of}
 use Rattle.mpheap.proofs.Bytes.{Appends-none, Appends-more, Consumes-none, Consumes-more}
 use Rattle.mpheap.proofs.Texts.{lines_of-text, lines_of-line, lines_of-last, first_line, whole_lines_of-text, take-front, at-front, text_of-push}

@@ -1,5 +1,5 @@
 -- What a script's lines are answered.
-use Rattle.std.specs.Prelude.{◌≡◌, ℕ, ◌+◌, ◌-◌, ◌<◌, ◌⊎◌, Option, Some, List, [], ◌∷◌, ◌++◌, length, take, map, slice_get, Result, Ok, Err, ⊤}
+use Rattle.std.specs.Prelude.{◌≡◌, ℕ, ◌-◌, ◌<◌, ◌⊎◌, Option, Some, List, [], ◌++◌, length, take, map, slice_get, Result, Ok, Err, ⊤}
 use Rattle.std.specs.List.{AllZip}
 use Rattle.heap_spec.specs.Runs.{Told, Run, fresh}
 use Rattle.heap_spec.specs.Transcripts.{LegalTranscript}

@@ -1,5 +1,5 @@
 -- The ranges of the numbers in calls and events.
-use Rattle.std.specs.Prelude.{ℕ, ◌<◌, ◌^◌}
+use Rattle.std.specs.Prelude.{◌<◌}
 use Rattle.words.specs.declared.limits.TheConstants.{SLOTS, REGISTERS, GLOBALS}
 use Rattle.heap_spec.specs.Layout.{word_end}
 use Rattle.heap_spec.specs.declared.call.Call.{Call}

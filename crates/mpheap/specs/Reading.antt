@@ -1,5 +1,5 @@
 -- What a run still has to read.
-use Rattle.std.specs.Prelude.{◌≡◌, ℕ, ◌<◌, ◌+◌, ◌⊎◌, ◌≢◌, Option, List, [], ◌∷◌, ◌++◌, length, All}
+use Rattle.std.specs.Prelude.{◌≡◌, ℕ, ◌<◌, ◌≢◌, Option, List, [], ◌∷◌, ◌++◌, length, All}
 use Rattle.std.specs.Io.KnownBytes.{prepend_known, Consumes, IsAtEnd}
 use Rattle.mpheap.specs.declared.limits.TheConstants.{LINE_BYTES}
 use Rattle.mpheap.specs.declared.line.Found.{Found}

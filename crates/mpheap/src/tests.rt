@@ -58,8 +58,7 @@ fn byte_255(rt: HostRuntime) -> Result<(), Fail> {
 #[test]
 fn line_too_long(rt: HostRuntime) -> Result<(), Fail> {
     let line = [b'a'; 256];
-    for most in [1usize, 255, 256] {
-        let calls = 256usize.div_ceil(most) as u32;
+    for (most, calls) in [(1usize, 256usize), (255, 2), (256, 1)] {
         let mut input = Script::failing_at(&line, most, calls);
         let mut output = Taken::new(rt.alloc())?;
         let mut errors = Taken::new(rt.alloc())?;

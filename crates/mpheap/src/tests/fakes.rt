@@ -1,4 +1,5 @@
 //! Readers and writers that fail where they are told to.
+ghost use Rattle.std.specs.Prelude.{None};
 
 use crate::count::Count;
 use crate::source::{Failed, Sink, Source};
@@ -9,8 +10,8 @@ use std::alloc::{AllocError, Global};
 pub struct Script<'a> {
     pub bytes: &'a [u8],
     pub most: usize,
-    pub fails_at: Option<u32>,
-    pub calls: u32,
+    pub fails_at: Option<usize>,
+    pub calls: usize,
     faults: Count,
 }
 
@@ -25,7 +26,7 @@ impl<'a> Script<'a> {
         }
     }
 
-    pub fn failing_at(bytes: &'a [u8], most: usize, call: u32) -> Script<'a> {
+    pub fn failing_at(bytes: &'a [u8], most: usize, call: usize) -> Script<'a> {
         Script {
             bytes,
             most,
@@ -60,8 +61,8 @@ impl Source for Script<'_> {
 pub struct Taken {
     pub bytes: Vec<u8>,
     pub most: usize,
-    pub fails_at: Option<u32>,
-    pub calls: u32,
+    pub fails_at: Option<usize>,
+    pub calls: usize,
     faults: Count,
 }
 
@@ -71,7 +72,7 @@ impl Taken {
     }
 
     /// Its own memory is taken here, so that a test may have each later allocation refused.
-    pub fn limited(alloc: Global, most: usize, fails_at: Option<u32>) -> Result<Taken, AllocError> {
+    pub fn limited(alloc: Global, most: usize, fails_at: Option<usize>) -> Result<Taken, AllocError> {
         Ok(Taken {
             bytes: Vec::with_capacity(alloc, 4_096)?,
             most,

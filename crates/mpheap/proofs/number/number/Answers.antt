@@ -1,11 +1,10 @@
 use Rattle.std.specs.Cmp.Lexicographic.{pointwise}
 use Rattle.std.proofs.lemmas.Bool.{eq-eqb}
 use Rattle.std.specs.Prelude.{not}
-use Rattle.std.proofs.Common.{Bool, true, false, eqb, List, [], ◌∷◌, refl, ◌≡◌, ℕ, ◌<◌, ◌^◌, sym, ap, ◌∙◌, subst, arith, Ok, Err, rules}
-use Rattle.std.specs.Prelude.{decimal, IsUtf8, IsAscii}
+use Rattle.std.proofs.Common.{Bool, true, false, eqb, List, [], ◌∷◌, refl, ◌≡◌, ℕ, sym, ap, ◌∙◌, subst, Ok}
+use Rattle.std.specs.Prelude.{decimal, IsUtf8}
 use Rattle.std.proofs.lemmas.Fmt.{IsAscii-decimal, parse-decimal}
 use Rattle.std.proofs.lemmas.Str.{IsUtf8-from_ascii}
-use Rattle.std.proofs.lemmas.Str.Ascii
 use Rattle.mpheap.proofs.number.number.Goals as goal
 
 equal_bytes : (xs : List ℕ) → pointwise eqb xs xs ≡ true

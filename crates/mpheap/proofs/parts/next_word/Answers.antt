@@ -1,4 +1,3 @@
-use Rattle.std.proofs.Common.{arith}
 use Rattle.std.proofs.lemmas.Bool.{eq-eqb}
 use Rattle.mpheap.proofs.Splitting.{split_here, split_none}
 use Rattle.mpheap.proofs.parts.next_word.Goals as goal

@@ -1,4 +1,4 @@
-use Rattle.std.proofs.Common.{◌≡◌, ◌<◌, ◌≤◌, refl, ◌∙◌, Ok, Err, arith, lit≤}
+use Rattle.std.proofs.Common.{◌≡◌, ◌≤◌, refl, ◌∙◌, Ok, Err, arith, lit≤}
 use Rattle.mpheap.specs.declared.limits.TheConstants.{LAST_LINE}
 use Rattle.mpheap.specs.declared.line.Found.TheVariants.{Line, Last, End, TooLong}
 use Rattle.mpheap.specs.Reading.{left_of}
