@@ -1,52 +1,20 @@
--- Where the invariant holds and nothing is left to read, the marks are the closure.
-use Rattle.std.proofs.Common.{◌≡◌, ℕ, ◌<◌, List, [], true, false, Contains, Option, Some, None, sym, ◌∙◌, subst, ⊎_elim, arith}
-use Rattle.std.proofs.lemmas.Bool.{false≢true}
-use Rattle.words.specs.declared.class.Kind.TheVariants.{Normal}
+-- Laws of the closure.
+use Rattle.std.proofs.Common.{◌≡◌, ℕ, List, Contains, Option, Some, arith}
 use Rattle.block_map.specs.declared.found.Found.{Found}
 use Rattle.block_map.specs.Objects.{IsMap}
-use Rattle.pages.specs.Memory.{word_at}
-use Rattle.marker.specs.declared.entry.Entry.{Entry}
-use Rattle.marker.specs.Marking.{Marking, IsMarked, IsEntry, IsPending, word_address, IsDone}
+use Rattle.marker.specs.Marking.{Marking, IsMarked}
 use Rattle.marker.specs.Closure.{Closure, held, root, word}
-use Rattle.marker.specs.Invariant.{DirtyPageInvariant, IsTargetMarked, IsAwaited, AreRootsMarked}
+use Rattle.marker.specs.Growth.{Traces}
 
 -- what is found by a word is found by its base
 pub at_base : (pages : ℕ) (found : ℕ → Option Found) → IsMap pages found → (w : ℕ) (f : Found) → found w ≡ Some f → found f.base ≡ Some f
 at_base pages found map w f e = let p = (map.placed w f e).some in map.whole w f.base f e (record { from = omega arith; below = omega arith })
-
-none_in : (e : Entry) → Contains [] e → ⊥
-none_in e h = let l = h.1 in omega arith
-
-not_entry : (m : Marking) → IsDone m → (e : Entry) → IsEntry m e → ⊥
-not_entry m d e one =
-    ⊎_elim (λ (h : m.current ≡ Some e). let n : None ≡ Some e = sym d.current ∙ h in absurd (cc n))
-    (λ h. none_in e (subst (λ s. Contains s e) d.stack h)) one
-
-not_awaited : (m : Marking) → IsDone m → (f : Found) (i : ℕ) → IsAwaited m f i → ⊥
-not_awaited m d f i a = ⊎_elim (λ h. d.clean _ h) (λ (p : IsPending m f.base i). not_entry m d p.entry p.one) a
-
--- the words of a marked Normal object read marked objects
-pub all_read : (found : ℕ → Option Found) (words : List ℕ) (m : Marking) → DirtyPageInvariant found words m → IsDone m
-    → (f : Found) → found f.base ≡ Some f → f.kind ≡ Normal → IsMarked m f.base → (i : ℕ) → i < f.len → IsTargetMarked found m (word_at words (word_address f i))
-all_read found words m t d f e n k i lt =
-    ⊎_elim (λ (x : false ≡ true). absurd (false≢true x))
-    (λ r. ⊎_elim (λ h. h) (λ a. absurd (not_awaited m d f i a)) r)
-    (t f e n k i lt)
 
 -- a member of a closure is an object
 pub is_object : (pages : ℕ) (found : ℕ → Option Found) (words roots : List ℕ) (given : ℕ → Type 0) → IsMap pages found → {f : Found} → Closure found words roots given f → found f.base ≡ Some f
 is_object pages found words roots given map (held e k) = e
 is_object pages found words roots given map (root {w = w} {f = f} c e) = at_base pages found map w f e
 is_object pages found words roots given map (word {f = f} i c n lt e) = at_base pages found map _ f e
-
--- the closure is marked
-pub closure_marked : (pages : ℕ) (found : ℕ → Option Found) (words roots : List ℕ) (given : ℕ → Type 0) (m : Marking) → IsMap pages found
-    → DirtyPageInvariant found words m → IsDone m → AreRootsMarked found roots m → ((b : ℕ) → given b → IsMarked m b)
-    → {f : Found} → Closure found words roots given f → IsMarked m f.base
-closure_marked pages found words roots given m map t d r g (held e k) = g _ k
-closure_marked pages found words roots given m map t d r g (root {w = w} {f = f} c e) = r w c f e
-closure_marked pages found words roots given m map t d r g (word {p = p} {f = f} i c n lt e) =
-    all_read found words m t d p (is_object pages found words roots given map c) n (closure_marked pages found words roots given m map t d r g c) i lt f e
 
 -- a larger set has a larger closure, and so have more roots
 pub closure_more : (found : ℕ → Option Found) (words roots more : List ℕ) (given larger : ℕ → Type 0) → ((w : ℕ) → Contains roots w → Contains more w)
@@ -55,3 +23,11 @@ pub closure_more : (found : ℕ → Option Found) (words roots more : List ℕ) 
 closure_more found words roots more given larger r g (held {f = f} e k) = g f e k
 closure_more found words roots more given larger r g (root c e) = root (r _ c) e
 closure_more found words roots more given larger r g (word i c n lt e) = word i (closure_more found words roots more given larger r g c) n lt e
+
+-- where a part of the marking was done before, as by several threads, the closure is that of the marks at the start
+pub closure_same : (found : ℕ → Option Found) (words roots : List ℕ) (old mid : Marking) → Traces found words roots old mid
+    → (f : Found) → (Closure found words roots (IsMarked mid) f → Closure found words roots (IsMarked old) f) × (Closure found words roots (IsMarked old) f → Closure found words roots (IsMarked mid) f)
+closure_same found words roots old mid t f = (
+  (λ c. closure_more found words roots roots (IsMarked mid) (IsMarked old) (λ w h. h) t.within c),
+  (λ c. closure_more found words roots roots (IsMarked old) (IsMarked mid) (λ w h. h) (λ g e k. held e (t.marks g.base k)) c),
+)

@@ -9,3 +9,6 @@ pub mod Mutating
 pub mod Taking
 pub mod Ordering
 pub mod Sizes
+pub mod Words
+pub mod Rescanning
+pub mod Parts

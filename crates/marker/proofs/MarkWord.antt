@@ -7,8 +7,10 @@ use Rattle.std.proofs.lemmas.List.Sums.{sum_by-append}
 use Rattle.std.proofs.lemmas.List.Elements.{Contains-append_left, Contains-append_right}
 use Rattle.words.specs.declared.class.Kind.TheVariants.{Normal, PointerFree}
 use Rattle.block_map.specs.declared.found.Found.{Found}
-use Rattle.words.specs.declared.limits.TheConstants.{FIRST_ADDRESS}
+use Rattle.words.specs.declared.limits.TheConstants.{FIRST_ADDRESS, PAGE_BYTES}
 use Rattle.block_map.specs.Objects.{IsMap}
+use Rattle.block_map.specs.States.{PageState}
+use Rattle.block_map.specs.FoundIn.{found_in, IsLawful}
 use Rattle.words.specs.Bits.{Has}
 use Rattle.block_map.specs.Places.{page_of}
 use Rattle.mark_bits.specs.Granules.{granule}
@@ -22,6 +24,10 @@ use Rattle.marker.proofs.Growing.{extends_refl}
 use Rattle.marker.proofs.Costs.{unmarked_set, span_at, words_covered, left_new}
 use Rattle.marker.proofs.Spreads.{has_set, has_set_back}
 
+unfound : (o : Option Found) → ((f : Found) → o ≡ Some f → ⊥) → o ≡ None
+unfound None n = refl
+unfound (Some f) n = absurd (n f refl)
+
 -- two objects with one granule are one
 pub same_object : (pages : ℕ) (found : ℕ → Option Found) → IsMap pages found → (f g : Found) → found f.base ≡ Some f → found g.base ≡ Some g → granule f.base ≡ granule g.base → f ≡ g
 same_object pages found map f g ef eg e =
@@ -34,6 +40,13 @@ pub markable : (pages : ℕ) (found : ℕ → Option Found) (w : ℕ) (g : Found
     → (FIRST_ADDRESS ≤ g.base) × (granule g.base < length row)
 markable pages found w g row map is l = let p = map.placed w g is in let a = p.above in let b = p.below in let s = p.some in (a, omega arith)
 
+-- no object lies outside the heap
+pub outside : (pages : ℕ) (found : ℕ → Option Found) (w : ℕ) → IsMap pages found → (w < FIRST_ADDRESS) ⊎ (FIRST_ADDRESS + PAGE_BYTES * pages ≤ w) → found w ≡ None
+outside pages found w map out = unfound (found w) (λ f e.
+    let r = map.reads w f e in let p = map.placed w f e in
+    let a = r.from in let b = r.below in let c = p.above in let d = p.below in
+    ⊎_elim (λ (low : w < FIRST_ADDRESS). omega arith) (λ high. omega arith) out)
+
 pub word_from : (found : ℕ → Option Found) (w : ℕ) (a b n : Marking) → a ≡ b → MarksWord found w a n → MarksWord found w b n
 word_from found w a b n e h = subst (λ o. MarksWord found w o n) e h
 
@@ -44,6 +57,14 @@ word_none found w m n = record {
   target = λ g e. let x : None ≡ Some g = sym n ∙ e in absurd (cc x);
   only = λ f e k. inl k;
 }
+
+-- the word is below the heap
+pub word_below : (states : List PageState) (w : ℕ) (m : Marking) → IsLawful states → w < FIRST_ADDRESS → MarksWord (found_in states) w m m
+word_below states w m lawful low = word_none (found_in states) w m (outside (length states) (found_in states) w lawful.map (inl low))
+
+-- the word is past the heap's end
+pub word_above : (states : List PageState) (bytes w : ℕ) (m : Marking) → IsLawful states → bytes ≡ PAGE_BYTES * length states → FIRST_ADDRESS ≤ w → bytes ≤ w - FIRST_ADDRESS → MarksWord (found_in states) w m m
+word_above states bytes w m lawful b le high = word_none (found_in states) w m (outside (length states) (found_in states) w lawful.map (inr (omega arith)))
 
 -- a marked object is read
 pub word_marked : (found : ℕ → Option Found) (w : ℕ) (g : Found) (m : Marking) → found w ≡ Some g → Has m.marks (granule g.base) → MarksWord found w m m
@@ -139,3 +160,5 @@ module _ (pages : ℕ) (found : ℕ → Option Found) (map : IsMap pages found) 
       (let c = d.cost in let b : sum_by (left found) new.stack ≡ sum_by (left found) old.stack = ap (sum_by (left found)) s in omega arith)
 
 pub ruleset marking = (markable)
+
+pub ruleset ranging = (word_below, word_above)

@@ -12,8 +12,8 @@ use Rattle.mark_bits.specs.Granules.{granule}
 use Rattle.pages.specs.Memory.{word_at, with_word_at}
 use Rattle.marker.specs.Marking.{Marking, IsFresh, IsMarked, IsPending, word_address}
 use Rattle.marker.specs.Invariant.{DirtyPageInvariant}
-use Rattle.marker.specs.Mutations.{IsWritten, IsAllocated, KeepsWords, HasZeroWords}
-use Rattle.block_map.specs.Changes.{IsAdded, IsRemoved}
+use Rattle.marker.specs.Mutations.{IsWritten, IsAllocated, HasNoNew, KeepsWords, HasZeroWords}
+use Rattle.block_map.specs.Changes.{IsAdded, IsRemoved, IsSameMap}
 use Rattle.marker.proofs.MarkWord.{same_object}
 use Rattle.marker.proofs.Spreads.{has_set, has_set_back}
 
@@ -50,20 +50,25 @@ reads_cases w f =
     (λ ge. ⊎_elim (λ (lt : w < f.base + 8 * f.len). inl (record { from = omega arith; below = lt })) (λ le. inr (λ (r : Reads w f). let b = r.below in absurd (omega arith))) (cases_lt w (f.base + 8 * f.len)))
     (cases_lt w f.base)
 
--- what a word reads once an object has left, it read before
-removed_before : (found after : ℕ → Option Found) (f : Found) → IsRemoved found after f → (w : ℕ) (g : Found) → after w ≡ Some g → found w ≡ Some g
-removed_before found after f r w g e =
-    ⊎_elim
-    (λ (in_it : Reads w f). let x : None ≡ Some g = sym (r.before w in_it) ∙ e in absurd (cc x))
-    (λ (not : Reads w f → ⊥). r.others w not ∙ e)
-    (reads_cases w f)
+-- where an object has left, none has come
+pub removed_less : (found after : ℕ → Option Found) (f : Found) → IsRemoved found after f → HasNoNew found after
+removed_less found after f r = record {
+  before = λ w g e. ⊎_elim
+      (λ (in_it : Reads w f). let x : None ≡ Some g = sym (r.before w in_it) ∙ e in absurd (cc x))
+      (λ (not : Reads w f → ⊥). r.others w not ∙ e)
+      (reads_cases w f);
+}
 
--- an object leaves
-pub free_traced : (found after : ℕ → Option Found) (words words' : List ℕ) (f : Found) (m : Marking) → IsRemoved found after f → KeepsWords after words words' → DirtyPageInvariant found words m → DirtyPageInvariant after words' m
-free_traced found after words words' x m r same t f e n k i lt =
+-- where each word reads what it read before, none has come
+pub same_less : (found after : ℕ → Option Found) → IsSameMap found after → HasNoNew found after
+same_less found after s = record { before = λ w g e. sym (s.same w) ∙ e }
+
+-- objects leave
+pub free_traced : (found after : ℕ → Option Found) (words words' : List ℕ) (m : Marking) → HasNoNew found after → KeepsWords after words words' → DirtyPageInvariant found words m → DirtyPageInvariant after words' m
+free_traced found after words words' m r same t f e n k i lt =
     ⊎_elim (λ h. inl h)
-    (λ y. inr (⊎_elim (λ g. inl (λ o z. g o (removed_before found after x r _ o (ap after (sym (same f i e lt)) ∙ z)))) (λ a. inr a) y))
-    (t f (removed_before found after x r f.base f e) n k i lt)
+    (λ y. inr (⊎_elim (λ g. inl (λ o z. g o (r.before _ o (ap after (sym (same f i e lt)) ∙ z)))) (λ a. inr a) y))
+    (t f (r.before f.base f e) n k i lt)
 
 -- an object comes, with words 0
 pub alloc_traced : (pages : ℕ) (found after : ℕ → Option Found) (words words' : List ℕ) (f : Found) (old new : Marking) → IsMap pages after → after f.base ≡ Some f → IsAdded found after f

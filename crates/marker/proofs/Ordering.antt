@@ -9,7 +9,7 @@ use Rattle.mark_bits.specs.Granules.{granule}
 use Rattle.pages.specs.Memory.{word_at}
 use Rattle.marker.specs.declared.entry.Entry.{Entry}
 use Rattle.marker.specs.Marking.{Marking, IsMarked, word_address}
-use Rattle.marker.specs.Growth.{MarksWord}
+use Rattle.marker.specs.Growth.{MarksWords}
 use Rattle.marker.specs.Entries.{IsLive, IsSpent, StaysFirst, IsReadOut, IsInOrder}
 
 pub order_refl : (found : ℕ → Option Found) (words : List ℕ) (m : Marking) → IsInOrder found words m m
@@ -40,22 +40,21 @@ settled_order found words a b s e is =
     ⊎_elim (λ (p : IsSpent found a e). inr (λ f k h n m i le lt. absurd (let l = p f k h n m in omega arith)))
     (λ (z : b ≡ a). subst (λ (x : Marking). StaysFirst found words a x e ⊎ IsReadOut found words a x e) (sym z) (order_refl found words a e is)) (s e is)
 
-pub read_order : (found : ℕ → Option Found) (words : List ℕ) (old mid new : Marking) (f : Found) (live : IsLive found old f) (next : Entry)
-    → MarksWord found (word_at words (word_address f live.entry.next)) old mid → new.marks ≡ mid.marks → new.stack ≡ mid.stack
-    → new.current ≡ Some next → next.base ≡ live.entry.base → next.next ≡ live.entry.next + 1 → IsInOrder found words old new
-read_order found words old mid new f live next marks marks_is stack_is current_is base_is next_is e c =
+pub read_order : (found : ℕ → Option Found) (words : List ℕ) (old mid new : Marking) (f : Found) (live : IsLive found old f) (n : ℕ) (next : Entry)
+    → MarksWords found words f live.entry.next n old mid → new.marks ≡ mid.marks → new.stack ≡ mid.stack
+    → new.current ≡ Some next → next.base ≡ live.entry.base → next.next ≡ live.entry.next + n → IsInOrder found words old new
+read_order found words old mid new f live count next reads marks_is stack_is current_is base_is next_is e c =
     let s : e ≡ live.entry = same_Some e live.entry (sym c ∙ live.current) in
     inl (record {
       now = next;
       current = current_is;
       base = base_is ∙ sym (ap (λ (x : Entry). x.base) s);
       further = (let n = ap (λ (x : Entry). x.next) s in omega arith);
-      others = λ x h. subst (λ y. Contains y x) (sym stack_is) (marks.extends.stack x h);
+      others = λ x h. subst (λ y. Contains y x) (sym stack_is) (reads.extends.stack x h);
       read = λ g is b i le lt o r.
           let n = ap (λ (x : Entry). x.next) s in
-          let z : i ≡ live.entry.next = omega arith in
           let h : f ≡ g = same_Some f g (sym live.object ∙ ap found (live.base ∙ sym (ap (λ (x : Entry). x.base) s) ∙ sym b) ∙ is) in
-          subst (λ q. Has q (granule o.base)) (sym marks_is) (marks.target o (ap (λ j. found (word_at words (word_address f j))) (sym z) ∙ ap (λ x. found (word_at words (word_address x i))) h ∙ r));
+          subst (λ q. Has q (granule o.base)) (sym marks_is) (reads.targets i (omega arith) (omega arith) o (ap (λ x. found (word_at words (word_address x i))) h ∙ r));
     })
 
 -- an entry is dropped that has no word to read

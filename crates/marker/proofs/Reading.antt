@@ -2,7 +2,7 @@
 use Rattle.std.proofs.Common.{◌≡◌, ◌≢◌, ℕ, ◌+◌, ◌-◌, ◌*◌, ◌<◌, ◌≤◌, List, [], ◌∷◌, ◌++◌, length, Bool, true, false, sum_by, Contains, Option, Some, None, refl, sym, ap, ◌∙◌, subst, inl, inr, ⊎_elim, arith}
 use Rattle.std.specs.Prelude.{◌⊎◌, option_to_list}
 use Rattle.std.proofs.lemmas.Option.{same_Some}
-use Rattle.std.proofs.lemmas.Bool.{cases_eq}
+use Rattle.std.proofs.lemmas.Bool.{cases_lt}
 use Rattle.std.proofs.lemmas.List.Sums.{sum_by-append}
 use Rattle.std.proofs.lemmas.List.Elements.{Contains-append_cases}
 use Rattle.block_map.specs.declared.found.Found.{Found}
@@ -15,9 +15,10 @@ use Rattle.marker.specs.Marking.{Marking, IsMarked, IsPending, word_address, Cov
 use Rattle.marker.specs.Work.{left, left_of, page_words, unmarked_from, cost}
 use Rattle.marker.specs.Invariant.{DirtyPageInvariant, IsTargetMarked, IsAwaited}
 use Rattle.marker.specs.Closure.{held, word}
-use Rattle.marker.specs.Growth.{MarksWord, Traces}
+use Rattle.marker.specs.Growth.{MarksWords, Traces}
 use Rattle.marker.specs.Entries.{IsSpent, IsLive, Settles}
 use Rattle.marker.proofs.Growing.{traced_more}
+use Rattle.marker.proofs.Words.{words_within}
 use Rattle.marker.proofs.Costs.{left_new}
 
 module _ (found : ℕ → Option Found) where
@@ -85,13 +86,13 @@ module _ (found : ℕ → Option Found) where
     keeps = λ t. settled_traced words a b x t;
   }
 
-  -- one word of the entry is read
-  module _ (words : List ℕ) (old mid new : Marking) (f : Found) (live : IsLive found old f) (next : Entry)
-      (marks : MarksWord found (word_at words (word_address f live.entry.next)) old mid)
+  -- words of the entry are read
+  module _ (words : List ℕ) (old mid new : Marking) (f : Found) (live : IsLive found old f) (n : ℕ) (fits : live.entry.next + n ≤ f.len) (next : Entry)
+      (reads : MarksWords found words f live.entry.next n old mid)
       (marks_is : new.marks ≡ mid.marks) (dirty_is : new.dirty ≡ mid.dirty) (stack_is : new.stack ≡ mid.stack)
-      (current_is : new.current ≡ Some next) (base_is : next.base ≡ live.entry.base) (next_is : next.next ≡ live.entry.next + 1) where
+      (current_is : new.current ≡ Some next) (base_is : next.base ≡ live.entry.base) (next_is : next.next ≡ live.entry.next + n) where
     mid_current : mid.current ≡ Some live.entry
-    mid_current = marks.extends.current ∙ live.current
+    mid_current = reads.extends.current ∙ live.current
 
     marked_new : (b : ℕ) → IsMarked mid b → IsMarked new b
     marked_new b h = subst (λ y. Has y (granule b)) (sym marks_is) h
@@ -107,11 +108,11 @@ module _ (found : ℕ → Option Found) where
         let e : p.entry ≡ live.entry = same_Some p.entry live.entry (sym c ∙ mid_current) in
         let b : g.base ≡ f.base = sym p.same ∙ ap (λ x. x.base) e ∙ sym live.base in
         let s : f ≡ g = same_Some f g (sym live.object ∙ ap found (sym b) ∙ is) in
-        let n : live.entry.next ≤ i = subst (λ x. x.next ≤ i) e p.left in
+        let from : live.entry.next ≤ i = subst (λ x. x.next ≤ i) e p.left in
         ⊎_elim
-        (λ (z : i ≡ live.entry.next). inl (λ o r. marked_new o.base (marks.target o (ap (λ j. found (word_at words (word_address f j))) (sym z) ∙ ap (λ x. found (word_at words (word_address x i))) s ∙ r))))
-        (λ ne. inr (inr (record { entry = next; one = inl current_is; same = base_is ∙ sym live.base ∙ sym b; left = omega (arith, ne) })))
-        (cases_eq i live.entry.next))
+        (λ (below : i < live.entry.next + n). inl (λ o r. marked_new o.base (reads.targets i from below o (ap (λ x. found (word_at words (word_address x i))) s ∙ r))))
+        (λ (past : live.entry.next + n ≤ i). inr (inr (record { entry = next; one = inl current_is; same = base_is ∙ sym live.base ∙ sym b; left = omega arith })))
+        (cases_lt i (live.entry.next + n)))
         (λ c. inr (inr (record { entry = p.entry; one = inr (subst (λ y. Contains y p.entry) (sym stack_is) c); same = p.same; left = p.left })))
         p.one
 
@@ -120,29 +121,26 @@ module _ (found : ℕ → Option Found) where
         ⊎_elim (λ h. inl h)
         (λ r. inr (⊎_elim (λ o. inl (λ x e. marked_new x.base (o x e)))
         (λ w. ⊎_elim (λ d. inr (inl (subst (λ y. Has y (page_of (word_address g i))) (sym dirty_is) d))) (λ p. went_on g is i lt p) w) r))
-        (traced_more found (λ _. false) words old mid marks.extends t g is n (marked_mid g.base k) i lt)
+        (traced_more found (λ _. false) words old mid reads.extends t g is n (marked_mid g.base k) i lt)
 
     pub read_traces : Traces found words [] old new
     read_traces = record {
-      marks_len = ap length marks_is ∙ marks.extends.marks_len;
-      dirty_len = ap length dirty_is ∙ marks.extends.dirty_len;
-      marks = λ b h. marked_new b (marks.extends.marks b h);
-      within = λ g is k. ⊎_elim (λ o. held is o)
-          (λ (h : (w : ℕ) × (w ≡ word_at words (word_address f live.entry.next)) × (found w ≡ Some g)).
-          word live.entry.next (held live.object live.marked) live.normal live.left (ap found (sym h.1) ∙ h.2)) (marks.only g is (marked_mid g.base k));
+      marks_len = ap length marks_is ∙ reads.extends.marks_len;
+      dirty_len = ap length dirty_is ∙ reads.extends.dirty_len;
+      marks = λ b h. marked_new b (reads.extends.marks b h);
+      within = λ g is k. words_within found words f live.entry.next n old mid live.object live.normal live.marked fits reads g is (marked_mid g.base k);
       dirtied = λ p h. ⊎_elim (λ o. inl o) (λ (x : (g : Found) × IsNewlyMarked found old mid g × Covers g p). inr (x.0, (x.1.0, x.1.1, marked_new x.0.base x.1.2), x.2))
-          (marks.extends.dirtied p (subst (λ y. Has y p) dirty_is h));
+          (reads.extends.dirtied p (subst (λ y. Has y p) dirty_is h));
       keeps = read_traced;
     }
 
-    pub read_cost : cost found new + 1 ≤ cost found old
+    pub read_cost : cost found new + n ≤ cost found old
     unfolding cost
     read_cost =
-        let a = marks.extends.cost in
+        let a = reads.extends.cost in
         let u : unmarked_from found 0 new.marks ≡ unmarked_from found 0 mid.marks = ap (unmarked_from found 0) marks_is in
         let d : sum_by page_words new.dirty ≡ sum_by page_words mid.dirty = ap (sum_by page_words) dirty_is in
         let s : sum_by (left found) new.stack ≡ sum_by (left found) mid.stack = ap (sum_by (left found)) stack_is in
         let c : left_of found new.current ≡ f.len - next.next = ap (left_of found) current_is ∙ left_new found f next live.object (base_is ∙ sym live.base) in
         let m : left_of found mid.current ≡ f.len - live.entry.next = ap (left_of found) mid_current ∙ left_new found f live.entry live.object (sym live.base) in
-        let l = live.left in
         omega arith

@@ -8,7 +8,7 @@ use Rattle.mark_bits.specs.Granules.{granule}
 use Rattle.pages.specs.Memory.{word_at}
 use Rattle.marker.specs.declared.entry.Entry.{Entry}
 use Rattle.marker.specs.Marking.{Marking, IsMarked, IsEntry, word_address}
-use Rattle.marker.specs.Growth.{MarksWord}
+use Rattle.marker.specs.Growth.{MarksWords}
 use Rattle.marker.specs.Entries.{IsLive, IsSpent, Settles, WentOn, IsReadOut, TakesOff}
 
 stays : (found : ℕ → Option Found) (words : List ℕ) (new : Marking) (e : Entry) → IsEntry new e → WentOn found words new e
@@ -40,10 +40,10 @@ pub settled_taken : (found : ℕ → Option Found) (words : List ℕ) (a b : Mar
 settled_taken found words a b s e one =
     ⊎_elim (λ o. inl (stays found words b e o)) (λ (p : IsSpent found a e). inr (λ f is h n k i le lt. absurd (let l = p f is h n k in omega arith))) (s.entries e one)
 
-pub read_taken : (found : ℕ → Option Found) (words : List ℕ) (old mid new : Marking) (f : Found) (live : IsLive found old f) (next : Entry)
-    → MarksWord found (word_at words (word_address f live.entry.next)) old mid → new.marks ≡ mid.marks → new.stack ≡ mid.stack
-    → new.current ≡ Some next → next.base ≡ live.entry.base → next.next ≡ live.entry.next + 1 → TakesOff found words old new
-read_taken found words old mid new f live next marks marks_is stack_is current_is base_is next_is e one =
+pub read_taken : (found : ℕ → Option Found) (words : List ℕ) (old mid new : Marking) (f : Found) (live : IsLive found old f) (n : ℕ) (next : Entry)
+    → MarksWords found words f live.entry.next n old mid → new.marks ≡ mid.marks → new.stack ≡ mid.stack
+    → new.current ≡ Some next → next.base ≡ live.entry.base → next.next ≡ live.entry.next + n → TakesOff found words old new
+read_taken found words old mid new f live count next reads marks_is stack_is current_is base_is next_is e one =
     ⊎_elim
     (λ (c : old.current ≡ Some e).
     let s : e ≡ live.entry = same_Some e live.entry (sym c ∙ live.current) in
@@ -54,9 +54,8 @@ read_taken found words old mid new f live next marks marks_is stack_is current_i
       further = (let n = ap (λ (x : Entry). x.next) s in omega arith);
       read = λ g is b i le lt o r.
           let n = ap (λ (x : Entry). x.next) s in
-          let z : i ≡ live.entry.next = omega arith in
           let h : f ≡ g = same_Some f g (sym live.object ∙ ap found (live.base ∙ sym (ap (λ (x : Entry). x.base) s) ∙ sym b) ∙ is) in
-          subst (λ q. Has q (granule o.base)) (sym marks_is) (marks.target o (ap (λ j. found (word_at words (word_address f j))) (sym z) ∙ ap (λ x. found (word_at words (word_address x i))) h ∙ r));
+          subst (λ q. Has q (granule o.base)) (sym marks_is) (reads.targets i (omega arith) (omega arith) o (ap (λ x. found (word_at words (word_address x i))) h ∙ r));
     }))
-    (λ c. inl (stays found words new e (inr (subst (λ y. Contains y e) (sym stack_is) (marks.extends.stack e c)))))
+    (λ c. inl (stays found words new e (inr (subst (λ y. Contains y e) (sym stack_is) (reads.extends.stack e c)))))
     one

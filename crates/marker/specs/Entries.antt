@@ -1,6 +1,5 @@
 -- What becomes of the entries.
 use Rattle.std.specs.Prelude.{◌≡◌, ℕ, ◌+◌, ◌<◌, ◌≤◌, List, Contains, Option, Some, ◌⊎◌}
-use Rattle.std.proofs.Common.{suc}
 use Rattle.words.specs.declared.class.Kind.TheVariants.{Normal}
 use Rattle.pages.specs.Memory.{word_at}
 use Rattle.block_map.specs.declared.found.Found.{Found}
@@ -8,7 +7,7 @@ use Rattle.marker.specs.declared.entry.Entry.{Entry}
 use Rattle.marker.specs.Marking.{Marking, IsMarked, IsEntry, word_address}
 use Rattle.marker.specs.Work.{cost}
 use Rattle.marker.specs.Invariant.{IsTargetMarked}
-use Rattle.marker.specs.Growth.{MarksWord}
+use Rattle.marker.specs.Growth.{MarksWords}
 
 -- no object reads on at the entry: none with its base is Normal and marked and has the word
 abbrev pub IsSpent : (ℕ → Option Found) → Marking → Entry → Type 0
@@ -60,22 +59,24 @@ pub record StaysFirst (found : ℕ → Option Found) (words : List ℕ) (old new
 abbrev pub IsInOrder : (ℕ → Option Found) → List ℕ → Marking → Marking → Type 0
 IsInOrder found words old new = (e : Entry) → old.current ≡ Some e → StaysFirst found words old new e ⊎ IsReadOut found words old new e
 
--- One word of the entry that is being read is read: what it reads is marked, and the entry goes on by one.
-pub record ReadsOne (found : ℕ → Option Found) (words : List ℕ) (old new : Marking) : Type 0 where
+-- n words of the entry that is being read are read: what they read is marked, and the entry goes on by n.
+pub record ReadsOn (found : ℕ → Option Found) (words : List ℕ) (n : ℕ) (old new : Marking) : Type 0 where
   pub object : Found
   pub live : IsLive found old object
+  pub fits : live.entry.next + n ≤ object.len
   pub mid : Marking
-  pub marks_word : MarksWord found (word_at words (word_address object live.entry.next)) old mid
+  pub reads : MarksWords found words object live.entry.next n old mid
   pub next : Entry
   pub base : next.base ≡ live.entry.base
-  pub further : next.next ≡ live.entry.next + 1
+  pub further : next.next ≡ live.entry.next + n
   pub current : new.current ≡ Some next
   pub marks : new.marks ≡ mid.marks
   pub dirty : new.dirty ≡ mid.dirty
   pub stack : new.stack ≡ mid.stack
 
--- So many words are taken off the entries, one at a time; entries that have no word to read are dropped.
+-- So many words are taken off the entries, each from the one that is being read; entries that have no word to read are
+-- dropped.
 pub data Takes (found : ℕ → Option Found) (words : List ℕ) (old : Marking) : ℕ → Marking → Type 0 where
   nothing : Takes found words old 0 old
   settled : {n : ℕ} {a b : Marking} → Takes found words old n a → Settles found a b → Takes found words old n b
-  read : {n : ℕ} {a b : Marking} → Takes found words old n a → ReadsOne found words a b → Takes found words old (suc n) b
+  read : {n k : ℕ} {a b : Marking} → Takes found words old n a → ReadsOn found words k a b → Takes found words old (n + k) b

@@ -3,9 +3,10 @@ use Rattle.std.specs.Prelude.{◌≡◌, ℕ, ◌+◌, ◌-◌, ◌*◌, ◌<◌
 use Rattle.words.specs.declared.class.Kind.TheVariants.{Normal}
 use Rattle.words.specs.declared.limits.TheConstants.{PAGE_WORDS}
 use Rattle.words.specs.Bits.{Has}
+use Rattle.pages.specs.Memory.{word_at}
 use Rattle.block_map.specs.declared.found.Found.{Found}
 use Rattle.marker.specs.declared.entry.Entry.{Entry}
-use Rattle.marker.specs.Marking.{Marking, IsMarked, IsNewlyMarked, Covers}
+use Rattle.marker.specs.Marking.{Marking, IsMarked, IsNewlyMarked, Covers, word_address}
 use Rattle.marker.specs.Work.{page_words, cost}
 use Rattle.marker.specs.Invariant.{DirtyPageInvariant, IsTargetMarked, IsAwaited}
 use Rattle.marker.specs.Closure.{Closure}
@@ -41,6 +42,19 @@ pub record MarksWord (found : ℕ → Option Found) (w : ℕ) (old new : Marking
   pub extends : Extends found old new
   pub target : IsTargetMarked found new w
   pub only : MarksOnly found (λ v. v ≡ w) old new
+
+-- the word is one of n words of an object from its word `first` on
+pub record IsWordOf (words : List ℕ) (f : Found) (first n w : ℕ) : Type 0 where
+  pub index : ℕ
+  pub from : first ≤ index
+  pub below : index < first + n
+  pub is : w ≡ word_at words (word_address f index)
+
+-- What n words of an object read from its word `first` on has become marked, and no other object.
+pub record MarksWords (found : ℕ → Option Found) (words : List ℕ) (f : Found) (first n : ℕ) (old new : Marking) : Type 0 where
+  pub extends : Extends found old new
+  pub targets : (i : ℕ) → first ≤ i → i < first + n → IsTargetMarked found new (word_at words (word_address f i))
+  pub only : MarksOnly found (IsWordOf words f first n) old new
 
 -- The pages from `first` on, up to `end`, have become dirty.
 pub record IsDirtied (old new : List Bool) (first end : ℕ) : Type 0 where

@@ -20,6 +20,10 @@ pub record IsAllocated (base : ℕ) (old new : Marking) : Type 0 where
   pub current : new.current ≡ old.current
   pub stack : new.stack ≡ old.stack
 
+-- no object has come: each that a word reads now, it read before
+pub record HasNoNew (found after : ℕ → Option Found) : Type 0 where
+  pub before : (w : ℕ) (f : Found) → after w ≡ Some f → found w ≡ Some f
+
 -- the words of these objects are as they were
 abbrev pub KeepsWords : (ℕ → Option Found) → List ℕ → List ℕ → Type 0
 KeepsWords found words words' = (f : Found) (i : ℕ) → found f.base ≡ Some f → i < f.len → word_at words' (word_address f i) ≡ word_at words (word_address f i)

@@ -1,7 +1,7 @@
 -- A dirty page is read again.
-use Rattle.std.specs.Prelude.{◌≡◌, ℕ, ◌+◌, ◌-◌, ◌*◌, ◌<◌, ◌≤◌, List, [], Option, Some, ◌&&◌, leb, eqb, Bool}
+use Rattle.std.specs.Prelude.{◌≡◌, ℕ, ◌+◌, ◌-◌, ◌<◌, ◌≤◌, List, [], Option, Some, ◌&&◌, leb, eqb, Bool}
 use Rattle.words.specs.declared.class.Kind.TheVariants.{Normal}
-use Rattle.words.specs.declared.limits.TheConstants.{FIRST_ADDRESS, PAGE_BYTES, PAGE_WORDS, WORD_BYTES}
+use Rattle.words.specs.declared.limits.TheConstants.{PAGE_WORDS}
 use Rattle.words.specs.Bits.{Has, IsFirstFrom}
 use Rattle.pages.specs.Memory.{word_at}
 use Rattle.block_map.specs.Places.{page_of}
@@ -19,12 +19,12 @@ pub record Retraces (found : ℕ → Option Found) (page : ℕ) (old new : Marki
   pub clean : Has new.dirty page → (f : Found) × IsNewlyMarked found old new f × Covers f page
   pub cost : cost found new + PAGE_WORDS ≤ cost found old
 
--- The word at an address was read, if it is one of a marked Normal object.
-pub record Rereads (found : ℕ → Option Found) (words : List ℕ) (address : ℕ) (old new : Marking) : Type 0 where
+-- The words of an object from the address `at` on, up to `stop`, were read again if it is a marked Normal one.
+pub record Rereads (found : ℕ → Option Found) (words : List ℕ) (f : Found) (at stop : ℕ) (old new : Marking) : Type 0 where
   pub extends : Extends found old new
-  pub target : (f : Found) (i : ℕ) → found f.base ≡ Some f → f.kind ≡ Normal → IsMarked old f.base → i < f.len → word_address f i ≡ address → IsTargetMarked found new (word_at words address)
-  pub within : (f : Found) → found f.base ≡ Some f → IsMarked new f.base → Closure found words [] (IsMarked old) f
+  pub targets : (i : ℕ) → i < f.len → f.kind ≡ Normal → IsMarked old f.base → at ≤ word_address f i → word_address f i < stop → IsTargetMarked found new (word_at words (word_address f i))
+  pub within : (g : Found) → found g.base ≡ Some g → IsMarked new g.base → Closure found words [] (IsMarked old) g
 
--- the address is one of the page's words from the word i on
+-- the address is one of the page, from the address `at` on
 abbrev pub is_from : ℕ → ℕ → ℕ → Bool
-is_from page i address = eqb (page_of address) page && leb (PAGE_BYTES * page + WORD_BYTES * i) (address - FIRST_ADDRESS)
+is_from page at address = eqb (page_of address) page && leb at address

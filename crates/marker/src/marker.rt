@@ -1,25 +1,27 @@
 //! The marker's state, the marking of one object, and the roots.
 ghost use Rattle.std.specs.Prelude.{◌≡◌, ℕ, Option, ◌+◌, ◌*◌, ◌<◌, ◌≤◌, List, [], None, length, slice_index_or, false, MatchResult, IfOk, ◌⊎◌, ◌↔◌, Err};
-ghost use Rattle.words.specs.declared.limits.TheConstants.{FIRST_ADDRESS, MAX_PAGES, PAGE_GRANULES};
+ghost use Rattle.words.specs.declared.limits.TheConstants.{FIRST_ADDRESS, PAGE_BYTES, PAGE_WORDS};
 ghost use Rattle.words.specs.Bits.{IsClear};
 ghost use Rattle.pages.specs.Opening.{IsOpened};
 ghost use Rattle.mark_bits.specs.Granules.{granule};
 ghost use Rattle.block_map.specs.declared.found.Found.{Found};
+ghost use Rattle.block_map.specs.Objects.{IsPlaced};
 ghost use Rattle.block_map.specs.FoundIn.{found_in, IsLawful};
 ghost use Rattle.marker.specs.Marking.{IsSized, IsFresh};
 ghost use Rattle.marker.specs.Work.{cost};
 ghost use Rattle.marker.specs.Invariant.{AreRootsMarked, DirtyPageInvariant};
-ghost use Rattle.marker.specs.Growth.{MarksWord, Traces};
+ghost use Rattle.marker.specs.Growth.{MarksWord, MarksWords, Traces};
 
 use crate::entry::Entry;
 use crate::spread::dirty_object;
 use arrayvec::ArrayVec;
-use block_map::BlockMap;
+use block_map::{BlockMap, Found};
 use dirty_pages::DirtyPages;
 use mark_bits::{Marks, granule_of};
-use pages::is_page_count;
+use pages::{Reader, is_page_count};
 use std::alloc::Global;
 use std::marker::Model;
+use words::limits::{FIRST_ADDRESS, PAGE_BYTES, WORD_BYTES};
 use words::{Kind, OpenError, PageNo};
 
 /// Marks, dirty pages and the objects to be read, as one value.
@@ -37,6 +39,15 @@ impl Model for Marker {
     ghost Value = { Marking };
 
     ghost view = { λ m. record { marks = m.marks; dirty = m.dirty; current = m.current; stack = m.stack.items } };
+}
+
+// The bytes of a heap.
+#[inline]
+pub(crate) fn heap_bytes(map: &BlockMap) -> u64
+    ensures bytes { result ≡ PAGE_BYTES * length map.now }
+    ensures lawful { IsLawful map.now }
+{
+    PAGE_BYTES * u64::from(map.len())
 }
 
 impl Marker {
@@ -84,8 +95,26 @@ impl Marker {
         self.marks.is_set(granule_of(base))
     }
 
-    // Marks the object that the word reads.
-    pub(crate) fn mark_word(&mut self, map: &BlockMap, word: u64)
+    // Marks the object that the word reads. The heap's range is tested here, before the map is asked.
+    #[inline]
+    #[tactic(auto, using(crate::proofs::MarkWord::ranging))]
+    pub(crate) fn mark_word(&mut self, map: &BlockMap, heap_bytes: u64, word: u64)
+        requires sized { IsSized (length map.now) self.old }
+        requires lawful { IsLawful map.now }
+        requires bytes { heap_bytes ≡ PAGE_BYTES * length map.now }
+        ensures { MarksWord (found_in map.now) word self.old self.new }
+    {
+        if word < FIRST_ADDRESS {
+            return;
+        }
+        if word - FIRST_ADDRESS >= heap_bytes {
+            return;
+        }
+        self.mark_target(map, word);
+    }
+
+    // Marks the object that a word reads, if it reads one.
+    fn mark_target(&mut self, map: &BlockMap, word: u64)
         requires { IsSized (length map.now) self.old }
         ensures { MarksWord (found_in map.now) word self.old self.new }
     {
@@ -110,6 +139,26 @@ impl Marker {
         }
     }
 
+    // Marks what words of an object read: so many, from its word `first` on.
+    #[inline]
+    pub(crate) fn mark_words(&mut self, map: &BlockMap, heap_bytes: u64, reader: &mut Reader, found: Found, first: u32, count: u64)
+        requires sized { IsSized (length map.now) self.old }
+        requires lawful { IsLawful map.now }
+        requires bytes { heap_bytes ≡ PAGE_BYTES * length map.now }
+        requires memory { length reader.old.words ≡ PAGE_WORDS * length map.now }
+        requires placed { IsPlaced (length map.now) found }
+        requires fits { first + count ≤ found.len }
+        ensures reads { MarksWords (found_in map.now) reader.old.words found first count self.old self.new }
+        ensures words { reader.new.words ≡ reader.old.words }
+        ensures counted { reader.new.reads ≡ reader.old.reads + count }
+    {
+        let start = found.base + WORD_BYTES * u64::from(first);
+        for i in 0..count {
+            let word = reader.read(start + WORD_BYTES * i);
+            self.mark_word(map, heap_bytes, word);
+        }
+    }
+
     /// Marks the objects that root words read.
     #[tactic(auto, using(crate::proofs::Scanning::scanning))]
     pub fn scan_roots(&mut self, map: &BlockMap, roots: &[u64])
@@ -117,9 +166,11 @@ impl Marker {
         ensures traces { (words : List ℕ) → Traces (found_in map.now) words roots.now self.old self.new }
         ensures roots { AreRootsMarked (found_in map.now) roots.now self.new }
         ensures cost { cost (found_in map.now) self.new ≤ cost (found_in map.now) self.old }
+        ensures lawful { IsLawful map.now }
     {
+        let heap_bytes = heap_bytes(map);
         for word in roots {
-            self.mark_word(map, *word);
+            self.mark_word(map, heap_bytes, *word);
         }
     }
 }

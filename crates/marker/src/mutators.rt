@@ -4,12 +4,12 @@ ghost use Rattle.words.specs.declared.limits.TheConstants.{FIRST_ADDRESS};
 ghost use Rattle.mark_bits.specs.Granules.{granule};
 ghost use Rattle.block_map.specs.declared.found.Found.{Found};
 ghost use Rattle.block_map.specs.Objects.{IsMap};
-ghost use Rattle.block_map.specs.Changes.{IsAdded, IsRemoved};
+ghost use Rattle.block_map.specs.Changes.{IsAdded};
 ghost use Rattle.pages.specs.Memory.{with_word_at};
 ghost use Rattle.block_map.specs.Places.{page_of};
 ghost use Rattle.marker.specs.Marking.{IsSized};
 ghost use Rattle.marker.specs.Invariant.{DirtyPageInvariant};
-ghost use Rattle.marker.specs.Mutations.{IsWritten, IsAllocated, KeepsWords, HasZeroWords};
+ghost use Rattle.marker.specs.Mutations.{IsWritten, IsAllocated, HasNoNew, KeepsWords, HasZeroWords};
 
 use crate::marker::Marker;
 use mark_bits::granule_of;
@@ -39,10 +39,11 @@ impl Marker {
         self.marks.set(granule_of(base));
     }
 
-    /// An object was freed. Its entries go stale and harm nothing, also where its page is cut again: nothing is to be
+    /// Objects were freed, or pages were cut. The entries of freed objects go stale and harm nothing: nothing is to be
     /// done, and the invariant stays.
+    #[tactic(auto, using(crate::proofs::Mutating::mutating))]
     pub fn freed(&self)
-        ensures { (found after : ℕ → Option Found) (words words' : List ℕ) (f : Found) → IsRemoved found after f → KeepsWords after words words' → DirtyPageInvariant found words self.now → DirtyPageInvariant after words' self.now }
+        ensures { (found after : ℕ → Option Found) (words words' : List ℕ) → HasNoNew found after → KeepsWords after words words' → DirtyPageInvariant found words self.now → DirtyPageInvariant after words' self.now }
     {
     }
 }

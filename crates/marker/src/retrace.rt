@@ -1,17 +1,17 @@
 //! The reading again of dirty pages.
-ghost use Rattle.std.specs.Prelude.{◌≡◌, ℕ, ◌+◌, ◌*◌, ◌<◌, ◌≤◌, [], false, length, slice_set, MatchOption, IfSome, IfNone};
-ghost use Rattle.words.specs.declared.limits.TheConstants.{MAX_PAGES, PAGE_WORDS};
+ghost use Rattle.std.specs.Prelude.{◌≡◌, ℕ, ◌+◌, ◌*◌, ◌%◌, ◌<◌, ◌≤◌, [], false, length, slice_set, MatchOption, IfSome, IfNone};
+ghost use Rattle.words.specs.declared.limits.TheConstants.{MAX_PAGES, PAGE_BYTES, PAGE_WORDS, WORD_BYTES};
 ghost use Rattle.words.specs.Bits.{IsFirstFrom};
-ghost use Rattle.pages.specs.Memory.{IsWordAddress};
+ghost use Rattle.block_map.specs.Walks.{IsNextObject};
 ghost use Rattle.block_map.specs.FoundIn.{found_in, IsLawful};
 ghost use Rattle.marker.specs.Marking.{IsSized, IsClean};
 ghost use Rattle.marker.specs.Growth.{Traces};
 ghost use Rattle.marker.specs.Retracing.{Rereads, Retraces};
 
-use crate::marker::Marker;
-use block_map::BlockMap;
+use crate::marker::{Marker, heap_bytes};
+use block_map::{BlockMap, Found};
 use pages::Reader;
-use words::limits::{FIRST_ADDRESS, PAGE_BYTES, PAGE_WORDS, WORD_BYTES};
+use words::limits::{FIRST_ADDRESS, PAGE_BYTES, WORD_BYTES};
 use words::{Kind, PageNo};
 
 impl Marker {
@@ -26,9 +26,11 @@ impl Marker {
         ensures none { IfNone result (reader.new.reads ≡ reader.old.reads) }
     {
         let page = self.take_page()?;
-        let start = FIRST_ADDRESS + PAGE_BYTES * u64::from(page);
-        for i in 0..PAGE_WORDS {
-            self.reread(map, reader, start + WORD_BYTES * i);
+        let heap_bytes = heap_bytes(map);
+        let mut address = FIRST_ADDRESS + PAGE_BYTES * u64::from(page);
+        let end = address + PAGE_BYTES;
+        while let Some(found) = map.next_on_page(page, address) {
+            address = self.reread(map, heap_bytes, reader, found, address, end);
         }
         Some(page)
     }
@@ -46,25 +48,34 @@ impl Marker {
         Some(page)
     }
 
-    // Reads the word at the address again, if it is one of a marked Normal object.
-    fn reread(&mut self, map: &BlockMap, reader: &mut Reader, address: u64)
+    // Reads the words of the next object again that stand between two addresses, if it is a marked Normal one.
+    // Answers the first address past them.
+    fn reread(&mut self, map: &BlockMap, heap_bytes: u64, reader: &mut Reader, found: Found, low: u64, high: u64) -> u64
         requires sized { IsSized (length map.now) self.old }
+        requires lawful { IsLawful map.now }
+        requires bytes { heap_bytes ≡ PAGE_BYTES * length map.now }
         requires memory { length reader.old.words ≡ PAGE_WORDS * length map.now }
-        requires address { IsWordAddress reader.old.words address }
-        ensures rereads { Rereads (found_in map.now) reader.old.words address self.old self.new }
-        ensures lawful { IsLawful map.now }
+        requires next { IsNextObject (found_in map.now) low high found }
+        requires low { low % WORD_BYTES ≡ 0 }
+        requires high { high % WORD_BYTES ≡ 0 }
+        ensures rereads { Rereads (found_in map.now) reader.old.words found low result self.old self.new }
+        ensures further { low < result }
+        ensures inside { result ≤ found.base + WORD_BYTES * found.len }
+        ensures within { result ≤ high }
+        ensures aligned { result % WORD_BYTES ≡ 0 }
         ensures words { reader.new.words ≡ reader.old.words }
-        ensures reads { reader.new.reads ≤ reader.old.reads + 1 }
+        ensures reads { WORD_BYTES * reader.new.reads + low ≤ WORD_BYTES * reader.old.reads + result }
     {
-        let Some(found) = map.find(address) else {
-            return;
-        };
+        let stop = (found.base + WORD_BYTES * u64::from(found.len)).min(high);
         if found.kind == Kind::PointerFree {
-            return;
+            return stop;
         }
-        if self.is_marked(found.base) {
-            let word = reader.read(address);
-            self.mark_word(map, word);
+        if !self.is_marked(found.base) {
+            return stop;
         }
+        let first = low.saturating_sub(found.base) / WORD_BYTES;
+        let count = (stop - found.base) / WORD_BYTES - first;
+        self.mark_words(map, heap_bytes, reader, found, first as u32, count);
+        stop
     }
 }

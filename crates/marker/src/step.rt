@@ -1,20 +1,19 @@
 //! Steps of marking: words of entries are read, at most so many a call.
 ghost use Rattle.std.specs.Prelude.{◌≡◌, ℕ, ◌+◌, ◌*◌, ◌<◌, ◌≤◌, [], ◌++◌, true, false, length, MatchOption, IfSome, ◌⊎◌, option_to_list, Some};
-ghost use Rattle.words.specs.declared.limits.TheConstants.{MAX_PAGES, PAGE_WORDS};
+ghost use Rattle.words.specs.declared.limits.TheConstants.{MAX_PAGES, PAGE_BYTES, PAGE_WORDS};
 ghost use Rattle.block_map.specs.Objects.{IsPlaced};
-ghost use Rattle.block_map.specs.FoundIn.{found_in};
+ghost use Rattle.block_map.specs.FoundIn.{found_in, IsLawful};
 ghost use Rattle.marker.specs.declared.entry.Entry.{Entry};
 ghost use Rattle.marker.specs.Marking.{IsSized, IsEmpty};
 ghost use Rattle.marker.specs.Work.{cost};
 ghost use Rattle.marker.specs.Growth.{Traces};
-ghost use Rattle.marker.specs.Entries.{IsSpent, IsLive, Settles, ReadsOne, Takes, TakesOff, IsInOrder};
+ghost use Rattle.marker.specs.Entries.{IsSpent, IsLive, Settles, ReadsOn, Takes, TakesOff, IsInOrder};
 
 use crate::entry::Entry;
-use crate::marker::Marker;
+use crate::marker::{Marker, heap_bytes};
 use block_map::{BlockMap, Found};
 use pages::Reader;
 use words::Kind;
-use words::limits::WORD_BYTES;
 
 /// What a call of `step` did.
 #[derive(Clone, Copy, Debug)]
@@ -42,13 +41,13 @@ impl Marker {
         ensures words { reader.new.words ≡ reader.old.words }
         ensures reads { reader.new.reads ≡ reader.old.reads + result.read }
     {
+        let heap_bytes = heap_bytes(map);
         let mut read = 0;
         while let Some(found) = self.settle(map) {
             if read == budget {
                 return Marked { read, empty: false };
             }
-            self.read_word(map, reader, found);
-            read += 1;
+            read += self.read_on(map, heap_bytes, reader, found, budget - read);
         }
         Marked { read, empty: true }
     }
@@ -108,28 +107,34 @@ impl Marker {
         self.current.is_some()
     }
 
-    // Reads one word of the entry.
-    fn read_word(&mut self, map: &BlockMap, reader: &mut Reader, found: Found)
+    // Reads words of the entry that is being read, at most so many, and answers how many.
+    fn read_on(&mut self, map: &BlockMap, heap_bytes: u64, reader: &mut Reader, found: Found, most: u64) -> u64
         requires sized { IsSized (length map.now) self.old }
+        requires lawful { IsLawful map.now }
+        requires bytes { heap_bytes ≡ PAGE_BYTES * length map.now }
         requires live { IsLive (found_in map.now) self.old found }
         requires placed { IsPlaced (length map.now) found × (length map.now ≤ MAX_PAGES) }
         requires memory { length reader.old.words ≡ PAGE_WORDS * length map.now }
-        ensures one { ReadsOne (found_in map.now) reader.old.words self.old self.new }
+        requires some { 0 < most }
+        ensures read { ReadsOn (found_in map.now) reader.old.words result self.old self.new }
+        ensures some { 0 < result }
+        ensures most { result ≤ most }
         ensures traces { Traces (found_in map.now) reader.old.words [] self.old self.new }
         ensures taken { TakesOff (found_in map.now) reader.old.words self.old self.new }
         ensures order { IsInOrder (found_in map.now) reader.old.words self.old self.new }
-        ensures cost { cost (found_in map.now) self.new + 1 ≤ cost (found_in map.now) self.old }
+        ensures cost { cost (found_in map.now) self.new + result ≤ cost (found_in map.now) self.old }
         ensures words { reader.new.words ≡ reader.old.words }
-        ensures reads { reader.new.reads ≡ reader.old.reads + 1 }
+        ensures reads { reader.new.reads ≡ reader.old.reads + result }
     {
         let Some(entry) = self.current else {
             unreachable!();
         };
-        let word = reader.read(found.base + WORD_BYTES * u64::from(entry.next));
-        self.mark_word(map, word);
+        let count = u64::from(found.len - entry.next).min(most);
+        self.mark_words(map, heap_bytes, reader, found, entry.next, count);
         self.current = Some(Entry {
             base: entry.base,
-            next: entry.next + 1,
+            next: entry.next + count as u32,
         });
+        count
     }
 }
