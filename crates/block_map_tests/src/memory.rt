@@ -1,29 +1,27 @@
 //! Words of memory.
-use pages::{Memory, Reader};
+use block_map::BlockMap;
+use pages::{Memory, PagePool, Reader};
+use std::process::Abort;
 use std::test::Fail;
 use words::OpenError;
-use words::limits::{FIRST_ADDRESS, MAX_PAGES};
+use words::limits::FIRST_ADDRESS;
+
+// What an opening that was refused answers: want of memory only for so many pages as a heap may have.
+fn assert_refused(rt: &impl Abort, refused: Option<OpenError>, pages: u32) {
+    let in_range = 1 <= pages && pages <= 1_024;
+    match refused {
+        None => assert!(rt; in_range, "{pages} pages"),
+        Some(OpenError::Memory) => assert!(rt; in_range, "{pages} pages"),
+        Some(OpenError::BadPages) => assert!(rt; !in_range, "{pages} pages"),
+    }
+}
 
 #[test]
 fn opens_in_range_alone(rt: HostRuntime) -> Result<(), Fail> {
-    for (pages, opens) in [
-        (0, false),
-        (1, true),
-        (2, true),
-        (MAX_PAGES, true),
-        (MAX_PAGES + 1, false),
-        (u32::MAX, false),
-    ] {
-        match Memory::new(rt.alloc(), pages) {
-            Ok(memory) => {
-                assert!(rt; opens, "{pages} pages");
-                assert_eq!(rt; memory.len() as u64, 512 * u64::from(pages));
-            }
-            Err(error) => {
-                assert!(rt; !opens, "{pages} pages");
-                assert_eq!(rt; error, OpenError::BadPages);
-            }
-        }
+    for pages in [0, 1, 2, 1_024, 1_025, u32::MAX] {
+        assert_refused(&rt, Memory::new(rt.alloc(), pages).err(), pages);
+        assert_refused(&rt, PagePool::new(rt.alloc(), pages).err(), pages);
+        assert_refused(&rt, BlockMap::new(rt.alloc(), pages).err(), pages);
     }
     Ok(())
 }
