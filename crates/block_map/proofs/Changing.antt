@@ -1,5 +1,5 @@
 -- Changes of the pages as changes of what words find.
-use Rattle.std.proofs.Common.{◌≡◌, ◌≢◌, ℕ, ◌-◌, ◌+◌, ◌*◌, ◌/◌, ◌%◌, ◌<◌, ◌≤◌, ◌⊎◌, Bool, true, false, cond, List, length, set, get_or, replicate, Option, None, Some, refl, sym, ap, ◌∙◌, subst, arith, inl, inr, ⊎_elim, length-set, get_or-set_same, get_or-set_other}
+use Rattle.std.proofs.Common.{◌≡◌, ◌≢◌, ℕ, ◌+◌, ◌/◌, ◌<◌, ◌≤◌, Bool, true, false, cond, List, length, set, get_or, replicate, None, Some, refl, sym, ap, ◌∙◌, subst, arith, ⊎_elim, length-set, get_or-set_same, get_or-set_other}
 use Rattle.std.proofs.lemmas.Bool.{cond-true, cond-false, cases_lt, cases_eq}
 use Rattle.std.proofs.lemmas.List.{get_or_past, get_or-replicate, length-replicate}
 use Rattle.words.specs.declared.class.Kind.{Kind}
@@ -9,10 +9,9 @@ use Rattle.block_map.specs.States.{PageState, free, cut, head, body, state_at, s
 use Rattle.block_map.specs.Objects.{cell_object, large_object, object_on, IsObjectOn, Reads}
 use Rattle.block_map.specs.FoundIn.{cell_at, found_in, found_in_block, found_on, found_large}
 use Rattle.block_map.specs.Changes.{IsSameMap, IsAdded, IsCleared, IsUncut, HasNoObject}
-use Rattle.block_map.specs.declared.found.Found.{Found}
-use Rattle.block_map.proofs.Seen.{within, laid_at}
-use Rattle.block_map.proofs.Spans.{Out, place_of, IsClosed, IsPlain, free_plain, cut_plain, one_out, out_one, closed_one, closed_free, closed_head, body_within, span_one, large_here, large_else}
-use Rattle.block_map.proofs.Words.{word_page, page_is, read_cell, cell_read}
+use Rattle.block_map.proofs.Seen.{laid_at}
+use Rattle.block_map.proofs.Spans.{Out, place_of, IsClosed, IsPlain, free_plain, cut_plain, closed_one, closed_free, closed_head, body_within, span_one, large_here, large_else}
+use Rattle.block_map.proofs.Words.{word_page, read_cell, cell_read}
 use Rattle.block_map.proofs.Finding.{found_low, found_here, found_as}
 use Rattle.block_map.proofs.Lawful.{found_object}
 

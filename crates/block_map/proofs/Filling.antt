@@ -1,9 +1,9 @@
 -- Loops over the pages of a map, seen as their states.
-use Rattle.std.proofs.Common.{◌≡◌, ℕ, ◌-◌, ◌+◌, ◌<◌, ◌≤◌, List, [], ◌∷◌, ◌++◌, zero, suc, length, map, set, get_or, refl, sym, ap, ◌∙◌, arith, ⊎_elim}
+use Rattle.std.proofs.Common.{◌≡◌, ℕ, ◌+◌, ◌<◌, List, [], ◌∷◌, ◌++◌, zero, suc, length, map, set, get_or, refl, sym, ap, ◌∙◌, arith}
 use Rattle.std.proofs.lemmas.List.{map-set, get_or-map, get_or_past, length-map, length-append}
 use Rattle.block_map.specs.declared.page.Page.{Page}
 use Rattle.block_map.specs.declared.page.Page.TheVariants.{Free}
-use Rattle.block_map.specs.States.{PageState, free, state_at, AreAllFree}
+use Rattle.block_map.specs.States.{free, state_at, AreAllFree}
 use Rattle.block_map.specs.Shown.{shown}
 use Rattle.block_map.proofs.Spans.{span_start, span_more, large_here, large_else}
 

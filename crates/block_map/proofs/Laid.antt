@@ -1,13 +1,10 @@
 -- The map stays laid out.
-use Rattle.std.proofs.Common.{◌≡◌, ℕ, ◌+◌, ◌/◌, ◌<◌, ◌≤◌, Bool, false, List, length, map, set, replicate, refl, sym, ap, ◌∙◌, subst, arith, ⊎_elim, length-set, get_or-set_same}
+use Rattle.std.proofs.Common.{◌≡◌, ℕ, ◌+◌, ◌/◌, ◌<◌, ◌≤◌, Bool, false, List, length, set, replicate, refl, sym, ◌∙◌, subst, arith, ⊎_elim, length-set, get_or-set_same}
 use Rattle.std.proofs.lemmas.Bool.{cases_eq}
-use Rattle.std.proofs.lemmas.List.{length-replicate}
 use Rattle.words.specs.declared.class.Kind.{Kind}
 use Rattle.words.specs.declared.limits.TheConstants.{MAX_PAGES}
-use Rattle.words.specs.Classes.{IsSizeClass}
-use Rattle.blocks.specs.Cells.{Cells, IsCells}
+use Rattle.blocks.specs.Cells.{IsCells}
 use Rattle.block_map.specs.States.{PageState, free, cut, head, body, state_at, span_of, LaidAt, IsLaid, IsCut, HasCell, with_cell, IsSpanSet, large_states, all_free, AreAllFree}
-use Rattle.block_map.proofs.Seen.{laid_at, within}
 use Rattle.block_map.proofs.Spans.{Out, place_of, IsClosed, IsPlain, free_plain, cut_plain, closed_one, closed_free, closed_head, span_one, large_here, large_else}
 
 module _ (old new : List PageState) (first n : ℕ) (size : length new ≡ length old)

@@ -1,5 +1,5 @@
 -- What a word finds are exactly the objects of the states.
-use Rattle.std.proofs.Common.{◌≡◌, ℕ, ◌-◌, ◌+◌, ◌*◌, ◌/◌, ◌%◌, ◌<◌, ◌≤◌, ◌⊎◌, Bool, true, false, List, length, get_or, Option, None, Some, MatchOption, refl, sym, ap, ◌∙◌, subst, arith, inl, inr, ⊎_elim}
+use Rattle.std.proofs.Common.{◌≡◌, ℕ, ◌+◌, ◌*◌, ◌/◌, ◌%◌, ◌<◌, ◌≤◌, ◌⊎◌, Bool, true, false, List, length, get_or, Option, None, Some, refl, sym, ap, ◌∙◌, subst, arith, inl, inr, ⊎_elim}
 use Rattle.std.proofs.lemmas.Bool.{cond-true, cond-false, cases_lt, cases_eq}
 use Rattle.std.proofs.lemmas.Bool.Decides.{nat_tests}
 use Rattle.std.proofs.lemmas.List.{get_or_past}
@@ -8,12 +8,11 @@ use Rattle.words.specs.declared.class.Kind.{Kind}
 use Rattle.words.specs.Classes.{IsSizeClass}
 use Rattle.blocks.specs.Cells.{Cells, IsCells}
 use Rattle.blocks.proofs.Places.{class_bounds}
-use Rattle.block_map.specs.Places.{page_start, page_of, IsOnPage}
+use Rattle.block_map.specs.Places.{page_of, IsOnPage}
 use Rattle.block_map.specs.States.{PageState, free, cut, head, body, state_at, LaidAt, IsLaid}
-use Rattle.block_map.specs.Objects.{cell_object, large_object, IsObjectOn, IsObject, Reads, IsAnswer, IsPlaced, IsMap}
+use Rattle.block_map.specs.Objects.{cell_object, large_object, IsObjectOn, IsObject, Reads, IsAnswer, IsPlaced}
 use Rattle.block_map.specs.FoundIn.{cell_at, found_in, found_in_block, found_on, found_large, IsLawful}
 use Rattle.block_map.specs.declared.found.Found.{Found}
-use Rattle.block_map.proofs.Seen.{within, laid_at}
 use Rattle.block_map.proofs.Words.{word_page, read_cell, cell_read, cells_end}
 use Rattle.block_map.proofs.Finding.{found_low, found_as}
 

@@ -1,11 +1,11 @@
 -- The state of a page that the code has looked at.
-use Rattle.std.proofs.Common.{◌≡◌, ℕ, ◌<◌, ◌≤◌, Bool, false, List, [], ◌∷◌, zero, suc, length, map, get_or, sym, ap, ◌∙◌, subst, arith}
+use Rattle.std.proofs.Common.{◌≡◌, ℕ, ◌<◌, Bool, false, List, [], ◌∷◌, zero, suc, length, map, get_or, sym, ap, subst, arith}
 use Rattle.std.proofs.lemmas.List.{get_or_past}
 use Rattle.std.proofs.lemmas.Bool.{cases_lt}
 use Rattle.std.proofs.Common.{⊎_elim}
 use Rattle.blocks.specs.Cells.{Cells}
 use Rattle.block_map.specs.declared.page.Page.{Page}
-use Rattle.block_map.specs.States.{PageState, free, cut, head, body, state_at, LaidAt, IsLaid, HasCell}
+use Rattle.block_map.specs.States.{PageState, free, cut, state_at, LaidAt, IsLaid, HasCell}
 use Rattle.block_map.specs.Shown.{shown}
 
 pub state_read : (items : List Page) (p : ℕ) (x : Page) → p < length items → x ≡ get_or items p x → state_at (map shown items) p ≡ shown x

@@ -1,6 +1,6 @@
 -- The next object of a page.
-use Rattle.std.proofs.Common.{◌≡◌, ◌≢◌, ℕ, ◌-◌, ◌+◌, ◌*◌, ◌/◌, ◌%◌, ◌<◌, ◌≤◌, true, false, length, get_or, List, Option, None, Some, refl, sym, ap, ◌∙◌, subst, arith, ⊎_elim}
-use Rattle.std.proofs.lemmas.Bool.{cases_lt, cases_eq}
+use Rattle.std.proofs.Common.{◌≡◌, ℕ, ◌+◌, ◌*◌, ◌%◌, ◌<◌, ◌≤◌, false, length, List, Some, sym, ◌∙◌, subst, arith, ⊎_elim}
+use Rattle.std.proofs.lemmas.Bool.{cases_lt}
 use Rattle.std.proofs.lemmas.List.{get_or_past}
 use Rattle.std.proofs.Math.Nat.{mul-le-mul_right}
 use Rattle.words.specs.declared.class.Kind.{Kind}
@@ -13,8 +13,8 @@ use Rattle.block_map.specs.Objects.{cell_object, large_object, Reads}
 use Rattle.block_map.specs.FoundIn.{cell_at, found_in, found_large}
 use Rattle.block_map.specs.Walks.{IsNextObject, IsNoObject, IsNextCell}
 use Rattle.block_map.specs.declared.found.Found.{Found}
-use Rattle.block_map.proofs.Seen.{laid_at, within}
-use Rattle.block_map.proofs.Words.{rest_of, read_cell, cell_read}
+use Rattle.block_map.proofs.Seen.{laid_at}
+use Rattle.block_map.proofs.Words.{rest_of, read_cell}
 use Rattle.block_map.proofs.Finding.{found_as, on_free, on_head, on_body, in_cell, past_cells, block_none, block_here, body_head}
 
 -- ---- a page without blocks
@@ -90,7 +90,7 @@ next_cell s p from i b cells at is first later =
           let rest' = rest_of p w at' in
           let q' = divided (w % 4096) (8 * b.class) (omega arith) in
           let before : cell_at b w < i = ⊎_elim (λ (h : cell_at b w < i). h)
-          (λ ge. let m' : i * (8 * b.class) ≤ cell_at b w * (8 * b.class) = mul-le-mul_right (8 * b.class) ge in absurd (omega (arith, m', q'.0))) (cases_lt (cell_at b w) i) in
+              (λ ge. let m' : i * (8 * b.class) ≤ cell_at b w * (8 * b.class) = mul-le-mul_right (8 * b.class) ge in absurd (omega (arith, m', q'.0))) (cases_lt (cell_at b w) i) in
           found_as s p w (cut b) at' is ∙ sym (block_none p w b (first.least (cell_at b w) grows before));
     }
 

@@ -1,14 +1,13 @@
 -- Which words of a page a cell has, and which words an object.
-use Rattle.std.proofs.Common.{◌≡◌, ℕ, ◌-◌, ◌+◌, ◌*◌, ◌/◌, ◌%◌, ◌<◌, ◌≤◌, length, refl, sym, ap, ◌∙◌, subst, arith, inl, inr, ⊎_elim}
+use Rattle.std.proofs.Common.{◌≡◌, ℕ, ◌-◌, ◌+◌, ◌*◌, ◌/◌, ◌%◌, ◌<◌, ◌≤◌, arith, inl, inr, ⊎_elim}
 use Rattle.std.proofs.lemmas.Bool.{cases_lt}
-use Rattle.std.proofs.lemmas.Nat.{div-add-mod', mod_below}
+use Rattle.std.proofs.lemmas.Nat.{div-add-mod'}
 use Rattle.std.proofs.Math.Nat.{mul-le-mul_right}
-use Rattle.words.specs.declared.class.Kind.{Kind}
 use Rattle.words.specs.Classes.{IsSizeClass}
-use Rattle.blocks.specs.Cells.{Cells, IsCells}
+use Rattle.blocks.specs.Cells.{Cells}
 use Rattle.blocks.proofs.Places.{class_bounds, divided}
 use Rattle.block_map.specs.Places.{page_start, page_of, IsOnPage, IsOutside}
-use Rattle.block_map.specs.Objects.{cell_object, large_object, Reads}
+use Rattle.block_map.specs.Objects.{cell_object, Reads}
 use Rattle.block_map.specs.FoundIn.{cell_at}
 
 pub word_page : (w : ℕ) → 268435456 ≤ w → IsOnPage (page_of w) w

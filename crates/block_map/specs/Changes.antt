@@ -1,7 +1,6 @@
 -- Changes of a map, as changes of the function from words to the objects that they read.
 use Rattle.std.specs.Prelude.{◌≡◌, ℕ, ◌<◌, ◌≤◌, ◌⊎◌, false, Bool, List, slice_index_or, Option, Some, None}
 use Rattle.block_map.specs.Objects.{Reads, large_object}
-use Rattle.block_map.specs.Places.{page_start}
 use Rattle.block_map.specs.States.{PageState, free, cut, head, body}
 use Rattle.block_map.specs.declared.found.Found.{Found}
 
