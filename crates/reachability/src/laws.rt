@@ -14,8 +14,7 @@ ghost use Rattle.reachability.specs.Shows.{Shows, HasBirth, AreBirthsDistinct, I
 pub fn closures_agree()
     ensures { (pages : ℕ) (s : Heap) (found : ℕ → Option Found) (words : List ℕ) (births : ℕ → Bool) → IsMap pages found → Shows s found words → (f : Found) → found f.base ≡ Some f
         → (Closure found words (root_words s) (HasBirth s (λ b. births b ≡ true)) f ↔ heap.Closure s (λ b. births b ≡ true) f.base) }
-{
-}
+{}
 
 /// An object is in the marker's closure of the marks exactly if it is in the heap's closure of the births of marked
 /// objects.
@@ -23,5 +22,4 @@ pub fn closures_agree()
 pub fn marked_closures_agree()
     ensures { (pages : ℕ) (s : Heap) (found : ℕ → Option Found) (words : List ℕ) (m : Marking) → IsMap pages found → Shows s found words → AreBirthsDistinct s → (f : Found) → found f.base ≡ Some f
         → (Closure found words (root_words s) (IsMarked m) f ↔ heap.Closure s (IsMarkedBirth s m) f.base) }
-{
-}
+{}
