@@ -7,10 +7,10 @@ use Rattle.mark_bits.specs.Granules.{granule}
 use Rattle.words.specs.declared.limits.TheConstants.{FIRST_ADDRESS}
 use Rattle.marker.specs.Marking.{Marking, IsMarked, IsDone}
 use Rattle.marker.specs.Work.{cost, dirty_pages, newly_pages, entry_words}
-use Rattle.marker.specs.Closure.{Closure, held}
+use Rattle.marker.specs.Closure.{Closure}
 use Rattle.marker.specs.Invariant.{DirtyPageInvariant, AreRootsMarked}
 use Rattle.marker.specs.Growth.{Traces}
-use Rattle.marker.proofs.Closures.{closure_marked, closure_more}
+use Rattle.final_pause.proofs.Final.{closure_marked}
 use Rattle.marker.proofs.Costs.{newly_rest, dirty_words}
 use Rattle.marker.proofs.Growing.{traces_trans, traces_more}
 
@@ -51,11 +51,3 @@ closed_reads found words roots reads old now_reads now c =
     let n = newly_rest found 0 old.marks now.marks c.traces.marks_len (λ i h. subst (Has now.marks) (at i) (c.traces.marks (FIRST_ADDRESS + 16 * i) (subst (Has old.marks) (sym (at i)) h))) in
     let d = dirty_words old.dirty in
     omega (arith, l, n, d)
-
--- where a part of the marking was done before, as by several threads, the closure is that of the marks at the start
-pub closure_same : (found : ℕ → Option Found) (words roots : List ℕ) (old mid : Marking) → Traces found words roots old mid
-    → (f : Found) → (Closure found words roots (IsMarked mid) f → Closure found words roots (IsMarked old) f) × (Closure found words roots (IsMarked old) f → Closure found words roots (IsMarked mid) f)
-closure_same found words roots old mid t f = (
-  (λ c. closure_more found words roots roots (IsMarked mid) (IsMarked old) (λ w h. h) t.within c),
-  (λ c. closure_more found words roots roots (IsMarked old) (IsMarked mid) (λ w h. h) (λ g e k. held e (t.marks g.base k)) c),
-)

@@ -39,5 +39,11 @@ fn mark_on(marker: &mut Marker, map: &BlockMap, reader: &mut Reader) -> bool
     ensures reads { reader.new.reads + cost (found_in map.now) marker.new ≤ reader.old.reads + cost (found_in map.now) marker.old }
 {
     let marked = marker.step(map, reader, u64::MAX);
-    marked.empty && marker.retrace(map, reader).is_none()
+    if !marked.empty {
+        return false;
+    }
+    match marker.retrace(map, reader) {
+        Some(_) => false,
+        None => true,
+    }
 }

@@ -141,7 +141,15 @@ impl Marker {
 
     // Marks what words of an object read: so many, from its word `first` on.
     #[inline]
-    pub(crate) fn mark_words(&mut self, map: &BlockMap, heap_bytes: u64, reader: &mut Reader, found: Found, first: u32, count: u64)
+    pub(crate) fn mark_words(
+        &mut self,
+        map: &BlockMap,
+        heap_bytes: u64,
+        reader: &mut Reader,
+        found: Found,
+        first: u32,
+        count: u64,
+    )
         requires sized { IsSized (length map.now) self.old }
         requires lawful { IsLawful map.now }
         requires bytes { heap_bytes ≡ PAGE_BYTES * length map.now }

@@ -25,7 +25,8 @@ impl Marker {
         ensures written { IsWritten address self.old self.new }
         ensures keeps { (found : ℕ → Option Found) (words : List ℕ) (w : ℕ) → DirtyPageInvariant found words self.old → DirtyPageInvariant found (with_word_at words address w) self.new }
     {
-        self.dirty.set(((address - FIRST_ADDRESS) / PAGE_BYTES) as u32);
+        self.dirty
+            .set(((address - FIRST_ADDRESS) / PAGE_BYTES) as u32);
     }
 
     /// An object of zero words was allocated at this base. It is marked at once, and the invariant stays.
@@ -44,6 +45,5 @@ impl Marker {
     #[tactic(auto, using(crate::proofs::Mutating::mutating))]
     pub fn freed(&self)
         ensures { (found after : ℕ → Option Found) (words words' : List ℕ) → HasNoNew found after → KeepsWords after words words' → DirtyPageInvariant found words self.now → DirtyPageInvariant after words' self.now }
-    {
-    }
+    {}
 }

@@ -50,7 +50,15 @@ impl Marker {
 
     // Reads the words of the next object again that stand between two addresses, if it is a marked Normal one.
     // Answers the first address past them.
-    fn reread(&mut self, map: &BlockMap, heap_bytes: u64, reader: &mut Reader, found: Found, low: u64, high: u64) -> u64
+    fn reread(
+        &mut self,
+        map: &BlockMap,
+        heap_bytes: u64,
+        reader: &mut Reader,
+        found: Found,
+        low: u64,
+        high: u64,
+    ) -> u64
         requires sized { IsSized (length map.now) self.old }
         requires lawful { IsLawful map.now }
         requires bytes { heap_bytes ≡ PAGE_BYTES * length map.now }

@@ -108,7 +108,14 @@ impl Marker {
     }
 
     // Reads words of the entry that is being read, at most so many, and answers how many.
-    fn read_on(&mut self, map: &BlockMap, heap_bytes: u64, reader: &mut Reader, found: Found, most: u64) -> u64
+    fn read_on(
+        &mut self,
+        map: &BlockMap,
+        heap_bytes: u64,
+        reader: &mut Reader,
+        found: Found,
+        most: u64,
+    ) -> u64
         requires sized { IsSized (length map.now) self.old }
         requires lawful { IsLawful map.now }
         requires bytes { heap_bytes ≡ PAGE_BYTES * length map.now }

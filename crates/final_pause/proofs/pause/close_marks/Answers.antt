@@ -1,15 +1,16 @@
-use Rattle.std.proofs.Common.{◌∙◌, refl, rules, subst, List, [], ℕ, arith}
+use Rattle.marker.proofs.Sizes.{sized_same}
+use Rattle.std.proofs.Common.{length, ◌∙◌, refl, rules, subst, List, [], ℕ, arith}
 use Rattle.block_map.specs.FoundIn.{found_in}
 use Rattle.marker.specs.Growth.{Traces}
-use Rattle.marker.proofs.Closing.{Closes, closes_step, closed, closed_reads}
-use Rattle.marker.proofs.pause.close_marks.Goals as goal
-use Rattle.marker.proofs.pause.close_marks.Goals.{After-mark_on}
+use Rattle.final_pause.proofs.Closing.{Closes, closes_step, closed, closed_reads}
+use Rattle.final_pause.proofs.pause.close_marks.Goals as goal
+use Rattle.final_pause.proofs.pause.close_marks.Goals.{After-mark_on}
 
 pub loop-init : goal.loop-init
 loop-init c =
     let t = c.scan_roots.ensures.traces c.args.reader.now.words in
     record {
-      sized = record { marks = t.marks_len ∙ c.requires.sized.marks; dirty = t.dirty_len ∙ c.requires.sized.dirty };
+      sized = sized_same _ _ _ t.marks_len t.dirty_len c.requires.sized;
       closes = record { traces = t; scanned = c.scan_roots.ensures.roots; less = (let a = c.scan_roots.ensures.cost in omega arith) };
       words = refl;
     }
@@ -26,7 +27,7 @@ loop-preserved c =
     let t = next_traces a in
     let i = c.loop.invariant in
     record {
-      sized = record { marks = t.marks_len ∙ i.sized.marks; dirty = t.dirty_len ∙ i.sized.dirty };
+      sized = sized_same _ _ _ t.marks_len t.dirty_len i.sized;
       closes = closes a;
       words = c.mark_on.ensures.words ∙ i.words;
     }
@@ -39,5 +40,5 @@ returns-clause-reads c = closed_reads (found_in c.args.map.now) c.args.reader.no
 
 pub returns-clause-closure : goal.returns-clause-closure
 returns-clause-closure c =
-    closed (length c.args.map.now) (found_in c.args.map.now) c.args.reader.now.words c.args.roots.now _ _ _ _ c.requires.map c.requires.traced (closes (goal.at.returns-clause-closure c).After-mark_on)
+    closed (length c.args.map.now) (found_in c.args.map.now) c.args.reader.now.words c.args.roots.now _ _ _ _ c.scan_roots.ensures.lawful.map c.requires.invariant (closes (goal.at.returns-clause-closure c).After-mark_on)
     (c.mark_on.ensures.done (search rules))

@@ -1,9 +1,9 @@
-use Rattle.std.proofs.Common.{◌≡◌}
+use Rattle.std.proofs.Common.{◌≡◌, length}
 use Rattle.block_map.specs.FoundIn.{found_in}
 use Rattle.marker.specs.Marking.{IsSized}
 use Rattle.marker.specs.Work.{cost}
-use Rattle.marker.proofs.Closing.{Closes}
-use Rattle.marker.proofs.pause.close_marks.Given as goal
+use Rattle.final_pause.proofs.Closing.{Closes}
+use Rattle.final_pause.proofs.pause.close_marks.Given as goal
 
 abbrev pub invariant-loop : goal.invariant-loop
 invariant-loop l = record {

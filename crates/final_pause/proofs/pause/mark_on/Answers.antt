@@ -2,7 +2,7 @@ use Rattle.std.proofs.Common.{subst, List, [], ℕ}
 use Rattle.block_map.specs.FoundIn.{found_in}
 use Rattle.marker.specs.Growth.{Traces}
 use Rattle.marker.proofs.Growing.{traces_trans}
-use Rattle.marker.proofs.pause.mark_on.Goals as goal
+use Rattle.final_pause.proofs.pause.mark_on.Goals as goal
 
 pub returns-in-Some-clause-traces : goal.returns-in-Some-clause-traces
 returns-in-Some-clause-traces c =
