@@ -133,12 +133,12 @@ end_serves pages number core input held b0 block block' rem0 rem rem' w0 w done 
     let lines = u.lines in
     let same : text_of lines ++ [] ≡ text_of lines = append-nil (text_of lines) in
     serves pages input held b0 block' (text_of lines ++ []) u.out rem0 rem' w0 w (Ok done) none tells_input tells_held
-      (Consumes-more _ _ _ (text_of lines) [] u.read reads) u.wrote
-      (λ left is. let e = at_end block' left rem' is end in
-        let all : lines_of ((text_of lines ++ []) ++ block') ≡ lines
-          = ap (λ b. lines_of ((text_of lines ++ []) ++ b)) (no_block block' left e) ∙ ap lines_of (append_assoc (text_of lines) [] []) ∙ lines_of-text lines [] u.run.plain ∙ append-nil lines in
-        let P : List (List ℕ) → Type 0 = λ ls. Answers pages ls u.out in
-        (subst P (sym all) (answers pages core lines u.out u.run (let c = u.count in omega (arith, c))), no_left block' left e))
+    (Consumes-more _ _ _ (text_of lines) [] u.read reads) u.wrote
+    (λ left is. let e = at_end block' left rem' is end in
+    let all : lines_of ((text_of lines ++ []) ++ block') ≡ lines
+    = ap (λ b. lines_of ((text_of lines ++ []) ++ b)) (no_block block' left e) ∙ ap lines_of (append_assoc (text_of lines) [] []) ∙ lines_of-text lines [] u.run.plain ∙ append-nil lines in
+    let P : List (List ℕ) → Type 0 = λ ls. Answers pages ls u.out in
+    (subst P (sym all) (answers pages core lines u.out u.run (let c = u.count in omega (arith, c))), no_left block' left e))
 
 -- a bad line, however the input goes on
 bad_answered : (pages number : ℕ) (core : Contents) (lines more : List (List ℕ)) (bad out read left : List ℕ) → number ≤ LAST_LINE → length lines + 1 ≡ number → HasRun pages core lines out
@@ -173,11 +173,11 @@ too_long_serves pages number core input held b0 block block' line rem0 rem rem' 
     let long : length front ≡ LINE_BYTES + 1 = length-push line found.0 ∙ ap (λ n. n + 1) found.3 in
     let no : IsPlain front = All-push (λ b. b ≡ newline → ⊥) line found.0 plain found.2 in
     serves pages input held b0 block' (text_of lines ++ front) u.out rem0 rem' w0 w (Err (BadLine number)) none tells_input tells_held
-      (Consumes-more _ _ _ (text_of lines) front u.read found.1) u.wrote
-      (λ left is. let first = first_line front (block' ++ left) no (omega (arith, long)) in
-        bad_answered pages number core lines first.lines first.line u.out ((text_of lines ++ front) ++ block') left few u.count u.run
-          (ap lines_of (append_assoc (text_of lines ++ front) block' left ∙ append_assoc (text_of lines) front (block' ++ left)) ∙ lines_of-text lines (front ++ (block' ++ left)) u.run.plain ∙ ap (λ ls. lines ++ ls) first.are)
-          (inl (λ command l. let short = l.short in let h = first.long in omega (arith, short, h, long))))
+    (Consumes-more _ _ _ (text_of lines) front u.read found.1) u.wrote
+    (λ left is. let first = first_line front (block' ++ left) no (omega (arith, long)) in
+    bad_answered pages number core lines first.lines first.line u.out ((text_of lines ++ front) ++ block') left few u.count u.run
+    (ap lines_of (append_assoc (text_of lines ++ front) block' left ∙ append_assoc (text_of lines) front (block' ++ left)) ∙ lines_of-text lines (front ++ (block' ++ left)) u.run.plain ∙ ap (λ ls. lines ++ ls) first.are)
+    (inl (λ command l. let short = l.short in let h = first.long in omega (arith, short, h, long))))
 
 -- the reader failed within a line
 pub read_serves : (pages number : ℕ) (core : Contents) (input held b0 block block' part : List ℕ) (rem0 rem rem' w0 w : Option (List ℕ)) → number ≤ LAST_LINE → b0 ≡ [] → rem0 ≡ Some input → w0 ≡ Some held
@@ -185,11 +185,11 @@ pub read_serves : (pages number : ℕ) (core : Contents) (input held b0 block bl
 read_serves pages number core input held b0 block block' part rem0 rem rem' w0 w few none tells_input tells_held u plain empty reads =
     let lines = u.lines in
     serves pages input held b0 block' (text_of lines ++ part) u.out rem0 rem' w0 w (Err Read) none tells_input tells_held
-      (Consumes-more _ _ _ (text_of lines) part u.read reads) u.wrote
-      (λ left is. let all : whole_lines_of ((text_of lines ++ part) ++ block') ≡ lines
-          = ap whole_lines_of (ap (λ b. (text_of lines ++ part) ++ b) empty ∙ append-nil (text_of lines ++ part)) ∙ whole_lines_of-text lines part u.run.plain plain in
-        let P : List (List ℕ) → Type 0 = λ ls. Answers pages ls u.out in
-        subst P (sym all) (answers pages core lines u.out u.run (let c = u.count in omega (arith, c))))
+    (Consumes-more _ _ _ (text_of lines) part u.read reads) u.wrote
+    (λ left is. let all : whole_lines_of ((text_of lines ++ part) ++ block') ≡ lines
+    = ap whole_lines_of (ap (λ b. (text_of lines ++ part) ++ b) empty ∙ append-nil (text_of lines ++ part)) ∙ whole_lines_of-text lines part u.run.plain plain in
+    let P : List (List ℕ) → Type 0 = λ ls. Answers pages ls u.out in
+    subst P (sym all) (answers pages core lines u.out u.run (let c = u.count in omega (arith, c))))
 
 -- a line was answered, and there are more
 pub line_on : (pages number : ℕ) (old new : Contents) (line : List ℕ) (input left left' w0 w w' : Option (List ℕ)) → IsUpTo pages number old input left w0 w → IsPlain line → IsFound Line line left left'
@@ -212,7 +212,7 @@ write_answered : (pages number : ℕ) (old new : Contents) (lines more : List (L
     → IsRun pages line old new o → lines_of whole ≡ lines ++ line ∷ more → BeginsAnswer pages (lines_of whole) (out ++ take n o)
 write_answered pages number old new lines more line out o whole n few count run plain turn is =
     let front : take number (lines_of whole) ≡ lines ++ line ∷ []
-      = ap (λ k. take k (lines_of whole)) (sym (length-push lines line ∙ count)) ∙ ap (take (length (lines ++ line ∷ []))) (is ∙ sym (append_assoc lines (line ∷ []) more)) ∙ take-front (lines ++ line ∷ []) more in
+    = ap (λ k. take k (lines_of whole)) (sym (length-push lines line ∙ count)) ∙ ap (take (length (lines ++ line ∷ []))) (is ∙ sym (append_assoc lines (line ∷ []) more)) ∙ take-front (lines ++ line ∷ []) more in
     let P : List (List ℕ) → Type 0 = λ ls. Answers pages ls (out ++ o) in
     record {
       answered = number;
@@ -230,14 +230,14 @@ fault_serves pages number old new input held b0 block block' line rem0 rem rem' 
     let P : ℕ → Type 0 = λ k. Serves pages input held rem' w' (Err (BadLine k)) in
     let text : List ℕ = text_of u.lines ++ (line ++ newline ∷ []) in
     subst P (sym turn.0) (serves pages input held b0 block' text (u.out ++ []) rem0 rem' w0 w' (Err (BadLine number)) none tells_input tells_held
-      (Consumes-more _ _ _ (text_of u.lines) (line ++ newline ∷ []) u.read reads) (Appends-more w0 w w' u.out [] u.wrote turn.2)
-      (λ left is. let Q : List ℕ → Type 0 = λ o. IsAnswered pages (text ++ block') left (Err (BadLine number)) o in
-        subst Q (sym (append-nil u.out)) (bad_answered pages number old u.lines (lines_of (block' ++ left)) line u.out (text ++ block') left (omega (arith, few)) u.count u.run (more_lines u.lines line block' left u.run.plain plain) (inl turn.1))))
+    (Consumes-more _ _ _ (text_of u.lines) (line ++ newline ∷ []) u.read reads) (Appends-more w0 w w' u.out [] u.wrote turn.2)
+    (λ left is. let Q : List ℕ → Type 0 = λ o. IsAnswered pages (text ++ block') left (Err (BadLine number)) o in
+    subst Q (sym (append-nil u.out)) (bad_answered pages number old u.lines (lines_of (block' ++ left)) line u.out (text ++ block') left (omega (arith, few)) u.count u.run (more_lines u.lines line block' left u.run.plain plain) (inl turn.1))))
 fault_serves pages number old new input held b0 block block' line rem0 rem rem' w0 w w' Write few none tells_input tells_held u plain reads turn =
     let text : List ℕ = text_of u.lines ++ (line ++ newline ∷ []) in
     serves pages input held b0 block' text (u.out ++ take turn.1 turn.0) rem0 rem' w0 w' (Err Write) none tells_input tells_held
-      (Consumes-more _ _ _ (text_of u.lines) (line ++ newline ∷ []) u.read reads) (Appends-more w0 w w' u.out (take turn.1 turn.0) u.wrote turn.3)
-      (λ left is. write_answered pages number old new u.lines (lines_of (block' ++ left)) line u.out turn.0 ((text ++ block') ++ left) turn.1 few u.count u.run plain turn.2 (more_lines u.lines line block' left u.run.plain plain))
+    (Consumes-more _ _ _ (text_of u.lines) (line ++ newline ∷ []) u.read reads) (Appends-more w0 w w' u.out (take turn.1 turn.0) u.wrote turn.3)
+    (λ left is. write_answered pages number old new u.lines (lines_of (block' ++ left)) line u.out turn.0 ((text ++ block') ++ left) turn.1 few u.count u.run plain turn.2 (more_lines u.lines line block' left u.run.plain plain))
 fault_serves pages number old new input held b0 block block' line rem0 rem rem' w0 w w' Read few none tells_input tells_held u plain reads turn = absurd turn
 fault_serves pages number old new input held b0 block block' line rem0 rem rem' w0 w w' Memory few none tells_input tells_held u plain reads turn = absurd turn
 
@@ -247,22 +247,22 @@ pub last_serves : (pages number : ℕ) (old new : Contents) (input held b0 block
     → Serves pages input held rem' w' result
 last_serves pages number old new input held b0 block block' line rem0 rem rem' w0 w w' (Ok done) few none tells_input tells_held u plain found turn =
     serves pages input held b0 block' (text_of u.lines ++ line) (u.out ++ turn.0) rem0 rem' w0 w' (Ok done) none tells_input tells_held
-      (Consumes-more _ _ _ (text_of u.lines) line u.read found.0) (Appends-more w0 w w' u.out turn.0 u.wrote turn.2)
-      (λ left is. let e = at_end block' left rem' is found.1 in
-        let all : lines_of ((text_of u.lines ++ line) ++ block') ≡ u.lines ++ line ∷ []
-          = ap lines_of (ap (λ b. (text_of u.lines ++ line) ++ b) (no_block block' left e) ∙ append-nil (text_of u.lines ++ line)) ∙ lines_of-text u.lines line u.run.plain ∙ ap (λ ls. u.lines ++ ls) (lines_of-last line plain found.2) in
-        let P : List (List ℕ) → Type 0 = λ ls. Answers pages ls (u.out ++ turn.0) in
-        (subst P (sym all) (answers pages new (u.lines ++ line ∷ []) (u.out ++ turn.0) (run_on pages old new u.lines u.out line turn.0 u.run plain turn.1) (let h = length-push u.lines line in let c = u.count in omega (arith, h, c))), no_left block' left e))
+    (Consumes-more _ _ _ (text_of u.lines) line u.read found.0) (Appends-more w0 w w' u.out turn.0 u.wrote turn.2)
+    (λ left is. let e = at_end block' left rem' is found.1 in
+    let all : lines_of ((text_of u.lines ++ line) ++ block') ≡ u.lines ++ line ∷ []
+    = ap lines_of (ap (λ b. (text_of u.lines ++ line) ++ b) (no_block block' left e) ∙ append-nil (text_of u.lines ++ line)) ∙ lines_of-text u.lines line u.run.plain ∙ ap (λ ls. u.lines ++ ls) (lines_of-last line plain found.2) in
+    let P : List (List ℕ) → Type 0 = λ ls. Answers pages ls (u.out ++ turn.0) in
+    (subst P (sym all) (answers pages new (u.lines ++ line ∷ []) (u.out ++ turn.0) (run_on pages old new u.lines u.out line turn.0 u.run plain turn.1) (let h = length-push u.lines line in let c = u.count in omega (arith, h, c))), no_left block' left e))
 last_serves pages number old new input held b0 block block' line rem0 rem rem' w0 w w' (Err (BadLine n)) few none tells_input tells_held u plain found turn =
     let P : ℕ → Type 0 = λ k. Serves pages input held rem' w' (Err (BadLine k)) in
     subst P (sym turn.0) (serves pages input held b0 block' (text_of u.lines ++ line) (u.out ++ []) rem0 rem' w0 w' (Err (BadLine number)) none tells_input tells_held
-      (Consumes-more _ _ _ (text_of u.lines) line u.read found.0) (Appends-more w0 w w' u.out [] u.wrote turn.2)
-      (λ left is. let Q : List ℕ → Type 0 = λ o. IsAnswered pages ((text_of u.lines ++ line) ++ block') left (Err (BadLine number)) o in
-        subst Q (sym (append-nil u.out)) (bad_answered pages number old u.lines [] line u.out _ left (omega (arith, few)) u.count u.run (last_line u.lines line block' left u.run.plain plain found.2 (at_end block' left rem' is found.1)) (inl turn.1))))
+    (Consumes-more _ _ _ (text_of u.lines) line u.read found.0) (Appends-more w0 w w' u.out [] u.wrote turn.2)
+    (λ left is. let Q : List ℕ → Type 0 = λ o. IsAnswered pages ((text_of u.lines ++ line) ++ block') left (Err (BadLine number)) o in
+    subst Q (sym (append-nil u.out)) (bad_answered pages number old u.lines [] line u.out _ left (omega (arith, few)) u.count u.run (last_line u.lines line block' left u.run.plain plain found.2 (at_end block' left rem' is found.1)) (inl turn.1))))
 last_serves pages number old new input held b0 block block' line rem0 rem rem' w0 w w' (Err Write) few none tells_input tells_held u plain found turn =
     serves pages input held b0 block' (text_of u.lines ++ line) (u.out ++ take turn.1 turn.0) rem0 rem' w0 w' (Err Write) none tells_input tells_held
-      (Consumes-more _ _ _ (text_of u.lines) line u.read found.0) (Appends-more w0 w w' u.out (take turn.1 turn.0) u.wrote turn.3)
-      (λ left is. write_answered pages number old new u.lines [] line u.out turn.0 (((text_of u.lines ++ line) ++ block') ++ left) turn.1 few u.count u.run plain turn.2 (last_line u.lines line block' left u.run.plain plain found.2 (at_end block' left rem' is found.1)))
+    (Consumes-more _ _ _ (text_of u.lines) line u.read found.0) (Appends-more w0 w w' u.out (take turn.1 turn.0) u.wrote turn.3)
+    (λ left is. write_answered pages number old new u.lines [] line u.out turn.0 (((text_of u.lines ++ line) ++ block') ++ left) turn.1 few u.count u.run plain turn.2 (last_line u.lines line block' left u.run.plain plain found.2 (at_end block' left rem' is found.1)))
 last_serves pages number old new input held b0 block block' line rem0 rem rem' w0 w w' (Err Read) few none tells_input tells_held u plain found turn = absurd turn
 last_serves pages number old new input held b0 block block' line rem0 rem rem' w0 w w' (Err Memory) few none tells_input tells_held u plain found turn = absurd turn
 
@@ -271,12 +271,12 @@ pub last_number_serves : (pages : ℕ) (core : Contents) (input held b0 block bl
     → IsUpTo pages LAST_LINE core (left_of b0 rem0) (left_of block rem) w0 w → IsPlain line → IsFound found line (left_of block rem) (left_of block' rem') → (found ≡ End → ⊥) → Serves pages input held rem' w (Err (BadLine LAST_LINE))
 last_number_serves pages core input held b0 block block' line rem0 rem rem' w0 w Line none tells_input tells_held u plain reads more =
     serves pages input held b0 block' (text_of u.lines ++ (line ++ newline ∷ [])) u.out rem0 rem' w0 w (Err (BadLine LAST_LINE)) none tells_input tells_held
-      (Consumes-more _ _ _ (text_of u.lines) (line ++ newline ∷ []) u.read reads) u.wrote
-      (λ left is. bad_answered pages LAST_LINE core u.lines (lines_of (block' ++ left)) line u.out _ left (omega arith) u.count u.run (more_lines u.lines line block' left u.run.plain plain) (inr refl))
+    (Consumes-more _ _ _ (text_of u.lines) (line ++ newline ∷ []) u.read reads) u.wrote
+    (λ left is. bad_answered pages LAST_LINE core u.lines (lines_of (block' ++ left)) line u.out _ left (omega arith) u.count u.run (more_lines u.lines line block' left u.run.plain plain) (inr refl))
 last_number_serves pages core input held b0 block block' line rem0 rem rem' w0 w Last none tells_input tells_held u plain found more =
     serves pages input held b0 block' (text_of u.lines ++ line) u.out rem0 rem' w0 w (Err (BadLine LAST_LINE)) none tells_input tells_held
-      (Consumes-more _ _ _ (text_of u.lines) line u.read found.0) u.wrote
-      (λ left is. bad_answered pages LAST_LINE core u.lines [] line u.out _ left (omega arith) u.count u.run (last_line u.lines line block' left u.run.plain plain found.2 (at_end block' left rem' is found.1)) (inr refl))
+    (Consumes-more _ _ _ (text_of u.lines) line u.read found.0) u.wrote
+    (λ left is. bad_answered pages LAST_LINE core u.lines [] line u.out _ left (omega arith) u.count u.run (last_line u.lines line block' left u.run.plain plain found.2 (at_end block' left rem' is found.1)) (inr refl))
 last_number_serves pages core input held b0 block block' line rem0 rem rem' w0 w End none tells_input tells_held u plain found more = absurd (more refl)
 last_number_serves pages core input held b0 block block' line rem0 rem rem' w0 w TooLong none tells_input tells_held u plain found more =
     too_long_serves pages LAST_LINE core input held b0 block block' line rem0 rem rem' w0 w (omega arith) none tells_input tells_held u plain found

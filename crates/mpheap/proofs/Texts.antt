@@ -19,7 +19,7 @@ pub lines_of-line : (line rest : List ℕ) → IsPlain line → lines_of (line +
 lines_of-line [] rest plain = refl
 lines_of-line (b ∷ line) rest plain =
     let others : cond (eqb b newline) ([] ∷ lines_of (line ++ newline ∷ rest)) (onto_first b (lines_of (line ++ newline ∷ rest))) ≡ onto_first b (lines_of (line ++ newline ∷ rest))
-      = ap (λ v. cond v ([] ∷ lines_of (line ++ newline ∷ rest)) (onto_first b (lines_of (line ++ newline ∷ rest)))) (no_newline b (All-head (λ x. x ≢ newline) b line plain)) in
+    = ap (λ v. cond v ([] ∷ lines_of (line ++ newline ∷ rest)) (onto_first b (lines_of (line ++ newline ∷ rest)))) (no_newline b (All-head (λ x. x ≢ newline) b line plain)) in
     others ∙ ap (onto_first b) (lines_of-line line rest (All-tail (λ x. x ≢ newline) b line plain))
 
 -- whole lines before a rest

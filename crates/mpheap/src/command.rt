@@ -126,7 +126,11 @@ pub fn command(line: &[u8]) -> Option<Event>
         return None;
     };
     if is(first, "attach") {
-        return if words.is_done() { Some(Event::Attach) } else { None };
+        return if words.is_done() {
+            Some(Event::Attach)
+        } else {
+            None
+        };
     }
     let Some(slot) = slot(first) else {
         return None;

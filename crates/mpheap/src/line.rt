@@ -25,7 +25,11 @@ pub enum Found {
 }
 
 /// Reads the next line, without its newline. Of a line that is too long nothing is read past the byte that makes it so.
-pub fn next_line<R: Source>(block: &mut Block, source: &mut R, line: &mut ArrayVec<u8, LINE_BYTES>) -> Result<Found, Failed>
+pub fn next_line<R: Source>(
+    block: &mut Block,
+    source: &mut R,
+    line: &mut ArrayVec<u8, LINE_BYTES>,
+) -> Result<Found, Failed>
     ensures ok { IfOk result (λ found. IsFound found line.new.items (left_of block.old (R.remaining source.old)) (left_of block.new (R.remaining source.new))) }
     ensures plain { IsPlain line.new.items }
     ensures none { OnOk result (R.faults source.new ≡ R.faults source.old) }
@@ -35,7 +39,11 @@ pub fn next_line<R: Source>(block: &mut Block, source: &mut R, line: &mut ArrayV
     line.clear();
     loop {
         let Some(byte) = block.next_from(source)? else {
-            return Ok(if line.is_empty() { Found::End } else { Found::Last });
+            return Ok(if line.is_empty() {
+                Found::End
+            } else {
+                Found::Last
+            });
         };
         if byte == b'\n' {
             return Ok(Found::Line);

@@ -45,6 +45,13 @@ fn main(rt: HostRuntime) -> ExitCode {
     };
     let mut input = Std::new(rt.reader());
     let mut output = Std::new(io::writer(&rt));
-    let status = program(rt.alloc(), &rt, words.as_slice(), &mut input, &mut output, &mut errors);
+    let status = program(
+        rt.alloc(),
+        &rt,
+        words.as_slice(),
+        &mut input,
+        &mut output,
+        &mut errors,
+    );
     ExitCode::from(status)
 }

@@ -70,7 +70,13 @@ fn serve(core: &mut Core, command: Event) -> Reply
 }
 
 /// Runs the line of this number, and writes its reply.
-pub fn answer_line<W: Sink>(core: &mut Core, pages: u32, number: u64, line: &[u8], sink: &mut W) -> Result<(), ScriptError>
+pub fn answer_line<W: Sink>(
+    core: &mut Core,
+    pages: u32,
+    number: u64,
+    line: &[u8],
+    sink: &mut W,
+) -> Result<(), ScriptError>
     requires pages { pages ≤ MAX_PAGES }
     requires short { length line.now ≤ LINE_BYTES }
     ensures turn { IsTurn pages number line.now core.old core.new (W.written sink.old) (W.written sink.new) result }

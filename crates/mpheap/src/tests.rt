@@ -47,7 +47,14 @@ fn byte_255(rt: HostRuntime) -> Result<(), Fail> {
     let mut output = Taken::new(rt.alloc())?;
     let mut errors = Taken::new(rt.alloc())?;
     let words = ["run", "--pages", "4"];
-    let status = program(rt.alloc(), &rt, &words, &mut input, &mut output, &mut errors);
+    let status = program(
+        rt.alloc(),
+        &rt,
+        &words,
+        &mut input,
+        &mut output,
+        &mut errors,
+    );
     assert_eq!(rt; output.text(), Some("mutator 0\n"));
     assert_eq!(rt; errors.text(), Some("bad line 2\n"));
     assert_eq!(rt; status, 2);
@@ -63,7 +70,14 @@ fn line_too_long(rt: HostRuntime) -> Result<(), Fail> {
         let mut output = Taken::new(rt.alloc())?;
         let mut errors = Taken::new(rt.alloc())?;
         let words = ["run", "--pages", "4"];
-        let status = program(rt.alloc(), &rt, &words, &mut input, &mut output, &mut errors);
+        let status = program(
+            rt.alloc(),
+            &rt,
+            &words,
+            &mut input,
+            &mut output,
+            &mut errors,
+        );
         assert_eq!(rt; output.text(), Some(""));
         assert_eq!(rt; errors.text(), Some("bad line 1\n"));
         assert_eq!(rt; status, 2);
@@ -80,7 +94,14 @@ fn longest_line(rt: HostRuntime) -> Result<(), Fail> {
     let mut output = Taken::new(rt.alloc())?;
     let mut errors = Taken::new(rt.alloc())?;
     let words = ["run", "--pages", "4"];
-    let status = program(rt.alloc(), &rt, &words, &mut input, &mut output, &mut errors);
+    let status = program(
+        rt.alloc(),
+        &rt,
+        &words,
+        &mut input,
+        &mut output,
+        &mut errors,
+    );
     assert_eq!(rt; errors.text(), Some("bad line 1\n"));
     assert_eq!(rt; status, 2);
     assert_eq!(rt; input.calls, 2);

@@ -72,7 +72,11 @@ impl Taken {
     }
 
     /// Its own memory is taken here, so that a test may have each later allocation refused.
-    pub fn limited(alloc: Global, most: usize, fails_at: Option<usize>) -> Result<Taken, AllocError> {
+    pub fn limited(
+        alloc: Global,
+        most: usize,
+        fails_at: Option<usize>,
+    ) -> Result<Taken, AllocError> {
         Ok(Taken {
             bytes: Vec::with_capacity(alloc, 4_096)?,
             most,

@@ -28,7 +28,14 @@ fn every_read_fails(rt: HostRuntime) -> Result<(), Fail> {
             let mut output = Taken::new(rt.alloc())?;
             let mut errors = Taken::new(rt.alloc())?;
             let words = ["run", "--pages", "4"];
-            let status = program(rt.alloc(), &rt, &words, &mut input, &mut output, &mut errors);
+            let status = program(
+                rt.alloc(),
+                &rt,
+                &words,
+                &mut input,
+                &mut output,
+                &mut errors,
+            );
             assert_eq!(rt; output.text(), replies_to(lines));
             assert_eq!(rt; errors.text(), Some("read fault\n"));
             assert_eq!(rt; status, 1);
@@ -46,7 +53,14 @@ fn every_write_fails(rt: HostRuntime) -> Result<(), Fail> {
         let mut output = Taken::limited(rt.alloc(), 1, Some(call))?;
         let mut errors = Taken::new(rt.alloc())?;
         let words = ["run", "--pages", "4"];
-        let status = program(rt.alloc(), &rt, &words, &mut input, &mut output, &mut errors);
+        let status = program(
+            rt.alloc(),
+            &rt,
+            &words,
+            &mut input,
+            &mut output,
+            &mut errors,
+        );
         assert_eq!(rt; output.text(), REPLIES.get(..call));
         assert_eq!(rt; errors.text(), Some("write fault\n"));
         assert_eq!(rt; status, 1);
@@ -73,7 +87,10 @@ fn short_writes(rt: HostRuntime) -> Result<(), Fail> {
 
     let mut input = Script::new(SCRIPT.as_bytes());
     let mut output = Taken::limited(rt.alloc(), 0, None)?;
-    assert_eq!(rt; run_script(rt.alloc(), &mut input, &mut output, 4), Err(ScriptError::Write));
+    assert_eq!(rt;
+        run_script(rt.alloc(), &mut input, &mut output, 4),
+        Err(ScriptError::Write)
+    );
     assert_eq!(rt; output.text(), Some(""));
     assert_eq!(rt; output.calls, 1);
     Ok(())
@@ -86,7 +103,14 @@ fn errors_that_cannot_be_told(rt: HostRuntime) -> Result<(), Fail> {
     let mut output = Taken::new(rt.alloc())?;
     let mut errors = Taken::limited(rt.alloc(), usize::MAX, Some(0))?;
     let words = ["run", "--pages", "4"];
-    let status = program(rt.alloc(), &rt, &words, &mut input, &mut output, &mut errors);
+    let status = program(
+        rt.alloc(),
+        &rt,
+        &words,
+        &mut input,
+        &mut output,
+        &mut errors,
+    );
     assert_eq!(rt; output.text(), Some("mutator 0\n"));
     assert_eq!(rt; status, 2);
     Ok(())
@@ -97,13 +121,24 @@ fn errors_that_cannot_be_told(rt: HostRuntime) -> Result<(), Fail> {
 fn files(rt: HostRuntime) -> Result<(), Fail> {
     let path = "mpheap_test.script";
     fs::write(&rt, path, SCRIPT)?;
-    let rows = [(path, REPLIES, "", 0u8), ("mpheap_no_such.script", "", "read fault\n", 1), (".", "", "read fault\n", 1)];
+    let rows = [
+        (path, REPLIES, "", 0u8),
+        ("mpheap_no_such.script", "", "read fault\n", 1),
+        (".", "", "read fault\n", 1),
+    ];
     for (file, replies, fault, wanted) in rows {
         let mut input = Script::failing_at(b"", 1, 0);
         let mut output = Taken::new(rt.alloc())?;
         let mut errors = Taken::new(rt.alloc())?;
         let words = ["run", "--pages", "4", file];
-        let status = program(rt.alloc(), &rt, &words, &mut input, &mut output, &mut errors);
+        let status = program(
+            rt.alloc(),
+            &rt,
+            &words,
+            &mut input,
+            &mut output,
+            &mut errors,
+        );
         assert_eq!(rt; output.text(), Some(replies));
         assert_eq!(rt; errors.text(), Some(fault));
         assert_eq!(rt; status, wanted);
