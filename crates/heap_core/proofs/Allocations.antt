@@ -20,6 +20,7 @@ use Rattle.block_map.specs.FoundIn.{found_in, IsLawful}
 use Rattle.block_map.specs.declared.found.Found.{Found}
 use Rattle.block_map.proofs.Laid.{laid_block, laid_cell, laid_large}
 use Rattle.block_map.proofs.Lawful.{map_laws}
+use Rattle.block_map.proofs.Spans.{place_of}
 use Rattle.heap_core.specs.Contents.{Store, IsSound, Agree, HasObjects}
 use Rattle.heap_core.specs.Standing.{Stores, Shows}
 use Rattle.heap_core.specs.Rooms.{IsFreeCell, HasNoFreeCell, with_new, Allocates, HasNoRoom, TakesCell, CutsPage}
@@ -228,9 +229,6 @@ module _ (t : Store) (sound : IsSound t) (laid : IsLaid t.states) (lawful : IsLa
          shows = shows_added (found_in t.states) (found_in states') (length t.states) lawful.map t.words words' s.objects s.births stores.shows (large_object first n kind) (512 * n) kind added zeroed refl refl (omega arith) (omega arith) (omega arith);
        })
 
-  where_is : (k : ℕ) → ((first ≤ k) × (k < first + n)) ⊎ ((k < first) ⊎ (first + n ≤ k))
-  where_is k = ⊎_elim (λ lt. inr (inl lt)) (λ ge. ⊎_elim (λ lt. inl (ge, lt)) (λ far. inr (inr far)) (cases_lt k (first + n))) (cases_lt k first)
-
   large_not_free : (b : Bool) → (if b then head n kind else body first) ≡ free → ⊥
   large_not_free true e = cc
   large_not_free false e = cc
@@ -247,16 +245,16 @@ module _ (t : Store) (sound : IsSound t) (laid : IsLaid t.states) (lawful : IsLa
       free_in_map = λ p is. ⊎_elim
         (λ h. absurd (let no : get_or free' p false ≡ false = taken_run.inside p h.0 h.1 in let z : false ≡ true = sym no ∙ is in cc))
         (λ out. span.others p out ∙ sound.agree.free_in_map p (sym (taken_run.others p out) ∙ is))
-        (where_is p);
+        (place_of first n p);
       free_in_pool = λ p lt is. ⊎_elim
         (λ h. absurd (large_not_free (p == first) (sym (span.inside p h.0 h.1) ∙ is)))
         (λ out. taken_run.others p out ∙ sound.agree.free_in_pool p (let z = span.size in omega arith) (sym (span.others p out) ∙ is))
-        (where_is p);
+        (place_of first n p);
     };
     used = λ p b is. ⊎_elim
       (λ h. absurd (large_not_cut (p == first) b (sym (span.inside p h.0 h.1) ∙ is)))
       (λ out. sound.used p b (sym (span.others p out) ∙ is))
-      (where_is p);
+      (place_of first n p);
   }
 
 -- no room for a large object

@@ -14,6 +14,7 @@ use Rattle.block_map.specs.Objects.{cell_object, large_object, object_on, IsObje
 use Rattle.block_map.specs.Changes.{IsRemoved, IsSameMap, IsUncut, HasNoObject}
 use Rattle.block_map.specs.FoundIn.{found_in, IsLawful}
 use Rattle.block_map.specs.declared.found.Found.{Found}
+use Rattle.block_map.proofs.Spans.{place_of}
 use Rattle.heap_core.specs.Contents.{Store, IsSound, Agree}
 use Rattle.heap_core.specs.Standing.{Stores, Shows}
 use Rattle.heap_core.specs.Rooms.{Frees, FreesCell, EmptiesCell, keeps, gives, without_cell}
@@ -22,15 +23,12 @@ use Rattle.heap_core.proofs.Allocations.{shows_same}
 
 -- pages that become free in the pool and in the map
 module _ (row row' : List Bool) (states states' : List PageState) (first n : ℕ) (given : IsFilled row row' first n true) (span : IsSpanSet states states' first n (λ _. free)) where
-  where_is : (k : ℕ) → ((first ≤ k) × (k < first + n)) ⊎ ((k < first) ⊎ (first + n ≤ k))
-  where_is k = ⊎_elim (λ lt. inr (inl lt)) (λ ge. ⊎_elim (λ lt. inl (ge, lt)) (λ far. inr (inr far)) (cases_lt k (first + n))) (cases_lt k first)
-
   pub agree_given : length row ≡ length states → ((p : ℕ) → (p < first) ⊎ (first + n ≤ p) → get_or row p false ≡ true → state_at states p ≡ free)
       → ((p : ℕ) → (p < first) ⊎ (first + n ≤ p) → p < length states → state_at states p ≡ free → get_or row p false ≡ true) → Agree row' states'
   agree_given size to from = record {
     size = given.size ∙ size ∙ sym span.size;
-    free_in_map = λ p is. ⊎_elim (λ h. span.inside p h.0 h.1) (λ out. span.others p out ∙ to p out (sym (given.others p out) ∙ is)) (where_is p);
-    free_in_pool = λ p lt is. ⊎_elim (λ h. given.inside p h.0 h.1) (λ out. given.others p out ∙ from p out (let z = span.size in omega arith) (sym (span.others p out) ∙ is)) (where_is p);
+    free_in_map = λ p is. ⊎_elim (λ h. span.inside p h.0 h.1) (λ out. span.others p out ∙ to p out (sym (given.others p out) ∙ is)) (place_of first n p);
+    free_in_pool = λ p lt is. ⊎_elim (λ h. given.inside p h.0 h.1) (λ out. given.others p out ∙ from p out (let z = span.size in omega arith) (sym (span.others p out) ∙ is)) (place_of first n p);
   }
 
   pub used_given : ((p : ℕ) (b : Cells) → (p < first) ⊎ (first + n ≤ p) → state_at states p ≡ cut b → (i : ℕ) × (get_or b.taken i false ≡ true))
@@ -38,7 +36,7 @@ module _ (row row' : List Bool) (states states' : List PageState) (first n : ℕ
   used_given used p b is = ⊎_elim
       (λ h. absurd (let z : free ≡ cut b = sym (span.inside p h.0 h.1) ∙ is in no_block b z))
       (λ out. used p b out (sym (span.others p out) ∙ is))
-      (where_is p)
+      (place_of first n p)
     where
       no_block : (b : Cells) → free ≡ cut b → ⊥
       no_block b z = cc

@@ -12,6 +12,10 @@ pub record Store : Type 0 where
   pub free : List Bool
   pub states : List PageState
 
+-- the store of these
+abbrev pub store_of : List ℕ → List Bool → List PageState → Store
+store_of words row states = record { words = words; free = row; states = states }
+
 -- What a core contains.
 pub record Contents : Type 0 where
   pub roots : RootSet

@@ -13,7 +13,7 @@ returns-in_default-class_of c = rw (← c.self.view_is)
     (refused _ _ _ c.in-Some.field-0.now _ _ c.in-Some.ensures.some (λ s h. Acts.bad_size (sym c.in_default-class_of.ensures)))
 
 pub allocate-requires : goal.allocate-requires
-allocate-requires c = sized _ _ (sym c.in-Some-class_of.ensures)
+allocate-requires c = sized c.args.words _ (sym c.in-Some-class_of.ensures)
 
 pub returns-in_default-allocate : goal.returns-in_default-allocate
 returns-in_default-allocate c = rw (← c.self.view_is, c.in_default-allocate.ensures.none.1)

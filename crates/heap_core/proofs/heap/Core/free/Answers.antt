@@ -1,5 +1,6 @@
-use Rattle.std.proofs.Common.{sym}
+use Rattle.std.proofs.Common.{sym, ap, ◌∙◌}
 use Rattle.heap_spec.specs.Steps.{Acts}
+use Rattle.block_map.specs.FoundIn.{found_in}
 use Rattle.heap_core.proofs.Calls.{freed, inside}
 use Rattle.heap_core.proofs.Lookups.{finds_nothing}
 use Rattle.heap_core.proofs.Roots.{refused, refused_vacant}
@@ -19,7 +20,7 @@ returns-then-found-word c = rw (← c.self.view_is)
       (λ s h. inside _ s _ _ _ c.in-Some-find.found c.in-Some-find.ensures.lawful (rw c.word-word.ensures at (sym c.in-Some-find.ensures.found)) (rw c.word-word.ensures at c.if-found-word.true) h))
 
 pub release-requires-clause-found : goal.release-requires-clause-found
-release-requires-clause-found c = rw c.if-found-word.false (sym c.in-Some-find.ensures.found)
+release-requires-clause-found c = ap (found_in c.self.inside.objects.states) c.if-found-word.false ∙ sym c.in-Some-find.ensures.found
 
 pub returns : goal.returns
 returns c = rw (← c.self.view_is)

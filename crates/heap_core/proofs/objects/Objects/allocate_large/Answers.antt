@@ -1,18 +1,13 @@
 use Rattle.std.proofs.Common.{◌≡◌, ℕ, ◌+◌, ◌*◌, ◌≤◌, Bool, List, length, sym, ap, ◌∙◌, subst, arith}
 use Rattle.pages.specs.Memory.{IsZeroed, place}
-use Rattle.block_map.specs.States.{PageState}
-use Rattle.heap_core.specs.Contents.{Store}
+use Rattle.heap_core.specs.Contents.{store_of}
 use Rattle.heap_core.proofs.Allocations.{allocates_large, no_room_large, sound_large}
 use Rattle.heap_core.proofs.objects.Objects.allocate_large.Goals as goal
 
-store : List ℕ → List Bool → List PageState → Store
-store words free states = record { words = words; free = free; states = states }
-
 pub returns-in_default-clause-none : goal.returns-in_default-clause-none
-unfolding store
 returns-in_default-clause-none c = rw (← c.self.view_is)
     (no_room_large _ _ c.args.kind c.self.invariant c.len.ensures.laid c.len.ensures.lawful c.in_default.ensures.none.0,
-     ap (λ p. store c.self.inside.memory p c.self.inside.map) c.in_default.ensures.none.1)
+     ap (λ p. store_of c.self.inside.memory p c.self.inside.map) c.in_default.ensures.none.1)
 
 pub cut_large-requires-clause-inside : goal.cut_large-requires-clause-inside
 cut_large-requires-clause-inside c = let fits = c.in-Some.ensures.some.0.run.inside in let size = c.self.invariant.agree.size in omega arith

@@ -1,25 +1,20 @@
 use Rattle.std.proofs.Common.{◌≡◌, ℕ, Bool, List, sym, ap, ◌∙◌, subst}
 use Rattle.words.specs.Classes.{IsSizeClass}
-use Rattle.block_map.specs.States.{PageState}
-use Rattle.heap_core.specs.Contents.{Store}
+use Rattle.heap_core.specs.Contents.{store_of}
 use Rattle.heap_core.specs.Rooms.{IsFreeCell, TakesCell}
 use Rattle.heap_core.proofs.Allocations.{allocates_cell, allocates_page, cut_laid, first_cell, no_room_small, sound_page}
 use Rattle.heap_core.proofs.objects.Objects.allocate_small.Goals as goal
-
-store : List ℕ → List Bool → List PageState → Store
-store words free states = record { words = words; free = free; states = states }
 
 pub returns-in-Some-clause-some : goal.returns-in-Some-clause-some
 returns-in-Some-clause-some c = rw (← c.self.view_is)
     (allocates_cell _ _ _ c.in-Some.place.page c.in-Some.place.cell _ _ _ c.self.invariant c.find_cell.ensures.laid c.find_cell.ensures.lawful c.in-Some.ensures.some c.take_cell.ensures)
 
 pub returns-in_default-cut_page-clause-none : goal.returns-in_default-cut_page-clause-none
-unfolding store
 returns-in_default-cut_page-clause-none c = rw (← c.self.view_is)
     (no_room_small _ _ _ c.self.invariant c.find_cell.ensures.laid c.find_cell.ensures.lawful (subst IsSizeClass c.words-words.ensures.value c.words-words.ensures.listed)
       c.in_default.ensures.none c.in_default-cut_page.ensures.none.0,
-     ap (λ p. store c.self.inside.memory p c.cut_page.new.map) c.in_default-cut_page.ensures.none.1
-     ∙ ap (store c.self.inside.memory c.self.inside.pool) c.in_default-cut_page.ensures.none.2)
+     ap (λ p. store_of c.self.inside.memory p c.cut_page.new.map) c.in_default-cut_page.ensures.none.1
+     ∙ ap (store_of c.self.inside.memory c.self.inside.pool) c.in_default-cut_page.ensures.none.2)
 
 pub take_cell-requires-2-clause-cell : goal.take_cell-requires-2-clause-cell
 take_cell-requires-2-clause-cell c =

@@ -1,35 +1,34 @@
 use Rattle.std.proofs.Common.{◌≡◌, ℕ, ◌/◌, Bool, List, arith}
-use Rattle.block_map.specs.States.{PageState}
-use Rattle.heap_core.specs.Contents.{Store}
+use Rattle.heap_core.specs.Contents.{Store, store_of}
 use Rattle.heap_core.proofs.Frees.{on_page, in_block, large_here, sound_freed, frees_cell, sound_large_gone, frees_large}
 use Rattle.heap_core.proofs.objects.Objects.release.Goals as goal
 
-abbrev store : List ℕ → List Bool → List PageState → Store
-store words free states = record { words = words; free = free; states = states }
-
 pub block-requires : goal.block-requires
 block-requires c =
-    (on_page (store c.self.inside.memory c.self.inside.pool c.self.inside.map) c.args.found (rw (← c.self.view_is) at c.requires.lawful) (rw (← c.self.view_is) at c.requires.found)).page
+    (on_page (store_of c.self.inside.memory c.self.inside.pool c.self.inside.map) c.args.found (rw (← c.self.view_is) at c.requires.lawful) (rw (← c.self.view_is) at c.requires.found)).page
 
 pub free_cell-requires-clause-cell : goal.free_cell-requires-clause-cell
 free_cell-requires-clause-cell c =
-    let t : Store = store c.self.inside.memory c.self.inside.pool c.self.inside.map in
+    let t : Store = store_of c.self.inside.memory c.self.inside.pool c.self.inside.map in
     let o = on_page t c.args.found (rw (← c.self.view_is) at c.requires.lawful) (rw (← c.self.view_is) at c.requires.found) in
     (in_block t c.args.found c.in-Some.field-0.now o c.in-Some.ensures).1
 
 pub free_large-requires-clause-large : goal.free_large-requires-clause-large
 free_large-requires-clause-large c =
-    let t : Store = store c.self.inside.memory c.self.inside.pool c.self.inside.map in
+    let t : Store = store_of c.self.inside.memory c.self.inside.pool c.self.inside.map in
     let l = large_here t c.args.found (rw (← c.self.view_is) at c.requires.lawful) (rw (← c.self.view_is) at c.requires.found) c.in-None.ensures in
     let size = c.self.invariant.agree.size in let ends = l.3 in
     (l.0, l.1, l.2, omega arith)
 
 pub invariant_of-self : goal.invariant_of-self
-invariant_of-self c = ?
+invariant_of-self c =
+    let t : Store = store_of c.self.inside.memory c.self.inside.pool c.self.inside.map in
+    let o = on_page t c.args.found (rw (← c.self.view_is) at c.requires.lawful) (rw (← c.self.view_is) at c.requires.found) in
+    sound_freed t c.self.invariant c.args.found.page c.args.found.cell c.in-Some.field-0.now c.in-Some.ensures o.page c.free_cell.new.pool c.free_cell.new.map c.free_cell.ensures.pages
 
 pub returns-in-Some : goal.returns-in-Some
 returns-in-Some c =
-    let t : Store = store c.self.inside.memory c.self.inside.pool c.self.inside.map in
+    let t : Store = store_of c.self.inside.memory c.self.inside.pool c.self.inside.map in
     let o = on_page t c.args.found (rw (← c.self.view_is) at c.requires.lawful) (rw (← c.self.view_is) at c.requires.found) in
     rw (← c.self.view_is)
       (frees_cell t c.self.invariant c.args.found.page c.args.found.cell c.in-Some.field-0.now c.in-Some.ensures o.page c.free_cell.new.pool c.free_cell.new.map c.args.found
@@ -37,7 +36,7 @@ returns-in-Some c =
 
 pub returns-in-None : goal.returns-in-None
 returns-in-None c =
-    let t : Store = store c.self.inside.memory c.self.inside.pool c.self.inside.map in
+    let t : Store = store_of c.self.inside.memory c.self.inside.pool c.self.inside.map in
     let l = large_here t c.args.found (rw (← c.self.view_is) at c.requires.lawful) (rw (← c.self.view_is) at c.requires.found) c.in-None.ensures in
     rw (← c.self.view_is)
       (frees_large t c.args.found c.free_large.new.pool c.free_large.new.map l.0 (c.args.found.len / 512) (rw (← c.self.view_is) at c.requires.lawful) (rw (← c.self.view_is) at c.requires.found)
