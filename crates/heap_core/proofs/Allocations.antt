@@ -42,7 +42,7 @@ cell_is states page cell b is = ap (λ st. object_on page st cell) is
 
 -- a store one cell of which is taken has one object more
 module _ (t : Store) (laid : IsLaid t.states) (lawful : IsLawful t.states) (class : ℕ) (kind : Kind) (page cell base : ℕ) (words' : List ℕ) (states' : List PageState)
-  (place_is : IsFreeCell t.states class kind page cell) (takes : TakesCell t.words words' t.states states' page cell base) where
+    (place_is : IsFreeCell t.states class kind page cell) (takes : TakesCell t.words words' t.states states' page cell base) where
   abbrev pub taken : Store
   taken = record t { words = words'; states = states' }
 
@@ -77,7 +77,7 @@ module _ (t : Store) (laid : IsLaid t.states) (lawful : IsLawful t.states) (clas
   taken_stores s stores = record {
     pages = stores.pages ∙ sym (ap length takes.became ∙ length-set t.states page _);
     shows = subst (λ b. Shows (found_in states') words' (with_at s.objects b (Some (record { birth = s.births + 1; kind = kind; words = replicate class 0 }))) (s.births + 1)) (sym takes.at)
-      (shows_added (found_in t.states) (found_in states') (length t.states) lawful.map t.words words' s.objects s.births stores.shows f class kind takes.added
+        (shows_added (found_in t.states) (found_in states') (length t.states) lawful.map t.words words' s.objects s.births stores.shows f class kind takes.added
         (subst (λ b. IsZeroed t.words words' (place b) f.len) takes.at takes.zeroed)
         (ap (λ (x : Found). x.len) (cell_is t.states page cell place_is.block place_is.is_cut) ∙ place_is.of_class)
         (ap (λ (x : Found). x.kind) (cell_is t.states page cell place_is.block place_is.is_cut) ∙ place_is.of_kind)
@@ -96,37 +96,42 @@ module _ (t : Store) (laid : IsLaid t.states) (lawful : IsLawful t.states) (clas
     agree = record {
       size = agree.size ∙ sym size;
       free_in_map = λ p is. ⊎_elim
-        (λ e. absurd (not_free (sym place_is.is_cut ∙ ap (state_at t.states) (sym e) ∙ agree.free_in_map p is)))
-        (λ ne. other_state p ne ∙ agree.free_in_map p is)
-        (cases_eq p page);
+          (λ e. absurd (not_free (sym place_is.is_cut ∙ ap (state_at t.states) (sym e) ∙ agree.free_in_map p is)))
+          (λ ne. other_state p ne ∙ agree.free_in_map p is)
+          (cases_eq p page);
       free_in_pool = λ p lt is. ⊎_elim
-        (λ e. absurd (cut_free (sym after_state ∙ ap (state_at states') (sym e) ∙ is)))
-        (λ ne. agree.free_in_pool p (let z = size in omega arith) (sym (other_state p ne) ∙ is))
-        (cases_eq p page);
+          (λ e. absurd (cut_free (sym after_state ∙ ap (state_at states') (sym e) ∙ is)))
+          (λ ne. agree.free_in_pool p (let z = size in omega arith) (sym (other_state p ne) ∙ is))
+          (cases_eq p page);
     };
     used = λ p b is. ⊎_elim
-      (λ e. here b (sym after_state ∙ ap (state_at states') (sym e) ∙ is))
-      (λ ne. used p b ne (sym (other_state p ne) ∙ is))
-      (cases_eq p page);
+        (λ e. here b (sym after_state ∙ ap (state_at states') (sym e) ∙ is))
+        (λ ne. used p b ne (sym (other_state p ne) ∙ is))
+        (cases_eq p page);
   }
     where
       size : length states' ≡ length t.states
       size = ap length takes.became ∙ length-set t.states page _
+
       not_free : cut place_is.block ≡ free → ⊥
       not_free e = cc
+
       cut_free : cut (record place_is.block { taken = set place_is.block.taken cell true }) ≡ free → ⊥
       cut_free e = cc
+
       same_cells : (a b : Cells) → cut a ≡ cut b → a ≡ b
       same_cells a b e = cc
+
       here : (b : Cells) → cut (record place_is.block { taken = set place_is.block.taken cell true }) ≡ cut b → (i : ℕ) × (get_or b.taken i false ≡ true)
       here b e = (cell, ap (λ (x : Cells). get_or x.taken cell false) (sym (same_cells _ b e)) ∙ get_or-set_same place_is.block.taken cell true false place_is.in_row)
 
 -- a free cell of a page that was cut already
 pub allocates_cell : (t : Store) (class : ℕ) (kind : Kind) (page cell base : ℕ) (words' : List ℕ) (states' : List PageState) → IsSound t → IsLaid t.states → IsLawful t.states
     → IsFreeCell t.states class kind page cell → TakesCell t.words words' t.states states' page cell base → Allocates t (Small class) kind base (record t { words = words'; states = states' })
-allocates_cell t class kind page cell base words' states' sound laid lawful at takes s stores =
-    (subst (HasSmallRoom s class kind) (same ∙ sym takes.at) (room_of_cell t s sound laid lawful stores class kind page cell at),
-     taken_stores t laid lawful class kind page cell base words' states' at takes s stores)
+allocates_cell t class kind page cell base words' states' sound laid lawful at takes s stores = (
+  subst (HasSmallRoom s class kind) (same ∙ sym takes.at) (room_of_cell t s sound laid lawful stores class kind page cell at),
+  taken_stores t laid lawful class kind page cell base words' states' at takes s stores,
+)
   where
     same : page_start page + 8 * (class * cell) ≡ (object_on page (state_at t.states page) cell).base
     same =
@@ -143,7 +148,7 @@ sound_cell t class kind page cell base words' states' sound laid lawful at takes
 
 -- a page that was free is cut, and its first cell is taken
 module _ (t : Store) (sound : IsSound t) (laid : IsLaid t.states) (lawful : IsLawful t.states) (class : ℕ) (kind : Kind) (is_class : IsSizeClass class) (page : ℕ) (free' : List Bool) (states' : List PageState)
-  (cuts : CutsPage t.free free' t.states states' class kind page) where
+    (cuts : CutsPage t.free free' t.states states' class kind page) where
   was_free : state_at t.states page ≡ free
   was_free = sound.agree.free_in_map page (cuts.run.free page (omega arith) (omega arith))
 
@@ -180,26 +185,28 @@ module _ (t : Store) (sound : IsSound t) (laid : IsLaid t.states) (lawful : IsLa
   cut_agree = record {
     size = cuts.taken.size ∙ sound.agree.size ∙ sym size;
     free_in_map = λ p is. ⊎_elim
-      (λ (e : p ≡ page). absurd (let no : get_or free' p false ≡ false = cuts.taken.inside p (omega arith) (omega arith) in let z : false ≡ true = sym no ∙ is in cc))
-      (λ ne. other p ne ∙ sound.agree.free_in_map p (sym (cuts.taken.others p (out p ne)) ∙ is))
-      (cases_eq p page);
+        (λ (e : p ≡ page). absurd (let no : get_or free' p false ≡ false = cuts.taken.inside p (omega arith) (omega arith) in let z : false ≡ true = sym no ∙ is in cc))
+        (λ ne. other p ne ∙ sound.agree.free_in_map p (sym (cuts.taken.others p (out p ne)) ∙ is))
+        (cases_eq p page);
     free_in_pool = λ p lt is. ⊎_elim
-      (λ (e : p ≡ page). absurd (cut_free (sym here ∙ ap (state_at states') (sym e) ∙ is)))
-      (λ ne. cuts.taken.others p (out p ne) ∙ sound.agree.free_in_pool p (let z = size in omega arith) (sym (other p ne) ∙ is))
-      (cases_eq p page);
+        (λ (e : p ≡ page). absurd (cut_free (sym here ∙ ap (state_at states') (sym e) ∙ is)))
+        (λ ne. cuts.taken.others p (out p ne) ∙ sound.agree.free_in_pool p (let z = size in omega arith) (sym (other p ne) ∙ is))
+        (cases_eq p page);
   }
     where
       out : (p : ℕ) → p ≢ page → (p < page) ⊎ (page + 1 ≤ p)
       out p ne = ⊎_elim (λ lt. inl lt) (λ ge. inr (omega arith)) (cases_lt p page)
+
       cut_free : all_free class kind ≡ free → ⊥
       cut_free e = cc
 
   module _ (base : ℕ) (words' : List ℕ) (states'' : List PageState) (takes : TakesCell t.words words' states' states'' page 0 base) where
     pub allocates_page : Allocates t (Small class) kind base (record t { words = words'; free = free'; states = states'' })
-    allocates_page s stores =
-        (subst (HasSmallRoom s class kind) same (room_of_page t s sound laid lawful stores class kind page (let b = class_bounds class is_class in omega arith) inside was_free),
-         taken_stores with_cut cut_laid (map_laws states' cut_laid) class kind page 0 base words' states'' first_cell takes s
-           (record { pages = stores.pages ∙ sym size; shows = shows_same (found_in t.states) (found_in states') t.words s.objects s.births cuts.same stores.shows }))
+    allocates_page s stores = (
+      subst (HasSmallRoom s class kind) same (room_of_page t s sound laid lawful stores class kind page (let b = class_bounds class is_class in omega arith) inside was_free),
+      taken_stores with_cut cut_laid (map_laws states' cut_laid) class kind page 0 base words' states'' first_cell takes s
+          (record { pages = stores.pages ∙ sym size; shows = shows_same (found_in t.states) (found_in states') t.words s.objects s.births cuts.same stores.shows }),
+    )
       where
         same : page_start page ≡ base
         same =
@@ -216,18 +223,19 @@ no_room_small t class kind sound laid lawful is_class no_cell no_page s stores a
 
 -- a run of free pages becomes a large object
 module _ (t : Store) (sound : IsSound t) (laid : IsLaid t.states) (lawful : IsLawful t.states) (n : ℕ) (kind : Kind) (first : ℕ) (words' : List ℕ) (free' : List Bool) (states' : List PageState) (some_pages : 0 < n)
-  (run : IsFreeRun t.free first n) (taken_run : IsFilled t.free free' first n false) (span : IsSpanSet t.states states' first n (large_states first n kind))
-  (added : IsAdded (found_in t.states) (found_in states') (large_object first n kind)) (zeroed : IsZeroed t.words words' (place (page_start first)) (512 * n)) where
+    (run : IsFreeRun t.free first n) (taken_run : IsFilled t.free free' first n false) (span : IsSpanSet t.states states' first n (large_states first n kind))
+    (added : IsAdded (found_in t.states) (found_in states') (large_object first n kind)) (zeroed : IsZeroed t.words words' (place (page_start first)) (512 * n)) where
   abbrev pub with_large : Store
   with_large = record { words = words'; free = free'; states = states' }
 
   pub allocates_large : Allocates t (Large n) kind (page_start first) with_large
-  allocates_large s stores =
-      (large_room t s sound laid lawful stores kind first n run,
-       record {
-         pages = stores.pages ∙ sym span.size;
-         shows = shows_added (found_in t.states) (found_in states') (length t.states) lawful.map t.words words' s.objects s.births stores.shows (large_object first n kind) (512 * n) kind added zeroed refl refl (omega arith) (omega arith) (omega arith);
-       })
+  allocates_large s stores = (
+    large_room t s sound laid lawful stores kind first n run,
+    record {
+      pages = stores.pages ∙ sym span.size;
+      shows = shows_added (found_in t.states) (found_in states') (length t.states) lawful.map t.words words' s.objects s.births stores.shows (large_object first n kind) (512 * n) kind added zeroed refl refl (omega arith) (omega arith) (omega arith);
+    },
+  )
 
   large_not_free : (b : Bool) → (if b then head n kind else body first) ≡ free → ⊥
   large_not_free true e = cc
@@ -243,18 +251,18 @@ module _ (t : Store) (sound : IsSound t) (laid : IsLaid t.states) (lawful : IsLa
     agree = record {
       size = taken_run.size ∙ sound.agree.size ∙ sym span.size;
       free_in_map = λ p is. ⊎_elim
-        (λ h. absurd (let no : get_or free' p false ≡ false = taken_run.inside p h.0 h.1 in let z : false ≡ true = sym no ∙ is in cc))
-        (λ out. span.others p out ∙ sound.agree.free_in_map p (sym (taken_run.others p out) ∙ is))
-        (place_of first n p);
+          (λ h. absurd (let no : get_or free' p false ≡ false = taken_run.inside p h.0 h.1 in let z : false ≡ true = sym no ∙ is in cc))
+          (λ out. span.others p out ∙ sound.agree.free_in_map p (sym (taken_run.others p out) ∙ is))
+          (place_of first n p);
       free_in_pool = λ p lt is. ⊎_elim
-        (λ h. absurd (large_not_free (p == first) (sym (span.inside p h.0 h.1) ∙ is)))
-        (λ out. taken_run.others p out ∙ sound.agree.free_in_pool p (let z = span.size in omega arith) (sym (span.others p out) ∙ is))
-        (place_of first n p);
+          (λ h. absurd (large_not_free (p == first) (sym (span.inside p h.0 h.1) ∙ is)))
+          (λ out. taken_run.others p out ∙ sound.agree.free_in_pool p (let z = span.size in omega arith) (sym (span.others p out) ∙ is))
+          (place_of first n p);
     };
     used = λ p b is. ⊎_elim
-      (λ h. absurd (large_not_cut (p == first) b (sym (span.inside p h.0 h.1) ∙ is)))
-      (λ out. sound.used p b (sym (span.others p out) ∙ is))
-      (place_of first n p);
+        (λ h. absurd (large_not_cut (p == first) b (sym (span.inside p h.0 h.1) ∙ is)))
+        (λ out. sound.used p b (sym (span.others p out) ∙ is))
+        (place_of first n p);
   }
 
 -- no room for a large object

@@ -24,9 +24,11 @@ pub allocated : (roots roots' : RootSet) (t t' : Store) (slot d n base : ℕ) (k
     → Allocates t place kind base t' → SetsWord roots slot d base roots' → IsStep (StandsFor (core_of roots t)) (Mutator slot (Alloc d n kind)) Done (StandsFor (core_of roots' t'))
 allocated roots roots' t t' slot d n base kind place m at is allocates sets s h =
     let new = allocates s h.store in
-    let after : Heap = record (with_register (with_new s base kind place) slot m d base) { births = s.births + 1 } in
-    (after, Calls.acts (attached roots t s slot m h at) (Acts.allocated base is new.0),
-     stands_set roots roots' t t' s after slot d base m h at sets refl refl (record { pages = new.1.pages; shows = new.1.shows }))
+    let after : Heap = record (with_register (with_new s base kind place) slot m d base) { births = s.births + 1 } in (
+      after,
+      Calls.acts (attached roots t s slot m h at) (Acts.allocated base is new.0),
+      stands_set roots roots' t t' s after slot d base m h at sets refl refl (record { pages = new.1.pages; shows = new.1.shows }),
+    )
 
 pub full : (t : Store) (s : Heap) (slot d n : ℕ) (kind : Kind) (place : Placement) (m : HeapMutator) → placement_of n ≡ Some place → HasNoRoom t place kind → Stores t s → Acts s slot m (Alloc d n kind) (Refused Full) s
 full t s slot d n kind place m is none stores = Acts.full is (none s stores)
@@ -35,9 +37,11 @@ pub freed : (roots : RootSet) (t t' : Store) (slot r : ℕ) (m : HeapMutator) (f
     → Frees t f.base t' → IsStep (StandsFor (core_of roots t)) (Mutator slot (Free r)) Done (StandsFor (core_of roots t'))
 freed roots t t' slot r m f lawful at is base frees s h =
     let found = finds t s (register m r) f lawful h.store is in
-    let has = ap s.objects (sym base) ∙ found.1.0 in
-    (with_object s (register m r) None, Calls.acts (attached roots t s slot m h at) (Acts.freed has),
-     subst (λ b. StandsFor (core_of roots t') (with_object s b None)) base (record { mutators = h.mutators; globals = h.globals; store = frees s h.store }))
+    let has = ap s.objects (sym base) ∙ found.1.0 in (
+      with_object s (register m r) None,
+      Calls.acts (attached roots t s slot m h at) (Acts.freed has),
+      subst (λ b. StandsFor (core_of roots t') (with_object s b None)) base (record { mutators = h.mutators; globals = h.globals; store = frees s h.store }),
+    )
 
 pub inside : (t : Store) (s : Heap) (slot r : ℕ) (m : HeapMutator) (f : Found) → IsLawful t.states → found_in t.states (register m r) ≡ Some f → f.base ≢ register m r → Stores t s → Acts s slot m (Free r) (Refused NotBase) s
 inside t s slot r m f lawful is ne stores = let found = finds t s (register m r) f lawful stores is in Acts.free_inside found.1 ne

@@ -16,7 +16,7 @@ use Rattle.heap_core.proofs.Shown.{at_base, one_at_base, word_index, reads_place
 
 -- a word is stored
 module _ (found : ℕ → Option Found) (pages : ℕ) (map : IsMap pages found) (words : List ℕ) (objects : ℕ → Option Object) (births : ℕ) (shows : Shows found words objects births)
-  (w v : ℕ) (f : Found) (o : Object) (is : found w ≡ Some f) (has : objects f.base ≡ Some o) (shown : IsShown words f o) (aligned : w % 8 ≡ 0) (inside : place w < length words) where
+    (w v : ℕ) (f : Found) (o : Object) (is : found w ≡ Some f) (has : objects f.base ≡ Some o) (shown : IsShown words f o) (aligned : w % 8 ≡ 0) (inside : place w < length words) where
   abbrev pub written : Object
   written = record o { words = set o.words ((w - f.base) / 8) v }
 
@@ -32,6 +32,7 @@ module _ (found : ℕ → Option Found) (pages : ℕ) (map : IsMap pages found) 
     where
       at : ((w - f.base) / 8 < f.len) × (place f.base + (w - f.base) / 8 ≡ place w)
       at = word_index found pages map w f is aligned
+
       same : (i : ℕ) → i ≡ (w - f.base) / 8 → slice_index (set o.words ((w - f.base) / 8) v) i ≡ slice_index (set words (place w) v) (place f.base + i)
       same i e =
           let short : (w - f.base) / 8 < length o.words = let size = shown.size in let lt = at.0 in omega arith in
@@ -39,6 +40,7 @@ module _ (found : ℕ → Option Found) (pages : ℕ) (map : IsMap pages found) 
           ∙ get_or-set_same o.words ((w - f.base) / 8) v 0 short
           ∙ sym (get_or-set_same words (place w) v 0 inside)
           ∙ ap (λ j. get_or (set words (place w) v) j 0) (sym (ap (λ j. place f.base + j) e ∙ at.1))
+
       other : (i : ℕ) → i < f.len → i ≢ (w - f.base) / 8 → slice_index (set o.words ((w - f.base) / 8) v) i ≡ slice_index (set words (place w) v) (place f.base + i)
       other i lt ne =
           let apart : place f.base + i ≢ place w = λ e. let there = at.1 in ne (omega arith) in
@@ -49,8 +51,8 @@ module _ (found : ℕ → Option Found) (pages : ℕ) (map : IsMap pages found) 
     kind = old.kind;
     size = old.size;
     word = λ i lt.
-      let apart : place g.base + i ≢ place w = λ e. ne (ap (λ (x : Found). x.base) (one_found (reads_place found pages map w i g there lt low aligned e))) in
-      old.word i lt ∙ sym (get_or-set_other words (place w) (place g.base + i) v 0 apart);
+        let apart : place g.base + i ≢ place w = λ e. ne (ap (λ (x : Found). x.base) (one_found (reads_place found pages map w i g there lt low aligned e))) in
+        old.word i lt ∙ sym (get_or-set_other words (place w) (place g.base + i) v 0 apart);
   }
     where
       one_found : found w ≡ Some g → g ≡ f
@@ -59,11 +61,11 @@ module _ (found : ℕ → Option Found) (pages : ℕ) (map : IsMap pages found) 
   pub shows_stored : Shows found (with_word_at words w v) (with_at objects f.base (Some written)) births
   shows_stored = record {
     kept = λ g there. ⊎_elim
-      (λ same. subst (λ (x : Found). (p : Object) × (with_at objects f.base (Some written) x.base ≡ Some p) × IsShown (set words (place w) v) x p)
+        (λ same. subst (λ (x : Found). (p : Object) × (with_at objects f.base (Some written) x.base ≡ Some p) × IsShown (set words (place w) v) x p)
         (sym (one_at_base found pages map f g (at_base found pages map w f is) there same))
         (written, with_at-same objects f.base (Some written) f.base refl, written_shown))
-      (λ ne. let old = shows.kept g there in (old.0, with_at-other objects f.base (Some written) g.base ne ∙ old.1, others_shown g old.0 there ne old.2))
-      (cases_eq g.base f.base);
+        (λ ne. let old = shows.kept g there in (old.0, with_at-other objects f.base (Some written) g.base ne ∙ old.1, others_shown g old.0 there ne old.2))
+        (cases_eq g.base f.base);
     only = λ b p e. let was = was_there b p e in shows.only b was.0 was.1;
     born = λ b p e. let was = was_there b p e in let born = shows.born b was.0 was.1 in let same = was.2 in omega arith;
     distinct = λ a b p q x y same. let p' = was_there a p x in let q' = was_there b q y in shows.distinct a b p'.0 q'.0 p'.1 q'.1 (p'.2 ∙ same ∙ sym q'.2);
@@ -71,13 +73,13 @@ module _ (found : ℕ → Option Found) (pages : ℕ) (map : IsMap pages found) 
     where
       was_there : (b : ℕ) (p : Object) → with_at objects f.base (Some written) b ≡ Some p → (q : Object) × (objects b ≡ Some q) × (q.birth ≡ p.birth)
       was_there b p e = ⊎_elim
-        (λ h. (o, ap objects h.0 ∙ has, ap (λ (x : Object). x.birth) h.1))
-        (λ h. (p, h.1, refl))
-        (with_at-cases objects f.base written b p e)
+          (λ h. (o, ap objects h.0 ∙ has, ap (λ (x : Object). x.birth) h.1))
+          (λ h. (p, h.1, refl))
+          (with_at-cases objects f.base written b p e)
 
 -- an object goes
 module _ (found after : ℕ → Option Found) (pages : ℕ) (map : IsMap pages found) (words : List ℕ) (objects : ℕ → Option Object) (births : ℕ) (shows : Shows found words objects births)
-  (f : Found) (is : found f.base ≡ Some f) (gone : IsRemoved found after f) where
+    (f : Found) (is : found f.base ≡ Some f) (gone : IsRemoved found after f) where
   base_read : Reads f.base f
   base_read = map.reads f.base f is
 
@@ -85,24 +87,26 @@ module _ (found after : ℕ → Option Found) (pages : ℕ) (map : IsMap pages f
   shows_removed = record {
     kept = λ g there. let ne = other g there in let old = shows.kept g (was g there ne) in (old.0, with_at-other objects f.base None g.base ne ∙ old.1, old.2);
     only = λ b p e.
-      let h = without-cases objects f.base b p e in
-      let old = shows.only b p h.1 in
-      (old.0, sym (gone.others b (λ r. h.0 (sym old.2 ∙ ap (λ (x : Found). x.base) (one b old.0 old.1 r)))) ∙ old.1, old.2);
+        let h = without-cases objects f.base b p e in
+        let old = shows.only b p h.1 in
+        (old.0, sym (gone.others b (λ r. h.0 (sym old.2 ∙ ap (λ (x : Found). x.base) (one b old.0 old.1 r)))) ∙ old.1, old.2);
     born = λ b p e. shows.born b p (without-cases objects f.base b p e).1;
     distinct = λ a b p q x y same. shows.distinct a b p q (without-cases objects f.base a p x).1 (without-cases objects f.base b q y).1 same;
   }
     where
       one : (b : ℕ) (g : Found) → found b ≡ Some g → Reads b f → g ≡ f
       one b g there r = same_Some _ _ (sym there ∙ gone.after b r)
+
       other : (g : Found) → after g.base ≡ Some g → g.base ≢ f.base
       other g there same = let none : after f.base ≡ None = gone.before f.base base_read in let some : after f.base ≡ Some g = ap after (sym same) ∙ there in cc
+
       was : (g : Found) → after g.base ≡ Some g → g.base ≢ f.base → found g.base ≡ Some g
       was g there ne = gone.others g.base (λ r. let none : after g.base ≡ None = gone.before g.base r in cc) ∙ there
 
 -- an object comes, all its words 0
 module _ (found after : ℕ → Option Found) (pages : ℕ) (map : IsMap pages found) (words zeroed : List ℕ) (objects : ℕ → Option Object) (births : ℕ) (shows : Shows found words objects births)
-  (f : Found) (len : ℕ) (kind : Kind) (came : IsAdded found after f) (zero : IsZeroed words zeroed (place f.base) f.len) (same_len : f.len ≡ len) (same_kind : f.kind ≡ kind)
-  (some : 0 < f.len) (low : 268435456 ≤ f.base) (even : f.base % 16 ≡ 0) where
+    (f : Found) (len : ℕ) (kind : Kind) (came : IsAdded found after f) (zero : IsZeroed words zeroed (place f.base) f.len) (same_len : f.len ≡ len) (same_kind : f.kind ≡ kind)
+    (some : 0 < f.len) (low : 268435456 ≤ f.base) (even : f.base % 16 ≡ 0) where
   abbrev pub fresh : Object
   fresh = record { birth = births + 1; kind = kind; words = replicate len 0 }
 
@@ -130,36 +134,38 @@ module _ (found after : ℕ → Option Found) (pages : ℕ) (map : IsMap pages f
       outside i lt =
           let above = (map.placed g.base g there).above in let aligned = (map.placed g.base g there).aligned in
           ⊎_elim (λ before. inl before)
-            (λ from. ⊎_elim (λ inside. absurd (none_before g there (g.base + 8 * i) (record { from = omega arith; below = omega arith }) (record { from = omega arith; below = omega arith })))
-              (λ past. inr past)
-              (cases_lt (place g.base + i) (place f.base + f.len)))
-            (cases_lt (place g.base + i) (place f.base))
+          (λ from. ⊎_elim (λ inside. absurd (none_before g there (g.base + 8 * i) (record { from = omega arith; below = omega arith }) (record { from = omega arith; below = omega arith })))
+          (λ past. inr past)
+          (cases_lt (place g.base + i) (place f.base + f.len)))
+          (cases_lt (place g.base + i) (place f.base))
 
   pub shows_added : Shows after zeroed (with_at objects f.base (Some fresh)) (births + 1)
   shows_added = record {
     kept = λ g there. ⊎_elim
-      (λ same. subst (λ (x : Found). (p : Object) × (with_at objects f.base (Some fresh) x.base ≡ Some p) × IsShown zeroed x p)
+        (λ same. subst (λ (x : Found). (p : Object) × (with_at objects f.base (Some fresh) x.base ≡ Some p) × IsShown zeroed x p)
         (sym (new_one g there same))
         (fresh, with_at-same objects f.base (Some fresh) f.base refl, fresh_shown))
-      (λ ne. let was = was_found g there ne in let old = shows.kept g was in (old.0, with_at-other objects f.base (Some fresh) g.base ne ∙ old.1, kept_shown g old.0 was old.2))
-      (cases_eq g.base f.base);
+        (λ ne. let was = was_found g there ne in let old = shows.kept g was in (old.0, with_at-other objects f.base (Some fresh) g.base ne ∙ old.1, kept_shown g old.0 was old.2))
+        (cases_eq g.base f.base);
     only = λ b p e. ⊎_elim
-      (λ h. (f, ap after h.0 ∙ came.after f.base new_base_read, sym h.0))
-      (λ h. let old = shows.only b p h.1 in (old.0, came.others b (λ r. let none : found b ≡ None = came.before b r in let some = old.1 in cc) ∙ old.1, old.2))
-      (with_at-cases objects f.base fresh b p e);
+        (λ h. (f, ap after h.0 ∙ came.after f.base new_base_read, sym h.0))
+        (λ h. let old = shows.only b p h.1 in (old.0, came.others b (λ r. let none : found b ≡ None = came.before b r in let some = old.1 in cc) ∙ old.1, old.2))
+        (with_at-cases objects f.base fresh b p e);
     born = λ b p e. ⊎_elim
-      (λ h. subst (λ (x : Object). x.birth ≤ births + 1) h.1 (omega arith))
-      (λ h. let born = shows.born b p h.1 in omega arith)
-      (with_at-cases objects f.base fresh b p e);
+        (λ h. subst (λ (x : Object). x.birth ≤ births + 1) h.1 (omega arith))
+        (λ h. let born = shows.born b p h.1 in omega arith)
+        (with_at-cases objects f.base fresh b p e);
     distinct = λ a b p q x y same. ⊎_elim
-      (λ h. ⊎_elim (λ k. h.0 ∙ sym k.0) (λ k. absurd (too_late b q k.1 (ap (λ (z : Object). z.birth) h.1 ∙ same))) (with_at-cases objects f.base fresh b q y))
-      (λ h. ⊎_elim (λ k. absurd (too_late a p h.1 (ap (λ (z : Object). z.birth) k.1 ∙ sym same))) (λ k. shows.distinct a b p q h.1 k.1 same) (with_at-cases objects f.base fresh b q y))
-      (with_at-cases objects f.base fresh a p x);
+        (λ h. ⊎_elim (λ k. h.0 ∙ sym k.0) (λ k. absurd (too_late b q k.1 (ap (λ (z : Object). z.birth) h.1 ∙ same))) (with_at-cases objects f.base fresh b q y))
+        (λ h. ⊎_elim (λ k. absurd (too_late a p h.1 (ap (λ (z : Object). z.birth) k.1 ∙ sym same))) (λ k. shows.distinct a b p q h.1 k.1 same) (with_at-cases objects f.base fresh b q y))
+        (with_at-cases objects f.base fresh a p x);
   }
     where
       new_one : (g : Found) → after g.base ≡ Some g → g.base ≡ f.base → g ≡ f
       new_one g there same = same_Some _ _ (sym there ∙ ap after same ∙ came.after f.base new_base_read)
+
       was_found : (g : Found) → after g.base ≡ Some g → g.base ≢ f.base → found g.base ≡ Some g
       was_found g there ne = sym (came.others g.base (λ r. ne (ap (λ (x : Found). x.base) (same_Some _ _ (sym there ∙ came.after g.base r))))) ∙ there
+
       too_late : (b : ℕ) (q : Object) → objects b ≡ Some q → births + 1 ≡ q.birth → ⊥
       too_late b q there late = let born = shows.born b q there in omega arith

@@ -46,7 +46,7 @@ pub frees : (t t' : Store) (f : Found) → IsLawful t.states → found_in t.stat
 frees t t' f lawful is words size removed s stores = record {
   pages = stores.pages ∙ sym size;
   shows = subst (λ ws. Shows (found_in t'.states) ws (with_at s.objects f.base None) s.births) (sym words)
-    (shows_removed (found_in t.states) (found_in t'.states) (length t.states) lawful.map t.words s.objects s.births stores.shows f is removed);
+      (shows_removed (found_in t.states) (found_in t'.states) (length t.states) lawful.map t.words s.objects s.births stores.shows f is removed);
 }
 
 -- all pages of a large object
@@ -60,7 +60,7 @@ sound_large_gone t row' states' first n sound given span = record {
 
 -- a cell of a page that keeps another object
 module _ (t : Store) (sound : IsSound t) (page cell : ℕ) (b : Cells) (is : state_at t.states page ≡ cut b) (inside : page < length t.states) (states' : List PageState)
-  (put : states' ≡ set t.states page (with_cell (state_at t.states page) cell false)) where
+    (put : states' ≡ set t.states page (with_cell (state_at t.states page) cell false)) where
   abbrev pub emptied : Cells
   emptied = record b { taken = set b.taken cell false }
 
@@ -88,18 +88,18 @@ module _ (t : Store) (sound : IsSound t) (page cell : ℕ) (b : Cells) (is : sta
     agree = record {
       size = sound.agree.size ∙ sym size_after;
       free_in_map = λ p h. ⊎_elim
-        (λ e. absurd (not_free (sym is ∙ ap (state_at t.states) (sym e) ∙ sound.agree.free_in_map p h)))
-        (λ ne. other p ne ∙ sound.agree.free_in_map p h)
-        (cases_eq p page);
+          (λ e. absurd (not_free (sym is ∙ ap (state_at t.states) (sym e) ∙ sound.agree.free_in_map p h)))
+          (λ ne. other p ne ∙ sound.agree.free_in_map p h)
+          (cases_eq p page);
       free_in_pool = λ p lt h. ⊎_elim
-        (λ e. absurd (after_not_free (sym state_after ∙ ap (state_at states') (sym e) ∙ h)))
-        (λ ne. sound.agree.free_in_pool p (let z = size_after in omega arith) (sym (other p ne) ∙ h))
-        (cases_eq p page);
+          (λ e. absurd (after_not_free (sym state_after ∙ ap (state_at states') (sym e) ∙ h)))
+          (λ ne. sound.agree.free_in_pool p (let z = size_after in omega arith) (sym (other p ne) ∙ h))
+          (cases_eq p page);
     };
     used = λ p c h. ⊎_elim
-      (λ e. (i, ap (λ (x : Cells). get_or x.taken i false) (sym (same_cells emptied c (sym state_after ∙ ap (state_at states') (sym e) ∙ h))) ∙ bit))
-      (λ ne. sound.used p c (sym (other p ne) ∙ h))
-      (cases_eq p page);
+        (λ e. (i, ap (λ (x : Cells). get_or x.taken i false) (sym (same_cells emptied c (sym state_after ∙ ap (state_at states') (sym e) ∙ h))) ∙ bit))
+        (λ ne. sound.used p c (sym (other p ne) ∙ h))
+        (cases_eq p page);
   }
 
   ne_of : (p : ℕ) → (p < page) ⊎ (page + 1 ≤ p) → p ≢ page
@@ -110,8 +110,8 @@ module _ (t : Store) (sound : IsSound t) (page cell : ℕ) (b : Cells) (is : sta
   sound_emptied row' states'' given span = record {
     words = sound.words ∙ ap (λ m. 512 * m) (sym (span.size ∙ size_after));
     agree = agree_given t.free row' states' states'' page 1 given span (sound.agree.size ∙ sym size_after)
-      (λ p out h. other p (ne_of p out) ∙ sound.agree.free_in_map p h)
-      (λ p out lt h. sound.agree.free_in_pool p (let z = size_after in omega arith) (sym (other p (ne_of p out)) ∙ h));
+        (λ p out h. other p (ne_of p out) ∙ sound.agree.free_in_map p h)
+        (λ p out lt h. sound.agree.free_in_pool p (let z = size_after in omega arith) (sym (other p (ne_of p out)) ∙ h));
     used = used_given t.free row' states' states'' page 1 given span (λ p c out h. sound.used p c (sym (other p (ne_of p out)) ∙ h));
   }
 
@@ -139,6 +139,7 @@ frees_last row row' states mid states' page cell b became is empty removed span 
   where
     none : HasNoObject b.taken
     none k = ⊎_elim (λ lt. empty k (omega arith) lt) (λ past. get_or_past b.taken k false past) (cases_lt k (length b.taken))
+
     same : HasNoObject b.taken → IsSameMap (found_in mid) (found_in states')
     same = subst (λ st. IsUncut page st (found_in mid) (found_in states')) is uncut
 
@@ -148,7 +149,7 @@ module _ (t : Store) (sound : IsSound t) (page cell : ℕ) (b : Cells) (is : sta
   sound_freed (keeps c i at bit row became) =
       let same : c ≡ emptied t sound page cell b is inside states' became = cells_same c _ (sym at ∙ state_after t sound page cell b is inside states' became) in
       subst (λ r. IsSound (record t { free = r; states = states' })) (sym row)
-        (sound_kept t sound page cell b is inside states' became i (ap (λ (x : Cells). get_or x.taken i false) (sym same) ∙ bit))
+      (sound_kept t sound page cell b is inside states' became i (ap (λ (x : Cells). get_or x.taken i false) (sym same) ∙ bit))
     where
       cells_same : (x y : Cells) → cut x ≡ cut y → x ≡ y
       cells_same x y e = cc

@@ -34,24 +34,30 @@ pub loads : (roots roots' : RootSet) (t : Store) (slot d a n w : ℕ) (m : HeapM
     → w ≡ word_at t.words (address m a n) → SetsWord roots slot d w roots' → IsStep (StandsFor (core_of roots t)) (Mutator slot (Load d a n)) (Word w) (StandsFor (core_of roots' t))
 loads roots roots' t slot d a n w m f lawful at aligned is read sets s h =
     let found = finds t s (address m a n) f lawful h.store is in
-    let word = word_read (found_in t.states) (length t.states) lawful.map t.words s.objects s.births h.store.shows (address m a n) f found.0 is found.2 aligned ∙ sym read in
-    (with_register s slot m d w,
-     Calls.acts (attached roots t s slot m h at) (subst (λ v. Acts s slot m (Load d a n) (Word v) (with_register s slot m d v)) word (Acts.loaded aligned found.1)),
-     stands_set roots roots' t t s (with_register s slot m d w) slot d w m h at sets refl refl (record { pages = h.store.pages; shows = h.store.shows }))
+    let word = word_read (found_in t.states) (length t.states) lawful.map t.words s.objects s.births h.store.shows (address m a n) f found.0 is found.2 aligned ∙ sym read in (
+      with_register s slot m d w,
+      Calls.acts (attached roots t s slot m h at) (subst (λ v. Acts s slot m (Load d a n) (Word v) (with_register s slot m d v)) word (Acts.loaded aligned found.1)),
+      stands_set roots roots' t t s (with_register s slot m d w) slot d w m h at sets refl refl (record { pages = h.store.pages; shows = h.store.shows }),
+    )
 
 pub stores : (roots : RootSet) (t t' : Store) (slot a n r : ℕ) (m : HeapMutator) (f : Found) → IsLawful t.states → length t.words ≡ 512 * length t.states → HasMutator roots slot m → address m a n % 8 ≡ 0 → found_in t.states (address m a n) ≡ Some f
     → t' ≡ record t { words = with_word_at t.words (address m a n) (register m r) } → IsStep (StandsFor (core_of roots t)) (Mutator slot (StoreCall a n r)) Done (StandsFor (core_of roots t'))
 stores roots t t' slot a n r m f lawful long at aligned is writes s h =
     let found = finds t s (address m a n) f lawful h.store is in
     let here = is_word (found_in t.states) (length t.states) lawful.map t.words long (address m a n) f is aligned in
-    let after : Heap = with_object s f.base (Some (record found.0 { words = set found.0.words ((address m a n - f.base) / 8) (register m r) })) in
-    (after,
-     Calls.acts (attached roots t s slot m h at) (Acts.stored aligned found.1),
-     subst (λ (x : Store). StandsFor (core_of roots x) after) (sym writes)
-       (record { mutators = h.mutators; globals = h.globals; store = record {
-         pages = h.store.pages;
-         shows = shows_stored (found_in t.states) (length t.states) lawful.map t.words s.objects s.births h.store.shows (address m a n) (register m r) f found.0 is found.1.0 found.2 aligned (in_row here);
-       } }))
+    let after : Heap = with_object s f.base (Some (record found.0 { words = set found.0.words ((address m a n - f.base) / 8) (register m r) })) in (
+      after,
+      Calls.acts (attached roots t s slot m h at) (Acts.stored aligned found.1),
+      subst (λ (x : Store). StandsFor (core_of roots x) after) (sym writes)
+          (record {
+            mutators = h.mutators;
+            globals = h.globals;
+            store = record {
+              pages = h.store.pages;
+              shows = shows_stored (found_in t.states) (length t.states) lawful.map t.words s.objects s.births h.store.shows (address m a n) (register m r) f found.0 is found.1.0 found.2 aligned (in_row here);
+            };
+          }),
+    )
   where
     in_row : IsWordAddress t.words (address m a n) → place (address m a n) < length t.words
     in_row here = let above = here.above in let below = here.below in let even = here.aligned in omega arith
@@ -59,10 +65,11 @@ stores roots t t' slot a n r m f lawful long at aligned is writes s h =
 pub based : (roots roots' : RootSet) (t : Store) (slot d a : ℕ) (m : HeapMutator) (f : Found) → IsLawful t.states → HasMutator roots slot m → found_in t.states (register m a) ≡ Some f
     → SetsWord roots slot d f.base roots' → IsStep (StandsFor (core_of roots t)) (Mutator slot (Base d a)) (Word f.base) (StandsFor (core_of roots' t))
 based roots roots' t slot d a m f lawful at is sets s h =
-    let found = finds t s (register m a) f lawful h.store is in
-    (with_register s slot m d f.base,
-     Calls.acts (attached roots t s slot m h at) (Acts.based found.1),
-     stands_set roots roots' t t s (with_register s slot m d f.base) slot d f.base m h at sets refl refl (record { pages = h.store.pages; shows = h.store.shows }))
+    let found = finds t s (register m a) f lawful h.store is in (
+      with_register s slot m d f.base,
+      Calls.acts (attached roots t s slot m h at) (Acts.based found.1),
+      stands_set roots roots' t t s (with_register s slot m d f.base) slot d f.base m h at sets refl refl (record { pages = h.store.pages; shows = h.store.shows }),
+    )
 
 pub sized : (roots : RootSet) (t : Store) (slot r : ℕ) (m : HeapMutator) (f : Found) → IsLawful t.states → HasMutator roots slot m → found_in t.states (register m r) ≡ Some f
     → IsStep (StandsFor (core_of roots t)) (Mutator slot (Size r)) (Count f.len) (StandsFor (core_of roots t))

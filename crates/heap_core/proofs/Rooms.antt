@@ -56,11 +56,11 @@ pub same_cell : (c i j : ℕ) → 0 < c → i * (8 * c) ≡ 8 * (c * j) → i �
 same_cell c i j some e =
     let f : 8 * (i * c) ≡ 8 * (j * c) = (let g : i * (8 * c) ≡ 8 * (i * c) = omega arith in let h : 8 * (c * j) ≡ 8 * (j * c) = omega arith in omega arith) in
     ⊎_elim
-      (λ less. absurd (let m : (i + 1) * c ≤ j * c = mul-le-mul_right c (before i j less) in let x : (i + 1) * c ≡ i * c + c = omega arith in omega arith))
-      (λ ge. ⊎_elim
-        (λ more. absurd (let m : (j + 1) * c ≤ i * c = mul-le-mul_right c (before j i more) in let x : (j + 1) * c ≡ j * c + c = omega arith in omega arith))
-        (λ le. omega arith) (cases_lt j i))
-      (cases_lt i j)
+    (λ less. absurd (let m : (i + 1) * c ≤ j * c = mul-le-mul_right c (before i j less) in let x : (i + 1) * c ≡ i * c + c = omega arith in omega arith))
+    (λ ge. ⊎_elim
+    (λ more. absurd (let m : (j + 1) * c ≤ i * c = mul-le-mul_right c (before j i more) in let x : (j + 1) * c ≡ j * c + c = omega arith in omega arith))
+    (λ le. omega arith) (cases_lt j i))
+    (cases_lt i j)
   where
     before : (a b : ℕ) → a < b → a + 1 ≤ b
     before a b less = omega arith
@@ -193,12 +193,16 @@ module _ (t : Store) (s : Heap) (sound : IsSound t) (laid : IsLaid t.states) (la
     where
       cells : IsCells r.block
       cells = subst (LaidAt t.states page) r.is_cut (laid.each page r.inside)
+
       some : 0 < class
       some = let c = (class_bounds r.block.class cells.class).0 in let e = r.of_class in omega arith
+
       ends : cell * (8 * class) + 8 * class ≤ 4096
       ends = cell_end class cell (subst (λ c. cell < 512 / c) r.of_class (let size = cells.size in let lt = r.in_row in omega arith)) some
+
       fits : class * (cell + 1) ≤ 512
       fits = let e : cell * (8 * class) ≡ 8 * (cell * class) = omega arith in let f : class * (cell + 1) ≡ cell * class + class = omega arith in let g = ends in omega arith
+
       none : (o : Object) → s.objects (page_start page + 8 * (class * cell)) ≡ Some o → ⊥
       none o has =
           let f = heap_object _ o has in
@@ -214,6 +218,7 @@ module _ (t : Store) (s : Heap) (sound : IsSound t) (laid : IsLaid t.states) (la
               let clash : false ≡ true = sym r.is_free ∙ bit in cc
           at f o base (in_large n k h low high whole) =
               absurd (⊎_elim (λ e. cut_head r.block n k (sym r.is_cut ∙ e)) (λ e. cut_body r.block f.page (sym r.is_cut ∙ e)) (large_page t.states laid f.page n k page o.page h low high))
+
           lies : (f : Found) → f.base ≡ page_start page + 8 * (class * cell) → 0 < f.len → LiesOn f.base f.len page
           lies f base long = let e : cell * (8 * class) ≡ 8 * (class * cell) = omega arith in let g = ends in let h = some in (omega arith, omega arith)
 
@@ -235,13 +240,16 @@ module _ (t : Store) (s : Heap) (sound : IsSound t) (laid : IsLaid t.states) (la
     where
       inside : r.page < length t.states
       inside = let pages = stores.pages in let lt = r.in_heap in omega arith
+
       bounds : (2 ≤ class) × (class ≤ 256)
       bounds = class_bounds class is_class
+
       none : state_at t.states r.page ≡ free → ⊥
       none is = no_page r.page (record {
         inside = let size = sound.agree.size in omega arith;
         free = λ k low high. let e : k ≡ r.page = omega arith in ap (λ p. get_or t.free p false) e ∙ sound.agree.free_in_pool r.page inside is;
       })
+
       by : IsCutFor s r.page class kind → s.objects a ≡ None → Used t.states laid r.page (state_at t.states r.page) → ⊥
       by cut_is no_object (by_none is) = none is
       by cut_is no_object (by_large first n k some o lies) =
@@ -259,6 +267,7 @@ module _ (t : Store) (s : Heap) (sound : IsSound t) (laid : IsLaid t.states) (la
         where
           turned : page_start r.page + r.cell * (8 * class) ≡ page_start r.page + 8 * (class * r.cell)
           turned = omega arith
+
           bit : (b : Cells) → state_at t.states r.page ≡ cut b → b.class ≡ class → b.kind ≡ kind → r.cell < length b.taken → (taken : Bool) → get_or b.taken r.cell false ≡ taken → ⊥
           bit b is class_is kind_is in_cells false e = no_cell r.page r.cell (record { block = b; inside = inside; is_cut = is; of_class = class_is; of_kind = kind_is; in_row = in_cells; is_free = e })
           bit b is class_is kind_is in_cells true e =

@@ -24,9 +24,11 @@ core_of roots t = record { roots = roots; store = t }
 pub steps_roots : (roots roots' : RootSet) (t : Store) (event : Event) (reply : Reply) → StepsRoots roots event reply roots' → IsStep (StandsFor (core_of roots t)) event reply (StandsFor (core_of roots' t))
 steps_roots roots roots' t event reply steps s h =
     let same : with_roots s roots ≡ s =
-      ap (λ ms. record s { mutators = ms; globals = roots.globals }) (sym h.mutators) ∙ ap (λ gs. record s { globals = gs }) (sym h.globals) in
-    (with_roots s roots', subst (λ (x : Heap). Step x event reply (with_roots s roots')) same (steps s),
-     record { mutators = refl; globals = refl; store = record { pages = h.store.pages; shows = h.store.shows } })
+    ap (λ ms. record s { mutators = ms; globals = roots.globals }) (sym h.mutators) ∙ ap (λ gs. record s { globals = gs }) (sym h.globals) in (
+      with_roots s roots',
+      subst (λ (x : Heap). Step x event reply (with_roots s roots')) same (steps s),
+      record { mutators = refl; globals = refl; store = record { pages = h.store.pages; shows = h.store.shows } },
+    )
 
 -- the mutator of a slot is the heap's
 pub attached : (roots : RootSet) (t : Store) (s : Heap) (slot : ℕ) (m : HeapMutator) → StandsFor (core_of roots t) s → HasMutator roots slot m → IsAttached s slot m

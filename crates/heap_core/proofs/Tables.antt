@@ -20,9 +20,9 @@ with_at-other m k v q e = cond-false (eqb q k) v (m q) (eqb_ne q k e)
 pub with_at-cases : {A : Type 0} (m : ℕ → Option A) (k : ℕ) (x : A) (q : ℕ) (y : A) → with_at m k (Some x) q ≡ Some y → ((q ≡ k) × (x ≡ y)) ⊎ ((q ≢ k) × (m q ≡ Some y))
 with_at-cases m k x q y is =
     ⊎_elim
-      (λ same. inl (same, same_Some _ _ (sym (with_at-same m k (Some x) q same) ∙ is)))
-      (λ other. inr (other, sym (with_at-other m k (Some x) q other) ∙ is))
-      (cases_eq q k)
+    (λ same. inl (same, same_Some _ _ (sym (with_at-same m k (Some x) q same) ∙ is)))
+    (λ other. inr (other, sym (with_at-other m k (Some x) q other) ∙ is))
+    (cases_eq q k)
 
 none_some : {A : Type 0} (x : A) → None ≡ Some x → ⊥
 none_some x e = cc
@@ -31,6 +31,6 @@ none_some x e = cc
 pub without-cases : {A : Type 0} (m : ℕ → Option A) (k q : ℕ) (y : A) → with_at m k None q ≡ Some y → (q ≢ k) × (m q ≡ Some y)
 without-cases m k q y is =
     ⊎_elim
-      (λ same. absurd (none_some y (sym (with_at-same m k None q same) ∙ is)))
-      (λ other. (other, sym (with_at-other m k None q other) ∙ is))
-      (cases_eq q k)
+    (λ same. absurd (none_some y (sym (with_at-same m k None q same) ∙ is)))
+    (λ other. (other, sym (with_at-other m k None q other) ∙ is))
+    (cases_eq q k)

@@ -43,13 +43,19 @@ fn each_class_is_filled_and_emptied(rt: HostRuntime) -> Result<(), Fail> {
             bases.push(core.get(slot, object).ok().ok_or("a base")?)?;
         }
         assert_eq!(rt; bases.len() as u64, 2 * (PAGE_WORDS / words));
-        assert_eq!(rt; core.alloc(slot, object, words, Kind::Normal), Err(Refusal::Full));
+        assert_eq!(rt;
+            core.alloc(slot, object, words, Kind::Normal),
+            Err(Refusal::Full)
+        );
         for base in &bases {
             assert_eq!(rt; core.set(slot, object, *base), Ok(()));
             assert_eq!(rt; core.free(slot, object), Ok(()));
             assert_eq!(rt; core.free(slot, object), Err(Refusal::NoObject));
         }
-        assert_eq!(rt; core.alloc(slot, object, 2 * PAGE_WORDS, Kind::Normal), Ok(()));
+        assert_eq!(rt;
+            core.alloc(slot, object, 2 * PAGE_WORDS, Kind::Normal),
+            Ok(())
+        );
     }
     Ok(())
 }
@@ -73,12 +79,27 @@ fn refusals_come_in_their_order(rt: HostRuntime) -> Result<(), Fail> {
     let (mut core, slot) = core_of(&rt, 1)?;
     let other = Slot::new(5).ok_or("a slot")?;
     let (object, inner) = (reg(0)?, reg(1)?);
-    assert_eq!(rt; core.alloc(other, object, 0, Kind::Normal), Err(Refusal::NoSlot));
-    assert_eq!(rt; core.alloc(slot, object, 0, Kind::Normal), Err(Refusal::BadSize));
-    assert_eq!(rt; core.alloc(slot, object, MAX_REQUEST_WORDS + 1, Kind::Normal), Err(Refusal::BadSize));
-    assert_eq!(rt; core.alloc(slot, object, MAX_REQUEST_WORDS, Kind::Normal), Err(Refusal::Full));
+    assert_eq!(rt;
+        core.alloc(other, object, 0, Kind::Normal),
+        Err(Refusal::NoSlot)
+    );
+    assert_eq!(rt;
+        core.alloc(slot, object, 0, Kind::Normal),
+        Err(Refusal::BadSize)
+    );
+    assert_eq!(rt;
+        core.alloc(slot, object, MAX_REQUEST_WORDS + 1, Kind::Normal),
+        Err(Refusal::BadSize)
+    );
+    assert_eq!(rt;
+        core.alloc(slot, object, MAX_REQUEST_WORDS, Kind::Normal),
+        Err(Refusal::Full)
+    );
     assert_eq!(rt; core.alloc(slot, object, 2, Kind::Normal), Ok(()));
-    assert_eq!(rt; core.alloc(slot, object, 2, Kind::PointerFree), Err(Refusal::Full));
+    assert_eq!(rt;
+        core.alloc(slot, object, 2, Kind::PointerFree),
+        Err(Refusal::Full)
+    );
     assert_eq!(rt; core.add(slot, inner, object, 15), Ok(()));
     assert_eq!(rt; core.free(slot, inner), Err(Refusal::NotBase));
     assert_eq!(rt; core.add(slot, inner, object, 16), Ok(()));

@@ -32,7 +32,7 @@ pub changes : (old new : RootSet) (slot : ℕ) (m n : HeapMutator) (call : Call)
     → ((s : Heap) → Acts (with_roots s old) slot m call reply (with_mutator (with_roots s old) slot (Some n))) → StepsRoots old (Mutator slot call) reply new
 changes old new slot m n call reply at mutators globals acts s =
     let same : with_mutator (with_roots s old) slot (Some n) ≡ with_roots s new =
-      ap (λ ms. record s { mutators = ms; globals = old.globals }) (sym mutators) ∙ ap (λ gs. record s { mutators = new.mutators; globals = gs }) (sym globals) in
+    ap (λ ms. record s { mutators = ms; globals = old.globals }) (sym mutators) ∙ ap (λ gs. record s { mutators = new.mutators; globals = gs }) (sym globals) in
     Calls.acts at (subst (Acts (with_roots s old) slot m call reply) same (acts s))
 
 -- the mutators with a word in a register
@@ -51,7 +51,7 @@ pub pushes : (old new : RootSet) (slot r : ℕ) (m : HeapMutator) → HasMutator
 pushes old new slot r m at room globals is =
     let same : is.before ≡ m = same_mutator old slot is.before m is.at at in
     changes old new slot m (with_pushed m r) (Push r) Done at
-      (is.only ∙ ap (λ n. set old.mutators slot (Some n)) (is.change ∙ ap (λ n. with_pushed n r) same)) globals (λ s. Acts.pushed room)
+    (is.only ∙ ap (λ n. set old.mutators slot (Some n)) (is.change ∙ ap (λ n. with_pushed n r) same)) globals (λ s. Acts.pushed room)
 
 -- a pop of a stack that has a word
 pub pops : (old new : RootSet) (slot r w : ℕ) (m : HeapMutator) → HasMutator old slot m → new.globals ≡ old.globals
@@ -60,10 +60,10 @@ pops old new slot r w m at globals is =
     let same : is.before ≡ m = same_mutator old slot is.before m is.at at in
     let rest : List ℕ = is.after.stack in
     let after : is.after ≡ with_word (record m { stack = rest }) r w =
-      ap (λ (rs : List ℕ). record { registers = rs; stack = rest }) (is.change.into ∙ ap (λ n. set n.registers r w) same) in
+    ap (λ (rs : List ℕ). record { registers = rs; stack = rest }) (is.change.into ∙ ap (λ n. set n.registers r w) same) in
     changes old new slot m (with_word (record m { stack = rest }) r w) (Pop r) (Word w) at
-      (is.only ∙ ap (λ n. set old.mutators slot (Some n)) after) globals
-      (λ s. Acts.popped rest (ap (λ n. n.stack) (sym same) ∙ is.change.top))
+    (is.only ∙ ap (λ n. set old.mutators slot (Some n)) after) globals
+    (λ s. Acts.popped rest (ap (λ n. n.stack) (sym same) ∙ is.change.top))
 
 -- a difference, as words have it
 pub subtracted : (s : Heap) (slot : ℕ) (m : HeapMutator) (d a b x y : ℕ) → x ≡ register m a → y ≡ register m b → y < word_end

@@ -5,7 +5,7 @@ ghost use Rattle.heap_core.specs.Standing.{StandsFor};
 use super::Core;
 use heap_spec::{Call, Event};
 use words::limits::WORD_BYTES;
-use words::{Kind, Reg, Refusal, Slot, class_of};
+use words::{Kind, Refusal, Reg, Slot, class_of};
 
 impl Core {
     /// Loads the word at the address of `at` and an offset in words into `into`.

@@ -5,7 +5,7 @@ ghost use Rattle.heap_core.specs.Standing.{StandsFor};
 
 use super::Core;
 use heap_spec::{Call, Event};
-use words::{Global, Reg, Refusal, Slot};
+use words::{Global, Refusal, Reg, Slot};
 
 impl Core {
     /// A mutator comes, into the lowest slot that has none, with registers of 0 and an empty stack.

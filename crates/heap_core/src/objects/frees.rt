@@ -54,7 +54,12 @@ impl Objects {
         let page = found.page;
         match self.map.block(page) {
             Some(_) => free_cell(&mut self.pool, &mut self.map, page, found.cell),
-            None => free_large(&mut self.pool, &mut self.map, page, found.len / PAGE_WORDS as u32),
+            None => free_large(
+                &mut self.pool,
+                &mut self.map,
+                page,
+                found.len / PAGE_WORDS as u32,
+            ),
         }
     }
 }

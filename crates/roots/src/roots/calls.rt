@@ -7,7 +7,7 @@ use super::{Mutators, Roots, pop_of, push_of};
 use crate::mutator::Mutator;
 use heap_spec::{Call, Event};
 use words::limits::SLOTS;
-use words::{Global, Reg, Refusal, Slot};
+use words::{Global, Refusal, Reg, Slot};
 
 // The lowest slot that has no mutator.
 fn lowest_vacant(mutators: &Mutators) -> Option<Slot>

@@ -18,7 +18,7 @@ allocate-requires c = sized c.args.words _ (sym c.in-Some-class_of.ensures)
 pub returns-in_default-allocate : goal.returns-in_default-allocate
 returns-in_default-allocate c = rw (← c.self.view_is, c.in_default-allocate.ensures.none.1)
     (refused _ _ _ c.in-Some.field-0.now _ _ c.in-Some.ensures.some
-      (λ s h. full _ s _ _ _ _ c.in-Some-class_of.placement _ (sym c.in-Some-class_of.ensures) c.in_default-allocate.ensures.none.0 h))
+    (λ s h. full _ s _ _ _ _ c.in-Some-class_of.placement _ (sym c.in-Some-class_of.ensures) c.in_default-allocate.ensures.none.0 h))
 
 pub returns : goal.returns
 returns c = rw (← c.self.view_is)

@@ -5,9 +5,10 @@ use Rattle.heap_core.proofs.Allocations.{allocates_large, no_room_large, sound_l
 use Rattle.heap_core.proofs.objects.Objects.allocate_large.Goals as goal
 
 pub returns-in_default-clause-none : goal.returns-in_default-clause-none
-returns-in_default-clause-none c = rw (← c.self.view_is)
-    (no_room_large _ _ c.args.kind c.self.invariant c.len.ensures.laid c.len.ensures.lawful c.in_default.ensures.none.0,
-     ap (λ p. store_of c.self.inside.memory p c.self.inside.map) c.in_default.ensures.none.1)
+returns-in_default-clause-none c = rw (← c.self.view_is) (
+  no_room_large _ _ c.args.kind c.self.invariant c.len.ensures.laid c.len.ensures.lawful c.in_default.ensures.none.0,
+  ap (λ p. store_of c.self.inside.memory p c.self.inside.map) c.in_default.ensures.none.1,
+)
 
 pub cut_large-requires-clause-inside : goal.cut_large-requires-clause-inside
 cut_large-requires-clause-inside c = let fits = c.in-Some.ensures.some.0.run.inside in let size = c.self.invariant.agree.size in omega arith
@@ -27,4 +28,4 @@ pub returns-clause-some : goal.returns-clause-some
 returns-clause-some c =
     let zeroed = subst (λ b. IsZeroed c.self.inside.memory c.zero.new.self (place b) (512 * c.args.pages)) c.start_of-base.ensures c.zero.ensures in
     rw (← c.self.view_is, c.start_of-base.ensures)
-      (allocates_large _ c.self.invariant c.len.ensures.laid c.len.ensures.lawful _ c.args.kind _ _ _ _ c.requires.0 c.in-Some.ensures.some.0.run c.in-Some.ensures.some.1 c.cut_large.ensures.states c.cut_large.ensures.added zeroed)
+    (allocates_large _ c.self.invariant c.len.ensures.laid c.len.ensures.lawful _ c.args.kind _ _ _ _ c.requires.0 c.in-Some.ensures.some.0.run c.in-Some.ensures.some.1 c.cut_large.ensures.states c.cut_large.ensures.added zeroed)

@@ -10,20 +10,22 @@ returns-in-Some-clause-some c = rw (← c.self.view_is)
     (allocates_cell _ _ _ c.in-Some.place.page c.in-Some.place.cell _ _ _ c.self.invariant c.find_cell.ensures.laid c.find_cell.ensures.lawful c.in-Some.ensures.some c.take_cell.ensures)
 
 pub returns-in_default-cut_page-clause-none : goal.returns-in_default-cut_page-clause-none
-returns-in_default-cut_page-clause-none c = rw (← c.self.view_is)
-    (no_room_small _ _ _ c.self.invariant c.find_cell.ensures.laid c.find_cell.ensures.lawful (subst IsSizeClass c.words-words.ensures.value c.words-words.ensures.listed)
+returns-in_default-cut_page-clause-none c = rw (← c.self.view_is) (
+  no_room_small _ _ _ c.self.invariant c.find_cell.ensures.laid c.find_cell.ensures.lawful (subst IsSizeClass c.words-words.ensures.value c.words-words.ensures.listed)
       c.in_default.ensures.none c.in_default-cut_page.ensures.none.0,
-     ap (λ p. store_of c.self.inside.memory p c.cut_page.new.map) c.in_default-cut_page.ensures.none.1
-     ∙ ap (store_of c.self.inside.memory c.self.inside.pool) c.in_default-cut_page.ensures.none.2)
+  ap (λ p. store_of c.self.inside.memory p c.cut_page.new.map) c.in_default-cut_page.ensures.none.1
+      ∙ ap (store_of c.self.inside.memory c.self.inside.pool) c.in_default-cut_page.ensures.none.2,
+)
 
 pub take_cell-requires-2-clause-cell : goal.take_cell-requires-2-clause-cell
 take_cell-requires-2-clause-cell c =
     let is_class = subst IsSizeClass c.words-words.ensures.value c.words-words.ensures.listed in
-    let cuts = c.in-Some-cut_page.ensures.some in
-    (c.args.kind,
-     subst (λ w. IsFreeCell c.cut_page.new.map w c.args.kind c.in-Some-cut_page.place.page c.in-Some-cut_page.place.cell) (sym c.words-words.ensures.value)
-       (subst (λ i. IsFreeCell c.cut_page.new.map c.args.class c.args.kind c.in-Some-cut_page.place.page i) (sym cuts.0)
-         (first_cell _ c.self.invariant c.find_cell.ensures.laid c.find_cell.ensures.lawful _ _ is_class _ _ _ cuts.1)))
+    let cuts = c.in-Some-cut_page.ensures.some in (
+      c.args.kind,
+      subst (λ w. IsFreeCell c.cut_page.new.map w c.args.kind c.in-Some-cut_page.place.page c.in-Some-cut_page.place.cell) (sym c.words-words.ensures.value)
+          (subst (λ i. IsFreeCell c.cut_page.new.map c.args.class c.args.kind c.in-Some-cut_page.place.page i) (sym cuts.0)
+          (first_cell _ c.self.invariant c.find_cell.ensures.laid c.find_cell.ensures.lawful _ _ is_class _ _ _ cuts.1)),
+    )
 
 pub take_cell-requires-2-clause-laid : goal.take_cell-requires-2-clause-laid
 take_cell-requires-2-clause-laid c =

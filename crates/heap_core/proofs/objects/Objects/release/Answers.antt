@@ -31,13 +31,13 @@ returns-in-Some c =
     let t : Store = store_of c.self.inside.memory c.self.inside.pool c.self.inside.map in
     let o = on_page t c.args.found (rw (← c.self.view_is) at c.requires.lawful) (rw (← c.self.view_is) at c.requires.found) in
     rw (← c.self.view_is)
-      (frees_cell t c.self.invariant c.args.found.page c.args.found.cell c.in-Some.field-0.now c.in-Some.ensures o.page c.free_cell.new.pool c.free_cell.new.map c.args.found
-        (rw (← c.self.view_is) at c.requires.lawful) (rw (← c.self.view_is) at c.requires.found) (in_block t c.args.found c.in-Some.field-0.now o c.in-Some.ensures).0 c.free_cell.ensures)
+    (frees_cell t c.self.invariant c.args.found.page c.args.found.cell c.in-Some.field-0.now c.in-Some.ensures o.page c.free_cell.new.pool c.free_cell.new.map c.args.found
+    (rw (← c.self.view_is) at c.requires.lawful) (rw (← c.self.view_is) at c.requires.found) (in_block t c.args.found c.in-Some.field-0.now o c.in-Some.ensures).0 c.free_cell.ensures)
 
 pub returns-in-None : goal.returns-in-None
 returns-in-None c =
     let t : Store = store_of c.self.inside.memory c.self.inside.pool c.self.inside.map in
     let l = large_here t c.args.found (rw (← c.self.view_is) at c.requires.lawful) (rw (← c.self.view_is) at c.requires.found) c.in-None.ensures in
     rw (← c.self.view_is)
-      (frees_large t c.args.found c.free_large.new.pool c.free_large.new.map l.0 (c.args.found.len / 512) (rw (← c.self.view_is) at c.requires.lawful) (rw (← c.self.view_is) at c.requires.found)
-        l.4 c.free_large.ensures.map (c.free_large.ensures.removed l.0 l.1))
+    (frees_large t c.args.found c.free_large.new.pool c.free_large.new.map l.0 (c.args.found.len / 512) (rw (← c.self.view_is) at c.requires.lawful) (rw (← c.self.view_is) at c.requires.found)
+    l.4 c.free_large.ensures.map (c.free_large.ensures.removed l.0 l.1))

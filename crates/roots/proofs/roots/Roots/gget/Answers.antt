@@ -10,5 +10,5 @@ returns-in_default c = refused _ _ _ c.in_default.ensures.none
 pub returns : goal.returns
 returns c =
     let global : get_or c.self.inside.globals c.index.result 0 ≡ get_or c.args.self.now.globals c.args.global 0 =
-      ap (λ (r : RootSet). get_or r.globals c.index.result 0) c.self.view_is ∙ ap (λ i. get_or c.args.self.now.globals i 0) c.index.ensures.value in
+    ap (λ (r : RootSet). get_or r.globals c.index.result 0) c.self.view_is ∙ ap (λ i. get_or c.args.self.now.globals i 0) c.index.ensures.value in
     sets _ _ _ _ _ c.in-Some.field-0.now _ _ c.in-Some.ensures.some c.set_word.ensures (λ s. rw global Acts.global_got)
