@@ -8,7 +8,7 @@ use Rattle.heap_spec.specs.declared.call.Call.TheVariants.{Detach, Set, Copy, Ad
 use Rattle.heap_spec.specs.declared.event.Event.{Event}
 use Rattle.heap_spec.specs.declared.event.Event.TheVariants.{Attach, Mutator, Begin, Roots, Mark, Retrace, Finish, Sweep, Collect, Number}
 use Rattle.mpheap.specs.declared.limits.TheConstants.{LINE_BYTES}
-use Rattle.mpheap.specs.Ranges.{InRange}
+use Rattle.heap_spec.specs.Ranges.{InRange}
 use Rattle.mpheap.specs.Served.{IsServed}
 
 -- the word of a kind
