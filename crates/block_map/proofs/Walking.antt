@@ -90,7 +90,7 @@ next_cell s p from i b cells at is first later =
           let rest' = rest_of p w at' in
           let q' = divided (w % 4096) (8 * b.class) (omega arith) in
           let before : cell_at b w < i = ⊎_elim (λ (h : cell_at b w < i). h)
-              (λ ge. let m' : i * (8 * b.class) ≤ cell_at b w * (8 * b.class) = mul-le-mul_right (8 * b.class) ge in absurd (omega (arith, m', q'.0))) (cases_lt (cell_at b w) i) in
+          (λ ge. let m' : i * (8 * b.class) ≤ cell_at b w * (8 * b.class) = mul-le-mul_right (8 * b.class) ge in absurd (omega (arith, m', q'.0))) (cases_lt (cell_at b w) i) in
           found_as s p w (cut b) at' is ∙ sym (block_none p w b (first.least (cell_at b w) grows before));
     }
 

@@ -10,5 +10,5 @@ mod page;
 mod walk;
 
 pub use found::Found;
-pub use words::granule_of;
 pub use map::BlockMap;
+pub use words::granule_of;

@@ -12,5 +12,5 @@ mod table;
 pub use claimer_view::ClaimerView;
 pub use gathers::gathered_marks;
 pub use marks::Marks;
-pub use words::granule_of;
 pub use table::{Claimer, MarkTable};
+pub use words::granule_of;

@@ -5,8 +5,8 @@
 mod bit_row;
 mod cell_row;
 mod class;
-mod layout;
 pub mod laws;
+mod layout;
 pub mod limits;
 mod places;
 mod refusal;
