@@ -38,11 +38,14 @@ fn each_class_is_filled_and_emptied(rt: HostRuntime) -> Result<(), Fail> {
         let (mut core, slot) = core_of(&rt, 2)?;
         let object = reg(0)?;
         let mut bases = Vec::new(rt.alloc());
-        while core.alloc(slot, object, words, Kind::Normal) == Ok(()) {
+        for _ in 0..2 * PAGE_WORDS {
+            if core.alloc(slot, object, words, Kind::Normal) != Ok(()) {
+                break;
+            }
             assert_eq!(rt; core.size(slot, object), Ok(words));
             bases.push(core.get(slot, object).ok().ok_or("a base")?)?;
         }
-        assert_eq!(rt; bases.len() as u64, 2 * (PAGE_WORDS / words));
+        assert_eq!(rt; PAGE_WORDS.checked_div(words), Some(bases.len() as u64 / 2));
         assert_eq!(rt;
             core.alloc(slot, object, words, Kind::Normal),
             Err(Refusal::Full)
