@@ -2,12 +2,11 @@
 ghost use Rattle.std.specs.Prelude.{◌≡◌, ◌≢◌, ℕ, ◌*◌, ◌/◌, ◌%◌, ◌<◌, ◌≤◌, ◌==◌, true, false, length, slice_index_or, slice_set, IfOk};
 ghost use Rattle.std.specs.Int.{bit_at};
 ghost use Rattle.words.specs.Bits.{bits, IsClear};
-ghost use Rattle.words.specs.declared.limits.TheConstants.{FIRST_ADDRESS, MAX_PAGES, PAGE_GRANULES};
-ghost use Rattle.mark_bits.specs.Granules.{granule};
+ghost use Rattle.words.specs.declared.limits.TheConstants.{MAX_PAGES, PAGE_GRANULES};
 
 use std::alloc::{AllocError, Global};
 use std::marker::Model;
-use words::limits::{FIRST_ADDRESS, GRANULE_BYTES, MAX_PAGES, PAGE_GRANULES};
+use words::limits::{MAX_PAGES, PAGE_GRANULES};
 use words::{BitRow, PageNo};
 
 /// A set of the granules of a heap.
@@ -93,6 +92,8 @@ impl Marks {
 mod tests {
     use super::*;
     use std::test::Fail;
+    use words::granule_of;
+    use words::limits::FIRST_ADDRESS;
 
     #[test]
     fn keeps_one_mark_a_granule(rt: HostRuntime) -> Result<(), Fail> {
