@@ -7,6 +7,7 @@ use crate::scan::{one_from, zero_from};
 use std::alloc::{AllocError, Global};
 use std::marker::Model;
 
+/// A row of bits, each at first clear, whose length never changes.
 #[derive(Drop)]
 pub struct BitRow {
     words: Vec<u64>,
@@ -23,6 +24,7 @@ impl Model for BitRow {
 
 #[tactic(auto, using(crate::proofs::Rows::rows))]
 impl BitRow {
+    /// A clear row of so many bits. The error is want of memory.
     pub fn new(alloc: Global, len: usize) -> Result<BitRow, AllocError>
         requires { len < 2 ^ 32 }
         ensures { IfOk result (λ row. IsClear row len) }
@@ -31,12 +33,14 @@ impl BitRow {
         Ok(BitRow { words, len })
     }
 
+    /// The number of its bits.
     pub fn len(&self) -> usize
         ensures { result ≡ length self.now }
     {
         self.len
     }
 
+    /// Whether a bit is set.
     pub fn is_set(&self, i: usize) -> bool
         requires { i < length self.now }
         ensures { result ≡ slice_index_or self.now i false }
@@ -44,6 +48,7 @@ impl BitRow {
         (self.words[i / 64] >> (i % 64)) & 1 == 1
     }
 
+    /// Sets a bit.
     pub fn set(&mut self, i: usize)
         requires { i < length self.old }
         ensures { self.new ≡ slice_set self.old i true }
@@ -52,6 +57,7 @@ impl BitRow {
         self.words[i / 64] = word | (1 << (i % 64));
     }
 
+    /// Clears a bit.
     pub fn clear(&mut self, i: usize)
         requires { i < length self.old }
         ensures { self.new ≡ slice_set self.old i false }
@@ -60,13 +66,14 @@ impl BitRow {
         self.words[i / 64] = word & !(1 << (i % 64));
     }
 
+    /// Clears all bits, by whole words.
     pub fn clear_all(&mut self)
         ensures { IsClear self.new (length self.old) }
     {
         self.words.fill(0);
     }
 
-    // The words, lowest bits first.
+    /// The words, 64 bits each, lowest bits first.
     pub fn as_words(&self) -> &[u64]
         ensures bits { bits result.now (length self.now) ≡ self.now }
         ensures size { length result.now ≡ length self.now / 64 + 1 }
@@ -74,7 +81,7 @@ impl BitRow {
         self.words.as_slice()
     }
 
-    // Gives the bits of the word j those of `word`.
+    /// Gives the 64 bits of the word j those of `word`.
     pub fn set_word(&mut self, j: usize, word: u64)
         requires { j < length self.old / 64 + 1 }
         ensures size { length self.new ≡ length self.old }

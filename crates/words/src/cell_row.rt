@@ -5,6 +5,7 @@ ghost use Rattle.words.specs.Bits.{bits, IsFullRow, IsEmptyFrom, IsFirstFrom, Is
 use crate::scan::{one_from, zero_from};
 use std::marker::Model;
 
+/// A row of at most 256 bits, each at first clear, which takes no memory of its own.
 #[derive(Drop)]
 pub struct CellRow {
     words: [u64; 4],
@@ -21,6 +22,7 @@ impl Model for CellRow {
 
 #[tactic(auto, using(crate::proofs::Rows::rows))]
 impl CellRow {
+    /// A clear row of so many bits.
     pub fn new(len: u16) -> CellRow
         requires { len ≤ 256 }
         ensures { result ≡ replicate len false }
@@ -28,12 +30,14 @@ impl CellRow {
         CellRow { words: [0; 4], len }
     }
 
+    /// The number of its bits.
     pub fn len(&self) -> u16
         ensures { result ≡ length self.now }
     {
         self.len
     }
 
+    /// Whether a bit is set.
     pub fn is_set(&self, i: u16) -> bool
         requires { i < length self.now }
         ensures { result ≡ slice_index_or self.now i false }
@@ -41,6 +45,7 @@ impl CellRow {
         (self.words[i as usize / 64] >> (i as usize % 64)) & 1 == 1
     }
 
+    /// Sets a bit.
     pub fn set(&mut self, i: u16)
         requires { i < length self.old }
         ensures { self.new ≡ slice_set self.old i true }
@@ -49,6 +54,7 @@ impl CellRow {
         self.words[i as usize / 64] = word | (1 << (i as usize % 64));
     }
 
+    /// Clears a bit.
     pub fn clear(&mut self, i: u16)
         requires { i < length self.old }
         ensures { self.new ≡ slice_set self.old i false }
@@ -57,6 +63,7 @@ impl CellRow {
         self.words[i as usize / 64] = word & !(1 << (i as usize % 64));
     }
 
+    /// The lowest clear bit, and `None` exactly if every bit is set.
     #[tactic(auto, using(crate::proofs::Scans::of_row))]
     pub fn first_clear(&self) -> Option<u16>
         ensures { MatchOption result (IsFullRow self.now) (λ i. IsFirstClear self.now i) }
@@ -69,6 +76,7 @@ impl CellRow {
         }
     }
 
+    /// Whether no bit is set.
     #[tactic(auto, using(crate::proofs::Scans::of_row))]
     pub fn is_empty(&self) -> bool
         ensures { MatchBool result (IsEmptyFrom self.now 0) ((i : ℕ) × IsFirstFrom self.now 0 i) }
