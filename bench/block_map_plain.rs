@@ -16,6 +16,7 @@ enum Kind {
 struct Block {
     words: u16,
     kind: Kind,
+    reciprocal: u32,
     taken: [u64; 4],
     cells: u16,
 }
@@ -38,8 +39,8 @@ struct Found {
 
 impl Block {
     fn cell_of(&self, w: u64) -> Option<u16> {
-        let cell = w % 4_096 / (8 * u64::from(self.words));
-        (cell < u64::from(self.cells)).then_some(cell as u16)
+        let cell = (w % 4_096 / 16) as u32 * self.reciprocal / 65_536;
+        (cell < u32::from(self.cells)).then_some(cell as u16)
     }
 
     fn next_taken(&self, from: u16) -> Option<u16> {
@@ -146,7 +147,7 @@ fn main() {
         for cell in (0..85).filter(|cell| cell % 4 != 3) {
             taken[cell / 64] |= 1 << (cell % 64);
         }
-        map[page as usize] = Page::Cut(Block { words: 6, kind: Kind::Normal, taken, cells: 85 });
+        map[page as usize] = Page::Cut(Block { words: 6, kind: Kind::Normal, reciprocal: 65_536_u32.div_ceil(3), taken, cells: 85 });
     }
     map[HALF as usize] = Page::Head(HALF, Kind::Normal);
     for page in HALF + 1..PAGES {

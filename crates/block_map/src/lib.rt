@@ -11,4 +11,3 @@ mod walk;
 
 pub use found::Found;
 pub use map::BlockMap;
-pub use words::granule_of;

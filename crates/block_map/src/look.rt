@@ -1,4 +1,4 @@
-//! The object that a word reads. No search: the word's page, one look at what stands there, and in a block one division.
+//! The object that a word reads. No search: the word's page, one look at what stands there, and in a block one multiplication.
 ghost use Rattle.std.specs.Prelude.{◌≡◌, ℕ, ◌<◌, ◌≤◌, length, MatchOption, Option, None, Some};
 ghost use Rattle.words.specs.declared.class.Kind.{Kind};
 ghost use Rattle.words.specs.declared.limits.TheConstants.{MAX_PAGES};

@@ -1,10 +1,10 @@
 //! What words read, against the objects that were put into the map.
 use crate::fill::{cut, cut_large, put, take, uncut};
-use block_map::{BlockMap, Found, granule_of};
+use block_map::{BlockMap, Found};
 use std::alloc::Global;
 use std::process::Abort;
 use std::test::Fail;
-use words::{Kind, PageNo};
+use words::{Kind, PageNo, granule_of};
 
 const START: u64 = 268_435_456;
 

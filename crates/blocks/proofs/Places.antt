@@ -1,11 +1,12 @@
 -- Cells of a page by division.
-use Rattle.std.proofs.Common.{◌≡◌, ℕ, ◌+◌, ◌*◌, ◌/◌, ◌%◌, ◌<◌, ◌≤◌, true, arith}
-use Rattle.std.specs.Prelude.{IsTrue}
+use Rattle.std.proofs.Common.{◌≡◌, ℕ, ◌+◌, ◌*◌, ◌/◌, ◌%◌, ◌<◌, ◌≤◌, sym, subst, arith}
 use Rattle.std.proofs.lemmas.Bool.Decides.{nat_tests}
 use Rattle.std.proofs.lemmas.Nat.{div-add-mod', mod_below}
 use Rattle.std.proofs.Math.Nat.{mul-le-mul_right, mul-le-mul_left}
 use Rattle.words.specs.Classes.{IsSizeClass}
 use Rattle.blocks.specs.Cells.{IsInCell, IsLeftOver}
+use Rattle.blocks.specs.Reciprocals.{IsReciprocal}
+use Rattle.blocks.proofs.Reciprocals.{quotient, product_fits, reciprocal, some_granules}
 
 pub class_bounds : (c : ℕ) → IsSizeClass c → (2 ≤ c) × (c ≤ 256)
 class_bounds c h = grind (arith, nat_tests)
@@ -23,20 +24,22 @@ quotient_le n c h =
     let m : n / c * 2 ≤ n / c * c = mul-le-mul_left (n / c) h in
     omega arith
 
-pub found_cell : (c o : ℕ) → IsSizeClass c → o / (8 * c) < 512 / c → IsInCell c (o / (8 * c)) o
-found_cell c o h lt =
+pub found_cell : (c r o : ℕ) → IsSizeClass c → IsReciprocal c r → o < 4096 → o / 16 * r / 65536 < 512 / c → IsInCell c (o / 16 * r / 65536) o
+found_cell c r o h by few lt =
     let b = class_bounds c h in
     let d = divided o (8 * c) (omega arith) in
-    record { cell = lt; from = d.0; below = d.1 }
+    let e = quotient c r o h by few in
+    record { cell = lt; from = subst (λ q. q * (8 * c) ≤ o) (sym e) d.0; below = subst (λ q. o < q * (8 * c) + 8 * c) (sym e) d.1 }
 
-pub left_over : (c o : ℕ) → IsSizeClass c → 512 / c ≤ o / (8 * c) → IsLeftOver c o
-left_over c o h le =
+pub left_over : (c r o : ℕ) → IsSizeClass c → IsReciprocal c r → o < 4096 → 512 / c ≤ o / 16 * r / 65536 → IsLeftOver c o
+left_over c r o h by few le =
     let b = class_bounds c h in
     let d = divided o (8 * c) (omega arith) in
-    let m : 512 / c * (8 * c) ≤ o / (8 * c) * (8 * c) = mul-le-mul_right (8 * c) le in
+    let e = quotient c r o h by few in
+    let m : 512 / c * (8 * c) ≤ o / (8 * c) * (8 * c) = mul-le-mul_right (8 * c) (omega (arith, le, e)) in
     omega (arith, m, d.0)
 
 pub cells_fit : (c : ℕ) → IsSizeClass c → 512 / c ≤ 256
 cells_fit c h = let b = class_bounds c h in quotient_le 512 c b.0
 
-pub ruleset places = (class_bounds, found_cell, left_over, cells_fit)
+pub ruleset places = (class_bounds, found_cell, left_over, cells_fit, product_fits)

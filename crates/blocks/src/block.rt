@@ -6,8 +6,9 @@ ghost use Rattle.words.specs.Bits.{IsFullRow, IsEmptyFrom, IsFirstFrom, IsFirstC
 ghost use Rattle.words.specs.Classes.{IsSizeClass};
 ghost use Rattle.blocks.specs.Cells.{IsCells, IsInCell, IsLeftOver};
 
+use crate::reciprocal::{WHOLE, reciprocal_of};
 use std::marker::Model;
-use words::limits::{PAGE_BYTES, WORD_BYTES};
+use words::limits::{GRANULE_BYTES, PAGE_BYTES};
 use words::{CellRow, Class, Kind};
 
 /// A page cut for one class and kind, with the cells that are allocated.
@@ -15,6 +16,7 @@ use words::{CellRow, Class, Kind};
 pub struct Block {
     class: Class,
     kind: Kind,
+    reciprocal: u32,
     taken: CellRow,
 }
 
@@ -23,12 +25,13 @@ impl Model for Block {
     ghost use Rattle.words.specs.declared.limits.TheConstants.{PAGE_WORDS};
     ghost use Rattle.words.specs.Classes.{IsSizeClass};
     ghost use Rattle.blocks.specs.Cells.{Cells};
+    ghost use Rattle.blocks.specs.Reciprocals.{IsReciprocal};
 
     ghost Value = { Cells };
 
     ghost view = { λ b. record { class = b.class; kind = b.kind; taken = b.taken } };
 
-    ghost invariant = { λ b. IsSizeClass b.class × (length b.taken ≡ PAGE_WORDS / b.class) };
+    ghost invariant = { λ b. IsSizeClass b.class × (length b.taken ≡ PAGE_WORDS / b.class) × IsReciprocal b.class b.reciprocal };
 }
 
 #[tactic(auto, using(crate::proofs::Places::places))]
@@ -41,6 +44,7 @@ impl Block {
         Block {
             class,
             kind,
+            reciprocal: reciprocal_of(class),
             taken: CellRow::new(class.cells()),
         }
     }
@@ -71,14 +75,15 @@ impl Block {
     }
 
     /// The cell that has the byte at an address of the page, and `None` exactly for the words left over at the page's
-    /// end.
+    /// end. It multiplies by the class's reciprocal, since a division by a number that isn't constant is slow.
     #[inline]
     pub fn cell_of(&self, address: u64) -> Option<u16>
         ensures cell { MatchOption result (IsLeftOver self.now.class (address % PAGE_BYTES)) (λ i. IsInCell self.now.class i (address % PAGE_BYTES)) }
         ensures cells { IsCells self.now }
     {
-        let cell = address % PAGE_BYTES / (WORD_BYTES * u64::from(self.class.words()));
-        if cell < u64::from(self.taken.len()) {
+        let granule = (address % PAGE_BYTES / GRANULE_BYTES) as u32;
+        let cell = granule * self.reciprocal / WHOLE;
+        if cell < u32::from(self.taken.len()) {
             Some(cell as u16)
         } else {
             None

@@ -4,6 +4,7 @@
 
 mod block;
 mod large;
+mod reciprocal;
 
 pub use block::Block;
 pub use large::LargeHead;
