@@ -2,7 +2,6 @@ pub mod Bytes
 pub mod Walks
 pub mod Numbers
 pub mod Splitting
-pub mod Commands
 pub mod BadLines
 pub mod Texts
 pub mod Serving

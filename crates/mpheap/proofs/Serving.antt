@@ -13,8 +13,8 @@ use Rattle.heap_spec.specs.Steps.{Step}
 use Rattle.heap_spec.specs.Runs.{Start, Told, Run, fresh, heap_after, goes_on}
 use Rattle.heap_spec.specs.Histories.{Happens}
 use Rattle.heap_spec.specs.Transcripts.{LegalTranscript, LineOf, ends, on, happens}
-use Rattle.plain_core.specs.Contents.{Contents}
-use Rattle.plain_core.specs.Standing.{StandsFor}
+use Rattle.heap_core.specs.Contents.{Contents}
+use Rattle.heap_core.specs.Standing.{StandsFor}
 use Rattle.mpheap.specs.declared.limits.TheConstants.{LAST_LINE, LINE_BYTES}
 use Rattle.mpheap.specs.declared.errors.ScriptError.{ScriptError}
 use Rattle.mpheap.specs.declared.errors.ScriptError.TheVariants.{BadLine, Read, Write, Memory}

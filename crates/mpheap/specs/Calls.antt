@@ -2,14 +2,12 @@
 use Rattle.std.specs.Prelude.{◌≡◌, ℕ, Option, List, MatchOption}
 use Rattle.heap_spec.specs.declared.call.Call.{Call}
 use Rattle.heap_spec.specs.Ranges.{CallInRange}
-use Rattle.mpheap.specs.Served.{IsServedCall}
 use Rattle.mpheap.specs.Grammar.{call_words}
 
--- the words are those of a call that is read yet, with its numbers in range
+-- the words are those of a call, with its numbers in range
 pub record AreCallWords (words : List (List ℕ)) (call : Call) : Type 0 where
   pub are : words ≡ call_words call
   pub in_range : CallInRange call
-  pub served : IsServedCall call
 
 -- the call whose words these are, and none exactly if they are no call's
 abbrev pub ReadsCall : List (List ℕ) → Option Call → Type 0

@@ -1,6 +1,7 @@
 pub mod Served
 pub mod Grammar
 pub mod WordsLeft
+pub mod Places
 pub mod Calls
 pub mod Lines
 pub mod Reading

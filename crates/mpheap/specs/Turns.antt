@@ -7,8 +7,8 @@ use Rattle.heap_spec.specs.declared.reply.Reply.{Reply}
 use Rattle.heap_spec.specs.Replies.{IsStep}
 use Rattle.heap_spec.specs.Runs.{Told, Run, fresh, heap_after}
 use Rattle.heap_spec.specs.Transcripts.{LegalTranscript}
-use Rattle.plain_core.specs.Contents.{Contents}
-use Rattle.plain_core.specs.Standing.{StandsFor}
+use Rattle.heap_core.specs.Contents.{Contents}
+use Rattle.heap_core.specs.Standing.{StandsFor}
 use Rattle.mpheap.specs.declared.errors.ScriptError.{ScriptError}
 use Rattle.mpheap.specs.declared.errors.ScriptError.TheVariants.{BadLine, Read, Write, Memory}
 use Rattle.mpheap.specs.Grammar.{IsLineOf, IsBad}

@@ -1,119 +1,41 @@
 //! Lines as commands. A line of a command that isn't read yet is a bad line.
-ghost use Rattle.std.specs.Prelude.{◌≡◌, ◌≤◌, ◌∷◌, codes, length, MatchOption};
+ghost use Rattle.std.specs.Prelude.{◌≤◌, length, MatchOption};
 ghost use Rattle.mpheap.specs.declared.limits.TheConstants.{LINE_BYTES};
 ghost use Rattle.mpheap.specs.Grammar.{IsLineOf, IsBad};
 ghost use Rattle.mpheap.specs.Calls.{ReadsCall};
 
-use crate::number::{is, slot};
+use crate::number::is;
 use crate::parts::Words;
+use crate::place::Place;
 use heap_spec::{Call, Event};
-
-/// What stands after `detach`.
-fn detach(words: &mut Words<'_>) -> Option<Call>
-    ensures { ReadsCall (codes "detach" ∷ words.old) result }
-{
-    if !words.is_done() {
-        return None;
-    }
-    Some(Call::Detach)
-}
-
-/// What stands after `set`.
-fn set(words: &mut Words<'_>) -> Option<Call>
-    ensures { ReadsCall (codes "set" ∷ words.old) result }
-{
-    let Some(register) = words.register() else {
-        return None;
-    };
-    let Some(word) = words.number() else {
-        return None;
-    };
-    if !words.is_done() {
-        return None;
-    }
-    Some(Call::Set(register, word))
-}
-
-/// What stands after `load`.
-fn load(words: &mut Words<'_>) -> Option<Call>
-    ensures { ReadsCall (codes "load" ∷ words.old) result }
-{
-    let Some(into) = words.register() else {
-        return None;
-    };
-    let Some(at) = words.register() else {
-        return None;
-    };
-    let Some(offset) = words.number() else {
-        return None;
-    };
-    if !words.is_done() {
-        return None;
-    }
-    Some(Call::Load(into, at, offset))
-}
-
-/// What stands after `store`.
-fn store(words: &mut Words<'_>) -> Option<Call>
-    ensures { ReadsCall (codes "store" ∷ words.old) result }
-{
-    let Some(at) = words.register() else {
-        return None;
-    };
-    let Some(offset) = words.number() else {
-        return None;
-    };
-    let Some(from) = words.register() else {
-        return None;
-    };
-    if !words.is_done() {
-        return None;
-    }
-    Some(Call::Store(at, offset, from))
-}
-
-/// What stands after `alloc`.
-fn alloc(words: &mut Words<'_>) -> Option<Call>
-    ensures { ReadsCall (codes "alloc" ∷ words.old) result }
-{
-    let Some(into) = words.register() else {
-        return None;
-    };
-    let Some(size) = words.number() else {
-        return None;
-    };
-    let Some(kind) = words.kind() else {
-        return None;
-    };
-    if !words.is_done() {
-        return None;
-    }
-    Some(Call::Alloc(into, size, kind))
-}
+use words::Slot;
 
 /// The call that stands after a slot.
-fn call(words: &mut Words<'_>) -> Option<Call>
-    ensures { ReadsCall words.old result }
+fn call(rest: &mut Words<'_>) -> Option<Call>
+    ensures { ReadsCall rest.old result }
 {
-    let Some(verb) = words.word() else {
+    let Some(verb) = rest.word() else {
         return None;
     };
-    if is(verb, "detach") {
-        return detach(words);
+    match verb {
+        _ if is(verb, "detach") => rest.is_done().then_some(Call::Detach),
+        _ if is(verb, "set") => rest.two().map(|(into, word)| Call::Set(into, word)),
+        _ if is(verb, "copy") => rest.two().map(|(into, from)| Call::Copy(into, from)),
+        _ if is(verb, "add") => rest.three().map(|(into, from, n)| Call::Add(into, from, n)),
+        _ if is(verb, "sub") => rest.three().map(|(into, a, b)| Call::Sub(into, a, b)),
+        _ if is(verb, "get") => rest.one().map(Call::Get),
+        _ if is(verb, "push") => rest.one().map(Call::Push),
+        _ if is(verb, "pop") => rest.one().map(Call::Pop),
+        _ if is(verb, "load") => rest.three().map(|(into, at, n)| Call::Load(into, at, n)),
+        _ if is(verb, "store") => rest.three().map(|(at, n, from)| Call::Store(at, n, from)),
+        _ if is(verb, "alloc") => rest.three().map(|(to, n, kind)| Call::Alloc(to, n, kind)),
+        _ if is(verb, "free") => rest.one().map(Call::Free),
+        _ if is(verb, "base") => rest.two().map(|(into, from)| Call::Base(into, from)),
+        _ if is(verb, "size") => rest.one().map(Call::Size),
+        _ if is(verb, "gget") => rest.two().map(|(into, g)| Call::GlobalGet(into, g)),
+        _ if is(verb, "gput") => rest.two().map(|(g, from)| Call::GlobalPut(g, from)),
+        _ => None,
     }
-    if is(verb, "set") {
-        return set(words);
-    }
-    if is(verb, "load") {
-        return load(words);
-    }
-    if is(verb, "store") {
-        return store(words);
-    }
-    if is(verb, "alloc") {
-        return alloc(words);
-    }
-    None
 }
 
 /// The command that a line is, and `None` exactly for a bad line.
@@ -126,13 +48,9 @@ pub fn command(line: &[u8]) -> Option<Event>
         return None;
     };
     if is(first, "attach") {
-        return if words.is_done() {
-            Some(Event::Attach)
-        } else {
-            None
-        };
+        return words.is_done().then_some(Event::Attach);
     }
-    let Some(slot) = slot(first) else {
+    let Some(slot) = Slot::read(first) else {
         return None;
     };
     let Some(call) = call(&mut words) else {

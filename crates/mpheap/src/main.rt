@@ -10,6 +10,7 @@ mod limits;
 mod line;
 mod number;
 mod parts;
+mod place;
 mod print;
 mod program;
 mod run_script;

@@ -1,12 +1,10 @@
 //! The words of a line, one after another.
-ghost use Rattle.std.specs.Prelude.{◌≡◌, ℕ, ◌<◌, List, ◌∷◌, [], IfSome, IfNone, MatchOption, MatchBool, decimal};
-ghost use Rattle.words.specs.declared.limits.TheConstants.{REGISTERS};
-ghost use Rattle.heap_spec.specs.Layout.{word_end};
-ghost use Rattle.mpheap.specs.Grammar.{words_of, kind_word};
+ghost use Rattle.std.specs.Prelude.{◌≡◌, ℕ, List, ◌∷◌, [], IfSome, IfNone, MatchOption, MatchBool};
+ghost use Rattle.mpheap.specs.Grammar.{words_of};
+ghost use Rattle.mpheap.specs.Places.{ReadsOne, ReadsTwo, ReadsThree};
 
-use crate::number;
+use crate::place::Place;
 use std::marker::Model;
-use words::{Kind, Reg};
 
 /// The first word of a line, and what stands after the space behind it.
 fn next_word(line: &[u8]) -> (&[u8], Option<&[u8]>)
@@ -56,37 +54,51 @@ impl<'a> Words<'a> {
         Some(word)
     }
 
-    /// Takes the next word, which is to be a register's number.
-    pub fn register(&mut self) -> Option<Reg>
-        ensures { MatchOption result ((n : ℕ) (rest : List (List ℕ)) → n < REGISTERS → self.old ≡ decimal n ∷ rest → ⊥)
-            (λ n. (self.old ≡ decimal n ∷ self.new) × (n < REGISTERS)) }
+    /// Takes the next word, which is to be of this place.
+    fn next<A: Place>(&mut self) -> Option<A>
+        ensures { MatchOption result ((a : A) (rest : List (List ℕ)) → A.fits a → self.old ≡ A.text a ∷ rest → ⊥)
+            (λ a. (self.old ≡ A.text a ∷ self.new) × A.fits a) }
     {
         let Some(word) = self.word() else {
             return None;
         };
-        number::register(word)
+        A::read(word)
     }
 
-    /// Takes the next word, which is to be a number.
-    pub fn number(&mut self) -> Option<u64>
-        ensures { MatchOption result ((n : ℕ) (rest : List (List ℕ)) → n < word_end → self.old ≡ decimal n ∷ rest → ⊥)
-            (λ n. (self.old ≡ decimal n ∷ self.new) × (n < word_end)) }
+    /// Takes the last word, which is to be of this place.
+    pub fn one<A: Place>(&mut self) -> Option<A>
+        ensures { ReadsOne A.text A.fits self.old result }
     {
-        let Some(word) = self.word() else {
+        let Some(a) = self.next() else {
             return None;
         };
-        number::number(word)
+        self.is_done().then_some(a)
     }
 
-    /// Takes the next word, which is to be a kind's.
-    pub fn kind(&mut self) -> Option<Kind>
-        ensures { MatchOption result ((kind : Kind) (rest : List (List ℕ)) → self.old ≡ kind_word kind ∷ rest → ⊥)
-            (λ kind. self.old ≡ kind_word kind ∷ self.new) }
+    /// Takes the last two words, which are to be of these places.
+    pub fn two<A: Place, B: Place>(&mut self) -> Option<(A, B)>
+        ensures { ReadsTwo A.text A.fits B.text B.fits self.old result }
     {
-        let Some(word) = self.word() else {
+        let Some(a) = self.next() else {
             return None;
         };
-        number::kind(word)
+        let Some(b) = self.one() else {
+            return None;
+        };
+        Some((a, b))
+    }
+
+    /// Takes the last three words, which are to be of these places.
+    pub fn three<A: Place, B: Place, C: Place>(&mut self) -> Option<(A, B, C)>
+        ensures { ReadsThree A.text A.fits B.text B.fits C.text C.fits self.old result }
+    {
+        let Some(a) = self.next() else {
+            return None;
+        };
+        let Some((b, c)) = self.two() else {
+            return None;
+        };
+        Some((a, b, c))
     }
 
     /// Whether no word is left.

@@ -2,7 +2,7 @@
 ghost use Rattle.std.specs.Prelude.{◌≡◌, ℕ, ◌<◌, ◌≤◌, List, [], Some, Err};
 ghost use Rattle.words.specs.declared.limits.TheConstants.{MAX_PAGES};
 ghost use Rattle.heap_spec.specs.Heap.{opening};
-ghost use Rattle.plain_core.specs.Standing.{StandsFor};
+ghost use Rattle.heap_core.specs.Standing.{StandsFor};
 ghost use Rattle.mpheap.specs.Answers.{Serves};
 
 use crate::block::Block;
@@ -12,7 +12,7 @@ use crate::line::{Found, next_line};
 use crate::serve::answer_line;
 use crate::source::{Sink, Source};
 use arrayvec::ArrayVec;
-use plain_core::Core;
+use heap_core::Core;
 use std::alloc::Global;
 
 /// Runs the lines of a reader over a new core.

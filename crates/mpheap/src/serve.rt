@@ -1,18 +1,18 @@
 //! Commands over a heap. This is the one module that makes calls of the core.
 ghost use Rattle.std.specs.Prelude.{◌≡◌, ◌≤◌, ◌<◌, length, Err};
 ghost use Rattle.words.specs.declared.limits.TheConstants.{MAX_PAGES};
-ghost use Rattle.heap_spec.specs.Replies.{IsStep, done_reply, slot_reply, word_reply};
-ghost use Rattle.plain_core.specs.Standing.{StandsFor};
+ghost use Rattle.heap_spec.specs.Replies.{IsStep, count_reply, done_reply, slot_reply, word_reply};
+ghost use Rattle.heap_core.specs.Standing.{StandsFor};
 ghost use Rattle.mpheap.specs.declared.limits.TheConstants.{LINE_BYTES};
-ghost use Rattle.mpheap.specs.Served.{IsServed, IsServedCall};
+ghost use Rattle.mpheap.specs.Served.{IsServed};
 ghost use Rattle.mpheap.specs.Turns.{IsTurn};
 
 use crate::command::command;
 use crate::errors::ScriptError;
 use crate::print::print_reply;
 use crate::source::Sink;
+use heap_core::Core;
 use heap_spec::{Call, Event, Reply};
-use plain_core::Core;
 use words::{Refusal, Slot};
 
 fn done(answer: Result<(), Refusal>) -> Reply
@@ -33,6 +33,15 @@ fn word(answer: Result<u64, Refusal>) -> Reply
     }
 }
 
+fn count(answer: Result<u64, Refusal>) -> Reply
+    ensures { result ≡ count_reply answer }
+{
+    match answer {
+        Ok(count) => Reply::Count(count),
+        Err(refusal) => Reply::Refused(refusal),
+    }
+}
+
 fn slot_of(answer: Result<Slot, Refusal>) -> Reply
     ensures { result ≡ slot_reply answer }
 {
@@ -44,16 +53,25 @@ fn slot_of(answer: Result<Slot, Refusal>) -> Reply
 
 /// Makes a call of a slot.
 fn serve_call(core: &mut Core, slot: Slot, call: Call) -> Reply
-    requires { IsServedCall call }
     ensures { IsStep (StandsFor core.old) (Event.Mutator slot call) result (StandsFor core.new) }
 {
     match call {
         Call::Detach => done(core.detach(slot)),
         Call::Set(register, word) => done(core.set(slot, register, word)),
+        Call::Copy(into, from) => done(core.copy(slot, into, from)),
+        Call::Add(into, from, number) => done(core.add(slot, into, from, number)),
+        Call::Sub(into, from, less) => done(core.sub(slot, into, from, less)),
+        Call::Get(register) => word(core.get(slot, register)),
+        Call::Push(from) => done(core.push(slot, from)),
+        Call::Pop(into) => word(core.pop(slot, into)),
         Call::Load(into, at, offset) => word(core.load(slot, into, at, offset)),
         Call::Store(at, offset, from) => done(core.store(slot, at, offset, from)),
         Call::Alloc(into, words, kind) => done(core.alloc(slot, into, words, kind)),
-        _ => unreachable!(),
+        Call::Free(register) => done(core.free(slot, register)),
+        Call::Base(into, from) => word(core.base(slot, into, from)),
+        Call::Size(register) => count(core.size(slot, register)),
+        Call::GlobalGet(into, global) => word(core.gget(slot, into, global)),
+        Call::GlobalPut(global, from) => done(core.gput(slot, global, from)),
     }
 }
 

@@ -147,3 +147,26 @@ fn files(rt: HostRuntime) -> Result<(), Fail> {
     fs::remove_file(&rt, path)?;
     Ok(())
 }
+
+/// Where memory is refused, at whichever request, nothing was written, and where none is refused, all is. By itself this
+/// runs with ample memory; `rt try --test --fail-alloc N` refuses the N-th request.
+#[test]
+fn refused_memory(rt: HostRuntime) -> Result<(), Fail> {
+    let mut input = Script::new(SCRIPT.as_bytes());
+    let mut output = Taken::new(rt.alloc())?;
+    let mut errors = Taken::new(rt.alloc())?;
+    let words = ["run", "--pages", "4"];
+    let status = program(
+        rt.alloc(),
+        &rt,
+        &words,
+        &mut input,
+        &mut output,
+        &mut errors,
+    );
+    let seen = (output.text(), errors.text(), status);
+    let granted = (Some(REPLIES), Some(""), 0u8);
+    let refused = (Some(""), Some("no memory\n"), 1u8);
+    assert!(rt; seen == granted || seen == refused);
+    Ok(())
+}
