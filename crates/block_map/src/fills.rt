@@ -1,5 +1,5 @@
 //! Pages that change their state.
-ghost use Rattle.std.specs.Prelude.{◌≡◌, ℕ, ◌+◌, ◌^◌, ◌<◌, ◌≤◌, Bool, length, map, replicate, slice_set, vec_len, IfOk};
+ghost use Rattle.std.specs.Prelude.{◌≡◌, ◌+◌, ◌<◌, ◌≤◌, Bool, map, slice_set, vec_len, IfOk};
 ghost use Rattle.words.specs.declared.limits.TheConstants.{MAX_PAGES};
 ghost use Rattle.block_map.specs.States.{free, state_at, large_states, with_cell, HasCell, IsSpanSet, AreAllFree};
 ghost use Rattle.block_map.specs.Shown.{shown};

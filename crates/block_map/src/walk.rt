@@ -1,5 +1,5 @@
 //! The pages of a map one by one: what stands on a page, and its objects in their order.
-ghost use Rattle.std.specs.Prelude.{◌≡◌, ◌≢◌, ℕ, ◌+◌, ◌<◌, ◌≤◌, length, MatchOption, MatchBool};
+ghost use Rattle.std.specs.Prelude.{◌≡◌, ◌≢◌, ◌+◌, ◌<◌, ◌≤◌, length, MatchOption, MatchBool};
 ghost use Rattle.words.specs.declared.limits.TheConstants.{MAX_PAGES};
 ghost use Rattle.words.specs.Bits.{IsEmptyFrom};
 ghost use Rattle.block_map.specs.Places.{page_start, IsOnPage};
@@ -16,8 +16,6 @@ use words::PageNo;
 use words::limits::{FIRST_ADDRESS, PAGE_BYTES};
 
 impl BlockMap {
-    ghost use Rattle.block_map.specs.States.{IsLaid};
-
     /// Whether nothing stands on a page.
     pub fn is_free(&self, page: PageNo) -> bool
         requires { page < length self.now }

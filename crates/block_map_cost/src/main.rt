@@ -4,6 +4,7 @@
 
 use block_map::BlockMap;
 use pages::PagePool;
+use std::alloc::Global;
 use std::io;
 use std::rt::Clock;
 use std::time::Instant;
@@ -119,15 +120,41 @@ fn report<R: Eprint + Clock>(
     Ok(())
 }
 
-fn main(rt: HostRuntime) -> io::Result<()> {
-    let Ok(mut map) = BlockMap::new(rt.alloc(), MAX_PAGES) else {
-        return Ok(());
+// A map of the most pages: its lower half is cut for six words, and its upper half is one large object.
+fn open_map(alloc: Global) -> Option<BlockMap> {
+    let Ok(mut map) = BlockMap::new(alloc, MAX_PAGES) else {
+        return None;
     };
     map.cut_large(HALF, HALF, Kind::Normal);
     for page in 0..HALF {
         fill_page(&mut map, page);
     }
-    let mut words = vec![in rt.alloc(); 0u64; WORDS]?;
+    Some(map)
+}
+
+// A pool of the most pages, nearly all of them used.
+fn open_pool(alloc: Global) -> Option<PagePool> {
+    let Ok(mut pool) = PagePool::new(alloc, MAX_PAGES) else {
+        return None;
+    };
+    for _ in 0..340 {
+        let _first = pool.take_run(1);
+        let _second = pool.take_run(2);
+    }
+    Some(pool)
+}
+
+// Two of each three pages become free, but for the last ones.
+fn give_runs(pool: &mut PagePool) {
+    for third in 0..330 {
+        if 3 * third + 2 < pool.len() {
+            pool.give(3 * third + 1, 2);
+        }
+    }
+}
+
+// Words that read cells, words that read the large object, and words that read nothing.
+fn measure_finds<R: Eprint + Clock>(rt: &R, map: &BlockMap, words: &mut [u64]) -> io::Result<()> {
     let calls = u64::from(ROUNDS) * WORDS as u64;
     let half = PAGE_BYTES * u64::from(HALF);
     for (name, from, bytes) in [
@@ -135,26 +162,27 @@ fn main(rt: HostRuntime) -> io::Result<()> {
         ("find_large", FIRST_ADDRESS + half, half),
         ("find_none", 0, FIRST_ADDRESS),
     ] {
-        draw(words.as_mut_slice(), from, bytes);
-        let start = Instant::now(&rt)?;
-        let answer = find_all(&map, words.as_slice());
-        report(&rt, name, start, calls, answer)?;
+        draw(words, from, bytes);
+        let start = Instant::now(rt)?;
+        let answer = find_all(map, words);
+        report(rt, name, start, calls, answer)?;
     }
+    Ok(())
+}
+
+fn main(rt: HostRuntime) -> io::Result<()> {
+    let Some(map) = open_map(rt.alloc()) else {
+        return Ok(());
+    };
+    let mut words = vec![in rt.alloc(); 0u64; WORDS]?;
+    measure_finds(&rt, &map, words.as_mut_slice())?;
     let start = Instant::now(&rt)?;
     let count = walk_all(&map);
     report(&rt, "next_on_page", start, count, count)?;
-    let Ok(mut pool) = PagePool::new(rt.alloc(), MAX_PAGES) else {
+    let Some(mut pool) = open_pool(rt.alloc()) else {
         return Ok(());
     };
-    for _ in 0..340 {
-        let _first = pool.take_run(1);
-        let _second = pool.take_run(2);
-    }
-    for third in 0..330 {
-        if 3 * third + 2 < pool.len() {
-            pool.give(3 * third + 1, 2);
-        }
-    }
+    give_runs(&mut pool);
     let start = Instant::now(&rt)?;
     let answer = take_runs(&mut pool);
     report(&rt, "take_run", start, u64::from(ROUNDS), answer)?;

@@ -1,5 +1,5 @@
 //! Calls on a map that look first whether their conditions hold, and answer whether they did.
-ghost use Rattle.std.specs.Prelude.{◌≡◌, ℕ, ◌+◌, ◌<◌, ◌≤◌, length, true};
+ghost use Rattle.std.specs.Prelude.{◌≡◌, ◌+◌, ◌≤◌, length, true};
 ghost use Rattle.block_map_tests.specs.Spans.{IsFreeSpan};
 
 use block_map::BlockMap;

@@ -6,7 +6,7 @@ use Rattle.std.proofs.Math.Nat.{mul-le-mul_right, mul-le-mul_left}
 use Rattle.words.specs.Classes.{IsSizeClass}
 use Rattle.blocks.specs.Cells.{IsInCell, IsLeftOver}
 use Rattle.blocks.specs.Reciprocals.{IsReciprocal}
-use Rattle.blocks.proofs.Reciprocals.{quotient, product_fits, reciprocal, some_granules}
+use Rattle.blocks.proofs.Reciprocals.{quotient, product_fits}
 
 pub class_bounds : (c : ℕ) → IsSizeClass c → (2 ≤ c) × (c ≤ 256)
 class_bounds c h = grind (arith, nat_tests)

@@ -1,6 +1,6 @@
 //! A page that is cut into cells of one class. Contracts see the class, the kind and the row of its cells, in which
 //! true is an allocated cell.
-ghost use Rattle.std.specs.Prelude.{◌≡◌, ℕ, ◌+◌, ◌*◌, ◌/◌, ◌%◌, ◌<◌, ◌≤◌, Bool, true, false, List, length, replicate, slice_index_or, slice_set, MatchOption, MatchBool};
+ghost use Rattle.std.specs.Prelude.{◌≡◌, ℕ, ◌*◌, ◌/◌, ◌%◌, ◌<◌, true, false, length, replicate, slice_index_or, slice_set, MatchOption, MatchBool};
 ghost use Rattle.words.specs.declared.limits.TheConstants.{PAGE_WORDS, PAGE_BYTES};
 ghost use Rattle.words.specs.Bits.{IsFullRow, IsEmptyFrom, IsFirstFrom, IsFirstClear};
 ghost use Rattle.words.specs.Classes.{IsSizeClass};

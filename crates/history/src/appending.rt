@@ -1,5 +1,5 @@
-// The three steps that make the history longer. Each is one `fetch_add` by the keeper's seat: only its view has the history to
-// append to. The event joins the history and its slot's pass, which is the keeper's guest, in that one moment.
+//! The three steps that make the history longer. Each is one `fetch_add` by the keeper's seat: only its view has the history to
+//! append to. The event joins the history and its slot's pass, which is the keeper's guest, in that one moment.
 ghost use Rattle.std.specs.Prelude.{◌≡◌, [], ◌∷◌, true, false};
 ghost use Rattle.history.specs.Histories.{event, weight, is_first, is_last, is_live, Legal};
 ghost use Rattle.history.specs.Plays.{Acted, Began, Ended, MayAppend};

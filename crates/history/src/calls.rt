@@ -1,6 +1,6 @@
-// The three calls that are events. Each is made under the lock. The object acts first, since the event has its reply, and no other
-// call comes between, since only this lock's holder has the keeper's seat.
-ghost use Rattle.std.specs.Prelude.{◌≡◌, ◌<◌, [], ◌∷◌, ◌++◌, true, false};
+//! The three calls that are events. Each is made under the lock. The object acts first, since the event has its reply, and no other
+//! call comes between, since only this lock's holder has the keeper's seat.
+ghost use Rattle.std.specs.Prelude.{◌≡◌, ◌<◌, [], ◌∷◌, ◌++◌, false};
 ghost use mathlib.Core.List.{IsPrefix};
 ghost use Rattle.history.specs.declared.object.TheConstants.{COLLECTOR as collector};
 ghost use Rattle.history.specs.declared.object.Rank.TheVariants.{First, Last};

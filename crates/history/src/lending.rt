@@ -1,6 +1,6 @@
-// How the rights of a pass go to another seat and back. Each half is a load of the word, which it ignores: a view changes only at a
-// step. What two seats have together stays the same, so the rule is kept whatever the table is.
-ghost use Rattle.std.specs.Prelude.{◌≡◌, true, false};
+//! How the rights of a pass go to another seat and back. Each half is a load of the word, which it ignores: a view changes only at a
+//! step. What two seats have together stays the same, so the rule is kept whatever the table is.
+ghost use Rattle.std.specs.Prelude.{◌≡◌};
 ghost use Rattle.history.specs.Views.{without_pass, only_pass, with_guest, without_guest, only_guest, with_pass, nobody};
 
 use crate::log::Log;

@@ -1,4 +1,4 @@
-// The calls that are no events: a pass learns more of the history, which stays as it is. Each has one load by which it learns.
+//! The calls that are no events: a pass learns more of the history, which stays as it is. Each has one load by which it learns.
 ghost use Rattle.std.specs.Prelude.{◌≡◌, ◌≢◌, ◌%◌, ◌^◌, ◌⊎◌};
 ghost use mathlib.Core.List.{IsPrefix};
 ghost use Rattle.history.specs.Histories.{count, Legal};

@@ -1,4 +1,4 @@
-// What a seat knows. No value of these types is ever made: a view is the ghost value of a seat.
+//! What a seat knows. No value of these types is ever made: a view is the ghost value of a seat.
 use crate::event::Event;
 use std::collections::LinkedList;
 

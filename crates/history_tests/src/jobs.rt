@@ -1,4 +1,4 @@
-// Mutators in threads, each with its own calls, and the one history that they leave.
+//! Mutators in threads, each with its own calls, and the one history that they leave.
 ghost use Rattle.std.specs.Prelude.{◌≡◌, All, length};
 ghost use mathlib.Core.List.{IsPrefix};
 ghost use Rattle.history_tests.specs.Calls.{IsPlainCall, IsFine, Ran, Keeps};

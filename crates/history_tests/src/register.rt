@@ -1,4 +1,5 @@
-ghost use Rattle.std.specs.Prelude.{◌≡◌, ◌<◌, true, false, slice_index_or};
+//! A small object to try a history on.
+ghost use Rattle.std.specs.Prelude.{true, false};
 
 use history::{Object, Rank};
 
@@ -23,6 +24,7 @@ pub enum Call {
     Collect,
 }
 
+/// What a call is answered: the slot that came, that it is done, or the number before it.
 #[derive(Clone, Copy)]
 pub enum Reply {
     Slot(u8),

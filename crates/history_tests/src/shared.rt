@@ -219,13 +219,13 @@ impl<J: Naming> SharedRegister<J> {
     }
 
     /// Both have then seen what one of them had.
-    pub fn meet_collector(&self, a: &mut Mutator<J>, b: &mut Collector<J>)
-        ensures one { IsPrefix a.old.seen b.old.seen ⊎ IsPrefix b.old.seen a.old.seen }
-        ensures a { a.new ≡ record { slot = a.old.slot; seen = longer a.old.seen b.old.seen; mine = a.old.mine } }
-        ensures b { b.new ≡ record { slot = b.old.slot; seen = longer a.old.seen b.old.seen; mine = b.old.mine } }
-        ensures a_fine { IsFine a.new }
-        ensures b_fine { IsFine b.new }
+    pub fn meet_collector(&self, me: &mut Mutator<J>, other: &mut Collector<J>)
+        ensures one { IsPrefix me.old.seen other.old.seen ⊎ IsPrefix other.old.seen me.old.seen }
+        ensures me { me.new ≡ record { slot = me.old.slot; seen = longer me.old.seen other.old.seen; mine = me.old.mine } }
+        ensures other { other.new ≡ record { slot = other.old.slot; seen = longer me.old.seen other.old.seen; mine = other.old.mine } }
+        ensures me_fine { IsFine me.new }
+        ensures other_fine { IsFine other.new }
     {
-        self.log.meet(&mut a.pass, &mut b.pass);
+        self.log.meet(&mut me.pass, &mut other.pass);
     }
 }

@@ -14,6 +14,7 @@ use std::marker::Sync;
 use std::thread;
 use std::thread::Threads;
 use words::OpenError;
+use words::limits::MAX_HELPERS;
 
 /// What one thread claims with, and how many of its claims were the first.
 #[derive(Drop)]
@@ -53,7 +54,7 @@ fn claim_side_by_side<R: Threads + Sync>(
     {
         claim_each(table, granules, helper);
     };
-    thread::for_each_mut(rt, crew, 8, &work);
+    thread::for_each_mut(rt, crew, MAX_HELPERS as usize, &work);
 }
 
 // Cuts off a claimer for each helper.

@@ -2,7 +2,8 @@
 //! It prints a line for each step and number of threads: its name, the threads, and picoseconds a step.
 #![tactic(auto)]
 
-ghost use Rattle.std.specs.Prelude.{◌≡◌, ◌+◌, ◌<◌, ◌≤◌, length, All, IfOk, vec_len};
+ghost use Rattle.std.specs.Prelude.{◌≡◌, ◌+◌, ◌<◌, ◌≤◌, length, All, IfOk};
+ghost use Rattle.words.specs.declared.limits.TheConstants.{MAX_HELPERS};
 ghost use Rattle.mark_bits.specs.Tables.{view, start_of, IsOf};
 ghost use Rattle.mark_table_cost.specs.Ready.{IsReady};
 
@@ -13,7 +14,7 @@ use std::rt::Clock;
 use std::thread::Threads;
 use std::time::Instant;
 use std::{io, thread};
-use words::limits::MAX_PAGES;
+use words::limits::{MAX_HELPERS, MAX_PAGES, PAGE_GRANULES};
 
 const ROUNDS: u8 = 10;
 
@@ -53,7 +54,7 @@ fn claim_side_by_side<R: Threads + Sync>(
     {
         claim_each(table, granules, me);
     };
-    thread::for_each_mut(rt, crew, 8, &work);
+    thread::for_each_mut(rt, crew, MAX_HELPERS as usize, &work);
 }
 
 fn look_side_by_side<R: Threads + Sync>(
@@ -72,7 +73,7 @@ fn look_side_by_side<R: Threads + Sync>(
     {
         look_each(table, granules, me);
     };
-    thread::for_each_mut(rt, crew, 8, &work);
+    thread::for_each_mut(rt, crew, MAX_HELPERS as usize, &work);
 }
 
 fn hire(
@@ -94,7 +95,7 @@ fn hire(
 
 // Nanoseconds of a claim of all bits by each helper, and of a look at all bits.
 fn cost<R: Threads + Sync + Clock>(rt: &R, alloc: Global, helpers: u8) -> io::Result<(u128, u128)>
-    requires { helpers ≤ 8 }
+    requires { helpers ≤ MAX_HELPERS }
 {
     let marks = Marks::new(alloc, MAX_PAGES)?;
     let Ok((table, mut first)) = MarkTable::new(alloc, &marks) else {
@@ -110,7 +111,7 @@ fn cost<R: Threads + Sync + Clock>(rt: &R, alloc: Global, helpers: u8) -> io::Re
 }
 
 fn main(rt: HostRuntime) -> io::Result<()> {
-    let bits = 262_144u128;
+    let bits = u128::from(PAGE_GRANULES) * u128::from(MAX_PAGES);
     for helpers in [1u8, 2, 4] {
         let mut least = (u128::MAX, u128::MAX);
         for _ in 0..ROUNDS {

@@ -1,5 +1,5 @@
 //! The words of the heap, seen as their list.
-ghost use Rattle.std.specs.Prelude.{◌≡◌, ℕ, ◌+◌, ◌*◌, ◌^◌, ◌<◌, ◌≤◌, List, length, vec_len};
+ghost use Rattle.std.specs.Prelude.{◌≡◌, ℕ, ◌+◌, ◌*◌, ◌<◌, ◌≤◌, List, length, vec_len};
 ghost use Rattle.words.specs.declared.limits.TheConstants.{PAGE_WORDS, MAX_PAGES, FIRST_ADDRESS};
 ghost use Rattle.pages.specs.Memory.{IsWordAddress, IsZeroMemory, IsZeroed, place, word_at, with_word_at};
 ghost use Rattle.pages.specs.Opening.{IsOpened};

@@ -1,5 +1,5 @@
 //! Reads of the heap that contracts count. A reader lends no memory, and costs nothing when it runs.
-ghost use Rattle.std.specs.Prelude.{◌≡◌, ℕ, ◌+◌, List};
+ghost use Rattle.std.specs.Prelude.{◌≡◌, ◌+◌};
 ghost use Rattle.pages.specs.Memory.{IsWordAddress, word_at};
 
 use crate::count::Count;
@@ -14,7 +14,6 @@ pub struct Reader<'a> {
 }
 
 impl<'a> Model for Reader<'a> {
-    ghost use Rattle.std.specs.Prelude.{ℕ, List};
     ghost use Rattle.pages.specs.Reads.{Reading};
 
     ghost Value = { Reading };

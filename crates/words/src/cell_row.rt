@@ -1,5 +1,5 @@
 //! A row of at most 256 bits that lies in the value itself, seen as the list of its bits.
-ghost use Rattle.std.specs.Prelude.{◌≡◌, ℕ, ◌+◌, ◌*◌, ◌/◌, ◌^◌, ◌<◌, ◌≤◌, Bool, true, false, List, length, replicate, slice_index_or, slice_set, MatchOption, MatchBool};
+ghost use Rattle.std.specs.Prelude.{◌≡◌, ℕ, ◌/◌, ◌<◌, ◌≤◌, Bool, true, false, List, length, replicate, slice_index_or, slice_set, MatchOption, MatchBool};
 ghost use Rattle.words.specs.Bits.{bits, IsFullRow, IsEmptyFrom, IsFirstFrom, IsFirstClear};
 
 use crate::scan::{one_from, zero_from};

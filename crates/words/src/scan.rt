@@ -1,6 +1,6 @@
 //! The lowest bit of a row of words that is set, or that is not: whole words are passed over, and
 //! `trailing_zeros` finds the bit in its word.
-ghost use Rattle.std.specs.Prelude.{◌≡◌, ◌≢◌, ◌%◌, ℕ, ◌+◌, ◌*◌, ◌/◌, ◌^◌, ◌<◌, ◌≤◌, Bool, true, false, List, length};
+ghost use Rattle.std.specs.Prelude.{◌%◌, ◌+◌, ◌*◌, ◌/◌, ◌^◌, ◌<◌, ◌≤◌, length};
 ghost use Rattle.words.specs.Bits.{bit, IsOneFrom, IsZeroFrom};
 
 // The place of the lowest bit that is set from the word `start` on, or the number of all bits.
