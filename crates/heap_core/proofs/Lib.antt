@@ -1,9 +1,11 @@
 pub mod Tables
+pub mod OpenRows
 pub mod Shown
 pub mod Changes
 pub mod Roots
 pub mod Lookups
 pub mod Rooms
+pub mod OpenPages
 pub mod Allocations
 pub mod Opening
 pub mod Frees

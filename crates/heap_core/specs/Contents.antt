@@ -4,6 +4,7 @@ use Rattle.words.specs.declared.limits.TheConstants.{PAGE_WORDS}
 use Rattle.blocks.specs.Cells.{Cells}
 use Rattle.block_map.specs.States.{PageState, free, cut, state_at}
 use Rattle.roots.specs.Roots.{RootSet}
+use Rattle.heap_core.specs.OpenRows.{IsExact}
 
 -- Where the objects are: the words of the memory, the row of the pool, in which true is a free page, and what stands
 -- on each page.
@@ -36,3 +37,8 @@ pub record IsSound (t : Store) : Type 0 where
   pub words : length t.words ≡ PAGE_WORDS * length t.states
   pub agree : Agree t.free t.states
   pub used : HasObjects t.states
+
+-- What is true of the objects of each heap: their store is sound, and the rows of pages with a free cell are exact.
+pub record IsKept (t : Store) (rows : List (List Bool)) : Type 0 where
+  pub sound : IsSound t
+  pub exact : IsExact rows t.states

@@ -1,3 +1,4 @@
 pub mod Contents
+pub mod OpenRows
 pub mod Rooms
 pub mod Standing

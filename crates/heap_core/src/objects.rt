@@ -9,8 +9,10 @@ ghost use Rattle.block_map.specs.FoundIn.{found_in, IsLawful};
 ghost use Rattle.heap_core.specs.Standing.{Stores};
 
 mod frees;
+mod open_pages;
 mod rooms;
 
+use self::open_pages::OpenPages;
 use block_map::{BlockMap, Found};
 use pages::{Memory, PagePool};
 use std::alloc::Global;
@@ -23,16 +25,17 @@ pub struct Objects {
     memory: Memory,
     pool: PagePool,
     map: BlockMap,
+    open_pages: OpenPages,
 }
 
 impl Model for Objects {
-    ghost use Rattle.heap_core.specs.Contents.{Store, IsSound};
+    ghost use Rattle.heap_core.specs.Contents.{Store, IsKept};
 
     ghost Value = { Store };
 
     ghost view = { λ o. record { words = o.memory; free = o.pool; states = o.map } };
 
-    ghost invariant = { λ o. IsSound (record { words = o.memory; free = o.pool; states = o.map }) };
+    ghost invariant = { λ o. IsKept (record { words = o.memory; free = o.pool; states = o.map }) o.open_pages };
 }
 
 impl Objects {
@@ -43,7 +46,15 @@ impl Objects {
         let memory = Memory::new(alloc, pages)?;
         let pool = PagePool::new(alloc, pages)?;
         let map = BlockMap::new(alloc, pages)?;
-        Ok(Objects { memory, pool, map })
+        let Ok(open_pages) = OpenPages::new(alloc, pages) else {
+            return Err(OpenError::Memory);
+        };
+        Ok(Objects {
+            memory,
+            pool,
+            map,
+            open_pages,
+        })
     }
 
     /// The object that a word reads.

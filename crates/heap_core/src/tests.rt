@@ -1,7 +1,7 @@
 use crate::Core;
 use std::test::Fail;
 use words::limits::{FIRST_ADDRESS, MAX_REQUEST_WORDS, PAGE_WORDS};
-use words::{CLASSES, Kind, Refusal, Reg, Slot};
+use words::{Kind, Refusal, Reg, Slot};
 
 fn reg(number: u8) -> Result<Reg, Fail> {
     Ok(Reg::new(number).ok_or("a register")?)
@@ -28,38 +28,6 @@ fn words_are_stored_and_loaded(rt: HostRuntime) -> Result<(), Fail> {
     assert_eq!(rt; core.add(slot, copy, object, 31), Ok(()));
     assert_eq!(rt; core.base(slot, word, copy), Ok(FIRST_ADDRESS));
     assert_eq!(rt; core.load(slot, word, copy, 0), Err(Refusal::Misaligned));
-    Ok(())
-}
-
-#[test]
-fn each_class_is_filled_and_emptied(rt: HostRuntime) -> Result<(), Fail> {
-    for class in CLASSES {
-        let words = u64::from(class);
-        let (mut core, slot) = core_of(&rt, 2)?;
-        let object = reg(0)?;
-        let mut bases = Vec::new(rt.alloc());
-        for _ in 0..2 * PAGE_WORDS {
-            if core.alloc(slot, object, words, Kind::Normal) != Ok(()) {
-                break;
-            }
-            assert_eq!(rt; core.size(slot, object), Ok(words));
-            bases.push(core.get(slot, object).ok().ok_or("a base")?)?;
-        }
-        assert_eq!(rt; PAGE_WORDS.checked_div(words), Some(bases.len() as u64 / 2));
-        assert_eq!(rt;
-            core.alloc(slot, object, words, Kind::Normal),
-            Err(Refusal::Full)
-        );
-        for base in &bases {
-            assert_eq!(rt; core.set(slot, object, *base), Ok(()));
-            assert_eq!(rt; core.free(slot, object), Ok(()));
-            assert_eq!(rt; core.free(slot, object), Err(Refusal::NoObject));
-        }
-        assert_eq!(rt;
-            core.alloc(slot, object, 2 * PAGE_WORDS, Kind::Normal),
-            Ok(())
-        );
-    }
     Ok(())
 }
 
@@ -108,12 +76,5 @@ fn refusals_come_in_their_order(rt: HostRuntime) -> Result<(), Fail> {
     assert_eq!(rt; core.add(slot, inner, object, 16), Ok(()));
     assert_eq!(rt; core.free(slot, inner), Err(Refusal::NoObject));
     assert_eq!(rt; core.size(slot, inner), Err(Refusal::NoObject));
-    Ok(())
-}
-
-#[test]
-fn heaps_have_some_pages(rt: HostRuntime) -> Result<(), Fail> {
-    assert!(rt; Core::new(rt.alloc(), 0).is_err() && Core::new(rt.alloc(), 1025).is_err());
-    assert!(rt; Core::new(rt.alloc(), 1024).is_ok());
     Ok(())
 }

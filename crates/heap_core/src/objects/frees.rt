@@ -4,32 +4,46 @@ ghost use Rattle.words.specs.declared.class.Kind.{Kind};
 ghost use Rattle.pages.specs.Runs.{IsFilled};
 ghost use Rattle.block_map.specs.Changes.{IsRemoved};
 ghost use Rattle.block_map.specs.FoundIn.{found_in, IsLawful};
-ghost use Rattle.block_map.specs.States.{free, head, state_at, HasCell, IsSpanSet};
+ghost use Rattle.block_map.specs.States.{free, head, state_at, HasCell, IsLaid, IsSpanSet};
 ghost use Rattle.block_map.specs.Objects.{large_object};
+ghost use Rattle.heap_core.specs.OpenRows.{IsExact};
 ghost use Rattle.heap_core.specs.Rooms.{Frees, FreesCell};
 
 use super::Objects;
+use super::open_pages::OpenPages;
 use block_map::{BlockMap, Found};
 use pages::PagePool;
 use words::PageNo;
 use words::limits::PAGE_WORDS;
 
 // Frees a cell, and its page with the last one.
-fn free_cell(pool: &mut PagePool, map: &mut BlockMap, page: PageNo, cell: u16)
+fn free_cell(
+    pool: &mut PagePool,
+    map: &mut BlockMap,
+    open_pages: &mut OpenPages,
+    page: PageNo,
+    cell: u16,
+)
     requires inside { page < length map.old }
     requires cell { HasCell (state_at map.old page) cell true }
     requires size { length pool.old ≡ length map.old }
-    ensures { FreesCell pool.old pool.new map.old map.new page cell }
+    requires exact { IsExact open_pages.old map.old }
+    ensures freed { FreesCell pool.old pool.new map.old map.new page cell }
+    ensures exact { IsExact open_pages.new map.new }
 {
     map.put(page, cell);
     let Some(block) = map.block(page) else {
         unreachable!();
     };
+    let class = block.class();
+    let kind = block.kind();
     if !block.is_empty() {
+        open_pages.enter(class, kind, page);
         return;
     }
     map.uncut(page);
     pool.give(page, 1);
+    open_pages.leave(class, kind, page);
 }
 
 // Frees all pages of the large object that begins on a page.
@@ -39,7 +53,10 @@ fn free_large(pool: &mut PagePool, map: &mut BlockMap, page: PageNo, pages: u32)
     ensures pool { IsFilled pool.old pool.new page pages true }
     ensures map { IsSpanSet map.old map.new page pages (λ _. free) }
     ensures removed { (kind : Kind) → state_at map.old page ≡ head pages kind → IsRemoved (found_in map.old) (found_in map.new) (large_object page pages kind) }
+    ensures laid { IsLaid map.old }
 {
+    // Its clauses tell what is true of the map.
+    let _pages = map.len();
     map.uncut(page);
     pool.give(page, pages);
 }
@@ -53,7 +70,13 @@ impl Objects {
     {
         let page = found.page;
         match self.map.block(page) {
-            Some(_) => free_cell(&mut self.pool, &mut self.map, page, found.cell),
+            Some(_) => free_cell(
+                &mut self.pool,
+                &mut self.map,
+                &mut self.open_pages,
+                page,
+                found.cell,
+            ),
             None => free_large(
                 &mut self.pool,
                 &mut self.map,

@@ -1,17 +1,19 @@
 //! Where a new object goes: into a cell of a page that is cut for its class and kind, onto a page that is cut for it now,
 //! or onto pages of its own.
-ghost use Rattle.std.specs.Prelude.{◌≡◌, ℕ, ◌*◌, ◌<◌, IfNone, IfSome, length};
+ghost use Rattle.std.specs.Prelude.{◌≡◌, ◌*◌, ◌<◌, IfNone, IfSome, MatchBool, length};
 ghost use Rattle.words.specs.declared.limits.TheConstants.{PAGE_WORDS};
 ghost use Rattle.words.specs.Classes.{IsSizeClass};
-ghost use Rattle.words.specs.declared.class.Kind.{Kind};
 ghost use Rattle.heap_spec.specs.Layout.{page_start};
 ghost use Rattle.pages.specs.Runs.{HasNoFreeRun};
+ghost use Rattle.blocks.specs.Cells.{Cells};
 ghost use Rattle.block_map.specs.FoundIn.{IsLawful};
-ghost use Rattle.block_map.specs.States.{IsLaid};
+ghost use Rattle.block_map.specs.States.{cut, state_at, IsCut, IsLaid};
 ghost use Rattle.heap_core.specs.Contents.{Agree};
+ghost use Rattle.heap_core.specs.OpenRows.{HasFreeCell, IsExact};
 ghost use Rattle.heap_core.specs.Rooms.{IsSized, IsFreeCell, HasNoFreeCell, TakesCell, CutsPage, Allocates, HasNoRoom};
 
 use super::Objects;
+use super::open_pages::OpenPages;
 use block_map::BlockMap;
 use pages::{Memory, PagePool};
 use words::limits::{FIRST_ADDRESS, PAGE_BYTES, PAGE_WORDS, PageNo, WORD_BYTES};
@@ -31,63 +33,88 @@ fn start_of(page: PageNo) -> u64
     FIRST_ADDRESS + PAGE_BYTES * u64::from(page)
 }
 
-// A free cell of the page, if it is cut for the class and the kind.
-fn cell_on(map: &BlockMap, page: PageNo, class: Class, kind: Kind) -> Option<u16>
-    requires { page < length map.now }
-    ensures some { IfSome result (λ cell. IsFreeCell map.now class kind page cell) }
-    ensures none { IfNone result ((cell : ℕ) → IsFreeCell map.now class kind page cell → ⊥) }
-{
-    let Some(block) = map.block(page) else {
-        return None;
-    };
-    if block.class().words() != class.words() {
-        return None;
-    }
-    if block.kind() != kind {
-        return None;
-    }
-    block.free_cell()
-}
-
-// A free cell of a page that is cut for the class and the kind.
-fn find_cell(map: &BlockMap, class: Class, kind: Kind) -> Option<Place>
+// A free cell of the lowest page that has one for the class and the kind.
+fn find_cell(open_pages: &OpenPages, map: &BlockMap, class: Class, kind: Kind) -> Option<Place>
+    requires { IsExact open_pages.now map.now }
     ensures some { IfSome result (λ place. IsFreeCell map.now class kind place.page place.cell) }
     ensures none { IfNone result (HasNoFreeCell map.now class kind) }
+    ensures class { IsSizeClass class }
     ensures laid { IsLaid map.now }
     ensures lawful { IsLawful map.now }
 {
-    for page in 0..map.len() {
-        if let Some(cell) = cell_on(map, page, class, kind) {
-            return Some(Place { page, cell });
-        }
-    }
-    None
+    // Its clauses tell what is true of the map.
+    let _pages = map.len();
+    let Some(page) = open_pages.first(class, kind) else {
+        return None;
+    };
+    let page = page as PageNo;
+    let Some(block) = map.block(page) else {
+        unreachable!();
+    };
+    let Some(cell) = block.free_cell() else {
+        unreachable!();
+    };
+    Some(Place { page, cell })
 }
 
 // Takes a free page, and cuts it.
-fn cut_page(pool: &mut PagePool, map: &mut BlockMap, class: Class, kind: Kind) -> Option<Place>
-    requires { Agree pool.old map.old }
+fn cut_page(
+    pool: &mut PagePool,
+    map: &mut BlockMap,
+    open_pages: &mut OpenPages,
+    class: Class,
+    kind: Kind,
+) -> Option<Place>
+    requires agree { Agree pool.old map.old }
+    requires exact { IsExact open_pages.old map.old }
+    requires class { IsSizeClass class }
     ensures some { IfSome result (λ place. (place.cell ≡ 0) × CutsPage pool.old pool.new map.old map.new class kind place.page) }
     ensures none { IfNone result (HasNoFreeRun pool.old 1 × (pool.new ≡ pool.old) × (map.new ≡ map.old)) }
+    ensures exact { IsExact open_pages.new map.new }
 {
     let Some(page) = pool.take_run(1) else {
         return None;
     };
     map.cut(page, class, kind);
+    open_pages.enter(class, kind, page);
     Some(Place { page, cell: 0 })
 }
 
+// Whether all cells of a page that is cut are allocated.
+fn is_full(map: &BlockMap, page: PageNo) -> bool
+    requires inside { page < length map.now }
+    requires cut { IsCut (state_at map.now page) }
+    ensures { (b : Cells) → state_at map.now page ≡ cut b → MatchBool result (HasFreeCell b b.class b.kind → ⊥) (HasFreeCell b b.class b.kind) }
+{
+    let Some(block) = map.block(page) else {
+        unreachable!();
+    };
+    block.free_cell().is_none()
+}
+
 // Takes a free cell, and writes 0 into its words.
-fn take_cell(memory: &mut Memory, map: &mut BlockMap, place: Place, words: u16) -> u64
-    requires cell { (kind : Kind) × IsFreeCell map.old words kind place.page place.cell }
-    requires class { IsSizeClass words }
+fn take_cell(
+    memory: &mut Memory,
+    map: &mut BlockMap,
+    open_pages: &mut OpenPages,
+    place: Place,
+    class: Class,
+    kind: Kind,
+) -> u64
+    requires cell { IsFreeCell map.old class kind place.page place.cell }
     requires long { length memory.old ≡ PAGE_WORDS * length map.old }
     requires laid { IsLaid map.old }
-    ensures { TakesCell memory.old memory.new map.old map.new place.page place.cell result }
+    requires exact { IsExact open_pages.old map.old }
+    ensures takes { TakesCell memory.old memory.new map.old map.new place.page place.cell result }
+    ensures exact { IsExact open_pages.new map.new }
 {
+    let words = class.words();
     let base = start_of(place.page) + u64::from(place.cell) * (WORD_BYTES * u64::from(words));
     map.take(place.page, place.cell);
     memory.zero(base, u32::from(words));
+    if is_full(map, place.page) {
+        open_pages.leave(class, kind, place.page);
+    }
     base
 }
 
@@ -97,14 +124,33 @@ impl Objects {
         ensures some { IfSome result (λ base. Allocates self.old (Placement.Small class) kind base self.new) }
         ensures none { IfNone result (HasNoRoom self.old (Placement.Small class) kind × (self.new ≡ self.old)) }
     {
-        let words = class.words();
-        if let Some(place) = find_cell(&self.map, class, kind) {
-            return Some(take_cell(&mut self.memory, &mut self.map, place, words));
+        if let Some(place) = find_cell(&self.open_pages, &self.map, class, kind) {
+            return Some(take_cell(
+                &mut self.memory,
+                &mut self.map,
+                &mut self.open_pages,
+                place,
+                class,
+                kind,
+            ));
         }
-        let Some(place) = cut_page(&mut self.pool, &mut self.map, class, kind) else {
+        let Some(place) = cut_page(
+            &mut self.pool,
+            &mut self.map,
+            &mut self.open_pages,
+            class,
+            kind,
+        ) else {
             return None;
         };
-        Some(take_cell(&mut self.memory, &mut self.map, place, words))
+        Some(take_cell(
+            &mut self.memory,
+            &mut self.map,
+            &mut self.open_pages,
+            place,
+            class,
+            kind,
+        ))
     }
 
     // A place for a large object.

@@ -1,6 +1,7 @@
 use Rattle.std.proofs.Common.{◌≡◌, ℕ, ◌/◌, Bool, List, arith}
 use Rattle.heap_core.specs.Contents.{Store, store_of}
 use Rattle.heap_core.proofs.Frees.{on_page, in_block, large_here, sound_freed, frees_cell, sound_large_gone, frees_large}
+use Rattle.heap_core.proofs.OpenPages.{exact_large_gone}
 use Rattle.heap_core.proofs.objects.Objects.release.Goals as goal
 
 pub block-requires : goal.block-requires
@@ -17,22 +18,35 @@ pub free_large-requires-clause-large : goal.free_large-requires-clause-large
 free_large-requires-clause-large c =
     let t : Store = store_of c.self.inside.memory c.self.inside.pool c.self.inside.map in
     let l = large_here t c.args.found (rw (← c.self.view_is) at c.requires.lawful) (rw (← c.self.view_is) at c.requires.found) c.in-None.ensures in
-    let size = c.self.invariant.agree.size in let ends = l.3 in
+    let size = c.self.invariant.sound.agree.size in let ends = l.3 in
     (l.0, l.1, l.2, omega arith)
 
 pub invariant_of-self : goal.invariant_of-self
 invariant_of-self c =
     let t : Store = store_of c.self.inside.memory c.self.inside.pool c.self.inside.map in
     let o = on_page t c.args.found (rw (← c.self.view_is) at c.requires.lawful) (rw (← c.self.view_is) at c.requires.found) in
-    sound_freed t c.self.invariant c.args.found.page c.args.found.cell c.in-Some.field-0.now c.in-Some.ensures o.page c.free_cell.new.pool c.free_cell.new.map c.free_cell.ensures.pages
+    record {
+      sound = sound_freed t c.self.invariant.sound c.args.found.page c.args.found.cell c.in-Some.field-0.now c.in-Some.ensures o.page c.free_cell.new.pool c.free_cell.new.map c.free_cell.ensures.freed.pages;
+      exact = c.free_cell.ensures.exact;
+    }
+
+pub invariant_of-self-in-None : goal.invariant_of-self-in-None
+invariant_of-self-in-None c =
+    let t : Store = store_of c.self.inside.memory c.self.inside.pool c.self.inside.map in
+    let l = large_here t c.args.found (rw (← c.self.view_is) at c.requires.lawful) (rw (← c.self.view_is) at c.requires.found) c.in-None.ensures in
+    let ends = l.3 in let some = l.2 in
+    record {
+      sound = sound_large_gone t c.free_large.new.pool c.free_large.new.map c.args.found.page (c.args.found.len / 512) c.self.invariant.sound c.free_large.ensures.pool c.free_large.ensures.map;
+      exact = exact_large_gone _ t.states c.free_large.new.map c.args.found.page (c.args.found.len / 512) l.0 c.self.invariant.exact c.free_large.ensures.laid (omega arith) l.1 c.free_large.ensures.map;
+    }
 
 pub returns-in-Some : goal.returns-in-Some
 returns-in-Some c =
     let t : Store = store_of c.self.inside.memory c.self.inside.pool c.self.inside.map in
     let o = on_page t c.args.found (rw (← c.self.view_is) at c.requires.lawful) (rw (← c.self.view_is) at c.requires.found) in
     rw (← c.self.view_is)
-    (frees_cell t c.self.invariant c.args.found.page c.args.found.cell c.in-Some.field-0.now c.in-Some.ensures o.page c.free_cell.new.pool c.free_cell.new.map c.args.found
-    (rw (← c.self.view_is) at c.requires.lawful) (rw (← c.self.view_is) at c.requires.found) (in_block t c.args.found c.in-Some.field-0.now o c.in-Some.ensures).0 c.free_cell.ensures)
+    (frees_cell t c.self.invariant.sound c.args.found.page c.args.found.cell c.in-Some.field-0.now c.in-Some.ensures o.page c.free_cell.new.pool c.free_cell.new.map c.args.found
+    (rw (← c.self.view_is) at c.requires.lawful) (rw (← c.self.view_is) at c.requires.found) (in_block t c.args.found c.in-Some.field-0.now o c.in-Some.ensures).0 c.free_cell.ensures.freed)
 
 pub returns-in-None : goal.returns-in-None
 returns-in-None c =
