@@ -1,0 +1,3 @@
+pub mod Marked
+pub mod Newcomers
+pub mod Spans

@@ -1,0 +1,202 @@
+//! A heap beside the test's own account of it.
+use crate::graph::Graph;
+use crate::heap::Heap;
+use block_map::Found;
+use std::alloc::Global;
+use std::process::Abort;
+use std::test::Fail;
+use words::{Kind, PageNo};
+
+/// A heap, and what was put there.
+#[derive(Drop)]
+pub(crate) struct Scene {
+    pub(crate) alloc: Global,
+    pub(crate) heap: Heap,
+    pub(crate) graph: Graph,
+}
+
+/// The address of a word of an object.
+pub(crate) fn word_of(found: Found, index: u32) -> u64 {
+    found.base.wrapping_add(8 * u64::from(index))
+}
+
+impl Scene {
+    /// So many pages with no object.
+    pub(crate) fn open(alloc: Global, pages: u32) -> Result<Scene, Fail> {
+        let heap = Heap::open(alloc, pages).ok_or("a heap")?;
+        let graph = Graph::new(alloc);
+        Ok(Scene { alloc, heap, graph })
+    }
+
+    /// Allocates a cell.
+    pub(crate) fn allocate(&mut self, page: PageNo, cell: u16) -> Result<Found, Fail> {
+        let found = self.heap.allocate(page, cell).ok_or("a free cell")?;
+        self.graph.add(found)?;
+        Ok(found)
+    }
+
+    /// Cuts a page and allocates its first cells.
+    pub(crate) fn fill(
+        &mut self,
+        rt: &impl Abort,
+        page: PageNo,
+        words: u64,
+        kind: Kind,
+        cells: u16,
+    ) -> Result<(), Fail> {
+        assert!(rt; self.heap.cut(page, words, kind), "page {page} is free");
+        for cell in 0..cells {
+            let _ = self.allocate(page, cell)?;
+        }
+        Ok(())
+    }
+
+    /// Makes free pages one large object.
+    pub(crate) fn allocate_large(
+        &mut self,
+        first: PageNo,
+        pages: u32,
+        kind: Kind,
+    ) -> Result<Found, Fail> {
+        let found = self
+            .heap
+            .allocate_large(first, pages, kind)
+            .ok_or("free pages")?;
+        self.graph.add(found)?;
+        Ok(found)
+    }
+
+    /// The object with this number, in the order in which they came.
+    pub(crate) fn object(&self, number: usize) -> Result<Found, Fail> {
+        let objects = self.graph.objects();
+        Ok(objects.get(number).copied().ok_or("an object")?)
+    }
+
+    /// Writes a word of an object.
+    pub(crate) fn store(
+        &mut self,
+        rt: &impl Abort,
+        found: Found,
+        index: u32,
+        word: u64,
+    ) -> Result<(), Fail> {
+        let address = word_of(found, index);
+        assert!(rt; self.heap.store(address, word), "a word at {address}");
+        self.graph.write(address, word)
+    }
+
+    /// Makes words of objects point to objects: (from, index of the word, to).
+    pub(crate) fn link(
+        &mut self,
+        rt: &impl Abort,
+        arrows: &[(usize, u32, usize)],
+    ) -> Result<(), Fail> {
+        for (from, index, to) in arrows {
+            let (from, to) = (self.object(*from)?, self.object(*to)?);
+            self.store(rt, from, *index, to.base)?;
+        }
+        Ok(())
+    }
+
+    /// Which objects are marked, in the order in which they came.
+    pub(crate) fn marked(&self) -> Result<Vec<bool>, Fail> {
+        let mut marked = Vec::new(self.alloc);
+        for found in self.graph.objects() {
+            marked.push(self.heap.is_marked(found.base))?;
+        }
+        Ok(marked)
+    }
+
+    /// How many objects are marked.
+    pub(crate) fn marks(&self) -> usize {
+        let mut count: usize = 0;
+        for found in self.graph.objects() {
+            if self.heap.is_marked(found.base) {
+                count = count.saturating_add(1);
+            }
+        }
+        count
+    }
+
+    /// Exactly these objects are marked, each of its own base.
+    pub(crate) fn assert_marked(&self, rt: &impl Abort, wanted: &[bool]) {
+        let objects = self.graph.objects();
+        assert_eq!(rt; objects.len(), wanted.len());
+        for i in 0..objects.len().min(wanted.len()) {
+            assert_eq!(rt;
+                self.heap.is_marked(objects[i].base),
+                wanted[i],
+                "object {i}"
+            );
+        }
+    }
+
+    /// No granule is marked but bases of objects.
+    pub(crate) fn assert_no_other_mark(&self, rt: &impl Abort) {
+        for granule in 0..256 * u64::from(self.heap.pages()) {
+            let address = 268_435_456 + 16 * granule;
+            let is_base = self.graph.has_base(address);
+            assert!(rt; is_base || !self.heap.is_marked(address), "at {address}");
+        }
+    }
+
+    /// Ends the marking in one pause: the marks are then the closure of those before and the roots.
+    pub(crate) fn assert_closes(&mut self, rt: &impl Abort, roots: &[u64]) -> Result<(), Fail> {
+        let before = self.marked()?;
+        let wanted = self.graph.closure(self.alloc, before.as_slice(), roots)?;
+        self.heap.close(roots);
+        self.assert_marked(rt, wanted.as_slice());
+        assert_eq!(rt; self.heap.retrace(), None);
+        let left = self.heap.step(1);
+        assert!(rt; left.read == 0 && left.empty);
+        Ok(())
+    }
+
+    /// Marks from the roots by steps of so many words, with no pause. Answers the words that steps read.
+    pub(crate) fn mark_by(&mut self, rt: &impl Abort, roots: &[u64], budget: u64) -> u64 {
+        self.heap.begin();
+        self.heap.scan_roots(roots);
+        let mut read: u64 = 0;
+        for _ in 0..1_000_000 {
+            let marked = self.heap.step(budget);
+            assert!(rt; marked.read <= budget && (marked.empty || marked.read == budget));
+            read = read.saturating_add(marked.read);
+            if marked.empty && self.heap.retrace().is_none() {
+                return read;
+            }
+        }
+        panic!(rt; "steps come to an end")
+    }
+
+    /// Marks by steps, and by a pause alone: both times the marks are the closure of the roots, and steps read at most
+    /// the words of its Normal objects. Answers what they read.
+    pub(crate) fn assert_marks(
+        &mut self,
+        rt: &impl Abort,
+        roots: &[u64],
+        budget: u64,
+    ) -> Result<u64, Fail> {
+        let wanted = self.graph.closure(self.alloc, &[], roots)?;
+        let read = self.mark_by(rt, roots, budget);
+        self.assert_marked(rt, wanted.as_slice());
+        self.assert_no_other_mark(rt);
+        assert!(rt; read <= self.words_of(wanted.as_slice()));
+        self.heap.begin();
+        self.assert_closes(rt, roots)?;
+        self.assert_marked(rt, wanted.as_slice());
+        self.assert_no_other_mark(rt);
+        Ok(read)
+    }
+
+    /// The words of these objects that are read: those of Normal ones.
+    pub(crate) fn words_of(&self, reached: &[bool]) -> u64 {
+        let objects = self.graph.objects();
+        let mut words: u64 = 0;
+        for i in 0..objects.len().min(reached.len()) {
+            if reached[i] && objects[i].kind == Kind::Normal {
+                words = words.saturating_add(u64::from(objects[i].len));
+            }
+        }
+        words
+    }
+}
