@@ -5,6 +5,7 @@ use block_map::Found;
 use std::alloc::Global;
 use std::process::Abort;
 use std::test::Fail;
+use words::limits::{FIRST_ADDRESS, GRANULE_BYTES, PAGE_GRANULES};
 use words::{Kind, PageNo};
 
 /// A heap, and what was put there.
@@ -133,8 +134,8 @@ impl Scene {
 
     /// No granule is marked but bases of objects.
     pub(crate) fn assert_no_other_mark(&self, rt: &impl Abort) {
-        for granule in 0..256 * u64::from(self.heap.pages()) {
-            let address = 268_435_456 + 16 * granule;
+        for granule in 0..PAGE_GRANULES * u64::from(self.heap.pages()) {
+            let address = FIRST_ADDRESS + GRANULE_BYTES * granule;
             let is_base = self.graph.has_base(address);
             assert!(rt; is_base || !self.heap.is_marked(address), "at {address}");
         }

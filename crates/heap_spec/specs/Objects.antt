@@ -3,6 +3,7 @@ use Rattle.std.specs.Prelude.{◌≡◌, ℕ, ◌<◌, []}
 use Rattle.words.specs.declared.limits.TheConstants.{SLOTS}
 use Rattle.heap_spec.specs.declared.event.Event.{Event}
 use Rattle.heap_spec.specs.declared.event.Event.TheVariants.{Attach, Mutator, Begin, Roots, Mark, Retrace, Finish, Sweep, Collect, Number}
+use Rattle.heap_spec.specs.declared.call.Call.TheVariants.{Detach}
 use Rattle.heap_spec.specs.declared.reply.Reply.{Reply}
 use Rattle.heap_spec.specs.Heap.{Heap}
 use Rattle.heap_spec.specs.Steps.{IsLowestVacant}
@@ -42,3 +43,18 @@ pub record StateStep (state : HeapState) (who : ℕ) (event : Event) (reply : Re
   pub heap : Heap
   pub happens : Happens (fresh state.pages) state.run event reply heap
   pub goes : next ≡ record { pages = state.pages; run = goes_on state.run event reply heap }
+
+-- What an event is to the history of its maker: the first of its slot, the last of it, one that is counted, or none of these.
+pub data Rank : Type 0 where
+  first_of_slot : Rank
+  last_of_slot : Rank
+  is_counted : Rank
+  is_plain : Rank
+
+-- the rank of an event: the counted ones are those that add to the count of collections
+abbrev pub rank_of : Event → Rank
+rank_of Attach = first_of_slot
+rank_of (Mutator slot Detach) = last_of_slot
+rank_of Finish = is_counted
+rank_of Collect = is_counted
+rank_of _ = is_plain
