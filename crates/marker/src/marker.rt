@@ -21,8 +21,11 @@ use mark_bits::{Marks, granule_of};
 use pages::{Reader, is_page_count};
 use std::alloc::Global;
 use std::marker::Model;
-use words::limits::{FIRST_ADDRESS, PAGE_BYTES, WORD_BYTES};
+use words::limits::{FIRST_ADDRESS, MARK_STACK_ENTRIES, PAGE_BYTES, WORD_BYTES};
 use words::{Kind, OpenError, PageNo};
+
+// The entries of the mark stack.
+const ENTRIES: usize = MARK_STACK_ENTRIES as usize;
 
 /// Marks, dirty pages and the objects to be read, as one value.
 #[derive(Drop)]
@@ -30,7 +33,7 @@ pub struct Marker {
     pub(crate) marks: Marks,
     pub(crate) dirty: DirtyPages,
     pub(crate) current: Option<Entry>,
-    pub(crate) stack: ArrayVec<Entry, 256>,
+    pub(crate) stack: ArrayVec<Entry, ENTRIES>,
 }
 
 impl Model for Marker {
