@@ -1,13 +1,11 @@
 //! What the collector owes to an object that comes while it marks.
 ghost use Rattle.std.specs.Prelude.{◌≡◌, ℕ, ◌*◌, ◌<◌, ◌≤◌, true, Option, Some, length};
 ghost use Rattle.words.specs.declared.limits.TheConstants.{PAGE_WORDS, MAX_PAGES};
-ghost use Rattle.words.specs.Classes.{IsSizeClass};
-ghost use Rattle.blocks.specs.Cells.{Cells, IsCells};
 ghost use Rattle.block_map.specs.declared.found.Found.{Found};
 ghost use Rattle.block_map.specs.Changes.{IsAdded};
 ghost use Rattle.block_map.specs.Objects.{cell_object, large_object};
 ghost use Rattle.block_map.specs.FoundIn.{found_in};
-ghost use Rattle.final_pause_tests.specs.Spans.{IsFreeSpan};
+ghost use Rattle.block_map_tests.specs.Spans.{IsFreeSpan};
 ghost use Rattle.marker.specs.Marking.{IsSized};
 ghost use Rattle.marker.specs.Invariant.{DirtyPageInvariant};
 
@@ -56,7 +54,7 @@ pub(crate) fn large_at(page: PageNo, pages: u32, kind: Kind) -> Found
 }
 
 /// Whether the pages from `first` on and below `end` are free.
-#[tactic(auto, using(crate::proofs::Spans::spans))]
+#[tactic(auto, using(block_map_tests::proofs::Spans::spans))]
 pub(crate) fn are_free(map: &BlockMap, first: PageNo, end: PageNo) -> bool
     requires first { first ≤ end }
     requires end { end ≤ length map.now }
@@ -79,8 +77,8 @@ pub(crate) fn receive(map: &BlockMap, memory: &mut Memory, marker: &mut Marker, 
     ensures sized { IsSized (length map.now) marker.new }
     ensures memory { length memory.new ≡ PAGE_WORDS * length map.now }
 {
-    let pages = map.len();
+    // The laws of the map say that the object's words are the memory's.
+    let _ = map.len();
     memory.zero(found.base, found.len);
     marker.allocated(found.base);
-    let _ = pages;
 }

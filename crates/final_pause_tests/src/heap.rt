@@ -1,13 +1,4 @@
 //! A heap under a marker. Each call looks first whether its conditions hold, and answers whether they did.
-ghost use Rattle.std.specs.Prelude.{◌≡◌, ℕ, ◌+◌, ◌*◌, ◌<◌, ◌≤◌, Option, Some, List, length};
-ghost use Rattle.words.specs.declared.limits.TheConstants.{PAGE_WORDS};
-ghost use Rattle.block_map.specs.declared.found.Found.{Found};
-ghost use Rattle.block_map.specs.Objects.{IsMap};
-ghost use Rattle.block_map.specs.Changes.{IsAdded};
-ghost use Rattle.block_map.specs.FoundIn.{found_in, IsLawful};
-ghost use Rattle.marker.specs.Marking.{IsSized};
-ghost use Rattle.marker.specs.Invariant.{DirtyPageInvariant};
-
 use crate::coming::{are_free, large_at, object_in, receive};
 use block_map::{BlockMap, Found};
 use final_pause::close_marks;

@@ -5,7 +5,7 @@ use std::process::Abort;
 use std::test::Fail;
 use words::Kind;
 
-// Three Normal objects of 6 words more than the page holds, then pointer-free ones.
+// Eight Normal objects of 6 words, then four pointer-free ones.
 fn cells(rt: &impl Abort, alloc: Global) -> Result<Scene, Fail> {
     let mut scene = Scene::open(alloc, 3)?;
     scene.fill(rt, 0, 6, Kind::Normal, 8)?;
