@@ -1,5 +1,5 @@
 -- What it is to the heap that a cell is taken, that a page is cut, and that a run of pages becomes a large object.
-use Rattle.std.proofs.Common.{◌≡◌, ℕ, ◌+◌, ◌-◌, ◌*◌, ◌/◌, ◌<◌, ◌≤◌, ◌⊎◌, Bool, true, false, List, length, get_or, set, replicate, Option, Some, None, refl, sym, ap, ◌∙◌, subst, arith, inl, inr, ⊎_elim, length-set, get_or-set_same, get_or-set_other}
+use Rattle.std.proofs.Common.{◌≡◌, ℕ, ◌+◌, ◌*◌, ◌/◌, ◌<◌, ◌≤◌, ◌⊎◌, Bool, true, false, List, length, get_or, set, replicate, Option, Some, refl, sym, ap, ◌∙◌, subst, arith, inl, inr, ⊎_elim, length-set, get_or-set_same, get_or-set_other}
 use Rattle.std.specs.Prelude.{◌≢◌, ◌==◌, if◌then◌else◌}
 use Rattle.std.proofs.lemmas.Bool.{cases_lt, cases_eq}
 use Rattle.std.proofs.lemmas.List.{get_or-replicate, length-replicate}
@@ -14,14 +14,14 @@ use Rattle.pages.specs.Runs.{IsFreeRun, HasNoFreeRun, IsFilled}
 use Rattle.blocks.specs.Cells.{Cells, IsCells}
 use Rattle.blocks.proofs.Places.{class_bounds}
 use Rattle.block_map.specs.States.{PageState, free, cut, head, body, state_at, LaidAt, IsLaid, IsSpanSet, HasCell, all_free, with_cell, large_states}
-use Rattle.block_map.specs.Objects.{cell_object, large_object, object_on, IsObjectOn, IsObject, Reads, IsMap, IsPlaced}
+use Rattle.block_map.specs.Objects.{cell_object, large_object, object_on, IsPlaced}
 use Rattle.block_map.specs.Changes.{IsAdded, IsSameMap}
 use Rattle.block_map.specs.FoundIn.{found_in, IsLawful}
 use Rattle.block_map.specs.declared.found.Found.{Found}
-use Rattle.block_map.proofs.Laid.{laid_block, laid_cell, laid_large}
+use Rattle.block_map.proofs.Laid.{laid_block, laid_cell}
 use Rattle.block_map.proofs.Lawful.{map_laws}
 use Rattle.block_map.proofs.Spans.{place_of}
-use Rattle.heap_core.specs.Contents.{Store, IsSound, Agree, HasObjects}
+use Rattle.heap_core.specs.Contents.{Store, IsSound, Agree}
 use Rattle.heap_core.specs.Standing.{Stores, Shows}
 use Rattle.heap_core.specs.Rooms.{IsFreeCell, HasNoFreeCell, with_new, Allocates, HasNoRoom, TakesCell, CutsPage}
 use Rattle.heap_core.proofs.Changes.{shows_added}

@@ -1,9 +1,9 @@
 -- The calls that allocate and free.
-use Rattle.std.proofs.Common.{◌≡◌, ℕ, ◌+◌, Option, Some, None, refl, sym, ap, ◌∙◌, subst}
+use Rattle.std.proofs.Common.{◌≡◌, ℕ, ◌+◌, Some, None, refl, sym, ap, ◌∙◌, subst}
 use Rattle.std.specs.Prelude.{◌≢◌}
 use Rattle.words.specs.declared.class.Kind.{Kind}
 use Rattle.words.specs.declared.class.Placement.{Placement}
-use Rattle.words.specs.declared.refusal.Refusal.TheVariants.{BadSize, Full, NoObject, NotBase}
+use Rattle.words.specs.declared.refusal.Refusal.TheVariants.{Full, NotBase}
 use Rattle.words.specs.Placing.{placement_of}
 use Rattle.heap_spec.specs.declared.call.Call.TheVariants.{Alloc, Free}
 use Rattle.heap_spec.specs.declared.event.Event.TheVariants.{Mutator}
@@ -17,7 +17,7 @@ use Rattle.roots.specs.Roots.{RootSet, HasMutator, SetsWord}
 use Rattle.heap_core.specs.Contents.{Store}
 use Rattle.heap_core.specs.Standing.{StandsFor, Stores}
 use Rattle.heap_core.specs.Rooms.{Allocates, HasNoRoom, Frees, with_new}
-use Rattle.heap_core.proofs.Lookups.{finds, finds_nothing}
+use Rattle.heap_core.proofs.Lookups.{finds}
 use Rattle.heap_core.proofs.Roots.{core_of, attached, stands_set}
 
 pub allocated : (roots roots' : RootSet) (t t' : Store) (slot d n base : ℕ) (kind : Kind) (place : Placement) (m : HeapMutator) → HasMutator roots slot m → placement_of n ≡ Some place

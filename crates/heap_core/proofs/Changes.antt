@@ -8,7 +8,7 @@ use Rattle.words.specs.declared.class.Kind.{Kind}
 use Rattle.heap_spec.specs.Heap.{Object, with_at}
 use Rattle.pages.specs.Memory.{IsZeroed, place, with_word_at}
 use Rattle.block_map.specs.Objects.{IsMap, Reads}
-use Rattle.block_map.specs.Changes.{IsAdded, IsRemoved, IsSameMap}
+use Rattle.block_map.specs.Changes.{IsAdded, IsRemoved}
 use Rattle.block_map.specs.declared.found.Found.{Found}
 use Rattle.heap_core.specs.Standing.{IsShown, Shows}
 use Rattle.heap_core.proofs.Tables.{with_at-same, with_at-other, with_at-cases, without-cases}

@@ -1,12 +1,12 @@
 -- What it is to the heap that an object goes: a cell is free again, and with the last one its page, or all pages of a large
 -- object.
-use Rattle.std.proofs.Common.{◌≡◌, ℕ, ◌+◌, ◌-◌, ◌*◌, ◌/◌, ◌<◌, ◌≤◌, ◌⊎◌, Bool, true, false, List, length, get_or, set, Option, Some, None, refl, sym, ap, ◌∙◌, subst, arith, inl, inr, ⊎_elim, length-set, get_or-set_same, get_or-set_other}
+use Rattle.std.proofs.Common.{◌≡◌, ℕ, ◌+◌, ◌*◌, ◌/◌, ◌<◌, ◌≤◌, ◌⊎◌, Bool, true, false, List, length, get_or, set, Option, Some, None, refl, sym, ap, ◌∙◌, subst, arith, ⊎_elim, length-set, get_or-set_same, get_or-set_other}
 use Rattle.std.specs.Prelude.{◌≢◌}
 use Rattle.std.proofs.lemmas.Bool.{cases_lt, cases_eq}
 use Rattle.std.proofs.lemmas.List.{get_or_past}
 use Rattle.words.specs.Bits.{IsEmptyFrom, IsFirstFrom}
 use Rattle.words.specs.declared.class.Kind.{Kind}
-use Rattle.heap_spec.specs.Heap.{Heap, with_at}
+use Rattle.heap_spec.specs.Heap.{with_at}
 use Rattle.pages.specs.Runs.{IsFilled}
 use Rattle.blocks.specs.Cells.{Cells}
 use Rattle.block_map.specs.States.{PageState, free, cut, head, body, state_at, span_of, IsCut, IsSpanSet, HasCell, with_cell}
@@ -16,10 +16,9 @@ use Rattle.block_map.specs.FoundIn.{found_in, IsLawful}
 use Rattle.block_map.specs.declared.found.Found.{Found}
 use Rattle.block_map.proofs.Spans.{place_of}
 use Rattle.heap_core.specs.Contents.{Store, IsSound, Agree}
-use Rattle.heap_core.specs.Standing.{Stores, Shows}
+use Rattle.heap_core.specs.Standing.{Shows}
 use Rattle.heap_core.specs.Rooms.{Frees, FreesCell, EmptiesCell, keeps, gives, without_cell}
 use Rattle.heap_core.proofs.Changes.{shows_removed}
-use Rattle.heap_core.proofs.Allocations.{shows_same}
 
 -- pages that become free in the pool and in the map
 module _ (row row' : List Bool) (states states' : List PageState) (first n : ℕ) (given : IsFilled row row' first n true) (span : IsSpanSet states states' first n (λ _. free)) where

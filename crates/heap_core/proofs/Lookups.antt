@@ -1,18 +1,15 @@
 -- The calls that look an address up: which object of the heap it reads.
-use Rattle.std.proofs.Common.{◌≡◌, ℕ, ◌-◌, ◌*◌, ◌/◌, ◌%◌, ◌<◌, length, set, Some, None, refl, sym, ap, ◌∙◌, subst, arith}
-use Rattle.std.specs.Prelude.{◌≢◌}
-use Rattle.words.specs.declared.refusal.Refusal.TheVariants.{Misaligned, NoObject}
-use Rattle.heap_spec.specs.declared.call.Call.{Call}
+use Rattle.std.proofs.Common.{◌≡◌, ℕ, ◌-◌, ◌*◌, ◌/◌, ◌%◌, ◌<◌, length, set, Some, None, refl, sym, ◌∙◌, subst, arith}
 use Rattle.heap_spec.specs.declared.call.Call.TheVariants.{Load, Store as StoreCall, Base, Size}
 use Rattle.heap_spec.specs.declared.event.Event.TheVariants.{Mutator}
-use Rattle.heap_spec.specs.declared.reply.Reply.TheVariants.{Refused, Done, Word, Count}
+use Rattle.heap_spec.specs.declared.reply.Reply.TheVariants.{Done, Word, Count}
 use Rattle.heap_spec.specs.Heap.{Heap, Object, Mutator as HeapMutator, ReadsObject, ReadsNothing}
 use Rattle.heap_spec.specs.Replies.{IsStep}
 use Rattle.heap_spec.specs.Steps.{Acts, Calls, address, register, with_register, with_object}
 use Rattle.pages.specs.Memory.{IsWordAddress, place, word_at, with_word_at}
 use Rattle.block_map.specs.FoundIn.{found_in, IsLawful}
 use Rattle.block_map.specs.declared.found.Found.{Found}
-use Rattle.roots.specs.Roots.{RootSet, HasMutator, with_word, SetsWord}
+use Rattle.roots.specs.Roots.{RootSet, HasMutator, SetsWord}
 use Rattle.heap_core.specs.Contents.{Store}
 use Rattle.heap_core.specs.Standing.{StandsFor, Stores, IsShown}
 use Rattle.heap_core.proofs.Shown.{reads_object, reads_nothing, word_read, is_word}

@@ -7,7 +7,7 @@ use Rattle.words.specs.Bits.{IsEmptyFrom, IsFirstFrom, IsFirstClear, IsFullRow}
 use Rattle.words.specs.declared.class.Kind.{Kind}
 use Rattle.words.specs.declared.class.Kind.TheVariants.{Normal, PointerFree}
 use Rattle.words.specs.Classes.{IsSizeClass}
-use Rattle.blocks.specs.Cells.{Cells, IsCells}
+use Rattle.blocks.specs.Cells.{Cells}
 use Rattle.blocks.proofs.Places.{class_bounds}
 use Rattle.block_map.specs.States.{PageState, free, cut, head, body, state_at, HasCell, AreAllFree, IsSpanSet, IsCut, all_free, with_cell, span_of, large_states, LaidAt, IsLaid}
 use Rattle.block_map.proofs.Spans.{place_of}

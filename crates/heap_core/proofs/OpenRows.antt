@@ -1,5 +1,5 @@
 -- Rows of pages with a free cell, by the numbers of their rows.
-use Rattle.std.proofs.Common.{◌≡◌, ℕ, ◌+◌, ◌*◌, ◌/◌, ◌<◌, ◌≤◌, ◌⊎◌, Bool, true, false, List, [], length, get_or, set, ◌∷◌, ◌++◌, length-append, refl, sym, ap, ◌∙◌, subst, arith, inl, inr, ⊎_elim, length-set, get_or-set_same, get_or-set_other}
+use Rattle.std.proofs.Common.{◌≡◌, ℕ, ◌+◌, ◌*◌, ◌<◌, ◌≤◌, Bool, true, false, List, [], length, get_or, set, ◌∷◌, ◌++◌, length-append, refl, sym, ap, ◌∙◌, subst, arith, ⊎_elim, length-set, get_or-set_same, get_or-set_other}
 use Rattle.std.specs.Prelude.{◌≢◌, ◌==◌, Some, slice_get}
 use Rattle.std.specs.List.{position_or_len}
 use Rattle.std.proofs.lemmas.Bool.{agree_below_at, cases_eq, cases_lt, eqb-true, ltb-true}
@@ -74,8 +74,8 @@ bit_set rows rows' class kind n page b is at in_row became = record {
   here = ap (λ r. get_or r page false) (same class kind (sym at)) ∙ get_or-set_same (get_or rows n []) page b false in_row';
   others = λ c k p is' ne. ⊎_elim
       (λ e.
-          let one = number_one c class k kind is' is e in
-          ap (λ r. get_or r p false) (same c k (e ∙ sym at)) ∙ get_or-set_other (get_or rows n []) page p b false (λ q. ne one.0 one.1 q) ∙ ap (λ m. get_or (get_or rows m []) p false) (at ∙ sym e))
+      let one = number_one c class k kind is' is e in
+      ap (λ r. get_or r p false) (same c k (e ∙ sym at)) ∙ get_or-set_other (get_or rows n []) page p b false (λ q. ne one.0 one.1 q) ∙ ap (λ m. get_or (get_or rows m []) p false) (at ∙ sym e))
       (λ apart. ap (λ r. get_or r p false) (other c k (λ e. apart (e ∙ at))))
       (cases_eq (row_number c k) (row_number class kind));
 }

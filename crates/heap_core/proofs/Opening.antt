@@ -1,7 +1,7 @@
 -- A store that opens.
-use Rattle.std.proofs.Common.{◌≡◌, ℕ, ◌≤◌, Option, Some, None, sym, subst}
-use Rattle.heap_spec.specs.Heap.{Object, opening}
-use Rattle.block_map.specs.States.{PageState, AreAllFree}
+use Rattle.std.proofs.Common.{◌≡◌, ℕ, ◌≤◌, Some, None, sym, subst}
+use Rattle.heap_spec.specs.Heap.{opening}
+use Rattle.block_map.specs.States.{AreAllFree}
 use Rattle.block_map.specs.Objects.{IsObjectOn}
 use Rattle.block_map.specs.FoundIn.{found_in}
 use Rattle.block_map.specs.declared.found.Found.{Found}

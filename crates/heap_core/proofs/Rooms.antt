@@ -1,9 +1,9 @@
 -- Where a heap has room, by the pages of the store that stands for it.
-use Rattle.std.proofs.Common.{◌≡◌, ℕ, ◌+◌, ◌-◌, ◌*◌, ◌/◌, ◌<◌, ◌≤◌, ◌⊎◌, Bool, true, false, List, length, get_or, Option, Some, None, refl, sym, ap, ◌∙◌, subst, arith, inl, inr, ⊎_elim}
+use Rattle.std.proofs.Common.{◌≡◌, ℕ, ◌+◌, ◌*◌, ◌/◌, ◌<◌, ◌≤◌, ◌⊎◌, Bool, true, false, List, length, get_or, Option, Some, None, refl, sym, ap, ◌∙◌, subst, arith, inl, inr, ⊎_elim}
 use Rattle.std.proofs.lemmas.Bool.{cases_lt, cases_eq}
 use Rattle.std.proofs.lemmas.List.{get_or_past}
 use Rattle.std.proofs.lemmas.Option.{same_Some}
-use Rattle.std.proofs.Math.Nat.{le-div_iff_mul-le, mul-le-mul_left, mul-le-mul_right}
+use Rattle.std.proofs.Math.Nat.{le-div_iff_mul-le, mul-le-mul_right}
 use Rattle.words.specs.declared.class.Kind.{Kind}
 use Rattle.words.specs.Classes.{IsSizeClass}
 use Rattle.heap_spec.specs.Layout.{LiesOn, page_start}
@@ -11,13 +11,13 @@ use Rattle.heap_spec.specs.Heap.{Heap, Object}
 use Rattle.heap_spec.specs.Room.{IsFree, IsCutFor, HasSmallRoom, HasLargeRoom}
 use Rattle.pages.specs.Runs.{IsFreeRun, HasNoFreeRun}
 use Rattle.blocks.specs.Cells.{Cells, IsCells}
-use Rattle.blocks.proofs.Places.{class_bounds, divided}
+use Rattle.blocks.proofs.Places.{class_bounds}
 use Rattle.block_map.specs.States.{PageState, free, cut, head, body, state_at, LaidAt, IsLaid}
-use Rattle.block_map.specs.Objects.{cell_object, large_object, IsObjectOn, IsObject, Reads}
+use Rattle.block_map.specs.Objects.{cell_object, large_object, IsObjectOn, IsObject}
 use Rattle.block_map.specs.FoundIn.{found_in, IsLawful}
 use Rattle.block_map.specs.declared.found.Found.{Found}
 use Rattle.heap_core.specs.Contents.{Store, IsSound}
-use Rattle.heap_core.specs.Standing.{Stores, IsShown}
+use Rattle.heap_core.specs.Standing.{Stores}
 use Rattle.heap_core.specs.Rooms.{IsFreeCell, HasNoFreeCell}
 
 free_cut : (b : Cells) → free ≡ cut b → ⊥

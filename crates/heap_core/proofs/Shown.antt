@@ -5,7 +5,7 @@ use Rattle.std.proofs.lemmas.Option.{same_Some}
 use Rattle.heap_spec.specs.Layout.{Reads as IsRead}
 use Rattle.heap_spec.specs.Heap.{Object}
 use Rattle.pages.specs.Memory.{IsWordAddress, place, word_at}
-use Rattle.block_map.specs.Objects.{IsMap, Reads}
+use Rattle.block_map.specs.Objects.{IsMap}
 use Rattle.block_map.specs.declared.found.Found.{Found}
 use Rattle.heap_core.specs.Standing.{IsShown, Shows}
 

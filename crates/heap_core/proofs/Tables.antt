@@ -1,5 +1,5 @@
 -- Tables of objects by their bases, with one entry changed.
-use Rattle.std.proofs.Common.{◌≡◌, ℕ, false, eqb, sym, ap, ◌∙◌, cond, arith, inl, inr, ◌⊎◌, ⊎_elim, Option, Some, None, subst}
+use Rattle.std.proofs.Common.{◌≡◌, ℕ, false, eqb, sym, ◌∙◌, arith, inl, inr, ◌⊎◌, ⊎_elim, Option, Some, None}
 use Rattle.std.specs.Prelude.{◌≢◌}
 use Rattle.std.proofs.lemmas.Bool.{cond-true, cond-false, eq-eqb, cases_eq}
 use Rattle.std.proofs.lemmas.Option.{same_Some}

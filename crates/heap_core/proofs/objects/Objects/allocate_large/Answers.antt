@@ -1,4 +1,4 @@
-use Rattle.std.proofs.Common.{◌≡◌, ℕ, ◌+◌, ◌*◌, ◌≤◌, Bool, List, length, sym, ap, ◌∙◌, subst, arith}
+use Rattle.std.proofs.Common.{◌*◌, ap, subst, arith}
 use Rattle.pages.specs.Memory.{IsZeroed, place}
 use Rattle.heap_core.specs.Contents.{store_of}
 use Rattle.heap_core.proofs.Allocations.{allocates_large, no_room_large, sound_large}

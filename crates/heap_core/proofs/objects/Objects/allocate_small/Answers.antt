@@ -1,4 +1,4 @@
-use Rattle.std.proofs.Common.{◌≡◌, ℕ, Bool, List, sym, ap, ◌∙◌, subst}
+use Rattle.std.proofs.Common.{sym, ap, ◌∙◌, subst}
 use Rattle.heap_core.specs.Contents.{store_of}
 use Rattle.heap_core.specs.Rooms.{IsFreeCell, TakesCell}
 use Rattle.heap_core.proofs.Allocations.{allocates_cell, allocates_page, cut_laid, first_cell, no_room_small, sound_cell, sound_page}

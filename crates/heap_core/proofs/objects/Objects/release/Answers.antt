@@ -1,4 +1,4 @@
-use Rattle.std.proofs.Common.{◌≡◌, ℕ, ◌/◌, Bool, List, arith}
+use Rattle.std.proofs.Common.{◌/◌, arith}
 use Rattle.heap_core.specs.Contents.{Store, store_of}
 use Rattle.heap_core.proofs.Frees.{on_page, in_block, large_here, sound_freed, frees_cell, sound_large_gone, frees_large}
 use Rattle.heap_core.proofs.OpenPages.{exact_large_gone}

@@ -1,5 +1,4 @@
-use Rattle.std.proofs.Common.{arith}
-use Rattle.heap_core.proofs.OpenPages.{found_open, none_open, open_cut, open_cell}
+use Rattle.heap_core.proofs.OpenPages.{none_open}
 use Rattle.heap_core.proofs.objects.rooms.find_cell.Goals as goal
 
 pub returns-in_default-clause-none : goal.returns-in_default-clause-none

@@ -1,0 +1,15 @@
+//! Cores over pages, against a core without pages, against counts, and with memory that is ample.
+#![tactic(auto)]
+
+#[cfg(test)]
+mod draw;
+#[cfg(test)]
+mod filling;
+#[cfg(test)]
+mod opening;
+#[cfg(test)]
+mod pair;
+#[cfg(test)]
+mod replay;
+#[cfg(test)]
+mod twins;
