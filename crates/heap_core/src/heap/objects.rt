@@ -43,15 +43,15 @@ impl Core {
         let Some(mutator) = self.roots.mutator(slot) else {
             return Err(Refusal::NoSlot);
         };
-        let address = mutator.address(at, offset);
+        let target = mutator.address(at, offset);
         let word = mutator.word(from);
-        if address % WORD_BYTES != 0 {
+        if target % WORD_BYTES != 0 {
             return Err(Refusal::Misaligned);
         }
-        let Some(_) = self.objects.find(address) else {
+        let Some(_) = self.objects.find(target) else {
             return Err(Refusal::NoObject);
         };
-        self.objects.write(address, word);
+        self.objects.write(target, word);
         Ok(())
     }
 
