@@ -1,5 +1,8 @@
 //! A core over pages in plain Rust, with the same data and the same calls as the proved one. It prints the same lines: a
 //! name, and picoseconds a call.
+mod plain_row;
+
+use plain_row::next;
 use std::time::Instant;
 
 const START: u64 = 268_435_456;
@@ -31,6 +34,7 @@ struct Block {
     class: usize,
     kind: Kind,
     cells: u16,
+    reciprocal: u32,
     taken: [u64; 4],
 }
 
@@ -63,24 +67,6 @@ struct Core {
     map: Vec<Page>,
     open: Vec<Vec<u64>>,
     index: [u8; 129],
-}
-
-// The next bit from `low` on whose value is `wanted`.
-fn next(row: &[u64], low: usize, wanted: bool) -> usize {
-    let turn = if wanted { 0 } else { u64::MAX };
-    let mut word = low / 64;
-    if word >= row.len() {
-        return 64 * row.len();
-    }
-    let mut rest = (row[word] ^ turn) & (u64::MAX << (low % 64));
-    while rest == 0 {
-        word += 1;
-        if word == row.len() {
-            return 64 * row.len();
-        }
-        rest = row[word] ^ turn;
-    }
-    64 * word + rest.trailing_zeros() as usize
 }
 
 fn fill(row: &mut [u64], first: usize, n: usize, free: bool) {
@@ -139,7 +125,7 @@ impl Core {
             Page::Free => None,
             Page::Cut(block) => {
                 let words = CLASSES[block.class];
-                let cell = (w % 4_096 / (8 * u64::from(words))) as u16;
+                let cell = ((w % 4_096 / 16) as u32 * block.reciprocal / 65_536) as u16;
                 if cell >= block.cells || (block.taken[usize::from(cell / 64)] >> (cell % 64)) & 1 == 0 {
                     return None;
                 }
@@ -188,7 +174,13 @@ impl Core {
         let mut page = next(&self.open[row], 0, true);
         if page >= PAGES {
             page = take_run(&mut self.free, 1)?;
-            self.map[page] = Page::Cut(Block { class, kind, cells: 512 / CLASSES[class], taken: [0; 4] });
+            self.map[page] = Page::Cut(Block {
+                class,
+                kind,
+                cells: 512 / CLASSES[class],
+                reciprocal: 65_536_u32.div_ceil(u32::from(CLASSES[class]) / 2),
+                taken: [0; 4],
+            });
             self.open[row][page / 64] |= 1 << (page % 64);
         }
         self.take_cell(page, class, kind)

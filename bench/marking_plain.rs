@@ -1,102 +1,14 @@
 //! A marker in plain Rust, with the same data and the same calls as the proved one. It prints the same lines: a name,
 //! picoseconds a word or an object, and the words that were read.
+mod plain_map;
+
+use plain_map::{Block, Found, Kind, Page, START, find, next_on_page};
 use std::hint::black_box;
 use std::time::Instant;
 
-const START: u64 = 268_435_456;
 const WORDS: u64 = 262_144;
 const ROUNDS: u32 = 30;
 const ENTRIES: usize = 256;
-
-#[derive(Clone, Copy, PartialEq)]
-enum Kind {
-    Normal,
-    PointerFree,
-}
-
-struct Block {
-    words: u16,
-    kind: Kind,
-    taken: [u64; 4],
-    cells: u16,
-}
-
-enum Page {
-    Free,
-    Cut(Block),
-    Head(u32, Kind),
-    Body(u32),
-}
-
-#[derive(Clone, Copy)]
-struct Found {
-    base: u64,
-    len: u32,
-    kind: Kind,
-}
-
-impl Block {
-    fn cell_of(&self, w: u64) -> Option<u16> {
-        let cell = w % 4_096 / (8 * u64::from(self.words));
-        (cell < u64::from(self.cells)).then_some(cell as u16)
-    }
-
-    fn is_taken(&self, cell: u16) -> bool {
-        (self.taken[usize::from(cell / 64)] >> (cell % 64)) & 1 == 1
-    }
-
-    fn next_taken(&self, from: u16) -> Option<u16> {
-        let mut word = usize::from(from / 64);
-        let mut rest = self.taken[word] & (u64::MAX << (from % 64));
-        while rest == 0 {
-            word += 1;
-            rest = *self.taken.get(word)?;
-        }
-        let cell = 64 * word as u16 + rest.trailing_zeros() as u16;
-        (cell < self.cells).then_some(cell)
-    }
-
-    fn at(&self, page: u32, cell: u16) -> Found {
-        let base = START + 4_096 * u64::from(page) + 8 * u64::from(cell) * u64::from(self.words);
-        Found { base, len: u32::from(self.words), kind: self.kind }
-    }
-}
-
-fn large(page: u32, pages: u32, kind: Kind) -> Found {
-    Found { base: START + 4_096 * u64::from(page), len: 512 * pages, kind }
-}
-
-fn head(map: &[Page], first: u32) -> Option<Found> {
-    match &map[first as usize] {
-        Page::Head(pages, kind) => Some(large(first, *pages, *kind)),
-        _ => None,
-    }
-}
-
-fn find(map: &[Page], w: u64) -> Option<Found> {
-    let page = w.checked_sub(START)? / 4_096;
-    match map.get(page as usize)? {
-        Page::Free => None,
-        Page::Cut(block) => {
-            let cell = block.cell_of(w)?;
-            block.is_taken(cell).then(|| block.at(page as u32, cell))
-        }
-        Page::Head(pages, kind) => Some(large(page as u32, *pages, *kind)),
-        Page::Body(first) => head(map, *first),
-    }
-}
-
-fn next_on_page(map: &[Page], page: u32, from: u64) -> Option<Found> {
-    if from >= START + 4_096 * (u64::from(page) + 1) {
-        return None;
-    }
-    match &map[page as usize] {
-        Page::Free => None,
-        Page::Cut(block) => Some(block.at(page, block.next_taken(block.cell_of(from)?)?)),
-        Page::Head(pages, kind) => Some(large(page, *pages, *kind)),
-        Page::Body(first) => head(map, *first),
-    }
-}
 
 fn is_set(row: &[u64], i: usize) -> bool {
     (row[i / 64] >> (i % 64)) & 1 == 1
@@ -287,7 +199,7 @@ fn mark_objects(shape: &str, count: u64) {
     for number in 0..count {
         let page = number as usize / 256;
         if number % 256 == 0 {
-            map[page] = Page::Cut(Block { words: 2, kind: Kind::Normal, taken: [0; 4], cells: 256 });
+            map[page] = Page::Cut(Block::new(2, Kind::Normal));
         }
         if let Page::Cut(block) = &mut map[page] {
             set(&mut block.taken, number as usize % 256);
