@@ -60,9 +60,9 @@ pub record CutsPage (free free' : List Bool) (states states' : List PageState) (
   pub same : IsSameMap (found_in states) (found_in states')
 
 -- the pages of a large request: some, and no more than the largest request has
-abbrev pub IsSized : Placement → Type 0
-IsSized (Small class) = Unit {0}
-IsSized (Large pages) = (0 < pages) × (PAGE_WORDS * pages ≤ MAX_REQUEST_WORDS)
+abbrev pub IsRequest : Placement → Type 0
+IsRequest (Small class) = Unit {0}
+IsRequest (Large pages) = (0 < pages) × (PAGE_WORDS * pages ≤ MAX_REQUEST_WORDS)
 
 -- the map with this cell free
 abbrev pub without_cell : List PageState → ℕ → ℕ → List PageState
