@@ -6,7 +6,6 @@ use Rattle.words.specs.declared.class.Placement.TheVariants.{Small, Large}
 use Rattle.words.specs.declared.limits.TheConstants.{PAGE_WORDS, MAX_REQUEST_WORDS}
 use Rattle.heap_spec.specs.Heap.{Heap}
 use Rattle.heap_spec.specs.Room.{HasRoom, length_of}
-use Rattle.heap_spec.specs.Steps.{with_object}
 use Rattle.blocks.specs.Cells.{Cells}
 use Rattle.pages.specs.Memory.{IsZeroed, place}
 use Rattle.pages.specs.Runs.{IsFreeRun, IsFilled}
@@ -31,11 +30,6 @@ pub record IsFreeCell (states : List PageState) (class : ℕ) (kind : Kind) (pag
 -- no page that is cut for the class and the kind has a free cell
 abbrev pub HasNoFreeCell : List PageState → ℕ → Kind → Type 0
 HasNoFreeCell states class kind = (page cell : ℕ) → IsFreeCell states class kind page cell → ⊥
-
--- the heap with one object more, whose words are 0
-abbrev pub with_new : Heap → ℕ → Kind → Placement → Heap
-with_new s base kind place =
-    record (with_object s base (Some (record { birth = s.births + 1; kind = kind; words = replicate (length_of place) 0 }))) { births = s.births + 1 }
 
 -- The base has room in each heap whose objects are among the store's.
 abbrev pub HasRoomAt : Store → Placement → Kind → ℕ → Type 0
