@@ -1,5 +1,5 @@
 -- The calls that allocate and free.
-use Rattle.std.proofs.Common.{get_or, cond, replicate, true, false, length, inl, inr, ⊎_elim, ◌≡◌, ℕ, ◌+◌, [], ◌∷◌, Some, None, refl, sym, ap, ◌∙◌, subst}
+use Rattle.std.proofs.Common.{get_or, cond, replicate, true, false, length, inl, inr, ⊎_elim, ◌≡◌, ℕ, ◌+◌, [], ◌∷◌, Some, None, refl, sym, ap, ◌∙◌, subst, List}
 use Rattle.std.specs.Prelude.{◌≢◌}
 use Rattle.words.specs.declared.class.Kind.{Kind}
 use Rattle.words.specs.declared.class.Placement.{Placement}
@@ -20,7 +20,13 @@ use Rattle.heap_spec.specs.Heap.{with_at, without, without_at}
 use Rattle.heap_spec.specs.Room.{length_of}
 use Rattle.std.specs.Prelude.{Bool}
 use Rattle.std.proofs.lemmas.Bool.{false≢true}
-use Rattle.marker.proofs.MarkWord.{same_object}
+use Rattle.marker.specs.Mutations.{IsFreed}
+use Rattle.marker.specs.Marking.{IsMarked}
+use Rattle.block_map.specs.Objects.{IsMap}
+use Rattle.block_map.specs.Changes.{IsRemoved}
+use Rattle.std.proofs.Common.{get_or-set_other}
+use Rattle.std.proofs.lemmas.Option.{same_Some}
+use Rattle.marker.proofs.Closures.{same_object}
 use Rattle.block_map.specs.FoundIn.{found_in, IsLawful}
 use Rattle.block_map.specs.declared.found.Found.{Found}
 use Rattle.roots.specs.Roots.{RootSet, HasMutator, SetsWord}
@@ -31,15 +37,15 @@ use Rattle.heap_core.specs.Beside.{NotesObject}
 use Rattle.object_space.specs.Sweeps.{Gains, Loses, Sweeps}
 use Rattle.object_space.specs.Shown.{Stores, Shows}
 use Rattle.heap_core.specs.Standing.{StandsFor}
-use Rattle.object_space.specs.Kept.{restrict, is_kept}
-use Rattle.object_space.proofs.Kept.{kept_cases, kept_map, kept_added, kept_removed, kept_none, kept_same, nothing_pending}
+use Rattle.object_space.specs.Kept.{restrict, is_kept, kept_in}
+use Rattle.object_space.proofs.Kept.{kept_cases, kept_map, kept_added, kept_removed, kept_none, kept_same, kept_is, nothing_pending}
 use Rattle.object_space.proofs.Changes.{shows_added, shows_removed}
 use Rattle.object_space.proofs.Allocations.{shows_same}
 use Rattle.object_space.proofs.Shown.{at_base}
 use Rattle.object_space.proofs.Sweeping.{read_or_not}
 use Rattle.object_space.specs.Rooms.{HasRoomAt, HasNoRoom}
 use Rattle.heap_core.proofs.Lookups.{finds}
-use Rattle.heap_core.proofs.Roots.{core_of, attached, stands_set}
+use Rattle.heap_core.proofs.Roots.{core_of, attached, stands_set, none_some}
 
 -- pages were swept
 pub swept_stands : (roots : RootSet) (t0 t : Store) (y : Cycle) → Sweeps t0 y.marking.marks t → (s : Heap) → StandsFor (core_of roots t0 y) s → StandsFor (core_of roots t y) s
@@ -161,6 +167,10 @@ full roots t0 t y slot d n kind place m at is sweeps swept none = record {
   stack = refl;
 }
 
+-- a kept object whose base was looked for is there
+pub kept_there : (t : Store) (marks : List Bool) (w : ℕ) (f : Found) → f.base ≡ w → kept_in t.states t.pending marks w ≡ Some f → found_in t.states f.base ≡ Some f
+kept_there t marks w f base is = (kept_cases (is_kept t.pending marks) (found_in t.states) f.base f (ap (kept_in t.states t.pending marks) base ∙ is)).0
+
 -- an object goes, and its mark at most with it: of those that are kept it alone goes
 module _ (t t' : Store) (y y' : Cycle) (f : Found) (map : IsMap (length t.states) (found_in t.states)) (is : restrict (is_kept t.pending y.marking.marks) (found_in t.states) f.base ≡ Some f) (loses : Loses t f t')
     (others : (k : ℕ) → k ≢ granule f.base → get_or y'.marking.marks k false ≡ get_or y.marking.marks k false) where
@@ -173,7 +183,7 @@ module _ (t t' : Store) (y y' : Cycle) (f : Found) (map : IsMap (length t.states
 
       read : (Reads w f → ⊥) → Reads w f
       read not =
-          let was : found_in t.states w ≡ Some x = sym (loses.removed.others w not) ∙ there in
+          let was : found_in t.states w ≡ Some x = loses.removed.others w not ∙ there in
           let gone = (kept_cases (is_kept t.pending y.marking.marks) (found_in t.states) f.base f is).0 in
           let one : x ≡ f = same_object (length t.states) (found_in t.states) map x f (at_base (found_in t.states) (length t.states) map w x was) gone same in
           subst (Reads w) one (map.reads w x was)
@@ -194,7 +204,7 @@ module _ (t t' : Store) (y y' : Cycle) (f : Found) (map : IsMap (length t.states
 
   -- what is there now was there before
   was_kept : (g : Found) → restrict (is_kept t'.pending y'.marking.marks) (found_in t'.states) g.base ≡ Some g → restrict (is_kept t.pending y.marking.marks) (found_in t.states) g.base ≡ None → ⊥
-  was_kept g there none = ⊎_elim (λ r. none_some g (sym (kept_left.before g.base r) ∙ there)) (λ not. none_some g (sym none ∙ sym (kept_left.others g.base not) ∙ there)) (read_or_not g.base f)
+  was_kept g there none = ⊎_elim (λ r. none_some g (sym (kept_left.before g.base r) ∙ there)) (λ not. none_some g (sym none ∙ kept_left.others g.base not ∙ there)) (read_or_not g.base f)
 
 pub freed : (roots : RootSet) (t t' : Store) (y y' : Cycle) (slot r : ℕ) (m : HeapMutator) (f : Found) → IsLawful t.states → HasMutator roots slot m → restrict (is_kept t.pending y.marking.marks) (found_in t.states) (register m r) ≡ Some f → f.base ≡ register m r
     → Loses t f t' → IsFreed f.base y.marking y'.marking → y'.is_marking ≡ y.is_marking → y'.count ≡ y.count → IsCall (core_of roots t y) (Mutator slot (Free r)) Done (core_of roots t' y')

@@ -1,5 +1,5 @@
 -- The calls that look an address up: which object of the heap it reads.
-use Rattle.std.proofs.Common.{inl, inr, ⊎_elim, ◌≡◌, ℕ, ◌-◌, ◌*◌, ◌/◌, ◌%◌, ◌<◌, length, set, Some, None, refl, sym, ◌∙◌, subst, arith}
+use Rattle.std.proofs.Common.{inl, inr, ⊎_elim, ◌≡◌, ℕ, ◌-◌, ◌*◌, ◌/◌, ◌%◌, ◌<◌, length, set, Some, None, refl, sym, ◌∙◌, subst, arith, ap}
 use Rattle.heap_spec.specs.declared.call.Call.TheVariants.{Load, Store as StoreCall, Base, Size}
 use Rattle.heap_spec.specs.declared.event.Event.TheVariants.{Mutator}
 use Rattle.heap_spec.specs.declared.reply.Reply.TheVariants.{Done, Word, Count}
