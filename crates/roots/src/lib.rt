@@ -7,6 +7,3 @@ mod roots;
 
 pub use mutator::Mutator;
 pub use roots::Roots;
-
-#[cfg(test)]
-mod tests;
