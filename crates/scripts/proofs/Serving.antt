@@ -4,7 +4,7 @@ use Rattle.std.specs.Prelude.{All, Option, Some, None, Result, Ok, Err, slice_ge
 use Rattle.std.specs.List.{AllZip}
 use Rattle.std.specs.Io.KnownBytes.{Consumes, Appends, IsAtEnd}
 use Rattle.std.proofs.lemmas.List.{map_push, append-nil}
-use Rattle.std.proofs.lemmas.List.Elements.{All-push, All-nil}
+use Rattle.std.proofs.lemmas.List.Elements.{All-push, All-nil, All-cons, All-append}
 use Rattle.heap_spec.specs.declared.event.Event.{Event}
 use Rattle.heap_spec.specs.declared.event.Event.TheVariants.{Attach, Mutator, Begin, Roots, Mark, Retrace, Finish, Sweep, Collect, Number}
 use Rattle.heap_spec.specs.declared.reply.Reply.{Reply}
@@ -21,7 +21,7 @@ use Rattle.scripts.specs.declared.errors.ScriptError.TheVariants.{BadLine, Read,
 use Rattle.scripts.specs.declared.line.LineRead.{LineRead}
 use Rattle.scripts.specs.declared.line.LineRead.TheVariants.{Line, Last, End, TooLong}
 use Rattle.scripts.specs.Grammar.{IsLineOf, IsBad}
-use Rattle.scripts.specs.Lines.{newline, lines_of, whole_lines_of}
+use Rattle.scripts.specs.Lines.{newline, IsShort, lines_of, whole_lines_of}
 use Rattle.scripts.specs.Reading.{left_of, IsPlain, IsLineRead}
 use Rattle.scripts.specs.Printing.{reply_line, printed}
 use Rattle.scripts.specs.Answers.{Answers, BeginsAnswer, IsAnswered, Serves}
@@ -179,17 +179,37 @@ too_long_serves pages number core input held b0 buffer buffer' line rem0 rem rem
     (ap lines_of (append_assoc (text_of lines ++ front) buffer' left ∙ append_assoc (text_of lines) front (buffer' ++ left)) ∙ lines_of-text lines (front ++ (buffer' ++ left)) u.run.plain ∙ ap (λ ls. lines ++ ls) first.are)
     (inl (λ command l. let short = l.short in let h = first.long in omega (arith, short, h, long))))
 
+-- the lines of commands are short
+commands_short : (lines : List (List ℕ)) (events : List Event) → AllZip IsLineOf lines events → All IsShort lines
+commands_short [] [] are = All-nil IsShort
+commands_short [] (e ∷ events) are = absurd are
+commands_short (line ∷ lines) [] are = absurd are
+commands_short (line ∷ lines) (e ∷ events) are = All-cons IsShort line lines are.0.short (commands_short lines events are.1)
+
+part_short : (part : List ℕ) → IsPlain part → IsShort part → All IsShort (lines_of part)
+part_short [] plain short = All-nil IsShort
+part_short (b ∷ part) plain short =
+    subst (All IsShort) (sym (lines_of-last (b ∷ part) plain (omega arith))) (All-cons IsShort (b ∷ part) [] short (All-nil IsShort))
+
+-- no line of what was read is too long, where the lines before a part are commands'
+all_short : (lines : List (List ℕ)) (events : List Event) (part buffer : List ℕ) → AllZip IsLineOf lines events → All IsPlain lines → IsPlain part → IsShort part → buffer ≡ []
+    → All IsShort (lines_of ((text_of lines ++ part) ++ buffer))
+all_short lines events part buffer are plain p short empty =
+    let text : lines_of ((text_of lines ++ part) ++ buffer) ≡ lines ++ lines_of part
+    = ap lines_of (ap (λ b. (text_of lines ++ part) ++ b) empty ∙ append-nil (text_of lines ++ part)) ∙ lines_of-text lines part plain in
+    subst (All IsShort) (sym text) (All-append IsShort lines (lines_of part) (commands_short lines events are) (part_short part p short))
+
 -- the reader failed within a line
-pub read_serves : (pages number : ℕ) (core : Contents) (input held b0 buffer buffer' part : List ℕ) (rem0 rem rem' w0 w : Option (List ℕ)) → number ≤ LAST_LINE → b0 ≡ [] → rem0 ≡ Some input → w0 ≡ Some held
+pub read_serves : (pages number : ℕ) (core : Contents) (input held b0 buffer buffer' part : List ℕ) (rem0 rem rem' w0 w : Option (List ℕ)) → IsShort part → number ≤ LAST_LINE → b0 ≡ [] → rem0 ≡ Some input → w0 ≡ Some held
     → IsUpTo pages number core (left_of b0 rem0) (left_of buffer rem) w0 w → IsPlain part → buffer' ≡ [] → Consumes (left_of buffer rem) (left_of buffer' rem') part → Serves pages input held rem' w (Err Read)
-read_serves pages number core input held b0 buffer buffer' part rem0 rem rem' w0 w few none tells_input tells_held u plain empty reads =
+read_serves pages number core input held b0 buffer buffer' part rem0 rem rem' w0 w short few none tells_input tells_held u plain empty reads =
     let lines = u.lines in
     serves pages input held b0 buffer' (text_of lines ++ part) u.out rem0 rem' w0 w (Err Read) none tells_input tells_held
     (Consumes-more _ _ _ (text_of lines) part u.read reads) u.wrote
     (λ left is. let all : whole_lines_of ((text_of lines ++ part) ++ buffer') ≡ lines
     = ap whole_lines_of (ap (λ b. (text_of lines ++ part) ++ b) empty ∙ append-nil (text_of lines ++ part)) ∙ whole_lines_of-text lines part u.run.plain plain in
     let P : List (List ℕ) → Type 0 = λ ls. Answers pages ls u.out in
-    subst P (sym all) (answers pages core lines u.out u.run (let c = u.count in omega (arith, c))))
+    (subst P (sym all) (answers pages core lines u.out u.run (let c = u.count in omega (arith, c))), all_short lines _ part buffer' u.run.commands u.run.plain plain short empty))
 
 -- a line was answered, and there are more
 pub line_on : (pages number : ℕ) (old new : Contents) (line : List ℕ) (input left left' w0 w w' : Option (List ℕ)) → IsUpTo pages number old input left w0 w → IsPlain line → IsLineRead Line line left left'
@@ -301,19 +321,3 @@ up_to_last pages number core input left held written is u = let P : ℕ → Type
 -- the same of the line that was lent
 pub turn_is : (pages number : ℕ) (lent line : List ℕ) (old new : Contents) (wrote writes : Option (List ℕ)) (result : Result ⊤ ScriptError) → lent ≡ line → IsTurn pages number lent old new wrote writes result → IsTurn pages number line old new wrote writes result
 turn_is pages number lent line old new wrote writes result is h = let P : List ℕ → Type 0 = λ l. IsTurn pages number l old new wrote writes result in subst P is h
-
--- a bad line is no other fault
-which : Result ⊤ ScriptError → ℕ
-which (Ok done) = 0
-which (Err (BadLine n)) = 1
-which (Err Read) = 2
-which (Err Write) = 3
-which (Err Memory) = 4
-
-pub no_read : (n : ℕ) → (let bad : Result ⊤ ScriptError = Err (BadLine n) in let read : Result ⊤ ScriptError = Err Read in bad ≡ read) → ⊥
-unfolding which
-no_read n e = let h : 1 ≡ 2 = ap which e in omega (arith, h)
-
-pub no_write : (n : ℕ) → (let bad : Result ⊤ ScriptError = Err (BadLine n) in let write : Result ⊤ ScriptError = Err Write in bad ≡ write) → ⊥
-unfolding which
-no_write n e = let h : 1 ≡ 3 = ap which e in omega (arith, h)

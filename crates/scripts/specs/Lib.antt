@@ -7,4 +7,5 @@ pub mod Lines
 pub mod Reading
 pub mod Printing
 pub mod Answers
+pub mod Ends
 pub mod Turns

@@ -19,6 +19,6 @@ pub use commands::command;
 pub use errors::ScriptError;
 pub use numbers::number;
 pub use print::print_reply;
-pub use script::run_script;
+pub use script::{run_bytes, run_script};
 pub use source::{Failed, Sink, Source, write_all};
 pub use std_io::Std;

@@ -1,9 +1,10 @@
 //! Commands over a heap. This is the one module that makes calls of the core.
-ghost use Rattle.std.specs.Prelude.{◌≡◌, ◌≤◌, ◌<◌, length, Err};
+ghost use Rattle.std.specs.Prelude.{◌≡◌, ◌+◌, ◌≤◌, length};
 ghost use Rattle.words.specs.declared.limits.TheConstants.{MAX_PAGES};
 ghost use Rattle.heap_spec.specs.Replies.{IsStep, count_reply, done_reply, slot_reply, word_reply};
 ghost use Rattle.heap_core.specs.Standing.{StandsFor};
 ghost use Rattle.scripts.specs.declared.limits.TheConstants.{LINE_BYTES};
+ghost use Rattle.scripts.specs.Ends.{read_faults, write_faults};
 ghost use Rattle.scripts.specs.Served.{IsServed};
 ghost use Rattle.scripts.specs.Turns.{IsTurn};
 
@@ -98,8 +99,8 @@ pub fn answer_line<W: Sink>(
     requires pages { pages ≤ MAX_PAGES }
     requires short { length line.now ≤ LINE_BYTES }
     ensures turn { IsTurn pages number line.now core.old core.new (W.written sink.old) (W.written sink.new) result }
-    ensures fault { result ≡ Err ScriptError.Write → W.faults sink.old < W.faults sink.new }
-    ensures grows { W.faults sink.old ≤ W.faults sink.new }
+    ensures reads_nothing { read_faults result ≡ 0 }
+    ensures faults { W.faults sink.new ≡ W.faults sink.old + write_faults result }
 {
     let Some(command) = command(line) else {
         return Err(ScriptError::BadLine(number));

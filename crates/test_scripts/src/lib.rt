@@ -13,3 +13,5 @@ mod rows;
 mod scene;
 #[cfg(test)]
 mod tables;
+#[cfg(test)]
+mod turns;
