@@ -21,9 +21,10 @@ use Rattle.block_map.specs.declared.found.Found.{Found}
 use Rattle.block_map.proofs.Laid.{laid_block, laid_cell}
 use Rattle.block_map.proofs.Lawful.{map_laws}
 use Rattle.block_map.proofs.Spans.{place_of}
+use Rattle.heap_spec.specs.Steps.{with_new}
 use Rattle.heap_core.specs.Contents.{Store, IsSound, Agree}
 use Rattle.heap_core.specs.Standing.{Stores, Shows}
-use Rattle.heap_core.specs.Rooms.{IsFreeCell, HasNoFreeCell, with_new, Allocates, HasNoRoom, TakesCell, CutsPage}
+use Rattle.heap_core.specs.Rooms.{IsFreeCell, HasNoFreeCell, Allocates, HasNoRoom, TakesCell, CutsPage}
 use Rattle.heap_core.proofs.Changes.{shows_added}
 use Rattle.heap_core.proofs.Rooms.{cell_below, cell_end, room_of_cell, room_of_page, no_small_room, large_room, no_large_room}
 

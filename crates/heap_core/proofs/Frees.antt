@@ -1,12 +1,12 @@
 -- What it is to the heap that an object goes: a cell is free again, and with the last one its page, or all pages of a large
 -- object.
-use Rattle.std.proofs.Common.{◌≡◌, ℕ, ◌+◌, ◌*◌, ◌/◌, ◌<◌, ◌≤◌, ◌⊎◌, Bool, true, false, List, length, get_or, set, Option, Some, None, refl, sym, ap, ◌∙◌, subst, arith, ⊎_elim, length-set, get_or-set_same, get_or-set_other}
+use Rattle.std.proofs.Common.{◌≡◌, ℕ, ◌+◌, ◌*◌, ◌/◌, ◌<◌, ◌≤◌, ◌⊎◌, Bool, true, false, List, [], ◌∷◌, length, get_or, set, Option, Some, None, refl, sym, ap, ◌∙◌, subst, arith, ⊎_elim, length-set, get_or-set_same, get_or-set_other}
 use Rattle.std.specs.Prelude.{◌≢◌}
 use Rattle.std.proofs.lemmas.Bool.{cases_lt, cases_eq}
 use Rattle.std.proofs.lemmas.List.{get_or_past}
 use Rattle.words.specs.Bits.{IsEmptyFrom, IsFirstFrom}
 use Rattle.words.specs.declared.class.Kind.{Kind}
-use Rattle.heap_spec.specs.Heap.{with_at}
+use Rattle.heap_spec.specs.Heap.{without_at}
 use Rattle.pages.specs.Runs.{IsFilled}
 use Rattle.blocks.specs.Cells.{Cells}
 use Rattle.block_map.specs.States.{PageState, free, cut, head, body, state_at, span_of, IsCut, IsSpanSet, HasCell, with_cell}
@@ -44,7 +44,7 @@ module _ (row row' : List Bool) (states states' : List PageState) (first n : ℕ
 pub frees : (t t' : Store) (f : Found) → IsLawful t.states → found_in t.states f.base ≡ Some f → t'.words ≡ t.words → length t'.states ≡ length t.states → IsRemoved (found_in t.states) (found_in t'.states) f → Frees t f.base t'
 frees t t' f lawful is words size removed s stores = record {
   pages = stores.pages ∙ sym size;
-  shows = subst (λ ws. Shows (found_in t'.states) ws (with_at s.objects f.base None) s.births) (sym words)
+  shows = subst (λ ws. Shows (found_in t'.states) ws (without_at s.objects (f.base ∷ [])) s.births) (sym words)
       (shows_removed (found_in t.states) (found_in t'.states) (length t.states) lawful.map t.words s.objects s.births stores.shows f is removed);
 }
 

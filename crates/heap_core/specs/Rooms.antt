@@ -1,12 +1,12 @@
 -- Where the store has room, and what it is to allocate and to free.
-use Rattle.std.specs.Prelude.{◌≡◌, ℕ, ◌+◌, ◌*◌, ◌<◌, ◌≤◌, Bool, true, false, Some, None, List, length, replicate, slice_index_or, slice_set}
+use Rattle.std.specs.Prelude.{◌≡◌, ℕ, ◌*◌, ◌<◌, ◌≤◌, Bool, true, false, List, [], ◌∷◌, length, slice_index_or, slice_set}
 use Rattle.words.specs.declared.class.Kind.{Kind}
 use Rattle.words.specs.declared.class.Placement.{Placement}
 use Rattle.words.specs.declared.class.Placement.TheVariants.{Small, Large}
 use Rattle.words.specs.declared.limits.TheConstants.{PAGE_WORDS, MAX_REQUEST_WORDS}
-use Rattle.heap_spec.specs.Heap.{Heap}
-use Rattle.heap_spec.specs.Room.{HasRoom, length_of}
-use Rattle.heap_spec.specs.Steps.{with_object}
+use Rattle.heap_spec.specs.Heap.{Heap, without}
+use Rattle.heap_spec.specs.Room.{HasRoom}
+use Rattle.heap_spec.specs.Steps.{with_new}
 use Rattle.blocks.specs.Cells.{Cells}
 use Rattle.pages.specs.Memory.{IsZeroed, place}
 use Rattle.pages.specs.Runs.{IsFreeRun, IsFilled}
@@ -31,11 +31,6 @@ pub record IsFreeCell (states : List PageState) (class : ℕ) (kind : Kind) (pag
 abbrev pub HasNoFreeCell : List PageState → ℕ → Kind → Type 0
 HasNoFreeCell states class kind = (page cell : ℕ) → IsFreeCell states class kind page cell → ⊥
 
--- the heap with one object more, whose words are 0
-abbrev pub with_new : Heap → ℕ → Kind → Placement → Heap
-with_new s base kind place =
-    record (with_object s base (Some (record { birth = s.births + 1; kind = kind; words = replicate (length_of place) 0 }))) { births = s.births + 1 }
-
 -- There was room at the base, and the store has one object more there, whose words are 0.
 abbrev pub Allocates : Store → Placement → Kind → ℕ → Store → Type 0
 Allocates old place kind base new = (s : Heap) → Stores old s → HasRoom s place kind base × Stores new (with_new s base kind place)
@@ -46,7 +41,7 @@ HasNoRoom t place kind = (s : Heap) → Stores t s → (a : ℕ) → HasRoom s p
 
 -- The object with the base is gone, and nothing else has changed.
 abbrev pub Frees : Store → ℕ → Store → Type 0
-Frees old base new = (s : Heap) → Stores old s → Stores new (with_object s base None)
+Frees old base new = (s : Heap) → Stores old s → Stores new (without s (base ∷ []))
 
 -- A free cell is allocated, and its words are 0. Nothing else has changed.
 pub record TakesCell (words words' : List ℕ) (states states' : List PageState) (page cell base : ℕ) : Type 0 where

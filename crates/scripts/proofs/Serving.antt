@@ -10,7 +10,7 @@ use Rattle.heap_spec.specs.declared.event.Event.TheVariants.{Attach, Mutator, Be
 use Rattle.heap_spec.specs.declared.reply.Reply.{Reply}
 use Rattle.heap_spec.specs.Heap.{Heap, opening}
 use Rattle.heap_spec.specs.Steps.{Step}
-use Rattle.heap_spec.specs.Runs.{Start, Told, Run, fresh, heap_after, goes_on}
+use Rattle.heap_spec.specs.Runs.{Start, Told, Run, Touched, fresh, heap_after, goes_on}
 use Rattle.heap_spec.specs.Histories.{Happens}
 use Rattle.heap_spec.specs.Transcripts.{LegalTranscript, LineOf, ends, on, happens}
 use Rattle.heap_core.specs.Contents.{Contents}
@@ -30,12 +30,12 @@ use Rattle.scripts.proofs.Bytes.{Appends-none, Appends-more, Consumes-none, Cons
 use Rattle.scripts.proofs.Texts.{lines_of-text, lines_of-line, lines_of-last, first_line, whole_lines_of-text, take-front, at-front, text_of-push}
 
 -- one line more of a transcript
-legal_on : (start : Start) {run mid last : Run} {lines : List Told} (told : Told) → LegalTranscript start run lines mid → LineOf start mid told.event told.reply last → LegalTranscript start run (lines ++ told ∷ []) last
+legal_on : (start : Start) {run mid last : Run} {lines : List Told} (told : Told) → LegalTranscript Touched start run lines mid → LineOf Touched start mid told.event told.reply last → LegalTranscript Touched start run (lines ++ told ∷ []) last
 legal_on start told ends l = on l ends
 legal_on start told (on m g) l = on m (legal_on start told g l)
 
 -- a step of the heap is what may happen next in a run
-step_happens : (start : Start) (run : Run) (event : Event) (reply : Reply) (s' : Heap) → Step (heap_after start run) event reply s' → Happens start run event reply s'
+step_happens : (start : Start) (run : Run) (event : Event) (reply : Reply) (s' : Heap) → Step (heap_after start run) event reply s' → Happens Touched start run event reply s'
 step_happens start run Attach reply s' h = h
 step_happens start run (Mutator slot call) reply s' h = h
 step_happens start run Begin reply s' h = absurd h

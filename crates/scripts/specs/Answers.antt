@@ -1,7 +1,7 @@
 -- What a script's lines are answered.
 use Rattle.std.specs.Prelude.{◌≡◌, ℕ, ◌-◌, ◌<◌, ◌⊎◌, Option, Some, List, [], ◌++◌, length, take, map, All, slice_get, Result, Ok, Err, ⊤}
 use Rattle.std.specs.List.{AllZip}
-use Rattle.heap_spec.specs.Runs.{Told, Run, fresh}
+use Rattle.heap_spec.specs.Runs.{Told, Run, Touched, fresh}
 use Rattle.heap_spec.specs.Transcripts.{LegalTranscript}
 use Rattle.scripts.specs.declared.limits.TheConstants.{LAST_LINE}
 use Rattle.scripts.specs.declared.errors.ScriptError.{ScriptError}
@@ -17,7 +17,7 @@ pub record Answers (pages : ℕ) (lines : List (List ℕ)) (out : List ℕ) : Ty
   pub last : Run
   pub commands : AllZip IsLineOf lines (map (λ (t : Told). t.event) told)
   pub few : length lines < LAST_LINE
-  pub legal : LegalTranscript (fresh pages) [] told last
+  pub legal : LegalTranscript Touched (fresh pages) [] told last
   pub prints : out ≡ printed pages told
 
 -- Line n of a text, counted from 1, is bad: it is no command's, or its number is the last that there is.

@@ -5,7 +5,7 @@ use Rattle.std.specs.Io.KnownBytes.{Consumes, Appends}
 use Rattle.heap_spec.specs.declared.event.Event.{Event}
 use Rattle.heap_spec.specs.declared.reply.Reply.{Reply}
 use Rattle.heap_spec.specs.Replies.{IsStep}
-use Rattle.heap_spec.specs.Runs.{Told, Run, fresh, heap_after}
+use Rattle.heap_spec.specs.Runs.{Told, Run, Touched, fresh, heap_after}
 use Rattle.heap_spec.specs.Transcripts.{LegalTranscript}
 use Rattle.heap_core.specs.Contents.{Contents}
 use Rattle.heap_core.specs.Standing.{StandsFor}
@@ -42,7 +42,7 @@ pub record HasRun (pages : ℕ) (core : Contents) (lines : List (List ℕ)) (out
   pub last : Run
   pub plain : All IsPlain lines
   pub commands : AllZip IsLineOf lines (map (λ (t : Told). t.event) told)
-  pub legal : LegalTranscript (fresh pages) [] told last
+  pub legal : LegalTranscript Touched (fresh pages) [] told last
   pub prints : out ≡ printed pages told
   pub stands : StandsFor core (heap_after (fresh pages) last)
 
