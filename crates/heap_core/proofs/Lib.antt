@@ -11,3 +11,13 @@ pub mod Opening
 pub mod Frees
 pub mod Calls
 pub mod Placing
+pub mod Sweeping
+pub mod Passing
+pub mod Tracing
+pub mod Collecting
+pub mod Following
+pub mod Cycling
+pub mod Kept
+pub mod Pending
+pub mod Swept
+pub mod Dropping

@@ -15,6 +15,7 @@ use Rattle.block_map.specs.FoundIn.{found_in}
 use Rattle.block_map.specs.Objects.{object_on}
 use Rattle.block_map.specs.States.{PageState, free, cut, state_at, all_free, with_cell, IsSpanSet}
 use Rattle.heap_core.specs.Contents.{Store}
+use Rattle.block_map.specs.declared.found.Found.{Found}
 use Rattle.heap_core.specs.Standing.{Stores}
 
 -- the page is cut for the class and the kind, and its cell is free
@@ -36,17 +37,13 @@ abbrev pub with_new : Heap → ℕ → Kind → Placement → Heap
 with_new s base kind place =
     record (with_object s base (Some (record { birth = s.births + 1; kind = kind; words = replicate (length_of place) 0 }))) { births = s.births + 1 }
 
--- There was room at the base, and the store has one object more there, whose words are 0.
-abbrev pub Allocates : Store → Placement → Kind → ℕ → Store → Type 0
-Allocates old place kind base new = (s : Heap) → Stores old s → HasRoom s place kind base × Stores new (with_new s base kind place)
+-- The base has room in each heap whose objects are among the store's.
+abbrev pub HasRoomAt : Store → Placement → Kind → ℕ → Type 0
+HasRoomAt t place kind base = (keep : Found → Bool) (s : Heap) → Stores keep t s → HasRoom s place kind base
 
--- No address has room.
+-- No address has room in a heap that has all the objects of the store.
 abbrev pub HasNoRoom : Store → Placement → Kind → Type 0
-HasNoRoom t place kind = (s : Heap) → Stores t s → (a : ℕ) → HasRoom s place kind a → ⊥
-
--- The object with the base is gone, and nothing else has changed.
-abbrev pub Frees : Store → ℕ → Store → Type 0
-Frees old base new = (s : Heap) → Stores old s → Stores new (with_object s base None)
+HasNoRoom t place kind = (s : Heap) → Stores (λ _. true) t s → (a : ℕ) → HasRoom s place kind a → ⊥
 
 -- A free cell is allocated, and its words are 0. Nothing else has changed.
 pub record TakesCell (words words' : List ℕ) (states states' : List PageState) (page cell base : ℕ) : Type 0 where

@@ -1,9 +1,9 @@
 -- The roots of a heap, and what it is for them to make a step.
-use Rattle.std.specs.Prelude.{◌≡◌, ℕ, Option, Some, None, List, [], ◌∷◌, ◌++◌, replicate, slice_get, slice_set}
+use Rattle.std.specs.Prelude.{◌≡◌, ℕ, Option, Some, None, List, [], ◌∷◌, ◌++◌, flat_map, replicate, slice_get, slice_set}
 use Rattle.words.specs.declared.limits.TheConstants.{SLOTS, GLOBALS}
 use Rattle.heap_spec.specs.declared.event.Event.{Event}
 use Rattle.heap_spec.specs.declared.reply.Reply.{Reply}
-use Rattle.heap_spec.specs.Heap.{Heap, Mutator}
+use Rattle.heap_spec.specs.Heap.{Heap, Mutator, words_of}
 use Rattle.heap_spec.specs.Steps.{Step, register}
 
 -- The roots: the mutator at each slot, and the words of the globals.
@@ -14,6 +14,10 @@ pub record RootSet : Type 0 where
 -- the roots of a heap that opens: no mutator, and globals of 0
 abbrev pub no_roots : RootSet
 no_roots = record { mutators = replicate SLOTS None; globals = replicate GLOBALS 0 }
+
+-- The root words in their order: those of the attached slots, ascending, and then the globals.
+abbrev pub root_words_of : RootSet → List ℕ
+root_words_of roots = flat_map words_of roots.mutators ++ roots.globals
 
 -- a mutator is attached at the slot
 abbrev pub HasMutator : RootSet → ℕ → Mutator → Type 0

@@ -8,9 +8,10 @@ ghost use Rattle.pages.specs.Runs.{HasNoFreeRun};
 ghost use Rattle.blocks.specs.Cells.{Cells};
 ghost use Rattle.block_map.specs.FoundIn.{IsLawful};
 ghost use Rattle.block_map.specs.States.{cut, state_at, IsCut, IsLaid};
-ghost use Rattle.heap_core.specs.Contents.{Agree};
+ghost use Rattle.heap_core.specs.Contents.{Agree, IsSwept};
 ghost use Rattle.heap_core.specs.OpenRows.{HasFreeCell, IsExact};
-ghost use Rattle.heap_core.specs.Rooms.{IsSized, IsFreeCell, HasNoFreeCell, TakesCell, CutsPage, Allocates, HasNoRoom};
+ghost use Rattle.heap_core.specs.Rooms.{IsSized, IsFreeCell, HasNoFreeCell, TakesCell, CutsPage, HasRoomAt, HasNoRoom};
+ghost use Rattle.heap_core.specs.Sweeps.{Gains};
 
 use super::Objects;
 use super::open_pages::OpenPages;
@@ -27,7 +28,7 @@ struct Place {
 }
 
 // The address of a page's first byte.
-fn start_of(page: PageNo) -> u64
+pub(crate) fn start_of(page: PageNo) -> u64
     ensures { result ≡ page_start page }
 {
     FIRST_ADDRESS + PAGE_BYTES * u64::from(page)
@@ -121,7 +122,9 @@ fn take_cell(
 impl Objects {
     // A place for a small object.
     fn allocate_small(&mut self, class: Class, kind: Kind) -> Option<u64>
-        ensures some { IfSome result (λ base. Allocates self.old (Placement.Small class) kind base self.new) }
+        requires { IsSwept self.old }
+        ensures some { IfSome result (λ base. HasRoomAt self.old (Placement.Small class) kind base) }
+        ensures gains { IfSome result (λ base. Gains self.old (Placement.Small class) kind base self.new) }
         ensures none { IfNone result (HasNoRoom self.old (Placement.Small class) kind × (self.new ≡ self.old)) }
     {
         if let Some(place) = find_cell(&self.open_pages, &self.map, class, kind) {
@@ -155,8 +158,10 @@ impl Objects {
 
     // A place for a large object.
     fn allocate_large(&mut self, pages: u32, kind: Kind) -> Option<u64>
-        requires { IsSized (Placement.Large pages) }
-        ensures some { IfSome result (λ base. Allocates self.old (Placement.Large pages) kind base self.new) }
+        requires sized { IsSized (Placement.Large pages) }
+        requires swept { IsSwept self.old }
+        ensures some { IfSome result (λ base. HasRoomAt self.old (Placement.Large pages) kind base) }
+        ensures gains { IfSome result (λ base. Gains self.old (Placement.Large pages) kind base self.new) }
         ensures none { IfNone result (HasNoRoom self.old (Placement.Large pages) kind × (self.new ≡ self.old)) }
     {
         if pages > self.map.len() {
@@ -173,8 +178,10 @@ impl Objects {
 
     /// Takes a place for a new object, writes 0 into its words, and answers its base. `None` exactly if no address has room.
     pub fn allocate(&mut self, placement: Placement, kind: Kind) -> Option<u64>
-        requires { IsSized placement }
-        ensures some { IfSome result (λ base. Allocates self.old placement kind base self.new) }
+        requires sized { IsSized placement }
+        requires swept { IsSwept self.old }
+        ensures some { IfSome result (λ base. HasRoomAt self.old placement kind base) }
+        ensures gains { IfSome result (λ base. Gains self.old placement kind base self.new) }
         ensures none { IfNone result (HasNoRoom self.old placement kind × (self.new ≡ self.old)) }
     {
         match placement {
