@@ -5,6 +5,7 @@ use Rattle.std.proofs.lemmas.Bool.{cases_lt, cases_eq}
 use Rattle.std.proofs.lemmas.List.{get_or-replicate, length-replicate}
 use Rattle.words.specs.declared.class.Kind.{Kind}
 use Rattle.words.specs.declared.class.Placement.TheVariants.{Small, Large}
+use Rattle.words.specs.Bits.{Has}
 use Rattle.words.specs.Classes.{IsSizeClass}
 use Rattle.heap_spec.specs.Layout.{page_start}
 use Rattle.heap_spec.specs.Heap.{Heap, Object, with_at}
@@ -13,7 +14,7 @@ use Rattle.pages.specs.Memory.{IsWordAddress, IsZeroed, place}
 use Rattle.pages.specs.Runs.{IsFreeRun, HasNoFreeRun, IsFilled}
 use Rattle.blocks.specs.Cells.{Cells, IsCells}
 use Rattle.blocks.proofs.Places.{class_bounds}
-use Rattle.block_map.specs.States.{PageState, free, cut, head, body, state_at, LaidAt, IsLaid, IsSpanSet, HasCell, all_free, with_cell, large_states}
+use Rattle.block_map.specs.States.{PageState, free, cut, head, body, state_at, IsCut, LaidAt, IsLaid, IsSpanSet, HasCell, all_free, with_cell, large_states}
 use Rattle.block_map.specs.Objects.{cell_object, large_object, object_on, IsPlaced}
 use Rattle.block_map.specs.Changes.{IsAdded, IsSameMap}
 use Rattle.block_map.specs.FoundIn.{found_in, IsLawful}
@@ -21,7 +22,7 @@ use Rattle.block_map.specs.declared.found.Found.{Found}
 use Rattle.block_map.proofs.Laid.{laid_block, laid_cell, laid_large}
 use Rattle.block_map.proofs.Lawful.{map_laws}
 use Rattle.block_map.proofs.Spans.{place_of}
-use Rattle.heap_core.specs.Contents.{Store, IsSound, Agree, IsSwept}
+use Rattle.heap_core.specs.Contents.{Store, IsSound, Agree, IsPendingRow}
 use Rattle.heap_core.specs.Standing.{Stores, Shows}
 use Rattle.heap_core.specs.Rooms.{IsFreeCell, HasNoFreeCell, HasRoomAt, HasNoRoom, TakesCell, CutsPage}
 use Rattle.heap_core.specs.Sweeps.{Gains}
@@ -41,16 +42,20 @@ shows_same found after words objects births same shows = record {
 cell_is : (states : List PageState) (page cell : ℕ) (b : Cells) → state_at states page ≡ cut b → object_on page (state_at states page) cell ≡ cell_object page b cell
 cell_is states page cell b is = ap (λ st. object_on page st cell) is
 
-not_pending : (t : Store) → IsSwept t → (page : ℕ) → get_or t.pending page false ≡ false
-not_pending t swept page = by (get_or t.pending page false) refl
+not_pending : (t : Store) (page : ℕ) → (Has t.pending page → ⊥) → get_or t.pending page false ≡ false
+not_pending t page swept = by (get_or t.pending page false) refl
   where
     by : (b : Bool) → get_or t.pending page false ≡ b → get_or t.pending page false ≡ false
     by false e = e
-    by true e = absurd (swept page e)
+    by true e = absurd (swept e)
+
+-- a page that is free is not to be swept
+pub free_swept : (t : Store) (page : ℕ) → IsPendingRow t → state_at t.states page ≡ free → Has t.pending page → ⊥
+free_swept t page row is h = subst IsCut is (row.cut page h)
 
 -- a store one cell of which is taken has one object more
 module _ (t : Store) (laid : IsLaid t.states) (lawful : IsLawful t.states) (class : ℕ) (kind : Kind) (page cell base : ℕ) (words' : List ℕ) (states' : List PageState)
-    (place_is : IsFreeCell t.states class kind page cell) (takes : TakesCell t.words words' t.states states' page cell base) (swept : IsSwept t) where
+    (place_is : IsFreeCell t.states class kind page cell) (takes : TakesCell t.words words' t.states states' page cell base) (swept : Has t.pending page → ⊥) where
   abbrev pub taken : Store
   taken = record t { words = words'; states = states' }
 
@@ -88,7 +93,7 @@ module _ (t : Store) (laid : IsLaid t.states) (lawful : IsLawful t.states) (clas
     size = ap (λ (x : Found). x.len) (cell_is t.states page cell place_is.block place_is.is_cut) ∙ place_is.of_class;
     of_kind = ap (λ (x : Found). x.kind) (cell_is t.states page cell place_is.block place_is.is_cut) ∙ place_is.of_kind;
     pending = refl;
-    swept = not_pending t swept (object_on page (state_at t.states page) cell).page;
+    swept = ap (λ (x : Found). get_or t.pending x.page false) (cell_is t.states page cell place_is.block place_is.is_cut) ∙ not_pending t page swept;
     pages = ap length takes.became ∙ length-set t.states page _;
     before = lawful.map;
     map = (map_laws states' taken_laid).map;
@@ -153,12 +158,12 @@ allocates_cell t class kind page cell base words' states' sound laid lawful at t
         turned = omega arith
 
 pub sound_cell : (t : Store) (class : ℕ) (kind : Kind) (page cell base : ℕ) (words' : List ℕ) (states' : List PageState) → IsSound t → IsLaid t.states → IsLawful t.states
-    → IsFreeCell t.states class kind page cell → TakesCell t.words words' t.states states' page cell base → IsSwept t → IsSound (record t { words = words'; states = states' })
+    → IsFreeCell t.states class kind page cell → TakesCell t.words words' t.states states' page cell base → (Has t.pending page → ⊥) → IsSound (record t { words = words'; states = states' })
 sound_cell t class kind page cell base words' states' sound laid lawful at takes swept =
     taken_sound t laid lawful class kind page cell base words' states' at takes swept sound.words sound.agree (λ p b ne is. sound.used p b is)
 
 pub gains_cell : (t : Store) (class : ℕ) (kind : Kind) (page cell base : ℕ) (words' : List ℕ) (states' : List PageState) → IsLaid t.states → IsLawful t.states
-    → IsFreeCell t.states class kind page cell → TakesCell t.words words' t.states states' page cell base → IsSwept t → Gains t (Small class) kind base (record t { words = words'; states = states' })
+    → IsFreeCell t.states class kind page cell → TakesCell t.words words' t.states states' page cell base → (Has t.pending page → ⊥) → Gains t (Small class) kind base (record t { words = words'; states = states' })
 gains_cell t class kind page cell base words' states' laid lawful at takes swept = taken_gains t laid lawful class kind page cell base words' states' at takes swept
 
 -- a page that was free is cut, and its first cell is taken
@@ -215,7 +220,7 @@ module _ (t : Store) (sound : IsSound t) (laid : IsLaid t.states) (lawful : IsLa
       cut_free : all_free class kind ≡ free → ⊥
       cut_free e = cc
 
-  module _ (base : ℕ) (words' : List ℕ) (states'' : List PageState) (takes : TakesCell t.words words' states' states'' page 0 base) (swept : IsSwept t) where
+  module _ (base : ℕ) (words' : List ℕ) (states'' : List PageState) (takes : TakesCell t.words words' states' states'' page 0 base) (row : IsPendingRow t) where
     pub allocates_page : HasRoomAt t (Small class) kind base
     allocates_page keep s stores =
         subst (HasSmallRoom s class kind) same (room_of_page keep t s sound laid lawful stores class kind page (let b = class_bounds class is_class in omega arith) inside was_free)
@@ -227,7 +232,7 @@ module _ (t : Store) (sound : IsSound t) (laid : IsLaid t.states) (lawful : IsLa
 
     pub gains_page : Gains t (Small class) kind base (record t { words = words'; free = free'; states = states'' })
     gains_page =
-        let g = taken_gains with_cut cut_laid (map_laws states' cut_laid) class kind page 0 base words' states'' first_cell takes swept in
+        let g = taken_gains with_cut cut_laid (map_laws states' cut_laid) class kind page 0 base words' states'' first_cell takes (free_swept t page row was_free) in
         record {
           object = g.object;
           at = g.at;
@@ -244,7 +249,7 @@ module _ (t : Store) (sound : IsSound t) (laid : IsLaid t.states) (lawful : IsLa
         }
 
     pub sound_page : IsSound (record t { words = words'; free = free'; states = states'' })
-    sound_page = taken_sound with_cut cut_laid (map_laws states' cut_laid) class kind page 0 base words' states'' first_cell takes swept
+    sound_page = taken_sound with_cut cut_laid (map_laws states' cut_laid) class kind page 0 base words' states'' first_cell takes (free_swept t page row was_free)
         (sound.words ∙ ap (λ n. 512 * n) (sym size)) cut_agree (λ p b ne is. sound.used p b (sym (other p ne) ∙ is))
 
 -- no room for a small object
@@ -261,14 +266,14 @@ module _ (t : Store) (sound : IsSound t) (laid : IsLaid t.states) (lawful : IsLa
   pub allocates_large : HasRoomAt t (Large n) kind (page_start first)
   allocates_large keep s stores = large_room keep t s sound laid lawful stores kind first n run
 
-  pub gains_large : ((k : ℕ) → first ≤ k → k < first + n → state_at t.states k ≡ free) → IsSwept t → Gains t (Large n) kind (page_start first) with_large
-  gains_large was swept = record {
+  pub gains_large : ((k : ℕ) → first ≤ k → k < first + n → state_at t.states k ≡ free) → IsPendingRow t → Gains t (Large n) kind (page_start first) with_large
+  gains_large was row = record {
     object = large_object first n kind;
     at = refl;
     size = refl;
     of_kind = refl;
     pending = refl;
-    swept = not_pending t swept first;
+    swept = not_pending t first (free_swept t first row (was first (omega arith) (omega arith)));
     pages = span.size;
     before = lawful.map;
     map = (map_laws states' (laid_large t.states states' first n kind laid some_pages was span)).map;

@@ -1,5 +1,5 @@
 -- The calls that allocate and free.
-use Rattle.std.proofs.Common.{get_or, cond, replicate, true, false, ◌⊎◌, length, inl, inr, ⊎_elim, ◌≡◌, ℕ, ◌+◌, Some, None, refl, sym, ap, ◌∙◌, subst}
+use Rattle.std.proofs.Common.{get_or, cond, replicate, true, false, ◌⊎◌, length, inl, inr, ⊎_elim, ◌≡◌, ℕ, ◌+◌, [], ◌∷◌, Some, None, refl, sym, ap, ◌∙◌, subst}
 use Rattle.std.specs.Prelude.{◌≢◌}
 use Rattle.words.specs.declared.class.Kind.{Kind}
 use Rattle.words.specs.declared.class.Placement.{Placement}
@@ -10,13 +10,13 @@ use Rattle.heap_spec.specs.declared.event.Event.TheVariants.{Mutator}
 use Rattle.heap_spec.specs.declared.reply.Reply.TheVariants.{Refused, Done}
 use Rattle.heap_spec.specs.Heap.{Heap, Mutator as HeapMutator}
 use Rattle.heap_spec.specs.Replies.{IsStep}
-use Rattle.heap_spec.specs.Steps.{Acts, Calls, register, with_register, with_object}
+use Rattle.heap_spec.specs.Steps.{Acts, Calls, register, with_new, with_register}
 use Rattle.words.specs.Bits.{Has}
 use Rattle.mark_bits.specs.Granules.{granule}
 use Rattle.block_map.specs.Objects.{Reads, IsPlaced}
 use Rattle.pages.specs.Memory
 use Rattle.pages.specs.Memory.{IsZeroed}
-use Rattle.heap_spec.specs.Heap.{with_at}
+use Rattle.heap_spec.specs.Heap.{with_at, without, without_at}
 use Rattle.heap_spec.specs.Room.{length_of}
 use Rattle.std.specs.Prelude.{Bool}
 use Rattle.std.proofs.lemmas.Bool.{false≢true}
@@ -35,7 +35,7 @@ use Rattle.heap_core.proofs.Changes.{shows_added, shows_removed}
 use Rattle.heap_core.proofs.Allocations.{shows_same}
 use Rattle.heap_core.proofs.Shown.{at_base}
 use Rattle.heap_core.proofs.Sweeping.{read_or_not}
-use Rattle.heap_core.specs.Rooms.{HasRoomAt, HasNoRoom, with_new}
+use Rattle.heap_core.specs.Rooms.{HasRoomAt, HasNoRoom}
 use Rattle.heap_core.proofs.Lookups.{finds}
 use Rattle.heap_core.proofs.Roots.{core_of, attached, stands_set}
 
@@ -97,7 +97,7 @@ allocated_step : (roots roots' : RootSet) (t t' : Store) (y y' : Cycle) (slot d 
     → HasRoomAt t place kind base → Gains t place kind base t' → SetsWord roots slot d base roots' → NotesObject y.is_marking base y.marking y'.marking → IsStep (StandsFor (core_of roots t y)) (Mutator slot (Alloc d n kind)) Done (StandsFor (core_of roots' t' y'))
 allocated_step roots roots' t t' y y' slot d n base kind place m at is room gains sets notes s h =
     let new = stores_new t t' y y' place kind base gains notes s h.store in
-    let after : Heap = record (with_register (with_new s base kind place) slot m d base) { births = s.births + 1 } in (
+    let after : Heap = with_register (with_new s base kind place) slot m d base in (
       after,
       Calls.acts (attached roots t y s slot m h at) (Acts.allocated base is (room (is_kept t.pending y.marking.marks) s h.store)),
       stands_set roots roots' t t' y y' s after slot d base m h at sets refl refl (record { pages = new.pages; shows = new.shows }),
@@ -140,10 +140,10 @@ full roots t0 t y slot d n kind place m at is sweeps swept none = record {
 }
 
 stores_less : (t t' : Store) (y : Cycle) (f : Found) → IsLawful t.states → restrict (is_kept t.pending y.marking.marks) (found_in t.states) f.base ≡ Some f → Loses t f t'
-    → (s : Heap) → Stores (is_kept t.pending y.marking.marks) t s → Stores (is_kept t'.pending y.marking.marks) t' (with_object s f.base None)
+    → (s : Heap) → Stores (is_kept t.pending y.marking.marks) t s → Stores (is_kept t'.pending y.marking.marks) t' (without s (f.base ∷ []))
 stores_less t t' y f lawful is loses s stores = record {
   pages = stores.pages ∙ sym loses.pages;
-  shows = subst (λ ws. Shows (restrict (is_kept t'.pending y.marking.marks) (found_in t'.states)) ws (with_at s.objects f.base None) s.births) (sym loses.words)
+  shows = subst (λ ws. Shows (restrict (is_kept t'.pending y.marking.marks) (found_in t'.states)) ws (without_at s.objects (f.base ∷ [])) s.births) (sym loses.words)
       (shows_removed (restrict (is_kept t.pending y.marking.marks) (found_in t.states)) (restrict (is_kept t'.pending y.marking.marks) (found_in t'.states)) (length t.states)
       (kept_map (length t.states) (is_kept t.pending y.marking.marks) (found_in t.states) lawful.map) t.words s.objects s.births stores.shows f is
       (kept_removed (is_kept t.pending y.marking.marks) (is_kept t'.pending y.marking.marks) (found_in t.states) (found_in t'.states) f loses.removed
@@ -158,9 +158,9 @@ freed roots t t' y slot r m f lawful at is base loses = record {
       let found = finds (is_kept t.pending y.marking.marks) t s (register m r) f lawful h.store is in
       let has = ap s.objects (sym base) ∙ found.1.0 in
       let there = ap (restrict (is_kept t.pending y.marking.marks) (found_in t.states)) base ∙ is in (
-        with_object s (register m r) None,
+        without s (register m r ∷ []),
         Calls.acts (attached roots t y s slot m h at) (Acts.freed has),
-        subst (λ b. StandsFor (core_of roots t' y) (with_object s b None)) base (record { mutators = h.mutators; globals = h.globals; store = stores_less t t' y f lawful there loses s h.store }),
+        subst (λ b. StandsFor (core_of roots t' y) (without s (b ∷ []))) base (record { mutators = h.mutators; globals = h.globals; store = stores_less t t' y f lawful there loses s h.store }),
       );
   phase = refl;
   count = refl;

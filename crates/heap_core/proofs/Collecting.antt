@@ -10,7 +10,8 @@ use Rattle.heap_spec.specs.declared.reply.Reply.TheVariants.{Count}
 use Rattle.heap_spec.specs.Heap.{Heap, Object, HasObject, root_words, words_of}
 use Rattle.heap_spec.specs.Closure as heap
 use Rattle.heap_spec.specs.Closure.{Reached}
-use Rattle.heap_spec.specs.Cycles.{TakesOut, CollectsFully, without}
+use Rattle.heap_spec.specs.Cycles.{TakesOut, CollectsFully}
+use Rattle.heap_spec.specs.Heap.{without}
 use Rattle.heap_spec.proofs.Closures.{closure_mono, reached_in}
 use Rattle.pages.specs.Memory.{place}
 use Rattle.block_map.specs.declared.found.Found.{Found}

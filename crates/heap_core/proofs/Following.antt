@@ -17,12 +17,13 @@ use Rattle.heap_spec.specs.declared.reply.Reply.TheVariants.{Done, Count, Refuse
 use Rattle.heap_spec.specs.Layout.{word_end}
 use Rattle.heap_spec.specs.Heap.{Heap, Object, Mutator as HeapMutator, HasObject}
 use Rattle.heap_spec.specs.Closure.{Closure, IsInClosure, given}
-use Rattle.heap_spec.specs.Cycles.{Forgets, CollectsFully, TakesOut, without}
+use Rattle.heap_spec.specs.Cycles.{Forgets, CollectsFully, TakesOut}
 use Rattle.heap_spec.specs.Histories.{Happens}
 use Rattle.heap_spec.specs.Laws.{HasDistinctBirths}
 use Rattle.heap_spec.specs.Steps.{Step, Acts, Calls, Attaches}
-use Rattle.heap_spec.specs.Runs.{Start, Run, Told, heap_after, is_marking, marking_after, count, counted, goes_on, Touched, touched_after}
+use Rattle.heap_spec.specs.Runs.{Start, Run, Told, heap_after, is_marking, marking_after, count, counted, goes_on, Touched, touched_after, IsBornSince}
 use Rattle.heap_spec.specs.Transcripts.{LineOf, LegalTranscript}
+use Rattle.heap_spec.proofs.Births.{step_births}
 use Rattle.heap_spec.proofs.Closures.{closure_mono}
 use Rattle.heap_spec.proofs.Runs.{touched_closed}
 use Rattle.block_map.specs.declared.found.Found.{Found}
@@ -33,46 +34,13 @@ use Rattle.heap_core.specs.Standing.{StandsFor, objects_of}
 use Rattle.heap_core.specs.Calls.{IsCall}
 use Rattle.heap_core.specs.Collections.{IsGrantedIn, IsAlwaysGranted, BeginsCycle, MarksOn, ReadsRoots, TakesWords, RetracesPage, ReadsPage, EndsCycle, EndsMarking, CollectsAll, ForgetsOutside, SweepsOne}
 use Rattle.heap_core.specs.Following.{Follows, IsLine, AreLines, told_of}
-use Rattle.heap_core.proofs.Tables.{with_at-cases, without-cases}
-
--- an object of the heap after a step was there before, or was born in it
-abbrev pub IsOldOrNew : Heap → ℕ → Object → Type 0
-IsOldOrNew s base o = ((p : Object) × HasObject s base p × (p.birth ≡ o.birth)) ⊎ (s.births < o.birth)
-
-acts_births : (s : Heap) (slot : ℕ) (m : HeapMutator) {call : Call} {reply : Reply} {s' : Heap} → Acts s slot m call reply s' → (base : ℕ) (o : Object) → HasObject s' base o → IsOldOrNew s base o
-acts_births s slot m (Acts.stored {base = b} {o = p} al reads) base o has =
-    ⊎_elim (λ h. inl (p, ap s.objects h.0 ∙ reads.0, ap (λ (x : Object). x.birth) h.1)) (λ h. inl (o, h.1, refl)) (with_at-cases s.objects b _ base o has)
-acts_births s slot m (Acts.allocated {kind = kind} {place = place} a e room) base o has =
-    ⊎_elim (λ h. inr (let same : s.births + 1 ≡ o.birth = ap (λ (x : Object). x.birth) h.1 in omega arith)) (λ h. inl (o, h.1, refl)) (with_at-cases s.objects a _ base o has)
-acts_births s slot m (Acts.freed {r = r} {o = p} gone) base o has = inl (o, (without-cases s.objects _ base o has).1, refl)
-acts_births s slot m _ base o has = inl (o, has, refl)
-
-calls_births : (s : Heap) (slot : ℕ) (call : Call) {reply : Reply} {s' : Heap} → Calls s slot call reply s' → (base : ℕ) (o : Object) → HasObject s' base o → IsOldOrNew s base o
-calls_births s slot call (Calls.acts {m = m} at acts) base o has = acts_births s slot m acts base o has
-calls_births s slot call (Calls.vacant none) base o has = inl (o, has, refl)
-
-attaches_births : (s : Heap) {reply : Reply} {s' : Heap} → Attaches s reply s' → (base : ℕ) (o : Object) → HasObject s' base o → IsOldOrNew s base o
-attaches_births s (Attaches.attached lowest) base o has = inl (o, has, refl)
-attaches_births s (Attaches.no_slot none) base o has = inl (o, has, refl)
-
-pub step_births : (s : Heap) (event : Event) (reply : Reply) (s' : Heap) → Step s event reply s' → (base : ℕ) (o : Object) → HasObject s' base o → IsOldOrNew s base o
-step_births s Attach reply s' step base o has = attaches_births s step base o has
-step_births s (Mutator slot call) reply s' step base o has = calls_births s slot call step base o has
-step_births s Begin reply s' step base o has = absurd step
-step_births s Roots reply s' step base o has = absurd step
-step_births s (Mark n) reply s' step base o has = absurd step
-step_births s Retrace reply s' step base o has = absurd step
-step_births s Finish reply s' step base o has = absurd step
-step_births s Sweep reply s' step base o has = absurd step
-step_births s Collect reply s' step base o has = absurd step
-step_births s Number reply s' step base o has = absurd step
 
 -- what a step is to a run
 pub record IsMoment (start : Start) (run : Run) (event : Event) (reply : Reply) (s' : Heap) : Type 0 where
-  pub happens : Happens start run event reply s'
+  pub happens : Happens Touched start run event reply s'
   pub marking : marking_after event (is_marking start run) ≡ is_marking start run
   pub counts : counted event ≡ 0
-  pub touches : (birth : ℕ) → IsInClosure s' (λ b. Touched start run b ⊎ ((heap_after start run).births < b)) birth → touched_after event (Touched start run) (heap_after start run) s' birth
+  pub touches : (birth : ℕ) → IsInClosure s' (λ b. Touched start run b ⊎ IsBornSince (heap_after start run) b) birth → touched_after event (Touched start run) (heap_after start run) s' birth
 
 step_moment : (start : Start) (run : Run) (event : Event) (reply : Reply) (s' : Heap) → Step (heap_after start run) event reply s' → IsMoment start run event reply s'
 step_moment start run Attach reply s' step = record { happens = step; marking = refl; counts = refl; touches = λ b x. x }
@@ -98,7 +66,7 @@ module _ (old : Contents) (event : Event) (reply : Reply) (new : Contents) (call
       let there = ap (objects_of new) f.2 ∙ f.1 in
       ⊎_elim
       (λ old_one. ⊎_elim
-      (λ was. inl (subst (Touched start run) old_one.2 (follows.touched is base old_one.0 old_one.1 (subst (IsMarked old.cycle.marking) f.2 was))))
+      (λ was. inl (subst (Touched start run) (sym old_one.2.birth) (follows.touched is base old_one.0 old_one.1 (subst (IsMarked old.cycle.marking) f.2 was))))
       (λ none. let g = follows.stands.store.shows.only base old_one.0 old_one.1 in absurd (none_some g.0 (sym (ap (objects_of old) (sym f.2) ∙ none) ∙ g.1)))
       (call.marks f.0 there (subst (IsMarked new.cycle.marking) (sym f.2) marked)))
       (λ born. inr born)
@@ -119,7 +87,7 @@ module _ (old : Contents) (event : Event) (reply : Reply) (new : Contents) (call
     touched = λ is base o has marked. moment.touches o.birth (base, o, has, refl, given has (touches (sym call.phase ∙ is) base o has marked));
   }
 
-  line : (next : Run) × LineOf start run event reply next × Follows new start next
+  line : (next : Run) × LineOf Touched start run event reply next × Follows new start next
   line = (goes_on run event reply after, LineOf.happens moment.happens, next_follows)
 
 pub call_line : (old : Contents) (event : Event) (reply : Reply) (new : Contents) → IsCall old event reply new → IsLine old event reply new
@@ -207,21 +175,21 @@ collect_line old new n all start run follows =
     )
 
 -- A refused call of the collector is a line that leaves the run as it is.
-wrong_line : (old new : Contents) (event : Event) (why : Refusal) → why ≡ WrongPhase → new ≡ old → ((start : Start) (run : Run) → Follows old start run → LineOf start run event (Refused WrongPhase) run) → IsLine old event (Refused why) new
+wrong_line : (old new : Contents) (event : Event) (why : Refusal) → why ≡ WrongPhase → new ≡ old → ((start : Start) (run : Run) → Follows old start run → LineOf Touched start run event (Refused WrongPhase) run) → IsLine old event (Refused why) new
 wrong_line old new event why is same line start run follows =
-    (run, subst (λ w. LineOf start run event (Refused w) run) (sym is) (line start run follows), subst (λ c. Follows c start run) (sym same) follows)
+    (run, subst (λ w. LineOf Touched start run event (Refused w) run) (sym is) (line start run follows), subst (λ c. Follows c start run) (sym same) follows)
 
 pub begin_result : (old new : Contents) (r : Result ⊤ Refusal) → IsGrantedIn false old r new (λ _. BeginsCycle old new) → IsLine old Begin (done_reply r) new
 begin_result old new (Ok done) g = begin_line old new g.0 g.1
-begin_result old new (Err why) g = wrong_line old new Begin why g.1 g.2 (λ start run follows. LineOf.begin_wrong (sym follows.phase ∙ g.0))
+begin_result old new (Err why) g = wrong_line old new Begin why g.1 g.2 (λ start run follows. LineOf.refused (sym follows.phase ∙ g.0))
 
 pub roots_result : (old new : Contents) (r : Result ⊤ Refusal) → IsGrantedIn true old r new (λ _. ReadsRoots old new) → IsLine old Roots (done_reply r) new
 roots_result old new (Ok done) g = λ start run follows. (run, LineOf.roots (sym follows.phase ∙ g.0), marks_follow (root_words_of old.roots) old new g.0 g.1.marks start run follows)
-roots_result old new (Err why) g = wrong_line old new Roots why g.1 g.2 (λ start run follows. LineOf.roots_wrong (sym follows.phase ∙ g.0))
+roots_result old new (Err why) g = wrong_line old new Roots why g.1 g.2 (λ start run follows. LineOf.refused (sym follows.phase ∙ g.0))
 
 pub mark_result : (old new : Contents) (asked : ℕ) (r : Result ℕ Refusal) → IsGrantedIn true old r new (λ n. TakesWords asked old n new) → IsLine old (Mark asked) (count_reply r) new
 mark_result old new asked (Ok n) g = λ start run follows. (run, LineOf.mark (sym follows.phase ∙ g.0) g.1.most, marks_follow [] old new g.0 g.1.marks start run follows)
-mark_result old new asked (Err why) g = wrong_line old new (Mark asked) why g.1 g.2 (λ start run follows. LineOf.mark_wrong (sym follows.phase ∙ g.0))
+mark_result old new asked (Err why) g = wrong_line old new (Mark asked) why g.1 g.2 (λ start run follows. LineOf.refused (sym follows.phase ∙ g.0))
 
 one_page : (old new : Contents) (n : ℕ) → ReadsPage old new n → n ≤ 1
 one_page old new n (ReadsPage.none clean same) = omega arith
@@ -229,11 +197,11 @@ one_page old new n (ReadsPage.page p reads) = omega arith
 
 pub retrace_result : (old new : Contents) (r : Result ℕ Refusal) → IsGrantedIn true old r new (λ n. RetracesPage old n new) → IsLine old Retrace (count_reply r) new
 retrace_result old new (Ok n) g = λ start run follows. (run, LineOf.retrace (sym follows.phase ∙ g.0) (one_page old new n g.1.reads), marks_follow [] old new g.0 g.1.marks start run follows)
-retrace_result old new (Err why) g = wrong_line old new Retrace why g.1 g.2 (λ start run follows. LineOf.retrace_wrong (sym follows.phase ∙ g.0))
+retrace_result old new (Err why) g = wrong_line old new Retrace why g.1 g.2 (λ start run follows. LineOf.refused (sym follows.phase ∙ g.0))
 
 pub finish_result : (old new : Contents) (r : Result ℕ Refusal) → IsGrantedIn true old r new (λ n. EndsCycle old n new) → IsLine old Finish (count_reply r) new
 finish_result old new (Ok n) g = finish_line old new n g.0 g.1
-finish_result old new (Err why) g = wrong_line old new Finish why g.1 g.2 (λ start run follows. LineOf.finish_wrong (sym follows.phase ∙ g.0))
+finish_result old new (Err why) g = wrong_line old new Finish why g.1 g.2 (λ start run follows. LineOf.refused (sym follows.phase ∙ g.0))
 
 pub collect_result : (old new : Contents) (r : Result ℕ Refusal) → IsAlwaysGranted r (λ n. CollectsAll old n new) → IsLine old Collect (count_reply r) new
 collect_result old new (Ok n) g = collect_line old new n g
@@ -254,10 +222,10 @@ sweep_result old new (Ok n) g = λ start run follows. (
 sweep_result old new (Err why) g = absurd g
 
 pub number_line : (c : Contents) → IsLine c Number (Count c.cycle.count) c
-number_line c start run follows = (run, subst (λ n. LineOf start run Number (Count n) run) (sym follows.count) LineOf.number, follows)
+number_line c start run follows = (run, subst (λ n. LineOf Touched start run Number (Count n) run) (sym follows.count) LineOf.number, follows)
 
 -- One line more.
-transcript_more : (start : Start) {run mid last : Run} {lines : List Told} → LegalTranscript start run lines mid → (event : Event) (reply : Reply) → LineOf start mid event reply last → LegalTranscript start run (lines ++ record { event = event; reply = reply } ∷ []) last
+transcript_more : (start : Start) {run mid last : Run} {lines : List Told} → LegalTranscript Touched start run lines mid → (event : Event) (reply : Reply) → LineOf Touched start mid event reply last → LegalTranscript Touched start run (lines ++ record { event = event; reply = reply } ∷ []) last
 transcript_more start LegalTranscript.ends event reply line = LegalTranscript.on line LegalTranscript.ends
 transcript_more start (LegalTranscript.on first rest) event reply line = LegalTranscript.on first (transcript_more start rest event reply line)
 

@@ -5,6 +5,7 @@ pub mod Changes
 pub mod Roots
 pub mod Lookups
 pub mod Rooms
+pub mod Searching
 pub mod OpenPages
 pub mod Allocations
 pub mod Opening

@@ -11,11 +11,11 @@ use Rattle.block_map.specs.FoundIn.{IsLawful}
 use Rattle.block_map.specs.Objects.{IsObjectOn}
 use Rattle.heap_core.specs.Contents.{Store, IsPendingRow, IsSwept, KeepsPending}
 
--- where nothing is to be swept
-pub pending_swept : (t t' : Store) → IsPendingRow t → IsSwept t → t'.pending ≡ t.pending → length t'.states ≡ length t.states → IsPendingRow t'
-pending_swept t t' row swept same size = record {
+-- what is cut stays cut
+pub pending_cut : (t t' : Store) → IsPendingRow t → t'.pending ≡ t.pending → length t'.states ≡ length t.states → ((p : ℕ) → IsCut (state_at t.states p) → IsCut (state_at t'.states p)) → IsPendingRow t'
+pending_cut t t' row same size cuts = record {
   size = ap length same ∙ row.size ∙ sym size;
-  cut = λ p h. absurd (swept p (subst (λ ps. Has ps p) same h));
+  cut = λ p h. cuts p (row.cut p (subst (λ ps. Has ps p) same h));
 }
 
 pub swept_row : (row : List Bool) (n : ℕ) → IsClear row n → (p : ℕ) → Has row p → ⊥
@@ -33,15 +33,31 @@ cell_cut (cut x) cell b is = tt
 cell_cut (head n k) cell b is = absurd is
 cell_cut (body q) cell b is = absurd is
 
+-- one cell of a page changes
+pub cut_cell : (states : List PageState) (page cell : ℕ) (b : Bool) → page < length states → (p : ℕ) → IsCut (state_at states p) → IsCut (state_at (set states page (with_cell (state_at states page) cell b)) p)
+cut_cell states page cell b inside p is = ⊎_elim
+    (λ (e : p ≡ page). subst (λ q. IsCut (state_at (set states page (with_cell (state_at states page) cell b)) q)) (sym e) (subst IsCut (sym (get_or-set_same states page (with_cell (state_at states page) cell b) free inside)) (cell_cut (state_at states page) cell b (subst (λ q. IsCut (state_at states q)) e is))))
+    (λ ne. subst IsCut (sym (get_or-set_other states page p (with_cell (state_at states page) cell b) free ne)) is)
+    (cases_eq p page)
+
+-- a free page is cut
+pub cut_page : (states : List PageState) (page : ℕ) (st : PageState) → state_at states page ≡ free → (p : ℕ) → IsCut (state_at states p) → IsCut (state_at (set states page st) p)
+cut_page states page st was p is = ⊎_elim
+    (λ (e : p ≡ page). absurd (subst IsCut (ap (state_at states) e ∙ was) is))
+    (λ ne. subst IsCut (sym (get_or-set_other states page p st free ne)) is)
+    (cases_eq p page)
+
+-- pages that were not cut change
+pub cut_span : (states states' : List PageState) (first n : ℕ) (state : ℕ → PageState) → IsSpanSet states states' first n state → ((p : ℕ) → first ≤ p → p < first + n → state_at states p ≡ free)
+    → (p : ℕ) → IsCut (state_at states p) → IsCut (state_at states' p)
+cut_span states states' first n state span were p is = ⊎_elim (λ i. absurd (subst IsCut (were p i.0 i.1) is)) (λ out. subst IsCut (sym (span.others p out)) is) (place_of first n p)
+
 -- a cell of a page is freed, and the page keeps another object
 pub pending_put : (states states' : List PageState) (page cell : ℕ) (row : List Bool) → page < length states → states' ≡ set states page (with_cell (state_at states page) cell false) → KeepsPending page states states' row row
 pending_put states states' page cell row inside became = record {
   rest = λ p ne. refl;
   size = refl;
-  cut = λ cuts p h. ⊎_elim
-      (λ (e : p ≡ page). subst (λ q. IsCut (state_at states' q)) (sym e) (subst IsCut (sym (ap (λ x. state_at x page) became ∙ get_or-set_same states page _ free inside)) (cell_cut (state_at states page) cell false (subst (λ q. IsCut (state_at states q)) e (cuts p h)))))
-      (λ ne. subst IsCut (sym (ap (λ x. state_at x p) became ∙ get_or-set_other states page p _ free ne)) (cuts p h))
-      (cases_eq p page);
+  cut = λ cuts p h. subst (λ x. IsCut (state_at x p)) (sym became) (cut_cell states page cell false inside p (cuts p h));
   less = λ p h. h;
   same = λ w g there. refl;
 }

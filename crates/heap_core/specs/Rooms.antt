@@ -6,7 +6,6 @@ use Rattle.words.specs.declared.class.Placement.TheVariants.{Small, Large}
 use Rattle.words.specs.declared.limits.TheConstants.{PAGE_WORDS, MAX_REQUEST_WORDS}
 use Rattle.heap_spec.specs.Heap.{Heap}
 use Rattle.heap_spec.specs.Room.{HasRoom, length_of}
-use Rattle.heap_spec.specs.Steps.{with_object}
 use Rattle.blocks.specs.Cells.{Cells}
 use Rattle.pages.specs.Memory.{IsZeroed, place}
 use Rattle.pages.specs.Runs.{IsFreeRun, IsFilled}
@@ -32,11 +31,6 @@ pub record IsFreeCell (states : List PageState) (class : ℕ) (kind : Kind) (pag
 abbrev pub HasNoFreeCell : List PageState → ℕ → Kind → Type 0
 HasNoFreeCell states class kind = (page cell : ℕ) → IsFreeCell states class kind page cell → ⊥
 
--- the heap with one object more, whose words are 0
-abbrev pub with_new : Heap → ℕ → Kind → Placement → Heap
-with_new s base kind place =
-    record (with_object s base (Some (record { birth = s.births + 1; kind = kind; words = replicate (length_of place) 0 }))) { births = s.births + 1 }
-
 -- The base has room in each heap whose objects are among the store's.
 abbrev pub HasRoomAt : Store → Placement → Kind → ℕ → Type 0
 HasRoomAt t place kind base = (keep : Found → Bool) (s : Heap) → Stores keep t s → HasRoom s place kind base
@@ -60,9 +54,9 @@ pub record CutsPage (free free' : List Bool) (states states' : List PageState) (
   pub same : IsSameMap (found_in states) (found_in states')
 
 -- the pages of a large request: some, and no more than the largest request has
-abbrev pub IsSized : Placement → Type 0
-IsSized (Small class) = Unit {0}
-IsSized (Large pages) = (0 < pages) × (PAGE_WORDS * pages ≤ MAX_REQUEST_WORDS)
+abbrev pub IsRequest : Placement → Type 0
+IsRequest (Small class) = Unit {0}
+IsRequest (Large pages) = (0 < pages) × (PAGE_WORDS * pages ≤ MAX_REQUEST_WORDS)
 
 -- the map with this cell free
 abbrev pub without_cell : List PageState → ℕ → ℕ → List PageState

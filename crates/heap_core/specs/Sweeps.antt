@@ -1,5 +1,5 @@
 -- Objects that go, and objects that come, as changes of the store.
-use Rattle.std.specs.Prelude.{◌≡◌, ◌↔◌, ℕ, ◌+◌, ◌*◌, ◌<◌, ◌≤◌, ◌≢◌, ◌⊎◌, Bool, true, false, slice_index_or, slice_set, List, length, Contains, All, nat_eq, Option, Some}
+use Rattle.std.specs.Prelude.{◌≡◌, ◌↔◌, ℕ, ◌+◌, ◌*◌, ◌<◌, ◌≤◌, ◌≢◌, ◌⊎◌, count_by, Bool, true, false, slice_index_or, slice_set, List, length, Contains, All, nat_eq, Option, Some}
 use Rattle.std.specs.List.{IsDistinct}
 use Rattle.words.specs.declared.limits.TheConstants.{FIRST_ADDRESS, WORD_BYTES}
 use Rattle.words.specs.declared.class.Kind.{Kind}
@@ -10,6 +10,7 @@ use Rattle.pages.specs.Memory.{IsZeroed}
 use Rattle.words.specs.Bits.{Has}
 use Rattle.mark_bits.specs.Granules.{granule}
 use Rattle.heap_core.specs.Contents.{IsSwept}
+use Rattle.heap_core.specs.Rooms.{HasRoomAt, HasNoRoom}
 use Rattle.heap_core.specs.Kept.{kept_in, IsPendingAfter}
 use Rattle.block_map.specs.Changes.{IsSameMap}
 use Rattle.block_map.specs.Places.{page_start, page_of}
@@ -115,6 +116,25 @@ pub record Sweeps (old : Store) (marks : List Bool) (new : Store) : Type 0 where
   pub pages : length new.states ≡ length old.states
   pub same : IsSameMap (kept_in old.states old.pending marks) (kept_in new.states new.pending marks)
   pub fewer : (page : ℕ) → Has new.pending page → Has old.pending page
+  pub number : count_by (λ b. b) new.pending ≤ count_by (λ b. b) old.pending
+
+-- Once pages were swept as it needed, a place was taken for an object.
+pub record Allocates (old : Store) (marks : List Bool) (place : Placement) (kind : Kind) (base : ℕ) (new : Store) : Type 0 where
+  pub ready : Store
+  pub sweeps : Sweeps old marks ready
+  pub room : HasRoomAt ready place kind base
+  pub gains : Gains ready place kind base new
+
+-- Pages were swept, and no address has room for all the objects that are there now.
+pub record FindsNoPlace (old : Store) (marks : List Bool) (place : Placement) (kind : Kind) (new : Store) : Type 0 where
+  pub sweeps : Sweeps old marks new
+  pub none : HasNoRoom new place kind
+
+-- All pages were swept, and no address has room.
+pub record FindsNoRoom (old : Store) (marks : List Bool) (place : Placement) (kind : Kind) (new : Store) : Type 0 where
+  pub sweeps : Sweeps old marks new
+  pub swept : IsSwept new
+  pub none : HasNoRoom new place kind
 
 -- Each unmarked object is forgotten, so many: the large ones are gone from the map, and the pages of the others are to be
 -- swept. Nothing else has changed.

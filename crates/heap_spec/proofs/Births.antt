@@ -13,11 +13,15 @@ use Rattle.heap_spec.proofs.Objects.{at_cases, same_object, without_one}
 
 acts_births : (s : Heap) (slot : ℕ) (m : HeapMutator) {call : Call} {reply : Reply} {s' : Heap} → Acts s slot m call reply s' → (base : ℕ) (p : Object) → HasObject s' base p → IsOldOrNew s base p
 acts_births s slot m (Acts.stored {base = b} {o = o} al reads) base p has = ⊎_elim
-    (λ here. let e = same_Some _ p here.1 in inl (o, ap s.objects here.0 ∙ reads.0, record {
-      birth = ap (λ (x : Object). x.birth) (sym e);
-      kind = ap (λ (x : Object). x.kind) (sym e);
-      size = ap (λ (x : Object). length x.words) (sym e) ∙ length-set o.words _ _;
-    }))
+    (λ here. let e = same_Some _ p here.1 in inl (
+      o,
+      ap s.objects here.0 ∙ reads.0,
+      record {
+        birth = ap (λ (x : Object). x.birth) (sym e);
+        kind = ap (λ (x : Object). x.kind) (sym e);
+        size = ap (λ (x : Object). length x.words) (sym e) ∙ length-set o.words _ _;
+      },
+    ))
     (λ other. inl (p, other.1, same_object p))
     (at_cases s.objects b _ base _ has)
 acts_births s slot m (Acts.allocated {kind = kind} {place = place} a e room) base p has = ⊎_elim

@@ -105,8 +105,7 @@ impl Core {
         let Some(placement) = class_of(words) else {
             return Err(Refusal::BadSize);
         };
-        self.objects.sweep_all(&self.marker);
-        let Some(base) = self.objects.allocate(placement, kind) else {
+        let Some(base) = self.objects.allocate(&self.marker, placement, kind) else {
             return Err(Refusal::Full);
         };
         note_object(&mut self.marker, self.is_marking, base);

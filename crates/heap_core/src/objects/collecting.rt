@@ -149,7 +149,7 @@ impl Objects {
     }
 
     // Sweeps a page.
-    fn sweep_page(&mut self, marker: &Marker, page: PageNo)
+    pub(super) fn sweep_page(&mut self, marker: &Marker, page: PageNo)
         requires sized { IsSized (length self.old.states) marker.now }
         requires inside { page < length self.old.states }
         requires was { Has self.old.pending page }
