@@ -5,6 +5,7 @@ use Rattle.std.proofs.lemmas.Bool.{cases_lt, cases_eq}
 use Rattle.std.proofs.lemmas.List.{get_or-replicate, length-replicate}
 use Rattle.words.specs.declared.class.Kind.{Kind}
 use Rattle.words.specs.declared.class.Placement.TheVariants.{Small, Large}
+use Rattle.words.specs.Bits.{Has}
 use Rattle.words.specs.Classes.{IsSizeClass}
 use Rattle.heap_spec.specs.Layout.{page_start}
 use Rattle.heap_spec.specs.Heap.{Heap, Object, with_at}
@@ -13,17 +14,18 @@ use Rattle.pages.specs.Memory.{IsWordAddress, IsZeroed, place}
 use Rattle.pages.specs.Runs.{IsFreeRun, HasNoFreeRun, IsFilled}
 use Rattle.blocks.specs.Cells.{Cells, IsCells}
 use Rattle.blocks.proofs.Places.{class_bounds}
-use Rattle.block_map.specs.States.{PageState, free, cut, head, body, state_at, LaidAt, IsLaid, IsSpanSet, HasCell, all_free, with_cell, large_states}
+use Rattle.block_map.specs.States.{PageState, free, cut, head, body, state_at, IsCut, LaidAt, IsLaid, IsSpanSet, HasCell, all_free, with_cell, large_states}
 use Rattle.block_map.specs.Objects.{cell_object, large_object, object_on, IsPlaced}
 use Rattle.block_map.specs.Changes.{IsAdded, IsSameMap}
 use Rattle.block_map.specs.FoundIn.{found_in, IsLawful}
 use Rattle.block_map.specs.declared.found.Found.{Found}
-use Rattle.block_map.proofs.Laid.{laid_block, laid_cell}
+use Rattle.block_map.proofs.Laid.{laid_block, laid_cell, laid_large}
 use Rattle.block_map.proofs.Lawful.{map_laws}
 use Rattle.block_map.proofs.Spans.{place_of}
-use Rattle.heap_core.specs.Contents.{Store, IsSound, Agree}
+use Rattle.heap_core.specs.Contents.{Store, IsSound, Agree, IsPendingRow}
 use Rattle.heap_core.specs.Standing.{Stores, Shows}
-use Rattle.heap_core.specs.Rooms.{IsFreeCell, HasNoFreeCell, with_new, Allocates, HasNoRoom, TakesCell, CutsPage}
+use Rattle.heap_core.specs.Rooms.{IsFreeCell, HasNoFreeCell, HasRoomAt, HasNoRoom, TakesCell, CutsPage}
+use Rattle.heap_core.specs.Sweeps.{Gains}
 use Rattle.heap_core.proofs.Changes.{shows_added}
 use Rattle.heap_core.proofs.Rooms.{cell_below, cell_end, room_of_cell, room_of_page, no_small_room, large_room, no_large_room}
 
@@ -40,9 +42,20 @@ shows_same found after words objects births same shows = record {
 cell_is : (states : List PageState) (page cell : ℕ) (b : Cells) → state_at states page ≡ cut b → object_on page (state_at states page) cell ≡ cell_object page b cell
 cell_is states page cell b is = ap (λ st. object_on page st cell) is
 
+not_pending : (t : Store) (page : ℕ) → (Has t.pending page → ⊥) → get_or t.pending page false ≡ false
+not_pending t page swept = by (get_or t.pending page false) refl
+  where
+    by : (b : Bool) → get_or t.pending page false ≡ b → get_or t.pending page false ≡ false
+    by false e = e
+    by true e = absurd (swept e)
+
+-- a page that is free is not to be swept
+pub free_swept : (t : Store) (page : ℕ) → IsPendingRow t → state_at t.states page ≡ free → Has t.pending page → ⊥
+free_swept t page row is h = subst IsCut is (row.cut page h)
+
 -- a store one cell of which is taken has one object more
 module _ (t : Store) (laid : IsLaid t.states) (lawful : IsLawful t.states) (class : ℕ) (kind : Kind) (page cell base : ℕ) (words' : List ℕ) (states' : List PageState)
-    (place_is : IsFreeCell t.states class kind page cell) (takes : TakesCell t.words words' t.states states' page cell base) where
+    (place_is : IsFreeCell t.states class kind page cell) (takes : TakesCell t.words words' t.states states' page cell base) (swept : Has t.pending page → ⊥) where
   abbrev pub taken : Store
   taken = record t { words = words'; states = states' }
 
@@ -72,16 +85,21 @@ module _ (t : Store) (laid : IsLaid t.states) (lawful : IsLawful t.states) (clas
       let lawful' = map_laws states' taken_laid in let long = some in
       lawful'.map.placed f.base f (takes.added.after f.base (record { from = omega arith; below = omega arith }))
 
-  pub taken_stores : (s : Heap) → Stores t s → Stores taken (with_new s base kind (Small class))
+  pub taken_gains : Gains t (Small class) kind base taken
   unfolding f
-  taken_stores s stores = record {
-    pages = stores.pages ∙ sym (ap length takes.became ∙ length-set t.states page _);
-    shows = subst (λ b. Shows (found_in states') words' (with_at s.objects b (Some (record { birth = s.births + 1; kind = kind; words = replicate class 0 }))) (s.births + 1)) (sym takes.at)
-        (shows_added (found_in t.states) (found_in states') (length t.states) lawful.map t.words words' s.objects s.births stores.shows f class kind takes.added
-        (subst (λ b. IsZeroed t.words words' (place b) f.len) takes.at takes.zeroed)
-        (ap (λ (x : Found). x.len) (cell_is t.states page cell place_is.block place_is.is_cut) ∙ place_is.of_class)
-        (ap (λ (x : Found). x.kind) (cell_is t.states page cell place_is.block place_is.is_cut) ∙ place_is.of_kind)
-        some placed.above placed.aligned);
+  taken_gains = record {
+    object = object_on page (state_at t.states page) cell;
+    at = sym takes.at;
+    size = ap (λ (x : Found). x.len) (cell_is t.states page cell place_is.block place_is.is_cut) ∙ place_is.of_class;
+    of_kind = ap (λ (x : Found). x.kind) (cell_is t.states page cell place_is.block place_is.is_cut) ∙ place_is.of_kind;
+    pending = refl;
+    swept = ap (λ (x : Found). get_or t.pending x.page false) (cell_is t.states page cell place_is.block place_is.is_cut) ∙ not_pending t page swept;
+    pages = ap length takes.became ∙ length-set t.states page _;
+    before = lawful.map;
+    map = (map_laws states' taken_laid).map;
+    found = ap (found_in states') takes.at ∙ takes.added.after (object_on page (state_at t.states page) cell).base (let long = some in record { from = omega arith; below = omega arith });
+    added = takes.added;
+    zeroed = takes.zeroed;
   }
 
   after_state : state_at states' page ≡ cut (record place_is.block { taken = set place_is.block.taken cell true })
@@ -127,11 +145,9 @@ module _ (t : Store) (laid : IsLaid t.states) (lawful : IsLawful t.states) (clas
 
 -- a free cell of a page that was cut already
 pub allocates_cell : (t : Store) (class : ℕ) (kind : Kind) (page cell base : ℕ) (words' : List ℕ) (states' : List PageState) → IsSound t → IsLaid t.states → IsLawful t.states
-    → IsFreeCell t.states class kind page cell → TakesCell t.words words' t.states states' page cell base → Allocates t (Small class) kind base (record t { words = words'; states = states' })
-allocates_cell t class kind page cell base words' states' sound laid lawful at takes s stores = (
-  subst (HasSmallRoom s class kind) (same ∙ sym takes.at) (room_of_cell t s sound laid lawful stores class kind page cell at),
-  taken_stores t laid lawful class kind page cell base words' states' at takes s stores,
-)
+    → IsFreeCell t.states class kind page cell → TakesCell t.words words' t.states states' page cell base → HasRoomAt t (Small class) kind base
+allocates_cell t class kind page cell base words' states' sound laid lawful at takes keep s stores =
+    subst (HasSmallRoom s class kind) (same ∙ sym takes.at) (room_of_cell keep t s sound laid lawful stores class kind page cell at)
   where
     same : page_start page + 8 * (class * cell) ≡ (object_on page (state_at t.states page) cell).base
     same =
@@ -142,9 +158,13 @@ allocates_cell t class kind page cell base words' states' sound laid lawful at t
         turned = omega arith
 
 pub sound_cell : (t : Store) (class : ℕ) (kind : Kind) (page cell base : ℕ) (words' : List ℕ) (states' : List PageState) → IsSound t → IsLaid t.states → IsLawful t.states
-    → IsFreeCell t.states class kind page cell → TakesCell t.words words' t.states states' page cell base → IsSound (record t { words = words'; states = states' })
-sound_cell t class kind page cell base words' states' sound laid lawful at takes =
-    taken_sound t laid lawful class kind page cell base words' states' at takes sound.words sound.agree (λ p b ne is. sound.used p b is)
+    → IsFreeCell t.states class kind page cell → TakesCell t.words words' t.states states' page cell base → (Has t.pending page → ⊥) → IsSound (record t { words = words'; states = states' })
+sound_cell t class kind page cell base words' states' sound laid lawful at takes swept =
+    taken_sound t laid lawful class kind page cell base words' states' at takes swept sound.words sound.agree (λ p b ne is. sound.used p b is)
+
+pub gains_cell : (t : Store) (class : ℕ) (kind : Kind) (page cell base : ℕ) (words' : List ℕ) (states' : List PageState) → IsLaid t.states → IsLawful t.states
+    → IsFreeCell t.states class kind page cell → TakesCell t.words words' t.states states' page cell base → (Has t.pending page → ⊥) → Gains t (Small class) kind base (record t { words = words'; states = states' })
+gains_cell t class kind page cell base words' states' laid lawful at takes swept = taken_gains t laid lawful class kind page cell base words' states' at takes swept
 
 -- a page that was free is cut, and its first cell is taken
 module _ (t : Store) (sound : IsSound t) (laid : IsLaid t.states) (lawful : IsLawful t.states) (class : ℕ) (kind : Kind) (is_class : IsSizeClass class) (page : ℕ) (free' : List Bool) (states' : List PageState)
@@ -200,42 +220,67 @@ module _ (t : Store) (sound : IsSound t) (laid : IsLaid t.states) (lawful : IsLa
       cut_free : all_free class kind ≡ free → ⊥
       cut_free e = cc
 
-  module _ (base : ℕ) (words' : List ℕ) (states'' : List PageState) (takes : TakesCell t.words words' states' states'' page 0 base) where
-    pub allocates_page : Allocates t (Small class) kind base (record t { words = words'; free = free'; states = states'' })
-    allocates_page s stores = (
-      subst (HasSmallRoom s class kind) same (room_of_page t s sound laid lawful stores class kind page (let b = class_bounds class is_class in omega arith) inside was_free),
-      taken_stores with_cut cut_laid (map_laws states' cut_laid) class kind page 0 base words' states'' first_cell takes s
-          (record { pages = stores.pages ∙ sym size; shows = shows_same (found_in t.states) (found_in states') t.words s.objects s.births cuts.same stores.shows }),
-    )
+  module _ (base : ℕ) (words' : List ℕ) (states'' : List PageState) (takes : TakesCell t.words words' states' states'' page 0 base) (row : IsPendingRow t) where
+    pub allocates_page : HasRoomAt t (Small class) kind base
+    allocates_page keep s stores =
+        subst (HasSmallRoom s class kind) same (room_of_page keep t s sound laid lawful stores class kind page (let b = class_bounds class is_class in omega arith) inside was_free)
       where
         same : page_start page ≡ base
         same =
             let e = takes.at in
             let g : (object_on page (state_at states' page) 0).base ≡ page_start page + 0 * (8 * class) = ap (λ st. (object_on page st 0).base) here in omega arith
 
+    pub gains_page : Gains t (Small class) kind base (record t { words = words'; free = free'; states = states'' })
+    gains_page =
+        let g = taken_gains with_cut cut_laid (map_laws states' cut_laid) class kind page 0 base words' states'' first_cell takes (free_swept t page row was_free) in
+        record {
+          object = g.object;
+          at = g.at;
+          size = g.size;
+          of_kind = g.of_kind;
+          pending = g.pending;
+          swept = g.swept;
+          pages = g.pages ∙ size;
+          before = lawful.map;
+          map = g.map;
+          found = g.found;
+          added = record { before = λ w r. sym (cuts.same.same w) ∙ g.added.before w r; after = g.added.after; others = λ w n. g.added.others w n ∙ cuts.same.same w };
+          zeroed = g.zeroed;
+        }
+
     pub sound_page : IsSound (record t { words = words'; free = free'; states = states'' })
-    sound_page = taken_sound with_cut cut_laid (map_laws states' cut_laid) class kind page 0 base words' states'' first_cell takes
+    sound_page = taken_sound with_cut cut_laid (map_laws states' cut_laid) class kind page 0 base words' states'' first_cell takes (free_swept t page row was_free)
         (sound.words ∙ ap (λ n. 512 * n) (sym size)) cut_agree (λ p b ne is. sound.used p b (sym (other p ne) ∙ is))
 
 -- no room for a small object
 pub no_room_small : (t : Store) (class : ℕ) (kind : Kind) → IsSound t → IsLaid t.states → IsLawful t.states → IsSizeClass class → HasNoFreeCell t.states class kind → HasNoFreeRun t.free 1 → HasNoRoom t (Small class) kind
-no_room_small t class kind sound laid lawful is_class no_cell no_page s stores a = no_small_room t s sound laid lawful stores class kind is_class no_cell no_page a
+no_room_small t class kind sound laid lawful is_class no_cell no_page s stores a = no_small_room (λ _. true) t s sound laid lawful stores (λ g. refl) class kind is_class no_cell no_page a
 
 -- a run of free pages becomes a large object
 module _ (t : Store) (sound : IsSound t) (laid : IsLaid t.states) (lawful : IsLawful t.states) (n : ℕ) (kind : Kind) (first : ℕ) (words' : List ℕ) (free' : List Bool) (states' : List PageState) (some_pages : 0 < n)
     (run : IsFreeRun t.free first n) (taken_run : IsFilled t.free free' first n false) (span : IsSpanSet t.states states' first n (large_states first n kind))
     (added : IsAdded (found_in t.states) (found_in states') (large_object first n kind)) (zeroed : IsZeroed t.words words' (place (page_start first)) (512 * n)) where
   abbrev pub with_large : Store
-  with_large = record { words = words'; free = free'; states = states' }
+  with_large = record t { words = words'; free = free'; states = states' }
 
-  pub allocates_large : Allocates t (Large n) kind (page_start first) with_large
-  allocates_large s stores = (
-    large_room t s sound laid lawful stores kind first n run,
-    record {
-      pages = stores.pages ∙ sym span.size;
-      shows = shows_added (found_in t.states) (found_in states') (length t.states) lawful.map t.words words' s.objects s.births stores.shows (large_object first n kind) (512 * n) kind added zeroed refl refl (omega arith) (omega arith) (omega arith);
-    },
-  )
+  pub allocates_large : HasRoomAt t (Large n) kind (page_start first)
+  allocates_large keep s stores = large_room keep t s sound laid lawful stores kind first n run
+
+  pub gains_large : ((k : ℕ) → first ≤ k → k < first + n → state_at t.states k ≡ free) → IsPendingRow t → Gains t (Large n) kind (page_start first) with_large
+  gains_large was row = record {
+    object = large_object first n kind;
+    at = refl;
+    size = refl;
+    of_kind = refl;
+    pending = refl;
+    swept = not_pending t first (free_swept t first row (was first (omega arith) (omega arith)));
+    pages = span.size;
+    before = lawful.map;
+    map = (map_laws states' (laid_large t.states states' first n kind laid some_pages was span)).map;
+    found = added.after (page_start first) (record { from = omega arith; below = omega arith });
+    added = added;
+    zeroed = zeroed;
+  }
 
   large_not_free : (b : Bool) → (if b then head n kind else body first) ≡ free → ⊥
   large_not_free true e = cc
@@ -267,7 +312,7 @@ module _ (t : Store) (sound : IsSound t) (laid : IsLaid t.states) (lawful : IsLa
 
 -- no room for a large object
 pub no_room_large : (t : Store) (n : ℕ) (kind : Kind) → IsSound t → IsLaid t.states → IsLawful t.states → HasNoFreeRun t.free n → HasNoRoom t (Large n) kind
-no_room_large t n kind sound laid lawful none s stores a = no_large_room t s sound laid lawful stores n none a
+no_room_large t n kind sound laid lawful none s stores a = no_large_room (λ _. true) t s sound laid lawful stores (λ g. refl) n none a
 
 -- where the words of a free cell are
 pub cell_words : (states : List PageState) (class : ℕ) (kind : Kind) (page cell : ℕ) (words : List ℕ) → IsLaid states → IsSizeClass class → IsFreeCell states class kind page cell → length words ≡ 512 * length states

@@ -1,17 +1,18 @@
 -- What changes of a map and of the memory are to the heap: a word is stored, an object goes, an object comes.
-use Rattle.std.proofs.Common.{◌≡◌, ℕ, ◌+◌, ◌-◌, ◌*◌, ◌/◌, ◌%◌, ◌<◌, ◌≤◌, ◌⊎◌, List, length, get_or, set, replicate, Option, Some, None, refl, sym, ap, ◌∙◌, subst, arith, inl, inr, ⊎_elim, length-set, get_or-set_same, get_or-set_other}
+use Rattle.std.proofs.Common.{◌≡◌, ℕ, ◌+◌, ◌-◌, ◌*◌, ◌/◌, ◌%◌, ◌<◌, ◌≤◌, ◌⊎◌, List, [], ◌∷◌, length, get_or, set, replicate, Option, Some, None, refl, sym, ap, ◌∙◌, subst, arith, inl, inr, ⊎_elim, length-set, get_or-set_same, get_or-set_other}
 use Rattle.std.specs.Prelude.{◌≢◌, slice_index}
 use Rattle.std.proofs.lemmas.Bool.{cases_lt, cases_eq}
 use Rattle.std.proofs.lemmas.List.{get_or-replicate, length-replicate}
 use Rattle.std.proofs.lemmas.Option.{same_Some}
 use Rattle.words.specs.declared.class.Kind.{Kind}
-use Rattle.heap_spec.specs.Heap.{Object, with_at}
+use Rattle.heap_spec.specs.Heap.{Object, with_at, without_at}
 use Rattle.pages.specs.Memory.{IsZeroed, place, with_word_at}
 use Rattle.block_map.specs.Objects.{IsMap, Reads}
 use Rattle.block_map.specs.Changes.{IsAdded, IsRemoved}
 use Rattle.block_map.specs.declared.found.Found.{Found}
 use Rattle.heap_core.specs.Standing.{IsShown, Shows}
-use Rattle.heap_core.proofs.Tables.{with_at-same, with_at-other, with_at-cases, without-cases}
+use Rattle.heap_spec.proofs.Objects.{without_one, without_one-other}
+use Rattle.heap_core.proofs.Tables.{with_at-same, with_at-other, with_at-cases}
 use Rattle.heap_core.proofs.Shown.{at_base, one_at_base, word_index, reads_place}
 
 -- a word is stored
@@ -67,7 +68,7 @@ module _ (found : ℕ → Option Found) (pages : ℕ) (map : IsMap pages found) 
         (λ ne. let old = shows.kept g there in (old.0, with_at-other objects f.base (Some written) g.base ne ∙ old.1, others_shown g old.0 there ne old.2))
         (cases_eq g.base f.base);
     only = λ b p e. let was = was_there b p e in shows.only b was.0 was.1;
-    born = λ b p e. let was = was_there b p e in let born = shows.born b was.0 was.1 in let same = was.2 in omega arith;
+    born = λ b p e. let was = was_there b p e in subst (λ n. (1 ≤ n) × (n ≤ births)) was.2 (shows.born b was.0 was.1);
     distinct = λ a b p q x y same. let p' = was_there a p x in let q' = was_there b q y in shows.distinct a b p'.0 q'.0 p'.1 q'.1 (p'.2 ∙ same ∙ sym q'.2);
   }
     where
@@ -83,15 +84,15 @@ module _ (found after : ℕ → Option Found) (pages : ℕ) (map : IsMap pages f
   base_read : Reads f.base f
   base_read = map.reads f.base f is
 
-  pub shows_removed : Shows after words (with_at objects f.base None) births
+  pub shows_removed : Shows after words (without_at objects (f.base ∷ [])) births
   shows_removed = record {
-    kept = λ g there. let ne = other g there in let old = shows.kept g (was g there ne) in (old.0, with_at-other objects f.base None g.base ne ∙ old.1, old.2);
+    kept = λ g there. let ne = other g there in let old = shows.kept g (was g there ne) in (old.0, without_one-other objects f.base g.base ne ∙ old.1, old.2);
     only = λ b p e.
-        let h = without-cases objects f.base b p e in
+        let h = without_one objects f.base b p e in
         let old = shows.only b p h.1 in
         (old.0, sym (gone.others b (λ r. h.0 (sym old.2 ∙ ap (λ (x : Found). x.base) (one b old.0 old.1 r)))) ∙ old.1, old.2);
-    born = λ b p e. shows.born b p (without-cases objects f.base b p e).1;
-    distinct = λ a b p q x y same. shows.distinct a b p q (without-cases objects f.base a p x).1 (without-cases objects f.base b q y).1 same;
+    born = λ b p e. shows.born b p (without_one objects f.base b p e).1;
+    distinct = λ a b p q x y same. shows.distinct a b p q (without_one objects f.base a p x).1 (without_one objects f.base b q y).1 same;
   }
     where
       one : (b : ℕ) (g : Found) → found b ≡ Some g → Reads b f → g ≡ f
@@ -152,8 +153,8 @@ module _ (found after : ℕ → Option Found) (pages : ℕ) (map : IsMap pages f
         (λ h. let old = shows.only b p h.1 in (old.0, came.others b (λ r. let none : found b ≡ None = came.before b r in let some = old.1 in cc) ∙ old.1, old.2))
         (with_at-cases objects f.base fresh b p e);
     born = λ b p e. ⊎_elim
-        (λ h. subst (λ (x : Object). x.birth ≤ births + 1) h.1 (omega arith))
-        (λ h. let born = shows.born b p h.1 in omega arith)
+        (λ h. subst (λ (x : Object). (1 ≤ x.birth) × (x.birth ≤ births + 1)) h.1 (omega arith, omega arith))
+        (λ h. let born = shows.born b p h.1 in (born.0, omega (arith, born.1)))
         (with_at-cases objects f.base fresh b p e);
     distinct = λ a b p q x y same. ⊎_elim
         (λ h. ⊎_elim (λ k. h.0 ∙ sym k.0) (λ k. absurd (too_late b q k.1 (ap (λ (z : Object). z.birth) h.1 ∙ same))) (with_at-cases objects f.base fresh b q y))
@@ -168,4 +169,4 @@ module _ (found after : ℕ → Option Found) (pages : ℕ) (map : IsMap pages f
       was_found g there ne = sym (came.others g.base (λ r. ne (ap (λ (x : Found). x.base) (same_Some _ _ (sym there ∙ came.after g.base r))))) ∙ there
 
       too_late : (b : ℕ) (q : Object) → objects b ≡ Some q → births + 1 ≡ q.birth → ⊥
-      too_late b q there late = let born = shows.born b q there in omega arith
+      too_late b q there late = let born = (shows.born b q there).1 in omega arith

@@ -15,9 +15,10 @@ use Rattle.block_map.specs.Changes.{IsRemoved, IsSameMap, IsUncut, HasNoObject}
 use Rattle.block_map.specs.FoundIn.{found_in, IsLawful}
 use Rattle.block_map.specs.declared.found.Found.{Found}
 use Rattle.block_map.proofs.Spans.{place_of}
-use Rattle.heap_core.specs.Contents.{Store, IsSound, Agree}
+use Rattle.heap_core.specs.Contents.{Store, IsSound, Agree, KeepsPending, IsPendingRow}
 use Rattle.heap_core.specs.Standing.{Shows}
-use Rattle.heap_core.specs.Rooms.{Frees, FreesCell, EmptiesCell, keeps, gives, without_cell}
+use Rattle.heap_core.specs.Rooms.{FreesCell, EmptiesCell, keeps, gives, without_cell}
+use Rattle.heap_core.specs.Sweeps.{Loses}
 use Rattle.heap_core.proofs.Changes.{shows_removed}
 
 -- pages that become free in the pool and in the map
@@ -39,14 +40,6 @@ module _ (row row' : List Bool) (states states' : List PageState) (first n : ℕ
     where
       no_block : (b : Cells) → free ≡ cut b → ⊥
       no_block b z = cc
-
--- the object of a page with this state is gone
-pub frees : (t t' : Store) (f : Found) → IsLawful t.states → found_in t.states f.base ≡ Some f → t'.words ≡ t.words → length t'.states ≡ length t.states → IsRemoved (found_in t.states) (found_in t'.states) f → Frees t f.base t'
-frees t t' f lawful is words size removed s stores = record {
-  pages = stores.pages ∙ sym size;
-  shows = subst (λ ws. Shows (found_in t'.states) ws (with_at s.objects f.base None) s.births) (sym words)
-      (shows_removed (found_in t.states) (found_in t'.states) (length t.states) lawful.map t.words s.objects s.births stores.shows f is removed);
-}
 
 -- all pages of a large object
 pub sound_large_gone : (t : Store) (row' : List Bool) (states' : List PageState) (first n : ℕ) → IsSound t → IsFilled t.free row' first n true → IsSpanSet t.states states' first n (λ _. free)
@@ -158,10 +151,16 @@ module _ (t : Store) (sound : IsSound t) (page cell : ℕ) (b : Cells) (is : sta
   size_freed (keeps c i at bit row became) = ap length became ∙ length-set t.states page _
   size_freed (gives given span) = span.size ∙ length-set t.states page _
 
-  pub frees_cell : (f : Found) → IsLawful t.states → found_in t.states f.base ≡ Some f → f ≡ cell_object page b cell → FreesCell t.free row' t.states states' page cell → Frees t f.base (record t { free = row'; states = states' })
-  frees_cell f lawful found same freed =
-      let object : object_on page (state_at t.states page) cell ≡ f = ap (λ st. object_on page st cell) is ∙ sym same in
-      frees t (record t { free = row'; states = states' }) f lawful found refl (size_freed freed.pages) (subst (IsRemoved (found_in t.states) (found_in states')) object freed.removed)
+-- and the store has lost its object
+pub loses_cell : (t : Store) (page cell : ℕ) (b : Cells) → state_at t.states page ≡ cut b → page < length t.states → (row' : List Bool) (states' : List PageState) (pending' : List Bool) (f : Found) → f ≡ cell_object page b cell
+    → FreesCell t.free row' t.states states' page cell → KeepsPending page t.states states' t.pending pending' → Loses t f (record t { free = row'; states = states'; pending = pending' })
+loses_cell t page cell b is inside row' states' pending' f same freed keeps_row =
+    let object : object_on page (state_at t.states page) cell ≡ f = ap (λ st. object_on page st cell) is ∙ sym same in
+    record { words = refl; pages = size freed.pages; removed = subst (IsRemoved (found_in t.states) (found_in states')) object freed.removed; row_size = keeps_row.size; rest = λ p ne. keeps_row.rest p (λ e. ne (e ∙ sym (ap (λ (x : Found). x.page) same))); fewer = keeps_row.less; pending = keeps_row.same }
+  where
+    size : EmptiesCell t.free row' t.states states' page cell → length states' ≡ length t.states
+    size (keeps c i at bit row became) = ap length became ∙ length-set t.states page _
+    size (gives given span) = span.size ∙ length-set t.states page _
 
 -- what is on the page of an object that is found
 pub on_page : (t : Store) (f : Found) → IsLawful t.states → found_in t.states f.base ≡ Some f → IsObject t.states f
@@ -197,8 +196,10 @@ large_here t f lawful is uncut = by (in_large t f (on_page t f lawful is) uncut)
         let ends = (lawful.map.placed f.base f is).below in
         (l.1, l.2 ∙ ap (λ m. head m l.1) n, omega arith, omega arith, l.3 ∙ ap (λ m. large_object f.page m l.1) n)
 
--- a large object goes
-pub frees_large : (t : Store) (f : Found) (row' : List Bool) (states' : List PageState) (k : Kind) (n : ℕ) → IsLawful t.states → found_in t.states f.base ≡ Some f → f ≡ large_object f.page n k → IsSpanSet t.states states' f.page n (λ _. free)
-    → IsRemoved (found_in t.states) (found_in states') (large_object f.page n k) → Frees t f.base (record t { free = row'; states = states' })
-frees_large t f row' states' k n lawful is same span removed =
-    frees t (record t { free = row'; states = states' }) f lawful is refl span.size (subst (IsRemoved (found_in t.states) (found_in states')) (sym same) removed)
+pub loses_large : (t : Store) (f : Found) (row' : List Bool) (states' : List PageState) (k : Kind) (n : ℕ) → f ≡ large_object f.page n k → IsSpanSet t.states states' f.page n (λ _. free)
+    → IsRemoved (found_in t.states) (found_in states') (large_object f.page n k) → Loses t f (record t { free = row'; states = states' })
+loses_large t f row' states' k n same span removed = record { words = refl; pages = span.size; removed = subst (IsRemoved (found_in t.states) (found_in states')) (sym same) removed; row_size = refl; rest = λ p ne. refl; fewer = λ p h. h; pending = λ w g there. refl }
+
+-- the row of the pages to be swept
+pub pending_row : (t t' : Store) (page : ℕ) → IsPendingRow t → length t'.states ≡ length t.states → KeepsPending page t.states t'.states t.pending t'.pending → IsPendingRow t'
+pending_row t t' page row size keeps_row = record { size = keeps_row.size ∙ row.size ∙ sym size; cut = keeps_row.cut row.cut }

@@ -8,17 +8,19 @@ use Rattle.block_map.specs.declared.found.Found.{Found}
 use Rattle.block_map.proofs.Laid.{laid_free}
 use Rattle.block_map.proofs.Lawful.{map_laws}
 use Rattle.heap_core.specs.Contents.{Store}
+use Rattle.std.specs.Prelude.{Bool}
+use Rattle.heap_core.proofs.Kept.{kept_cases}
 use Rattle.heap_core.specs.Standing.{Stores}
 
 none_some : {A : Type 0} (x : A) → None ≡ Some x → ⊥
 none_some x e = cc
 
 -- all pages are free, so there is no object
-pub opens : (t : Store) (pages : ℕ) → AreAllFree t.states pages → pages ≤ 1024 → Stores t (opening pages)
-opens t pages all few = record {
+pub opens : (t : Store) (pages : ℕ) → AreAllFree t.states pages → pages ≤ 1024 → (keep : Found → Bool) → Stores keep t (opening pages)
+opens t pages all few keep = record {
   pages = sym all.size;
   shows = record {
-    kept = λ f is. absurd (nothing f is);
+    kept = λ f is. absurd (nothing f (kept_cases keep (found_in t.states) f.base f is).0);
     only = λ base o is. absurd (none_some o is);
     born = λ base o is. absurd (none_some o is);
     distinct = λ a b o p x y same. absurd (none_some o x);

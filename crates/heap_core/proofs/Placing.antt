@@ -10,14 +10,14 @@ use Rattle.words.specs.declared.limits.TheConstants.{PAGE_WORDS, MAX_SMALL_WORDS
 use Rattle.words.specs.declared.class.Placement.{Placement}
 use Rattle.words.specs.declared.class.Placement.TheVariants.{Small, Large}
 use Rattle.words.specs.Placing.{placement_of}
-use Rattle.heap_core.specs.Rooms.{IsSized}
+use Rattle.heap_core.specs.Rooms.{IsRequest}
 
 none_some : (place : Placement) → None ≡ Some place → ⊥
 none_some place e = cc
 
-in_class : (o : Option ℕ) (place : Placement) → option_map Small o ≡ Some place → IsSized place
+in_class : (o : Option ℕ) (place : Placement) → option_map Small o ≡ Some place → IsRequest place
 in_class None place e = absurd (none_some place e)
-in_class (Some c) place e = subst IsSized (same_Some _ _ e) tt
+in_class (Some c) place e = subst IsRequest (same_Some _ _ e) tt
 
 some_pages : (n : ℕ) → nat_le n MAX_SMALL_WORDS ≡ false → 0 < div_ceil n PAGE_WORDS
 some_pages n large = let more : 256 < n = grind (arith, nat_tests) in omega arith
@@ -29,12 +29,12 @@ few_pages n small = let few : n ≤ 16384 = at_most n small in omega arith
     at_most n small = grind (arith, nat_tests)
 
 -- where a request goes is of a fit size
-pub sized : (n : ℕ) (place : Placement) → placement_of n ≡ Some place → IsSized place
+pub sized : (n : ℕ) (place : Placement) → placement_of n ≡ Some place → IsRequest place
 sized n place is =
     by ((n == 0) || nat_lt MAX_REQUEST_WORDS n) refl (nat_le n MAX_SMALL_WORDS) refl is
   where
     by : (x : Bool) → ((n == 0) || nat_lt MAX_REQUEST_WORDS n) ≡ x → (y : Bool) → nat_le n MAX_SMALL_WORDS ≡ y
-        → (if x then None else (if y then option_map Small (find (λ c. nat_le n c) CLASSES) else Some (Large (div_ceil n PAGE_WORDS)))) ≡ Some place → IsSized place
+        → (if x then None else (if y then option_map Small (find (λ c. nat_le n c) CLASSES) else Some (Large (div_ceil n PAGE_WORDS)))) ≡ Some place → IsRequest place
     by true ex y ey e = absurd (none_some place e)
     by false ex true ey e = in_class (find (λ c. nat_le n c) CLASSES) place e
-    by false ex false ey e = subst IsSized (same_Some _ _ e) (some_pages n ey, few_pages n ex)
+    by false ex false ey e = subst IsRequest (same_Some _ _ e) (some_pages n ey, few_pages n ex)

@@ -18,6 +18,8 @@ use Rattle.block_map.specs.FoundIn.{found_in, IsLawful}
 use Rattle.block_map.specs.declared.found.Found.{Found}
 use Rattle.heap_core.specs.Contents.{Store, IsSound}
 use Rattle.heap_core.specs.Standing.{Stores}
+use Rattle.heap_core.specs.Kept.{restrict}
+use Rattle.heap_core.proofs.Kept.{kept_cases, kept_is}
 use Rattle.heap_core.specs.Rooms.{IsFreeCell, HasNoFreeCell}
 
 free_cut : (b : Cells) → free ≡ cut b → ⊥
@@ -128,19 +130,20 @@ module _ (states : List PageState) (laid : IsLaid states) where
       let less = here.0 in let reach = here.4 in
       by_large q here.1 here.2 (omega arith) (record { page = omega arith; on = subst (λ x. IsObjectOn x (large_object q here.1 here.2)) (sym here.3) refl }) (omega arith, omega arith)
 
-module _ (t : Store) (s : Heap) (sound : IsSound t) (laid : IsLaid t.states) (lawful : IsLawful t.states) (stores : Stores t s) where
+module _ (keep : Found → Bool) (t : Store) (s : Heap) (sound : IsSound t) (laid : IsLaid t.states) (lawful : IsLawful t.states) (stores : Stores keep t s) where
   -- the heap's object is one of the store's
   pub heap_object : (base : ℕ) (o : Object) → s.objects base ≡ Some o → (f : Found) × IsObject t.states f × (f.base ≡ base) × (f.len ≡ length o.words) × (f.kind ≡ o.kind) × (0 < f.len)
   heap_object base o is =
       let only = stores.shows.only base o is in
-      let kept = stores.shows.kept only.0 (ap (found_in t.states) only.2 ∙ only.1) in
+      let kept = stores.shows.kept only.0 (ap (restrict keep (found_in t.states)) only.2 ∙ only.1) in
+      let there = (kept_cases keep (found_in t.states) base only.0 only.1).0 in
       let same : kept.0 ≡ o = same_Some _ _ (sym kept.1 ∙ ap s.objects only.2 ∙ is) in
-      (only.0, lawful.object base only.0 only.1, only.2, sym kept.2.size ∙ ap (λ (x : Object). length x.words) same, sym kept.2.kind ∙ ap (λ (x : Object). x.kind) same, (lawful.map.placed base only.0 only.1).some)
+      (only.0, lawful.object base only.0 there, only.2, sym kept.2.size ∙ ap (λ (x : Object). length x.words) same, sym kept.2.kind ∙ ap (λ (x : Object). x.kind) same, (lawful.map.placed base only.0 there).some)
 
-  -- the store's object is one of the heap's
-  pub store_object : (f : Found) → IsObject t.states f → 0 < f.len → (o : Object) × (s.objects f.base ≡ Some o) × (length o.words ≡ f.len) × (o.kind ≡ f.kind)
-  store_object f is some =
-      let kept = stores.shows.kept f (lawful.found f.base f is (record { from = omega arith; below = omega arith })) in
+  -- if all are kept, the store's object is one of the heap's
+  pub store_object : ((g : Found) → keep g ≡ true) → (f : Found) → IsObject t.states f → 0 < f.len → (o : Object) × (s.objects f.base ≡ Some o) × (length o.words ≡ f.len) × (o.kind ≡ f.kind)
+  store_object all f is some =
+      let kept = stores.shows.kept f (kept_is keep (found_in t.states) f.base f (lawful.found f.base f is (record { from = omega arith; below = omega arith })) (all f)) in
       (kept.0, kept.1, kept.2.size, kept.2.kind)
 
   pub free_page : (page : ℕ) → state_at t.states page ≡ free → IsFree s page
@@ -155,17 +158,17 @@ module _ (t : Store) (s : Heap) (sound : IsSound t) (laid : IsLaid t.states) (la
   used : (page : ℕ) → page < length t.states → Used t.states laid page (state_at t.states page)
   used page lt = used_by t.states laid page (state_at t.states page) lt refl (laid.each page lt) (sound.used page)
 
-  pub page_free : (page : ℕ) → page < length t.states → IsFree s page → state_at t.states page ≡ free
-  page_free page lt none = by (used page lt)
+  pub page_free : ((g : Found) → keep g ≡ true) → (page : ℕ) → page < length t.states → IsFree s page → state_at t.states page ≡ free
+  page_free all page lt none = by (used page lt)
     where
       by : Used t.states laid page (state_at t.states page) → state_at t.states page ≡ free
       by (by_none is) = is
       by (by_cell b i is cells o lies) =
           let some = (class_bounds b.class cells.class).0 in
-          let h = store_object (cell_object page b i) o (omega arith) in
+          let h = store_object all (cell_object page b i) o (omega arith) in
           absurd (none (cell_object page b i).base h.0 h.1 (subst (λ l. LiesOn (cell_object page b i).base l page) (sym h.2) lies))
       by (by_large first n k some o lies) =
-          let h = store_object (large_object first n k) o (omega arith) in
+          let h = store_object all (large_object first n k) o (omega arith) in
           absurd (none (page_start first) h.0 h.1 (subst (λ l. LiesOn (page_start first) l page) (sym h.2) lies))
 
   pub cut_for : (page : ℕ) (b : Cells) → state_at t.states page ≡ cut b → IsCutFor s page b.class b.kind
@@ -234,9 +237,9 @@ module _ (t : Store) (s : Heap) (sound : IsSound t) (laid : IsLaid t.states) (la
   }
 
   -- with no free cell and no free page there is no room
-  pub no_small_room : (class : ℕ) (kind : Kind) → IsSizeClass class → HasNoFreeCell t.states class kind → HasNoFreeRun t.free 1 → (a : ℕ) → HasSmallRoom s class kind a → ⊥
-  no_small_room class kind is_class no_cell no_page a r =
-      ⊎_elim (λ free. none (page_free r.page inside free)) (λ c. by c.0 c.1 (used r.page inside)) r.cut
+  pub no_small_room : ((g : Found) → keep g ≡ true) → (class : ℕ) (kind : Kind) → IsSizeClass class → HasNoFreeCell t.states class kind → HasNoFreeRun t.free 1 → (a : ℕ) → HasSmallRoom s class kind a → ⊥
+  no_small_room all class kind is_class no_cell no_page a r =
+      ⊎_elim (λ free. none (page_free all r.page inside free)) (λ c. by c.0 c.1 (used r.page inside)) r.cut
     where
       inside : r.page < length t.states
       inside = let pages = stores.pages in let lt = r.in_heap in omega arith
@@ -253,12 +256,12 @@ module _ (t : Store) (s : Heap) (sound : IsSound t) (laid : IsLaid t.states) (la
       by : IsCutFor s r.page class kind → s.objects a ≡ None → Used t.states laid r.page (state_at t.states r.page) → ⊥
       by cut_is no_object (by_none is) = none is
       by cut_is no_object (by_large first n k some o lies) =
-          let h = store_object (large_object first n k) o (omega arith) in
+          let h = store_object all (large_object first n k) o (omega arith) in
           let c = cut_is (page_start first) h.0 h.1 (subst (λ l. LiesOn (page_start first) l r.page) (sym h.2) lies) in
           let b = bounds in let e = c.0 in let l = h.2 in omega arith
       by cut_is no_object (by_cell b i is cells o lies) =
           let low = (class_bounds b.class cells.class).0 in
-          let h = store_object (cell_object r.page b i) o (omega arith) in
+          let h = store_object all (cell_object r.page b i) o (omega arith) in
           let c = cut_is (cell_object r.page b i).base h.0 h.1 (subst (λ l. LiesOn (cell_object r.page b i).base l r.page) (sym h.2) lies) in
           let class_is : b.class ≡ class = sym h.2 ∙ c.0 in
           let kind_is : b.kind ≡ kind = sym h.3 ∙ c.1 in
@@ -272,7 +275,7 @@ module _ (t : Store) (s : Heap) (sound : IsSound t) (laid : IsLaid t.states) (la
           bit b is class_is kind_is in_cells false e = no_cell r.page r.cell (record { block = b; inside = inside; is_cut = is; of_class = class_is; of_kind = kind_is; in_row = in_cells; is_free = e })
           bit b is class_is kind_is in_cells true e =
               let o : IsObject t.states (cell_object r.page b r.cell) = record { page = inside; on = subst (λ x. IsObjectOn x (cell_object r.page b r.cell)) (sym is) (refl, in_cells, e) } in
-              let h = store_object (cell_object r.page b r.cell) o (let z = bounds in omega arith) in
+              let h = store_object all (cell_object r.page b r.cell) o (let z = bounds in omega arith) in
               let at : page_start r.page + r.cell * (8 * b.class) ≡ a = ap (λ c. page_start r.page + r.cell * (8 * c)) class_is ∙ turned ∙ sym r.is_cell in
               let some : s.objects a ≡ Some h.0 = ap s.objects (sym at) ∙ h.1 in cc
 
@@ -285,10 +288,10 @@ module _ (t : Store) (s : Heap) (sound : IsSound t) (laid : IsLaid t.states) (la
     free = λ page low high. free_page page (sound.agree.free_in_map page (run.free page low high));
   }
 
-  pub no_large_room : (n : ℕ) → HasNoFreeRun t.free n → (a : ℕ) → HasLargeRoom s n a → ⊥
-  no_large_room n none a r =
+  pub no_large_room : ((g : Found) → keep g ≡ true) → (n : ℕ) → HasNoFreeRun t.free n → (a : ℕ) → HasLargeRoom s n a → ⊥
+  no_large_room all n none a r =
       let pages = stores.pages in let size = sound.agree.size in let fits = r.in_heap in
       none r.first (record {
         inside = omega arith;
-        free = λ k low high. let lt : k < length t.states = omega arith in sound.agree.free_in_pool k lt (page_free k lt (r.free k low high));
+        free = λ k low high. let lt : k < length t.states = omega arith in sound.agree.free_in_pool k lt (page_free all k lt (r.free k low high));
       })

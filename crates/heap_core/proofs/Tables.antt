@@ -1,5 +1,5 @@
 -- Tables of objects by their bases, with one entry changed.
-use Rattle.std.proofs.Common.{◌≡◌, ℕ, false, eqb, sym, ◌∙◌, arith, inl, inr, ◌⊎◌, ⊎_elim, Option, Some, None}
+use Rattle.std.proofs.Common.{◌≡◌, ℕ, false, eqb, sym, ◌∙◌, arith, inl, inr, ◌⊎◌, ⊎_elim, Option, Some}
 use Rattle.std.specs.Prelude.{◌≢◌}
 use Rattle.std.proofs.lemmas.Bool.{cond-true, cond-false, eq-eqb, cases_eq}
 use Rattle.std.proofs.lemmas.Option.{same_Some}
@@ -22,15 +22,4 @@ with_at-cases m k x q y is =
     ⊎_elim
     (λ same. inl (same, same_Some _ _ (sym (with_at-same m k (Some x) q same) ∙ is)))
     (λ other. inr (other, sym (with_at-other m k (Some x) q other) ∙ is))
-    (cases_eq q k)
-
-none_some : {A : Type 0} (x : A) → None ≡ Some x → ⊥
-none_some x e = cc
-
--- what a table has with one entry taken out
-pub without-cases : {A : Type 0} (m : ℕ → Option A) (k q : ℕ) (y : A) → with_at m k None q ≡ Some y → (q ≢ k) × (m q ≡ Some y)
-without-cases m k q y is =
-    ⊎_elim
-    (λ same. absurd (none_some y (sym (with_at-same m k None q same) ∙ is)))
-    (λ other. (other, sym (with_at-other m k None q other) ∙ is))
     (cases_eq q k)

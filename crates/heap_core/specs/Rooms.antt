@@ -6,7 +6,6 @@ use Rattle.words.specs.declared.class.Placement.TheVariants.{Small, Large}
 use Rattle.words.specs.declared.limits.TheConstants.{PAGE_WORDS, MAX_REQUEST_WORDS}
 use Rattle.heap_spec.specs.Heap.{Heap}
 use Rattle.heap_spec.specs.Room.{HasRoom, length_of}
-use Rattle.heap_spec.specs.Steps.{with_object}
 use Rattle.blocks.specs.Cells.{Cells}
 use Rattle.pages.specs.Memory.{IsZeroed, place}
 use Rattle.pages.specs.Runs.{IsFreeRun, IsFilled}
@@ -15,6 +14,7 @@ use Rattle.block_map.specs.FoundIn.{found_in}
 use Rattle.block_map.specs.Objects.{object_on}
 use Rattle.block_map.specs.States.{PageState, free, cut, state_at, all_free, with_cell, IsSpanSet}
 use Rattle.heap_core.specs.Contents.{Store}
+use Rattle.block_map.specs.declared.found.Found.{Found}
 use Rattle.heap_core.specs.Standing.{Stores}
 
 -- the page is cut for the class and the kind, and its cell is free
@@ -31,22 +31,13 @@ pub record IsFreeCell (states : List PageState) (class : ℕ) (kind : Kind) (pag
 abbrev pub HasNoFreeCell : List PageState → ℕ → Kind → Type 0
 HasNoFreeCell states class kind = (page cell : ℕ) → IsFreeCell states class kind page cell → ⊥
 
--- the heap with one object more, whose words are 0
-abbrev pub with_new : Heap → ℕ → Kind → Placement → Heap
-with_new s base kind place =
-    record (with_object s base (Some (record { birth = s.births + 1; kind = kind; words = replicate (length_of place) 0 }))) { births = s.births + 1 }
+-- The base has room in each heap whose objects are among the store's.
+abbrev pub HasRoomAt : Store → Placement → Kind → ℕ → Type 0
+HasRoomAt t place kind base = (keep : Found → Bool) (s : Heap) → Stores keep t s → HasRoom s place kind base
 
--- There was room at the base, and the store has one object more there, whose words are 0.
-abbrev pub Allocates : Store → Placement → Kind → ℕ → Store → Type 0
-Allocates old place kind base new = (s : Heap) → Stores old s → HasRoom s place kind base × Stores new (with_new s base kind place)
-
--- No address has room.
+-- No address has room in a heap that has all the objects of the store.
 abbrev pub HasNoRoom : Store → Placement → Kind → Type 0
-HasNoRoom t place kind = (s : Heap) → Stores t s → (a : ℕ) → HasRoom s place kind a → ⊥
-
--- The object with the base is gone, and nothing else has changed.
-abbrev pub Frees : Store → ℕ → Store → Type 0
-Frees old base new = (s : Heap) → Stores old s → Stores new (with_object s base None)
+HasNoRoom t place kind = (s : Heap) → Stores (λ _. true) t s → (a : ℕ) → HasRoom s place kind a → ⊥
 
 -- A free cell is allocated, and its words are 0. Nothing else has changed.
 pub record TakesCell (words words' : List ℕ) (states states' : List PageState) (page cell base : ℕ) : Type 0 where
@@ -63,9 +54,9 @@ pub record CutsPage (free free' : List Bool) (states states' : List PageState) (
   pub same : IsSameMap (found_in states) (found_in states')
 
 -- the pages of a large request: some, and no more than the largest request has
-abbrev pub IsSized : Placement → Type 0
-IsSized (Small class) = Unit {0}
-IsSized (Large pages) = (0 < pages) × (PAGE_WORDS * pages ≤ MAX_REQUEST_WORDS)
+abbrev pub IsRequest : Placement → Type 0
+IsRequest (Small class) = Unit {0}
+IsRequest (Large pages) = (0 < pages) × (PAGE_WORDS * pages ≤ MAX_REQUEST_WORDS)
 
 -- the map with this cell free
 abbrev pub without_cell : List PageState → ℕ → ℕ → List PageState

@@ -1,23 +1,29 @@
 //! The objects of a heap: their words, the pages that they lie on, and which pages are free. That the pool and the map
 //! agree on the free pages is kept here, and no other module touches either.
-ghost use Rattle.std.specs.Prelude.{◌≡◌, ◌*◌, length};
+ghost use Rattle.std.specs.Prelude.{◌≡◌, ◌*◌, Bool, length};
 ghost use Rattle.words.specs.declared.limits.TheConstants.{PAGE_WORDS};
 ghost use Rattle.heap_spec.specs.Heap.{opening};
 ghost use Rattle.pages.specs.Memory.{IsWordAddress, word_at, with_word_at};
 ghost use Rattle.pages.specs.Opening.{IsOpened};
 ghost use Rattle.block_map.specs.FoundIn.{found_in, IsLawful};
+ghost use Rattle.block_map.specs.declared.found.Found.{Found};
+ghost use Rattle.marker.specs.Marking.{IsSized};
+ghost use Rattle.heap_core.specs.Contents.{IsSwept};
+ghost use Rattle.heap_core.specs.Kept.{kept_in};
 ghost use Rattle.heap_core.specs.Standing.{Stores};
 
+mod collecting;
 mod frees;
 mod open_pages;
 mod rooms;
 
 use self::open_pages::OpenPages;
 use block_map::{BlockMap, Found};
+use marker::Marker;
 use pages::{Memory, PagePool};
 use std::alloc::Global;
 use std::marker::Model;
-use words::OpenError;
+use words::{BitRow, OpenError};
 
 /// The objects of a heap.
 #[derive(Drop)]
@@ -26,6 +32,7 @@ pub struct Objects {
     pool: PagePool,
     map: BlockMap,
     open_pages: OpenPages,
+    pending: BitRow,
 }
 
 impl Model for Objects {
@@ -33,15 +40,15 @@ impl Model for Objects {
 
     ghost Value = { Store };
 
-    ghost view = { λ o. record { words = o.memory; free = o.pool; states = o.map } };
+    ghost view = { λ o. record { words = o.memory; free = o.pool; states = o.map; pending = o.pending } };
 
-    ghost invariant = { λ o. IsKept (record { words = o.memory; free = o.pool; states = o.map }) o.open_pages };
+    ghost invariant = { λ o. IsKept (record { words = o.memory; free = o.pool; states = o.map; pending = o.pending }) o.open_pages };
 }
 
 impl Objects {
     /// So many pages, with no object on them.
     pub fn new(alloc: Global, pages: u32) -> Result<Objects, OpenError>
-        ensures { IsOpened pages result (λ objects. Stores objects (opening pages)) }
+        ensures { IsOpened pages result (λ objects. IsSwept objects × ((keep : Found → Bool) → Stores keep objects (opening pages))) }
     {
         let memory = Memory::new(alloc, pages)?;
         let pool = PagePool::new(alloc, pages)?;
@@ -49,22 +56,33 @@ impl Objects {
         let Ok(open_pages) = OpenPages::new(alloc, pages) else {
             return Err(OpenError::Memory);
         };
+        let Ok(pending) = BitRow::new(alloc, pages as usize) else {
+            return Err(OpenError::Memory);
+        };
         Ok(Objects {
             memory,
             pool,
             map,
             open_pages,
+            pending,
         })
     }
 
-    /// The object that a word reads.
+    /// The kept object that a word reads. On a page that is still to be swept only marked objects are kept.
     #[inline]
-    pub fn find(&self, word: u64) -> Option<Found>
-        ensures found { result ≡ found_in self.now.states word }
+    pub fn find(&self, marker: &Marker, word: u64) -> Option<Found>
+        requires { IsSized (length self.now.states) marker.now }
+        ensures found { result ≡ kept_in self.now.states self.now.pending marker.now.marks word }
         ensures lawful { IsLawful self.now.states }
         ensures long { length self.now.words ≡ PAGE_WORDS * length self.now.states }
     {
-        self.map.find(word)
+        let Some(found) = self.map.find(word) else {
+            return None;
+        };
+        if self.pending.is_set(found.page as usize) && !marker.is_marked(found.base) {
+            return None;
+        }
+        Some(found)
     }
 
     /// The word at an address.

@@ -7,20 +7,23 @@ ghost use Rattle.block_map.specs.FoundIn.{found_in, IsLawful};
 ghost use Rattle.block_map.specs.States.{free, head, state_at, HasCell, IsLaid, IsSpanSet};
 ghost use Rattle.block_map.specs.Objects.{large_object};
 ghost use Rattle.heap_core.specs.OpenRows.{IsExact};
-ghost use Rattle.heap_core.specs.Rooms.{Frees, FreesCell};
+ghost use Rattle.heap_core.specs.Contents.{KeepsPending};
+ghost use Rattle.heap_core.specs.Rooms.{FreesCell};
+ghost use Rattle.heap_core.specs.Sweeps.{Loses};
 
 use super::Objects;
 use super::open_pages::OpenPages;
 use block_map::{BlockMap, Found};
 use pages::PagePool;
-use words::PageNo;
 use words::limits::PAGE_WORDS;
+use words::{BitRow, PageNo};
 
 // Frees a cell, and its page with the last one.
 fn free_cell(
     pool: &mut PagePool,
     map: &mut BlockMap,
     open_pages: &mut OpenPages,
+    pending: &mut BitRow,
     page: PageNo,
     cell: u16,
 )
@@ -28,8 +31,10 @@ fn free_cell(
     requires cell { HasCell (state_at map.old page) cell true }
     requires size { length pool.old ≡ length map.old }
     requires exact { IsExact open_pages.old map.old }
+    requires row { length pending.old ≡ length map.old }
     ensures freed { FreesCell pool.old pool.new map.old map.new page cell }
     ensures exact { IsExact open_pages.new map.new }
+    ensures pending { KeepsPending page map.old map.new pending.old pending.new }
 {
     map.put(page, cell);
     let Some(block) = map.block(page) else {
@@ -44,6 +49,9 @@ fn free_cell(
     map.uncut(page);
     pool.give(page, 1);
     open_pages.leave(class, kind, page);
+    pending.clear(page as usize);
+    // Its clauses tell what is true of the map.
+    let _pages = map.len();
 }
 
 // Frees all pages of the large object that begins on a page.
@@ -66,7 +74,7 @@ impl Objects {
     pub fn release(&mut self, found: Found)
         requires found { found_in self.old.states found.base ≡ Some found }
         requires lawful { IsLawful self.old.states }
-        ensures { Frees self.old found.base self.new }
+        ensures { Loses self.old found self.new }
     {
         let page = found.page;
         match self.map.block(page) {
@@ -74,6 +82,7 @@ impl Objects {
                 &mut self.pool,
                 &mut self.map,
                 &mut self.open_pages,
+                &mut self.pending,
                 page,
                 found.cell,
             ),

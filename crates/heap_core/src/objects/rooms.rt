@@ -1,20 +1,23 @@
 //! Where a new object goes: into a cell of a page that is cut for its class and kind, onto a page that is cut for it now,
 //! or onto pages of its own.
-ghost use Rattle.std.specs.Prelude.{◌≡◌, ◌*◌, ◌<◌, IfNone, IfSome, MatchBool, length};
+ghost use Rattle.std.specs.Prelude.{◌≡◌, ℕ, ◌*◌, ◌<◌, ◌⊎◌, false, IfNone, IfSome, MatchBool, MatchOption, length};
 ghost use Rattle.words.specs.declared.limits.TheConstants.{PAGE_WORDS};
+ghost use Rattle.words.specs.Bits.{Has};
 ghost use Rattle.words.specs.Classes.{IsSizeClass};
 ghost use Rattle.heap_spec.specs.Layout.{page_start};
 ghost use Rattle.pages.specs.Runs.{HasNoFreeRun};
 ghost use Rattle.blocks.specs.Cells.{Cells};
-ghost use Rattle.block_map.specs.FoundIn.{IsLawful};
 ghost use Rattle.block_map.specs.States.{cut, state_at, IsCut, IsLaid};
+ghost use Rattle.marker.specs.Marking.{IsSized};
 ghost use Rattle.heap_core.specs.Contents.{Agree};
-ghost use Rattle.heap_core.specs.OpenRows.{HasFreeCell, IsExact};
-ghost use Rattle.heap_core.specs.Rooms.{IsSized, IsFreeCell, HasNoFreeCell, TakesCell, CutsPage, Allocates, HasNoRoom};
+ghost use Rattle.heap_core.specs.OpenRows.{HasFreeCell, IsBlockFor, IsExact, IsOpen};
+ghost use Rattle.heap_core.specs.Rooms.{IsRequest, IsFreeCell, HasNoFreeCell, TakesCell, CutsPage, HasRoomAt, HasNoRoom};
+ghost use Rattle.heap_core.specs.Sweeps.{Allocates, FindsNoPlace, FindsNoRoom, Gains, Sweeps};
 
 use super::Objects;
 use super::open_pages::OpenPages;
 use block_map::BlockMap;
+use marker::Marker;
 use pages::{Memory, PagePool};
 use words::limits::{FIRST_ADDRESS, PAGE_BYTES, PAGE_WORDS, PageNo, WORD_BYTES};
 use words::{Class, Kind, Placement};
@@ -27,34 +30,10 @@ struct Place {
 }
 
 // The address of a page's first byte.
-fn start_of(page: PageNo) -> u64
+pub(crate) fn start_of(page: PageNo) -> u64
     ensures { result ≡ page_start page }
 {
     FIRST_ADDRESS + PAGE_BYTES * u64::from(page)
-}
-
-// A free cell of the lowest page that has one for the class and the kind.
-fn find_cell(open_pages: &OpenPages, map: &BlockMap, class: Class, kind: Kind) -> Option<Place>
-    requires { IsExact open_pages.now map.now }
-    ensures some { IfSome result (λ place. IsFreeCell map.now class kind place.page place.cell) }
-    ensures none { IfNone result (HasNoFreeCell map.now class kind) }
-    ensures class { IsSizeClass class }
-    ensures laid { IsLaid map.now }
-    ensures lawful { IsLawful map.now }
-{
-    // Its clauses tell what is true of the map.
-    let _pages = map.len();
-    let Some(page) = open_pages.first(class, kind) else {
-        return None;
-    };
-    let page = page as PageNo;
-    let Some(block) = map.block(page) else {
-        unreachable!();
-    };
-    let Some(cell) = block.free_cell() else {
-        unreachable!();
-    };
-    Some(Place { page, cell })
 }
 
 // Takes a free page, and cuts it.
@@ -67,11 +46,13 @@ fn cut_page(
 ) -> Option<Place>
     requires agree { Agree pool.old map.old }
     requires exact { IsExact open_pages.old map.old }
-    requires class { IsSizeClass class }
     ensures some { IfSome result (λ place. (place.cell ≡ 0) × CutsPage pool.old pool.new map.old map.new class kind place.page) }
     ensures none { IfNone result (HasNoFreeRun pool.old 1 × (pool.new ≡ pool.old) × (map.new ≡ map.old)) }
     ensures exact { IsExact open_pages.new map.new }
+    ensures class { IsSizeClass class }
 {
+    // Its clauses tell that the class is one.
+    let _words = class.words();
     let Some(page) = pool.take_run(1) else {
         return None;
     };
@@ -118,22 +99,110 @@ fn take_cell(
     base
 }
 
+// Whether the page is cut for the class and the kind.
+fn is_cut_for(map: &BlockMap, page: PageNo, class: Class, kind: Kind) -> bool
+    requires { page < length map.now }
+    ensures { result ≡ false → IsBlockFor (state_at map.now page) class kind → ⊥ }
+{
+    let Some(block) = map.block(page) else {
+        return false;
+    };
+    block.class() == class && block.kind() == kind
+}
+
+// A free cell of a page that has one.
+fn free_cell_of(map: &BlockMap, page: PageNo, class: Class, kind: Kind) -> Place
+    requires inside { page < length map.now }
+    requires open { IsOpen (state_at map.now page) class kind }
+    ensures page { result.page ≡ page }
+    ensures cell { IsFreeCell map.now class kind page result.cell }
+{
+    let Some(block) = map.block(page) else {
+        unreachable!();
+    };
+    let Some(cell) = block.free_cell() else {
+        unreachable!();
+    };
+    Place { page, cell }
+}
+
 impl Objects {
-    // A place for a small object.
-    fn allocate_small(&mut self, class: Class, kind: Kind) -> Option<u64>
-        ensures some { IfSome result (λ base. Allocates self.old (Placement.Small class) kind base self.new) }
+    // The lowest page that is still to be swept and is cut for the class and the kind.
+    fn pending_for(&self, class: Class, kind: Kind) -> Option<PageNo>
+        ensures some { IfSome result (λ page. Has self.now.pending page × (page < length self.now.states)) }
+        ensures none { IfNone result ((page : ℕ) → Has self.now.pending page → IsBlockFor (state_at self.now.states page) class kind → ⊥) }
+    {
+        // Its clauses tell that there are few.
+        let _pages = self.map.len();
+        let mut from = 0;
+        while let Some(page) = self.pending.next(from) {
+            if is_cut_for(&self.map, page as PageNo, class, kind) {
+                return Some(page as PageNo);
+            }
+            from = page + 1;
+        }
+        None
+    }
+
+    // A page with a free cell for the class and the kind, or else one for them that is still to be swept.
+    fn page_for(&self, class: Class, kind: Kind) -> Option<PageNo>
+        ensures inside { IfSome result (λ page. page < length self.now.states) }
+        ensures some { IfSome result (λ page. Has self.now.pending page ⊎ IsOpen (state_at self.now.states page) class kind) }
+        ensures none { IfNone result (HasNoFreeCell self.now.states class kind) }
+    {
+        // Its clauses tell that there are few.
+        let _pages = self.map.len();
+        let Some(page) = self.open_pages.first(class, kind) else {
+            return self.pending_for(class, kind);
+        };
+        Some(page as PageNo)
+    }
+
+    // A free cell for the class and the kind on a page that is not to be swept any more. Pages for them that are still to be
+    // swept are swept first, one by one.
+    fn swept_cell(&mut self, marker: &Marker, class: Class, kind: Kind) -> Option<Place>
+        requires { IsSized (length self.old.states) marker.now }
+        ensures sweeps { Sweeps self.old marker.now.marks self.new }
+        ensures some { IfSome result (λ place. IsFreeCell self.new.states class kind place.page place.cell × (Has self.new.pending place.page → ⊥)) }
+        ensures none { IfNone result (HasNoFreeCell self.new.states class kind) }
+    {
+        while let Some(page) = self.page_for(class, kind) {
+            if !self.pending.is_set(page as usize) {
+                return Some(free_cell_of(&self.map, page, class, kind));
+            }
+            self.sweep_page(marker, page);
+        }
+        None
+    }
+
+    // Takes a free cell.
+    fn take_cell(&mut self, place: Place, class: Class, kind: Kind) -> u64
+        requires cell { IsFreeCell self.old.states class kind place.page place.cell }
+        requires swept { Has self.old.pending place.page → ⊥ }
+        ensures room { HasRoomAt self.old (Placement.Small class) kind result }
+        ensures gains { Gains self.old (Placement.Small class) kind result self.new }
+    {
+        // Its clauses tell what is true of the map.
+        let _pages = self.map.len();
+        take_cell(
+            &mut self.memory,
+            &mut self.map,
+            &mut self.open_pages,
+            place,
+            class,
+            kind,
+        )
+    }
+
+    // Cuts a free page, and takes its first cell.
+    fn take_page(&mut self, class: Class, kind: Kind) -> Option<u64>
+        requires { HasNoFreeCell self.old.states class kind }
+        ensures some { IfSome result (λ base. HasRoomAt self.old (Placement.Small class) kind base) }
+        ensures gains { IfSome result (λ base. Gains self.old (Placement.Small class) kind base self.new) }
         ensures none { IfNone result (HasNoRoom self.old (Placement.Small class) kind × (self.new ≡ self.old)) }
     {
-        if let Some(place) = find_cell(&self.open_pages, &self.map, class, kind) {
-            return Some(take_cell(
-                &mut self.memory,
-                &mut self.map,
-                &mut self.open_pages,
-                place,
-                class,
-                kind,
-            ));
-        }
+        // Its clauses tell what is true of the map.
+        let _pages = self.map.len();
         let Some(place) = cut_page(
             &mut self.pool,
             &mut self.map,
@@ -153,10 +222,11 @@ impl Objects {
         ))
     }
 
-    // A place for a large object.
-    fn allocate_large(&mut self, pages: u32, kind: Kind) -> Option<u64>
-        requires { IsSized (Placement.Large pages) }
-        ensures some { IfSome result (λ base. Allocates self.old (Placement.Large pages) kind base self.new) }
+    // Takes a run of free pages.
+    fn take_run(&mut self, pages: u32, kind: Kind) -> Option<u64>
+        requires { IsRequest (Placement.Large pages) }
+        ensures some { IfSome result (λ base. HasRoomAt self.old (Placement.Large pages) kind base) }
+        ensures gains { IfSome result (λ base. Gains self.old (Placement.Large pages) kind base self.new) }
         ensures none { IfNone result (HasNoRoom self.old (Placement.Large pages) kind × (self.new ≡ self.old)) }
     {
         if pages > self.map.len() {
@@ -171,15 +241,45 @@ impl Objects {
         Some(base)
     }
 
-    /// Takes a place for a new object, writes 0 into its words, and answers its base. `None` exactly if no address has room.
-    pub fn allocate(&mut self, placement: Placement, kind: Kind) -> Option<u64>
-        requires { IsSized placement }
-        ensures some { IfSome result (λ base. Allocates self.old placement kind base self.new) }
-        ensures none { IfNone result (HasNoRoom self.old placement kind × (self.new ≡ self.old)) }
+    // A place for a small object.
+    fn place_small(&mut self, marker: &Marker, class: Class, kind: Kind) -> Option<u64>
+        requires { IsSized (length self.old.states) marker.now }
+        ensures { MatchOption result (FindsNoPlace self.old marker.now.marks (Placement.Small class) kind self.new) (λ base. Allocates self.old marker.now.marks (Placement.Small class) kind base self.new) }
+    {
+        let Some(place) = self.swept_cell(marker, class, kind) else {
+            return self.take_page(class, kind);
+        };
+        Some(self.take_cell(place, class, kind))
+    }
+
+    // A place for an object: of the pages that are still to be swept, only those that are cut for it are.
+    fn place(&mut self, marker: &Marker, placement: &Placement, kind: Kind) -> Option<u64>
+        requires request { IsRequest placement.now }
+        requires sized { IsSized (length self.old.states) marker.now }
+        ensures { MatchOption result (FindsNoPlace self.old marker.now.marks placement.now kind self.new) (λ base. Allocates self.old marker.now.marks placement.now kind base self.new) }
     {
         match placement {
-            Placement::Small(class) => self.allocate_small(class, kind),
-            Placement::Large(pages) => self.allocate_large(pages, kind),
+            Placement::Small(class) => self.place_small(marker, *class, kind),
+            Placement::Large(pages) => self.take_run(*pages, kind),
         }
+    }
+
+    /// Takes a place for a new object, writes 0 into its words, and answers its base. It sweeps as it needs: first pages
+    /// for the class and the kind, and where there is no free page either, the others until there is a place. `None`
+    /// exactly if no address has room, and then nothing is left to be swept.
+    pub fn allocate(&mut self, marker: &Marker, placement: Placement, kind: Kind) -> Option<u64>
+        requires request { IsRequest placement }
+        requires sized { IsSized (length self.old.states) marker.now }
+        ensures { MatchOption result (FindsNoRoom self.old marker.now.marks placement kind self.new) (λ base. Allocates self.old marker.now.marks placement kind base self.new) }
+    {
+        if let Some(base) = self.place(marker, &placement, kind) {
+            return Some(base);
+        }
+        while self.sweep(marker) {
+            if let Some(base) = self.place(marker, &placement, kind) {
+                return Some(base);
+            }
+        }
+        None
     }
 }

@@ -1,5 +1,7 @@
-use Rattle.std.proofs.Common.{arith}
+use Rattle.std.proofs.Common.{arith, ap, subst, ◌≡◌, ◌<◌}
 use Rattle.heap_core.proofs.Frees.{frees_kept, frees_last}
+use Rattle.heap_core.proofs.Pending.{pending_put, pending_gone}
+use Rattle.block_map.specs.States.{IsSpanSet, free, span_of}
 use Rattle.heap_core.proofs.OpenPages.{exact_entered, exact_uncut}
 use Rattle.heap_core.proofs.objects.frees.free_cell.Goals as goal
 
@@ -21,3 +23,11 @@ pub returns-clause-exact : goal.returns-clause-exact
 returns-clause-exact c =
     exact_uncut _ _ _ _ _ c.args.cell _ c.requires.exact c.requires.inside c.requires.cell c.put.ensures.states c.in-Some.ensures
     c.class-class.ensures.cells.class _ _ _ c.class-class.ensures.class c.kind-kind.ensures c.uncut.ensures.states c.leave.ensures
+
+pub returns-then-not-is_empty-clause-pending : goal.returns-then-not-is_empty-clause-pending
+returns-then-not-is_empty-clause-pending c = pending_put _ _ c.args.page c.args.cell _ c.requires.inside c.put.ensures.states
+
+pub returns-clause-pending : goal.returns-clause-pending
+returns-clause-pending c =
+    rw c.clear.ensures (pending_gone _ c.put.new.self _ c.args.page c.args.cell _ c.requires.inside (let size = c.requires.row in let lt = c.requires.inside in omega arith) c.put.ensures.states
+    (subst (λ n. IsSpanSet c.put.new.self c.uncut.new.self c.args.page n (λ _. free)) (ap span_of c.in-Some.ensures) c.uncut.ensures.states) c.len-pages.ensures.lawful)
