@@ -4,7 +4,6 @@
 #![tactic(auto)]
 
 mod heap;
-mod objects;
 
 pub use heap::Core;
 pub use heap_spec::{Event, Reply};
