@@ -22,3 +22,4 @@ pub mod Kept
 pub mod Pending
 pub mod Swept
 pub mod Dropping
+pub mod AsObject

@@ -8,3 +8,4 @@ pub mod Beside
 pub mod Calls
 pub mod Collections
 pub mod Following
+pub mod AsObject

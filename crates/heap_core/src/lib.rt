@@ -4,7 +4,10 @@
 #![tactic(auto)]
 
 mod heap;
+mod object;
 mod objects;
+pub mod quiet;
+mod ranges;
 
 pub use heap::Core;
 pub use heap_spec::{Event, Reply};
