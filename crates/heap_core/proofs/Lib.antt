@@ -5,3 +5,4 @@ pub mod Tracing
 pub mod Collecting
 pub mod Following
 pub mod Cycling
+pub mod AsObject

@@ -4,3 +4,4 @@ pub mod Beside
 pub mod Calls
 pub mod Collections
 pub mod Following
+pub mod AsObject
