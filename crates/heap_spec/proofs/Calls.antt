@@ -12,12 +12,12 @@ use Rattle.heap_spec.specs.declared.call.Call.{Call}
 use Rattle.heap_spec.specs.declared.reply.Reply.{Reply}
 use Rattle.heap_spec.specs.Heap.{Heap, Object, Mutator, IsAttached, opening, with_at}
 use Rattle.heap_spec.specs.Room.{HasRoom, length_of}
-use Rattle.heap_spec.specs.Steps.{newcomer, with_mutator, with_register, with_object, register, Attaches, attached, no_slot, Acts, Calls, acts, vacant}
+use Rattle.heap_spec.specs.Steps.{newcomer, with_mutator, with_register, with_new, register, Attaches, attached, no_slot, Acts, Calls, acts, vacant}
 use Rattle.heap_spec.specs.Cycles.{TakesOut}
 use Rattle.heap_spec.specs.Ranges.{IsWord, CallInRange}
 use Rattle.heap_spec.specs.Sound.{IsSound, IsRow, IsMutator, IsSlot, AreObjects, IsCell, ArePages, LieInHeap}
 use Rattle.heap_spec.proofs.Layouts.{AreApart, placed, cell_lies, pages_lie}
-use Rattle.heap_spec.proofs.Objects.{objects_freed, objects_stored, objects_without, objects_more, object_lies, room_laid, room_apart}
+use Rattle.heap_spec.proofs.Objects.{objects_stored, objects_without, objects_more, object_lies, room_laid, room_apart}
 
 -- a word of a list of words
 word_at : (words : List ℕ) (i : ℕ) → All IsWord words → IsWord (slice_index words i)
@@ -69,7 +69,7 @@ objects_in : (s : Heap) (objects : ℕ → Option Object) → IsSound s → AreO
 objects_in s objects h is = record { some_page = h.some_page; few_pages = h.few_pages; objects = is; slots = h.slots; mutators = h.mutators; globals = h.globals }
 
 alloc_kept : (s : Heap) (slot : ℕ) (m : Mutator) (d n : ℕ) (kind : Kind) (place : Placement) (a : ℕ) → IsSound s → IsMutator m → placement_of n ≡ Some place → HasRoom s place kind a
-    → IsSound (record (with_register (with_object s a (Some (record { birth = s.births + 1; kind = kind; words = replicate (length_of place) 0 }))) slot m d a) { births = s.births + 1 })
+    → IsSound (with_register (with_new s a kind place) slot m d a)
 alloc_kept s slot m d n kind place a h is e room = record {
   some_page = h.some_page;
   few_pages = h.few_pages;
@@ -121,7 +121,7 @@ acts_kept s slot m h is (Acts.store_nothing al none) range = h
 acts_kept s slot m h is (Acts.allocated {d = d} {n = n} {kind = kind} {place = place} a e room) range = alloc_kept s slot m d n kind place a h is e room
 acts_kept s slot m h is (Acts.bad_size e) range = h
 acts_kept s slot m h is (Acts.full e none) range = h
-acts_kept s slot m h is (Acts.freed has) range = objects_in s _ h (objects_freed s.pages s.births s.objects _ h.objects)
+acts_kept s slot m h is (Acts.freed {r = r} has) range = objects_in s _ h (objects_without s.pages s.births s.objects (register m r ∷ []) h.objects)
 acts_kept s slot m h is (Acts.free_inside reads ne) range = h
 acts_kept s slot m h is (Acts.free_nothing none) range = h
 acts_kept s slot m h is (Acts.based {d = d} {base = base} {o = o} reads) range =

@@ -5,3 +5,4 @@ pub mod Calls
 pub mod Runs
 pub mod Loads
 pub mod Outcomes
+pub mod Births

@@ -1,8 +1,7 @@
 -- The objects of a heap after a change at one base.
-use Rattle.std.proofs.Common.{◌≡◌, ◌≢◌, ℕ, ◌+◌, ◌*◌, ◌<◌, ◌≤◌, ◌⊎◌, Bool, true, false, List, length, cond, eqb, refl, sym, ap, ◌∙◌, subst, arith, inl, inr, ⊎_elim}
-use Rattle.std.specs.Prelude.{Option, Some, None, All, ◌==◌, slice_set, if◌then◌else◌}
-use Rattle.std.specs.List.{list_any}
-use Rattle.std.proofs.lemmas.Bool.{cases_lt, cases_eq, cases_order, cond-true, cond-false, eq-eqb, ne_eqb}
+use Rattle.std.proofs.Common.{◌≡◌, ◌≢◌, ℕ, ◌+◌, ◌*◌, ◌<◌, ◌≤◌, ◌⊎◌, Bool, true, false, List, length, cond, eqb, [], ◌∷◌, refl, sym, ap, ◌∙◌, subst, arith, inl, inr, ⊎_elim}
+use Rattle.std.specs.Prelude.{Option, Some, None, All, ◌||◌, slice_set}
+use Rattle.std.proofs.lemmas.Bool.{cases_lt, cases_eq, cases_order, cond-true, cond-false, eq-eqb, ne_eqb, true≢false}
 use Rattle.std.proofs.lemmas.Option.{same_Some, none-some}
 use Rattle.std.proofs.lemmas.List.{length-set}
 use Rattle.std.proofs.lemmas.List.Elements.{All-set}
@@ -11,7 +10,7 @@ use Rattle.words.specs.declared.class.Placement.{Placement}
 use Rattle.words.specs.declared.class.Placement.TheVariants.{Small, Large}
 use Rattle.words.proofs.Classes.{class_few}
 use Rattle.heap_spec.specs.Layout.{page_start, LiesOn}
-use Rattle.heap_spec.specs.Heap.{Heap, Object, HasObject, ReadsObject, with_at}
+use Rattle.heap_spec.specs.Heap.{Heap, Object, IsSameObject, HasObject, ReadsObject, with_at, without_at}
 use Rattle.heap_spec.specs.Room.{HasRoom, length_of}
 use Rattle.heap_spec.specs.Ranges.{IsWord}
 use Rattle.heap_spec.specs.Sound.{IsSound, AreObjects, IsCell, ArePages, LieInHeap}
@@ -33,6 +32,20 @@ pub left_over : {A : Type 0} (b : Bool) (x : Option A) (o : A) → cond b None x
 left_over true x o e = absurd (none-some o e)
 left_over false x o e = (refl, e)
 
+-- what is left where one is taken out
+one_or_none : (b : Bool) → (b || false) ≡ b
+one_or_none true = refl
+one_or_none false = refl
+
+pub without_one : {A : Type 0} (m : ℕ → Option A) (k q : ℕ) (x : A) → without_at m (k ∷ []) q ≡ Some x → (q ≢ k) × (m q ≡ Some x)
+without_one m k q x e = let left = left_over _ (m q) x e in (λ same. true≢false (sym (one_or_none (eqb k q) ∙ eq-eqb k q (sym same)) ∙ left.0), left.1)
+
+pub without_one-other : {A : Type 0} (m : ℕ → Option A) (k q : ℕ) → q ≢ k → without_at m (k ∷ []) q ≡ m q
+without_one-other m k q ne = cond-false _ None (m q) (one_or_none (eqb k q) ∙ ne_eqb k q (λ e. ne (sym e)))
+
+pub same_object : (o : Object) → IsSameObject o o
+same_object o = record { birth = refl; kind = refl; size = refl }
+
 -- an object was there before, of the same length and birth
 abbrev pub Was : (ℕ → Option Object) → ℕ → Object → Type 0
 Was objects base o = (p : Object) × (objects base ≡ Some p) × (length p.words ≡ length o.words) × (p.birth ≡ o.birth) × All IsWord o.words
@@ -50,13 +63,9 @@ objects_kept pages births old new h was = record {
 was_same : (pages births : ℕ) (objects : ℕ → Option Object) → AreObjects pages births objects → (base : ℕ) (o : Object) → objects base ≡ Some o → Was objects base o
 was_same pages births objects h base o is = (o, is, refl, refl, h.words base o is)
 
--- one object less, some less, and one with a word written
-pub objects_freed : (pages births : ℕ) (objects : ℕ → Option Object) (k : ℕ) → AreObjects pages births objects → AreObjects pages births (with_at objects k None)
-objects_freed pages births objects k h = objects_kept pages births objects (with_at objects k None) h (λ base o is.
-    ⊎_elim (λ same. absurd (none-some o same.1)) (λ other. was_same pages births objects h base o other.1) (at_cases objects k None base (Some o) is))
-
+-- some objects less, and one with a word written
 pub objects_without : (pages births : ℕ) (objects : ℕ → Option Object) (bases : List ℕ) → AreObjects pages births objects
-    → AreObjects pages births (λ b. if list_any (λ c. c == b) bases then None else objects b)
+    → AreObjects pages births (without_at objects bases)
 objects_without pages births objects bases h = objects_kept pages births objects _ h (λ base o is. was_same pages births objects h base o (left_over _ _ o is).1)
 
 pub objects_stored : (pages births : ℕ) (objects : ℕ → Option Object) (k i w : ℕ) (o : Object) → AreObjects pages births objects → objects k ≡ Some o → IsWord w

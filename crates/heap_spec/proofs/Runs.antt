@@ -3,7 +3,7 @@ use Rattle.std.proofs.Common.{◌≡◌, ℕ, false, List, [], ◌∷◌, refl, 
 use Rattle.std.specs.Prelude.{None, All, Contains, ◌==◌}
 use Rattle.std.specs.List.{list_any}
 use Rattle.std.proofs.lemmas.Bool.{cond-false, eq-eqb, ne_eqb, true≢false}
-use Rattle.std.proofs.lemmas.Option.{none-some}
+use Rattle.std.proofs.lemmas.Option.{none-some, same_Some}
 use Rattle.std.proofs.lemmas.List.Elements.{All-head, All-tail, All-weaker}
 use Rattle.std.proofs.lemmas.List.Folds.{list_any_none, list_any-from_Any}
 use Rattle.heap_spec.specs.declared.event.Event.{Event}
@@ -12,17 +12,17 @@ use Rattle.heap_spec.specs.declared.reply.Reply.{Reply}
 use Rattle.heap_spec.specs.Heap.{Heap, Object, HasObject}
 use Rattle.heap_spec.specs.Closure.{Reached, IsInClosure}
 use Rattle.heap_spec.specs.Runs.{Start, Run, Moment, fresh, heap_after, Touched, touched_after}
-use Rattle.heap_spec.specs.Cycles.{TakesOut}
+use Rattle.heap_spec.specs.Cycles.{TakesOut, CollectsFully}
 use Rattle.heap_spec.specs.Histories.{Happens, IsRun}
 use Rattle.heap_spec.specs.Ranges.{InRange}
 use Rattle.heap_spec.specs.Sound.{IsSound}
-use Rattle.heap_spec.specs.Laws.{IsFreshRun, HasDistinctBirths}
+use Rattle.heap_spec.specs.Laws.{IsFreshRun, HasDistinctBirths, KeepsReached, HasOnlyReached}
 use Rattle.heap_spec.proofs.Closures.{in_idem, reached_in}
-use Rattle.heap_spec.proofs.Objects.{left_over}
+use Rattle.heap_spec.proofs.Objects.{left_over, same_object}
 use Rattle.heap_spec.proofs.Calls.{calls_kept, attaches_kept, takes_out_kept, opening_is}
 
 -- what happens next keeps the heap sound
-pub happens_kept : (start : Start) (run : Run) (event : Event) (reply : Reply) (s' : Heap) → IsSound (heap_after start run) → InRange event → Happens start run event reply s' → IsSound s'
+pub happens_kept : (start : Start) (run : Run) (event : Event) (reply : Reply) (s' : Heap) → IsSound (heap_after start run) → InRange event → Happens Touched start run event reply s' → IsSound s'
 happens_kept start run Attach reply s' h range step = attaches_kept _ h step
 happens_kept start run (Mutator slot call) reply s' h range step = calls_kept _ slot call h range.1 step
 happens_kept start run Begin reply s' h range step = subst IsSound (sym step.1.1) h
@@ -66,15 +66,26 @@ pub fresh_touched_reached : (pages : ℕ) (run : Run) (base : ℕ) (o : Object) 
 fresh_touched_reached pages [] base o has r = absurd (none-some o has)
 fresh_touched_reached pages (m ∷ run) base o has r = touched_reached (fresh pages) m run base o has r
 
--- what a collection takes out has no reached object
-pub keeps_reached : (s : Heap) (bases : List ℕ) (reply : Reply) (s' : Heap) → TakesOut s bases reply s' → (base : ℕ) (o : Object) → HasObject s base o → Reached s base → HasObject s' base o
-keeps_reached s bases reply s' takes base o has r =
+-- a collection keeps what is reached
+reached_stays : (s : Heap) (bases : List ℕ) (reply : Reply) (s' : Heap) → TakesOut s bases reply s' → (base : ℕ) (o : Object) → HasObject s base o → Reached s base → HasObject s' base o
+reached_stays s bases reply s' takes base o has r =
     let none : list_any (λ c. c == base) bases ≡ false = list_any_none (λ c. c == base) bases
     (All-weaker (λ b. Reached s b → ⊥) (λ c. (c == base) ≡ false) (λ c un. ne_eqb c base (λ e. un (subst (Reached s) (sym e) r))) bases takes.unreached) in
     ap (λ (t : Heap). t.objects base) takes.after ∙ cond-false _ None (s.objects base) none ∙ has
+
+pub keeps_reached : (s : Heap) (bases : List ℕ) (reply : Reply) (s' : Heap) → TakesOut s bases reply s' → KeepsReached s s'
+keeps_reached s bases reply s' takes = record {
+  stays = λ base o has r. (o, reached_stays s bases reply s' takes base o has r, same_object o);
+  words = λ base o p has r there. ap (λ (x : Object). x.words) (same_Some p o (sym there ∙ reached_stays s bases reply s' takes base o has r));
+}
 
 -- and what it leaves was there, and is none that it took
 pub left_by : (s : Heap) (bases : List ℕ) (reply : Reply) (s' : Heap) → TakesOut s bases reply s' → (base : ℕ) (o : Object) → HasObject s' base o → HasObject s base o × (Contains bases base → ⊥)
 left_by s bases reply s' takes base o has =
     let left = left_over (list_any (λ c. c == base) bases) (s.objects base) o (sym (ap (λ (t : Heap). t.objects base) takes.after) ∙ has) in
     (left.1, λ among. true≢false (sym (list_any-from_Any (λ c. c == base) bases (among.0, base, among.1, among.2, eq-eqb base base refl)) ∙ left.0))
+
+pub only_reached : (s : Heap) (reply : Reply) (s' : Heap) → CollectsFully s reply s' → HasOnlyReached s s'
+only_reached s reply s' collects base p has =
+    let left = left_by s collects.bases reply s' collects.takes base p has in
+    ((p, left.0, same_object p), λ unreached. left.1 (collects.all base p left.0 unreached))

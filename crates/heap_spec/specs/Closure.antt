@@ -17,3 +17,7 @@ Reached s = Closure s (λ _. ⊥)
 -- the object of this birth is in the closure of the births
 abbrev pub IsInClosure : Heap → (ℕ → Type 0) → ℕ → Type 0
 IsInClosure s births birth = (base : ℕ) × (o : Object) × HasObject s base o × (o.birth ≡ birth) × Closure s births base
+
+-- the object of this birth is reached
+abbrev pub IsReachedBirth : Heap → ℕ → Type 0
+IsReachedBirth s = IsInClosure s (λ _. ⊥)

@@ -1,14 +1,10 @@
 -- What a collection takes.
-use Rattle.std.specs.Prelude.{◌≡◌, ℕ, ◌==◌, None, List, length, Contains, All, if◌then◌else◌, nat_eq}
-use Rattle.std.specs.List.{list_any, IsDistinct}
+use Rattle.std.specs.Prelude.{◌≡◌, ℕ, List, length, Contains, All, nat_eq}
+use Rattle.std.specs.List.{IsDistinct}
 use Rattle.heap_spec.specs.declared.reply.Reply.{Reply}
 use Rattle.heap_spec.specs.declared.reply.Reply.TheVariants.{Done, Count}
-use Rattle.heap_spec.specs.Heap.{Heap, Object, HasObject}
+use Rattle.heap_spec.specs.Heap.{Heap, Object, HasObject, without}
 use Rattle.heap_spec.specs.Closure.{Reached}
-
--- the heap without the objects with these bases
-abbrev pub without : Heap → List ℕ → Heap
-without s bases = record s { objects = λ b. if list_any (λ c. c == b) bases then None else s.objects b }
 
 -- Takes the objects with these bases out, none of which is reached, and answers how many.
 pub record TakesOut (s : Heap) (bases : List ℕ) (reply : Reply) (s' : Heap) : Type 0 where

@@ -1,5 +1,6 @@
 -- The sequential heap as its users see it: no mark, no dirty page, no block and no free list.
 use Rattle.std.specs.Prelude.{◌≡◌, ℕ, ◌==◌, Option, Some, None, List, [], length, replicate, if◌then◌else◌, slice_get, ◌++◌, flat_map}
+use Rattle.std.specs.List.{list_any}
 use Rattle.words.specs.declared.class.Kind.{Kind}
 use Rattle.words.specs.declared.limits.TheConstants.{SLOTS, GLOBALS}
 use Rattle.heap_spec.specs.Layout.{Reads}
@@ -32,6 +33,12 @@ opening pages = record { pages = pages; objects = λ _. None; mutators = replica
 abbrev pub HasObject : Heap → ℕ → Object → Type 0
 HasObject s base o = s.objects base ≡ Some o
 
+-- It is the same object, whose words may be others: its birth, its kind and its length are what they were.
+pub record IsSameObject (old new : Object) : Type 0 where
+  pub birth : new.birth ≡ old.birth
+  pub kind : new.kind ≡ old.kind
+  pub size : length new.words ≡ length old.words
+
 -- a mutator is attached at the slot
 abbrev pub IsAttached : Heap → ℕ → Mutator → Type 0
 IsAttached s slot m = slice_get s.mutators slot ≡ Some (Some m)
@@ -60,3 +67,11 @@ root_words s = flat_map words_of s.mutators ++ s.globals
 -- the objects with this at the base, and as before at any other
 abbrev pub with_at : {A : Type 0} → (ℕ → Option A) → ℕ → Option A → ℕ → Option A
 with_at m k v q = if q == k then v else m q
+
+-- the objects but for those at these bases
+abbrev pub without_at : {A : Type 0} → (ℕ → Option A) → List ℕ → ℕ → Option A
+without_at m bases q = if list_any (λ b. b == q) bases then None else m q
+
+-- The heap without the objects with these bases. Each object that leaves a heap leaves it so.
+abbrev pub without : Heap → List ℕ → Heap
+without s bases = record s { objects = without_at s.objects bases }

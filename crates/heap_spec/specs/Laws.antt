@@ -1,17 +1,18 @@
 -- The laws of the sequential heap, each a statement of its own.
-use Rattle.std.specs.Prelude.{◌≡◌, ◌↔◌, ℕ, ◌≤◌, Bool, true, length, Contains, All}
+use Rattle.std.specs.Prelude.{◌≡◌, ◌↔◌, ◌⊎◌, ℕ, ◌≤◌, Bool, true, length, Contains, All}
 use Rattle.words.specs.declared.limits.TheConstants.{MAX_PAGES}
 use Rattle.words.specs.declared.class.Kind.TheVariants.{Normal}
 use Rattle.words.specs.declared.refusal.Refusal.{Refusal}
 use Rattle.heap_spec.specs.declared.call.Call.{Call}
-use Rattle.heap_spec.specs.declared.call.Call.TheVariants.{Load, Store, Alloc}
+use Rattle.heap_spec.specs.declared.call.Call.TheVariants.{Detach, Set, Copy, Add, Sub, Get, Push, Pop, Load, Store, Alloc, Free, Base, Size, GlobalGet, GlobalPut}
+use Rattle.heap_spec.specs.declared.event.Event.{Event}
 use Rattle.heap_spec.specs.declared.event.Event.TheVariants.{Finish, Collect}
 use Rattle.heap_spec.specs.declared.reply.Reply.{Reply}
 use Rattle.heap_spec.specs.declared.reply.Reply.TheVariants.{Done, Word, Refused}
-use Rattle.heap_spec.specs.Heap.{Heap, Object, Mutator, HasObject, ReadsObject, IsAttached, root_words}
+use Rattle.heap_spec.specs.Heap.{Heap, Object, Mutator, IsSameObject, HasObject, ReadsObject, IsAttached, root_words}
 use Rattle.heap_spec.specs.Closure.{Closure, Reached, IsInClosure}
-use Rattle.heap_spec.specs.Steps.{Calls, register}
-use Rattle.heap_spec.specs.Runs.{Start, Run, fresh, heap_after, Touched}
+use Rattle.heap_spec.specs.Steps.{Calls, Step, register}
+use Rattle.heap_spec.specs.Runs.{Start, Run, fresh, heap_after, IsBornSince, Touched}
 use Rattle.heap_spec.specs.Histories.{Happens, IsRun}
 use Rattle.heap_spec.specs.Ranges.{InRange}
 use Rattle.heap_spec.specs.Sound.{IsSound, LieInHeap}
@@ -75,17 +76,31 @@ abbrev pub TouchedHoldsReached : Type 0
 TouchedHoldsReached = (pages : ℕ) (run : Run)
     → (base : ℕ) (o : Object) → HasObject (heap_after (fresh pages) run) base o → Reached (heap_after (fresh pages) run) base → Touched (fresh pages) run o.birth
 
--- the end of a cycle takes no reached object
-abbrev pub FinishKeepsReached : Type 0
-FinishKeepsReached = (start : Start) (run : Run) (reply : Reply) (s' : Heap) → Happens start run Finish reply s'
-    → (base : ℕ) (o : Object) → HasObject (heap_after start run) base o → Reached (heap_after start run) base → HasObject s' base o
+-- Each reached object is there still, and its words are as they were.
+pub record KeepsReached (s s' : Heap) : Type 0 where
+  pub stays : (base : ℕ) (o : Object) → HasObject s base o → Reached s base → (p : Object) × HasObject s' base p × IsSameObject o p
+  pub words : (base : ℕ) (o p : Object) → HasObject s base o → Reached s base → HasObject s' base p → p.words ≡ o.words
 
--- A full collection takes no reached object, and leaves no other.
-pub record CollectKeepsReached : Type 0 where
-  pub reached : (start : Start) (run : Run) (reply : Reply) (s' : Heap) → Happens start run Collect reply s'
-      → (base : ℕ) (o : Object) → HasObject (heap_after start run) base o → Reached (heap_after start run) base → HasObject s' base o
-  pub others : (start : Start) (run : Run) (reply : Reply) (s' : Heap) → Happens start run Collect reply s'
-      → (base : ℕ) (o : Object) → HasObject s' base o → HasObject (heap_after start run) base o × ((Reached (heap_after start run) base → ⊥) → ⊥)
+-- Each object was there before, and was reached.
+abbrev pub HasOnlyReached : Heap → Heap → Type 0
+HasOnlyReached s s' = (base : ℕ) (p : Object) → HasObject s' base p → ((o : Object) × HasObject s base o × IsSameObject o p) × ((Reached s base → ⊥) → ⊥)
+
+-- the end of a cycle keeps what is reached
+abbrev pub FinishKeepsReached : Type 0
+FinishKeepsReached = (start : Start) (run : Run) (reply : Reply) (s' : Heap) → Happens Touched start run Finish reply s' → KeepsReached (heap_after start run) s'
+
+-- a full collection keeps what is reached, and no other object
+abbrev pub CollectKeepsReached : Type 0
+CollectKeepsReached = (start : Start) (run : Run) (reply : Reply) (s' : Heap) → Happens Touched start run Collect reply s'
+    → KeepsReached (heap_after start run) s' × HasOnlyReached (heap_after start run) s'
+
+-- The object was there before the step, or was born in it.
+abbrev pub IsOldOrNew : Heap → ℕ → Object → Type 0
+IsOldOrNew s base p = ((o : Object) × HasObject s base o × IsSameObject o p) ⊎ IsBornSince s p.birth
+
+-- after a step each object is an old one, or was born in it
+abbrev pub StepBirths : Type 0
+StepBirths = (s : Heap) (event : Event) (reply : Reply) (s' : Heap) → Step s event reply s' → (base : ℕ) (p : Object) → HasObject s' base p → IsOldOrNew s base p
 
 -- After a store, a load at the same place by the same mutator answers the word that was stored.
 abbrev pub LoadAnswersStored : Type 0
@@ -99,8 +114,22 @@ RefusedChangesNothing = (s : Heap) (slot : ℕ) (call : Call) (why : Refusal) (s
 
 -- the call is no allocation
 abbrev pub IsNoAlloc : Call → Type 0
+IsNoAlloc Detach = Unit {0}
+IsNoAlloc (Set r w) = Unit {0}
+IsNoAlloc (Copy d a) = Unit {0}
+IsNoAlloc (Add d a n) = Unit {0}
+IsNoAlloc (Sub d a b) = Unit {0}
+IsNoAlloc (Get r) = Unit {0}
+IsNoAlloc (Push r) = Unit {0}
+IsNoAlloc (Pop r) = Unit {0}
+IsNoAlloc (Load d a n) = Unit {0}
+IsNoAlloc (Store a n r) = Unit {0}
 IsNoAlloc (Alloc d n kind) = ⊥
-IsNoAlloc _ = Unit {0}
+IsNoAlloc (Free r) = Unit {0}
+IsNoAlloc (Base d a) = Unit {0}
+IsNoAlloc (Size r) = Unit {0}
+IsNoAlloc (GlobalGet d g) = Unit {0}
+IsNoAlloc (GlobalPut g r) = Unit {0}
 
 -- A call has one reply, and one heap after it too, but for the place that an allocation takes.
 abbrev pub CallsHaveOneOutcome : Type 0

@@ -1,5 +1,5 @@
 -- Where the heap's bytes lie.
-use Rattle.std.specs.Prelude.{ℕ, ◌+◌, ◌*◌, ◌<◌, ◌≤◌, ◌^◌}
+use Rattle.std.specs.Prelude.{ℕ, ◌+◌, ◌-◌, ◌*◌, ◌/◌, ◌<◌, ◌≤◌, ◌^◌}
 use Rattle.words.specs.declared.limits.TheConstants.{WORD_BYTES}
 pub use Rattle.words.specs.Layout.{page_start}
 
@@ -14,6 +14,10 @@ heap_end pages = page_start pages
 -- A word reads what lies at a base and is so many words long: it is the address of one of its bytes, aligned or not.
 abbrev pub Reads : ℕ → ℕ → ℕ → Type 0
 Reads w base len = (base ≤ w) × (w < base + WORD_BYTES * len)
+
+-- which of the words from a base on an address is that of
+abbrev pub index_in : ℕ → ℕ → ℕ
+index_in base a = (a - base) / WORD_BYTES
 
 -- one of the bytes at this base lies on the page
 abbrev pub LiesOn : ℕ → ℕ → ℕ → Type 0

@@ -1,14 +1,17 @@
+-- The heap, its calls and its collections: what a reader takes first.
 pub mod Layout
 pub mod Heap
-pub mod Closure
 pub mod Room
 pub mod Steps
-pub mod Replies
+pub mod Closure
 pub mod Runs
 pub mod Cycles
 pub mod Histories
 pub mod Transcripts
-pub mod Objects
+-- What contracts of other crates cite.
 pub mod Ranges
+pub mod Replies
+pub mod SequentialObject
+-- The laws.
 pub mod Sound
 pub mod Laws

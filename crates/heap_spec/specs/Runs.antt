@@ -1,11 +1,11 @@
 -- Runs: what happened so far, from a start.
 use Rattle.std.specs.Prelude.{◌≡◌, ℕ, ◌+◌, ◌%◌, ◌<◌, Bool, true, false, List, [], ◌∷◌, ◌⊎◌}
 use Rattle.heap_spec.specs.declared.event.Event.{Event}
-use Rattle.heap_spec.specs.declared.event.Event.TheVariants.{Begin, Finish, Collect}
+use Rattle.heap_spec.specs.declared.event.Event.TheVariants.{Attach, Mutator, Begin, Roots, Mark, Retrace, Finish, Sweep, Collect, Number}
 use Rattle.heap_spec.specs.declared.reply.Reply.{Reply}
 use Rattle.heap_spec.specs.Layout.{word_end}
 use Rattle.heap_spec.specs.Heap.{Heap, opening}
-use Rattle.heap_spec.specs.Closure.{IsInClosure}
+use Rattle.heap_spec.specs.Closure.{IsInClosure, IsReachedBirth}
 
 -- an event with its reply
 pub record Told : Type 0 where
@@ -42,10 +42,16 @@ heap_after start (m ∷ run) = m.heap
 
 -- whether the heap is marking after an event, from whether it was before
 abbrev pub marking_after : Event → Bool → Bool
+marking_after Attach before = before
+marking_after (Mutator slot call) before = before
 marking_after Begin before = true
+marking_after Roots before = before
+marking_after (Mark n) before = before
+marking_after Retrace before = before
 marking_after Finish before = false
+marking_after Sweep before = before
 marking_after Collect before = false
-marking_after _ before = before
+marking_after Number before = before
 
 -- The heap is marking if the last of the run's Begin, Finish and Collect is a Begin.
 abbrev pub is_marking : Start → Run → Bool
@@ -54,22 +60,53 @@ is_marking start (m ∷ run) = marking_after m.told.event (is_marking start run)
 
 -- what an event adds to the count of collections
 abbrev pub counted : Event → ℕ
+counted Attach = 0
+counted (Mutator slot call) = 0
+counted Begin = 0
+counted Roots = 0
+counted (Mark n) = 0
+counted Retrace = 0
 counted Finish = 1
+counted Sweep = 0
 counted Collect = 1
-counted _ = 0
+counted Number = 0
 
 -- the count of collections, modulo 2 ^ 64
 abbrev pub count : Start → Run → ℕ
 count start [] = start.count
 count start (m ∷ run) = (count start run + counted m.told.event) % word_end
 
+-- the birth is that of an allocation after this heap
+abbrev pub IsBornSince : Heap → ℕ → Type 0
+IsBornSince old birth = old.births < birth
+
+-- the births that stay touched: the closure of those that were, and of what was allocated since the heap before
+abbrev pub StaysTouched : (ℕ → Type 0) → Heap → Heap → ℕ → Type 0
+StaysTouched before old new = IsInClosure new (λ birth. before birth ⊎ IsBornSince old birth)
+
 -- the births that are touched after an event, from those before it and the heaps before and after
 abbrev pub touched_after : Event → (ℕ → Type 0) → Heap → Heap → ℕ → Type 0
-touched_after Begin before old new = IsInClosure new (λ _. ⊥)
-touched_after _ before old new = IsInClosure new (λ birth. before birth ⊎ (old.births < birth))
+touched_after Attach before old new = StaysTouched before old new
+touched_after (Mutator slot call) before old new = StaysTouched before old new
+touched_after Begin before old new = IsReachedBirth new
+touched_after Roots before old new = StaysTouched before old new
+touched_after (Mark n) before old new = StaysTouched before old new
+touched_after Retrace before old new = StaysTouched before old new
+touched_after Finish before old new = StaysTouched before old new
+touched_after Sweep before old new = StaysTouched before old new
+touched_after Collect before old new = StaysTouched before old new
+touched_after Number before old new = StaysTouched before old new
 
--- The touched births, which a cycle may keep: at its Begin those of the reached objects, and after each later event the
--- closure of those before and of what the event allocated. Of a cycle that was marking at the start nothing is known.
-abbrev pub Touched : Start → Run → ℕ → Type 0
+-- A rule says which births are touched after a run from a start: the end of a cycle forgets the objects of all others.
+abbrev pub TouchRule : Type 1
+TouchRule = Start → Run → ℕ → Type 0
+
+-- The touched births: at the Begin of a cycle those of the reached objects, and after each later event the closure of those
+-- before and of what the event allocated. Of a cycle that was marking at the start nothing is known.
+abbrev pub Touched : TouchRule
 Touched start [] birth = start.marking ≡ true
 Touched start (m ∷ run) birth = touched_after m.told.event (Touched start run) (heap_after start run) m.heap birth
+
+-- every birth is touched: the rule of one who can't tell, so that the end of a cycle may keep any object
+abbrev pub AllTouched : TouchRule
+AllTouched start run birth = Unit {0}

@@ -1,5 +1,5 @@
 -- The step of every mutator call.
-use Rattle.std.specs.Prelude.{◌≡◌, ◌≢◌, ℕ, ◌+◌, ◌-◌, ◌*◌, ◌/◌, ◌%◌, ◌<◌, Option, Some, None, List, [], ◌∷◌, ◌++◌, length, replicate, slice_index, slice_set}
+use Rattle.std.specs.Prelude.{◌≡◌, ◌≢◌, ℕ, ◌+◌, ◌-◌, ◌*◌, ◌%◌, ◌<◌, Option, Some, None, List, [], ◌∷◌, ◌++◌, length, replicate, slice_index, slice_set}
 use Rattle.words.specs.declared.limits.TheConstants.{WORD_BYTES, REGISTERS, STACK_WORDS}
 use Rattle.words.specs.declared.class.Kind.{Kind}
 use Rattle.words.specs.declared.class.Placement.{Placement}
@@ -11,8 +11,8 @@ use Rattle.heap_spec.specs.declared.event.Event.{Event}
 use Rattle.heap_spec.specs.declared.event.Event.TheVariants.{Attach, Mutator, Begin, Roots, Mark, Retrace, Finish, Sweep, Collect, Number}
 use Rattle.heap_spec.specs.declared.reply.Reply.{Reply}
 use Rattle.heap_spec.specs.declared.reply.Reply.TheVariants.{Slot, Done, Word, Count, Refused}
-use Rattle.heap_spec.specs.Layout.{word_end}
-use Rattle.heap_spec.specs.Heap.{Heap, Object, Mutator as HeapMutator, HasObject, IsAttached, IsVacant, ReadsObject, ReadsNothing, with_at}
+use Rattle.heap_spec.specs.Layout.{word_end, index_in}
+use Rattle.heap_spec.specs.Heap.{Heap, Object, Mutator as HeapMutator, HasObject, IsAttached, IsVacant, ReadsObject, ReadsNothing, with_at, without}
 use Rattle.heap_spec.specs.Room.{HasRoom, length_of}
 
 -- A mutator comes with registers of 0 and an empty stack.
@@ -31,6 +31,11 @@ with_register s slot m r w = with_mutator s slot (Some (record m { registers = s
 abbrev pub with_object : Heap → ℕ → Option Object → Heap
 with_object s base o = record s { objects = with_at s.objects base o }
 
+-- the heap with one object more, the next to be born, whose words are 0
+abbrev pub with_new : Heap → ℕ → Kind → Placement → Heap
+with_new s base kind place =
+    record (with_object s base (Some (record { birth = s.births + 1; kind = kind; words = replicate (length_of place) 0 }))) { births = s.births + 1 }
+
 -- the word of a register
 abbrev pub register : HeapMutator → ℕ → ℕ
 register m r = slice_index m.registers r
@@ -48,41 +53,50 @@ pub data Attaches (s : Heap) : Reply → Heap → Type 0 where
   attached : {slot : ℕ} → IsLowestVacant s slot → Attaches s (Slot slot) (with_mutator s slot (Some newcomer))
   no_slot : ((k : ℕ) → IsVacant s k → ⊥) → Attaches s (Refused NoSlot) s
 
--- What a call of the mutator m, attached at the slot, may answer, and the heap after it: one constructor an outcome. A
--- refused call leaves the heap as it is, and a call that meets several refusals answers the first in the order of its lines.
+-- What a call of the mutator m, attached at the slot, may answer, and the heap after it: one constructor an outcome, and the
+-- outcomes of one call together. A refused call leaves the heap as it is, and a call that meets several refusals answers the
+-- first in the order of its lines.
 pub data Acts (s : Heap) (slot : ℕ) (m : HeapMutator) : Call → Reply → Heap → Type 0 where
+  -- the slot
   detached : Acts s slot m Detach Done (with_mutator s slot None)
+  -- registers
   set : {r w : ℕ} → Acts s slot m (Set r w) Done (with_register s slot m r w)
   copied : {d a : ℕ} → Acts s slot m (Copy d a) Done (with_register s slot m d (register m a))
   added : {d a n : ℕ} → Acts s slot m (Add d a n) Done (with_register s slot m d ((register m a + n) % word_end))
   subtracted : {d a b : ℕ} → Acts s slot m (Sub d a b) Done (with_register s slot m d ((register m a + word_end - register m b) % word_end))
   got : {r : ℕ} → Acts s slot m (Get r) (Word (register m r)) s
-  pushed : {r : ℕ} → length m.stack < STACK_WORDS → Acts s slot m (Push r) Done (with_mutator s slot (Some (record m { stack = m.stack ++ register m r ∷ [] })))
+  -- the stack
   push_full : {r : ℕ} → length m.stack ≡ STACK_WORDS → Acts s slot m (Push r) (Refused StackFull) s
-  popped : {r w : ℕ} (rest : List ℕ) → m.stack ≡ rest ++ w ∷ [] → Acts s slot m (Pop r) (Word w) (with_register s slot (record m { stack = rest }) r w)
+  pushed : {r : ℕ} → length m.stack < STACK_WORDS
+      → Acts s slot m (Push r) Done (with_mutator s slot (Some (record m { stack = m.stack ++ register m r ∷ [] })))
   pop_empty : {r : ℕ} → m.stack ≡ [] → Acts s slot m (Pop r) (Refused StackEmpty) s
-  loaded : {d a n base : ℕ} {o : Object} → address m a n % WORD_BYTES ≡ 0 → ReadsObject s (address m a n) base o
-      → Acts s slot m (Load d a n) (Word (slice_index o.words ((address m a n - base) / WORD_BYTES)))
-      (with_register s slot m d (slice_index o.words ((address m a n - base) / WORD_BYTES)))
+  popped : {r w : ℕ} (rest : List ℕ) → m.stack ≡ rest ++ w ∷ [] → Acts s slot m (Pop r) (Word w) (with_register s slot (record m { stack = rest }) r w)
+  -- a word of an object
   load_misaligned : {d a n : ℕ} → address m a n % WORD_BYTES ≢ 0 → Acts s slot m (Load d a n) (Refused Misaligned) s
   load_nothing : {d a n : ℕ} → address m a n % WORD_BYTES ≡ 0 → ReadsNothing s (address m a n) → Acts s slot m (Load d a n) (Refused NoObject) s
-  stored : {a n r base : ℕ} {o : Object} → address m a n % WORD_BYTES ≡ 0 → ReadsObject s (address m a n) base o
-      → Acts s slot m (Store a n r) Done
-      (with_object s base (Some (record o { words = slice_set o.words ((address m a n - base) / WORD_BYTES) (register m r) })))
+  loaded : {d a n base : ℕ} {o : Object} → address m a n % WORD_BYTES ≡ 0 → ReadsObject s (address m a n) base o
+      → Acts s slot m (Load d a n) (Word (slice_index o.words (index_in base (address m a n))))
+      (with_register s slot m d (slice_index o.words (index_in base (address m a n))))
   store_misaligned : {a n r : ℕ} → address m a n % WORD_BYTES ≢ 0 → Acts s slot m (Store a n r) (Refused Misaligned) s
   store_nothing : {a n r : ℕ} → address m a n % WORD_BYTES ≡ 0 → ReadsNothing s (address m a n) → Acts s slot m (Store a n r) (Refused NoObject) s
-  allocated : {d n : ℕ} {kind : Kind} {place : Placement} (a : ℕ) → placement_of n ≡ Some place → HasRoom s place kind a
-      → Acts s slot m (Alloc d n kind) Done
-      (record (with_register (with_object s a (Some (record { birth = s.births + 1; kind = kind; words = replicate (length_of place) 0 }))) slot m d a) { births = s.births + 1 })
+  stored : {a n r base : ℕ} {o : Object} → address m a n % WORD_BYTES ≡ 0 → ReadsObject s (address m a n) base o
+      → Acts s slot m (Store a n r) Done
+      (with_object s base (Some (record o { words = slice_set o.words (index_in base (address m a n)) (register m r) })))
+  -- objects
   bad_size : {d n : ℕ} {kind : Kind} → placement_of n ≡ None → Acts s slot m (Alloc d n kind) (Refused BadSize) s
-  full : {d n : ℕ} {kind : Kind} {place : Placement} → placement_of n ≡ Some place → ((a : ℕ) → HasRoom s place kind a → ⊥) → Acts s slot m (Alloc d n kind) (Refused Full) s
-  freed : {r : ℕ} {o : Object} → HasObject s (register m r) o → Acts s slot m (Free r) Done (with_object s (register m r) None)
-  free_inside : {r base : ℕ} {o : Object} → ReadsObject s (register m r) base o → base ≢ register m r → Acts s slot m (Free r) (Refused NotBase) s
+  full : {d n : ℕ} {kind : Kind} {place : Placement} → placement_of n ≡ Some place → ((a : ℕ) → HasRoom s place kind a → ⊥)
+      → Acts s slot m (Alloc d n kind) (Refused Full) s
+  allocated : {d n : ℕ} {kind : Kind} {place : Placement} (a : ℕ) → placement_of n ≡ Some place → HasRoom s place kind a
+      → Acts s slot m (Alloc d n kind) Done (with_register (with_new s a kind place) slot m d a)
   free_nothing : {r : ℕ} → ReadsNothing s (register m r) → Acts s slot m (Free r) (Refused NoObject) s
-  based : {d a base : ℕ} {o : Object} → ReadsObject s (register m a) base o → Acts s slot m (Base d a) (Word base) (with_register s slot m d base)
+  free_inside : {r base : ℕ} {o : Object} → ReadsObject s (register m r) base o → base ≢ register m r → Acts s slot m (Free r) (Refused NotBase) s
+  freed : {r : ℕ} {o : Object} → HasObject s (register m r) o → Acts s slot m (Free r) Done (without s (register m r ∷ []))
+  -- what a word points into
   base_nothing : {d a : ℕ} → ReadsNothing s (register m a) → Acts s slot m (Base d a) (Refused NoObject) s
-  sized : {r base : ℕ} {o : Object} → ReadsObject s (register m r) base o → Acts s slot m (Size r) (Count (length o.words)) s
+  based : {d a base : ℕ} {o : Object} → ReadsObject s (register m a) base o → Acts s slot m (Base d a) (Word base) (with_register s slot m d base)
   size_nothing : {r : ℕ} → ReadsNothing s (register m r) → Acts s slot m (Size r) (Refused NoObject) s
+  sized : {r base : ℕ} {o : Object} → ReadsObject s (register m r) base o → Acts s slot m (Size r) (Count (length o.words)) s
+  -- globals
   global_got : {d g : ℕ} → Acts s slot m (GlobalGet d g) (Word (slice_index s.globals g)) (with_register s slot m d (slice_index s.globals g))
   global_put : {g r : ℕ} → Acts s slot m (GlobalPut g r) Done (record s { globals = slice_set s.globals g (register m r) })
 

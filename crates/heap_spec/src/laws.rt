@@ -1,6 +1,6 @@
 //! The laws of the sequential heap. Each is a function that does nothing, and its contract is the law: what the
 //! definitions in `specs/` say must be right if these hold.
-ghost use Rattle.heap_spec.specs.Laws.{ClosureIsLeast, ClosureIsMonotone, ClosureIsIdempotent, RunsAreSound, ObjectsLieInHeap, ReadsAtMostOne, TouchedIsClosed, TouchedHoldsReached, FinishKeepsReached, CollectKeepsReached, LoadAnswersStored, RefusedChangesNothing, CallsHaveOneOutcome};
+ghost use Rattle.heap_spec.specs.Laws.{ClosureIsLeast, ClosureIsMonotone, ClosureIsIdempotent, RunsAreSound, ObjectsLieInHeap, ReadsAtMostOne, TouchedIsClosed, TouchedHoldsReached, FinishKeepsReached, CollectKeepsReached, StepBirths, LoadAnswersStored, RefusedChangesNothing, CallsHaveOneOutcome};
 
 /// The closure of some births is the least set of objects that its rules keep.
 pub fn closure_is_least()
@@ -42,14 +42,19 @@ pub fn touched_holds_reached()
     ensures { TouchedHoldsReached }
 {}
 
-/// The end of a cycle takes no reached object.
+/// The end of a cycle keeps each reached object.
 pub fn finish_keeps_reached()
     ensures { FinishKeepsReached }
 {}
 
-/// A full collection takes exactly the objects that are not reached.
+/// A full collection keeps each reached object, and no other.
 pub fn collect_keeps_reached()
     ensures { CollectKeepsReached }
+{}
+
+/// After a step each object is an old one, or was born in it.
+pub fn step_births()
+    ensures { StepBirths }
 {}
 
 /// A load answers what was stored last.

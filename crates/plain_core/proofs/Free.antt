@@ -1,22 +1,23 @@
 -- An object goes.
 use Rattle.std.proofs.Common.{◌≡◌, ℕ, ◌-◌, ◌/◌, zero, suc, false, List, [], ◌∷◌, map, get_or, length, ◌<◌, eqb, sym, ap, ◌∙◌, subst, arith, ⊎_elim, ◌⊎◌, inl, inr}
-use Rattle.std.specs.Prelude.{◌≢◌, Some, None, Contains, IsPermutation, slice_get, nat_eq}
+use Rattle.std.specs.Prelude.{◌≢◌, Some, Contains, IsPermutation, slice_get, nat_eq}
 use Rattle.std.specs.List.{IsDistinct, AllByRecursion, swap_remove}
 use Rattle.std.proofs.lemmas.List.Elements.{All-contains, Contains-get_or, Contains-append_right, Contains-append_cases, Contains-push_cases}
 use Rattle.std.proofs.lemmas.List.Sorted.{Contains-permutation, IsPermutation-map, IsPermutation-sym, IsPermutation-swap_remove}
 use Rattle.std.proofs.lemmas.Map.Keys.{IsDistinct-IsPermutation, IsDistinct-head, IsDistinct-tail}
-use Rattle.std.proofs.lemmas.Option.{none-some, slice_get_within, get_or_from_slice_get}
+use Rattle.std.proofs.lemmas.Option.{slice_get_within, get_or_from_slice_get}
 use Rattle.words.specs.declared.refusal.Refusal.TheVariants.{NotBase}
 use Rattle.words.specs.declared.limits.TheConstants.{FIRST_ADDRESS, GRANULE_BYTES}
 use Rattle.heap_spec.specs.declared.call.Call.TheVariants.{Free}
 use Rattle.heap_spec.specs.declared.reply.Reply.TheVariants.{Done, Refused}
 use Rattle.heap_spec.specs.Layout.{Reads}
-use Rattle.heap_spec.specs.Heap.{Heap, Object, Mutator, HasObject}
-use Rattle.heap_spec.specs.Steps.{Acts, acts, with_object, register}
+use Rattle.heap_spec.specs.Heap.{Heap, Object, Mutator, HasObject, without}
+use Rattle.heap_spec.specs.Steps.{Acts, acts, register}
+use Rattle.heap_spec.proofs.Objects.{without_one, without_one-other}
+use Rattle.roots.specs.Roots.{HasMutator}
 use Rattle.plain_core.specs.declared.extent.Extent.{Extent}
 use Rattle.plain_core.specs.Contents.{Contents, IsSound, IsInHeap, IsPlaced, granule}
 use Rattle.plain_core.specs.Standing.{IsShown}
-use Rattle.plain_core.proofs.Rows.{with_at-same, with_at-other}
 use Rattle.plain_core.proofs.Stands.{StepsCall, mutator_at, keeps_all}
 use Rattle.plain_core.proofs.Objects.{reads_object}
 
@@ -55,7 +56,6 @@ module _ (c : Contents) (sound : IsSound c) (e : Extent) (rest : List Extent) (p
   free_sound = record {
     pages = sound.pages;
     words = sound.words;
-    slots = sound.slots;
     in_heap = λ k d lt. All-contains (IsInHeap c.pages) c.objects (get_or rest k d) sound.in_heap (was_in (get_or rest k d) (Contains-get_or rest k d lt));
     placed = λ k d lt. All-contains IsPlaced c.objects (get_or rest k d) sound.placed (was_in (get_or rest k d) (Contains-get_or rest k d lt));
     distinct = IsDistinct-tail nat_eq (granule e) (map granule rest) distinct_rest;
@@ -63,20 +63,18 @@ module _ (c : Contents) (sound : IsSound c) (e : Extent) (rest : List Extent) (p
   }
 
   -- what is in the heap without the object was there before
-  was_there : (s : Heap) (b : ℕ) (p : Object) → HasObject (with_object s e.base None) b p → (b ≢ e.base) × HasObject s b p
-  was_there s b p is =
-      let other : b ≢ e.base = λ same. none-some p (sym (with_at-same s.objects e.base None b same) ∙ is) in
-      (other, sym (with_at-other s.objects e.base None b other) ∙ is)
+  was_there : (s : Heap) (b : ℕ) (p : Object) → HasObject (without s (e.base ∷ [])) b p → (b ≢ e.base) × HasObject s b p
+  was_there s b p is = without_one s.objects e.base b p is
 
-  pub frees : (k r : ℕ) (m : Mutator) → slice_get c.mutators k ≡ Some (Some m) → Contains c.objects e → e.base ≡ register m r → StepsCall c k (Free r) Done (record c { objects = rest })
+  pub frees : (k r : ℕ) (m : Mutator) → HasMutator c.roots k m → Contains c.objects e → e.base ≡ register m r → StepsCall c k (Free r) Done (record c { objects = rest })
   frees k r m at has same s h = (
-    with_object s e.base None,
-    acts (mutator_at c s h k (Some m) at) (subst (λ (b : ℕ). Acts s k m (Free r) Done (with_object s b None)) (sym same) (Acts.freed (subst (λ (b : ℕ). HasObject s b kept.0) same kept.1))),
+    without s (e.base ∷ []),
+    acts (mutator_at c s h k m at) (subst (λ (b : ℕ). Acts s k m (Free r) Done (without s (b ∷ []))) (sym same) (Acts.freed (subst (λ (b : ℕ). HasObject s b kept.0) same kept.1))),
     record {
       pages = h.pages;
       mutators = h.mutators;
       globals = h.globals;
-      kept = λ f hf. let old = h.kept f (was_in f hf) in (old.0, with_at-other s.objects e.base None f.base (other_base f hf) ∙ old.1, old.2);
+      kept = λ f hf. let old = h.kept f (was_in f hf) in (old.0, without_one-other s.objects e.base f.base (other_base f hf) ∙ old.1, old.2);
       only = λ b p is.
           let was = was_there s b p is in
           let f = h.only b p was.1 in
@@ -90,7 +88,7 @@ module _ (c : Contents) (sound : IsSound c) (e : Extent) (rest : List Extent) (p
       kept = h.kept e has
 
 -- an address inside an object that is not its base
-pub refuses_inside : (c : Contents) (sound : IsSound c) (i : ℕ) (e x : Extent) (k r : ℕ) (m : Mutator) → slice_get c.mutators k ≡ Some (Some m)
+pub refuses_inside : (c : Contents) (sound : IsSound c) (i : ℕ) (e x : Extent) (k r : ℕ) (m : Mutator) → HasMutator c.roots k m
     → slice_get c.objects i ≡ Some e → x ≡ get_or c.objects i x → Reads (register m r) e.base e.length → x.base ≢ register m r
     → StepsCall c k (Free r) (Refused NotBase) c
 refuses_inside c sound i e x k r m at there is reads apart =
@@ -105,5 +103,5 @@ module _ (c : Contents) (sound : IsSound c) (i : ℕ) (e : Extent) (objects : Li
   pub remove_sound : IsSound (record c { objects = objects })
   remove_sound = rw removed (free_sound c sound e (swap_remove c.objects i e) (IsPermutation-swap_remove c.objects i e lt is))
 
-  pub removes : (k r : ℕ) (m : Mutator) → slice_get c.mutators k ≡ Some (Some m) → e.base ≡ register m r → StepsCall c k (Free r) Done (record c { objects = objects })
+  pub removes : (k r : ℕ) (m : Mutator) → HasMutator c.roots k m → e.base ≡ register m r → StepsCall c k (Free r) Done (record c { objects = objects })
   removes k r m at same = rw removed (frees c sound e (swap_remove c.objects i e) (IsPermutation-swap_remove c.objects i e lt is) k r m at (i, lt, sym is) same)

@@ -3,10 +3,9 @@
 #![tactic(auto)]
 
 mod mutator;
+mod root_words;
 mod roots;
 
 pub use mutator::Mutator;
+pub use root_words::ROOT_WORDS;
 pub use roots::Roots;
-
-#[cfg(test)]
-mod tests;

@@ -1,9 +1,12 @@
 //! The registers and the stack of an attached mutator. Contracts see them as the heap has them.
-ghost use Rattle.std.specs.Prelude.{◌≡◌, ℕ, ◌<◌, [], MatchBool, length};
+ghost use Rattle.std.specs.Prelude.{◌≡◌, ℕ, ◌+◌, ◌<◌, ◌≤◌, ◌++◌, [], MatchBool, length};
+ghost use Rattle.arrayvec.specs.ArrayVec.{array_vec_len};
+ghost use Rattle.words.specs.declared.limits.TheConstants.{REGISTERS};
 ghost use Rattle.words.specs.declared.limits.TheConstants.{STACK_WORDS};
 ghost use Rattle.heap_spec.specs.Steps.{newcomer, register, address};
 ghost use Rattle.roots.specs.Roots.{with_word, with_pushed, PopsWord};
 
+use crate::root_words::ROOT_WORDS;
 use arrayvec::ArrayVec;
 use std::marker::Model;
 use words::Reg;
@@ -69,6 +72,20 @@ impl Mutator {
         ensures { MatchBool result (self.now.stack ≡ []) (0 < length self.now.stack) }
     {
         self.stack.is_empty()
+    }
+
+    // Its words, registers first, behind those that are there.
+    pub(crate) fn write_words(&self, into: &mut ArrayVec<u64, ROOT_WORDS>)
+        requires { array_vec_len into.old + (REGISTERS + STACK_WORDS) ≤ ROOT_WORDS }
+        ensures items { into.new.items ≡ into.old.items ++ (self.now.registers ++ self.now.stack) }
+        ensures len { array_vec_len into.new ≤ array_vec_len into.old + (REGISTERS + STACK_WORDS) }
+    {
+        let Ok(()) = into.try_extend_from_slice(&self.registers) else {
+            unreachable!();
+        };
+        let Ok(()) = into.try_extend_from_slice(self.stack.as_slice()) else {
+            unreachable!();
+        };
     }
 
     // Puts a word into a register.

@@ -11,13 +11,13 @@ use std::marker::Model;
 use words::limits::{GLOBALS, SLOTS};
 use words::{Reg, Slot};
 
-type Mutators = [Option<Mutator>; SLOTS as usize];
+pub(crate) type Mutators = [Option<Mutator>; SLOTS as usize];
 
 /// The mutators of a heap by their slots, and its globals.
 #[derive(Drop)]
 pub struct Roots {
-    mutators: Mutators,
-    globals: [u64; GLOBALS as usize],
+    pub(crate) mutators: Mutators,
+    pub(crate) globals: [u64; GLOBALS as usize],
 }
 
 impl Model for Roots {

@@ -1,0 +1,6 @@
+pub mod Slots
+pub mod Chains
+pub mod Telling
+pub mod Stored
+pub mod Counting
+pub mod Passing

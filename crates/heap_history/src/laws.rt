@@ -1,0 +1,17 @@
+//! What follows from the headline for a caller, whatever others do. Each law is a function that does nothing, and its contract is the law.
+ghost use Rattle.heap_history.specs.Laws.{OwnLoadAnswers, MineBegins, CountGrows};
+
+/// A mutator loads the word that it stored, if nothing happened between.
+pub fn own_load_answers()
+    ensures { OwnLoadAnswers }
+{}
+
+/// The own events of a mutator begin with its attach.
+pub fn mine_begins()
+    ensures { MineBegins }
+{}
+
+/// The count of collections never goes back along one pass.
+pub fn count_grows()
+    ensures { CountGrows }
+{}

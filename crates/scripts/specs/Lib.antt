@@ -1,0 +1,11 @@
+pub mod Served
+pub mod Grammar
+pub mod WordsLeft
+pub mod Fields
+pub mod Calls
+pub mod Lines
+pub mod Reading
+pub mod Printing
+pub mod Answers
+pub mod Ends
+pub mod Turns
