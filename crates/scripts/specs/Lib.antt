@@ -1,4 +1,3 @@
-pub mod Served
 pub mod Grammar
 pub mod WordsLeft
 pub mod Fields

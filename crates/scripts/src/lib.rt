@@ -1,6 +1,7 @@
 //! Scripts: lines of commands are read, run over a heap of their own, and answered line by line.
 #![tactic(auto)]
 
+mod answer;
 mod commands;
 mod errors;
 mod field;
@@ -10,7 +11,6 @@ mod line;
 mod numbers;
 mod print;
 mod script;
-mod serve;
 mod source;
 mod std_io;
 mod words_of_line;
