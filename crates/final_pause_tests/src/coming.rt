@@ -5,7 +5,7 @@ ghost use Rattle.block_map.specs.declared.found.Found.{Found};
 ghost use Rattle.block_map.specs.Changes.{IsAdded};
 ghost use Rattle.block_map.specs.Objects.{cell_object, large_object};
 ghost use Rattle.block_map.specs.FoundIn.{found_in};
-ghost use Rattle.block_map_tests.specs.Spans.{IsFreeSpan};
+ghost use Rattle.fixtures.specs.Spans.{IsFreeSpan};
 ghost use Rattle.marker.specs.Marking.{IsSized};
 ghost use Rattle.marker.specs.Invariant.{DirtyPageInvariant};
 
@@ -54,7 +54,7 @@ pub(crate) fn large_at(page: PageNo, pages: u32, kind: Kind) -> Found
 }
 
 /// Whether the pages from `first` on and below `end` are free.
-#[tactic(auto, using(block_map_tests::proofs::Spans::spans))]
+#[tactic(auto, using(fixtures::proofs::Spans::spans))]
 pub(crate) fn are_free(map: &BlockMap, first: PageNo, end: PageNo) -> bool
     requires first { first ≤ end }
     requires end { end ≤ length map.now }

@@ -1,5 +1,5 @@
 -- The calls that allocate and free.
-use Rattle.std.proofs.Common.{get_or, cond, replicate, true, false, ◌⊎◌, length, inl, inr, ⊎_elim, ◌≡◌, ℕ, ◌+◌, [], ◌∷◌, Some, None, refl, sym, ap, ◌∙◌, subst}
+use Rattle.std.proofs.Common.{get_or, cond, replicate, true, false, length, inl, inr, ⊎_elim, ◌≡◌, ℕ, ◌+◌, [], ◌∷◌, Some, None, refl, sym, ap, ◌∙◌, subst}
 use Rattle.std.specs.Prelude.{◌≢◌}
 use Rattle.words.specs.declared.class.Kind.{Kind}
 use Rattle.words.specs.declared.class.Placement.{Placement}
@@ -24,18 +24,20 @@ use Rattle.marker.proofs.MarkWord.{same_object}
 use Rattle.block_map.specs.FoundIn.{found_in, IsLawful}
 use Rattle.block_map.specs.declared.found.Found.{Found}
 use Rattle.roots.specs.Roots.{RootSet, HasMutator, SetsWord}
-use Rattle.heap_core.specs.Contents.{Store, Cycle, IsSwept}
+use Rattle.object_space.specs.Store.{Store, IsSwept}
+use Rattle.heap_core.specs.Contents.{Cycle}
 use Rattle.heap_core.specs.Calls.{IsCall}
 use Rattle.heap_core.specs.Beside.{NotesObject}
-use Rattle.heap_core.specs.Sweeps.{Gains, Loses, Sweeps}
-use Rattle.heap_core.specs.Standing.{StandsFor, Stores, Shows}
-use Rattle.heap_core.specs.Kept.{restrict, is_kept}
-use Rattle.heap_core.proofs.Kept.{kept_cases, kept_map, kept_added, kept_removed, kept_none, kept_same, nothing_pending}
-use Rattle.heap_core.proofs.Changes.{shows_added, shows_removed}
-use Rattle.heap_core.proofs.Allocations.{shows_same}
-use Rattle.heap_core.proofs.Shown.{at_base}
-use Rattle.heap_core.proofs.Sweeping.{read_or_not}
-use Rattle.heap_core.specs.Rooms.{HasRoomAt, HasNoRoom}
+use Rattle.object_space.specs.Sweeps.{Gains, Loses, Sweeps}
+use Rattle.object_space.specs.Shown.{Stores, Shows}
+use Rattle.heap_core.specs.Standing.{StandsFor}
+use Rattle.object_space.specs.Kept.{restrict, is_kept}
+use Rattle.object_space.proofs.Kept.{kept_cases, kept_map, kept_added, kept_removed, kept_none, kept_same, nothing_pending}
+use Rattle.object_space.proofs.Changes.{shows_added, shows_removed}
+use Rattle.object_space.proofs.Allocations.{shows_same}
+use Rattle.object_space.proofs.Shown.{at_base}
+use Rattle.object_space.proofs.Sweeping.{read_or_not}
+use Rattle.object_space.specs.Rooms.{HasRoomAt, HasNoRoom}
 use Rattle.heap_core.proofs.Lookups.{finds}
 use Rattle.heap_core.proofs.Roots.{core_of, attached, stands_set}
 

@@ -12,15 +12,17 @@ use Rattle.pages.specs.Memory.{IsWordAddress, place, word_at, with_word_at}
 use Rattle.block_map.specs.FoundIn.{found_in, IsLawful}
 use Rattle.block_map.specs.declared.found.Found.{Found}
 use Rattle.roots.specs.Roots.{RootSet, HasMutator, SetsWord}
-use Rattle.heap_core.specs.Contents.{Store, Cycle}
+use Rattle.object_space.specs.Store.{Store}
+use Rattle.heap_core.specs.Contents.{Cycle}
 use Rattle.heap_core.specs.Calls.{IsCall}
 use Rattle.heap_core.specs.Beside.{NotesWrite}
 use Rattle.std.specs.Prelude.{Bool}
-use Rattle.heap_core.specs.Kept.{restrict, is_kept}
-use Rattle.heap_core.specs.Standing.{StandsFor, Stores, Shows, IsShown}
-use Rattle.heap_core.proofs.Kept.{kept_map}
-use Rattle.heap_core.proofs.Shown.{reads_object, reads_nothing, word_read, is_word}
-use Rattle.heap_core.proofs.Changes.{shows_stored}
+use Rattle.object_space.specs.Kept.{restrict, is_kept}
+use Rattle.object_space.specs.Shown.{Stores, Shows, IsShown}
+use Rattle.heap_core.specs.Standing.{StandsFor}
+use Rattle.object_space.proofs.Kept.{kept_map}
+use Rattle.object_space.proofs.Shown.{reads_object, reads_nothing, word_read, is_word}
+use Rattle.object_space.proofs.Changes.{shows_stored}
 use Rattle.heap_core.proofs.Roots.{core_of, attached, stands_set, quiet}
 
 -- an address that finds a kept object reads it in the heap

@@ -13,10 +13,12 @@ use Rattle.heap_spec.specs.Replies.{IsStep}
 use Rattle.heap_spec.specs.Steps.{Acts, Calls, Step}
 use Rattle.roots.specs.Roots.{RootSet, HasMutator, HasNoMutator, with_word, with_roots, SetsWord, StepsRoots}
 use Rattle.roots.proofs.Steps.{set_mutators}
-use Rattle.heap_core.specs.Contents.{Contents, Store, Cycle}
+use Rattle.object_space.specs.Store.{Store}
+use Rattle.heap_core.specs.Contents.{Contents, Cycle}
 use Rattle.heap_core.specs.Calls.{IsCall}
-use Rattle.heap_core.specs.Kept.{is_kept}
-use Rattle.heap_core.specs.Standing.{StandsFor, Stores}
+use Rattle.object_space.specs.Kept.{is_kept}
+use Rattle.object_space.specs.Shown.{Stores}
+use Rattle.heap_core.specs.Standing.{StandsFor}
 
 -- the core of these
 abbrev pub core_of : RootSet → Store → Cycle → Contents

@@ -1,12 +1,12 @@
 -- What keeps a core traced: its marker is one of its pages, and while marking the dirty-page invariant holds.
-use Rattle.std.proofs.Common.{◌≡◌, ℕ, ◌+◌, ◌-◌, ◌*◌, ◌/◌, ◌<◌, ◌≤◌, ◌⊎◌, true, false, List, length, get_or, Option, Some, None, refl, sym, ap, ◌∙◌, subst, inl, inr, ⊎_elim, arith}
+use Rattle.std.proofs.Common.{◌≡◌, ℕ, ◌+◌, ◌*◌, ◌<◌, ◌≤◌, ◌⊎◌, true, false, List, length, get_or, Option, Some, None, refl, sym, ap, ◌∙◌, subst, inl, inr, ⊎_elim, arith}
 use Rattle.std.proofs.lemmas.Bool.{cases_lt}
 use Rattle.std.specs.Prelude.{Bool}
-use Rattle.pages.specs.Memory.{IsZeroed, place, with_word_at}
+use Rattle.pages.specs.Memory.{place, with_word_at}
 use Rattle.block_map.specs.declared.found.Found.{Found}
 use Rattle.block_map.specs.FoundIn.{found_in}
-use Rattle.block_map.specs.Objects.{IsMap, Reads}
-use Rattle.words.specs.Bits.{Has, IsClear}
+use Rattle.block_map.specs.Objects.{Reads}
+use Rattle.words.specs.Bits.{Has}
 use Rattle.words.specs.declared.class.Kind.{Kind}
 use Rattle.words.specs.declared.class.Placement.{Placement}
 use Rattle.marker.specs.Marking.{Marking, IsSized, IsFresh}
@@ -14,11 +14,12 @@ use Rattle.marker.specs.Growth.{Traces}
 use Rattle.marker.specs.Invariant.{DirtyPageInvariant}
 use Rattle.marker.specs.Mutations.{KeepsWords, HasZeroWords, HasNoNew}
 use Rattle.marker.proofs.Mutating.{removed_less, free_traced}
-use Rattle.heap_core.specs.Kept.{is_kept}
-use Rattle.heap_core.proofs.Kept.{kept_all, nothing_pending}
-use Rattle.heap_core.specs.Contents.{Store, Cycle, IsTraced, IsSwept}
+use Rattle.object_space.specs.Kept.{is_kept}
+use Rattle.object_space.proofs.Kept.{kept_all, nothing_pending}
+use Rattle.object_space.specs.Store.{Store, IsSwept}
+use Rattle.heap_core.specs.Contents.{Cycle, IsTraced}
 use Rattle.heap_core.specs.Beside.{NotesWrite, NotesObject}
-use Rattle.heap_core.specs.Sweeps.{Gains, Loses, Sweeps}
+use Rattle.object_space.specs.Sweeps.{Gains, Loses, Sweeps}
 
 -- the marker goes on
 pub traced_on : (t : Store) (y : Cycle) (roots : List ℕ) (m : Marking) → IsTraced t y → Traces (found_in t.states) t.words roots y.marking m → IsTraced t (record y { marking = m })

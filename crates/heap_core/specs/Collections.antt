@@ -1,5 +1,5 @@
 -- What calls of the collector do to a core.
-use Rattle.std.specs.Prelude.{◌≡◌, ℕ, ◌+◌, ◌%◌, ◌<◌, ◌≤◌, Bool, true, false, List, [], length, count_by, Contains, Result, Ok, Err, if◌then◌else◌, Option, Some, None}
+use Rattle.std.specs.Prelude.{◌≡◌, ℕ, ◌+◌, ◌%◌, ◌<◌, ◌≤◌, Bool, true, false, List, [], length, count_by, Contains, Result, Ok, Err, if◌then◌else◌}
 use Rattle.words.specs.declared.refusal.Refusal.{Refusal}
 use Rattle.words.specs.declared.refusal.Refusal.TheVariants.{WrongPhase}
 use Rattle.heap_spec.specs.declared.reply.Reply.{Reply}
@@ -8,15 +8,16 @@ use Rattle.heap_spec.specs.Layout.{word_end}
 use Rattle.heap_spec.specs.Heap.{Heap, Object, HasObject}
 use Rattle.heap_spec.specs.Closure.{Closure}
 use Rattle.heap_spec.specs.Cycles.{TakesOut, CollectsFully}
-use Rattle.marker.specs.Marking.{Marking, IsMarked, IsFresh, IsEmpty, IsClean}
+use Rattle.marker.specs.Marking.{IsMarked, IsFresh, IsEmpty, IsClean}
 use Rattle.marker.specs.Invariant.{AreRootsMarked}
 use Rattle.marker.specs.Growth.{Traces}
 use Rattle.marker.specs.Entries.{Takes, TakesOff, IsInOrder}
 use Rattle.marker.specs.Retracing.{Retraces}
 use Rattle.reachability.specs.Shows.{IsMarkedBirth}
 use Rattle.roots.specs.Roots.{root_words_of}
-use Rattle.heap_core.specs.Contents.{Contents, IsSwept}
-use Rattle.heap_core.specs.Kept.{IsPendingAfter}
+use Rattle.object_space.specs.Store.{IsSwept}
+use Rattle.heap_core.specs.Contents.{Contents}
+use Rattle.object_space.specs.Kept.{IsPendingAfter}
 use Rattle.block_map.specs.FoundIn.{found_in}
 use Rattle.heap_core.specs.Standing.{StandsFor}
 

@@ -1,9 +1,5 @@
 pub mod Contents
-pub mod OpenRows
-pub mod Rooms
 pub mod Standing
-pub mod Kept
-pub mod Sweeps
 pub mod Beside
 pub mod Calls
 pub mod Collections

@@ -5,7 +5,6 @@
 
 mod heap;
 mod object;
-mod objects;
 pub mod quiet;
 mod ranges;
 

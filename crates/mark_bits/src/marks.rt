@@ -61,6 +61,14 @@ impl Marks {
         self.row.set(granule);
     }
 
+    /// Takes the granule's mark away.
+    pub fn clear(&mut self, granule: usize)
+        requires { granule < length self.old }
+        ensures { self.new ≡ slice_set self.old granule false }
+    {
+        self.row.clear(granule);
+    }
+
     /// Takes all marks away, by whole words.
     pub fn clear_all(&mut self)
         ensures { IsClear self.new (length self.old) }

@@ -1,6 +1,6 @@
 -- An allocation, and that the core stays sound.
-use Rattle.std.proofs.Common.{◌≡◌, ℕ, ◌+◌, ◌*◌, ◌/◌, ◌%◌, ◌<◌, ◌≤◌, ◌⊎◌, List, [], ◌∷◌, ◌++◌, length, get_or, drop, set, replicate, refl, sym, ap, ◌∙◌, subst, arith, inl, inr, ⊎_elim, cond}
-use Rattle.std.specs.Prelude.{Result, Ok, Err, IsOk, is_ok, ◌≢◌, Option, Some, All, slice_get}
+use Rattle.std.proofs.Common.{◌≡◌, ℕ, ◌+◌, ◌*◌, ◌/◌, ◌%◌, ◌<◌, ◌≤◌, ◌⊎◌, List, [], ◌∷◌, ◌++◌, length, get_or, drop, replicate, refl, sym, ap, ◌∙◌, subst, arith, inl, inr, ⊎_elim, cond}
+use Rattle.std.specs.Prelude.{Result, Ok, Err, IsOk, is_ok, ◌≢◌, Some, All}
 use Rattle.std.proofs.Math.Nat.{mul_assoc, mul-mod_right}
 use Rattle.std.proofs.lemmas.List.{ext_get_or, get_or-take, get_or-drop, get_or-replicate, length-replicate, length_push}
 use Rattle.std.proofs.lemmas.List.Elements.{All-nil, All-contains, All-push, Contains-push_cases, Contains-push, Contains-append_left}
@@ -9,32 +9,32 @@ use Rattle.std.proofs.lemmas.Bool.{cases_lt, cases_eq}
 use Rattle.words.specs.declared.class.Kind.{Kind}
 use Rattle.words.specs.declared.class.Placement.{Placement}
 use Rattle.words.specs.declared.class.Placement.TheVariants.{Small, Large}
-use Rattle.words.specs.declared.limits.TheConstants.{WORD_BYTES, PAGE_WORDS, PAGE_GRANULES, MAX_PAGES, SLOTS}
+use Rattle.words.specs.declared.limits.TheConstants.{WORD_BYTES, PAGE_WORDS, PAGE_GRANULES, MAX_PAGES}
 use Rattle.words.specs.Placing.{placement_of}
 use Rattle.heap_spec.specs.declared.call.Call.TheVariants.{Alloc}
 use Rattle.heap_spec.specs.declared.reply.Reply.TheVariants.{Done}
 use Rattle.heap_spec.specs.Layout.{Reads}
 use Rattle.heap_spec.specs.Heap.{Heap, Object, Mutator, HasObject}
 use Rattle.heap_spec.specs.Room.{length_of}
-use Rattle.heap_spec.specs.Steps.{Acts, acts, with_register, with_object}
+use Rattle.heap_spec.specs.Steps.{Acts, acts, with_register, with_object, with_new}
+use Rattle.heap_spec.proofs.Objects.{with_at-same, with_at-other}
+use Rattle.roots.specs.Roots.{RootSet, HasMutator, SetsWord}
 use Rattle.plain_core.specs.declared.extent.Extent.{Extent}
 use Rattle.plain_core.specs.Contents.{Contents, IsSound, IsInHeap, IsPlaced}
 use Rattle.plain_core.specs.Places.{IsPlace, IsSized}
 use Rattle.plain_core.specs.Standing.{IsShown, place, words_at}
-use Rattle.plain_core.proofs.Rows.{with_at-same, with_at-other}
-use Rattle.plain_core.proofs.Stands.{StepsCall, mutator_at}
+use Rattle.plain_core.proofs.Stands.{StepsCall, mutator_at, set_is}
 use Rattle.plain_core.proofs.Memory.{length_words}
 use Rattle.plain_core.proofs.Objects.{in_heap}
 use Rattle.plain_core.proofs.Freshness.{IsFresh, fresh_small, fresh_large, distinct_push, distinct_none, few_objects}
 use Rattle.plain_core.proofs.Rooms.{room_of}
 
 -- a new core
-pub new_sound : (pages : ℕ) (words : List ℕ) (objects : List Extent) (mutators : List (Option Mutator)) (globals : List ℕ) → pages ≤ MAX_PAGES → length words ≡ PAGE_WORDS * pages → objects ≡ [] → length mutators ≡ SLOTS
-    → IsSound (record { pages = pages; words = words; objects = objects; mutators = mutators; globals = globals })
-new_sound pages words objects mutators globals p w o m = record {
+pub new_sound : (pages : ℕ) (words : List ℕ) (objects : List Extent) (roots : RootSet) → pages ≤ MAX_PAGES → length words ≡ PAGE_WORDS * pages → objects ≡ []
+    → IsSound (record { pages = pages; words = words; objects = objects; roots = roots })
+new_sound pages words objects roots p w o = record {
   pages = p;
   words = w;
-  slots = m;
   in_heap = rw o (All-nil (IsInHeap pages));
   placed = rw o (All-nil IsPlaced);
   distinct = distinct_none objects o;
@@ -96,16 +96,16 @@ other_words old new pages e g l ie ig z apart =
     outside : (k : ℕ) → k < g.length → (place g.base + k < place e.base) ⊎ (place e.base + e.length ≤ place g.base + k)
     outside k h = ⊎_elim (λ before. inl before) (λ from. ⊎_elim (λ inside. absurd (apart (g.base + WORD_BYTES * k) (omega arith, omega arith) (omega arith, omega arith))) (λ past. inr past) (cases_lt (place g.base + k) (place e.base + e.length))) (cases_lt (place g.base + k) (place e.base))
 
-pub allocates : (c : Contents) (k d n : ℕ) (kind : Kind) (m : Mutator) (place : Placement) (e : Extent) (row : List ℕ) → IsSound c → slice_get c.mutators k ≡ Some (Some m) → placement_of n ≡ Some place → IsPlace c.objects c.pages place kind e.base → e.kind ≡ kind → e.length ≡ length_of place
-    → IsInHeap c.pages e → IsFresh c.objects e → IsZeroed c.words row e
-    → StepsCall c k (Alloc d n kind) Done (record c { words = row; objects = c.objects ++ e ∷ []; mutators = set c.mutators k (Some (record m { registers = set m.registers d e.base })) })
-allocates c k d n kind m place e row sound at is room same_kind same_length new fresh zeroed s h = (
+pub allocates : (c : Contents) (roots : RootSet) (k d n : ℕ) (kind : Kind) (m : Mutator) (place : Placement) (e : Extent) (row : List ℕ) → IsSound c → HasMutator c.roots k m → placement_of n ≡ Some place → IsPlace c.objects c.pages place kind e.base → e.kind ≡ kind → e.length ≡ length_of place
+    → IsInHeap c.pages e → IsFresh c.objects e → IsZeroed c.words row e → SetsWord c.roots k d e.base roots
+    → StepsCall c k (Alloc d n kind) Done (record c { words = row; objects = c.objects ++ e ∷ []; roots = roots })
+allocates c roots k d n kind m place e row sound at is room same_kind same_length new fresh zeroed sets s h = (
   after,
-  acts (mutator_at c s h k (Some m) at) (Acts.allocated e.base is (room_of c sound s h place kind e.base room)),
+  acts (mutator_at c s h k m at) (Acts.allocated e.base is (room_of c sound s h place kind e.base room)),
   record {
     pages = h.pages;
-    mutators = ap (λ xs. set xs k (Some m')) h.mutators;
-    globals = h.globals;
+    mutators = (set_is c s h roots k d e.base m at sets).0;
+    globals = (set_is c s h roots k d e.base m at sets).1;
     kept = λ g hg. ⊎_elim
         (λ old. let kept = h.kept g old in (
           kept.0,
@@ -130,14 +130,11 @@ allocates c k d n kind m place e row sound at is room same_kind same_length new 
   },
 )
   where
-    m' : Mutator
-    m' = record m { registers = set m.registers d e.base }
-
     o : Object
     o = record { birth = s.births + 1; kind = kind; words = replicate (length_of place) 0 }
 
     after : Heap
-    after = record (with_register (with_object s e.base (Some o)) k m d e.base) { births = s.births + 1 }
+    after = with_register (with_new s e.base kind place) k m d e.base
 
     base_in : (g : Extent) → IsInHeap c.pages g → (w : ℕ) → w ≡ g.base → Reads w g.base g.length
     base_in g i w same = (omega arith, omega arith)
@@ -146,12 +143,11 @@ allocates c k d n kind m place e row sound at is room same_kind same_length new 
     too_late b q x has is same = let r = h.born b q has in let l = r.1 in omega arith
 
 -- the core stays sound
-pub sound_after : (c : Contents) (e : Extent) (row : List ℕ) → IsSound c → IsInHeap c.pages e → IsPlaced e → IsFresh c.objects e → length row ≡ length c.words
-    → IsSound (record c { words = row; objects = c.objects ++ e ∷ [] })
-sound_after c e row sound new placed fresh long = record {
+pub sound_after : (c : Contents) (roots : RootSet) (e : Extent) (row : List ℕ) → IsSound c → IsInHeap c.pages e → IsPlaced e → IsFresh c.objects e → length row ≡ length c.words
+    → IsSound (record c { words = row; objects = c.objects ++ e ∷ []; roots = roots })
+sound_after c roots e row sound new placed fresh long = record {
   pages = sound.pages;
   words = long ∙ sound.words;
-  slots = sound.slots;
   in_heap = All-push (IsInHeap c.pages) c.objects e sound.in_heap new;
   placed = All-push IsPlaced c.objects e sound.placed placed;
   distinct = distinct_push c.pages c.objects e sound.in_heap new fresh sound.distinct;
@@ -186,9 +182,9 @@ module _ (c : Contents) (placement : Placement) (kind : Kind) (e : Extent) (soun
   pub fits_row : place e.base + e.length ≤ length c.words
   fits_row = let i = new in let w = sound.words in omega (arith, i.start, i.aligned, i.ends)
 
-  pub alloc_steps : (k d n : ℕ) (m : Mutator) (row : List ℕ) (objects : List Extent) → slice_get c.mutators k ≡ Some (Some m) → placement_of n ≡ Some placement → e.kind ≡ kind → IsZeroed c.words row e → objects ≡ c.objects ++ e ∷ []
-      → StepsCall c k (Alloc d n kind) Done (record c { words = row; objects = objects; mutators = set c.mutators k (Some (record m { registers = set m.registers d e.base })) })
-  alloc_steps k d n m row objects at is same zeroed pushed = rw pushed (allocates c k d n kind m placement e row sound at is room same long new fresh zeroed)
+  pub alloc_steps : (roots : RootSet) (k d n : ℕ) (m : Mutator) (row : List ℕ) (objects : List Extent) → HasMutator c.roots k m → placement_of n ≡ Some placement → e.kind ≡ kind → IsZeroed c.words row e → objects ≡ c.objects ++ e ∷ []
+      → SetsWord c.roots k d e.base roots → StepsCall c k (Alloc d n kind) Done (record c { words = row; objects = objects; roots = roots })
+  alloc_steps roots k d n m row objects at is same zeroed pushed sets = rw pushed (allocates c roots k d n kind m placement e row sound at is room same long new fresh zeroed sets)
 
-  pub alloc_sound : (row : List ℕ) (objects : List Extent) → length row ≡ length c.words → objects ≡ c.objects ++ e ∷ [] → IsSound (record c { words = row; objects = objects })
-  alloc_sound row objects l pushed = rw pushed (sound_after c e row sound new (new_placed c.pages c.objects placement kind e sized long room) fresh l)
+  pub alloc_sound : (roots : RootSet) (row : List ℕ) (objects : List Extent) → length row ≡ length c.words → objects ≡ c.objects ++ e ∷ [] → IsSound (record c { words = row; objects = objects; roots = roots })
+  alloc_sound roots row objects l pushed = rw pushed (sound_after c roots e row sound new (new_placed c.pages c.objects placement kind e sized long room) fresh l)

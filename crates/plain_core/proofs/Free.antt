@@ -14,6 +14,7 @@ use Rattle.heap_spec.specs.Layout.{Reads}
 use Rattle.heap_spec.specs.Heap.{Heap, Object, Mutator, HasObject, without}
 use Rattle.heap_spec.specs.Steps.{Acts, acts, register}
 use Rattle.heap_spec.proofs.Objects.{without_one, without_one-other}
+use Rattle.roots.specs.Roots.{HasMutator}
 use Rattle.plain_core.specs.declared.extent.Extent.{Extent}
 use Rattle.plain_core.specs.Contents.{Contents, IsSound, IsInHeap, IsPlaced, granule}
 use Rattle.plain_core.specs.Standing.{IsShown}
@@ -55,7 +56,6 @@ module _ (c : Contents) (sound : IsSound c) (e : Extent) (rest : List Extent) (p
   free_sound = record {
     pages = sound.pages;
     words = sound.words;
-    slots = sound.slots;
     in_heap = λ k d lt. All-contains (IsInHeap c.pages) c.objects (get_or rest k d) sound.in_heap (was_in (get_or rest k d) (Contains-get_or rest k d lt));
     placed = λ k d lt. All-contains IsPlaced c.objects (get_or rest k d) sound.placed (was_in (get_or rest k d) (Contains-get_or rest k d lt));
     distinct = IsDistinct-tail nat_eq (granule e) (map granule rest) distinct_rest;
@@ -66,10 +66,10 @@ module _ (c : Contents) (sound : IsSound c) (e : Extent) (rest : List Extent) (p
   was_there : (s : Heap) (b : ℕ) (p : Object) → HasObject (without s (e.base ∷ [])) b p → (b ≢ e.base) × HasObject s b p
   was_there s b p is = without_one s.objects e.base b p is
 
-  pub frees : (k r : ℕ) (m : Mutator) → slice_get c.mutators k ≡ Some (Some m) → Contains c.objects e → e.base ≡ register m r → StepsCall c k (Free r) Done (record c { objects = rest })
+  pub frees : (k r : ℕ) (m : Mutator) → HasMutator c.roots k m → Contains c.objects e → e.base ≡ register m r → StepsCall c k (Free r) Done (record c { objects = rest })
   frees k r m at has same s h = (
     without s (e.base ∷ []),
-    acts (mutator_at c s h k (Some m) at) (subst (λ (b : ℕ). Acts s k m (Free r) Done (without s (b ∷ []))) (sym same) (Acts.freed (subst (λ (b : ℕ). HasObject s b kept.0) same kept.1))),
+    acts (mutator_at c s h k m at) (subst (λ (b : ℕ). Acts s k m (Free r) Done (without s (b ∷ []))) (sym same) (Acts.freed (subst (λ (b : ℕ). HasObject s b kept.0) same kept.1))),
     record {
       pages = h.pages;
       mutators = h.mutators;
@@ -88,7 +88,7 @@ module _ (c : Contents) (sound : IsSound c) (e : Extent) (rest : List Extent) (p
       kept = h.kept e has
 
 -- an address inside an object that is not its base
-pub refuses_inside : (c : Contents) (sound : IsSound c) (i : ℕ) (e x : Extent) (k r : ℕ) (m : Mutator) → slice_get c.mutators k ≡ Some (Some m)
+pub refuses_inside : (c : Contents) (sound : IsSound c) (i : ℕ) (e x : Extent) (k r : ℕ) (m : Mutator) → HasMutator c.roots k m
     → slice_get c.objects i ≡ Some e → x ≡ get_or c.objects i x → Reads (register m r) e.base e.length → x.base ≢ register m r
     → StepsCall c k (Free r) (Refused NotBase) c
 refuses_inside c sound i e x k r m at there is reads apart =
@@ -103,5 +103,5 @@ module _ (c : Contents) (sound : IsSound c) (i : ℕ) (e : Extent) (objects : Li
   pub remove_sound : IsSound (record c { objects = objects })
   remove_sound = rw removed (free_sound c sound e (swap_remove c.objects i e) (IsPermutation-swap_remove c.objects i e lt is))
 
-  pub removes : (k r : ℕ) (m : Mutator) → slice_get c.mutators k ≡ Some (Some m) → e.base ≡ register m r → StepsCall c k (Free r) Done (record c { objects = objects })
+  pub removes : (k r : ℕ) (m : Mutator) → HasMutator c.roots k m → e.base ≡ register m r → StepsCall c k (Free r) Done (record c { objects = objects })
   removes k r m at same = rw removed (frees c sound e (swap_remove c.objects i e) (IsPermutation-swap_remove c.objects i e lt is) k r m at (i, lt, sym is) same)

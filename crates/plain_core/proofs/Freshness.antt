@@ -8,14 +8,13 @@ use Rattle.std.proofs.lemmas.List.Elements.{All-contains, All-map, All-weaker, C
 use Rattle.std.proofs.lemmas.List.Folds.{list_any_none, Any-from_list_any}
 use Rattle.std.proofs.lemmas.Map.Keys.{IsDistinct-push}
 use Rattle.std.proofs.lemmas.Map.Steps.{length-le_from_distinct_below}
-use Rattle.std.proofs.lemmas.Bool.{cases_lt, eqb-true}
+use Rattle.std.proofs.lemmas.Bool.{cases_lt, eqb-true, ne_eqb}
 use Rattle.std.specs.Cmp.{nat_eq_equiv}
 use Rattle.words.specs.declared.class.Kind.{Kind}
 use Rattle.words.specs.declared.limits.TheConstants.{WORD_BYTES, PAGE_BYTES, PAGE_WORDS, PAGE_GRANULES, FIRST_ADDRESS, MAX_SMALL_WORDS}
 use Rattle.heap_spec.specs.Layout.{Reads, LiesOn, page_start}
 use Rattle.plain_core.specs.declared.extent.Extent.{Extent}
 use Rattle.plain_core.specs.Contents.{IsInHeap, IsCell, HasPages, IsPlaced, granule}
-use Rattle.plain_core.proofs.Rows.{eqb_ne}
 use Rattle.plain_core.specs.Places.{IsPlaceOn, IsLargePlace, IsCutPage, IsNoBase}
 
 -- two cells of one length that have a word in common are one
@@ -92,7 +91,7 @@ distinct_push pages row e h new fresh d = rw map_push (IsDistinct-push nat_eq_eq
     (list_any_none (eqb (granule e)) (map granule row) (All-map (λ g. eqb (granule e) g ≡ false) granule row (λ k g lt. apart (get_or row k g) (Contains-get_or row k g lt)))))
   where
     apart : (f : Extent) → Contains row f → eqb (granule e) (granule f) ≡ false
-    apart f has = eqb_ne _ _ (λ same. let i : IsInHeap pages f = All-contains (IsInHeap pages) row f h has in fresh f e.base has (omega arith, omega arith) (omega arith, omega arith))
+    apart f has = ne_eqb _ _ (λ same. let i : IsInHeap pages f = All-contains (IsInHeap pages) row f h has in fresh f e.base has (omega arith, omega arith) (omega arith, omega arith))
 
 pub distinct_none : (row : List Extent) → row ≡ [] → IsDistinct eqb (map granule row)
 unfolding IsDistinct

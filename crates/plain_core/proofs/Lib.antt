@@ -1,5 +1,3 @@
-pub mod Rows
-pub mod Mutators
 pub mod Stands
 pub mod Memory
 pub mod Objects
@@ -8,5 +6,4 @@ pub mod Placing
 pub mod Freshness
 pub mod Rooms
 pub mod Alloc
-pub mod Roots
 pub mod Free

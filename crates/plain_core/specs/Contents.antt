@@ -1,19 +1,17 @@
 -- What a plain core contains.
-use Rattle.std.specs.Prelude.{◌≡◌, ℕ, ◌+◌, ◌-◌, ◌*◌, ◌/◌, ◌%◌, ◌<◌, ◌≤◌, ◌⊎◌, nat_eq, Option, List, length, map, All, Contains}
+use Rattle.std.specs.Prelude.{◌≡◌, ℕ, ◌+◌, ◌-◌, ◌*◌, ◌/◌, ◌%◌, ◌<◌, ◌≤◌, ◌⊎◌, nat_eq, List, length, map, All, Contains}
 use Rattle.std.specs.List.{IsDistinct}
-use Rattle.words.specs.declared.limits.TheConstants.{WORD_BYTES, GRANULE_BYTES, PAGE_WORDS, FIRST_ADDRESS, MAX_PAGES, MAX_SMALL_WORDS, SLOTS}
+use Rattle.words.specs.declared.limits.TheConstants.{WORD_BYTES, GRANULE_BYTES, PAGE_WORDS, FIRST_ADDRESS, MAX_PAGES, MAX_SMALL_WORDS}
 use Rattle.heap_spec.specs.Layout.{page_start, heap_end, Reads}
-use Rattle.heap_spec.specs.Heap.{Mutator}
+use Rattle.roots.specs.Roots.{RootSet}
 use Rattle.plain_core.specs.declared.extent.Extent.{Extent}
 
--- A plain core: how many pages it has, their words in the order of their addresses, where the objects lie, the mutator
--- at each slot, and the words of the globals.
+-- A plain core: how many pages it has, their words in the order of their addresses, where the objects lie, and the roots.
 pub record Contents : Type 0 where
   pub pages : ℕ
   pub words : List ℕ
   pub objects : List Extent
-  pub mutators : List (Option Mutator)
-  pub globals : List ℕ
+  pub roots : RootSet
 
 -- the object lies in the heap, at a granule
 pub record IsInHeap (pages : ℕ) (e : Extent) : Type 0 where
@@ -51,7 +49,6 @@ granule e = (e.base - FIRST_ADDRESS) / GRANULE_BYTES
 pub record IsSound (c : Contents) : Type 0 where
   pub pages : c.pages ≤ MAX_PAGES
   pub words : length c.words ≡ PAGE_WORDS * c.pages
-  pub slots : length c.mutators ≡ SLOTS
   pub in_heap : All (IsInHeap c.pages) c.objects
   pub placed : All IsPlaced c.objects
   pub distinct : IsDistinct nat_eq (map granule c.objects)

@@ -1,4 +1,3 @@
-pub mod Mutators
 pub mod Contents
 pub mod Places
 pub mod Standing

@@ -22,8 +22,8 @@ pub record IsShown (row : List ℕ) (e : Extent) (o : Object) : Type 0 where
 -- kept, so any distinct ones from 1 up to their number fit.
 pub record StandsFor (c : Contents) (s : Heap) : Type 0 where
   pub pages : s.pages ≡ c.pages
-  pub mutators : s.mutators ≡ c.mutators
-  pub globals : s.globals ≡ c.globals
+  pub mutators : s.mutators ≡ c.roots.mutators
+  pub globals : s.globals ≡ c.roots.globals
   pub kept : (e : Extent) → Contains c.objects e → (o : Object) × HasObject s e.base o × IsShown c.words e o
   pub only : (base : ℕ) (o : Object) → HasObject s base o → (e : Extent) × Contains c.objects e × (e.base ≡ base)
   pub born : (base : ℕ) (o : Object) → HasObject s base o → (1 ≤ o.birth) × (o.birth ≤ s.births)

@@ -4,7 +4,6 @@
 #![tactic(auto)]
 
 mod extent;
-mod mutator;
 mod places;
 mod plain;
 

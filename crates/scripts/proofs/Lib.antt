@@ -1,6 +1,6 @@
 pub mod Bytes
 pub mod Decimals
 pub mod Splitting
-pub mod BadLines
+pub mod FirstWords
 pub mod Texts
 pub mod Serving

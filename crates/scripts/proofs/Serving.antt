@@ -1,27 +1,25 @@
 -- A run of lines is answered: one line more, and each way to end.
-use Rattle.std.proofs.Common.{◌≡◌, ℕ, ◌+◌, ◌-◌, ◌<◌, ◌≤◌, List, [], ◌∷◌, ◌++◌, length, take, map, refl, sym, ap, ◌∙◌, subst, arith, append_assoc, inl, inr, suc}
+use Rattle.std.proofs.Common.{◌≡◌, ℕ, ◌+◌, ◌-◌, ◌<◌, ◌≤◌, false, List, [], ◌∷◌, ◌++◌, length, take, map, refl, sym, ap, ◌∙◌, subst, arith, append_assoc, inl, inr, suc}
 use Rattle.std.specs.Prelude.{All, Option, Some, None, Result, Ok, Err, slice_get, ⊤, ◌⊎◌}
 use Rattle.std.specs.List.{AllZip}
 use Rattle.std.specs.Io.KnownBytes.{Consumes, Appends, IsAtEnd}
 use Rattle.std.proofs.lemmas.List.{map_push, append-nil}
-use Rattle.std.proofs.lemmas.List.Elements.{All-push, All-nil}
+use Rattle.std.proofs.lemmas.List.Elements.{All-push, All-nil, All-cons, All-append}
 use Rattle.heap_spec.specs.declared.event.Event.{Event}
-use Rattle.heap_spec.specs.declared.event.Event.TheVariants.{Attach, Mutator, Begin, Roots, Mark, Retrace, Finish, Sweep, Collect, Number}
 use Rattle.heap_spec.specs.declared.reply.Reply.{Reply}
-use Rattle.heap_spec.specs.Heap.{Heap, opening}
-use Rattle.heap_spec.specs.Steps.{Step}
-use Rattle.heap_spec.specs.Runs.{Start, Told, Run, Touched, fresh, heap_after, goes_on}
-use Rattle.heap_spec.specs.Histories.{Happens}
-use Rattle.heap_spec.specs.Transcripts.{LegalTranscript, LineOf, ends, on, happens}
+use Rattle.heap_spec.specs.Heap.{opening}
+use Rattle.heap_spec.specs.Runs.{Start, Told, Run, Touched, fresh}
+use Rattle.heap_spec.specs.Transcripts.{LegalTranscript, LineOf, ends, on}
 use Rattle.heap_core.specs.Contents.{Contents}
 use Rattle.heap_core.specs.Standing.{StandsFor}
+use Rattle.heap_core.specs.Following.{Follows}
 use Rattle.scripts.specs.declared.limits.TheConstants.{LAST_LINE, LINE_BYTES}
 use Rattle.scripts.specs.declared.errors.ScriptError.{ScriptError}
 use Rattle.scripts.specs.declared.errors.ScriptError.TheVariants.{BadLine, Read, Write, Memory}
 use Rattle.scripts.specs.declared.line.LineRead.{LineRead}
 use Rattle.scripts.specs.declared.line.LineRead.TheVariants.{Line, Last, End, TooLong}
 use Rattle.scripts.specs.Grammar.{IsLineOf, IsBad}
-use Rattle.scripts.specs.Lines.{newline, lines_of, whole_lines_of}
+use Rattle.scripts.specs.Lines.{newline, IsShort, lines_of, whole_lines_of}
 use Rattle.scripts.specs.Reading.{left_of, IsPlain, IsLineRead}
 use Rattle.scripts.specs.Printing.{reply_line, printed}
 use Rattle.scripts.specs.Answers.{Answers, BeginsAnswer, IsAnswered, Serves}
@@ -34,19 +32,6 @@ legal_on : (start : Start) {run mid last : Run} {lines : List Told} (told : Told
 legal_on start told ends l = on l ends
 legal_on start told (on m g) l = on m (legal_on start told g l)
 
--- a step of the heap is what may happen next in a run
-step_happens : (start : Start) (run : Run) (event : Event) (reply : Reply) (s' : Heap) → Step (heap_after start run) event reply s' → Happens Touched start run event reply s'
-step_happens start run Attach reply s' h = h
-step_happens start run (Mutator slot call) reply s' h = h
-step_happens start run Begin reply s' h = absurd h
-step_happens start run Roots reply s' h = absurd h
-step_happens start run (Mark n) reply s' h = absurd h
-step_happens start run Retrace reply s' h = absurd h
-step_happens start run Finish reply s' h = absurd h
-step_happens start run Sweep reply s' h = absurd h
-step_happens start run Collect reply s' h = absurd h
-step_happens start run Number reply s' h = absurd h
-
 printed-push : (pages : ℕ) (lines : List Told) (told : Told) → printed pages (lines ++ told ∷ []) ≡ printed pages lines ++ reply_line pages told.reply
 printed-push pages [] told = append-nil (reply_line pages told.reply)
 printed-push pages (l ∷ lines) told = ap (λ x. reply_line pages l.reply ++ x) (printed-push pages lines told) ∙ sym (append_assoc (reply_line pages l.reply) (printed pages lines) (reply_line pages told.reply))
@@ -58,23 +43,33 @@ zip_push R [] (b ∷ ys) x y h r = absurd h
 zip_push R (a ∷ xs) [] x y h r = absurd h
 zip_push R (a ∷ xs) (b ∷ ys) x y h r = (h.0, zip_push R xs ys x y h.1 r)
 
+-- a new core follows the run without events
+pub follows_fresh : (pages : ℕ) (core : Contents) → StandsFor core (opening pages) → core.cycle.is_marking ≡ false → core.cycle.count ≡ 0 → Follows core (fresh pages) []
+follows_fresh pages core stands idle none = record {
+  stands = stands;
+  phase = idle;
+  count = none;
+  small = omega (arith, none);
+  touched = λ marking base o has marked. let h : ⊥ = cc in absurd h;
+}
+
 -- before the first line
-pub none_run : (pages : ℕ) (core : Contents) → StandsFor core (opening pages) → HasRun pages core [] []
-none_run pages core h = record { told = []; last = []; plain = All-nil IsPlain; commands = tt; legal = ends; prints = refl; stands = h }
+pub none_run : (pages : ℕ) (core : Contents) → Follows core (fresh pages) [] → HasRun pages core [] []
+none_run pages core h = record { told = []; last = []; plain = All-nil IsPlain; commands = tt; legal = ends; prints = refl; follows = h }
 
 -- one line more
 pub run_on : (pages : ℕ) (old new : Contents) (lines : List (List ℕ)) (out line o : List ℕ) → HasRun pages old lines out → IsPlain line → IsRun pages line old new o → HasRun pages new (lines ++ line ∷ []) (out ++ o)
 run_on pages old new lines out line o r plain turn =
-    let step = turn.step (heap_after (fresh pages) r.last) r.stands in
+    let next = turn.does (fresh pages) r.last r.follows in
     let told : Told = record { event = turn.command; reply = turn.reply } in
     record {
       told = r.told ++ told ∷ [];
-      last = goes_on r.last turn.command turn.reply step.0;
+      last = next.0;
       plain = All-push IsPlain lines line r.plain plain;
       commands = subst (λ es. AllZip IsLineOf (lines ++ line ∷ []) es) (sym (map_push (λ (t : Told). t.event) r.told told)) (zip_push IsLineOf lines (map (λ (t : Told). t.event) r.told) line turn.command r.commands turn.is_line);
-      legal = legal_on (fresh pages) told r.legal (happens (step_happens (fresh pages) r.last turn.command turn.reply step.0 step.1));
+      legal = legal_on (fresh pages) told r.legal next.1;
       prints = ap (λ x. x ++ o) r.prints ∙ ap (λ x. printed pages r.told ++ x) turn.prints ∙ sym (printed-push pages r.told told);
-      stands = step.2;
+      follows = next.2;
     }
 
 answers : (pages : ℕ) (core : Contents) (lines : List (List ℕ)) (out : List ℕ) → HasRun pages core lines out → length lines < LAST_LINE → Answers pages lines out
@@ -179,17 +174,37 @@ too_long_serves pages number core input held b0 buffer buffer' line rem0 rem rem
     (ap lines_of (append_assoc (text_of lines ++ front) buffer' left ∙ append_assoc (text_of lines) front (buffer' ++ left)) ∙ lines_of-text lines (front ++ (buffer' ++ left)) u.run.plain ∙ ap (λ ls. lines ++ ls) first.are)
     (inl (λ command l. let short = l.short in let h = first.long in omega (arith, short, h, long))))
 
+-- the lines of commands are short
+commands_short : (lines : List (List ℕ)) (events : List Event) → AllZip IsLineOf lines events → All IsShort lines
+commands_short [] [] are = All-nil IsShort
+commands_short [] (e ∷ events) are = absurd are
+commands_short (line ∷ lines) [] are = absurd are
+commands_short (line ∷ lines) (e ∷ events) are = All-cons IsShort line lines are.0.short (commands_short lines events are.1)
+
+part_short : (part : List ℕ) → IsPlain part → IsShort part → All IsShort (lines_of part)
+part_short [] plain short = All-nil IsShort
+part_short (b ∷ part) plain short =
+    subst (All IsShort) (sym (lines_of-last (b ∷ part) plain (omega arith))) (All-cons IsShort (b ∷ part) [] short (All-nil IsShort))
+
+-- no line of what was read is too long, where the lines before a part are commands'
+all_short : (lines : List (List ℕ)) (events : List Event) (part buffer : List ℕ) → AllZip IsLineOf lines events → All IsPlain lines → IsPlain part → IsShort part → buffer ≡ []
+    → All IsShort (lines_of ((text_of lines ++ part) ++ buffer))
+all_short lines events part buffer are plain p short empty =
+    let text : lines_of ((text_of lines ++ part) ++ buffer) ≡ lines ++ lines_of part
+    = ap lines_of (ap (λ b. (text_of lines ++ part) ++ b) empty ∙ append-nil (text_of lines ++ part)) ∙ lines_of-text lines part plain in
+    subst (All IsShort) (sym text) (All-append IsShort lines (lines_of part) (commands_short lines events are) (part_short part p short))
+
 -- the reader failed within a line
-pub read_serves : (pages number : ℕ) (core : Contents) (input held b0 buffer buffer' part : List ℕ) (rem0 rem rem' w0 w : Option (List ℕ)) → number ≤ LAST_LINE → b0 ≡ [] → rem0 ≡ Some input → w0 ≡ Some held
+pub read_serves : (pages number : ℕ) (core : Contents) (input held b0 buffer buffer' part : List ℕ) (rem0 rem rem' w0 w : Option (List ℕ)) → IsShort part → number ≤ LAST_LINE → b0 ≡ [] → rem0 ≡ Some input → w0 ≡ Some held
     → IsUpTo pages number core (left_of b0 rem0) (left_of buffer rem) w0 w → IsPlain part → buffer' ≡ [] → Consumes (left_of buffer rem) (left_of buffer' rem') part → Serves pages input held rem' w (Err Read)
-read_serves pages number core input held b0 buffer buffer' part rem0 rem rem' w0 w few none tells_input tells_held u plain empty reads =
+read_serves pages number core input held b0 buffer buffer' part rem0 rem rem' w0 w short few none tells_input tells_held u plain empty reads =
     let lines = u.lines in
     serves pages input held b0 buffer' (text_of lines ++ part) u.out rem0 rem' w0 w (Err Read) none tells_input tells_held
     (Consumes-more _ _ _ (text_of lines) part u.read reads) u.wrote
     (λ left is. let all : whole_lines_of ((text_of lines ++ part) ++ buffer') ≡ lines
     = ap whole_lines_of (ap (λ b. (text_of lines ++ part) ++ b) empty ∙ append-nil (text_of lines ++ part)) ∙ whole_lines_of-text lines part u.run.plain plain in
     let P : List (List ℕ) → Type 0 = λ ls. Answers pages ls u.out in
-    subst P (sym all) (answers pages core lines u.out u.run (let c = u.count in omega (arith, c))))
+    (subst P (sym all) (answers pages core lines u.out u.run (let c = u.count in omega (arith, c))), all_short lines _ part buffer' u.run.commands u.run.plain plain short empty))
 
 -- a line was answered, and there are more
 pub line_on : (pages number : ℕ) (old new : Contents) (line : List ℕ) (input left left' w0 w w' : Option (List ℕ)) → IsUpTo pages number old input left w0 w → IsPlain line → IsLineRead Line line left left'
@@ -287,8 +302,8 @@ memory_serves pages input held rem0 w0 tells_input tells_held =
     record { read = []; left = input; wrote = []; is_input = refl; is_left = tells_input; is_held = tells_held ∙ ap Some (sym (append-nil held)); answered = (refl, refl) }
 
 -- before the first line
-pub starts : (pages : ℕ) (core : Contents) (left w : Option (List ℕ)) → StandsFor core (opening pages) → IsUpTo pages 1 core left left w w
-starts pages core left w stands = record { lines = []; out = []; run = none_run pages core stands; count = refl; read = Consumes-none left; wrote = Appends-none w }
+pub starts : (pages : ℕ) (core : Contents) (left w : Option (List ℕ)) → Follows core (fresh pages) [] → IsUpTo pages 1 core left left w w
+starts pages core left w follows = record { lines = []; out = []; run = none_run pages core follows; count = refl; read = Consumes-none left; wrote = Appends-none w }
 
 -- what was found, where it is known
 pub found_is : (found which : LineRead) (line : List ℕ) (old new : Option (List ℕ)) → found ≡ which → IsLineRead found line old new → IsLineRead which line old new
@@ -301,19 +316,3 @@ up_to_last pages number core input left held written is u = let P : ℕ → Type
 -- the same of the line that was lent
 pub turn_is : (pages number : ℕ) (lent line : List ℕ) (old new : Contents) (wrote writes : Option (List ℕ)) (result : Result ⊤ ScriptError) → lent ≡ line → IsTurn pages number lent old new wrote writes result → IsTurn pages number line old new wrote writes result
 turn_is pages number lent line old new wrote writes result is h = let P : List ℕ → Type 0 = λ l. IsTurn pages number l old new wrote writes result in subst P is h
-
--- a bad line is no other fault
-which : Result ⊤ ScriptError → ℕ
-which (Ok done) = 0
-which (Err (BadLine n)) = 1
-which (Err Read) = 2
-which (Err Write) = 3
-which (Err Memory) = 4
-
-pub no_read : (n : ℕ) → (let bad : Result ⊤ ScriptError = Err (BadLine n) in let read : Result ⊤ ScriptError = Err Read in bad ≡ read) → ⊥
-unfolding which
-no_read n e = let h : 1 ≡ 2 = ap which e in omega (arith, h)
-
-pub no_write : (n : ℕ) → (let bad : Result ⊤ ScriptError = Err (BadLine n) in let write : Result ⊤ ScriptError = Err Write in bad ≡ write) → ⊥
-unfolding which
-no_write n e = let h : 1 ≡ 3 = ap which e in omega (arith, h)

@@ -1,5 +1,5 @@
 -- What a script's lines are answered.
-use Rattle.std.specs.Prelude.{◌≡◌, ℕ, ◌-◌, ◌<◌, ◌⊎◌, Option, Some, List, [], ◌++◌, length, take, map, slice_get, Result, Ok, Err, ⊤}
+use Rattle.std.specs.Prelude.{◌≡◌, ℕ, ◌-◌, ◌<◌, ◌⊎◌, Option, Some, List, [], ◌++◌, length, take, map, All, slice_get, Result, Ok, Err, ⊤}
 use Rattle.std.specs.List.{AllZip}
 use Rattle.heap_spec.specs.Runs.{Told, Run, Touched, fresh}
 use Rattle.heap_spec.specs.Transcripts.{LegalTranscript}
@@ -7,7 +7,7 @@ use Rattle.scripts.specs.declared.limits.TheConstants.{LAST_LINE}
 use Rattle.scripts.specs.declared.errors.ScriptError.{ScriptError}
 use Rattle.scripts.specs.declared.errors.ScriptError.TheVariants.{BadLine, Read, Write, Memory}
 use Rattle.scripts.specs.Grammar.{IsLineOf, IsBad}
-use Rattle.scripts.specs.Lines.{lines_of, whole_lines_of}
+use Rattle.scripts.specs.Lines.{IsShort, lines_of, whole_lines_of}
 use Rattle.scripts.specs.Printing.{printed}
 
 -- An out answers lines, on a heap of so many pages: the lines are commands', none of them has the last number that there is,
@@ -41,8 +41,8 @@ abbrev pub IsAnswered : ℕ → List ℕ → List ℕ → Result ⊤ ScriptError
 IsAnswered pages read left (Ok done) wrote = Answers pages (lines_of read) wrote × (left ≡ [])
 -- an out that answers the n - 1 lines before the bad one
 IsAnswered pages read left (Err (BadLine n)) wrote = Answers pages (take (n - 1) (lines_of (read ++ left))) wrote × HasBadLine (read ++ left) n
--- an out that answers the complete lines that were read
-IsAnswered pages read left (Err Read) wrote = Answers pages (whole_lines_of read) wrote
+-- an out that answers the complete lines that were read, and no line of what was read is too long
+IsAnswered pages read left (Err Read) wrote = Answers pages (whole_lines_of read) wrote × All IsShort (lines_of read)
 -- a beginning of an out that answers some of the first lines
 IsAnswered pages read left (Err Write) wrote = BeginsAnswer pages (lines_of (read ++ left)) wrote
 -- nothing, and nothing was read

@@ -9,7 +9,6 @@ use Rattle.heap_spec.specs.declared.event.Event.{Event}
 use Rattle.heap_spec.specs.declared.event.Event.TheVariants.{Attach, Mutator, Begin, Roots, Mark, Retrace, Finish, Sweep, Collect, Number}
 use Rattle.scripts.specs.declared.limits.TheConstants.{LINE_BYTES}
 use Rattle.heap_spec.specs.Ranges.{InRange}
-use Rattle.scripts.specs.Served.{IsServed}
 
 -- the word of a kind
 abbrev pub kind_word : Kind → List ℕ
@@ -57,7 +56,6 @@ pub record IsLineOf (line : List ℕ) (command : Event) : Type 0 where
   pub short : length line ≤ LINE_BYTES
   pub words : words_of line ≡ command_words command
   pub in_range : InRange command
-  pub served : IsServed command
 
 -- a bad line is no command's
 abbrev pub IsBad : List ℕ → Type 0

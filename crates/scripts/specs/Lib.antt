@@ -1,4 +1,3 @@
-pub mod Served
 pub mod Grammar
 pub mod WordsLeft
 pub mod Fields
@@ -7,4 +6,5 @@ pub mod Lines
 pub mod Reading
 pub mod Printing
 pub mod Answers
+pub mod Ends
 pub mod Turns

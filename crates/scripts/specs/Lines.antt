@@ -1,6 +1,7 @@
 -- The lines of a text.
-use Rattle.std.specs.Prelude.{ℕ, ◌==◌, if◌then◌else◌, List, [], ◌∷◌, take, count_by}
+use Rattle.std.specs.Prelude.{ℕ, ◌≤◌, ◌==◌, if◌then◌else◌, List, [], ◌∷◌, length, take, count_by}
 use Rattle.std.specs.List.{onto_first}
+use Rattle.scripts.specs.declared.limits.TheConstants.{LINE_BYTES}
 
 -- a newline
 abbrev pub newline : ℕ
@@ -10,6 +11,10 @@ newline = 10
 abbrev pub lines_of : List ℕ → List (List ℕ)
 lines_of [] = []
 lines_of (b ∷ text) = if b == newline then [] ∷ lines_of text else onto_first b (lines_of text)
+
+-- a line that isn't too long
+abbrev pub IsShort : List ℕ → Type 0
+IsShort line = length line ≤ LINE_BYTES
 
 -- the lines that have their newline
 abbrev pub whole_lines_of : List ℕ → List (List ℕ)

@@ -4,11 +4,10 @@ use Rattle.std.specs.List.{AllZip}
 use Rattle.std.specs.Io.KnownBytes.{Consumes, Appends}
 use Rattle.heap_spec.specs.declared.event.Event.{Event}
 use Rattle.heap_spec.specs.declared.reply.Reply.{Reply}
-use Rattle.heap_spec.specs.Replies.{IsStep}
-use Rattle.heap_spec.specs.Runs.{Told, Run, Touched, fresh, heap_after}
+use Rattle.heap_spec.specs.Runs.{Told, Run, Touched, fresh}
 use Rattle.heap_spec.specs.Transcripts.{LegalTranscript}
 use Rattle.heap_core.specs.Contents.{Contents}
-use Rattle.heap_core.specs.Standing.{StandsFor}
+use Rattle.heap_core.specs.Following.{Follows, IsLine}
 use Rattle.scripts.specs.declared.errors.ScriptError.{ScriptError}
 use Rattle.scripts.specs.declared.errors.ScriptError.TheVariants.{BadLine, Read, Write, Memory}
 use Rattle.scripts.specs.Grammar.{IsLineOf, IsBad}
@@ -16,12 +15,12 @@ use Rattle.scripts.specs.Lines.{newline}
 use Rattle.scripts.specs.Reading.{IsPlain}
 use Rattle.scripts.specs.Printing.{reply_line, printed}
 
--- The line is a command's, which is a step of the core with a reply that prints so.
+-- The line is a command's, and the core did it with a reply that prints so.
 pub record IsRun (pages : ℕ) (line : List ℕ) (old new : Contents) (out : List ℕ) : Type 0 where
   pub command : Event
   pub reply : Reply
   pub is_line : IsLineOf line command
-  pub step : IsStep (StandsFor old) command reply (StandsFor new)
+  pub does : IsLine old command reply new
   pub prints : out ≡ reply_line pages reply
 
 -- What a line of some number leads to: it is run and answered, or it is bad, or a front of its answer was written.
@@ -44,7 +43,7 @@ pub record HasRun (pages : ℕ) (core : Contents) (lines : List (List ℕ)) (out
   pub commands : AllZip IsLineOf lines (map (λ (t : Told). t.event) told)
   pub legal : LegalTranscript Touched (fresh pages) [] told last
   pub prints : out ≡ printed pages told
-  pub stands : StandsFor core (heap_after (fresh pages) last)
+  pub follows : Follows core (fresh pages) last
 
 -- The lines before this number were run, since the start.
 pub record IsUpTo (pages number : ℕ) (core : Contents) (input left : Option (List ℕ)) (held written : Option (List ℕ)) : Type 0 where

@@ -1,8 +1,8 @@
-//! Lines as commands. A line of a command that isn't read yet is a bad line.
-ghost use Rattle.std.specs.Prelude.{◌≤◌, length, MatchOption};
+//! Lines as commands.
+ghost use Rattle.std.specs.Prelude.{◌≤◌, ◌∷◌, length, codes, MatchOption};
 ghost use Rattle.scripts.specs.declared.limits.TheConstants.{LINE_BYTES};
 ghost use Rattle.scripts.specs.Grammar.{IsLineOf, IsBad};
-ghost use Rattle.scripts.specs.Calls.{ReadsCall};
+ghost use Rattle.scripts.specs.Calls.{ReadsCall, ReadsCommand};
 
 use crate::field::Field;
 use crate::numbers::is;
@@ -38,23 +38,55 @@ fn call(rest: &mut Words<'_>) -> Option<Call>
     }
 }
 
-/// The command that a line is, and `None` exactly for a bad line.
-pub fn command(line: &[u8]) -> Option<Event>
-    requires { length line.now ≤ LINE_BYTES }
-    ensures { MatchOption result (IsBad line.now) (λ command. IsLineOf line.now command) }
+/// The collector's command that stands after `gc`.
+fn collector_command(rest: &mut Words<'_>) -> Option<Event>
+    ensures { ReadsCommand (codes "gc" ∷ rest.old) result }
 {
-    let mut words = Words::of(line);
+    let Some(verb) = rest.word() else {
+        return None;
+    };
+    match verb {
+        _ if is(verb, "begin") => rest.is_done().then_some(Event::Begin),
+        _ if is(verb, "roots") => rest.is_done().then_some(Event::Roots),
+        _ if is(verb, "mark") => match rest.one() {
+            Some(n) => Some(Event::Mark(n)),
+            None => None,
+        },
+        _ if is(verb, "retrace") => rest.is_done().then_some(Event::Retrace),
+        _ if is(verb, "finish") => rest.is_done().then_some(Event::Finish),
+        _ if is(verb, "sweep") => rest.is_done().then_some(Event::Sweep),
+        _ if is(verb, "collect") => rest.is_done().then_some(Event::Collect),
+        _ if is(verb, "no") => rest.is_done().then_some(Event::Number),
+        _ => None,
+    }
+}
+
+/// The command that these words are.
+fn command_of(words: &mut Words<'_>) -> Option<Event>
+    ensures { ReadsCommand words.old result }
+{
     let Some(first) = words.word() else {
         return None;
     };
     if is(first, "attach") {
         return words.is_done().then_some(Event::Attach);
     }
+    if is(first, "gc") {
+        return collector_command(words);
+    }
     let Some(slot) = Slot::read(first) else {
         return None;
     };
-    let Some(call) = call(&mut words) else {
+    let Some(call) = call(words) else {
         return None;
     };
     Some(Event::Mutator(slot, call))
+}
+
+/// The command that a line is, and `None` exactly for a bad line.
+pub fn command(line: &[u8]) -> Option<Event>
+    requires { length line.now ≤ LINE_BYTES }
+    ensures { MatchOption result (IsBad line.now) (λ command. IsLineOf line.now command) }
+{
+    command_of(&mut Words::of(line))
 }

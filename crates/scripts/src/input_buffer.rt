@@ -1,5 +1,5 @@
 //! Input is read through a buffer. Contracts see the bytes that are left in it.
-ghost use Rattle.std.specs.Prelude.{◌≡◌, ◌<◌, [], ◌∷◌, None, IfOk, OnOk, OnErr, MatchOption, MatchBool};
+ghost use Rattle.std.specs.Prelude.{◌≡◌, ◌+◌, [], ◌∷◌, None, IfOk, OnOk, OnErr, MatchOption, MatchBool};
 ghost use Rattle.std.specs.Io.KnownBytes.{Consumes, Keeps, IsAtEnd};
 ghost use Rattle.scripts.specs.Reading.{left_of};
 
@@ -66,7 +66,7 @@ impl InputBuffer {
         ensures end { OnOk result (self.new ≡ [] → IsAtEnd (R.remaining source.new)) }
         ensures none { OnOk result (R.faults source.new ≡ R.faults source.old) }
         ensures err { OnErr result ((self.new ≡ []) × Keeps (R.remaining source.old) (R.remaining source.new)) }
-        ensures fault { OnErr result (R.faults source.old < R.faults source.new) }
+        ensures fault { OnErr result (R.faults source.new ≡ R.faults source.old + 1) }
     {
         self.start = 0;
         self.end = 0;
@@ -82,7 +82,7 @@ impl InputBuffer {
             (λ byte. Consumes (left_of self.old (R.remaining source.old)) (left_of self.new (R.remaining source.new)) (byte ∷ []))) }
         ensures none { OnOk result (R.faults source.new ≡ R.faults source.old) }
         ensures err { OnErr result ((self.new ≡ []) × Consumes (left_of self.old (R.remaining source.old)) (left_of self.new (R.remaining source.new)) []) }
-        ensures fault { OnErr result (R.faults source.old < R.faults source.new) }
+        ensures fault { OnErr result (R.faults source.new ≡ R.faults source.old + 1) }
     {
         if self.is_empty() {
             self.fill(source)?;

@@ -1,6 +1,7 @@
 //! Scripts: lines of commands are read, run over a heap of their own, and answered line by line.
 #![tactic(auto)]
 
+mod answer;
 mod commands;
 mod errors;
 mod field;
@@ -10,7 +11,6 @@ mod line;
 mod numbers;
 mod print;
 mod script;
-mod serve;
 mod source;
 mod std_io;
 mod words_of_line;
@@ -19,6 +19,6 @@ pub use commands::command;
 pub use errors::ScriptError;
 pub use numbers::number;
 pub use print::print_reply;
-pub use script::run_script;
+pub use script::{run_bytes, run_script};
 pub use source::{Failed, Sink, Source, write_all};
 pub use std_io::Std;

@@ -1,6 +1,7 @@
 //! Input by lines.
-ghost use Rattle.std.specs.Prelude.{◌≡◌, ◌<◌, [], IfOk, OnOk, OnErr};
+ghost use Rattle.std.specs.Prelude.{◌≡◌, ◌+◌, [], IfOk, OnOk, OnErr};
 ghost use Rattle.std.specs.Io.KnownBytes.{Consumes};
+ghost use Rattle.scripts.specs.Lines.{IsShort};
 ghost use Rattle.scripts.specs.Reading.{left_of, IsPlain, IsLineRead};
 
 use crate::input_buffer::InputBuffer;
@@ -32,9 +33,10 @@ pub fn next_line<R: Source>(
 ) -> Result<LineRead, Failed>
     ensures ok { IfOk result (λ found. IsLineRead found line.new.items (left_of buffer.old (R.remaining source.old)) (left_of buffer.new (R.remaining source.new))) }
     ensures plain { IsPlain line.new.items }
+    ensures short { IsShort line.new.items }
     ensures none { OnOk result (R.faults source.new ≡ R.faults source.old) }
     ensures err { OnErr result ((buffer.new ≡ []) × Consumes (left_of buffer.old (R.remaining source.old)) (left_of buffer.new (R.remaining source.new)) line.new.items) }
-    ensures fault { OnErr result (R.faults source.old < R.faults source.new) }
+    ensures fault { OnErr result (R.faults source.new ≡ R.faults source.old + 1) }
 {
     line.clear();
     loop {

@@ -1,5 +1,5 @@
 //! Replies as lines.
-ghost use Rattle.std.specs.Prelude.{◌≡◌, ℕ, ◌<◌, ◌≤◌, length, take, OnOk, OnErr};
+ghost use Rattle.std.specs.Prelude.{◌≡◌, ℕ, ◌+◌, ◌<◌, ◌≤◌, length, take, OnOk, OnErr};
 ghost use Rattle.std.specs.Io.KnownBytes.{Appends};
 ghost use Rattle.words.specs.declared.limits.TheConstants.{MAX_PAGES};
 ghost use Rattle.scripts.specs.declared.limits.TheConstants.{REPLY_BYTES};
@@ -48,8 +48,8 @@ pub fn print_reply<W: Sink>(sink: &mut W, pages: u32, reply: Reply) -> Result<()
     requires { pages ≤ MAX_PAGES }
     ensures ok { OnOk result (Appends (W.written sink.old) (W.written sink.new) (reply_line pages reply)) }
     ensures err { OnErr result ((n : ℕ) × Appends (W.written sink.old) (W.written sink.new) (take n (reply_line pages reply))) }
-    ensures fault { OnErr result (W.faults sink.old < W.faults sink.new) }
-    ensures grows { W.faults sink.old ≤ W.faults sink.new }
+    ensures none { OnOk result (W.faults sink.new ≡ W.faults sink.old) }
+    ensures fault { OnErr result (W.faults sink.new ≡ W.faults sink.old + 1) }
 {
     let mut text = ArrayString::<REPLY_BYTES>::new();
     put_reply(&mut text, pages, reply);

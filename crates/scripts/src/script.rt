@@ -1,16 +1,18 @@
 //! Scripts over a heap of their own: each line is read, run and answered before the next.
-ghost use Rattle.std.specs.Prelude.{◌≡◌, ℕ, ◌<◌, ◌≤◌, List, [], Some, Err};
+ghost use Rattle.std.specs.Prelude.{◌≡◌, ℕ, ◌+◌, ◌≤◌, List, [], Some};
 ghost use Rattle.words.specs.declared.limits.TheConstants.{MAX_PAGES};
-ghost use Rattle.heap_spec.specs.Heap.{opening};
-ghost use Rattle.heap_core.specs.Standing.{StandsFor};
+ghost use Rattle.heap_spec.specs.Runs.{fresh};
+ghost use Rattle.heap_core.specs.Following.{Follows};
 ghost use Rattle.scripts.specs.Answers.{Serves};
+ghost use Rattle.scripts.specs.Ends.{read_faults, write_faults};
 
+use crate::answer::answer_line;
 use crate::errors::ScriptError;
 use crate::input_buffer::InputBuffer;
 use crate::limits::{LAST_LINE, LINE_BYTES};
 use crate::line::{LineRead, next_line};
-use crate::serve::answer_line;
 use crate::source::{Sink, Source};
+use crate::std_io::Std;
 use arrayvec::ArrayVec;
 use heap_core::Core;
 use std::alloc::Global;
@@ -24,12 +26,12 @@ fn run_lines<R: Source, W: Sink>(
     pages: u32,
 ) -> Result<(), ScriptError>
     requires pages { pages ≤ MAX_PAGES }
-    requires opens { StandsFor core.old (opening pages) }
+    requires opens { Follows core.old (fresh pages) [] }
     requires empty { buffer.old ≡ [] }
     ensures serves { (input held : List ℕ) → R.remaining reader.old ≡ Some input → W.written writer.old ≡ Some held
         → Serves pages input held (R.remaining reader.new) (W.written writer.new) result }
-    ensures read { result ≡ Err ScriptError.Read → R.faults reader.old < R.faults reader.new }
-    ensures write { result ≡ Err ScriptError.Write → W.faults writer.old < W.faults writer.new }
+    ensures reader { R.faults reader.new ≡ R.faults reader.old + read_faults result }
+    ensures writer { W.faults writer.new ≡ W.faults writer.old + write_faults result }
 {
     let mut line = ArrayVec::<u8, LINE_BYTES>::new();
     for number in 1..LAST_LINE {
@@ -58,8 +60,8 @@ fn run_lines<R: Source, W: Sink>(
     }
 }
 
-/// Runs a script over a heap of its own of so many pages, and answers each line before the next is run. Nothing is tried
-/// again after a fault.
+/// Runs a script over a heap of its own of so many pages, and answers each line before the next is run. The first fault
+/// ends it, and nothing is tried again.
 pub fn run_script<R: Source, W: Sink>(
     alloc: Global,
     reader: &mut R,
@@ -71,8 +73,8 @@ pub fn run_script<R: Source, W: Sink>(
     // What is written answers what is read, wherever both tell their bytes.
     ensures serves { (input held : List ℕ) → R.remaining reader.old ≡ Some input → W.written writer.old ≡ Some held
         → Serves pages input held (R.remaining reader.new) (W.written writer.new) result }
-    ensures read { result ≡ Err ScriptError.Read → R.faults reader.old < R.faults reader.new }
-    ensures write { result ≡ Err ScriptError.Write → W.faults writer.old < W.faults writer.new }
+    ensures reader { R.faults reader.new ≡ R.faults reader.old + read_faults result }
+    ensures writer { W.faults writer.new ≡ W.faults writer.old + write_faults result }
 {
     let Ok(mut core) = Core::new(alloc, pages) else {
         return Err(ScriptError::Memory);
@@ -81,4 +83,16 @@ pub fn run_script<R: Source, W: Sink>(
         return Err(ScriptError::Memory);
     };
     run_lines(&mut core, &mut buffer, reader, writer, pages)
+}
+
+/// Runs a script that is at hand as bytes, and gives the bytes of its replies beside the answer.
+pub fn run_bytes(alloc: Global, script: &[u8], pages: u32) -> (Vec<u8>, Result<(), ScriptError>)
+    requires some { 1 ≤ pages }
+    requires most { pages ≤ MAX_PAGES }
+    ensures { (left : List ℕ) × Serves pages script.now [] (Some left) (Some result.0.items) result.1 }
+{
+    let mut reader = Std::new(script);
+    let mut writer = Std::new(Vec::<u8>::new(alloc));
+    let answer = run_script(alloc, &mut reader, &mut writer, pages);
+    (writer.inner, answer)
 }

@@ -1,6 +1,6 @@
 //! What scripts are read from and replies are written to. Contracts see the bytes where they are known, and how many calls
 //! failed so far.
-ghost use Rattle.std.specs.Prelude.{◌≡◌, ℕ, ◌<◌, ◌≤◌, Option, List, length, take, IfOk, OnOk, OnErr};
+ghost use Rattle.std.specs.Prelude.{◌≡◌, ℕ, ◌+◌, ◌<◌, ◌≤◌, Option, List, length, take, IfOk, OnOk, OnErr};
 ghost use Rattle.std.specs.Io.KnownBytes.{ReadConsumes, WriteAppends, Appends};
 
 /// A read or a write failed.
@@ -20,7 +20,7 @@ pub trait Source {
         ensures within { IfOk result (λ n. n ≤ length buf.new) }
         ensures bytes { ReadConsumes (remaining self.old) (remaining self.new) result buf.new }
         ensures ok { OnOk result (faults self.new ≡ faults self.old) }
-        ensures fault { OnErr result (faults self.old < faults self.new) };
+        ensures fault { OnErr result (faults self.new ≡ faults self.old + 1) };
 }
 
 /// What takes bytes.
@@ -35,17 +35,17 @@ pub trait Sink {
     fn write(&mut self, bytes: &[u8]) -> Result<usize, Failed>
         ensures within { IfOk result (λ n. n ≤ length bytes.now) }
         ensures bytes { WriteAppends (written self.old) (written self.new) result bytes.now }
-        ensures fault { OnErr result (faults self.old < faults self.new) }
-        ensures none { result ≡ Ok 0 → 0 < length bytes.now → faults self.old < faults self.new }
-        ensures grows { faults self.old ≤ faults self.new };
+        ensures ok { IfOk result (λ n. 0 < n → faults self.new ≡ faults self.old) }
+        ensures none { result ≡ Ok 0 → 0 < length bytes.now → faults self.new ≡ faults self.old + 1 }
+        ensures fault { OnErr result (faults self.new ≡ faults self.old + 1) };
 }
 
-/// Writes all of the bytes, and stops at the first fault.
+/// Writes all of the bytes, and stops at the first fault: nothing is tried again.
 pub fn write_all<W: Sink>(sink: &mut W, bytes: &[u8]) -> Result<(), Failed>
     ensures ok { OnOk result (Appends (W.written sink.old) (W.written sink.new) bytes.now) }
     ensures err { OnErr result ((n : ℕ) × Appends (W.written sink.old) (W.written sink.new) (take n bytes.now)) }
-    ensures fault { OnErr result (W.faults sink.old < W.faults sink.new) }
-    ensures grows { W.faults sink.old ≤ W.faults sink.new }
+    ensures none { OnOk result (W.faults sink.new ≡ W.faults sink.old) }
+    ensures fault { OnErr result (W.faults sink.new ≡ W.faults sink.old + 1) }
 {
     let mut done: usize = 0;
     while done < bytes.len() {

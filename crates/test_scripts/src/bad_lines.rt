@@ -65,7 +65,7 @@ fn longest_line(rt: HostRuntime) -> Result<(), Fail> {
 }
 
 /// Names and lines, without their newlines.
-const BAD_LINES: [(&str, &str); 57] = [
+const BAD_LINES: [(&str, &str); 68] = [
     ("bad_line_empty_line", ""),
     ("bad_line_trailing_space", "attach "),
     ("bad_line_two_spaces", "0  get 1"),
@@ -91,7 +91,18 @@ const BAD_LINES: [(&str, &str); 57] = [
     ("verb_and_more", "0 gets 1"),
     ("attach_of_a_slot", "0 attach"),
     ("attach_and_more", "attach 0"),
-    ("command_not_read_yet", "gc no"),
+    ("gc_alone", "gc"),
+    ("gc_of_a_slot", "0 gc no"),
+    ("gc_no_such_verb", "gc step"),
+    ("gc_begin_and_more", "gc begin 0"),
+    ("gc_roots_and_more", "gc roots 0"),
+    ("gc_mark_of_two", "gc mark 1 2"),
+    ("gc_mark_past_u64", "gc mark 18446744073709551616"),
+    ("gc_mark_with_leading_zero", "gc mark 01"),
+    ("gc_retrace_and_more", "gc retrace 0"),
+    ("gc_finish_and_more", "gc finish 0"),
+    ("gc_sweep_and_more", "gc sweep 0"),
+    ("gc_no_and_more", "gc no 0"),
     ("register_with_leading_zero", "0 get 01"),
     ("zero_twice", "0 set 1 00"),
     ("plus_sign", "0 set 1 +5"),

@@ -12,7 +12,7 @@ pub struct Script<'a> {
     pub most: usize,
     pub fails_at: Option<usize>,
     pub calls: usize,
-    faults: Count,
+    pub faults: Count,
 }
 
 impl<'a> Script<'a> {
@@ -63,7 +63,7 @@ pub struct Taken {
     pub most: usize,
     pub fails_at: Option<usize>,
     pub calls: usize,
-    faults: Count,
+    pub faults: Count,
 }
 
 impl Taken {

@@ -4,6 +4,8 @@
 #[cfg(test)]
 mod bad_lines;
 #[cfg(test)]
+mod collections;
+#[cfg(test)]
 mod fakes;
 #[cfg(test)]
 mod faults;
@@ -13,3 +15,5 @@ mod rows;
 mod scene;
 #[cfg(test)]
 mod tables;
+#[cfg(test)]
+mod turns;

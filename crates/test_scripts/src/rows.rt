@@ -1,5 +1,6 @@
 //! Scripts of good lines print their replies.
 
+use crate::collections::{COLLECTIONS, THOUSAND_LONG_LIST};
 use crate::scene::Scene;
 use crate::tables::{EDGES, REPEATED, ROWS, Repeated};
 use std::process::Abort;
@@ -44,4 +45,48 @@ fn repeated_lines_print_their_replies(rt: HostRuntime) -> Result<(), Fail> {
         check_repeated(&rt, &mut scene, row)?;
     }
     Ok(())
+}
+
+#[test]
+fn collections_print_their_replies(rt: HostRuntime) -> Result<(), Fail> {
+    let mut scene = Scene::new(rt.alloc())?;
+    for row in &COLLECTIONS {
+        scene.check_row(&rt, row.name, row.pages, row.script, row.replies);
+    }
+    check_repeated(&rt, &mut scene, &THOUSAND_LONG_LIST)
+}
+
+/// Three hundred objects that one object points into, each with its number, which are more than the mark stack holds.
+fn check_overflow(
+    rt: &impl Abort,
+    scene: &mut Scene,
+    name: &str,
+    end: (&str, &str),
+) -> Result<(), Fail> {
+    let mut script = String::from_str(scene.alloc, "attach\n0 alloc 1 300 normal\n")?;
+    let mut replies = String::from_str(scene.alloc, "mutator 0\nok\n")?;
+    for i in 0..300u32 {
+        write!(
+            script,
+            "0 alloc 2 2 normal\n0 set 3 {i}\n0 store 2 0 3\n0 store 1 {i} 2\n"
+        )?;
+        replies.push_str("ok\nok\nok\nok\n")?;
+    }
+    script.push_str("0 set 2 0\n")?;
+    replies.push_str("ok\n")?;
+    script.push_str(end.0)?;
+    replies.push_str(end.1)?;
+    script.push_str("0 load 4 1 299\n0 load 5 4 0\n")?;
+    replies.push_str("ptr\n299\n")?;
+    scene.check_row(rt, name, 4, script.as_str(), replies.as_str());
+    Ok(())
+}
+
+#[test]
+fn an_overflowing_mark_stack_loses_nothing(rt: HostRuntime) -> Result<(), Fail> {
+    let mut scene = Scene::new(rt.alloc())?;
+    let cycle = ("gc begin\ngc roots\ngc finish\n", "ok\nok\n0\n");
+    check_overflow(&rt, &mut scene, "mark_stack_overflow", cycle)?;
+    let full = ("gc collect\n", "0\n");
+    check_overflow(&rt, &mut scene, "mark_stack_overflow_in_collect", full)
 }

@@ -15,7 +15,7 @@ impl Core {
     pub fn load(&mut self, slot: Slot, into: Reg, at: Reg, offset: u64) -> Result<u64, Refusal>
         ensures { IsStep (StandsFor self.old) (Event.Mutator slot (Call.Load into at offset)) (word_reply result) (StandsFor self.new) }
     {
-        let Some(mut mutator) = self.mutator(slot) else {
+        let Some(mutator) = self.roots.mutator(slot) else {
             return Err(Refusal::NoSlot);
         };
         let address = mutator.address(at, offset);
@@ -26,8 +26,7 @@ impl Core {
             return Err(Refusal::NoObject);
         };
         let word = self.words[((address - FIRST_ADDRESS) / WORD_BYTES) as usize];
-        mutator.set_register(into, word);
-        self.put(slot, Some(mutator));
+        self.roots.set_word(slot, into, word);
         Ok(word)
     }
 
@@ -35,17 +34,18 @@ impl Core {
     pub fn store(&mut self, slot: Slot, at: Reg, offset: u64, from: Reg) -> Result<(), Refusal>
         ensures { IsStep (StandsFor self.old) (Event.Mutator slot (Call.Store at offset from)) (done_reply result) (StandsFor self.new) }
     {
-        let Some(mutator) = self.mutator(slot) else {
+        let Some(mutator) = self.roots.mutator(slot) else {
             return Err(Refusal::NoSlot);
         };
         let address = mutator.address(at, offset);
+        let word = mutator.word(from);
         if address % WORD_BYTES != 0 {
             return Err(Refusal::Misaligned);
         }
         let Some(_object) = object_at(&self.objects, address) else {
             return Err(Refusal::NoObject);
         };
-        self.words[((address - FIRST_ADDRESS) / WORD_BYTES) as usize] = mutator.register(from);
+        self.words[((address - FIRST_ADDRESS) / WORD_BYTES) as usize] = word;
         Ok(())
     }
 
@@ -53,7 +53,7 @@ impl Core {
     pub fn alloc(&mut self, slot: Slot, into: Reg, words: u64, kind: Kind) -> Result<(), Refusal>
         ensures { IsStep (StandsFor self.old) (Event.Mutator slot (Call.Alloc into words kind)) (done_reply result) (StandsFor self.new) }
     {
-        let Some(mut mutator) = self.mutator(slot) else {
+        let Some(_) = self.roots.mutator(slot) else {
             return Err(Refusal::NoSlot);
         };
         let Some(placement) = class_of(words) else {
@@ -65,8 +65,7 @@ impl Core {
         let start = ((object.base - FIRST_ADDRESS) / WORD_BYTES) as usize;
         zero(&mut self.words, start, object.length as usize);
         let _pushed = self.objects.push(object);
-        mutator.set_register(into, object.base);
-        self.put(slot, Some(mutator));
+        self.roots.set_word(slot, into, object.base);
         Ok(())
     }
 
@@ -74,10 +73,10 @@ impl Core {
     pub fn free(&mut self, slot: Slot, at: Reg) -> Result<(), Refusal>
         ensures { IsStep (StandsFor self.old) (Event.Mutator slot (Call.Free at)) (done_reply result) (StandsFor self.new) }
     {
-        let Some(mutator) = self.mutator(slot) else {
+        let Some(mutator) = self.roots.mutator(slot) else {
             return Err(Refusal::NoSlot);
         };
-        let address = mutator.register(at);
+        let address = mutator.word(at);
         let Some(index) = index_at(&self.objects, address) else {
             return Err(Refusal::NoObject);
         };
@@ -93,14 +92,14 @@ impl Core {
     pub fn base(&mut self, slot: Slot, into: Reg, at: Reg) -> Result<u64, Refusal>
         ensures { IsStep (StandsFor self.old) (Event.Mutator slot (Call.Base into at)) (word_reply result) (StandsFor self.new) }
     {
-        let Some(mut mutator) = self.mutator(slot) else {
+        let Some(mutator) = self.roots.mutator(slot) else {
             return Err(Refusal::NoSlot);
         };
-        let Some(object) = object_at(&self.objects, mutator.register(at)) else {
+        let word = mutator.word(at);
+        let Some(object) = object_at(&self.objects, word) else {
             return Err(Refusal::NoObject);
         };
-        mutator.set_register(into, object.base);
-        self.put(slot, Some(mutator));
+        self.roots.set_word(slot, into, object.base);
         Ok(object.base)
     }
 
@@ -108,10 +107,11 @@ impl Core {
     pub fn size(&self, slot: Slot, at: Reg) -> Result<u64, Refusal>
         ensures { IsStep (StandsFor self.now) (Event.Mutator slot (Call.Size at)) (count_reply result) (StandsFor self.now) }
     {
-        let Some(mutator) = self.mutator(slot) else {
+        let Some(mutator) = self.roots.mutator(slot) else {
             return Err(Refusal::NoSlot);
         };
-        let Some(object) = object_at(&self.objects, mutator.register(at)) else {
+        let word = mutator.word(at);
+        let Some(object) = object_at(&self.objects, word) else {
             return Err(Refusal::NoObject);
         };
         Ok(object.length)

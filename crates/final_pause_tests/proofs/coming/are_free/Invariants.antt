@@ -1,4 +1,4 @@
-use Rattle.block_map_tests.specs.Spans.{IsFreeSpan}
+use Rattle.fixtures.specs.Spans.{IsFreeSpan}
 use Rattle.final_pause_tests.proofs.coming.are_free.Given as goal
 
 abbrev pub invariant-loop-page : goal.invariant-loop-page

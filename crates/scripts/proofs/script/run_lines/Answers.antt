@@ -2,18 +2,18 @@ use Rattle.std.proofs.Common.{◌≡◌, ◌≤◌, refl, ◌∙◌, Ok, Err, ar
 use Rattle.scripts.specs.declared.limits.TheConstants.{LAST_LINE}
 use Rattle.scripts.specs.declared.line.LineRead.TheVariants.{Line, Last, End, TooLong}
 use Rattle.scripts.specs.Reading.{left_of}
-use Rattle.scripts.proofs.Serving.{starts, end_serves, too_long_serves, read_serves, line_on, fault_serves, last_serves, last_number_serves, found_is, turn_is, up_to_last, no_read, no_write}
+use Rattle.scripts.proofs.Serving.{starts, end_serves, too_long_serves, read_serves, line_on, fault_serves, last_serves, last_number_serves, found_is, turn_is, up_to_last}
 use Rattle.scripts.proofs.script.run_lines.Goals as goal
 
 pub loop-number-init : goal.loop-number-init
-loop-number-init g c = record { ran = starts c.args.pages _ _ _ c.requires.opens; reader = refl; writer = omega arith }
+loop-number-init g c = record { ran = starts c.args.pages _ _ _ c.requires.opens; reader = refl; writer = refl }
 
 pub returns-in-Err-clause-serves : goal.returns-in-Err-clause-serves
 returns-in-Err-clause-serves g c input held tells_input tells_held =
     let few : c.loop-number.number ≤ LAST_LINE = let h = c.loop-number-test.true in omega (arith, h) in
     read_serves c.args.pages c.loop-number.number c.loop-number.core input held c.args.buffer.now c.loop-number.buffer c.next_line.new.buffer c.next_line.new.line.items
     (g.R.Source.remaining c.args.reader.now) (g.R.Source.remaining c.loop-number.reader) (g.R.Source.remaining c.next_line.new.source) (g.W.Sink.written c.args.writer.now) (g.W.Sink.written c.loop-number.writer)
-    few c.requires.empty tells_input tells_held c.loop-number.invariant.ran c.in-Err.ensures.plain c.in-Err.ensures.err.0 c.in-Err.ensures.err.1
+    c.in-Err.ensures.short few c.requires.empty tells_input tells_held c.loop-number.invariant.ran c.in-Err.ensures.plain c.in-Err.ensures.err.0 c.in-Err.ensures.err.1
 
 pub returns-in-End-clause-serves : goal.returns-in-End-clause-serves
 returns-in-End-clause-serves g c input held tells_input tells_held =
@@ -52,7 +52,7 @@ loop-number-preserved g c = record {
       c.loop-number.invariant.ran c.in-Ok.ensures.plain (found_is _ Line _ _ _ c.in-Line.is c.in-Ok.ensures.ok) (turn_is c.args.pages c.loop-number.number c.as_slice-in-loop-number.result.now c.next_line.new.line.items c.loop-number.core c.answer_line-in-loop-number.new.core
       (g.W.Sink.written c.loop-number.writer) (g.W.Sink.written c.answer_line-in-loop-number.new.sink) (Ok tt) c.as_slice-in-loop-number.ensures.value c.in-Ok-answer_line.ensures.turn);
   reader = c.in-Ok.ensures.none ∙ c.loop-number.invariant.reader;
-  writer = omega (arith, c.loop-number.invariant.writer, c.in-Ok-answer_line.ensures.grows);
+  writer = omega (arith, c.loop-number.invariant.writer, c.in-Ok-answer_line.ensures.faults);
 }
 
 pub returns-in-Err-next_line-clause-serves : goal.returns-in-Err-next_line-clause-serves
@@ -60,7 +60,7 @@ returns-in-Err-next_line-clause-serves g c input held tells_input tells_held =
     let few : c.loop-number.number ≤ LAST_LINE = let h = c.loop-number.auto.number-end (lit≤ tt) in omega (arith, h) in
     read_serves c.args.pages c.loop-number.number c.loop-number.core input held c.args.buffer.now c.loop-number.buffer c.next_line-2.new.buffer c.next_line-2.new.line.items
     (g.R.Source.remaining c.args.reader.now) (g.R.Source.remaining c.loop-number.reader) (g.R.Source.remaining c.next_line-2.new.source) (g.W.Sink.written c.args.writer.now) (g.W.Sink.written c.loop-number.writer)
-    few c.requires.empty tells_input tells_held c.loop-number.invariant.ran c.in-Err-next_line.ensures.plain c.in-Err-next_line.ensures.err.0 c.in-Err-next_line.ensures.err.1
+    c.in-Err-next_line.ensures.short few c.requires.empty tells_input tells_held c.loop-number.invariant.ran c.in-Err-next_line.ensures.plain c.in-Err-next_line.ensures.err.0 c.in-Err-next_line.ensures.err.1
 
 pub returns-in-End-after-clause-serves : goal.returns-in-End-after-clause-serves
 returns-in-End-after-clause-serves g c input held tells_input tells_held =
@@ -77,6 +77,6 @@ returns-in_default g c = record {
       last_number_serves c.args.pages c.loop-number.core input held c.args.buffer.now c.loop-number.buffer c.next_line-2.new.buffer c.next_line-2.new.line.items
       (g.R.Source.remaining c.args.reader.now) (g.R.Source.remaining c.loop-number.reader) (g.R.Source.remaining c.next_line-2.new.source) (g.W.Sink.written c.args.writer.now) (g.W.Sink.written c.loop-number.writer)
       c.in-Ok-next_line.after c.requires.empty tells_input tells_held (up_to_last c.args.pages c.loop-number.number c.loop-number.core _ _ _ _ same c.loop-number.invariant.ran) c.in-Ok-next_line.ensures.plain c.in-Ok-next_line.ensures.ok c.in_default.not-End;
-  read = λ e. absurd (no_read LAST_LINE e);
-  write = λ e. absurd (no_write LAST_LINE e);
+  reader = omega (arith, c.loop-number.invariant.reader, c.in-Ok-next_line.ensures.none);
+  writer = omega (arith, c.loop-number.invariant.writer);
 }

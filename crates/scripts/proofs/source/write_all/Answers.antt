@@ -7,5 +7,5 @@ pub loop-done-preserved : goal.loop-done-preserved
 loop-done-preserved g c = record {
   within = let h = simp (length-take, length-drop) at c.in_ok-n.ensures.within in omega arith;
   written = Appends-on _ _ _ c.args.bytes.now _ _ c.loop-done.invariant.written c.in_ok-n.ensures.bytes;
-  grows = omega (arith, c.in_ok-n.ensures.grows);
+  faults = omega (arith, c.loop-done.invariant.faults, c.in_ok-n.ensures.ok (omega arith));
 }

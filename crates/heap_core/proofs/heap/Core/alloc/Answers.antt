@@ -2,7 +2,7 @@ use Rattle.std.proofs.Common.{refl, sym, arith}
 use Rattle.heap_core.proofs.Tracing.{traced_object, traced_swept}
 use Rattle.heap_spec.specs.Steps.{Acts}
 use Rattle.heap_core.proofs.Calls.{allocated, full}
-use Rattle.heap_core.proofs.Placing.{sized}
+use Rattle.object_space.proofs.Placing.{sized}
 use Rattle.heap_core.proofs.Roots.{refused, refused_vacant}
 use Rattle.heap_core.proofs.heap.Core.alloc.Goals as goal
 

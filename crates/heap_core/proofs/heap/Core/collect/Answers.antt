@@ -1,7 +1,7 @@
 use Rattle.std.proofs.Common.{◌≡◌, refl, sym, subst, ◌∙◌}
 use Rattle.marker.specs.Marking.{IsFresh}
 use Rattle.roots.specs.Roots.{root_words_of}
-use Rattle.heap_core.specs.Sweeps.{ForgetsUnreached}
+use Rattle.object_space.specs.Sweeps.{ForgetsUnreached}
 use Rattle.heap_core.proofs.Cycling.{collects_all}
 use Rattle.heap_core.proofs.heap.Core.collect.Goals as goal
 

@@ -2,8 +2,8 @@ use Rattle.std.proofs.Common.{sym, ap, ◌∙◌}
 use Rattle.heap_spec.specs.Steps.{Acts}
 use Rattle.heap_core.proofs.Tracing.{traced_freed}
 use Rattle.block_map.specs.FoundIn.{found_in}
-use Rattle.heap_core.specs.Kept.{kept_in}
-use Rattle.heap_core.proofs.Kept.{kept_cases}
+use Rattle.object_space.specs.Kept.{kept_in}
+use Rattle.object_space.proofs.Kept.{kept_cases}
 use Rattle.heap_core.proofs.Calls.{freed, inside}
 use Rattle.heap_core.proofs.Lookups.{finds_nothing}
 use Rattle.heap_core.proofs.Roots.{refused, refused_vacant}

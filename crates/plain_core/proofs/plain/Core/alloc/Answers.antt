@@ -3,7 +3,6 @@ use Rattle.std.specs.Vec.{vec_capacity}
 use Rattle.std.proofs.lemmas.List.{with_items_is}
 use Rattle.words.specs.declared.limits.TheConstants.{PAGE_GRANULES}
 use Rattle.heap_spec.specs.Steps.{Acts}
-use Rattle.plain_core.specs.Mutators.{shown}
 use Rattle.plain_core.specs.Places.{IsPlace}
 use Rattle.plain_core.proofs.Stands.{refused_vacant, keeps_all}
 use Rattle.plain_core.proofs.Rooms.{place_of}
@@ -12,17 +11,17 @@ use Rattle.plain_core.proofs.Alloc.{pushed_items, IsZeroed, room_left, alloc_sou
 use Rattle.plain_core.proofs.plain.Core.alloc.Goals as goal
 
 pub returns-in_default : goal.returns-in_default
-returns-in_default c = refused_vacant _ _ _ c.in_default.ensures
+returns-in_default c = rw (← c.self.view_is) (refused_vacant _ _ _ c.in_default.ensures.none)
 
 pub returns-in_default-class_of : goal.returns-in_default-class_of
-returns-in_default-class_of c = keeps_all _ _ _ _ (shown c.in-Some.mutator) c.in-Some.ensures (λ s h. Acts.bad_size (sym c.class_of.ensures ∙ c.in_default-class_of.is))
+returns-in_default-class_of c = rw (← c.self.view_is) (keeps_all _ _ _ _ c.in-Some.field-0.now c.in-Some.ensures.some (λ s h. Acts.bad_size (sym c.class_of.ensures ∙ c.in_default-class_of.is)))
 
 pub returns-in_default-place_for : goal.returns-in_default-place_for
 returns-in_default-place_for c =
     rw (← c.self.view_is)
-    (let at = rw (← c.self.view_is) at c.in-Some.ensures in
+    (let at = c.in-Some.ensures.some in
     let none = rw c.deref.ensures.value at c.in_default-place_for.ensures.none in
-    keeps_all _ _ _ _ (shown c.in-Some.mutator) at (λ s h. Acts.full (sym c.class_of.ensures ∙ c.in-Some-class_of.is) (λ a room. none a (place_of _ c.self.invariant.0 s h _ _ a room))))
+    keeps_all _ _ _ _ c.in-Some.field-0.now at (λ s h. Acts.full (sym c.class_of.ensures ∙ c.in-Some-class_of.is) (λ a room. none a (place_of _ c.self.invariant.0 s h _ _ a room))))
 
 pub invariant_of-self : goal.invariant_of-self
 invariant_of-self c =
@@ -32,7 +31,7 @@ invariant_of-self c =
     let left : length c.self.inside.objects.items < PAGE_GRANULES * c.self.inside.pages = room_left _ c.in-Some-class_of.placement c.args.kind object c.self.invariant.0 fits c.in-Some-place_for.ensures.some.1 room in
     let spare : PAGE_GRANULES * c.self.inside.pages ≤ vec_capacity c.self.inside.objects = c.self.invariant.1 in
     let long : length c.zero.new.words ≡ length c.self.inside.words.items = c.zero.auto.words ∙ ap length c.deref_mut.ensures.value in (
-      alloc_sound _ c.in-Some-class_of.placement c.args.kind object c.self.invariant.0 fits c.in-Some-place_for.ensures.some.1 room _ _
+      alloc_sound _ c.in-Some-class_of.placement c.args.kind object c.self.invariant.0 fits c.in-Some-place_for.ensures.some.1 room _ _ _
           (ap length (with_items_is c.self.inside.words c.zero.new.words (long ∙ sym c.self.inside.words.ok.0)) ∙ long)
           (pushed_items _ _ _ _ (c.push-pushed.ensures.succeeds (let ok = c.self.inside.objects.ok in omega (arith, ok.0))) c.push-pushed.ensures.items),
       omega (arith, c.push-pushed.ensures.capacity),
@@ -47,8 +46,8 @@ returns c =
     let spare : PAGE_GRANULES * c.self.inside.pages ≤ vec_capacity c.self.inside.objects = c.self.invariant.1 in
     let long : length c.zero.new.words ≡ length c.self.inside.words.items = c.zero.auto.words ∙ ap length c.deref_mut.ensures.value in
     let zeroed : IsZeroed c.self.inside.words.items c.zero.new.words object = record { long = long; zeroed = c.zero.ensures.zeroed; others = λ k h. c.zero.ensures.others k h ∙ ap (λ xs. get_or xs k 0) c.deref_mut.ensures.value } in
-    rw (c.put.ensures, c.set_register.ensures, ← c.self.view_is)
+    rw (← c.self.view_is)
     (alloc_steps _ c.in-Some-class_of.placement c.args.kind object c.self.invariant.0 fits c.in-Some-place_for.ensures.some.1 room
-    _ _ _ (shown c.in-Some.mutator) _ _ (rw (← c.self.view_is) at c.in-Some.ensures) (sym c.class_of.ensures ∙ c.in-Some-class_of.is) c.in-Some-place_for.ensures.some.0
+    _ _ _ _ c.in-Some.field-0.now _ _ c.in-Some.ensures.some (sym c.class_of.ensures ∙ c.in-Some-class_of.is) c.in-Some-place_for.ensures.some.0
     (subst (λ r. IsZeroed c.self.inside.words.items r object) (sym (with_items_is c.self.inside.words c.zero.new.words (long ∙ sym c.self.inside.words.ok.0))) zeroed)
-    (pushed_items _ _ _ _ (c.push-pushed.ensures.succeeds (let ok = c.self.inside.objects.ok in omega (arith, ok.0))) c.push-pushed.ensures.items))
+    (pushed_items _ _ _ _ (c.push-pushed.ensures.succeeds (let ok = c.self.inside.objects.ok in omega (arith, ok.0))) c.push-pushed.ensures.items) c.set_word.ensures)

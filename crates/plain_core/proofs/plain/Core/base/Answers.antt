@@ -1,21 +1,21 @@
 use Rattle.heap_spec.specs.Steps.{Acts}
-use Rattle.plain_core.proofs.Stands.{refused_vacant, keeps_all, changes_mutator}
+use Rattle.plain_core.proofs.Stands.{refused_vacant, keeps_all, sets_register}
 use Rattle.plain_core.proofs.Objects.{reads_nothing, reads_object}
 use Rattle.plain_core.proofs.plain.Core.base.Goals as goal
 
 pub returns-in_default : goal.returns-in_default
-returns-in_default c = refused_vacant _ _ _ c.in_default.ensures
+returns-in_default c = rw (← c.self.view_is) (refused_vacant _ _ _ c.in_default.ensures.none)
 
 pub returns-in_default-object_at : goal.returns-in_default-object_at
 returns-in_default-object_at c =
     rw (← c.self.view_is)
-    (let at = rw (← c.self.view_is) at c.in-Some.ensures in
-    let none = rw (c.deref.ensures.value, c.register.ensures) at c.in_default-object_at.ensures.none in
-    keeps_all _ _ _ _ _ at (λ s h. Acts.base_nothing (reads_nothing _ c.self.invariant.0 s h _ none)))
+    (let at = c.in-Some.ensures.some in
+    let none = rw (c.deref.ensures.value, c.word-word.ensures) at c.in_default-object_at.ensures.none in
+    keeps_all _ _ _ _ c.in-Some.mutator.now at (λ s h. Acts.base_nothing (reads_nothing _ c.self.invariant.0 s h _ none)))
 
 pub returns : goal.returns
 returns c =
-    rw (c.put.ensures, c.set_register.ensures, ← c.self.view_is)
+    rw (← c.self.view_is)
     (let has = rw c.deref.ensures.value at c.in-Some-object_at.ensures.some.0 in
-    let reads = rw c.register.ensures at c.in-Some-object_at.ensures.some.1 in
-    changes_mutator _ _ _ _ _ _ (rw (← c.self.view_is) at c.in-Some.ensures) (λ s h. Acts.based (reads_object _ c.self.invariant.0 s h _ has _ reads).1))
+    let reads = rw c.word-word.ensures at c.in-Some-object_at.ensures.some.1 in
+    sets_register _ _ _ _ _ c.in-Some.mutator.now _ _ c.in-Some.ensures.some c.set_word.ensures (λ s h. Acts.based (reads_object _ c.self.invariant.0 s h _ has _ reads).1))

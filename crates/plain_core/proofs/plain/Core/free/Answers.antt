@@ -10,23 +10,23 @@ use Rattle.plain_core.proofs.Free.{refuses_inside, remove_sound, removes}
 use Rattle.plain_core.proofs.plain.Core.free.Goals as goal
 
 pub returns-in_default : goal.returns-in_default
-returns-in_default c = refused_vacant _ _ _ c.in_default.ensures
+returns-in_default c = rw (← c.self.view_is) (refused_vacant _ _ _ c.in_default.ensures.none)
 
 pub returns-in_default-index_at : goal.returns-in_default-index_at
 returns-in_default-index_at c =
     rw (← c.self.view_is)
-    (let at = rw (← c.self.view_is) at c.in-Some.ensures in
-    let none = rw (c.deref.ensures.value, c.register-address.ensures) at c.in_default-index_at.ensures.none in
-    keeps_all _ _ _ _ _ at (λ s h. Acts.free_nothing (reads_nothing _ c.self.invariant.0 s h _ none)))
+    (let at = c.in-Some.ensures.some in
+    let none = rw (c.deref.ensures.value, c.word-address.ensures) at c.in_default-index_at.ensures.none in
+    keeps_all _ _ _ _ c.in-Some.mutator.now at (λ s h. Acts.free_nothing (reads_nothing _ c.self.invariant.0 s h _ none)))
 
 pub returns-then-object-address : goal.returns-then-object-address
 returns-then-object-address c =
     rw (← c.self.view_is)
-    (refuses_inside _ c.self.invariant.0 _ c.in-Some-index_at.ensures.some.0 c.index-object.result.now _ _ _ (rw (← c.self.view_is) at c.in-Some.ensures)
+    (refuses_inside _ c.self.invariant.0 _ c.in-Some-index_at.ensures.some.0 c.index-object.result.now _ _ _ c.in-Some.ensures.some
     (rw c.deref.ensures.value at c.in-Some-index_at.ensures.some.1)
     c.index-object.ensures
-    (rw c.register-address.ensures at c.in-Some-index_at.ensures.some.2)
-    (rw c.register-address.ensures at c.if-object-address.true))
+    (rw c.word-address.ensures at c.in-Some-index_at.ensures.some.2)
+    (rw c.word-address.ensures at c.if-object-address.true))
 
 pub swap_remove-freed-requires : goal.swap_remove-freed-requires
 swap_remove-freed-requires c =
@@ -49,5 +49,5 @@ returns c =
     let freed = c.swap_remove-freed.ensures.value ∙ get_or_from_slice_get c.self.inside.objects.items c.in-Some-index_at.index c.in-Some-index_at.ensures.some.0 c.swap_remove-freed.result there in
     let object = c.index-object.ensures ∙ get_or_from_slice_get c.self.inside.objects.items c.in-Some-index_at.index c.in-Some-index_at.ensures.some.0 c.index-object.result.now there in
     removes _ c.self.invariant.0 _ _ _ (slice_get_within _ _ _ there) c.swap_remove-freed.ensures.value c.swap_remove-freed.ensures.items
-    _ _ _ (rw (← c.self.view_is) at c.in-Some.ensures)
-    (ap (λ (y : Extent). y.base) (freed ∙ sym object) ∙ c.if-object-address.false ∙ c.register-address.ensures))
+    _ _ _ c.in-Some.ensures.some
+    (ap (λ (y : Extent). y.base) (freed ∙ sym object) ∙ c.if-object-address.false ∙ c.word-address.ensures))

@@ -1,10 +1,8 @@
-use Rattle.plain_core.specs.Mutators.{shown}
-use Rattle.plain_core.proofs.Stands.{refused_vacant}
-use Rattle.plain_core.proofs.Roots.{puts_global}
+use Rattle.heap_spec.specs.declared.call.Call.TheVariants.{GlobalPut}
+use Rattle.heap_spec.specs.declared.event.Event.TheVariants.{Mutator}
+use Rattle.heap_spec.specs.Replies.{done_reply}
+use Rattle.plain_core.proofs.Stands.{steps_roots}
 use Rattle.plain_core.proofs.plain.Core.gput.Goals as goal
 
-pub returns-in_default : goal.returns-in_default
-returns-in_default c = refused_vacant _ _ _ c.in_default.ensures
-
 pub returns : goal.returns
-returns c = rw (← c.self.view_is, c.index.ensures.value, c.register.ensures) (puts_global _ _ _ _ (shown c.in-Some.mutator) (rw (← c.self.view_is) at c.in-Some.ensures))
+returns c = rw (← c.self.view_is) (steps_roots _ _ (Mutator c.args.slot (GlobalPut c.args.global c.args.from)) (done_reply c.gput.result) c.gput.ensures)

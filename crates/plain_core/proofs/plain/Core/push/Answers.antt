@@ -1,12 +1,8 @@
-use Rattle.heap_spec.specs.Steps.{Acts}
-use Rattle.plain_core.proofs.Stands.{refused_vacant, keeps_all, changes_mutator}
+use Rattle.heap_spec.specs.declared.call.Call.TheVariants.{Push}
+use Rattle.heap_spec.specs.declared.event.Event.TheVariants.{Mutator}
+use Rattle.heap_spec.specs.Replies.{done_reply}
+use Rattle.plain_core.proofs.Stands.{steps_roots}
 use Rattle.plain_core.proofs.plain.Core.push.Goals as goal
 
-pub returns-in_default : goal.returns-in_default
-returns-in_default c = refused_vacant _ _ _ c.in_default.ensures
-
-pub returns-then-is_full : goal.returns-then-is_full
-returns-then-is_full c = keeps_all _ _ _ _ _ c.in-Some.ensures (λ s h. Acts.push_full c.if-is_full.ensures)
-
 pub returns : goal.returns
-returns c = rw (c.put.ensures, c.push.ensures, c.register.ensures) (changes_mutator _ _ _ _ _ _ c.in-Some.ensures (λ s h. Acts.pushed c.if-is_full.ensures))
+returns c = rw (← c.self.view_is) (steps_roots _ _ (Mutator c.args.slot (Push c.args.from)) (done_reply c.push.result) c.push.ensures)

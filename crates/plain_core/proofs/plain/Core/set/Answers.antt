@@ -1,9 +1,8 @@
-use Rattle.heap_spec.specs.Steps.{Acts}
-use Rattle.plain_core.proofs.Stands.{refused_vacant, changes_mutator}
+use Rattle.heap_spec.specs.declared.call.Call.TheVariants.{Set}
+use Rattle.heap_spec.specs.declared.event.Event.TheVariants.{Mutator}
+use Rattle.heap_spec.specs.Replies.{done_reply}
+use Rattle.plain_core.proofs.Stands.{steps_roots}
 use Rattle.plain_core.proofs.plain.Core.set.Goals as goal
 
-pub returns-in_default : goal.returns-in_default
-returns-in_default c = refused_vacant _ _ _ c.in_default.ensures
-
 pub returns : goal.returns
-returns c = rw (c.put.ensures, c.set_register.ensures) (changes_mutator _ _ _ _ _ _ c.in-Some.ensures (λ s h. Acts.set))
+returns c = rw (← c.self.view_is) (steps_roots _ _ (Mutator c.args.slot (Set c.args.reg c.args.word)) (done_reply c.set.result) c.set.ensures)

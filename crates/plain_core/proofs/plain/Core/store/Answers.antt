@@ -1,29 +1,28 @@
 use Rattle.heap_spec.specs.Steps.{Acts}
-use Rattle.plain_core.specs.Mutators.{shown}
 use Rattle.plain_core.proofs.Stands.{refused_vacant, keeps_all}
 use Rattle.plain_core.proofs.Objects.{reads_nothing}
 use Rattle.plain_core.proofs.LoadStore.{stores}
 use Rattle.plain_core.proofs.plain.Core.store.Goals as goal
 
 pub returns-in_default : goal.returns-in_default
-returns-in_default c = refused_vacant _ _ _ c.in_default.ensures
+returns-in_default c = rw (← c.self.view_is) (refused_vacant _ _ _ c.in_default.ensures.none)
 
 pub returns-then-address-ne0 : goal.returns-then-address-ne0
 returns-then-address-ne0 c =
-    let at = c.in-Some.ensures in
-    keeps_all _ _ _ _ (shown c.in-Some.mutator) at (λ s h. Acts.store_misaligned (rw c.address-address.ensures at c.if-address-ne0.true))
+    rw (← c.self.view_is)
+    (keeps_all _ _ _ _ c.in-Some.mutator.now c.in-Some.ensures.some (λ s h. Acts.store_misaligned (rw c.address-address.ensures at c.if-address-ne0.true)))
 
 pub returns-in_default-object_at : goal.returns-in_default-object_at
 returns-in_default-object_at c =
     rw (← c.self.view_is)
-    (let at = rw (← c.self.view_is) at c.in-Some.ensures in
+    (let at = c.in-Some.ensures.some in
     let none = rw (c.deref.ensures.value, c.address-address.ensures) at c.in_default-object_at.ensures.none in
-    keeps_all _ _ _ _ (shown c.in-Some.mutator) at (λ s h. Acts.store_nothing (rw c.address-address.ensures at c.if-address-ne0.false) (reads_nothing _ c.self.invariant.0 s h _ none)))
+    keeps_all _ _ _ _ c.in-Some.mutator.now at (λ s h. Acts.store_nothing (rw c.address-address.ensures at c.if-address-ne0.false) (reads_nothing _ c.self.invariant.0 s h _ none)))
 
 pub returns : goal.returns
 returns c =
-    rw (← c.self.view_is, c.address-address.ensures, c.register.ensures)
-    (stores _ _ _ _ _ (shown c.in-Some.mutator) _ c.self.invariant.0 (rw (← c.self.view_is) at c.in-Some.ensures)
+    rw (← c.self.view_is, c.address-address.ensures, c.word-word.ensures)
+    (stores _ _ _ _ _ c.in-Some.mutator.now _ c.self.invariant.0 c.in-Some.ensures.some
     (rw c.deref.ensures.value at c.in-Some-object_at.ensures.some.0)
     (rw c.address-address.ensures at c.in-Some-object_at.ensures.some.1)
     (rw c.address-address.ensures at c.if-address-ne0.false))

@@ -1,10 +1,8 @@
-use Rattle.heap_spec.specs.Steps.{Acts}
-use Rattle.plain_core.proofs.Stands.{refused_vacant, changes_mutator}
-use Rattle.plain_core.proofs.Roots.{wrapped}
+use Rattle.heap_spec.specs.declared.call.Call.TheVariants.{Sub}
+use Rattle.heap_spec.specs.declared.event.Event.TheVariants.{Mutator}
+use Rattle.heap_spec.specs.Replies.{done_reply}
+use Rattle.plain_core.proofs.Stands.{steps_roots}
 use Rattle.plain_core.proofs.plain.Core.sub.Goals as goal
 
-pub returns-in_default : goal.returns-in_default
-returns-in_default c = refused_vacant _ _ _ c.in_default.ensures
-
 pub returns : goal.returns
-returns c = rw (c.put.ensures, c.set_register.ensures, wrapped c.register.result c.register-2.result c.register-2.type_inv, c.register.ensures, c.register-2.ensures) (changes_mutator _ _ _ _ _ _ c.in-Some.ensures (λ s h. Acts.subtracted))
+returns c = rw (← c.self.view_is) (steps_roots _ _ (Mutator c.args.slot (Sub c.args.into c.args.from c.args.less)) (done_reply c.sub.result) c.sub.ensures)
