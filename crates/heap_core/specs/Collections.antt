@@ -11,7 +11,7 @@ use Rattle.heap_spec.specs.Cycles.{TakesOut, CollectsFully}
 use Rattle.marker.specs.Marking.{IsMarked, IsFresh, IsEmpty, IsClean}
 use Rattle.marker.specs.Invariant.{AreRootsMarked}
 use Rattle.marker.specs.Growth.{Traces}
-use Rattle.marker.specs.Entries.{Takes, TakesOff, IsInOrder}
+use Rattle.marker.specs.Entries.{Takes, TakesOff}
 use Rattle.marker.specs.Retracing.{Retraces}
 use Rattle.reachability.specs.Shows.{IsMarkedBirth}
 use Rattle.roots.specs.Roots.{root_words_of}
@@ -61,12 +61,11 @@ pub record TakesWords (asked : ℕ) (old : Contents) (n : ℕ) (new : Contents) 
   pub fewer : n < asked → IsEmpty new.cycle.marking
   pub takes : Takes (found_in old.store.states) old.store.words old.cycle.marking n new.cycle.marking
   pub taken : TakesOff (found_in old.store.states) old.store.words old.cycle.marking new.cycle.marking
-  pub order : IsInOrder (found_in old.store.states) old.store.words old.cycle.marking new.cycle.marking
 
 -- A page was read again, the lowest that was dirty, or none was dirty and nothing has changed.
 pub data ReadsPage (old new : Contents) : ℕ → Type 0 where
   none : IsClean old.cycle.marking → new ≡ old → ReadsPage old new 0
-  page : (p : ℕ) → Retraces (found_in old.store.states) p old.cycle.marking new.cycle.marking → ReadsPage old new 1
+  page : (p : ℕ) → Retraces (found_in old.store.states) old.store.words p old.cycle.marking new.cycle.marking → ReadsPage old new 1
 
 pub record RetracesPage (old : Contents) (n : ℕ) (new : Contents) : Type 0 where
   pub marks : MarksOn [] old new

@@ -7,7 +7,6 @@ ghost use Rattle.pages.specs.Memory.{IsWordAddress, word_at, with_word_at};
 ghost use Rattle.pages.specs.Opening.{IsOpened};
 ghost use Rattle.block_map.specs.FoundIn.{found_in, IsLawful};
 ghost use Rattle.block_map.specs.declared.found.Found.{Found};
-ghost use Rattle.marker.specs.Marking.{IsSized};
 ghost use Rattle.object_space.specs.Store.{IsSwept};
 ghost use Rattle.object_space.specs.Kept.{kept_in};
 ghost use Rattle.object_space.specs.Shown.{Stores};
@@ -73,11 +72,13 @@ impl ObjectSpace {
     /// The kept object that a word reads. On a page that is still to be swept only marked objects are kept.
     #[inline]
     pub fn find(&self, marker: &Marker, word: u64) -> Option<Found>
-        requires { IsSized (length self.now.states) marker.now }
+        requires pages { length marker.now.dirty ≡ length self.now.states }
         ensures found { result ≡ kept_in self.now.states self.now.pending marker.now.marks word }
         ensures lawful { IsLawful self.now.states }
         ensures long { length self.now.words ≡ PAGE_WORDS * length self.now.states }
     {
+        // Its clauses tell how many marks there are.
+        marker.laws();
         let Some(found) = self.map.find(word) else {
             return None;
         };

@@ -8,7 +8,6 @@ ghost use Rattle.heap_spec.specs.Layout.{page_start};
 ghost use Rattle.pages.specs.Runs.{HasNoFreeRun};
 ghost use Rattle.blocks.specs.Cells.{Cells};
 ghost use Rattle.block_map.specs.States.{cut, state_at, IsCut, IsLaid};
-ghost use Rattle.marker.specs.Marking.{IsSized};
 ghost use Rattle.object_space.specs.Store.{Agree};
 ghost use Rattle.object_space.specs.AvailableRows.{HasFreeCell, IsBlockFor, IsExact, IsAvailable};
 ghost use Rattle.object_space.specs.Rooms.{IsRequest, IsFreeCell, HasNoFreeCell, TakesCell, CutsPage, HasRoomAt, HasNoRoom};
@@ -161,7 +160,7 @@ impl ObjectSpace {
     // A free cell for the class and the kind on a page that is not to be swept any more. Pages for them that are still to be
     // swept are swept first, one by one.
     fn swept_cell(&mut self, marker: &Marker, class: Class, kind: Kind) -> Option<Place>
-        requires { IsSized (length self.old.states) marker.now }
+        requires pages { length marker.now.dirty ≡ length self.old.states }
         ensures sweeps { Sweeps self.old marker.now.marks self.new }
         ensures some { IfSome result (λ place. IsFreeCell self.new.states class kind place.page place.cell × (Has self.new.pending place.page → ⊥)) }
         ensures none { IfNone result (HasNoFreeCell self.new.states class kind) }
@@ -243,7 +242,7 @@ impl ObjectSpace {
 
     // A place for a small object.
     fn place_small(&mut self, marker: &Marker, class: Class, kind: Kind) -> Option<u64>
-        requires { IsSized (length self.old.states) marker.now }
+        requires pages { length marker.now.dirty ≡ length self.old.states }
         ensures { MatchOption result (FindsNoPlace self.old marker.now.marks (Placement.Small class) kind self.new) (λ base. Allocates self.old marker.now.marks (Placement.Small class) kind base self.new) }
     {
         let Some(place) = self.swept_cell(marker, class, kind) else {
@@ -255,7 +254,7 @@ impl ObjectSpace {
     // A place for an object: of the pages that are still to be swept, only those that are cut for it are.
     fn place(&mut self, marker: &Marker, placement: &Placement, kind: Kind) -> Option<u64>
         requires request { IsRequest placement.now }
-        requires sized { IsSized (length self.old.states) marker.now }
+        requires pages { length marker.now.dirty ≡ length self.old.states }
         ensures { MatchOption result (FindsNoPlace self.old marker.now.marks placement.now kind self.new) (λ base. Allocates self.old marker.now.marks placement.now kind base self.new) }
     {
         match placement {
@@ -269,7 +268,7 @@ impl ObjectSpace {
     /// exactly if no address has room, and then nothing is left to be swept.
     pub fn allocate(&mut self, marker: &Marker, placement: Placement, kind: Kind) -> Option<u64>
         requires request { IsRequest placement }
-        requires sized { IsSized (length self.old.states) marker.now }
+        requires pages { length marker.now.dirty ≡ length self.old.states }
         ensures { MatchOption result (FindsNoRoom self.old marker.now.marks placement kind self.new) (λ base. Allocates self.old marker.now.marks placement kind base self.new) }
     {
         if let Some(base) = self.place(marker, &placement, kind) {

@@ -6,11 +6,11 @@ ghost use Rattle.block_map.specs.FoundIn.{found_in, IsLawful};
 ghost use Rattle.block_map.specs.Walks.{IsNextObject, IsNoObject};
 ghost use Rattle.block_map.specs.States.{IsLaid, IsCut, state_at};
 ghost use Rattle.block_map.specs.Places.{page_start};
-ghost use Rattle.marker.specs.Marking.{IsSized, IsMarked, IsEmpty, IsClean, IsDone};
+ghost use Rattle.marker.specs.Marking.{IsMarked, IsEmpty, IsClean, IsDone};
 ghost use Rattle.marker.specs.Invariant.{AreRootsMarked, DirtyPageInvariant};
 ghost use Rattle.marker.specs.Closure.{Closure};
 ghost use Rattle.marker.specs.Growth.{Traces};
-ghost use Rattle.marker.specs.Entries.{Takes, TakesOff, IsInOrder};
+ghost use Rattle.marker.specs.Entries.{Takes, TakesOff};
 ghost use Rattle.marker.specs.Retracing.{Retraces};
 ghost use Rattle.words.specs.Bits.{Has};
 ghost use Rattle.object_space.specs.Store.{IsSwept, IsPendingRow};
@@ -51,12 +51,14 @@ impl ObjectSpace {
 
     // Looks at the first object of a page from an address on, and forgets it if it isn't marked.
     fn drop_next(&mut self, marker: &Marker, address: u64) -> Passed
-        requires sized { IsSized (length self.old.states) marker.now }
+        requires pages { length marker.now.dirty ≡ length self.old.states }
         requires low { FIRST_ADDRESS ≤ address }
         requires inside { address < page_start (length self.old.states) }
         ensures drops { Drops self.old marker.now address result.next result.forgotten self.new }
         ensures lawful { IsLawful self.old.states }
     {
+        // Its clauses tell how many marks there are.
+        marker.laws();
         let page = ((address - FIRST_ADDRESS) / PAGE_BYTES) as PageNo;
         let Some(found) = self.next_on_page(page, address) else {
             return Passed {
@@ -82,7 +84,7 @@ impl ObjectSpace {
     // Forgets the objects that aren't marked, and answers how many: the large ones now, and the others when their pages are
     // swept.
     fn forget_lazily(&mut self, marker: &Marker) -> u64
-        requires sized { IsSized (length self.old.states) marker.now }
+        requires pages { length marker.now.dirty ≡ length self.old.states }
         requires swept { IsSwept self.old }
         ensures { ForgetsLazily self.old marker.now.marks result self.new }
     {
@@ -100,12 +102,12 @@ impl ObjectSpace {
 
     /// Ends a cycle: what the roots and the marks reach is marked, and the other objects are forgotten. Answers how many.
     pub fn finish(&mut self, marker: &mut Marker, roots: &[u64]) -> u64
-        requires sized { IsSized (length self.old.states) marker.old }
+        requires pages { length marker.old.dirty ≡ length self.old.states }
         requires swept { IsSwept self.old }
         requires invariant { DirtyPageInvariant (found_in self.old.states) self.old.words marker.old }
         ensures forgets { ForgetsUnreached self.old roots.now marker.old result marker.new.marks self.new }
         ensures pending { IsPendingAfter self.new.states marker.new.marks self.new.pending }
-        ensures sized { IsSized (length self.new.states) marker.new }
+        ensures pages { length marker.new.dirty ≡ length self.new.states }
         ensures lawful { IsLawful self.old.states }
     {
         // Its clauses tell what is true of the map.
@@ -116,12 +118,12 @@ impl ObjectSpace {
 
     /// The same, but all that is forgotten is swept now.
     pub fn collect(&mut self, marker: &mut Marker, roots: &[u64]) -> u64
-        requires sized { IsSized (length self.old.states) marker.old }
+        requires pages { length marker.old.dirty ≡ length self.old.states }
         requires swept { IsSwept self.old }
         requires invariant { DirtyPageInvariant (found_in self.old.states) self.old.words marker.old }
         ensures forgets { ForgetsUnreached self.old roots.now marker.old result marker.new.marks self.new }
         ensures swept { IsSwept self.new }
-        ensures sized { IsSized (length self.new.states) marker.new }
+        ensures pages { length marker.new.dirty ≡ length self.new.states }
         ensures lawful { IsLawful self.old.states }
     {
         // Its clauses tell what is true of the map.

@@ -6,11 +6,11 @@ ghost use Rattle.block_map.specs.FoundIn.{found_in, IsLawful};
 ghost use Rattle.block_map.specs.Walks.{IsNextObject, IsNoObject};
 ghost use Rattle.block_map.specs.States.{IsLaid, IsCut, state_at};
 ghost use Rattle.block_map.specs.Places.{page_start};
-ghost use Rattle.marker.specs.Marking.{IsSized, IsMarked, IsEmpty, IsClean, IsDone};
+ghost use Rattle.marker.specs.Marking.{IsMarked, IsEmpty, IsClean, IsDone};
 ghost use Rattle.marker.specs.Invariant.{AreRootsMarked, DirtyPageInvariant};
 ghost use Rattle.marker.specs.Closure.{Closure};
 ghost use Rattle.marker.specs.Growth.{Traces};
-ghost use Rattle.marker.specs.Entries.{Takes, TakesOff, IsInOrder};
+ghost use Rattle.marker.specs.Entries.{Takes, TakesOff};
 ghost use Rattle.marker.specs.Retracing.{Retraces};
 ghost use Rattle.words.specs.Bits.{Has};
 ghost use Rattle.object_space.specs.Store.{IsSwept, IsPendingRow};
@@ -26,7 +26,7 @@ use words::PageNo;
 impl ObjectSpace {
     /// Marks what root words read.
     pub fn mark_roots(&self, marker: &mut Marker, roots: &[u64])
-        requires { IsSized (length self.now.states) marker.old }
+        requires pages { length marker.old.dirty ≡ length self.now.states }
         ensures traces { Traces (found_in self.now.states) self.now.words roots.now marker.old marker.new }
         ensures roots { AreRootsMarked (found_in self.now.states) roots.now marker.new }
         ensures lawful { IsLawful self.now.states }
@@ -36,14 +36,13 @@ impl ObjectSpace {
 
     /// Reads at most so many words of entries.
     pub fn mark(&self, marker: &mut Marker, budget: u64) -> Marked
-        requires { IsSized (length self.now.states) marker.old }
+        requires pages { length marker.old.dirty ≡ length self.now.states }
         ensures takes { Takes (found_in self.now.states) self.now.words marker.old result.read marker.new }
         ensures traces { Traces (found_in self.now.states) self.now.words [] marker.old marker.new }
         ensures read { result.read ≤ budget }
-        ensures empty { result.empty ≡ true → IsEmpty marker.new }
-        ensures fewer { result.read < budget → result.empty ≡ true }
+        ensures empty { (result.empty ≡ true) ↔ IsEmpty marker.new }
+        ensures fewer { result.read < budget → IsEmpty marker.new }
         ensures taken { TakesOff (found_in self.now.states) self.now.words marker.old marker.new }
-        ensures order { IsInOrder (found_in self.now.states) self.now.words marker.old marker.new }
         ensures lawful { IsLawful self.now.states }
     {
         // Its clauses tell what is true of the map.
@@ -54,8 +53,8 @@ impl ObjectSpace {
 
     /// Reads the lowest dirty page again.
     pub fn retrace(&self, marker: &mut Marker) -> Option<PageNo>
-        requires { IsSized (length self.now.states) marker.old }
-        ensures page { MatchOption result (IsClean marker.old × (marker.new ≡ marker.old)) (λ p. Retraces (found_in self.now.states) p marker.old marker.new) }
+        requires pages { length marker.old.dirty ≡ length self.now.states }
+        ensures page { MatchOption result (IsClean marker.old × (marker.new ≡ marker.old)) (λ p. Retraces (found_in self.now.states) self.now.words p marker.old marker.new) }
         ensures traces { Traces (found_in self.now.states) self.now.words [] marker.old marker.new }
         ensures lawful { IsLawful self.now.states }
     {
@@ -67,7 +66,7 @@ impl ObjectSpace {
 
     // Marks all that the roots and the marks reach.
     pub(super) fn close(&self, marker: &mut Marker, roots: &[u64])
-        requires sized { IsSized (length self.now.states) marker.old }
+        requires pages { length marker.old.dirty ≡ length self.now.states }
         requires invariant { DirtyPageInvariant (found_in self.now.states) self.now.words marker.old }
         ensures closure { (f : Found) → found_in self.now.states f.base ≡ Some f → (IsMarked marker.new f.base ↔ Closure (found_in self.now.states) self.now.words roots.now (IsMarked marker.old) f) }
         ensures done { IsDone marker.new }

@@ -6,11 +6,11 @@ ghost use Rattle.block_map.specs.FoundIn.{found_in, IsLawful};
 ghost use Rattle.block_map.specs.Walks.{IsNextObject, IsNoObject};
 ghost use Rattle.block_map.specs.States.{IsLaid, IsCut, state_at};
 ghost use Rattle.block_map.specs.Places.{page_start};
-ghost use Rattle.marker.specs.Marking.{IsSized, IsMarked, IsEmpty, IsClean, IsDone};
+ghost use Rattle.marker.specs.Marking.{IsMarked, IsEmpty, IsClean, IsDone};
 ghost use Rattle.marker.specs.Invariant.{AreRootsMarked, DirtyPageInvariant};
 ghost use Rattle.marker.specs.Closure.{Closure};
 ghost use Rattle.marker.specs.Growth.{Traces};
-ghost use Rattle.marker.specs.Entries.{Takes, TakesOff, IsInOrder};
+ghost use Rattle.marker.specs.Entries.{Takes, TakesOff};
 ghost use Rattle.marker.specs.Retracing.{Retraces};
 ghost use Rattle.words.specs.Bits.{Has};
 ghost use Rattle.object_space.specs.Store.{IsSwept, IsPendingRow};
@@ -56,12 +56,14 @@ impl ObjectSpace {
 
     // Looks at the first object of a page from an address on, and forgets it if it isn't marked.
     fn forget_next(&mut self, marker: &Marker, address: u64) -> Passed
-        requires sized { IsSized (length self.old.states) marker.now }
+        requires pages { length marker.now.dirty ≡ length self.old.states }
         requires low { FIRST_ADDRESS ≤ address }
         requires inside { address < page_start (length self.old.states) }
         ensures passes { Passes self.old marker.now address result.next result.forgotten self.new }
         ensures lawful { IsLawful self.old.states }
     {
+        // Its clauses tell how many marks there are.
+        marker.laws();
         let page = ((address - FIRST_ADDRESS) / PAGE_BYTES) as PageNo;
         let Some(found) = self.next_on_page(page, address) else {
             return Passed {
@@ -79,7 +81,7 @@ impl ObjectSpace {
 
     // Forgets the objects that aren't marked, and answers how many.
     pub(super) fn forget_unmarked(&mut self, marker: &Marker) -> u64
-        requires { IsSized (length self.old.states) marker.now }
+        requires pages { length marker.now.dirty ≡ length self.old.states }
         ensures { ForgetsUnmarked self.old marker.now result self.new }
     {
         let end = self.end();
@@ -95,7 +97,7 @@ impl ObjectSpace {
 
     // Sweeps a page.
     pub(super) fn sweep_page(&mut self, marker: &Marker, page: PageNo)
-        requires sized { IsSized (length self.old.states) marker.now }
+        requires pages { length marker.now.dirty ≡ length self.old.states }
         requires inside { page < length self.old.states }
         requires was { Has self.old.pending page }
         ensures { SweepsPage self.old marker.now.marks page self.new }
@@ -116,11 +118,13 @@ impl ObjectSpace {
 
     /// Sweeps one page, if one is still to be swept. Answers whether one was.
     pub fn sweep(&mut self, marker: &Marker) -> bool
-        requires sized { IsSized (length self.old.states) marker.now }
+        requires pages { length marker.now.dirty ≡ length self.old.states }
         ensures sweeps { Sweeps self.old marker.now.marks self.new }
         ensures none { result ≡ false → IsSwept self.old × (self.new ≡ self.old) }
         ensures fewer { result ≡ true → count_by (λ b. b) self.new.pending + 1 ≡ count_by (λ b. b) self.old.pending }
     {
+        // Its clauses tell that there are few.
+        let _pages = self.map.len();
         let Some(page) = self.pending.next(0) else {
             return false;
         };
@@ -130,7 +134,7 @@ impl ObjectSpace {
 
     /// Sweeps all pages that are still to be swept.
     pub fn sweep_all(&mut self, marker: &Marker)
-        requires { IsSized (length self.old.states) marker.now }
+        requires pages { length marker.now.dirty ≡ length self.old.states }
         ensures sweeps { Sweeps self.old marker.now.marks self.new }
         ensures swept { IsSwept self.new }
     {

@@ -32,7 +32,7 @@ note_object-requires-clause-inside c =
     let a = c.in-Some-allocate.ensures in
     let g = a.gains in
     let below = (g.map.placed _ g.object g.found).below in let some = (g.map.placed _ g.object g.found).some in let above = (g.map.placed _ g.object g.found).above in
-    let at = g.at in let pages = g.pages in let before = a.sweeps.pages in let size = c.self.invariant.sized.marks in
+    let at = g.at in let pages = g.pages in let before = a.sweeps.pages in let size = c.self.invariant.pages in
     omega arith
 
 pub invariant_of-self-2 : goal.invariant_of-self-2

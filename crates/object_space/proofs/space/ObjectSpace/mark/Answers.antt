@@ -2,6 +2,3 @@ use Rattle.object_space.proofs.space.ObjectSpace.mark.Goals as goal
 
 pub returns-clause-taken : goal.returns-clause-taken
 returns-clause-taken c = rw (← c.self.view_is, ← c.new-reader.ensures.words) c.step.ensures.taken
-
-pub returns-clause-order : goal.returns-clause-order
-returns-clause-order c = rw (← c.self.view_is, ← c.new-reader.ensures.words) c.step.ensures.order
