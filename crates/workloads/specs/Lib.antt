@@ -1,0 +1,2 @@
+pub mod Workloads
+pub mod Reading
