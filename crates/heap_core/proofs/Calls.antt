@@ -1,5 +1,5 @@
 -- The calls that allocate and free.
-use Rattle.std.proofs.Common.{get_or, cond, replicate, true, false, ◌⊎◌, length, inl, inr, ⊎_elim, ◌≡◌, ℕ, ◌+◌, [], ◌∷◌, Some, None, refl, sym, ap, ◌∙◌, subst}
+use Rattle.std.proofs.Common.{get_or, cond, replicate, true, false, length, inl, inr, ⊎_elim, ◌≡◌, ℕ, ◌+◌, [], ◌∷◌, Some, None, refl, sym, ap, ◌∙◌, subst, List}
 use Rattle.std.specs.Prelude.{◌≢◌}
 use Rattle.words.specs.declared.class.Kind.{Kind}
 use Rattle.words.specs.declared.class.Placement.{Placement}
@@ -20,24 +20,32 @@ use Rattle.heap_spec.specs.Heap.{with_at, without, without_at}
 use Rattle.heap_spec.specs.Room.{length_of}
 use Rattle.std.specs.Prelude.{Bool}
 use Rattle.std.proofs.lemmas.Bool.{false≢true}
-use Rattle.marker.proofs.MarkWord.{same_object}
+use Rattle.marker.specs.Mutations.{IsFreed}
+use Rattle.marker.specs.Marking.{IsMarked}
+use Rattle.block_map.specs.Objects.{IsMap}
+use Rattle.block_map.specs.Changes.{IsRemoved}
+use Rattle.std.proofs.Common.{get_or-set_other}
+use Rattle.std.proofs.lemmas.Option.{same_Some}
+use Rattle.marker.proofs.Closures.{same_object}
 use Rattle.block_map.specs.FoundIn.{found_in, IsLawful}
 use Rattle.block_map.specs.declared.found.Found.{Found}
 use Rattle.roots.specs.Roots.{RootSet, HasMutator, SetsWord}
-use Rattle.heap_core.specs.Contents.{Store, Cycle, IsSwept}
+use Rattle.object_space.specs.Store.{Store, IsSwept}
+use Rattle.heap_core.specs.Contents.{Cycle}
 use Rattle.heap_core.specs.Calls.{IsCall}
 use Rattle.heap_core.specs.Beside.{NotesObject}
-use Rattle.heap_core.specs.Sweeps.{Gains, Loses, Sweeps}
-use Rattle.heap_core.specs.Standing.{StandsFor, Stores, Shows}
-use Rattle.heap_core.specs.Kept.{restrict, is_kept}
-use Rattle.heap_core.proofs.Kept.{kept_cases, kept_map, kept_added, kept_removed, kept_none, kept_same, nothing_pending}
-use Rattle.heap_core.proofs.Changes.{shows_added, shows_removed}
-use Rattle.heap_core.proofs.Allocations.{shows_same}
-use Rattle.heap_core.proofs.Shown.{at_base}
-use Rattle.heap_core.proofs.Sweeping.{read_or_not}
-use Rattle.heap_core.specs.Rooms.{HasRoomAt, HasNoRoom}
+use Rattle.object_space.specs.Sweeps.{Gains, Loses, Sweeps}
+use Rattle.object_space.specs.Shown.{Stores, Shows}
+use Rattle.heap_core.specs.Standing.{StandsFor}
+use Rattle.object_space.specs.Kept.{restrict, is_kept, kept_in}
+use Rattle.object_space.proofs.Kept.{kept_cases, kept_map, kept_added, kept_removed, kept_none, kept_same, kept_is, nothing_pending}
+use Rattle.object_space.proofs.Changes.{shows_added, shows_removed}
+use Rattle.object_space.proofs.Allocations.{shows_same}
+use Rattle.object_space.proofs.Shown.{at_base}
+use Rattle.object_space.proofs.Sweeping.{read_or_not}
+use Rattle.object_space.specs.Rooms.{HasRoomAt, HasNoRoom}
 use Rattle.heap_core.proofs.Lookups.{finds}
-use Rattle.heap_core.proofs.Roots.{core_of, attached, stands_set}
+use Rattle.heap_core.proofs.Roots.{core_of, attached, stands_set, none_some}
 
 -- pages were swept
 pub swept_stands : (roots : RootSet) (t0 t : Store) (y : Cycle) → Sweeps t0 y.marking.marks t → (s : Heap) → StandsFor (core_of roots t0 y) s → StandsFor (core_of roots t y) s
@@ -110,6 +118,11 @@ allocated roots roots' t0 t t' y y' slot d n base kind place m at is sweeps room
   steps = λ s h. allocated_step roots roots' t t' y y' slot d n base kind place m at is room gains sets notes s (swept_stands roots t0 t y sweeps s h);
   phase = phase;
   count = count;
+  stays = λ f there marked. notes.stays (granule f.base) marked;
+  came = λ is f there none. let now = kept_cases (is_kept t'.pending y'.marking.marks) (found_in t'.states) f.base f there in came_marked is f now.0 now.1 none;
+  stays_dirty = λ p h. subst (λ ds. Has ds p) (sym notes.dirty) h;
+  current = notes.current;
+  stack = notes.stack;
   marks = λ f there marked. ⊎_elim (λ old. inl old) (λ same. inr (new f (kept_cases (is_kept t'.pending y'.marking.marks) (found_in t'.states) f.base f there).0 same)) (notes.marks f.base marked);
   dirty = λ p h. inl (subst (λ ds. Has ds p) notes.dirty h);
 }
@@ -119,6 +132,16 @@ allocated roots roots' t0 t t' y y' slot d n base kind place m at is sweeps room
     new f there same =
         let one : f ≡ gains.object = same_object (length t'.states) (found_in t'.states) gains.map f gains.object there (ap (found_in t'.states) gains.at ∙ gains.found) (same ∙ ap granule (sym gains.at)) in
         sym (sweeps.same.same f.base) ∙ kept_none (is_kept t.pending y.marking.marks) (found_in t.states) f.base (gains.added.before f.base (subst (Reads f.base) one (gains.map.reads f.base f there)))
+
+    -- an object that was not there is the one that came
+    came_marked : y.is_marking ≡ true → (f : Found) → found_in t'.states f.base ≡ Some f → is_kept t'.pending y'.marking.marks f ≡ true → restrict (is_kept t0.pending y.marking.marks) (found_in t0.states) f.base ≡ None → IsMarked y'.marking f.base
+    came_marked is f there kept none = ⊎_elim
+        (λ r. subst (IsMarked y'.marking) (sym gains.at ∙ ap (λ (x : Found). x.base) (sym (same_Some f gains.object (sym there ∙ gains.added.after f.base r)))) (notes.marked is))
+        (λ not. absurd (none_some f (sym none ∙ sym (sweeps.same.same f.base) ∙ kept_is (is_kept t.pending y.marking.marks) (found_in t.states) f.base f (was not) (sym (keeps_same t t' y y' place kind base gains notes f.base f (was not)) ∙ kept))))
+        (read_or_not f.base gains.object)
+      where
+        was : (Reads f.base gains.object → ⊥) → found_in t.states f.base ≡ Some f
+        was not = sym (gains.added.others f.base not) ∙ there
 
 -- a store with nothing to be swept keeps all its objects
 all_kept : (keep : Found → Bool) (t : Store) (s : Heap) → ((f : Found) → keep f ≡ true) → Stores keep t s → Stores (λ _. true) t s
@@ -136,37 +159,82 @@ full roots t0 t y slot d n kind place m at is sweeps swept none = record {
   phase = refl;
   count = refl;
   marks = λ f there marked. inl marked;
+  stays = λ f there marked. marked;
+  came = λ is f there none. absurd (none_some f (sym none ∙ sym (sweeps.same.same f.base) ∙ there));
   dirty = λ p h. inl h;
+  stays_dirty = λ p h. h;
+  current = refl;
+  stack = refl;
 }
 
-stores_less : (t t' : Store) (y : Cycle) (f : Found) → IsLawful t.states → restrict (is_kept t.pending y.marking.marks) (found_in t.states) f.base ≡ Some f → Loses t f t'
-    → (s : Heap) → Stores (is_kept t.pending y.marking.marks) t s → Stores (is_kept t'.pending y.marking.marks) t' (without s (f.base ∷ []))
-stores_less t t' y f lawful is loses s stores = record {
-  pages = stores.pages ∙ sym loses.pages;
-  shows = subst (λ ws. Shows (restrict (is_kept t'.pending y.marking.marks) (found_in t'.states)) ws (without_at s.objects (f.base ∷ [])) s.births) (sym loses.words)
-      (shows_removed (restrict (is_kept t.pending y.marking.marks) (found_in t.states)) (restrict (is_kept t'.pending y.marking.marks) (found_in t'.states)) (length t.states)
-      (kept_map (length t.states) (is_kept t.pending y.marking.marks) (found_in t.states) lawful.map) t.words s.objects s.births stores.shows f is
-      (kept_removed (is_kept t.pending y.marking.marks) (is_kept t'.pending y.marking.marks) (found_in t.states) (found_in t'.states) f loses.removed
+-- a kept object whose base was looked for is there
+pub kept_there : (t : Store) (marks : List Bool) (w : ℕ) (f : Found) → f.base ≡ w → kept_in t.states t.pending marks w ≡ Some f → found_in t.states f.base ≡ Some f
+kept_there t marks w f base is = (kept_cases (is_kept t.pending marks) (found_in t.states) f.base f (ap (kept_in t.states t.pending marks) base ∙ is)).0
+
+-- an object goes, and its mark at most with it: of those that are kept it alone goes
+module _ (t t' : Store) (y y' : Cycle) (f : Found) (map : IsMap (length t.states) (found_in t.states)) (is : restrict (is_kept t.pending y.marking.marks) (found_in t.states) f.base ≡ Some f) (loses : Loses t f t')
+    (others : (k : ℕ) → k ≢ granule f.base → get_or y'.marking.marks k false ≡ get_or y.marking.marks k false) where
+  -- no object that is left has the granule of the one that went
+  apart_left : (w : ℕ) (x : Found) → found_in t'.states w ≡ Some x → granule x.base ≡ granule f.base → ⊥
+  apart_left w x there same = ⊎_elim (λ r. clash (sym (loses.removed.before w r) ∙ there)) (λ not. not (read not)) (read_or_not w f)
+    where
+      clash : None ≡ Some x → ⊥
+      clash e = cc
+
+      read : (Reads w f → ⊥) → Reads w f
+      read not =
+          let was : found_in t.states w ≡ Some x = loses.removed.others w not ∙ there in
+          let gone = (kept_cases (is_kept t.pending y.marking.marks) (found_in t.states) f.base f is).0 in
+          let one : x ≡ f = same_object (length t.states) (found_in t.states) map x f (at_base (found_in t.states) (length t.states) map w x was) gone same in
+          subst (Reads w) one (map.reads w x was)
+
+  kept_left : IsRemoved (restrict (is_kept t.pending y.marking.marks) (found_in t.states)) (restrict (is_kept t'.pending y'.marking.marks) (found_in t'.states)) f
+  kept_left = kept_removed (is_kept t.pending y.marking.marks) (is_kept t'.pending y'.marking.marks) (found_in t.states) (found_in t'.states) f loses.removed
       (kept_cases (is_kept t.pending y.marking.marks) (found_in t.states) f.base f is).1
-      (λ w x there. ap (λ b. cond b (get_or y.marking.marks (granule x.base) false) true) (loses.pending w x there))));
-}
+      (λ w x there. ap (λ b. cond b (get_or y'.marking.marks (granule x.base) false) true) (loses.pending w x there)
+      ∙ ap (λ b. cond (get_or t.pending x.page false) b true) (others (granule x.base) (apart_left w x there)))
 
-pub freed : (roots : RootSet) (t t' : Store) (y : Cycle) (slot r : ℕ) (m : HeapMutator) (f : Found) → IsLawful t.states → HasMutator roots slot m → restrict (is_kept t.pending y.marking.marks) (found_in t.states) (register m r) ≡ Some f → f.base ≡ register m r
-    → Loses t f t' → IsCall (core_of roots t y) (Mutator slot (Free r)) Done (core_of roots t' y)
-freed roots t t' y slot r m f lawful at is base loses = record {
+  stores_less : (s : Heap) → Stores (is_kept t.pending y.marking.marks) t s → Stores (is_kept t'.pending y'.marking.marks) t' (without s (f.base ∷ []))
+  stores_less s stores = record {
+    pages = stores.pages ∙ sym loses.pages;
+    shows = subst (λ ws. Shows (restrict (is_kept t'.pending y'.marking.marks) (found_in t'.states)) ws (without_at s.objects (f.base ∷ [])) s.births) (sym loses.words)
+        (shows_removed (restrict (is_kept t.pending y.marking.marks) (found_in t.states)) (restrict (is_kept t'.pending y'.marking.marks) (found_in t'.states)) (length t.states)
+        (kept_map (length t.states) (is_kept t.pending y.marking.marks) (found_in t.states) map) t.words s.objects s.births stores.shows f is kept_left);
+  }
+
+  -- what is there now was there before
+  was_kept : (g : Found) → restrict (is_kept t'.pending y'.marking.marks) (found_in t'.states) g.base ≡ Some g → restrict (is_kept t.pending y.marking.marks) (found_in t.states) g.base ≡ None → ⊥
+  was_kept g there none = ⊎_elim (λ r. none_some g (sym (kept_left.before g.base r) ∙ there)) (λ not. none_some g (sym none ∙ kept_left.others g.base not ∙ there)) (read_or_not g.base f)
+
+pub freed : (roots : RootSet) (t t' : Store) (y y' : Cycle) (slot r : ℕ) (m : HeapMutator) (f : Found) → IsLawful t.states → HasMutator roots slot m → restrict (is_kept t.pending y.marking.marks) (found_in t.states) (register m r) ≡ Some f → f.base ≡ register m r
+    → Loses t f t' → IsFreed f.base y.marking y'.marking → y'.is_marking ≡ y.is_marking → y'.count ≡ y.count → IsCall (core_of roots t y) (Mutator slot (Free r)) Done (core_of roots t' y')
+freed roots t t' y y' slot r m f lawful at is base loses frees phase count = record {
   steps = λ s h.
       let found = finds (is_kept t.pending y.marking.marks) t s (register m r) f lawful h.store is in
-      let has = ap s.objects (sym base) ∙ found.1.0 in
-      let there = ap (restrict (is_kept t.pending y.marking.marks) (found_in t.states)) base ∙ is in (
+      let has = ap s.objects (sym base) ∙ found.1.0 in (
         without s (register m r ∷ []),
         Calls.acts (attached roots t y s slot m h at) (Acts.freed has),
-        subst (λ b. StandsFor (core_of roots t' y) (without s (b ∷ []))) base (record { mutators = h.mutators; globals = h.globals; store = stores_less t t' y f lawful there loses s h.store }),
+        subst (λ b. StandsFor (core_of roots t' y') (without s (b ∷ []))) base (record { mutators = h.mutators; globals = h.globals; store = stores_less t t' y y' f lawful.map there loses others s h.store }),
       );
-  phase = refl;
-  count = refl;
-  marks = λ g there marked. inl marked;
-  dirty = λ p h. inl h;
+  phase = phase;
+  count = count;
+  marks = λ g now marked. inl (sym (others (granule g.base) (left g now)) ∙ marked);
+  stays = λ g now marked. others (granule g.base) (left g now) ∙ marked;
+  came = λ marking g now none. absurd (was_kept t t' y y' f lawful.map there loses others g now none);
+  dirty = λ p h. inl (subst (λ ds. Has ds p) frees.dirty h);
+  stays_dirty = λ p h. subst (λ ds. Has ds p) (sym frees.dirty) h;
+  current = frees.current;
+  stack = frees.stack;
 }
+  where
+    there : restrict (is_kept t.pending y.marking.marks) (found_in t.states) f.base ≡ Some f
+    there = ap (restrict (is_kept t.pending y.marking.marks) (found_in t.states)) base ∙ is
+
+    others : (k : ℕ) → k ≢ granule f.base → get_or y'.marking.marks k false ≡ get_or y.marking.marks k false
+    others k ne = ap (λ ms. get_or ms k false) frees.marks ∙ get_or-set_other y.marking.marks (granule f.base) k false false ne
+
+    left : (g : Found) → restrict (is_kept t'.pending y'.marking.marks) (found_in t'.states) g.base ≡ Some g → granule g.base ≡ granule f.base → ⊥
+    left g now = apart_left t t' y y' f lawful.map there loses others g.base g (kept_cases (is_kept t'.pending y'.marking.marks) (found_in t'.states) g.base g now).0
 
 pub inside : (keep : Found → Bool) (t : Store) (s : Heap) (slot r : ℕ) (m : HeapMutator) (f : Found) → IsLawful t.states → restrict keep (found_in t.states) (register m r) ≡ Some f → f.base ≢ register m r → Stores keep t s → Acts s slot m (Free r) (Refused NotBase) s
 inside keep t s slot r m f lawful is ne stores = let found = finds keep t s (register m r) f lawful stores is in Acts.free_inside found.1 ne

@@ -1,10 +1,9 @@
 -- What the collector's view of the objects is to the heap: its closure is the heap's, and what it forgets is what goes.
-use Rattle.std.proofs.Common.{Bool, ◌≡◌, ℕ, ◌+◌, ◌-◌, ◌*◌, ◌/◌, ◌<◌, ◌≤◌, false, true, List, [], length, get_or, Contains, All, Option, Some, None, refl, sym, ap, ◌∙◌, subst, arith, cond, flat_map, ◌++◌}
+use Rattle.std.proofs.Common.{Bool, ◌≡◌, ℕ, ◌+◌, ◌*◌, List, length, get_or, Contains, Some, refl, sym, ap, ◌∙◌, subst, arith, flat_map, ◌++◌}
 use Rattle.std.specs.Prelude.{◌↔◌}
 use Rattle.std.proofs.lemmas.Option.{same_Some}
 use Rattle.std.proofs.lemmas.Bool.{false≢true}
 use Rattle.std.proofs.lemmas.List.Elements.{All-contains, All-contains_itself, All-weaker}
-use Rattle.words.specs.Bits.{Has}
 use Rattle.mark_bits.specs.Granules.{granule}
 use Rattle.heap_spec.specs.declared.reply.Reply.TheVariants.{Count}
 use Rattle.heap_spec.specs.Heap.{Heap, Object, HasObject, root_words, words_of}
@@ -23,16 +22,17 @@ use Rattle.marker.specs.Growth.{Traces}
 use Rattle.marker.proofs.Closures.{closure_more}
 use Rattle.reachability.specs.Shows.{IsFor, Shows as Sees, IsMarkedBirth}
 use Rattle.reachability.proofs.Closures.{marks_agree}
-use Rattle.roots.specs.Roots.{RootSet, root_words_of}
-use Rattle.heap_core.specs.Contents.{Contents, Store, Cycle, IsSwept}
-use Rattle.heap_core.specs.Standing.{StandsFor, Stores, Shows, IsShown, keeps}
-use Rattle.heap_core.specs.Kept.{restrict, is_kept, kept_in}
-use Rattle.heap_core.proofs.Kept.{kept_all, kept_cases, kept_is, nothing_pending}
-use Rattle.heap_core.proofs.Allocations.{shows_same}
-use Rattle.heap_core.specs.Sweeps.{IsWithout, ForgetsUnmarked, ForgetsUnreached, ForgetsLazily}
+use Rattle.roots.specs.Roots.{root_words_of}
+use Rattle.object_space.specs.Store.{Store, IsSwept}
+use Rattle.heap_core.specs.Contents.{Contents, Cycle}
+use Rattle.object_space.specs.Shown.{Shows, IsShown}
+use Rattle.heap_core.specs.Standing.{StandsFor, keeps}
+use Rattle.object_space.specs.Kept.{restrict, kept_in}
+use Rattle.object_space.proofs.Kept.{kept_all, nothing_pending}
+use Rattle.object_space.proofs.Allocations.{shows_same}
+use Rattle.object_space.specs.Sweeps.{ForgetsUnreached}
 use Rattle.heap_core.specs.Collections.{ForgetsOutside}
-use Rattle.heap_core.proofs.Shown.{at_base, one_at_base}
-use Rattle.heap_core.proofs.Sweeping.{shows_without}
+use Rattle.object_space.proofs.Sweeping.{shows_without}
 
 module _ (c : Contents) (map : IsMap (length c.store.states) (found_in c.store.states)) (swept : IsSwept c.store) (s : Heap) (h : StandsFor c s) where
   -- where nothing is to be swept, the objects of the map are the heap's
@@ -146,38 +146,3 @@ module _ (c : Contents) (map : IsMap (length c.store.states) (found_in c.store.s
     },
     stands_without t' y n x,
   )
-
--- what is closed and then forgotten lazily
-pub forgets_lazily : (old : Store) (roots : List ℕ) (m m' : Marking) (n : ℕ) (new : Store) → ForgetsLazily old m'.marks n new
-    → ((f : Found) → found_in old.states f.base ≡ Some f → IsMarked m' f.base ↔ Closure (found_in old.states) old.words roots (IsMarked m) f) → ForgetsUnreached old roots m n m'.marks new
-forgets_lazily old roots m m' n new x closes = record {
-  words = x.words;
-  pages = x.pages;
-  bases = x.bases;
-  number = x.number;
-  without = x.without;
-  outside = λ f there. (
-    (λ is inside. (x.unmarked f there).0 is ((closes f there).1 inside)),
-    (λ outside. (x.unmarked f there).1 (λ marked. outside ((closes f there).0 marked))),
-  );
-}
-
--- and where it is swept at once
-pub forgets_unreached : (old : Store) (roots : List ℕ) (m m' : Marking) (n : ℕ) (new : Store) → IsSwept new → ForgetsUnmarked old m' n new
-    → ((f : Found) → found_in old.states f.base ≡ Some f → IsMarked m' f.base ↔ Closure (found_in old.states) old.words roots (IsMarked m) f) → ForgetsUnreached old roots m n m'.marks new
-forgets_unreached old roots m m' n new swept x closes = record {
-  words = x.words;
-  pages = x.pages;
-  bases = x.bases;
-  number = x.number;
-  without = record {
-    gone = x.without.gone;
-    distinct = x.without.distinct;
-    left = λ w f e. x.without.left w f (kept_cases (is_kept new.pending m'.marks) (found_in new.states) w f e).0;
-    kept = λ w f e stays. kept_is (is_kept new.pending m'.marks) (found_in new.states) w f (x.without.kept w f e stays) (nothing_pending new.pending m'.marks f (swept f.page));
-  };
-  outside = λ f there. (
-    (λ is inside. (x.unmarked f there).0 is ((closes f there).1 inside)),
-    (λ outside. (x.unmarked f there).1 (λ marked. outside ((closes f there).0 marked))),
-  );
-}

@@ -1,20 +1,21 @@
 -- The calls of the collector, over the core as a whole.
-use Rattle.std.proofs.Common.{◌≡◌, ℕ, ◌+◌, ◌%◌, ◌<◌, true, false, Bool, List, [], length, Contains, refl, sym, ap, ◌∙◌, subst, arith}
+use Rattle.std.proofs.Common.{◌≡◌, ℕ, ◌+◌, ◌%◌, true, false, List, [], length, Contains, refl, sym, ◌∙◌, arith}
 use Rattle.block_map.specs.FoundIn.{found_in}
 use Rattle.block_map.specs.Objects.{IsMap}
 use Rattle.heap_spec.specs.Heap.{Heap}
 use Rattle.heap_spec.specs.Layout.{word_end}
-use Rattle.marker.specs.Marking.{Marking, IsMarked, IsFresh}
+use Rattle.marker.specs.Marking.{Marking, IsFresh}
 use Rattle.marker.specs.Growth.{Traces}
-use Rattle.roots.specs.Roots.{RootSet, root_words_of}
-use Rattle.heap_core.specs.Contents.{Contents, Store, Cycle, IsSwept}
+use Rattle.roots.specs.Roots.{root_words_of}
+use Rattle.object_space.specs.Store.{Store, IsSwept}
+use Rattle.heap_core.specs.Contents.{Contents, Cycle}
 use Rattle.heap_core.specs.Standing.{StandsFor}
-use Rattle.heap_core.specs.Sweeps.{ForgetsUnreached, Sweeps}
-use Rattle.heap_core.specs.Kept.{restrict, is_kept, IsPendingAfter}
-use Rattle.heap_core.proofs.Kept.{kept_same, nothing_pending}
-use Rattle.heap_core.proofs.Allocations.{shows_same}
+use Rattle.object_space.specs.Sweeps.{ForgetsUnreached, Sweeps}
+use Rattle.object_space.specs.Kept.{restrict, is_kept, IsPendingAfter}
+use Rattle.object_space.proofs.Kept.{kept_same, nothing_pending}
+use Rattle.object_space.proofs.Allocations.{shows_same}
 use Rattle.heap_core.proofs.Calls.{swept_stands}
-use Rattle.heap_core.specs.Collections.{BeginsCycle, MarksOn, EndsCycle, EndsMarking, CollectsAll}
+use Rattle.heap_core.specs.Collections.{BeginsCycle, MarksOn, EndsCycle, CollectsAll}
 use Rattle.heap_core.proofs.Collecting.{grows_within, ends, collects}
 
 none_in : (w : ℕ) → Contains [] w → ⊥

@@ -1,5 +1,5 @@
 -- How a core follows a run.
-use Rattle.std.proofs.Common.{Result, Ok, Err, ◌++◌, length, take, get_or, set, ◌≡◌, ℕ, ◌+◌, ◌%◌, ◌<◌, ◌≤◌, ◌⊎◌, Bool, true, false, List, [], ◌∷◌, Contains, Option, Some, None, refl, sym, ap, ◌∙◌, subst, inl, inr, ⊎_elim, arith}
+use Rattle.std.proofs.Common.{Result, Ok, Err, ◌++◌, length, take, get_or, set, ◌≡◌, ℕ, ◌+◌, ◌%◌, ◌<◌, ◌≤◌, ◌⊎◌, true, false, List, [], ◌∷◌, Some, None, refl, sym, ap, ◌∙◌, subst, inl, inr, ⊎_elim, arith}
 use Rattle.std.specs.Prelude.{⊤}
 use Rattle.std.proofs.lemmas.List.{take_more, take_more_set, take_all, length-take-le}
 use Rattle.words.specs.declared.refusal.Refusal.{Refusal}
@@ -7,32 +7,27 @@ use Rattle.words.specs.declared.refusal.Refusal.TheVariants.{WrongPhase}
 use Rattle.heap_spec.specs.Replies.{done_reply, count_reply}
 use Rattle.roots.specs.Roots.{root_words_of}
 use Rattle.std.proofs.lemmas.Bool.{false≢true}
-use Rattle.std.proofs.lemmas.Option.{same_Some}
 use Rattle.mark_bits.specs.Granules.{granule}
-use Rattle.heap_spec.specs.declared.call.Call.{Call}
 use Rattle.heap_spec.specs.declared.event.Event.{Event}
 use Rattle.heap_spec.specs.declared.event.Event.TheVariants.{Attach, Mutator, Begin, Roots, Mark, Retrace, Finish, Sweep, Collect, Number}
 use Rattle.heap_spec.specs.declared.reply.Reply.{Reply}
 use Rattle.heap_spec.specs.declared.reply.Reply.TheVariants.{Done, Count, Refused}
 use Rattle.heap_spec.specs.Layout.{word_end}
-use Rattle.heap_spec.specs.Heap.{Heap, Object, Mutator as HeapMutator, HasObject}
+use Rattle.heap_spec.specs.Heap.{Heap, Object, HasObject}
 use Rattle.heap_spec.specs.Closure.{Closure, IsInClosure, given}
-use Rattle.heap_spec.specs.Cycles.{Forgets, CollectsFully, TakesOut}
 use Rattle.heap_spec.specs.Histories.{Happens}
-use Rattle.heap_spec.specs.Laws.{HasDistinctBirths}
-use Rattle.heap_spec.specs.Steps.{Step, Acts, Calls, Attaches}
+use Rattle.heap_spec.specs.Steps.{Step}
 use Rattle.heap_spec.specs.Runs.{Start, Run, Told, heap_after, is_marking, marking_after, count, counted, goes_on, Touched, touched_after, IsBornSince}
 use Rattle.heap_spec.specs.Transcripts.{LineOf, LegalTranscript}
 use Rattle.heap_spec.proofs.Births.{step_births}
 use Rattle.heap_spec.proofs.Closures.{closure_mono}
 use Rattle.heap_spec.proofs.Runs.{touched_closed}
-use Rattle.block_map.specs.declared.found.Found.{Found}
 use Rattle.marker.specs.Marking.{IsMarked}
 use Rattle.reachability.specs.Shows.{IsMarkedBirth}
 use Rattle.heap_core.specs.Contents.{Contents, Cycle}
 use Rattle.heap_core.specs.Standing.{StandsFor, objects_of}
 use Rattle.heap_core.specs.Calls.{IsCall}
-use Rattle.heap_core.specs.Collections.{IsGrantedIn, IsAlwaysGranted, BeginsCycle, MarksOn, ReadsRoots, TakesWords, RetracesPage, ReadsPage, EndsCycle, EndsMarking, CollectsAll, ForgetsOutside, SweepsOne}
+use Rattle.heap_core.specs.Collections.{IsGrantedIn, IsAlwaysGranted, BeginsCycle, MarksOn, ReadsRoots, TakesWords, RetracesPage, ReadsPage, EndsCycle, CollectsAll, SweepsOne}
 use Rattle.heap_core.specs.Following.{Follows, IsLine, AreLines, told_of}
 
 -- what a step is to a run

@@ -1,5 +1,5 @@
 -- The calls that look an address up: which object of the heap it reads.
-use Rattle.std.proofs.Common.{inl, inr, ⊎_elim, ◌≡◌, ℕ, ◌-◌, ◌*◌, ◌/◌, ◌%◌, ◌<◌, length, set, Some, None, refl, sym, ◌∙◌, subst, arith}
+use Rattle.std.proofs.Common.{inl, inr, ⊎_elim, ◌≡◌, ℕ, ◌-◌, ◌*◌, ◌/◌, ◌%◌, ◌<◌, length, set, Some, None, refl, sym, ◌∙◌, subst, arith, ap}
 use Rattle.heap_spec.specs.declared.call.Call.TheVariants.{Load, Store as StoreCall, Base, Size}
 use Rattle.heap_spec.specs.declared.event.Event.TheVariants.{Mutator}
 use Rattle.heap_spec.specs.declared.reply.Reply.TheVariants.{Done, Word, Count}
@@ -12,16 +12,18 @@ use Rattle.pages.specs.Memory.{IsWordAddress, place, word_at, with_word_at}
 use Rattle.block_map.specs.FoundIn.{found_in, IsLawful}
 use Rattle.block_map.specs.declared.found.Found.{Found}
 use Rattle.roots.specs.Roots.{RootSet, HasMutator, SetsWord}
-use Rattle.heap_core.specs.Contents.{Store, Cycle}
+use Rattle.object_space.specs.Store.{Store}
+use Rattle.heap_core.specs.Contents.{Cycle}
 use Rattle.heap_core.specs.Calls.{IsCall}
 use Rattle.heap_core.specs.Beside.{NotesWrite}
 use Rattle.std.specs.Prelude.{Bool}
-use Rattle.heap_core.specs.Kept.{restrict, is_kept}
-use Rattle.heap_core.specs.Standing.{StandsFor, Stores, Shows, IsShown}
-use Rattle.heap_core.proofs.Kept.{kept_map}
-use Rattle.heap_core.proofs.Shown.{reads_object, reads_nothing, word_read, is_word}
-use Rattle.heap_core.proofs.Changes.{shows_stored}
-use Rattle.heap_core.proofs.Roots.{core_of, attached, stands_set, quiet}
+use Rattle.object_space.specs.Kept.{restrict, is_kept}
+use Rattle.object_space.specs.Shown.{Stores, Shows, IsShown}
+use Rattle.heap_core.specs.Standing.{StandsFor}
+use Rattle.object_space.proofs.Kept.{kept_map}
+use Rattle.object_space.proofs.Shown.{reads_object, reads_nothing, word_read, is_word}
+use Rattle.object_space.proofs.Changes.{shows_stored}
+use Rattle.heap_core.proofs.Roots.{core_of, attached, stands_set, quiet, none_some}
 
 -- an address that finds a kept object reads it in the heap
 pub finds : (keep : Found → Bool) (t : Store) (s : Heap) (w : ℕ) (f : Found) → IsLawful t.states → Stores keep t s → restrict keep (found_in t.states) w ≡ Some f → (o : Object) × ReadsObject s w f.base o × IsShown t.words f o
@@ -74,8 +76,16 @@ stores roots t t' y y' slot a n r m f lawful long at aligned is writes notes pha
   phase = phase;
   count = count;
   marks = λ g there marked. inl (subst (λ ms. Has ms (granule g.base)) notes.marks marked);
+  stays = λ g there marked. subst (λ ms. Has ms (granule g.base)) (sym notes.marks) marked;
+  came = λ is g there none. absurd (none_some g (sym none ∙ sym (same g.base) ∙ there));
   dirty = λ p h. ⊎_elim (λ old. inl old) (λ same. inr (m, at, same)) (notes.dirty p h);
+  stays_dirty = notes.stays_dirty;
+  current = notes.current;
+  stack = notes.stack;
 }
+  where
+    same : (b : ℕ) → restrict (is_kept t'.pending y'.marking.marks) (found_in t'.states) b ≡ restrict (is_kept t.pending y.marking.marks) (found_in t.states) b
+    same b = ap (λ (x : Store). restrict (is_kept x.pending y'.marking.marks) (found_in x.states) b) writes ∙ ap (λ ms. restrict (is_kept t.pending ms) (found_in t.states) b) notes.marks
 
 pub based : (roots roots' : RootSet) (t : Store) (y : Cycle) (slot d a : ℕ) (m : HeapMutator) (f : Found) → IsLawful t.states → HasMutator roots slot m → restrict (is_kept t.pending y.marking.marks) (found_in t.states) (register m a) ≡ Some f
     → SetsWord roots slot d f.base roots' → IsCall (core_of roots t y) (Mutator slot (Base d a)) (Word f.base) (core_of roots' t y)

@@ -1,5 +1,5 @@
 -- What the roots of a core are to the heap that it stands for.
-use Rattle.std.proofs.Common.{inl, ◌≡◌, ℕ, set, Some, refl, sym, ap, ◌∙◌, subst}
+use Rattle.std.proofs.Common.{inl, ◌≡◌, ℕ, set, Some, None, refl, sym, ap, ◌∙◌, subst}
 use Rattle.std.specs.Prelude.{slice_get}
 use Rattle.words.specs.declared.refusal.Refusal.{Refusal}
 use Rattle.words.specs.declared.refusal.Refusal.TheVariants.{NoSlot}
@@ -11,16 +11,22 @@ use Rattle.heap_spec.specs.declared.reply.Reply.TheVariants.{Refused}
 use Rattle.heap_spec.specs.Heap.{Heap, Mutator as HeapMutator, IsAttached}
 use Rattle.heap_spec.specs.Replies.{IsStep}
 use Rattle.heap_spec.specs.Steps.{Acts, Calls, Step}
+use Rattle.block_map.specs.declared.found.Found.{Found}
 use Rattle.roots.specs.Roots.{RootSet, HasMutator, HasNoMutator, with_word, with_roots, SetsWord, StepsRoots}
 use Rattle.roots.proofs.Steps.{set_mutators}
-use Rattle.heap_core.specs.Contents.{Contents, Store, Cycle}
+use Rattle.object_space.specs.Store.{Store}
+use Rattle.heap_core.specs.Contents.{Contents, Cycle}
 use Rattle.heap_core.specs.Calls.{IsCall}
-use Rattle.heap_core.specs.Kept.{is_kept}
-use Rattle.heap_core.specs.Standing.{StandsFor, Stores}
+use Rattle.object_space.specs.Kept.{is_kept}
+use Rattle.object_space.specs.Shown.{Stores}
+use Rattle.heap_core.specs.Standing.{StandsFor}
 
 -- the core of these
 abbrev pub core_of : RootSet → Store → Cycle → Contents
 core_of roots t y = record { roots = roots; store = t; cycle = y }
+
+pub none_some : (f : Found) → None ≡ Some f → ⊥
+none_some f e = cc
 
 -- a call that leaves the store and the cycle as they are
 pub quiet : (c : Contents) (roots : RootSet) (event : Event) (reply : Reply) → IsStep (StandsFor c) event reply (StandsFor (record c { roots = roots })) → IsCall c event reply (record c { roots = roots })
@@ -29,7 +35,12 @@ quiet c roots event reply steps = record {
   phase = refl;
   count = refl;
   marks = λ f is m. inl m;
+  stays = λ f is m. m;
+  came = λ is f there none. absurd (none_some f (sym none ∙ there));
   dirty = λ p h. inl h;
+  stays_dirty = λ p h. h;
+  current = refl;
+  stack = refl;
 }
 
 -- a step that changes no more than the roots

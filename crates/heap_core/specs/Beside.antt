@@ -16,13 +16,19 @@ pub record NotesWrite (is_marking : Bool) (address : ℕ) (old new : Marking) : 
   pub marks : new.marks ≡ old.marks
   pub dirty_len : length new.dirty ≡ length old.dirty
   pub dirty : (p : ℕ) → Has new.dirty p → Has old.dirty p ⊎ (p ≡ page_of address)
+  pub stays_dirty : (p : ℕ) → Has old.dirty p → Has new.dirty p
+  pub current : new.current ≡ old.current
+  pub stack : new.stack ≡ old.stack
   pub keeps : is_marking ≡ true → (found : ℕ → Option Found) (words : List ℕ) (w : ℕ) → DirtyPageInvariant found words old → DirtyPageInvariant found (with_word_at words address w) new
 
 -- An object of zero words came at the base: it at most has become marked, and the invariant stays.
 pub record NotesObject (is_marking : Bool) (base : ℕ) (old new : Marking) : Type 0 where
-  pub marks_len : length new.marks ≡ length old.marks
   pub marks : (b : ℕ) → IsMarked new b → IsMarked old b ⊎ (granule b ≡ granule base)
   pub others : (k : ℕ) → k ≢ granule base → slice_index_or new.marks k false ≡ slice_index_or old.marks k false
+  pub stays : (k : ℕ) → Has old.marks k → Has new.marks k
+  pub marked : is_marking ≡ true → IsMarked new base
   pub dirty : new.dirty ≡ old.dirty
+  pub current : new.current ≡ old.current
+  pub stack : new.stack ≡ old.stack
   pub keeps : is_marking ≡ true → (pages : ℕ) (found after : ℕ → Option Found) (words words' : List ℕ) (f : Found) → f.base ≡ base → IsMap pages after → after base ≡ Some f → IsAdded found after f → KeepsWords found words words' → HasZeroWords words' f
       → DirtyPageInvariant found words old → DirtyPageInvariant after words' new

@@ -1,5 +1,5 @@
 -- What calls of the collector do to a core.
-use Rattle.std.specs.Prelude.{◌≡◌, ℕ, ◌+◌, ◌%◌, ◌<◌, ◌≤◌, Bool, true, false, List, [], length, count_by, Contains, Result, Ok, Err, if◌then◌else◌, Option, Some, None}
+use Rattle.std.specs.Prelude.{◌≡◌, ℕ, ◌+◌, ◌%◌, ◌<◌, ◌≤◌, Bool, true, false, List, [], length, count_by, Contains, Result, Ok, Err, if◌then◌else◌}
 use Rattle.words.specs.declared.refusal.Refusal.{Refusal}
 use Rattle.words.specs.declared.refusal.Refusal.TheVariants.{WrongPhase}
 use Rattle.heap_spec.specs.declared.reply.Reply.{Reply}
@@ -8,15 +8,16 @@ use Rattle.heap_spec.specs.Layout.{word_end}
 use Rattle.heap_spec.specs.Heap.{Heap, Object, HasObject}
 use Rattle.heap_spec.specs.Closure.{Closure}
 use Rattle.heap_spec.specs.Cycles.{TakesOut, CollectsFully}
-use Rattle.marker.specs.Marking.{Marking, IsMarked, IsFresh, IsEmpty, IsClean}
+use Rattle.marker.specs.Marking.{IsMarked, IsFresh, IsEmpty, IsClean}
 use Rattle.marker.specs.Invariant.{AreRootsMarked}
 use Rattle.marker.specs.Growth.{Traces}
-use Rattle.marker.specs.Entries.{Takes, TakesOff, IsInOrder}
+use Rattle.marker.specs.Entries.{Takes, TakesOff}
 use Rattle.marker.specs.Retracing.{Retraces}
 use Rattle.reachability.specs.Shows.{IsMarkedBirth}
 use Rattle.roots.specs.Roots.{root_words_of}
-use Rattle.heap_core.specs.Contents.{Contents, IsSwept}
-use Rattle.heap_core.specs.Kept.{IsPendingAfter}
+use Rattle.object_space.specs.Store.{IsSwept}
+use Rattle.heap_core.specs.Contents.{Contents}
+use Rattle.object_space.specs.Kept.{IsPendingAfter}
 use Rattle.block_map.specs.FoundIn.{found_in}
 use Rattle.heap_core.specs.Standing.{StandsFor}
 
@@ -60,12 +61,11 @@ pub record TakesWords (asked : ℕ) (old : Contents) (n : ℕ) (new : Contents) 
   pub fewer : n < asked → IsEmpty new.cycle.marking
   pub takes : Takes (found_in old.store.states) old.store.words old.cycle.marking n new.cycle.marking
   pub taken : TakesOff (found_in old.store.states) old.store.words old.cycle.marking new.cycle.marking
-  pub order : IsInOrder (found_in old.store.states) old.store.words old.cycle.marking new.cycle.marking
 
 -- A page was read again, the lowest that was dirty, or none was dirty and nothing has changed.
 pub data ReadsPage (old new : Contents) : ℕ → Type 0 where
   none : IsClean old.cycle.marking → new ≡ old → ReadsPage old new 0
-  page : (p : ℕ) → Retraces (found_in old.store.states) p old.cycle.marking new.cycle.marking → ReadsPage old new 1
+  page : (p : ℕ) → Retraces (found_in old.store.states) old.store.words p old.cycle.marking new.cycle.marking → ReadsPage old new 1
 
 pub record RetracesPage (old : Contents) (n : ℕ) (new : Contents) : Type 0 where
   pub marks : MarksOn [] old new

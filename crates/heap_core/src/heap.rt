@@ -10,9 +10,9 @@ mod events;
 mod objects;
 mod registers;
 
-use crate::objects::Objects;
 use arrayvec::ArrayVec;
 use marker::Marker;
+use object_space::ObjectSpace;
 use roots::{ROOT_WORDS, Roots};
 use std::alloc::Global;
 use std::marker::Model;
@@ -22,7 +22,7 @@ use words::OpenError;
 #[derive(Drop)]
 pub struct Core {
     roots: Roots,
-    objects: Objects,
+    objects: ObjectSpace,
     marker: Marker,
     is_marking: bool,
     count: u64,
@@ -48,7 +48,7 @@ impl Core {
     pub fn new(alloc: Global, pages: u32) -> Result<Core, OpenError>
         ensures { IsOpened pages result (λ core. StandsFor core (opening pages) × (core.cycle.is_marking ≡ false) × (core.cycle.count ≡ 0)) }
     {
-        let objects = Objects::new(alloc, pages)?;
+        let objects = ObjectSpace::new(alloc, pages)?;
         let marker = Marker::new(alloc, pages)?;
         Ok(Core {
             roots: Roots::new(),

@@ -4,7 +4,9 @@
 #![tactic(auto)]
 
 mod heap;
-mod objects;
+mod object;
+pub mod quiet;
+mod ranges;
 
 pub use heap::Core;
 pub use heap_spec::{Event, Reply};

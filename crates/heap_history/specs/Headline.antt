@@ -1,6 +1,7 @@
 -- The headline, of a heap of so many pages.
-use Rattle.std.specs.Prelude.{◌≢◌, ℕ}
-use Rattle.words.specs.declared.refusal.Refusal.TheVariants.{NoSlot}
+use Rattle.std.specs.Prelude.{◌≡◌, ◌≢◌, ℕ, Bool, not, Result, Ok, Err}
+use Rattle.words.specs.declared.refusal.Refusal.{Refusal}
+use Rattle.words.specs.declared.refusal.Refusal.TheVariants.{NoSlot, WrongPhase}
 use Rattle.history.specs.Headline as headline
 use Rattle.heap_spec.specs.declared.call.Call.{Call}
 use Rattle.heap_spec.specs.declared.event.Event.{Event}
@@ -9,7 +10,7 @@ use Rattle.heap_spec.specs.declared.reply.Reply.{Reply}
 use Rattle.heap_spec.specs.declared.reply.Reply.TheVariants.{Slot, Refused}
 use Rattle.heap_spec.specs.SequentialObject.{Opens, StateStep}
 use Rattle.heap_history.specs.Ranks.{rank_of}
-use Rattle.heap_history.specs.Passes.{HeapPass}
+use Rattle.heap_history.specs.Passes.{HeapPass, is_marking}
 
 -- The event has this reply at one point of one growing legal history of such a heap, which begins with all that the caller's pass had
 -- seen, ends with the event, and holds the caller's own events since its attach, each once, in their order.
@@ -28,3 +29,9 @@ Begun pages pass = headline.Begun rank_of (Opens pages) StateStep pass Attach (S
 pub record Makes (pages : ℕ) (old : HeapPass) (call : Call) (reply : Reply) (new : HeapPass) : Type 0 where
   pub extends : Extends pages old (Mutator old.slot call) reply new
   pub has_slot : reply ≢ Refused NoSlot
+
+-- A call of the collector in one phase alone, which the collector's own events tell: granted exactly in that phase it is an event, and
+-- refused it is none.
+abbrev pub IsGrantedIn : {A : Type 0} → Bool → ℕ → HeapPass → Event → (A → Reply) → Result A Refusal → HeapPass → Type 0
+IsGrantedIn phase pages old asked told (Ok x) new = (is_marking old.mine ≡ phase) × Extends pages old asked (told x) new
+IsGrantedIn phase pages old asked told (Err refusal) new = (is_marking old.mine ≡ not phase) × (refusal ≡ WrongPhase) × Looks pages old new

@@ -1,9 +1,8 @@
 //! What calls of mutators tell the marker, while a cycle is marking.
-ghost use Rattle.std.specs.Prelude.{◌≡◌, ◌<◌, ◌≤◌, length};
-ghost use Rattle.words.specs.declared.limits.TheConstants.{FIRST_ADDRESS};
+ghost use Rattle.std.specs.Prelude.{◌≡◌, ◌*◌, ◌<◌, ◌≤◌, length};
+ghost use Rattle.words.specs.declared.limits.TheConstants.{FIRST_ADDRESS, PAGE_GRANULES};
 ghost use Rattle.mark_bits.specs.Granules.{granule};
 ghost use Rattle.block_map.specs.Places.{page_of};
-ghost use Rattle.marker.specs.Marking.{IsSized};
 ghost use Rattle.heap_core.specs.Beside.{NotesWrite, NotesObject};
 
 use marker::Marker;
@@ -11,7 +10,6 @@ use marker::Marker;
 // A word was written at the address.
 #[inline]
 pub(crate) fn note_write(marker: &mut Marker, is_marking: bool, address: u64)
-    requires sized { IsSized (length marker.old.dirty) marker.old }
     requires low { FIRST_ADDRESS ≤ address }
     requires inside { page_of address < length marker.old.dirty }
     ensures { NotesWrite is_marking address marker.old marker.new }
@@ -25,9 +23,11 @@ pub(crate) fn note_write(marker: &mut Marker, is_marking: bool, address: u64)
 #[inline]
 pub(crate) fn note_object(marker: &mut Marker, is_marking: bool, base: u64)
     requires low { FIRST_ADDRESS ≤ base }
-    requires inside { granule base < length marker.old.marks }
+    requires inside { granule base < PAGE_GRANULES * length marker.old.dirty }
     ensures { NotesObject is_marking base marker.old marker.new }
 {
+    // Its clauses tell how many marks there are.
+    marker.laws();
     if is_marking {
         marker.allocated(base);
     }

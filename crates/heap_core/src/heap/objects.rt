@@ -131,8 +131,10 @@ impl Core {
         if found.base != word {
             return Err(Refusal::NotBase);
         }
+        // Its clauses tell how many marks there are.
+        self.marker.laws();
         self.objects.release(found);
-        self.marker.freed();
+        self.marker.freed(word);
         Ok(())
     }
 }

@@ -1,5 +1,7 @@
 //! The calls that touch nothing but the roots. Each is refused with [`Refusal::NoSlot`] exactly if the slot has no mutator,
 //! and else as it says; a refused call changes nothing.
+ghost use Rattle.std.specs.Prelude.{MatchOption};
+ghost use Rattle.roots.specs.Roots.{HasNoSlot, IsNextSlot};
 ghost use Rattle.heap_spec.specs.Replies.{done_reply, slot_reply, word_reply};
 ghost use Rattle.heap_core.specs.Calls.{IsCall};
 
@@ -8,6 +10,13 @@ use heap_spec::{Call, Event};
 use words::{Global, Refusal, Reg, Slot};
 
 impl Core {
+    /// The lowest slot that has no mutator, which the next one to come gets.
+    pub fn vacant(&self) -> Option<Slot>
+        ensures { MatchOption result (HasNoSlot self.now.roots) (λ slot. IsNextSlot self.now.roots slot) }
+    {
+        self.roots.vacant()
+    }
+
     /// A mutator comes, into the lowest slot that has none, with registers of 0 and an empty stack.
     #[inline]
     pub fn attach(&mut self) -> Result<Slot, Refusal>

@@ -2,7 +2,7 @@ use Rattle.std.proofs.Common.{refl, sym, arith}
 use Rattle.heap_core.proofs.Tracing.{traced_object, traced_swept}
 use Rattle.heap_spec.specs.Steps.{Acts}
 use Rattle.heap_core.proofs.Calls.{allocated, full}
-use Rattle.heap_core.proofs.Placing.{sized}
+use Rattle.object_space.proofs.Placing.{sized}
 use Rattle.heap_core.proofs.Roots.{refused, refused_vacant}
 use Rattle.heap_core.proofs.heap.Core.alloc.Goals as goal
 
@@ -32,7 +32,7 @@ note_object-requires-clause-inside c =
     let a = c.in-Some-allocate.ensures in
     let g = a.gains in
     let below = (g.map.placed _ g.object g.found).below in let some = (g.map.placed _ g.object g.found).some in let above = (g.map.placed _ g.object g.found).above in
-    let at = g.at in let pages = g.pages in let before = a.sweeps.pages in let size = c.self.invariant.sized.marks in
+    let at = g.at in let pages = g.pages in let before = a.sweeps.pages in let size = c.self.invariant.pages in
     omega arith
 
 pub invariant_of-self-2 : goal.invariant_of-self-2

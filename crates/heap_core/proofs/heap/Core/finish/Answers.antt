@@ -1,6 +1,6 @@
 use Rattle.std.proofs.Common.{◌≡◌, refl, subst, ◌∙◌}
 use Rattle.roots.specs.Roots.{root_words_of}
-use Rattle.heap_core.specs.Sweeps.{ForgetsUnreached}
+use Rattle.object_space.specs.Sweeps.{ForgetsUnreached}
 use Rattle.heap_core.proofs.Cycling.{ends_cycle}
 use Rattle.heap_core.proofs.heap.Core.finish.Goals as goal
 

@@ -11,9 +11,8 @@ returns c = rw (← c.self.view_is) (
   record {
     marks = marks_more _ _ c.mark-marked.ensures.lawful.map (c.self.invariant.swept c.if-not-self.false) c.mark-marked.ensures.traces;
     most = c.mark-marked.ensures.read;
-    fewer = λ lt. c.mark-marked.ensures.empty (c.mark-marked.ensures.fewer lt);
+    fewer = c.mark-marked.ensures.fewer;
     takes = c.mark-marked.ensures.takes;
     taken = c.mark-marked.ensures.taken;
-    order = c.mark-marked.ensures.order;
   },
 )

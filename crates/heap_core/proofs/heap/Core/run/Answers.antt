@@ -1,4 +1,4 @@
-use Rattle.std.proofs.Common.{sym, ◌∙◌, arith}
+use Rattle.std.proofs.Common.{arith}
 use Rattle.heap_core.proofs.Following.{no_lines, run_more, run_all}
 use Rattle.heap_core.proofs.heap.Core.run.Goals as goal
 

@@ -1,4 +1,4 @@
-use Rattle.std.proofs.Common.{◌≡◌, length, take}
+use Rattle.std.proofs.Common.{take}
 use Rattle.heap_core.specs.Following.{AreLines, told_of}
 use Rattle.heap_core.proofs.heap.Core.run.Given as goal
 

@@ -1,9 +1,9 @@
 use Rattle.std.proofs.Common.{refl, sym, arith}
 use Rattle.heap_core.proofs.Tracing.{traced_write}
 use Rattle.heap_spec.specs.Steps.{Acts}
-use Rattle.heap_core.proofs.Kept.{kept_map}
+use Rattle.object_space.proofs.Kept.{kept_map}
 use Rattle.heap_core.proofs.Roots.{refused, refused_vacant}
-use Rattle.heap_core.proofs.Shown.{is_word}
+use Rattle.object_space.proofs.Shown.{is_word}
 use Rattle.heap_core.proofs.Lookups.{finds_nothing, stores}
 use Rattle.heap_core.proofs.heap.Core.store.Goals as goal
 
@@ -25,7 +25,7 @@ write-requires c = is_word _ _ (kept_map _ _ _ c.in-Some-find.ensures.lawful.map
 pub note_write-requires-clause-inside : goal.note_write-requires-clause-inside
 note_write-requires-clause-inside c =
     let here = is_word _ _ (kept_map _ _ _ c.in-Some-find.ensures.lawful.map) _ c.in-Some-find.ensures.long _ c.in-Some-find.field-0 (sym c.in-Some-find.ensures.found) c.if-target-ne0.false in
-    let size = c.self.invariant.sized.dirty in let long = c.in-Some-find.ensures.long in let below = here.below in let above = here.above in
+    let size = c.self.invariant.pages in let long = c.in-Some-find.ensures.long in let below = here.below in let above = here.above in
     omega arith
 
 pub invariant_of-self : goal.invariant_of-self

@@ -1,4 +1,3 @@
-use Rattle.heap_core.specs.Contents.{Cycle}
 use Rattle.heap_core.proofs.Tracing.{traced_swept}
 use Rattle.heap_core.proofs.heap.Core.sweep.Goals as goal
 

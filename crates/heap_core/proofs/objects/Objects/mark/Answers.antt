@@ -1,7 +1,0 @@
-use Rattle.heap_core.proofs.objects.Objects.mark.Goals as goal
-
-pub returns-clause-taken : goal.returns-clause-taken
-returns-clause-taken c = rw (← c.self.view_is, ← c.new-reader.ensures.words) c.step.ensures.taken
-
-pub returns-clause-order : goal.returns-clause-order
-returns-clause-order c = rw (← c.self.view_is, ← c.new-reader.ensures.words) c.step.ensures.order

@@ -1,4 +1,0 @@
-use Rattle.heap_core.proofs.objects.Objects.mark_roots.Goals as goal
-
-pub returns-clause-traces : goal.returns-clause-traces
-returns-clause-traces c = rw (← c.self.view_is) (c.scan_roots.ensures.traces c.self.inside.memory)

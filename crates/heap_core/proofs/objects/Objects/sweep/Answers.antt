@@ -1,6 +1,0 @@
-use Rattle.std.proofs.Common.{sym, ◌∙◌}
-use Rattle.heap_core.proofs.Swept.{sweeps_page}
-use Rattle.heap_core.proofs.objects.Objects.sweep.Goals as goal
-
-pub returns-clause-sweeps : goal.returns-clause-sweeps
-returns-clause-sweeps c = sweeps_page _ _ _ _ (rw (← c.self.view_is) c.in-Some.ensures.member) c.sweep_page.ensures

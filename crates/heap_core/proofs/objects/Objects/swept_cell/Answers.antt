@@ -1,6 +1,0 @@
-use Rattle.std.proofs.Common.{sym, ◌∙◌}
-use Rattle.heap_core.proofs.Swept.{sweeps_page, sweeps_more}
-use Rattle.heap_core.proofs.objects.Objects.swept_cell.Goals as goal
-
-pub loop-page-preserved : goal.loop-page-preserved
-loop-page-preserved c = sweeps_more _ _ _ _ c.loop-page.invariant (sweeps_page _ _ _ _ (rw (← c.self.view_is) (sym c.is_set.ensures ∙ c.if-not-is_set.false)) c.sweep_page.ensures)
