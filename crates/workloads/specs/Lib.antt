@@ -1,2 +1,0 @@
-pub mod Workloads
-pub mod Reading
