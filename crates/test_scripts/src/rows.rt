@@ -3,8 +3,10 @@
 use crate::collections::{COLLECTIONS, THOUSAND_LONG_LIST};
 use crate::scene::Scene;
 use crate::tables::{EDGES, REPEATED, ROWS, Repeated};
+use scripts::run_bytes;
 use std::process::Abort;
 use std::test::Fail;
+use words::limits::MAX_PAGES;
 
 #[test]
 fn rows_print_their_replies(rt: HostRuntime) -> Result<(), Fail> {
@@ -89,4 +91,15 @@ fn an_overflowing_mark_stack_loses_nothing(rt: HostRuntime) -> Result<(), Fail> 
     check_overflow(&rt, &mut scene, "mark_stack_overflow", cycle)?;
     let full = ("gc collect\n", "0\n");
     check_overflow(&rt, &mut scene, "mark_stack_overflow_in_collect", full)
+}
+
+/// The same from bytes to bytes.
+#[test]
+fn rows_go_from_bytes_to_bytes(rt: HostRuntime) {
+    for row in &COLLECTIONS {
+        assert!(rt; 1 <= row.pages && row.pages <= MAX_PAGES, "{row.name}");
+        let (replies, answer) = run_bytes(rt.alloc(), row.script.as_bytes(), row.pages);
+        assert_eq!(rt; answer, Ok(()), "{row.name}");
+        assert_eq!(rt; replies.as_slice(), row.replies.as_bytes(), "{row.name}");
+    }
 }
