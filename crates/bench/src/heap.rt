@@ -22,18 +22,16 @@ impl Model for Heap {
     ghost use Rattle.std.specs.Prelude.{◌≡◌, ◌*◌, ℕ, List, length};
     ghost use Rattle.words.specs.declared.limits.TheConstants.{PAGE_WORDS};
     ghost use Rattle.block_map.specs.States.{PageState};
-    ghost use Rattle.marker.specs.Marking.{IsSized};
 
     ghost Value = { List PageState };
 
     ghost view = { λ h. h.map };
 
-    ghost invariant = { λ h. IsSized (length h.map) h.marker × (length h.memory ≡ PAGE_WORDS * length h.map) };
+    ghost invariant = { λ h. (length h.marker.dirty ≡ length h.map) × (length h.memory ≡ PAGE_WORDS * length h.map) };
 }
 
 impl Heap {
-    /// So many pages, the first of them one large object, if it is to have pages. `None` for want of memory, or out of
-    /// range.
+    /// So many pages, the first of them one large object, if it is to have pages. `None` out of memory, or out of range.
     pub(crate) fn open(alloc: Global, pages: u32, large: u32) -> Option<Heap> {
         let Ok(mut map) = BlockMap::new(alloc, pages) else {
             return None;
@@ -44,9 +42,7 @@ impl Heap {
         let Ok(marker) = Marker::new(alloc, pages) else {
             return None;
         };
-        if 0 < large && large <= pages {
-            map.cut_large(0, large, Kind::Normal);
-        }
+        map::cut_large(&mut map, 0, large, Kind::Normal);
         Some(Heap {
             map,
             memory,

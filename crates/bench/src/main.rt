@@ -3,6 +3,7 @@
 #![tactic(auto)]
 
 mod calls;
+mod collections;
 mod figures;
 mod heap;
 mod maps;
@@ -16,5 +17,6 @@ fn main(rt: HostRuntime) -> io::Result<()> {
     maps::measure(&rt, rt.alloc())?;
     marks::measure(&rt, rt.alloc())?;
     calls::measure(&rt, rt.alloc())?;
+    collections::measure(&rt, rt.alloc())?;
     marking::measure(&rt, rt.alloc())
 }

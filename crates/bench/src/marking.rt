@@ -30,8 +30,8 @@ fn object(number: u64) -> u64 {
     FIRST_ADDRESS.wrapping_add(number.wrapping_mul(GRANULE_BYTES))
 }
 
-// Which objects the two words of an object read.
-fn targets(shape: &str, number: u64, count: u64) -> (u64, u64) {
+/// Which objects the two words of an object read.
+pub(crate) fn targets(shape: &str, number: u64, count: u64) -> (u64, u64) {
     let count = count.max(1);
     let spread = number.wrapping_mul(1_741).wrapping_add(54_321) % count;
     match shape {

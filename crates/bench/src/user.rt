@@ -4,31 +4,35 @@ use std::alloc::Global;
 use words::limits::MAX_PAGES;
 use words::{Kind, Reg, Slot};
 
-/// A heap of the most pages, its mutator, and two of its registers.
+/// A heap of the most pages, its mutator, and three of its registers. The last one keeps what it has.
 #[derive(Drop)]
 pub(crate) struct User {
     core: Core,
     slot: Slot,
     object: Reg,
     word: Reg,
+    kept: Reg,
 }
 
 impl User {
+    /// Opens the heap. `None` out of memory.
     pub(crate) fn new(alloc: Global) -> Option<User> {
         let mut core = Core::new(alloc, MAX_PAGES).ok()?;
         let slot = core.attach().ok()?;
         let object = Reg::new(1)?;
         let word = Reg::new(2)?;
+        let kept = Reg::new(3)?;
         Some(User {
             core,
             slot,
             object,
             word,
+            kept,
         })
     }
 
-    // Allocates an object, and answers its base.
-    fn allocate(&mut self, words: u64) -> u64 {
+    /// Allocates an object, and answers its base.
+    pub(crate) fn allocate(&mut self, words: u64) -> u64 {
         let _done = self.core.alloc(self.slot, self.object, words, Kind::Normal);
         self.core.get(self.slot, self.object).unwrap_or(0)
     }
@@ -80,5 +84,53 @@ impl User {
                 let _stored = self.core.store(self.slot, self.object, offset, self.object);
             }
         }
+    }
+
+    /// Stores a word into an object.
+    pub(crate) fn link(&mut self, base: u64, offset: u64, word: u64) {
+        let _done = self.core.set(self.slot, self.object, base);
+        let _set = self.core.set(self.slot, self.word, word);
+        let _stored = self.core.store(self.slot, self.object, offset, self.word);
+    }
+
+    /// Only the objects that this word reaches stay reached.
+    pub(crate) fn keep(&mut self, word: u64) {
+        let _kept = self.core.set(self.slot, self.kept, word);
+        let _object = self.core.set(self.slot, self.object, 0);
+        let _word = self.core.set(self.slot, self.word, 0);
+    }
+
+    /// Collects in full, and answers how many objects went.
+    pub(crate) fn collect(&mut self) -> u64 {
+        self.core.collect().unwrap_or(0)
+    }
+
+    /// Begins a cycle, and marks till nothing is left to read.
+    pub(crate) fn mark_all(&mut self) {
+        let _begun = self.core.begin();
+        let _read = self.core.roots();
+        for _ in 0..u64::MAX {
+            let _marked = self.core.mark(u64::MAX);
+            if self.core.retrace() != Ok(1) {
+                break;
+            }
+        }
+    }
+
+    /// Ends the cycle, and answers how many objects went.
+    pub(crate) fn finish(&mut self) -> u64 {
+        self.core.finish().unwrap_or(0)
+    }
+
+    /// Sweeps what is left to sweep.
+    pub(crate) fn sweep_all(&mut self) -> u64 {
+        let mut swept: u64 = 0;
+        for _ in 0..u64::MAX {
+            if self.core.sweep() != Ok(1) {
+                break;
+            }
+            swept = swept.wrapping_add(1);
+        }
+        swept
     }
 }

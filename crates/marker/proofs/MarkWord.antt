@@ -19,7 +19,7 @@ use Rattle.marker.specs.declared.entry.Entry.{Entry}
 use Rattle.marker.specs.Marking.{Marking, IsConsistent, IsMarked, word_address, last_page, pages_of, Covers}
 use Rattle.marker.specs.Work.{left, left_of, page_words, unmarked, unmarked_from, span, cost}
 use Rattle.marker.specs.Invariant.{IsAwaited}
-use Rattle.marker.specs.Growth.{MarksWord, MarksObject, Awaits, entry_of, nothing, object, pointer_free, pushed, dirtied}
+use Rattle.marker.specs.Growth.{MarksWord, MarksObject, Awaits, IsDirtied, entry_of, nothing, object, pointer_free, pushed, dirtied}
 use Rattle.marker.specs.Entries.{IsBelow}
 use Rattle.marker.proofs.Closures.{same_object}
 use Rattle.marker.proofs.Growing.{Extends, below_refl}
@@ -61,16 +61,22 @@ word_above states bytes w m lawful b le high = word_none (found_in states) w m (
 pub word_marked : (found : ℕ → Option Found) (w : ℕ) (g : Found) (m : Marking) → found w ≡ Some g → Has m.marks (granule g.base) → MarksWord found w m m
 word_marked found w g m is h = nothing (λ f e. subst (λ x. IsMarked m x.base) (same_Some g f (sym is ∙ e)) h) refl
 
--- an unmarked object is pointed into, whose granule is n
-pub word_object : (found : ℕ → Option Found) (w : ℕ) (g : Found) (n : ℕ) (old from new : Marking) → from ≡ old → found w ≡ Some g → n ≡ granule g.base → get_or from.marks n false ≡ false
-    → new.marks ≡ set from.marks n true → new.current ≡ from.current → Awaits g from new → MarksWord found w old new
-word_object found w g n old from new view is e clear marks current awaits =
+-- what is done for an object's words doesn't look at marks
+awaits_same : (f : Found) (a b new : Marking) → b.stack ≡ a.stack → b.dirty ≡ a.dirty → Awaits f b new → Awaits f a new
+awaits_same f a b new s d (pointer_free k x y) = pointer_free k (x ∙ s) (y ∙ d)
+awaits_same f a b new s d (pushed k r x y) = pushed k (subst (λ l. length l < MARK_STACK_ENTRIES) s r) (x ∙ ap (λ l. l ++ entry_of f ∷ []) s) (y ∙ d)
+awaits_same f a b new s d (dirtied k r x y) = dirtied k (ap length (sym s) ∙ r) (x ∙ s) (subst (λ l. IsDirtied l new.dirty (page_of f.base) (last_page f + 1)) d y)
+
+-- An unmarked object is pointed into, whose granule is n: it is marked, and then its words await reading.
+pub word_object : (found : ℕ → Option Found) (w : ℕ) (g : Found) (n : ℕ) (old from mid new : Marking) → from ≡ old → found w ≡ Some g → n ≡ granule g.base → get_or from.marks n false ≡ false
+    → mid.marks ≡ set from.marks n true → mid.current ≡ from.current → mid.stack ≡ from.stack → mid.dirty ≡ from.dirty → new.marks ≡ mid.marks → new.current ≡ mid.current → Awaits g mid new → MarksWord found w old new
+word_object found w g n old from mid new view is e clear marks current stack dirty same still awaits =
     subst (λ o. MarksWord found w o new) view
     (object g is (record {
       unmarked = λ h. false≢true (sym clear ∙ ap (λ j. get_or from.marks j false) e ∙ h);
-      marks = marks ∙ ap (λ j. set from.marks j true) e;
-      current = current;
-      awaits = awaits;
+      marks = same ∙ marks ∙ ap (λ j. set from.marks j true) e;
+      current = still ∙ current;
+      awaits = awaits_same g from mid new stack dirty awaits;
     }))
 
 -- an entry is pushed that is unread

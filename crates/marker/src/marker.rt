@@ -10,7 +10,7 @@ ghost use Rattle.block_map.specs.FoundIn.{found_in, IsLawful};
 ghost use Rattle.marker.specs.Marking.{IsConsistent, IsFresh, StaysDirty};
 ghost use Rattle.marker.specs.Work.{cost};
 ghost use Rattle.marker.specs.Invariant.{AreRootsMarked, DirtyPageInvariant};
-ghost use Rattle.marker.specs.Growth.{MarksWord, MarksWords, Traces, words_of};
+ghost use Rattle.marker.specs.Growth.{Awaits, MarksWord, MarksWords, Traces, words_of};
 
 use crate::entry::Entry;
 use crate::spread::dirty_object;
@@ -138,6 +138,17 @@ impl Marker {
             return;
         }
         self.marks.set(granule);
+        self.await_words(found);
+    }
+
+    // Sees to it that the words of a newly marked object are read.
+    #[inline]
+    fn await_words(&mut self, found: Found)
+        requires placed { IsPlaced (length self.old.dirty) found }
+        ensures marks { self.new.marks ≡ self.old.marks }
+        ensures current { self.new.current ≡ self.old.current }
+        ensures awaits { Awaits found self.old self.new }
+    {
         if found.kind == Kind::PointerFree {
             return;
         }

@@ -13,7 +13,8 @@ ghost use Rattle.marker.specs.Mutations.{IsWritten, IsAllocated, IsFreed, KeepsW
 
 use crate::marker::Marker;
 use mark_bits::granule_of;
-use words::limits::{FIRST_ADDRESS, PAGE_BYTES};
+use words::limits::FIRST_ADDRESS;
+use words::{PageNo, page_of};
 
 impl Marker {
     /// A word was written at the address. The invariant stays, whatever was written.
@@ -24,8 +25,7 @@ impl Marker {
         ensures written { IsWritten address self.old self.new }
         ensures keeps { (found : ℕ → Option Found) (words : List ℕ) (w : ℕ) → DirtyPageInvariant found words self.old → DirtyPageInvariant found (with_word_at words address w) self.new }
     {
-        self.dirty
-            .set(((address - FIRST_ADDRESS) / PAGE_BYTES) as u32);
+        self.dirty.set(page_of(address) as PageNo);
     }
 
     /// An object of zero words was allocated at this base. It is marked at once, and the invariant stays.

@@ -11,8 +11,8 @@ ghost use Rattle.marker.specs.Retracing.{Rereads, Retraces};
 use crate::marker::{Marker, heap_bytes};
 use block_map::{BlockMap, Found};
 use pages::Reader;
-use words::limits::{FIRST_ADDRESS, PAGE_BYTES, WORD_BYTES};
-use words::{Kind, PageNo};
+use words::limits::{PAGE_BYTES, WORD_BYTES};
+use words::{Kind, PageNo, page_start};
 
 impl Marker {
     /// Reads the words of marked Normal objects on the lowest dirty page again.
@@ -28,7 +28,7 @@ impl Marker {
         self.laws();
         let page = self.take_page()?;
         let heap_bytes = heap_bytes(map);
-        let mut address = FIRST_ADDRESS + PAGE_BYTES * u64::from(page);
+        let mut address = page_start(page);
         let end = address + PAGE_BYTES;
         while let Some(found) = map.next_on_page(page, address) {
             address = self.reread(map, heap_bytes, reader, found, address, end);

@@ -7,3 +7,7 @@ pub mod Freshness
 pub mod Rooms
 pub mod Alloc
 pub mod Free
+pub mod Lists
+pub mod Reaching
+pub mod Stays
+pub mod Collects

@@ -4,6 +4,8 @@
 #![tactic(auto)]
 
 mod extent;
+mod listing;
+mod parting;
 mod places;
 mod plain;
 

@@ -21,11 +21,11 @@ impl<J: Naming> SharedHeap<J> {
     }
 
     /// How many collections were granted, which the collector's own events tell.
-    pub fn gc_no_of(&self, me: &mut Collector<J>) -> u64
-        ensures looks { Looks J.origin me.old me.new }
-        ensures count { result ≡ count rank_of me.new.mine % 2 ^ 64 }
+    pub fn gc_no_of(&self, collector: &mut Collector<J>) -> u64
+        ensures looks { Looks J.origin collector.old collector.new }
+        ensures count { result ≡ count rank_of collector.new.mine % 2 ^ 64 }
     {
-        self.log.count(&mut me.pass)
+        self.log.count(&mut collector.pass)
     }
 
     /// Both have then seen what one of them had.
@@ -41,13 +41,13 @@ impl<J: Naming> SharedHeap<J> {
     }
 
     /// Both have then seen what one of them had.
-    pub fn meet_collector(&self, me: &mut Mutator<J>, other: &mut Collector<J>)
-        ensures one { IsPrefix me.old.seen other.old.seen ⊎ IsPrefix other.old.seen me.old.seen }
-        ensures me { me.new ≡ record { slot = me.old.slot; seen = longer me.old.seen other.old.seen; mine = me.old.mine } }
-        ensures other { other.new ≡ record { slot = other.old.slot; seen = longer me.old.seen other.old.seen; mine = other.old.mine } }
+    pub fn meet_collector(&self, me: &mut Mutator<J>, collector: &mut Collector<J>)
+        ensures one { IsPrefix me.old.seen collector.old.seen ⊎ IsPrefix collector.old.seen me.old.seen }
+        ensures me { me.new ≡ record { slot = me.old.slot; seen = longer me.old.seen collector.old.seen; mine = me.old.mine } }
+        ensures collector { collector.new ≡ record { slot = collector.old.slot; seen = longer me.old.seen collector.old.seen; mine = collector.old.mine } }
         ensures me_fine { IsFine J.origin me.new }
-        ensures other_fine { IsFine J.origin other.new }
+        ensures collector_fine { IsFine J.origin collector.new }
     {
-        self.log.meet(&mut me.pass, &mut other.pass);
+        self.log.meet(&mut me.pass, &mut collector.pass);
     }
 }

@@ -1,21 +1,23 @@
 //! Random calls.
 use fixtures::Random;
-use heap_spec::Call;
+use heap_spec::{Call, Event};
 use words::limits::{FIRST_ADDRESS, PAGE_BYTES};
 use words::{Global, Kind, Reg, Slot};
-
-/// The pages of the heaps.
-pub(crate) const PAGES: u64 = 24;
 
 /// A source of calls.
 #[derive(Drop)]
 pub(crate) struct Draw {
+    pages: u32,
+    mutators: u64,
     random: Random,
 }
 
 impl Draw {
-    pub(crate) fn new() -> Draw {
+    /// Calls of so many mutators for a heap of so many pages.
+    pub(crate) fn new(pages: u32, mutators: u64) -> Draw {
         Draw {
+            pages,
+            mutators,
             random: Random::new(20_241),
         }
     }
@@ -26,7 +28,7 @@ impl Draw {
     }
 
     pub(crate) fn slot(&mut self) -> Option<Slot> {
-        Slot::new(self.random.below(16) as u8)
+        Slot::new((self.random.below(16) % self.mutators.max(1)) as u8)
     }
 
     /// One register of a few, so that calls meet.
@@ -46,13 +48,14 @@ impl Draw {
         }
     }
 
-    // The words of a request: most of them few, some those of a large object, some bad.
+    // The words of a request: many of one class, most of them few, some those of a large object, some bad.
     fn request(&mut self) -> u64 {
         match self.random.below(40) {
             0 => 0,
             1 => 16_385 + self.random.below(1_000),
             2..=4 => 257 + self.random.below(2_000),
-            5..=14 => 1 + self.random.below(256),
+            5..=10 => 1 + self.random.below(256),
+            11..=24 => 30,
             _ => 1 + self.random.below(40),
         }
     }
@@ -71,7 +74,7 @@ impl Draw {
         match self.random.below(4) {
             0 => self.random.below(100),
             1 => u64::MAX - self.random.below(100),
-            _ => FIRST_ADDRESS - 64 + self.random.below(PAGE_BYTES * PAGES + 128),
+            _ => FIRST_ADDRESS - 64 + self.random.below(PAGE_BYTES * u64::from(self.pages) + 128),
         }
     }
 
@@ -80,7 +83,8 @@ impl Draw {
         let (a, b, c) = (self.reg()?, self.reg()?, self.reg()?);
         let call = match self.random.below(64) {
             0..=17 => Call::Alloc(a, self.request(), self.kind()),
-            18..=29 => Call::Free(a),
+            18..=25 => Call::Free(a),
+            26..=29 => Call::Set(a, self.random.below(100)),
             30..=35 => Call::Store(a, self.offset(), b),
             36..=41 => Call::Load(a, b, self.offset()),
             42..=44 => Call::Base(a, b),
@@ -98,5 +102,23 @@ impl Draw {
             _ => Call::Detach,
         };
         Some(call)
+    }
+
+    /// An event of the collector once in so many calls.
+    pub(crate) fn collector_event(&mut self, often: u64) -> Option<Event> {
+        if often == 0 || self.random.below(often) != 0 {
+            return None;
+        }
+        let event = match self.random.below(24) {
+            0..=5 => Event::Begin,
+            6..=8 => Event::Roots,
+            9..=13 => Event::Mark(self.random.below(60)),
+            14..=16 => Event::Retrace,
+            17..=19 => Event::Sweep,
+            20 => Event::Number,
+            21 | 22 => Event::Finish,
+            _ => Event::Collect,
+        };
+        Some(event)
     }
 }

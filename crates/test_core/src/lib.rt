@@ -1,6 +1,9 @@
-//! Cores over pages, against a core without pages, against counts, and with memory that is ample.
+//! Cores over pages, against a core without pages, against what roots reach, against counts, and with memory that is
+//! ample.
 #![tactic(auto)]
 
+#[cfg(test)]
+mod collecting;
 #[cfg(test)]
 mod draw;
 #[cfg(test)]
@@ -9,6 +12,8 @@ mod filling;
 mod opening;
 #[cfg(test)]
 mod pair;
+#[cfg(test)]
+mod reached;
 #[cfg(test)]
 mod replay;
 #[cfg(test)]

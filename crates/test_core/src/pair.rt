@@ -1,7 +1,6 @@
 //! A heap over pages and a plain one that are asked the same.
-use crate::draw::PAGES;
 use crate::twins::{Twin, Twins};
-use heap_spec::{Call, Reply};
+use heap_spec::{Call, Event, Reply};
 use std::alloc::Global;
 use std::test::Fail;
 use words::{Kind, Refusal, Reg, Slot};
@@ -15,6 +14,7 @@ pub(crate) struct Words {
 
 #[derive(Drop)]
 pub(crate) struct Pair {
+    pub(crate) pages: u64,
     pub(crate) paged: heap_core::Core,
     pub(crate) plain: plain_core::Core,
     pub(crate) twins: Twins,
@@ -42,38 +42,37 @@ fn count(answer: Result<u64, Refusal>) -> Reply {
     }
 }
 
-macro_rules! answer {
-    ($core:expr, $slot:expr, $call:expr) => {
-        match $call {
-            Call::Detach => done($core.detach($slot)),
-            Call::Set(reg, number) => done($core.set($slot, reg, number)),
-            Call::Copy(into, from) => done($core.copy($slot, into, from)),
-            Call::Add(into, from, number) => done($core.add($slot, into, from, number)),
-            Call::Sub(into, from, less) => done($core.sub($slot, into, from, less)),
-            Call::Get(reg) => word($core.get($slot, reg)),
-            Call::Push(from) => done($core.push($slot, from)),
-            Call::Pop(into) => word($core.pop($slot, into)),
-            Call::Load(into, at, offset) => word($core.load($slot, into, at, offset)),
-            Call::Store(at, offset, from) => done($core.store($slot, at, offset, from)),
-            Call::Alloc(into, words, kind) => done($core.alloc($slot, into, words, kind)),
-            Call::Free(reg) => done($core.free($slot, reg)),
-            Call::Base(into, from) => word($core.base($slot, into, from)),
-            Call::Size(reg) => count($core.size($slot, reg)),
-            Call::GlobalGet(into, global) => word($core.gget($slot, into, global)),
-            Call::GlobalPut(global, from) => done($core.gput($slot, global, from)),
-        }
-    };
+// What the plain heap answers to a call.
+fn ask_plain(core: &mut plain_core::Core, slot: Slot, call: Call) -> Reply {
+    match call {
+        Call::Detach => done(core.detach(slot)),
+        Call::Set(reg, number) => done(core.set(slot, reg, number)),
+        Call::Copy(into, from) => done(core.copy(slot, into, from)),
+        Call::Add(into, from, number) => done(core.add(slot, into, from, number)),
+        Call::Sub(into, from, less) => done(core.sub(slot, into, from, less)),
+        Call::Get(reg) => word(core.get(slot, reg)),
+        Call::Push(from) => done(core.push(slot, from)),
+        Call::Pop(into) => word(core.pop(slot, into)),
+        Call::Load(into, at, offset) => word(core.load(slot, into, at, offset)),
+        Call::Store(at, offset, from) => done(core.store(slot, at, offset, from)),
+        Call::Alloc(into, words, kind) => done(core.alloc(slot, into, words, kind)),
+        Call::Free(reg) => done(core.free(slot, reg)),
+        Call::Base(into, from) => word(core.base(slot, into, from)),
+        Call::Size(reg) => count(core.size(slot, reg)),
+        Call::GlobalGet(into, global) => word(core.gget(slot, into, global)),
+        Call::GlobalPut(global, from) => done(core.gput(slot, global, from)),
+    }
 }
 
 impl Pair {
-    pub(crate) fn new(alloc: Global) -> Result<Pair, Fail> {
+    /// Two heaps of so many pages.
+    pub(crate) fn new(alloc: Global, pages: u32) -> Result<Pair, Fail> {
+        let paged = heap_core::Core::new(alloc, pages).ok().ok_or("a heap")?;
+        let plain = plain_core::Core::new(alloc, pages).ok().ok_or("a heap")?;
         Ok(Pair {
-            paged: heap_core::Core::new(alloc, PAGES as u32)
-                .ok()
-                .ok_or("a heap")?,
-            plain: plain_core::Core::new(alloc, PAGES as u32)
-                .ok()
-                .ok_or("a heap")?,
+            pages: u64::from(pages),
+            paged,
+            plain,
             twins: Twins::new(alloc),
         })
     }
@@ -88,8 +87,8 @@ impl Pair {
     }
 
     pub(crate) fn ask(&mut self, slot: Slot, call: Call) -> (Reply, Reply) {
-        let here = answer!(self.paged, slot, call);
-        let there = answer!(self.plain, slot, call);
+        let here = self.paged.act(Event::Mutator(slot, call));
+        let there = ask_plain(&mut self.plain, slot, call);
         (here, there)
     }
 
@@ -122,6 +121,8 @@ impl Pair {
             plain: base.plain,
             words,
             kind,
+            birth: 0,
+            is_reached: true,
         })?;
         Ok(())
     }

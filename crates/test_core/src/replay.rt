@@ -1,9 +1,11 @@
 //! Random calls, replayed against the core without pages.
-use crate::draw::{Draw, PAGES};
+use crate::draw::Draw;
 use crate::pair::{Pair, Words};
 use heap_spec::{Call, Reply};
 use std::test::Fail;
 use words::{Kind, Refusal, Reg, Slot};
+
+const PAGES: u32 = 24;
 
 const CALLS: u32 = 20_000;
 
@@ -59,7 +61,7 @@ fn settle(
 
 // What a request is answered, against the room that the heap's objects leave.
 fn allocate(pair: &mut Pair, slot: Slot, into: Reg, words: u64, kind: Kind) -> Result<Reply, Fail> {
-    let room = pair.twins.has_room(PAGES, words, kind);
+    let room = pair.twins.has_room(pair.pages, words, kind);
     let kept = pair.words(slot, into);
     let (here, there) = pair.ask(slot, Call::Alloc(into, words, kind));
     if (here == Reply::Done && !room) || (here == Reply::Refused(Refusal::Full) && room) {
@@ -126,20 +128,21 @@ fn replay(pair: &mut Pair, slot: Slot, call: Call) -> Result<Reply, Fail> {
     }
 }
 
-#[test]
-fn replies_equal_the_plain_core(rt: HostRuntime) -> Result<(), Fail> {
-    let mut pair = Pair::new(rt.alloc())?;
-    let mut draw = Draw::new();
-    for _ in 0..17 {
-        pair.attach()?;
-    }
+/// Makes a random call of a slot in both heaps.
+pub(crate) fn call_once(pair: &mut Pair, draw: &mut Draw) -> Result<(Slot, Call, Reply), Fail> {
+    let slot = draw.slot().ok_or("a slot")?;
+    let call = draw.call().ok_or("a call")?;
+    prepare(pair, draw, slot, call);
+    let reply = replay(pair, slot, call)?;
+    Ok((slot, call, reply))
+}
+
+// How many calls were granted, and how many found the heap full.
+fn random_calls(pair: &mut Pair, draw: &mut Draw) -> Result<(u32, u32), Fail> {
     let mut granted: u32 = 0;
     let mut full: u32 = 0;
     for step in 0..CALLS {
-        let slot = draw.slot().ok_or("a slot")?;
-        let call = draw.call().ok_or("a call")?;
-        prepare(&mut pair, &mut draw, slot, call);
-        let reply = replay(&mut pair, slot, call)?;
+        let (_slot, _call, reply) = call_once(pair, draw)?;
         if reply == Reply::Refused(Refusal::Full) {
             full = full.wrapping_add(1);
         } else if !matches!(reply, Reply::Refused(_)) {
@@ -149,6 +152,16 @@ fn replies_equal_the_plain_core(rt: HostRuntime) -> Result<(), Fail> {
             pair.attach()?;
         }
     }
+    Ok((granted, full))
+}
+
+#[test]
+fn replies_equal_the_plain_core(rt: HostRuntime) -> Result<(), Fail> {
+    let mut pair = Pair::new(rt.alloc(), PAGES)?;
+    for _ in 0..17 {
+        pair.attach()?;
+    }
+    let (granted, full) = random_calls(&mut pair, &mut Draw::new(PAGES, 16))?;
     assert!(rt;
         granted > CALLS / 3 && full > 100 && pair.twins.shifts() > 1,
         "{} shifts, {granted} granted, {full} full, {} objects",

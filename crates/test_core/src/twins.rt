@@ -11,6 +11,12 @@ pub(crate) struct Twin {
     pub(crate) plain: u64,
     pub(crate) words: u64,
     pub(crate) kind: Kind,
+
+    /// Which of all objects it was, counted from 0.
+    pub(crate) birth: u64,
+
+    /// Whether roots reach it, as was last looked at.
+    pub(crate) is_reached: bool,
 }
 
 impl Twin {
@@ -39,6 +45,7 @@ impl Twin {
 pub(crate) struct Twins {
     live: Vec<Twin>,
     shifts: Vec<u64>,
+    births: u64,
 }
 
 impl Twins {
@@ -46,10 +53,13 @@ impl Twins {
         Twins {
             live: Vec::new(alloc),
             shifts: Vec::new(alloc),
+            births: 0,
         }
     }
 
-    pub(crate) fn push(&mut self, twin: Twin) -> Result<(), AllocError> {
+    pub(crate) fn push(&mut self, mut twin: Twin) -> Result<(), AllocError> {
+        twin.birth = self.births;
+        self.births = self.births.wrapping_add(1);
         let shift = twin.paged.wrapping_sub(twin.plain);
         if !self.shifts.iter().any(|s| *s == shift) {
             self.shifts.push(shift)?;
@@ -97,6 +107,41 @@ impl Twins {
             }
             _ => false,
         }
+    }
+
+    /// Makes all objects unreached.
+    pub(crate) fn forget_reached(&mut self) {
+        for twin in self.live.iter_mut() {
+            twin.is_reached = false;
+        }
+    }
+
+    /// Makes the object that a word of the paged heap reads reached, and answers it if it wasn't.
+    pub(crate) fn reach(&mut self, word: u64) -> Option<Twin> {
+        for twin in self.live.iter_mut() {
+            if twin.is_read(word) {
+                let was_reached = twin.is_reached;
+                twin.is_reached = true;
+                return if was_reached { None } else { Some(*twin) };
+            }
+        }
+        None
+    }
+
+    /// The object that a word of the paged heap reads.
+    pub(crate) fn read_by(&self, word: u64) -> Option<Twin> {
+        self.live.iter().find(|twin| twin.is_read(word)).copied()
+    }
+
+    /// The objects that aren't reached.
+    pub(crate) fn unreached(&self, alloc: Global) -> Result<Vec<Twin>, AllocError> {
+        let mut all = Vec::new(alloc);
+        for twin in &self.live {
+            if !twin.is_reached {
+                all.push(*twin)?;
+            }
+        }
+        Ok(all)
     }
 
     /// Whether any object of the paged heap has a byte from an address on and below another.

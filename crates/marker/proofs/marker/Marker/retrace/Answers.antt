@@ -1,5 +1,4 @@
-use Rattle.std.proofs.Common.{◌+◌, ◌*◌, ◌∙◌, refl, sym, ap, length-set, set, false, subst, List, [], ℕ, length, arith}
-use Rattle.words.specs.declared.limits.TheConstants.{FIRST_ADDRESS, PAGE_BYTES}
+use Rattle.std.proofs.Common.{◌+◌, ◌∙◌, refl, sym, ap, length-set, set, false, subst, List, [], ℕ, length, arith}
 use Rattle.block_map.specs.Places.{page_start}
 use Rattle.block_map.specs.FoundIn.{found_in}
 use Rattle.marker.specs.Marking.{Marking, with_dirty}
@@ -18,9 +17,9 @@ returns-in_err-page-clause-traces c =
 
 pub loop-found-init : goal.loop-found-init
 loop-found-init c =
-    let f = c.from.ensures in
+    let f = c.page_start-address.ensures in
     record {
-      rereads = subst (λ (n : ℕ). Rereads (found_in c.args.map.now) c.args.reader.now.words (page_start c.in_ok-page.page) (FIRST_ADDRESS + PAGE_BYTES * n) c.take_page.new.self c.take_page.new.self) (sym f)
+      rereads = subst (λ (n : ℕ). Rereads (found_in c.args.map.now) c.args.reader.now.words (page_start c.in_ok-page.page) n c.take_page.new.self c.take_page.new.self) (sym f)
           (rereads_none (found_in c.args.map.now) c.args.reader.now.words (page_start c.in_ok-page.page) (page_start c.in_ok-page.page) c.take_page.new.self (λ w x. let a = x.from in let b = x.below in omega arith));
       from = omega arith;
       within = omega arith;
@@ -50,7 +49,7 @@ loop-found-preserved c =
           (page_start c.in_ok-page.page) c.loop-found.address c.reread-address.result c.take_page.new.self c.loop-found.self c.reread-address.new.self
           (ap (λ (m : Marking). length m.marks) c.in_ok-page.ensures.page.1 ∙ marks_of _ _ c.laws.ensures c.requires.pages) i.from (omega arith) i.rereads r;
       from = (let b = i.from in omega arith);
-      within = (let a = e.within in let f = c.from.ensures in omega arith);
+      within = (let a = e.within in let f = c.page_start-address.ensures in omega arith);
       aligned = e.aligned;
       words = e.words ∙ i.words;
       reads = (let a = e.reads in let b = i.reads in omega arith);
