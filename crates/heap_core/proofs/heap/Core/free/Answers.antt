@@ -1,9 +1,7 @@
-use Rattle.std.proofs.Common.{◌≡◌, Some, sym, ap, ◌∙◌, refl, subst, arith}
+use Rattle.std.proofs.Common.{◌≡◌, Some, sym, refl, subst, arith}
 use Rattle.heap_spec.specs.Steps.{Acts}
 use Rattle.heap_core.proofs.Tracing.{traced_freed}
 use Rattle.block_map.specs.FoundIn.{found_in}
-use Rattle.object_space.specs.Kept.{kept_in}
-use Rattle.object_space.proofs.Kept.{kept_cases}
 use Rattle.heap_core.proofs.Calls.{freed, inside, kept_there}
 use Rattle.heap_core.proofs.Lookups.{finds_nothing}
 use Rattle.heap_core.proofs.Roots.{refused, refused_vacant}

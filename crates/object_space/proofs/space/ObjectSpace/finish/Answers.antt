@@ -11,4 +11,4 @@ pub returns-clause-pending : goal.returns-clause-pending
 returns-clause-pending c = c.forget_lazily.ensures.pending
 
 pub returns-clause-objects : goal.returns-clause-objects
-returns-clause-objects c before = marks_left _ _ _ _ before c.close.ensures.traces.objects (λ f there marked. (kept_cases (is_kept c.forget_lazily.new.self.pending c.close.new.marker.marks) (found_in c.forget_lazily.new.self.states) f.base f (c.forget_lazily.ensures.without.kept f.base f there (λ has. (c.forget_lazily.ensures.unmarked f there).0 has marked))).0)
+returns-clause-objects c before = marks_left _ _ c.args.marker.now c.close.new.marker before c.close.ensures.traces.objects (λ f there marked. (kept_cases (is_kept c.forget_lazily.new.self.pending c.close.new.marker.marks) (found_in c.forget_lazily.new.self.states) f.base f (c.forget_lazily.ensures.without.kept f.base f there (λ has. (c.forget_lazily.ensures.unmarked f there).0 has marked))).0)
