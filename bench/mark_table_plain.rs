@@ -1,5 +1,5 @@
 //! Rust's `AtomicU64` under the steps of a table of marks: each thread sets, then reads, each bit of one row.
-//! It prints a line for each step and number of threads: its name, the threads, and picoseconds a step.
+//! It prints a line for each step and number of threads: its name with the threads, and picoseconds a step.
 use std::hint::black_box;
 use std::sync::atomic::{AtomicU64, Ordering::SeqCst};
 use std::thread;
@@ -35,7 +35,7 @@ fn main() {
             least[0] = least[0].min(side_by_side(&words, threads, claim_each));
             least[1] = least[1].min(side_by_side(&words, threads, look_each));
         }
-        println!("claim {threads} {}", least[0]);
-        println!("is_set {threads} {}", least[1]);
+        println!("claim_by_{threads} {}", least[0]);
+        println!("is_set_by_{threads} {}", least[1]);
     }
 }

@@ -2,16 +2,18 @@
 use Rattle.std.proofs.Common.{◌≡◌, ◌≢◌, ℕ, ◌+◌, ◌/◌, ◌<◌, ◌≤◌, Bool, true, false, cond, List, length, set, get_or, replicate, None, Some, refl, sym, ap, ◌∙◌, subst, arith, ⊎_elim, length-set, get_or-set_same, get_or-set_other}
 use Rattle.std.proofs.lemmas.Bool.{cond-true, cond-false, cases_lt, cases_eq}
 use Rattle.std.proofs.lemmas.List.{get_or_past, get_or-replicate, length-replicate}
+use Rattle.words.specs.declared.limits.TheConstants.{FIRST_ADDRESS, PAGE_WORDS}
 use Rattle.words.specs.declared.class.Kind.{Kind}
+use Rattle.words.proofs.Addresses.{on_its_page}
 use Rattle.blocks.specs.Cells.{Cells, IsCells}
-use Rattle.block_map.specs.Places.{page_start, page_of, IsOnPage}
+use Rattle.words.specs.Layout.{page_start, page_of, IsOnPage}
 use Rattle.block_map.specs.States.{PageState, free, cut, head, body, state_at, span_of, LaidAt, IsLaid, HasCell, with_cell, IsSpanSet, large_states, all_free}
 use Rattle.block_map.specs.Objects.{cell_object, large_object, object_on, IsObjectOn, Reads}
 use Rattle.block_map.specs.FoundIn.{cell_at, found_in, found_in_block, found_on, found_large}
 use Rattle.block_map.specs.Changes.{IsSameMap, IsAdded, IsCleared, IsUncut, HasNoObject}
 use Rattle.block_map.proofs.Seen.{laid_at}
 use Rattle.block_map.proofs.Spans.{Out, place_of, IsClosed, IsPlain, free_plain, cut_plain, closed_one, closed_free, closed_head, body_within, span_one, large_here, large_else}
-use Rattle.block_map.proofs.Words.{word_page, read_cell, cell_read}
+use Rattle.block_map.proofs.Words.{read_cell, cell_read}
 use Rattle.block_map.proofs.Finding.{found_low, found_here, found_as}
 use Rattle.block_map.proofs.Lawful.{found_object}
 
@@ -37,10 +39,10 @@ module _ (old new : List PageState) (first n : ℕ)
       ⊎_elim
       (λ low. found_low new w low ∙ sym (found_low old w low))
       (λ high. ⊎_elim
-      (λ (h : (first ≤ page_of w) × (page_of w < first + n)). inside (page_of w) h.0 h.1 (word_page w high))
-      (λ out. same_page (page_of w) w out (word_page w high))
+      (λ (h : (first ≤ page_of w) × (page_of w < first + n)). inside (page_of w) h.0 h.1 (on_its_page w high))
+      (λ out. same_page (page_of w) w out (on_its_page w high))
       (place_of first n (page_of w)))
-      (cases_lt w 268435456)
+      (cases_lt w FIRST_ADDRESS)
 
 -- ---- a page is cut
 block_empty : (p w : ℕ) (b : Cells) → HasNoObject b.taken → found_in_block p b w ≡ None
@@ -56,7 +58,7 @@ cut_same s p c k laid lt is =
       same = λ w. same_but s (set s p (all_free c k)) p 1 span.others (closed_one s p (subst IsPlain (sym is) free_plain)) laid w
           (λ q a b at. let e : q ≡ p = omega arith in
           found_as (set s p (all_free c k)) q w (all_free c k) at (span.inside q a b)
-          ∙ block_empty q w (record { class = c; kind = k; taken = replicate (512 / c) false }) (replicate_false (512 / c))
+          ∙ block_empty q w (record { class = c; kind = k; taken = replicate (PAGE_WORDS / c) false }) (replicate_false (PAGE_WORDS / c))
           ∙ sym (found_as s q w free at (ap (state_at s) e ∙ is)));
     }
 
@@ -64,7 +66,7 @@ cut_same s p c k laid lt is =
 module _ (s t : List PageState) (p i : ℕ) (b : Cells) (taken : List Bool) (laid : IsLaid s) (cells : IsCells b)
     (is : state_at s p ≡ cut b) (now : state_at t p ≡ cut (record b { taken = taken }))
     (others : (k : ℕ) → Out p 1 k → state_at t k ≡ state_at s k)
-    (inside : i < 512 / b.class)
+    (inside : i < PAGE_WORDS / b.class)
     (was_free : get_or b.taken i false ≡ false) (is_taken : get_or taken i false ≡ true)
     (same : (k : ℕ) → k ≢ i → get_or taken k false ≡ get_or b.taken k false) where
   before : (w : ℕ) → Reads w (cell_object p b i) → found_in s w ≡ None
@@ -136,11 +138,11 @@ large_added old new first n kind laid pos was span =
     record {
       before = λ w reads.
           let from = reads.from in let below = reads.below in
-          let at : IsOnPage (page_of w) w = word_page w (omega arith) in
+          let at : IsOnPage (page_of w) w = on_its_page w (omega arith) in
           found_as old (page_of w) w free at (was (page_of w) (omega arith) (omega arith));
       after = λ w reads.
           let from = reads.from in let below = reads.below in
-          let at : IsOnPage (page_of w) w = word_page w (omega arith) in
+          let at : IsOnPage (page_of w) w = on_its_page w (omega arith) in
           let is = span.inside (page_of w) (omega arith) (omega arith) in
           ⊎_elim
           (λ (e : page_of w ≡ first). found_as new first w (head n kind) (subst (λ p. IsOnPage p w) e at) head_is)
@@ -155,7 +157,7 @@ module _ (old new : List PageState) (first n : ℕ) (laid : IsLaid old) (closed 
   pub freed_cleared : IsCleared (found_in old) (found_in new) (page_start first) (page_start (first + n))
   freed_cleared = record {
     inside = λ w from below.
-        let at : IsOnPage (page_of w) w = word_page w (omega arith) in
+        let at : IsOnPage (page_of w) w = on_its_page w (omega arith) in
         found_as new (page_of w) w free at (span.inside (page_of w) (omega arith) (omega arith));
     others = λ w out. same_but old new first n span.others closed laid w
         (λ p a b at. let from = at.from in let below = at.below in absurd (⊎_elim (λ l. omega arith) (λ h. omega arith) out));

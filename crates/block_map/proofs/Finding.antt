@@ -4,16 +4,18 @@ use Rattle.std.specs.Prelude.{nat_lt}
 use Rattle.std.proofs.lemmas.Bool.{cond-true, cond-false, cases_lt}
 use Rattle.std.proofs.lemmas.List.{get_or_past}
 use Rattle.std.proofs.Math.Nat.{mul-le-mul_right}
+use Rattle.words.specs.declared.limits.TheConstants.{FIRST_ADDRESS, MAX_PAGES, PAGE_BYTES, PAGE_WORDS}
 use Rattle.words.specs.declared.class.Kind.{Kind}
+use Rattle.words.proofs.Addresses.{on_its_page, page_is}
 use Rattle.blocks.specs.Cells.{Cells, IsCells, IsInCell, IsLeftOver}
 use Rattle.blocks.proofs.Places.{class_bounds, divided}
-use Rattle.block_map.specs.Places.{page_start, page_of, IsOnPage, IsOutside}
+use Rattle.words.specs.Layout.{page_start, page_of, IsOnPage, IsOutside}
 use Rattle.block_map.specs.States.{PageState, free, cut, head, body, state_at, LaidAt, IsLaid}
 use Rattle.block_map.specs.Objects.{cell_object, large_object}
 use Rattle.block_map.specs.FoundIn.{cell_at, found_in, found_in_block, found_on, found_large}
 use Rattle.block_map.specs.declared.found.Found.{Found}
 use Rattle.block_map.proofs.Seen.{laid_at}
-use Rattle.block_map.proofs.Words.{word_page, page_is, quotient_is, cells_end}
+use Rattle.block_map.proofs.Words.{quotient_is, cells_end}
 
 lt_true : (m n : ℕ) → m < n → nat_lt m n ≡ true
 lt_true m n h = grind arith
@@ -21,15 +23,15 @@ lt_true m n h = grind arith
 lt_false : (m n : ℕ) → n ≤ m → nat_lt m n ≡ false
 lt_false m n h = grind arith
 
-pub found_low : (s : List PageState) (w : ℕ) → w < 268435456 → found_in s w ≡ None
+pub found_low : (s : List PageState) (w : ℕ) → w < FIRST_ADDRESS → found_in s w ≡ None
 unfolding found_in
-found_low s w low = cond-true (nat_lt w 268435456) None (found_on s (page_of w) (state_at s (page_of w)) w) (lt_true w 268435456 low)
+found_low s w low = cond-true (nat_lt w FIRST_ADDRESS) None (found_on s (page_of w) (state_at s (page_of w)) w) (lt_true w FIRST_ADDRESS low)
 
 pub found_here : (s : List PageState) (p w : ℕ) → IsOnPage p w → found_in s w ≡ found_on s p (state_at s p) w
 unfolding found_in
 found_here s p w at =
     let from = at.from in
-    cond-false (nat_lt w 268435456) None (found_on s (page_of w) (state_at s (page_of w)) w) (lt_false w 268435456 (omega arith))
+    cond-false (nat_lt w FIRST_ADDRESS) None (found_on s (page_of w) (state_at s (page_of w)) w) (lt_false w FIRST_ADDRESS (omega arith))
     ∙ ap (λ q. found_on s q (state_at s q) w) (page_is p w at)
 
 pub found_as : (s : List PageState) (p w : ℕ) (st : PageState) → IsOnPage p w → state_at s p ≡ st → found_in s w ≡ found_on s p st w
@@ -41,7 +43,7 @@ outside s w out =
     sym (⊎_elim
     (λ low. found_low s w low)
     (λ (far : page_start (length s) ≤ w).
-    let at : IsOnPage (page_of w) w = word_page w (omega arith) in
+    let at : IsOnPage (page_of w) w = on_its_page w (omega arith) in
     found_as s (page_of w) w free at (get_or_past s (page_of w) free (omega arith)))
     out)
 
@@ -63,52 +65,52 @@ large_found s p n k f is e = ap (found_large p) is ∙ ap Some (sym e)
 pub body_head : (s : List PageState) (p q : ℕ) → IsLaid s → p < length s → state_at s p ≡ body q → (q < length s) × ((n : ℕ) × (k : Kind) × (state_at s q ≡ head n k))
 body_head s p q laid lt is = let here : LaidAt s p (body q) = laid_at s p (body q) laid is lt in let less = here.0 in (omega arith, (here.1, here.2, here.3))
 
-pub head_few : (s : List PageState) (p n : ℕ) (k : Kind) → IsLaid s → p < length s → state_at s p ≡ head n k → (n ≤ 1024) × (p < 1024)
+pub head_few : (s : List PageState) (p n : ℕ) (k : Kind) → IsLaid s → p < length s → state_at s p ≡ head n k → (n ≤ MAX_PAGES) × (p < MAX_PAGES)
 head_few s p n k laid lt is = let here : LaidAt s p (head n k) = laid_at s p (head n k) laid is lt in let few = laid.few in let ends = here.1 in (omega arith, omega arith)
 
 pub ruleset finding = (outside, on_free, on_cut, on_head, on_body, large_found, body_head, head_few)
 
 -- the cell of a word, as `cell_of` gives it
-pub in_cell : (b : Cells) (w i : ℕ) → IsInCell b.class i (w % 4096) → cell_at b w ≡ i
-in_cell b w i cell = quotient_is (8 * b.class) (w % 4096) i cell.from cell.below
+pub in_cell : (b : Cells) (w i : ℕ) → IsInCell b.class i (w % PAGE_BYTES) → cell_at b w ≡ i
+in_cell b w i cell = quotient_is (8 * b.class) (w % PAGE_BYTES) i cell.from cell.below
 
 pub block_here : (p w i : ℕ) (b : Cells) → cell_at b w ≡ i → get_or b.taken i false ≡ true → Some (cell_object p b i) ≡ found_in_block p b w
 block_here p w i b c taken =
     let t : get_or b.taken (cell_at b w) false ≡ true = ap (λ j. get_or b.taken j false) c ∙ taken in
     ap (λ j. Some (cell_object p b j)) (sym c) ∙ sym (cond-true (get_or b.taken (cell_at b w) false) (Some (cell_object p b (cell_at b w))) None t)
 
-pub block_taken : (p w i : ℕ) (b : Cells) (f : Found) → IsInCell b.class i (w % 4096) → get_or b.taken i false ≡ true → f ≡ cell_object p b i → Some f ≡ found_in_block p b w
+pub block_taken : (p w i : ℕ) (b : Cells) (f : Found) → IsInCell b.class i (w % PAGE_BYTES) → get_or b.taken i false ≡ true → f ≡ cell_object p b i → Some f ≡ found_in_block p b w
 block_taken p w i b f cell taken e = ap Some e ∙ block_here p w i b (in_cell b w i cell) taken
 
 pub block_none : (p w : ℕ) (b : Cells) → get_or b.taken (cell_at b w) false ≡ false → None ≡ found_in_block p b w
 block_none p w b t = sym (cond-false (get_or b.taken (cell_at b w) false) (Some (cell_object p b (cell_at b w))) None t)
 
-pub block_free : (p w i : ℕ) (b : Cells) → IsInCell b.class i (w % 4096) → get_or b.taken i false ≡ false → None ≡ found_in_block p b w
+pub block_free : (p w i : ℕ) (b : Cells) → IsInCell b.class i (w % PAGE_BYTES) → get_or b.taken i false ≡ false → None ≡ found_in_block p b w
 block_free p w i b cell none = block_none p w b (ap (λ j. get_or b.taken j false) (in_cell b w i cell) ∙ none)
 
 -- a cell ends where the cells of its page do, or before
-cells_left : (c i : ℕ) → i < 512 / c → i * (8 * c) + 8 * c ≤ 512 / c * (8 * c)
+cells_left : (c i : ℕ) → i < PAGE_WORDS / c → i * (8 * c) + 8 * c ≤ PAGE_WORDS / c * (8 * c)
 cells_left c i h =
-    let m : (i + 1) * (8 * c) ≤ 512 / c * (8 * c) = mul-le-mul_right (8 * c) (omega arith) in
+    let m : (i + 1) * (8 * c) ≤ PAGE_WORDS / c * (8 * c) = mul-le-mul_right (8 * c) (omega arith) in
     let e : (i + 1) * (8 * c) ≡ i * (8 * c) + 8 * c = omega arith in
     omega (arith, m, e)
 
 -- the words left over lie past the cells
-pub past_cells : (b : Cells) (w : ℕ) → IsCells b → IsLeftOver b.class (w % 4096) → length b.taken ≤ cell_at b w
+pub past_cells : (b : Cells) (w : ℕ) → IsCells b → IsLeftOver b.class (w % PAGE_BYTES) → length b.taken ≤ cell_at b w
 past_cells b w cells left =
     let bounds = class_bounds b.class cells.class in
     let pos : 0 < 8 * b.class = omega (arith, bounds.0) in
-    let q = divided (w % 4096) (8 * b.class) pos in
+    let q = divided (w % PAGE_BYTES) (8 * b.class) pos in
     let size = cells.size in
     ⊎_elim
-    (λ (lt : cell_at b w < 512 / b.class). absurd (let z = cells_left b.class (cell_at b w) lt in omega (arith, z, q.1, left)))
+    (λ (lt : cell_at b w < PAGE_WORDS / b.class). absurd (let z = cells_left b.class (cell_at b w) lt in omega (arith, z, q.1, left)))
     (λ ge. omega arith)
-    (cases_lt (cell_at b w) (512 / b.class))
+    (cases_lt (cell_at b w) (PAGE_WORDS / b.class))
 
-pub block_left : (p w : ℕ) (b : Cells) → IsCells b → IsLeftOver b.class (w % 4096) → None ≡ found_in_block p b w
+pub block_left : (p w : ℕ) (b : Cells) → IsCells b → IsLeftOver b.class (w % PAGE_BYTES) → None ≡ found_in_block p b w
 block_left p w b cells left = block_none p w b (get_or_past b.taken (cell_at b w) false (past_cells b w cells left))
 
-pub cell_fits : (c i : ℕ) → i < 512 / c → i * (8 * c) + 8 * c ≤ 4096
+pub cell_fits : (c i : ℕ) → i < PAGE_WORDS / c → i * (8 * c) + 8 * c ≤ PAGE_BYTES
 cell_fits c i h = cells_end c i h
 
 pub ruleset on_page = (block_taken, block_free, block_left, cell_fits)

@@ -2,7 +2,7 @@
 use Rattle.std.proofs.Common.{◌≡◌, ℕ, ◌+◌, ◌/◌, ◌<◌, ◌≤◌, Bool, false, List, length, set, replicate, refl, sym, ◌∙◌, subst, arith, ⊎_elim, length-set, get_or-set_same}
 use Rattle.std.proofs.lemmas.Bool.{cases_eq}
 use Rattle.words.specs.declared.class.Kind.{Kind}
-use Rattle.words.specs.declared.limits.TheConstants.{MAX_PAGES}
+use Rattle.words.specs.declared.limits.TheConstants.{MAX_PAGES, PAGE_WORDS}
 use Rattle.blocks.specs.Cells.{IsCells}
 use Rattle.block_map.specs.States.{PageState, free, cut, head, body, state_at, span_of, LaidAt, IsLaid, IsCut, HasCell, with_cell, IsSpanSet, large_states, all_free, AreAllFree}
 use Rattle.block_map.proofs.Spans.{Out, place_of, IsClosed, IsPlain, free_plain, cut_plain, closed_one, closed_free, closed_head, span_one, large_here, large_else}
@@ -34,7 +34,7 @@ set_one s p st laid lt plain here =
     (λ k a b l. let e : k ≡ p = omega arith in
     subst (λ i. LaidAt (set s p st) i (state_at (set s p st) i)) (sym e) (subst (LaidAt (set s p st) p) (sym (get_or-set_same s p st free lt)) here))
 
-pub laid_block : (s : List PageState) (p c : ℕ) (k : Kind) → IsLaid s → p < length s → state_at s p ≡ free → IsCells (record { class = c; kind = k; taken = replicate (512 / c) false }) → IsLaid (set s p (all_free c k))
+pub laid_block : (s : List PageState) (p c : ℕ) (k : Kind) → IsLaid s → p < length s → state_at s p ≡ free → IsCells (record { class = c; kind = k; taken = replicate (PAGE_WORDS / c) false }) → IsLaid (set s p (all_free c k))
 laid_block s p c k laid lt is cells = set_one s p (all_free c k) laid lt (subst IsPlain (sym is) free_plain) cells
 
 celled : (s : List PageState) (st : PageState) (p i : ℕ) (b : Bool) → IsCut st → LaidAt s p st → LaidAt (set s p (with_cell st i b)) p (with_cell st i b)

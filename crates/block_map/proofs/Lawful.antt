@@ -1,19 +1,20 @@
 -- What a word finds are exactly the objects of the states.
 use Rattle.std.proofs.Common.{◌≡◌, ℕ, ◌+◌, ◌*◌, ◌/◌, ◌%◌, ◌<◌, ◌≤◌, ◌⊎◌, Bool, true, false, List, length, get_or, Option, None, Some, refl, sym, ap, ◌∙◌, subst, arith, inl, inr, ⊎_elim}
 use Rattle.std.proofs.lemmas.Bool.{cond-true, cond-false, cases_lt, cases_eq}
-use Rattle.std.proofs.lemmas.Bool.Decides.{nat_tests}
 use Rattle.std.proofs.lemmas.List.{get_or_past}
 use Rattle.std.proofs.lemmas.Option.{same_Some}
+use Rattle.words.specs.declared.limits.TheConstants.{FIRST_ADDRESS}
 use Rattle.words.specs.declared.class.Kind.{Kind}
-use Rattle.words.specs.Classes.{IsSizeClass}
+use Rattle.words.proofs.Classes.{class_even}
+use Rattle.words.proofs.Addresses.{on_its_page}
 use Rattle.blocks.specs.Cells.{Cells, IsCells}
 use Rattle.blocks.proofs.Places.{class_bounds}
-use Rattle.block_map.specs.Places.{page_of, IsOnPage}
+use Rattle.words.specs.Layout.{page_of, IsOnPage}
 use Rattle.block_map.specs.States.{PageState, free, cut, head, body, state_at, LaidAt, IsLaid}
 use Rattle.block_map.specs.Objects.{cell_object, large_object, IsObjectOn, IsObject, Reads, IsAnswer, IsPlaced}
 use Rattle.block_map.specs.FoundIn.{cell_at, found_in, found_in_block, found_on, found_large, IsLawful}
 use Rattle.block_map.specs.declared.found.Found.{Found}
-use Rattle.block_map.proofs.Words.{word_page, read_cell, cell_read, cells_end}
+use Rattle.block_map.proofs.Words.{read_cell, cell_read, cells_end}
 use Rattle.block_map.proofs.Finding.{found_low, found_as}
 
 -- ---- an object is found by each of its words
@@ -30,7 +31,7 @@ object_head : (s : List PageState) (g : Found) (w n : ℕ) (k : Kind) → LaidAt
 object_head s g w n k laid is on reads =
     let r : Reads w (large_object g.page n k) = subst (Reads w) on reads in
     let from = r.from in let below = r.below in
-    let at : IsOnPage (page_of w) w = word_page w (omega arith) in
+    let at : IsOnPage (page_of w) w = on_its_page w (omega arith) in
     ⊎_elim
     (λ (e : page_of w ≡ g.page). found_as s g.page w (head n k) (subst (λ p. IsOnPage p w) e at) is ∙ ap Some (sym on))
     (λ ne.
@@ -104,8 +105,8 @@ read_found : (s : List PageState) (w : ℕ) (f : Found) → IsLaid s → found_i
 read_found s w f laid e =
     ⊎_elim
     (λ low. absurd (none_some f (sym (found_low s w low) ∙ e)))
-    (λ high. read_at s (page_of w) w f laid (word_page w high) e)
-    (cases_lt w 268435456)
+    (λ high. read_at s (page_of w) w f laid (on_its_page w high) e)
+    (cases_lt w FIRST_ADDRESS)
 
 pub object_found : (s : List PageState) (w : ℕ) (f : Found) → IsLaid s → found_in s w ≡ Some f → IsObject s f × Reads w f
 unfolding IsRead
@@ -122,9 +123,6 @@ pub answer_is : (s : List PageState) (w : ℕ) (r : Option Found) → IsLaid s �
 answer_is s w r laid e = answer_of s w r laid (sym e)
 
 -- ---- where objects lie
-class_even : (c : ℕ) → IsSizeClass c → c % 2 ≡ 0
-class_even c h = grind (arith, nat_tests)
-
 cell_sixteen : (n c : ℕ) → c % 2 ≡ 0 → (n * (8 * c)) % 16 ≡ 0
 cell_sixteen n c e =
     let d : c ≡ 2 * (c / 2) = omega arith in

@@ -3,18 +3,20 @@ use Rattle.std.proofs.Common.{◌≡◌, ℕ, ◌+◌, ◌*◌, ◌%◌, ◌<◌
 use Rattle.std.proofs.lemmas.Bool.{cases_lt}
 use Rattle.std.proofs.lemmas.List.{get_or_past}
 use Rattle.std.proofs.Math.Nat.{mul-le-mul_right}
+use Rattle.words.specs.declared.limits.TheConstants.{PAGE_BYTES}
 use Rattle.words.specs.declared.class.Kind.{Kind}
 use Rattle.words.specs.Bits.{IsEmptyFrom, IsFirstFrom}
+use Rattle.words.proofs.Addresses.{byte_of_page}
 use Rattle.blocks.specs.Cells.{Cells, IsCells, IsInCell, IsLeftOver}
 use Rattle.blocks.proofs.Places.{class_bounds, divided}
-use Rattle.block_map.specs.Places.{page_start, IsOnPage}
+use Rattle.words.specs.Layout.{page_start, IsOnPage}
 use Rattle.block_map.specs.States.{PageState, free, cut, head, body, state_at, IsLaid}
 use Rattle.block_map.specs.Objects.{cell_object, large_object, Reads}
 use Rattle.block_map.specs.FoundIn.{cell_at, found_in, found_large}
 use Rattle.block_map.specs.Walks.{IsNextObject, IsNoObject, IsNextCell}
 use Rattle.block_map.specs.declared.found.Found.{Found}
 use Rattle.block_map.proofs.Seen.{laid_at}
-use Rattle.block_map.proofs.Words.{rest_of, read_cell}
+use Rattle.block_map.proofs.Words.{read_cell}
 use Rattle.block_map.proofs.Finding.{found_as, on_free, on_head, on_body, in_cell, past_cells, block_none, block_here, body_head}
 
 -- ---- a page without blocks
@@ -39,9 +41,9 @@ next_body s p from q f low high is e = at_once s p from f high (on_body s p from
 cell_grows : (b : Cells) (p v w : ℕ) → 0 < b.class → IsOnPage p v → IsOnPage p w → v ≤ w → cell_at b v ≤ cell_at b w
 cell_grows b p v w pos at at' le =
     let d : ℕ = 8 * b.class in
-    let r = rest_of p v at in let r' = rest_of p w at' in
-    let q = divided (v % 4096) (8 * b.class) (omega arith) in
-    let q' = divided (w % 4096) (8 * b.class) (omega arith) in
+    let r = byte_of_page p v at in let r' = byte_of_page p w at' in
+    let q = divided (v % PAGE_BYTES) (8 * b.class) (omega arith) in
+    let q' = divided (w % PAGE_BYTES) (8 * b.class) (omega arith) in
     ⊎_elim
     (λ (lt : cell_at b w < cell_at b v).
     let m : (cell_at b w + 1) * (8 * b.class) ≤ cell_at b v * (8 * b.class) = mul-le-mul_right (8 * b.class) (omega arith) in
@@ -75,8 +77,8 @@ next_cell s p from i b cells at is first later =
     let reads : Reads base (cell_object p b i) = record { from = omega arith; below = omega arith } in
     let r = read_cell p i base b (omega arith) reads in
     let onpage = r.0 in let below = onpage.below in let onbelow = at.below in
-    let rest = rest_of p from at in
-    let q = divided (from % 4096) (8 * b.class) (omega arith) in
+    let rest = byte_of_page p from at in
+    let q = divided (from % PAGE_BYTES) (8 * b.class) (omega arith) in
     let m : (cell_at b from + 1) * (8 * b.class) ≤ i * (8 * b.class) = mul-le-mul_right (8 * b.class) (omega arith) in
     let e : (cell_at b from + 1) * (8 * b.class) ≡ cell_at b from * (8 * b.class) + 8 * b.class = omega arith in
     record {
@@ -87,8 +89,8 @@ next_cell s p from i b cells at is first later =
       least = λ w a c.
           let at' : IsOnPage p w = (let f = at.from in record { from = omega arith; below = omega arith }) in
           let grows = cell_grows b p from w pos at at' a in
-          let rest' = rest_of p w at' in
-          let q' = divided (w % 4096) (8 * b.class) (omega arith) in
+          let rest' = byte_of_page p w at' in
+          let q' = divided (w % PAGE_BYTES) (8 * b.class) (omega arith) in
           let before : cell_at b w < i = ⊎_elim (λ (h : cell_at b w < i). h)
           (λ ge. let m' : i * (8 * b.class) ≤ cell_at b w * (8 * b.class) = mul-le-mul_right (8 * b.class) ge in absurd (omega (arith, m', q'.0))) (cases_lt (cell_at b w) i) in
           found_as s p w (cut b) at' is ∙ sym (block_none p w b (first.least (cell_at b w) grows before));
@@ -111,13 +113,13 @@ next_cut s p from b f laid lt low high is next =
 pub ruleset walking = (none_past, none_free, none_cut, next_head, next_body, next_cut, body_head)
 
 -- ---- the returns of the code in a block
-pub empty_left : (b : Cells) (w : ℕ) → IsCells b → IsLeftOver b.class (w % 4096) → IsEmptyFrom b.taken (cell_at b w)
+pub empty_left : (b : Cells) (w : ℕ) → IsCells b → IsLeftOver b.class (w % PAGE_BYTES) → IsEmptyFrom b.taken (cell_at b w)
 empty_left b w cells left k from inside = let past = past_cells b w cells left in absurd (omega arith)
 
-pub empty_after : (b : Cells) (w i : ℕ) → IsInCell b.class i (w % 4096) → IsEmptyFrom b.taken i → IsEmptyFrom b.taken (cell_at b w)
+pub empty_after : (b : Cells) (w i : ℕ) → IsInCell b.class i (w % PAGE_BYTES) → IsEmptyFrom b.taken i → IsEmptyFrom b.taken (cell_at b w)
 empty_after b w i cell empty = subst (IsEmptyFrom b.taken) (sym (in_cell b w i cell)) empty
 
-pub next_after : (b : Cells) (p w i j : ℕ) (f : Found) → IsInCell b.class i (w % 4096) → IsFirstFrom b.taken i j → f ≡ cell_object p b j → IsNextCell p b w f
+pub next_after : (b : Cells) (p w i j : ℕ) (f : Found) → IsInCell b.class i (w % PAGE_BYTES) → IsFirstFrom b.taken i j → f ≡ cell_object p b j → IsNextCell p b w f
 next_after b p w i j f cell first e = record { cell = j; first = subst (λ low. IsFirstFrom b.taken low j) (sym (in_cell b w i cell)) first; object = e }
 
 pub ruleset cells = (empty_left, empty_after, next_after)

@@ -1,32 +1,16 @@
 -- Which words of a page a cell has, and which words an object.
-use Rattle.std.proofs.Common.{◌≡◌, ℕ, ◌-◌, ◌+◌, ◌*◌, ◌/◌, ◌%◌, ◌<◌, ◌≤◌, arith, inl, inr, ⊎_elim}
+use Rattle.std.proofs.Common.{◌≡◌, ℕ, ◌+◌, ◌*◌, ◌/◌, ◌%◌, ◌<◌, ◌≤◌, arith, ⊎_elim}
 use Rattle.std.proofs.lemmas.Bool.{cases_lt}
 use Rattle.std.proofs.lemmas.Nat.{div-add-mod'}
 use Rattle.std.proofs.Math.Nat.{mul-le-mul_right}
+use Rattle.words.specs.declared.limits.TheConstants.{PAGE_BYTES, PAGE_WORDS}
 use Rattle.words.specs.Classes.{IsSizeClass}
+use Rattle.words.proofs.Addresses.{byte_of_page}
 use Rattle.blocks.specs.Cells.{Cells}
 use Rattle.blocks.proofs.Places.{class_bounds, divided}
-use Rattle.block_map.specs.Places.{page_start, page_of, IsOnPage, IsOutside}
+use Rattle.words.specs.Layout.{IsOnPage}
 use Rattle.block_map.specs.Objects.{cell_object, Reads}
 use Rattle.block_map.specs.FoundIn.{cell_at}
-
-pub word_page : (w : ℕ) → 268435456 ≤ w → IsOnPage (page_of w) w
-word_page w h = record { from = omega arith; below = omega arith }
-
-pub is_below : (pages w : ℕ) → w < 268435456 → IsOutside pages w
-is_below pages w h = inl h
-
-pub is_above : (pages w : ℕ) → 268435456 ≤ w → pages ≤ (w - 268435456) / 4096 → IsOutside pages w
-is_above pages w from past = inr (omega arith)
-
-pub ruleset page_at = (is_below, is_above, word_page)
-
-pub page_is : (p w : ℕ) → IsOnPage p w → page_of w ≡ p
-page_is p w at = let from = at.from in let below = at.below in omega arith
-
--- where a word lies on its page
-pub rest_of : (p w : ℕ) → IsOnPage p w → w ≡ page_start p + w % 4096
-rest_of p w at = let f = at.from in let b = at.below in omega arith
 
 not_later : (d i j o : ℕ) → i < j → j * d ≤ o → o < i * d + d → ⊥
 not_later d i j o lt from below =
@@ -47,25 +31,25 @@ quotient_is d o i from below =
     same_cell d (o / d) i o q.0 q.1 from below
 
 -- the cells of a page end before the page does
-pub cells_end : (c i : ℕ) → i < 512 / c → i * (8 * c) + 8 * c ≤ 4096
+pub cells_end : (c i : ℕ) → i < PAGE_WORDS / c → i * (8 * c) + 8 * c ≤ PAGE_BYTES
 cells_end c i h =
-    let e : 512 / c * c + 512 % c ≡ 512 = div-add-mod' 512 c in
-    let m : (i + 1) * (8 * c) ≤ 512 / c * (8 * c) = mul-le-mul_right (8 * c) (omega arith) in
+    let e : PAGE_WORDS / c * c + PAGE_WORDS % c ≡ PAGE_WORDS = div-add-mod' PAGE_WORDS c in
+    let m : (i + 1) * (8 * c) ≤ PAGE_WORDS / c * (8 * c) = mul-le-mul_right (8 * c) (omega arith) in
     omega (arith, m, e)
 
 -- a word that reads the object in a cell is one of the page, and has that cell
-pub read_cell : (p i w : ℕ) (b : Cells) → i < 512 / b.class → Reads w (cell_object p b i) → IsOnPage p w × (cell_at b w ≡ i)
+pub read_cell : (p i w : ℕ) (b : Cells) → i < PAGE_WORDS / b.class → Reads w (cell_object p b i) → IsOnPage p w × (cell_at b w ≡ i)
 read_cell p i w b lt reads =
     let from = reads.from in let below = reads.below in
     let ends = cells_end b.class i lt in
     let at : IsOnPage p w = record { from = omega arith; below = omega (arith, ends) } in
-    let r = rest_of p w at in
-    (at, quotient_is (8 * b.class) (w % 4096) i (omega arith) (omega arith))
+    let r = byte_of_page p w at in
+    (at, quotient_is (8 * b.class) (w % PAGE_BYTES) i (omega arith) (omega arith))
 
 pub cell_read : (p w : ℕ) (b : Cells) → IsSizeClass b.class → IsOnPage p w → Reads w (cell_object p b (cell_at b w))
 cell_read p w b class at =
     let bounds = class_bounds b.class class in
     let pos : 0 < 8 * b.class = omega (arith, bounds.0) in
-    let q = divided (w % 4096) (8 * b.class) pos in
-    let r = rest_of p w at in
+    let q = divided (w % PAGE_BYTES) (8 * b.class) pos in
+    let r = byte_of_page p w at in
     record { from = omega (arith, q.0); below = omega (arith, q.1) }

@@ -2,7 +2,7 @@
 use Rattle.std.specs.Prelude.{◌≡◌, ℕ, ◌*◌, ◌/◌, ◌%◌, false, List, length, slice_index_or, if◌then◌else◌, nat_lt, Option, Some, None}
 use Rattle.words.specs.declared.limits.TheConstants.{FIRST_ADDRESS, PAGE_BYTES, WORD_BYTES}
 use Rattle.blocks.specs.Cells.{Cells}
-use Rattle.block_map.specs.Places.{page_of}
+use Rattle.words.specs.Layout.{page_of}
 use Rattle.block_map.specs.States.{PageState, free, cut, head, body, state_at}
 use Rattle.block_map.specs.Objects.{cell_object, large_object, IsObject, IsMap, Reads}
 use Rattle.block_map.specs.declared.found.Found.{Found}

@@ -4,7 +4,7 @@ use Rattle.words.specs.declared.class.Kind.{Kind}
 use Rattle.words.specs.declared.class.Kind.TheVariants.{Normal}
 use Rattle.words.specs.declared.limits.TheConstants.{FIRST_ADDRESS, GRANULE_BYTES, WORD_BYTES, PAGE_WORDS}
 use Rattle.blocks.specs.Cells.{Cells}
-use Rattle.block_map.specs.Places.{page_start}
+use Rattle.words.specs.Layout.{page_start}
 use Rattle.block_map.specs.States.{PageState, free, cut, head, body, state_at}
 use Rattle.block_map.specs.declared.found.Found.{Found}
 

@@ -2,7 +2,7 @@
 ghost use Rattle.std.specs.Prelude.{◌≡◌, ℕ, ◌<◌, ◌≤◌, length, MatchOption, Option, None, Some};
 ghost use Rattle.words.specs.declared.class.Kind.{Kind};
 ghost use Rattle.words.specs.declared.limits.TheConstants.{MAX_PAGES};
-ghost use Rattle.block_map.specs.Places.{IsOnPage, IsOutside};
+ghost use Rattle.words.specs.Layout.{IsOnPage, IsOutside};
 ghost use Rattle.block_map.specs.States.{head, state_at};
 ghost use Rattle.block_map.specs.Objects.{IsAnswer, cell_object, large_object};
 ghost use Rattle.block_map.specs.FoundIn.{found_in, found_in_block, found_large, IsLawful};
@@ -11,8 +11,8 @@ use crate::found::Found;
 use crate::map::BlockMap;
 use crate::page::Page;
 use blocks::{Block, LargeHead};
-use words::PageNo;
-use words::limits::{FIRST_ADDRESS, PAGE_BYTES, PAGE_WORDS, WORD_BYTES};
+use words::limits::{FIRST_ADDRESS, PAGE_WORDS, WORD_BYTES};
+use words::{PageNo, page_of, page_start};
 
 impl BlockMap {
     ghost use Rattle.block_map.specs.States.{IsLaid};
@@ -33,7 +33,7 @@ impl BlockMap {
         ensures found { result ≡ found_in self.now w }
         ensures laid { IsLaid self.now }
     {
-        let Some(page) = self.page_of(w) else {
+        let Some(page) = self.page_at(w) else {
             return None;
         };
         match self.page(page) {
@@ -46,8 +46,8 @@ impl BlockMap {
 
     // The page that has an address, and `None` exactly for an address outside of the heap.
     #[inline]
-    #[tactic(auto, using(crate::proofs::Words::page_at))]
-    fn page_of(&self, address: u64) -> Option<PageNo>
+    #[tactic(auto, using(words::proofs::Addresses::addresses))]
+    fn page_at(&self, address: u64) -> Option<PageNo>
         ensures page { MatchOption result (IsOutside (length self.now) address) (λ page. IsOnPage page address × (page < length self.now)) }
         ensures laid { IsLaid self.now }
     {
@@ -55,7 +55,7 @@ impl BlockMap {
         if address < FIRST_ADDRESS {
             return None;
         }
-        let page = (address - FIRST_ADDRESS) / PAGE_BYTES;
+        let page = page_of(address);
         if page < pages {
             Some(page as PageNo)
         } else {
@@ -105,9 +105,7 @@ pub(crate) fn cell_at(page: PageNo, block: &Block, cell: u16) -> Found
 {
     let words = block.class().words();
     Found {
-        base: FIRST_ADDRESS
-            + PAGE_BYTES * u64::from(page)
-            + u64::from(cell) * (WORD_BYTES * u64::from(words)),
+        base: page_start(page) + u64::from(cell) * (WORD_BYTES * u64::from(words)),
         len: u32::from(words),
         kind: block.kind(),
         page,
@@ -123,7 +121,7 @@ pub(crate) fn large_at(page: PageNo, large: LargeHead) -> Found
     ensures { result ≡ large_object page large.pages large.kind }
 {
     Found {
-        base: FIRST_ADDRESS + PAGE_BYTES * u64::from(page),
+        base: page_start(page),
         len: PAGE_WORDS as u32 * large.pages,
         kind: large.kind,
         page,

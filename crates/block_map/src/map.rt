@@ -3,7 +3,7 @@
 ghost use Rattle.std.specs.Prelude.{◌≡◌, ℕ, ◌+◌, ◌<◌, ◌≤◌, true, false, length, map, slice_set};
 ghost use Rattle.words.specs.declared.limits.TheConstants.{MAX_PAGES};
 ghost use Rattle.pages.specs.Opening.{IsOpened};
-ghost use Rattle.block_map.specs.Places.{page_start};
+ghost use Rattle.words.specs.Layout.{page_start};
 ghost use Rattle.block_map.specs.States.{free, state_at, all_free, large_states, with_cell, span_of, HasCell, AreAllFree, IsSpanSet};
 ghost use Rattle.block_map.specs.Objects.{object_on, large_object};
 ghost use Rattle.block_map.specs.FoundIn.{found_in, IsLawful};

@@ -2,7 +2,7 @@
 ghost use Rattle.std.specs.Prelude.{◌≡◌, ◌≢◌, ◌+◌, ◌<◌, ◌≤◌, length, MatchOption, MatchBool};
 ghost use Rattle.words.specs.declared.limits.TheConstants.{MAX_PAGES};
 ghost use Rattle.words.specs.Bits.{IsEmptyFrom};
-ghost use Rattle.block_map.specs.Places.{page_start, IsOnPage};
+ghost use Rattle.words.specs.Layout.{page_start, IsOnPage};
 ghost use Rattle.block_map.specs.States.{free, cut, state_at, IsCut};
 ghost use Rattle.block_map.specs.FoundIn.{found_in, cell_at};
 ghost use Rattle.block_map.specs.Walks.{IsNextObject, IsNoObject, IsNextCell};
@@ -12,8 +12,7 @@ use crate::look::{cell_at, large_at};
 use crate::map::BlockMap;
 use crate::page::Page;
 use blocks::Block;
-use words::PageNo;
-use words::limits::{FIRST_ADDRESS, PAGE_BYTES};
+use words::{PageNo, page_start};
 
 impl BlockMap {
     /// Whether nothing stands on a page.
@@ -44,7 +43,7 @@ impl BlockMap {
         ensures { MatchOption result (IsNoObject (found_in self.now) from (page_start (page + 1))) (λ f. IsNextObject (found_in self.now) from (page_start (page + 1)) f) }
     {
         let what = self.page(page);
-        if from - FIRST_ADDRESS >= PAGE_BYTES * (u64::from(page) + 1) {
+        if from >= page_start(page + 1) {
             return None;
         }
         match what {

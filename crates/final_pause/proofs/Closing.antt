@@ -4,7 +4,7 @@ use Rattle.block_map.specs.declared.found.Found.{Found}
 use Rattle.block_map.specs.Objects.{IsMap}
 use Rattle.words.specs.Bits.{Has}
 use Rattle.mark_bits.specs.Granules.{granule}
-use Rattle.words.specs.declared.limits.TheConstants.{FIRST_ADDRESS}
+use Rattle.words.specs.declared.limits.TheConstants.{FIRST_ADDRESS, GRANULE_BYTES, PAGE_WORDS}
 use Rattle.marker.specs.Marking.{Marking, IsMarked, IsDone}
 use Rattle.marker.specs.Work.{cost, dirty_pages, newly_pages, entry_words}
 use Rattle.marker.specs.Closure.{Closure}
@@ -23,7 +23,7 @@ pub record Closes (found : ℕ → Option Found) (words roots : List ℕ) (reads
 none_in : (w : ℕ) → Contains [] w → ⊥
 none_in w h = let l = h.1 in omega arith
 
-at : (i : ℕ) → granule (FIRST_ADDRESS + 16 * i) ≡ i
+at : (i : ℕ) → granule (FIRST_ADDRESS + GRANULE_BYTES * i) ≡ i
 at i = omega arith
 
 pub closes_step : (found : ℕ → Option Found) (words roots : List ℕ) (reads : ℕ) (old : Marking) (mid_reads : ℕ) (mid : Marking) (now_reads : ℕ) (now : Marking)
@@ -44,10 +44,10 @@ closed pages found words roots reads old now_reads now map t c d f e = (
 
 -- the words that were read
 pub closed_reads : (found : ℕ → Option Found) (words roots : List ℕ) (reads : ℕ) (old : Marking) (now_reads : ℕ) (now : Marking) → Closes found words roots reads old now_reads now
-    → now_reads ≤ reads + (512 * (dirty_pages old + newly_pages found old now) + entry_words found old)
+    → now_reads ≤ reads + (PAGE_WORDS * (dirty_pages old + newly_pages found old now) + entry_words found old)
 unfolding cost
 closed_reads found words roots reads old now_reads now c =
     let l = c.less in
-    let n = newly_rest found 0 old.marks now.marks c.traces.marks_len (λ i h. subst (Has now.marks) (at i) (c.traces.marks (FIRST_ADDRESS + 16 * i) (subst (Has old.marks) (sym (at i)) h))) in
+    let n = newly_rest found 0 old.marks now.marks c.traces.marks_len (λ i h. subst (Has now.marks) (at i) (c.traces.marks (FIRST_ADDRESS + GRANULE_BYTES * i) (subst (Has old.marks) (sym (at i)) h))) in
     let d = dirty_words old.dirty in
     omega (arith, l, n, d)

@@ -1,6 +1,5 @@
 -- Where the invariant holds and nothing is left to read, the marks are the closure.
-use Rattle.std.proofs.Common.{◌≡◌, ℕ, ◌<◌, List, [], true, false, Contains, Option, Some, None, sym, ◌∙◌, subst, ⊎_elim, arith}
-use Rattle.std.proofs.lemmas.Bool.{false≢true}
+use Rattle.std.proofs.Common.{◌≡◌, ℕ, ◌<◌, List, [], Contains, Option, Some, None, sym, ◌∙◌, subst, ⊎_elim, arith}
 use Rattle.words.specs.declared.class.Kind.TheVariants.{Normal}
 use Rattle.block_map.specs.declared.found.Found.{Found}
 use Rattle.block_map.specs.Objects.{IsMap}
@@ -8,7 +7,7 @@ use Rattle.pages.specs.Memory.{word_at}
 use Rattle.marker.specs.declared.entry.Entry.{Entry}
 use Rattle.marker.specs.Marking.{Marking, IsMarked, IsEntry, IsPending, word_address, IsDone}
 use Rattle.marker.specs.Closure.{Closure, held, root, word}
-use Rattle.marker.proofs.Closures.{at_base, is_object}
+use Rattle.marker.proofs.Closures.{is_object}
 use Rattle.marker.specs.Invariant.{DirtyPageInvariant, IsTargetMarked, IsAwaited, AreRootsMarked}
 
 none_in : (e : Entry) → Contains [] e → ⊥
@@ -26,9 +25,7 @@ not_awaited m d f i a = ⊎_elim (λ h. d.clean _ h) (λ (p : IsPending m f.base
 pub all_read : (found : ℕ → Option Found) (words : List ℕ) (m : Marking) → DirtyPageInvariant found words m → IsDone m
     → (f : Found) → found f.base ≡ Some f → f.kind ≡ Normal → IsMarked m f.base → (i : ℕ) → i < f.len → IsTargetMarked found m (word_at words (word_address f i))
 all_read found words m t d f e n k i lt =
-    ⊎_elim (λ (x : false ≡ true). absurd (false≢true x))
-    (λ r. ⊎_elim (λ h. h) (λ a. absurd (not_awaited m d f i a)) r)
-    (t f e n k i lt)
+    ⊎_elim (λ h. h) (λ a. absurd (not_awaited m d f i a)) (t f e n k i lt)
 
 -- the closure is marked
 pub closure_marked : (pages : ℕ) (found : ℕ → Option Found) (words roots : List ℕ) (given : ℕ → Type 0) (m : Marking) → IsMap pages found

@@ -3,7 +3,7 @@ ghost use Rattle.std.specs.Prelude.{◌≡◌, ℕ, ◌+◌, ◌*◌, ◌<◌, �
 ghost use Rattle.words.specs.declared.limits.TheConstants.{PAGE_WORDS};
 ghost use Rattle.block_map.specs.declared.found.Found.{Found};
 ghost use Rattle.block_map.specs.FoundIn.{found_in};
-ghost use Rattle.marker.specs.Marking.{IsSized, IsMarked, IsDone};
+ghost use Rattle.marker.specs.Marking.{IsMarked, IsDone};
 ghost use Rattle.marker.specs.Work.{cost, dirty_pages, newly_pages, entry_words};
 ghost use Rattle.marker.specs.Invariant.{DirtyPageInvariant};
 ghost use Rattle.marker.specs.Closure.{Closure};
@@ -15,7 +15,7 @@ use pages::Reader;
 
 /// Marks on until nothing is left to read: the marks become the closure of the marks before and the roots.
 pub fn close_marks(marker: &mut Marker, map: &BlockMap, reader: &mut Reader, roots: &[u64])
-    requires sized { IsSized (length map.now) marker.old }
+    requires pages { length marker.old.dirty ≡ length map.now }
     requires memory { length reader.old.words ≡ PAGE_WORDS * length map.now }
     requires invariant { DirtyPageInvariant (found_in map.now) reader.old.words marker.old }
     ensures closure { (f : Found) → found_in map.now f.base ≡ Some f → (IsMarked marker.new f.base ↔ Closure (found_in map.now) reader.old.words roots.now (IsMarked marker.old) f) }
@@ -30,7 +30,7 @@ pub fn close_marks(marker: &mut Marker, map: &BlockMap, reader: &mut Reader, roo
 
 // Reads all entries and then the lowest dirty page. Answers whether nothing was left to read.
 fn mark_on(marker: &mut Marker, map: &BlockMap, reader: &mut Reader) -> bool
-    requires sized { IsSized (length map.now) marker.old }
+    requires pages { length marker.old.dirty ≡ length map.now }
     requires memory { length reader.old.words ≡ PAGE_WORDS * length map.now }
     ensures traces { Traces (found_in map.now) reader.old.words [] marker.old marker.new }
     ensures done { result ≡ true → IsDone marker.new }

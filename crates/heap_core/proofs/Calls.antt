@@ -1,5 +1,5 @@
 -- The calls that allocate and free.
-use Rattle.std.proofs.Common.{◌≡◌, ℕ, [], ◌∷◌, Some, refl, sym, ap, ◌∙◌, subst}
+use Rattle.std.proofs.Common.{get_or, cond, replicate, true, false, length, inl, inr, ⊎_elim, ◌≡◌, ℕ, ◌+◌, [], ◌∷◌, Some, None, refl, sym, ap, ◌∙◌, subst, List}
 use Rattle.std.specs.Prelude.{◌≢◌}
 use Rattle.words.specs.declared.class.Kind.{Kind}
 use Rattle.words.specs.declared.class.Placement.{Placement}
@@ -8,40 +8,233 @@ use Rattle.words.specs.Placing.{placement_of}
 use Rattle.heap_spec.specs.declared.call.Call.TheVariants.{Alloc, Free}
 use Rattle.heap_spec.specs.declared.event.Event.TheVariants.{Mutator}
 use Rattle.heap_spec.specs.declared.reply.Reply.TheVariants.{Refused, Done}
-use Rattle.heap_spec.specs.Heap.{Heap, Mutator as HeapMutator, without}
+use Rattle.heap_spec.specs.Heap.{Heap, Mutator as HeapMutator}
 use Rattle.heap_spec.specs.Replies.{IsStep}
 use Rattle.heap_spec.specs.Steps.{Acts, Calls, register, with_new, with_register}
+use Rattle.words.specs.Bits.{Has}
+use Rattle.mark_bits.specs.Granules.{granule}
+use Rattle.block_map.specs.Objects.{Reads, IsPlaced}
+use Rattle.pages.specs.Memory
+use Rattle.pages.specs.Memory.{IsZeroed}
+use Rattle.heap_spec.specs.Heap.{with_at, without, without_at}
+use Rattle.heap_spec.specs.Room.{length_of}
+use Rattle.std.specs.Prelude.{Bool}
+use Rattle.std.proofs.lemmas.Bool.{false≢true}
+use Rattle.marker.specs.Mutations.{IsFreed}
+use Rattle.marker.specs.Marking.{IsMarked}
+use Rattle.block_map.specs.Objects.{IsMap}
+use Rattle.block_map.specs.Changes.{IsRemoved}
+use Rattle.std.proofs.Common.{get_or-set_other}
+use Rattle.std.proofs.lemmas.Option.{same_Some}
+use Rattle.marker.proofs.Closures.{same_object}
 use Rattle.block_map.specs.FoundIn.{found_in, IsLawful}
 use Rattle.block_map.specs.declared.found.Found.{Found}
 use Rattle.roots.specs.Roots.{RootSet, HasMutator, SetsWord}
-use Rattle.heap_core.specs.Contents.{Store}
-use Rattle.heap_core.specs.Standing.{StandsFor, Stores}
-use Rattle.heap_core.specs.Rooms.{Allocates, HasNoRoom, Frees}
+use Rattle.object_space.specs.Store.{Store, IsSwept}
+use Rattle.heap_core.specs.Contents.{Cycle}
+use Rattle.heap_core.specs.Calls.{IsCall}
+use Rattle.heap_core.specs.Beside.{NotesObject}
+use Rattle.object_space.specs.Sweeps.{Gains, Loses, Sweeps}
+use Rattle.object_space.specs.Shown.{Stores, Shows}
+use Rattle.heap_core.specs.Standing.{StandsFor}
+use Rattle.object_space.specs.Kept.{restrict, is_kept, kept_in}
+use Rattle.object_space.proofs.Kept.{kept_cases, kept_map, kept_added, kept_removed, kept_none, kept_same, kept_is, nothing_pending}
+use Rattle.object_space.proofs.Changes.{shows_added, shows_removed}
+use Rattle.object_space.proofs.Allocations.{shows_same}
+use Rattle.object_space.proofs.Shown.{at_base}
+use Rattle.object_space.proofs.Sweeping.{read_or_not}
+use Rattle.object_space.specs.Rooms.{HasRoomAt, HasNoRoom}
 use Rattle.heap_core.proofs.Lookups.{finds}
-use Rattle.heap_core.proofs.Roots.{core_of, attached, stands_set}
+use Rattle.heap_core.proofs.Roots.{core_of, attached, stands_set, none_some}
 
-pub allocated : (roots roots' : RootSet) (t t' : Store) (slot d n base : ℕ) (kind : Kind) (place : Placement) (m : HeapMutator) → HasMutator roots slot m → placement_of n ≡ Some place
-    → Allocates t place kind base t' → SetsWord roots slot d base roots' → IsStep (StandsFor (core_of roots t)) (Mutator slot (Alloc d n kind)) Done (StandsFor (core_of roots' t'))
-allocated roots roots' t t' slot d n base kind place m at is allocates sets s h =
-    let new = allocates s h.store in
+-- pages were swept
+pub swept_stands : (roots : RootSet) (t0 t : Store) (y : Cycle) → Sweeps t0 y.marking.marks t → (s : Heap) → StandsFor (core_of roots t0 y) s → StandsFor (core_of roots t y) s
+swept_stands roots t0 t y sweeps s h = record {
+  mutators = h.mutators;
+  globals = h.globals;
+  store = record {
+    pages = h.store.pages ∙ sym sweeps.pages;
+    shows = subst (λ ws. Shows (restrict (is_kept t.pending y.marking.marks) (found_in t.states)) ws s.objects s.births) (sym sweeps.words)
+        (shows_same (restrict (is_kept t0.pending y.marking.marks) (found_in t0.states)) (restrict (is_kept t.pending y.marking.marks) (found_in t.states)) t0.words s.objects s.births sweeps.same h.store.shows);
+  };
+}
+
+-- what was kept is kept, and so is the object that came
+module _ (t t' : Store) (y y' : Cycle) (place : Placement) (kind : Kind) (base : ℕ) (gains : Gains t place kind base t') (notes : NotesObject y.is_marking base y.marking y'.marking) where
+  here : found_in t'.states gains.object.base ≡ Some gains.object
+  here = ap (found_in t'.states) gains.at ∙ gains.found
+
+  -- no object that was there has the granule of the one that came
+  apart : (w : ℕ) (x : Found) → found_in t.states w ≡ Some x → granule x.base ≡ granule base → ⊥
+  apart w x there same = ⊎_elim (λ r. clash (sym (gains.added.before x.base r) ∙ was)) (λ not. not (read not)) (read_or_not x.base gains.object)
+    where
+      was : found_in t.states x.base ≡ Some x
+      was = at_base (found_in t.states) (length t.states) gains.before w x there
+
+      clash : None ≡ Some x → ⊥
+      clash e = cc
+
+      read : (Reads x.base gains.object → ⊥) → Reads x.base gains.object
+      read not =
+          let now : found_in t'.states x.base ≡ Some x = gains.added.others x.base not ∙ was in
+          let one : x ≡ gains.object = same_object (length t'.states) (found_in t'.states) gains.map x gains.object now here (same ∙ ap granule (sym gains.at)) in
+          subst (Reads x.base) one (gains.map.reads x.base x now)
+
+  keeps_same : (w : ℕ) (x : Found) → found_in t.states w ≡ Some x → is_kept t'.pending y'.marking.marks x ≡ is_kept t.pending y.marking.marks x
+  keeps_same w x there =
+      ap (λ row. is_kept row y'.marking.marks x) gains.pending
+      ∙ ap (λ b. cond (get_or t.pending x.page false) b true) (notes.others (granule x.base) (apart w x there))
+
+  keeps_new : is_kept t'.pending y'.marking.marks gains.object ≡ true
+  keeps_new = nothing_pending t'.pending y'.marking.marks gains.object (λ h. false≢true (sym (ap (λ row. get_or row gains.object.page false) gains.pending ∙ gains.swept) ∙ h))
+
+  pub stores_new : (s : Heap) → Stores (is_kept t.pending y.marking.marks) t s → Stores (is_kept t'.pending y'.marking.marks) t' (with_new s base kind place)
+  stores_new s stores = record {
+    pages = stores.pages ∙ sym gains.pages;
+    shows = subst (λ b. Shows (restrict (is_kept t'.pending y'.marking.marks) (found_in t'.states)) t'.words (with_at s.objects b (Some (record { birth = s.births + 1; kind = kind; words = replicate (length_of place) 0 }))) (s.births + 1)) gains.at
+        (shows_added (restrict (is_kept t.pending y.marking.marks) (found_in t.states)) (restrict (is_kept t'.pending y'.marking.marks) (found_in t'.states)) (length t.states)
+        (kept_map (length t.states) (is_kept t.pending y.marking.marks) (found_in t.states) gains.before) t.words t'.words s.objects s.births stores.shows gains.object (length_of place) kind
+        (kept_added (is_kept t.pending y.marking.marks) (is_kept t'.pending y'.marking.marks) (found_in t.states) (found_in t'.states) gains.object gains.added keeps_new keeps_same)
+        (subst (λ b. IsZeroed t.words t'.words (Memory.place b) gains.object.len) (sym gains.at) gains.zeroed) gains.size gains.of_kind placed.some placed.above placed.aligned);
+  }
+    where
+      placed : IsPlaced (length t'.states) gains.object
+      placed = gains.map.placed gains.object.base gains.object here
+
+allocated_step : (roots roots' : RootSet) (t t' : Store) (y y' : Cycle) (slot d n base : ℕ) (kind : Kind) (place : Placement) (m : HeapMutator) → HasMutator roots slot m → placement_of n ≡ Some place
+    → HasRoomAt t place kind base → Gains t place kind base t' → SetsWord roots slot d base roots' → NotesObject y.is_marking base y.marking y'.marking → IsStep (StandsFor (core_of roots t y)) (Mutator slot (Alloc d n kind)) Done (StandsFor (core_of roots' t' y'))
+allocated_step roots roots' t t' y y' slot d n base kind place m at is room gains sets notes s h =
+    let new = stores_new t t' y y' place kind base gains notes s h.store in
     let after : Heap = with_register (with_new s base kind place) slot m d base in (
       after,
-      Calls.acts (attached roots t s slot m h at) (Acts.allocated base is new.0),
-      stands_set roots roots' t t' s after slot d base m h at sets refl refl (record { pages = new.1.pages; shows = new.1.shows }),
+      Calls.acts (attached roots t y s slot m h at) (Acts.allocated base is (room (is_kept t.pending y.marking.marks) s h.store)),
+      stands_set roots roots' t t' y y' s after slot d base m h at sets refl refl (record { pages = new.pages; shows = new.shows }),
     )
 
-pub full : (t : Store) (s : Heap) (slot d n : ℕ) (kind : Kind) (place : Placement) (m : HeapMutator) → placement_of n ≡ Some place → HasNoRoom t place kind → Stores t s → Acts s slot m (Alloc d n kind) (Refused Full) s
-full t s slot d n kind place m is none stores = Acts.full is (none s stores)
+pub allocated : (roots roots' : RootSet) (t0 t t' : Store) (y y' : Cycle) (slot d n base : ℕ) (kind : Kind) (place : Placement) (m : HeapMutator) → HasMutator roots slot m → placement_of n ≡ Some place
+    → Sweeps t0 y.marking.marks t → HasRoomAt t place kind base → Gains t place kind base t' → SetsWord roots slot d base roots' → NotesObject y.is_marking base y.marking y'.marking → y'.is_marking ≡ y.is_marking → y'.count ≡ y.count
+    → IsCall (core_of roots t0 y) (Mutator slot (Alloc d n kind)) Done (core_of roots' t' y')
+allocated roots roots' t0 t t' y y' slot d n base kind place m at is sweeps room gains sets notes phase count = record {
+  steps = λ s h. allocated_step roots roots' t t' y y' slot d n base kind place m at is room gains sets notes s (swept_stands roots t0 t y sweeps s h);
+  phase = phase;
+  count = count;
+  stays = λ f there marked. notes.stays (granule f.base) marked;
+  came = λ is f there none. let now = kept_cases (is_kept t'.pending y'.marking.marks) (found_in t'.states) f.base f there in came_marked is f now.0 now.1 none;
+  stays_dirty = λ p h. subst (λ ds. Has ds p) (sym notes.dirty) h;
+  current = notes.current;
+  stack = notes.stack;
+  marks = λ f there marked. ⊎_elim (λ old. inl old) (λ same. inr (new f (kept_cases (is_kept t'.pending y'.marking.marks) (found_in t'.states) f.base f there).0 same)) (notes.marks f.base marked);
+  dirty = λ p h. inl (subst (λ ds. Has ds p) notes.dirty h);
+}
+  where
+    -- the object at the granule is the one that came
+    new : (f : Found) → found_in t'.states f.base ≡ Some f → granule f.base ≡ granule base → restrict (is_kept t0.pending y.marking.marks) (found_in t0.states) f.base ≡ None
+    new f there same =
+        let one : f ≡ gains.object = same_object (length t'.states) (found_in t'.states) gains.map f gains.object there (ap (found_in t'.states) gains.at ∙ gains.found) (same ∙ ap granule (sym gains.at)) in
+        sym (sweeps.same.same f.base) ∙ kept_none (is_kept t.pending y.marking.marks) (found_in t.states) f.base (gains.added.before f.base (subst (Reads f.base) one (gains.map.reads f.base f there)))
 
-pub freed : (roots : RootSet) (t t' : Store) (slot r : ℕ) (m : HeapMutator) (f : Found) → IsLawful t.states → HasMutator roots slot m → found_in t.states (register m r) ≡ Some f → f.base ≡ register m r
-    → Frees t f.base t' → IsStep (StandsFor (core_of roots t)) (Mutator slot (Free r)) Done (StandsFor (core_of roots t'))
-freed roots t t' slot r m f lawful at is base frees s h =
-    let found = finds t s (register m r) f lawful h.store is in
-    let has = ap s.objects (sym base) ∙ found.1.0 in (
-      without s (register m r ∷ []),
-      Calls.acts (attached roots t s slot m h at) (Acts.freed has),
-      subst (λ b. StandsFor (core_of roots t') (without s (b ∷ []))) base (record { mutators = h.mutators; globals = h.globals; store = frees s h.store }),
-    )
+    -- an object that was not there is the one that came
+    came_marked : y.is_marking ≡ true → (f : Found) → found_in t'.states f.base ≡ Some f → is_kept t'.pending y'.marking.marks f ≡ true → restrict (is_kept t0.pending y.marking.marks) (found_in t0.states) f.base ≡ None → IsMarked y'.marking f.base
+    came_marked is f there kept none = ⊎_elim
+        (λ r. subst (IsMarked y'.marking) (sym gains.at ∙ ap (λ (x : Found). x.base) (sym (same_Some f gains.object (sym there ∙ gains.added.after f.base r)))) (notes.marked is))
+        (λ not. absurd (none_some f (sym none ∙ sym (sweeps.same.same f.base) ∙ kept_is (is_kept t.pending y.marking.marks) (found_in t.states) f.base f (was not) (sym (keeps_same t t' y y' place kind base gains notes f.base f (was not)) ∙ kept))))
+        (read_or_not f.base gains.object)
+      where
+        was : (Reads f.base gains.object → ⊥) → found_in t.states f.base ≡ Some f
+        was not = sym (gains.added.others f.base not) ∙ there
 
-pub inside : (t : Store) (s : Heap) (slot r : ℕ) (m : HeapMutator) (f : Found) → IsLawful t.states → found_in t.states (register m r) ≡ Some f → f.base ≢ register m r → Stores t s → Acts s slot m (Free r) (Refused NotBase) s
-inside t s slot r m f lawful is ne stores = let found = finds t s (register m r) f lawful stores is in Acts.free_inside found.1 ne
+-- a store with nothing to be swept keeps all its objects
+all_kept : (keep : Found → Bool) (t : Store) (s : Heap) → ((f : Found) → keep f ≡ true) → Stores keep t s → Stores (λ _. true) t s
+all_kept keep t s all stores = record {
+  pages = stores.pages;
+  shows = shows_same (restrict keep (found_in t.states)) (restrict (λ _. true) (found_in t.states)) t.words s.objects s.births (kept_same keep (λ _. true) (found_in t.states) (λ w f there. sym (all f))) stores.shows;
+}
+
+pub full : (roots : RootSet) (t0 t : Store) (y : Cycle) (slot d n : ℕ) (kind : Kind) (place : Placement) (m : HeapMutator) → HasMutator roots slot m → placement_of n ≡ Some place → Sweeps t0 y.marking.marks t → IsSwept t → HasNoRoom t place kind
+    → IsCall (core_of roots t0 y) (Mutator slot (Alloc d n kind)) (Refused Full) (core_of roots t y)
+full roots t0 t y slot d n kind place m at is sweeps swept none = record {
+  steps = λ s h.
+      let now = swept_stands roots t0 t y sweeps s h in
+      (s, Calls.acts (attached roots t0 y s slot m h at) (Acts.full is (none s (all_kept (is_kept t.pending y.marking.marks) t s (λ f. nothing_pending t.pending y.marking.marks f (swept f.page)) now.store))), now);
+  phase = refl;
+  count = refl;
+  marks = λ f there marked. inl marked;
+  stays = λ f there marked. marked;
+  came = λ is f there none. absurd (none_some f (sym none ∙ sym (sweeps.same.same f.base) ∙ there));
+  dirty = λ p h. inl h;
+  stays_dirty = λ p h. h;
+  current = refl;
+  stack = refl;
+}
+
+-- a kept object whose base was looked for is there
+pub kept_there : (t : Store) (marks : List Bool) (w : ℕ) (f : Found) → f.base ≡ w → kept_in t.states t.pending marks w ≡ Some f → found_in t.states f.base ≡ Some f
+kept_there t marks w f base is = (kept_cases (is_kept t.pending marks) (found_in t.states) f.base f (ap (kept_in t.states t.pending marks) base ∙ is)).0
+
+-- an object goes, and its mark at most with it: of those that are kept it alone goes
+module _ (t t' : Store) (y y' : Cycle) (f : Found) (map : IsMap (length t.states) (found_in t.states)) (is : restrict (is_kept t.pending y.marking.marks) (found_in t.states) f.base ≡ Some f) (loses : Loses t f t')
+    (others : (k : ℕ) → k ≢ granule f.base → get_or y'.marking.marks k false ≡ get_or y.marking.marks k false) where
+  -- no object that is left has the granule of the one that went
+  apart_left : (w : ℕ) (x : Found) → found_in t'.states w ≡ Some x → granule x.base ≡ granule f.base → ⊥
+  apart_left w x there same = ⊎_elim (λ r. clash (sym (loses.removed.before w r) ∙ there)) (λ not. not (read not)) (read_or_not w f)
+    where
+      clash : None ≡ Some x → ⊥
+      clash e = cc
+
+      read : (Reads w f → ⊥) → Reads w f
+      read not =
+          let was : found_in t.states w ≡ Some x = loses.removed.others w not ∙ there in
+          let gone = (kept_cases (is_kept t.pending y.marking.marks) (found_in t.states) f.base f is).0 in
+          let one : x ≡ f = same_object (length t.states) (found_in t.states) map x f (at_base (found_in t.states) (length t.states) map w x was) gone same in
+          subst (Reads w) one (map.reads w x was)
+
+  kept_left : IsRemoved (restrict (is_kept t.pending y.marking.marks) (found_in t.states)) (restrict (is_kept t'.pending y'.marking.marks) (found_in t'.states)) f
+  kept_left = kept_removed (is_kept t.pending y.marking.marks) (is_kept t'.pending y'.marking.marks) (found_in t.states) (found_in t'.states) f loses.removed
+      (kept_cases (is_kept t.pending y.marking.marks) (found_in t.states) f.base f is).1
+      (λ w x there. ap (λ b. cond b (get_or y'.marking.marks (granule x.base) false) true) (loses.pending w x there)
+      ∙ ap (λ b. cond (get_or t.pending x.page false) b true) (others (granule x.base) (apart_left w x there)))
+
+  stores_less : (s : Heap) → Stores (is_kept t.pending y.marking.marks) t s → Stores (is_kept t'.pending y'.marking.marks) t' (without s (f.base ∷ []))
+  stores_less s stores = record {
+    pages = stores.pages ∙ sym loses.pages;
+    shows = subst (λ ws. Shows (restrict (is_kept t'.pending y'.marking.marks) (found_in t'.states)) ws (without_at s.objects (f.base ∷ [])) s.births) (sym loses.words)
+        (shows_removed (restrict (is_kept t.pending y.marking.marks) (found_in t.states)) (restrict (is_kept t'.pending y'.marking.marks) (found_in t'.states)) (length t.states)
+        (kept_map (length t.states) (is_kept t.pending y.marking.marks) (found_in t.states) map) t.words s.objects s.births stores.shows f is kept_left);
+  }
+
+  -- what is there now was there before
+  was_kept : (g : Found) → restrict (is_kept t'.pending y'.marking.marks) (found_in t'.states) g.base ≡ Some g → restrict (is_kept t.pending y.marking.marks) (found_in t.states) g.base ≡ None → ⊥
+  was_kept g there none = ⊎_elim (λ r. none_some g (sym (kept_left.before g.base r) ∙ there)) (λ not. none_some g (sym none ∙ kept_left.others g.base not ∙ there)) (read_or_not g.base f)
+
+pub freed : (roots : RootSet) (t t' : Store) (y y' : Cycle) (slot r : ℕ) (m : HeapMutator) (f : Found) → IsLawful t.states → HasMutator roots slot m → restrict (is_kept t.pending y.marking.marks) (found_in t.states) (register m r) ≡ Some f → f.base ≡ register m r
+    → Loses t f t' → IsFreed f.base y.marking y'.marking → y'.is_marking ≡ y.is_marking → y'.count ≡ y.count → IsCall (core_of roots t y) (Mutator slot (Free r)) Done (core_of roots t' y')
+freed roots t t' y y' slot r m f lawful at is base loses frees phase count = record {
+  steps = λ s h.
+      let found = finds (is_kept t.pending y.marking.marks) t s (register m r) f lawful h.store is in
+      let has = ap s.objects (sym base) ∙ found.1.0 in (
+        without s (register m r ∷ []),
+        Calls.acts (attached roots t y s slot m h at) (Acts.freed has),
+        subst (λ b. StandsFor (core_of roots t' y') (without s (b ∷ []))) base (record { mutators = h.mutators; globals = h.globals; store = stores_less t t' y y' f lawful.map there loses others s h.store }),
+      );
+  phase = phase;
+  count = count;
+  marks = λ g now marked. inl (sym (others (granule g.base) (left g now)) ∙ marked);
+  stays = λ g now marked. others (granule g.base) (left g now) ∙ marked;
+  came = λ marking g now none. absurd (was_kept t t' y y' f lawful.map there loses others g now none);
+  dirty = λ p h. inl (subst (λ ds. Has ds p) frees.dirty h);
+  stays_dirty = λ p h. subst (λ ds. Has ds p) (sym frees.dirty) h;
+  current = frees.current;
+  stack = frees.stack;
+}
+  where
+    there : restrict (is_kept t.pending y.marking.marks) (found_in t.states) f.base ≡ Some f
+    there = ap (restrict (is_kept t.pending y.marking.marks) (found_in t.states)) base ∙ is
+
+    others : (k : ℕ) → k ≢ granule f.base → get_or y'.marking.marks k false ≡ get_or y.marking.marks k false
+    others k ne = ap (λ ms. get_or ms k false) frees.marks ∙ get_or-set_other y.marking.marks (granule f.base) k false false ne
+
+    left : (g : Found) → restrict (is_kept t'.pending y'.marking.marks) (found_in t'.states) g.base ≡ Some g → granule g.base ≡ granule f.base → ⊥
+    left g now = apart_left t t' y y' f lawful.map there loses others g.base g (kept_cases (is_kept t'.pending y'.marking.marks) (found_in t'.states) g.base g now).0
+
+pub inside : (keep : Found → Bool) (t : Store) (s : Heap) (slot r : ℕ) (m : HeapMutator) (f : Found) → IsLawful t.states → restrict keep (found_in t.states) (register m r) ≡ Some f → f.base ≢ register m r → Stores keep t s → Acts s slot m (Free r) (Refused NotBase) s
+inside keep t s slot r m f lawful is ne stores = let found = finds keep t s (register m r) f lawful stores is in Acts.free_inside found.1 ne

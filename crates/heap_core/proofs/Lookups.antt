@@ -1,57 +1,66 @@
 -- The calls that look an address up: which object of the heap it reads.
-use Rattle.std.proofs.Common.{◌≡◌, ℕ, ◌-◌, ◌*◌, ◌/◌, ◌%◌, ◌<◌, length, set, Some, None, refl, sym, ◌∙◌, subst, arith}
+use Rattle.std.proofs.Common.{inl, inr, ⊎_elim, ◌≡◌, ℕ, ◌-◌, ◌*◌, ◌/◌, ◌%◌, ◌<◌, length, set, Some, None, refl, sym, ◌∙◌, subst, arith, ap}
 use Rattle.heap_spec.specs.declared.call.Call.TheVariants.{Load, Store as StoreCall, Base, Size}
 use Rattle.heap_spec.specs.declared.event.Event.TheVariants.{Mutator}
 use Rattle.heap_spec.specs.declared.reply.Reply.TheVariants.{Done, Word, Count}
 use Rattle.heap_spec.specs.Heap.{Heap, Object, Mutator as HeapMutator, ReadsObject, ReadsNothing}
 use Rattle.heap_spec.specs.Replies.{IsStep}
 use Rattle.heap_spec.specs.Steps.{Acts, Calls, address, register, with_register, with_object}
+use Rattle.words.specs.Bits.{Has}
+use Rattle.mark_bits.specs.Granules.{granule}
 use Rattle.pages.specs.Memory.{IsWordAddress, place, word_at, with_word_at}
 use Rattle.block_map.specs.FoundIn.{found_in, IsLawful}
 use Rattle.block_map.specs.declared.found.Found.{Found}
 use Rattle.roots.specs.Roots.{RootSet, HasMutator, SetsWord}
-use Rattle.heap_core.specs.Contents.{Store}
-use Rattle.heap_core.specs.Standing.{StandsFor, Stores, IsShown}
-use Rattle.heap_core.proofs.Shown.{reads_object, reads_nothing, word_read, is_word}
-use Rattle.heap_core.proofs.Changes.{shows_stored}
-use Rattle.heap_core.proofs.Roots.{core_of, attached, stands_set}
+use Rattle.object_space.specs.Store.{Store}
+use Rattle.heap_core.specs.Contents.{Cycle}
+use Rattle.heap_core.specs.Calls.{IsCall}
+use Rattle.heap_core.specs.Beside.{NotesWrite}
+use Rattle.std.specs.Prelude.{Bool}
+use Rattle.object_space.specs.Kept.{restrict, is_kept}
+use Rattle.object_space.specs.Shown.{Stores, Shows, IsShown}
+use Rattle.heap_core.specs.Standing.{StandsFor}
+use Rattle.object_space.proofs.Kept.{kept_map}
+use Rattle.object_space.proofs.Shown.{reads_object, reads_nothing, word_read, is_word}
+use Rattle.object_space.proofs.Changes.{shows_stored}
+use Rattle.heap_core.proofs.Roots.{core_of, attached, stands_set, quiet, none_some}
 
--- an address that finds an object reads it in the heap
-pub finds : (t : Store) (s : Heap) (w : ℕ) (f : Found) → IsLawful t.states → Stores t s → found_in t.states w ≡ Some f → (o : Object) × ReadsObject s w f.base o × IsShown t.words f o
-finds t s w f lawful stores is =
-    let read = reads_object (found_in t.states) (length t.states) lawful.map t.words s.objects s.births stores.shows w f is in
+-- an address that finds a kept object reads it in the heap
+pub finds : (keep : Found → Bool) (t : Store) (s : Heap) (w : ℕ) (f : Found) → IsLawful t.states → Stores keep t s → restrict keep (found_in t.states) w ≡ Some f → (o : Object) × ReadsObject s w f.base o × IsShown t.words f o
+finds keep t s w f lawful stores is =
+    let read = reads_object (restrict keep (found_in t.states)) (length t.states) (kept_map (length t.states) keep (found_in t.states) lawful.map) t.words s.objects s.births stores.shows w f is in
     (read.0, (read.1, read.3), read.2)
 
 -- an address that finds nothing reads nothing in the heap
-pub finds_nothing : (t : Store) (s : Heap) (w : ℕ) → IsLawful t.states → Stores t s → found_in t.states w ≡ None → ReadsNothing s w
-finds_nothing t s w lawful stores none base o r =
-    reads_nothing (found_in t.states) (length t.states) lawful.map t.words s.objects s.births stores.shows w none base o r.0 r.1
+pub finds_nothing : (keep : Found → Bool) (t : Store) (s : Heap) (w : ℕ) → IsLawful t.states → Stores keep t s → restrict keep (found_in t.states) w ≡ None → ReadsNothing s w
+finds_nothing keep t s w lawful stores none base o r =
+    reads_nothing (restrict keep (found_in t.states)) (length t.states) (kept_map (length t.states) keep (found_in t.states) lawful.map) t.words s.objects s.births stores.shows w none base o r.0 r.1
 
-pub loads : (roots roots' : RootSet) (t : Store) (slot d a n w : ℕ) (m : HeapMutator) (f : Found) → IsLawful t.states → HasMutator roots slot m → address m a n % 8 ≡ 0 → found_in t.states (address m a n) ≡ Some f
-    → w ≡ word_at t.words (address m a n) → SetsWord roots slot d w roots' → IsStep (StandsFor (core_of roots t)) (Mutator slot (Load d a n)) (Word w) (StandsFor (core_of roots' t))
-loads roots roots' t slot d a n w m f lawful at aligned is read sets s h =
-    let found = finds t s (address m a n) f lawful h.store is in
-    let word = word_read (found_in t.states) (length t.states) lawful.map t.words s.objects s.births h.store.shows (address m a n) f found.0 is found.2 aligned ∙ sym read in (
+pub loads : (roots roots' : RootSet) (t : Store) (y : Cycle) (slot d a n w : ℕ) (m : HeapMutator) (f : Found) → IsLawful t.states → HasMutator roots slot m → address m a n % 8 ≡ 0 → restrict (is_kept t.pending y.marking.marks) (found_in t.states) (address m a n) ≡ Some f
+    → w ≡ word_at t.words (address m a n) → SetsWord roots slot d w roots' → IsCall (core_of roots t y) (Mutator slot (Load d a n)) (Word w) (core_of roots' t y)
+loads roots roots' t y slot d a n w m f lawful at aligned is read sets = quiet (core_of roots t y) roots' (Mutator slot (Load d a n)) (Word w) (λ s h.
+    let found = finds (is_kept t.pending y.marking.marks) t s (address m a n) f lawful h.store is in
+    let word = word_read (restrict (is_kept t.pending y.marking.marks) (found_in t.states)) (length t.states) (kept_map (length t.states) (is_kept t.pending y.marking.marks) (found_in t.states) lawful.map) t.words s.objects s.births h.store.shows (address m a n) f found.0 is found.2 aligned ∙ sym read in (
       with_register s slot m d w,
-      Calls.acts (attached roots t s slot m h at) (subst (λ v. Acts s slot m (Load d a n) (Word v) (with_register s slot m d v)) word (Acts.loaded aligned found.1)),
-      stands_set roots roots' t t s (with_register s slot m d w) slot d w m h at sets refl refl (record { pages = h.store.pages; shows = h.store.shows }),
-    )
+      Calls.acts (attached roots t y s slot m h at) (subst (λ v. Acts s slot m (Load d a n) (Word v) (with_register s slot m d v)) word (Acts.loaded aligned found.1)),
+      stands_set roots roots' t t y y s (with_register s slot m d w) slot d w m h at sets refl refl (record { pages = h.store.pages; shows = h.store.shows }),
+    ))
 
-pub stores : (roots : RootSet) (t t' : Store) (slot a n r : ℕ) (m : HeapMutator) (f : Found) → IsLawful t.states → length t.words ≡ 512 * length t.states → HasMutator roots slot m → address m a n % 8 ≡ 0 → found_in t.states (address m a n) ≡ Some f
-    → t' ≡ record t { words = with_word_at t.words (address m a n) (register m r) } → IsStep (StandsFor (core_of roots t)) (Mutator slot (StoreCall a n r)) Done (StandsFor (core_of roots t'))
-stores roots t t' slot a n r m f lawful long at aligned is writes s h =
-    let found = finds t s (address m a n) f lawful h.store is in
-    let here = is_word (found_in t.states) (length t.states) lawful.map t.words long (address m a n) f is aligned in
+stores_step : (roots : RootSet) (t t' : Store) (y y' : Cycle) (slot a n r : ℕ) (m : HeapMutator) (f : Found) → IsLawful t.states → length t.words ≡ 512 * length t.states → HasMutator roots slot m → address m a n % 8 ≡ 0 → restrict (is_kept t.pending y.marking.marks) (found_in t.states) (address m a n) ≡ Some f
+    → t' ≡ record t { words = with_word_at t.words (address m a n) (register m r) } → y'.marking.marks ≡ y.marking.marks → IsStep (StandsFor (core_of roots t y)) (Mutator slot (StoreCall a n r)) Done (StandsFor (core_of roots t' y'))
+stores_step roots t t' y y' slot a n r m f lawful long at aligned is writes marks_same s h =
+    let found = finds (is_kept t.pending y.marking.marks) t s (address m a n) f lawful h.store is in
+    let here = is_word (restrict (is_kept t.pending y.marking.marks) (found_in t.states)) (length t.states) (kept_map (length t.states) (is_kept t.pending y.marking.marks) (found_in t.states) lawful.map) t.words long (address m a n) f is aligned in
     let after : Heap = with_object s f.base (Some (record found.0 { words = set found.0.words ((address m a n - f.base) / 8) (register m r) })) in (
       after,
-      Calls.acts (attached roots t s slot m h at) (Acts.stored aligned found.1),
-      subst (λ (x : Store). StandsFor (core_of roots x) after) (sym writes)
+      Calls.acts (attached roots t y s slot m h at) (Acts.stored aligned found.1),
+      subst (λ (x : Store). StandsFor (core_of roots x y') after) (sym writes)
           (record {
             mutators = h.mutators;
             globals = h.globals;
             store = record {
               pages = h.store.pages;
-              shows = shows_stored (found_in t.states) (length t.states) lawful.map t.words s.objects s.births h.store.shows (address m a n) (register m r) f found.0 is found.1.0 found.2 aligned (in_row here);
+              shows = subst (λ ms. Shows (restrict (is_kept t.pending ms) (found_in t.states)) (with_word_at t.words (address m a n) (register m r)) after.objects after.births) (sym marks_same) (shows_stored (restrict (is_kept t.pending y.marking.marks) (found_in t.states)) (length t.states) (kept_map (length t.states) (is_kept t.pending y.marking.marks) (found_in t.states) lawful.map) t.words s.objects s.births h.store.shows (address m a n) (register m r) f found.0 is found.1.0 found.2 aligned (in_row here));
             };
           }),
     )
@@ -59,17 +68,36 @@ stores roots t t' slot a n r m f lawful long at aligned is writes s h =
     in_row : IsWordAddress t.words (address m a n) → place (address m a n) < length t.words
     in_row here = let above = here.above in let below = here.below in let even = here.aligned in omega arith
 
-pub based : (roots roots' : RootSet) (t : Store) (slot d a : ℕ) (m : HeapMutator) (f : Found) → IsLawful t.states → HasMutator roots slot m → found_in t.states (register m a) ≡ Some f
-    → SetsWord roots slot d f.base roots' → IsStep (StandsFor (core_of roots t)) (Mutator slot (Base d a)) (Word f.base) (StandsFor (core_of roots' t))
-based roots roots' t slot d a m f lawful at is sets s h =
-    let found = finds t s (register m a) f lawful h.store is in (
-      with_register s slot m d f.base,
-      Calls.acts (attached roots t s slot m h at) (Acts.based found.1),
-      stands_set roots roots' t t s (with_register s slot m d f.base) slot d f.base m h at sets refl refl (record { pages = h.store.pages; shows = h.store.shows }),
-    )
+pub stores : (roots : RootSet) (t t' : Store) (y y' : Cycle) (slot a n r : ℕ) (m : HeapMutator) (f : Found) → IsLawful t.states → length t.words ≡ 512 * length t.states → HasMutator roots slot m → address m a n % 8 ≡ 0 → restrict (is_kept t.pending y.marking.marks) (found_in t.states) (address m a n) ≡ Some f
+    → t' ≡ record t { words = with_word_at t.words (address m a n) (register m r) }
+    → NotesWrite y.is_marking (address m a n) y.marking y'.marking → y'.is_marking ≡ y.is_marking → y'.count ≡ y.count → IsCall (core_of roots t y) (Mutator slot (StoreCall a n r)) Done (core_of roots t' y')
+stores roots t t' y y' slot a n r m f lawful long at aligned is writes notes phase count = record {
+  steps = stores_step roots t t' y y' slot a n r m f lawful long at aligned is writes notes.marks;
+  phase = phase;
+  count = count;
+  marks = λ g there marked. inl (subst (λ ms. Has ms (granule g.base)) notes.marks marked);
+  stays = λ g there marked. subst (λ ms. Has ms (granule g.base)) (sym notes.marks) marked;
+  came = λ is g there none. absurd (none_some g (sym none ∙ sym (same g.base) ∙ there));
+  dirty = λ p h. ⊎_elim (λ old. inl old) (λ same. inr (m, at, same)) (notes.dirty p h);
+  stays_dirty = notes.stays_dirty;
+  current = notes.current;
+  stack = notes.stack;
+}
+  where
+    same : (b : ℕ) → restrict (is_kept t'.pending y'.marking.marks) (found_in t'.states) b ≡ restrict (is_kept t.pending y.marking.marks) (found_in t.states) b
+    same b = ap (λ (x : Store). restrict (is_kept x.pending y'.marking.marks) (found_in x.states) b) writes ∙ ap (λ ms. restrict (is_kept t.pending ms) (found_in t.states) b) notes.marks
 
-pub sized : (roots : RootSet) (t : Store) (slot r : ℕ) (m : HeapMutator) (f : Found) → IsLawful t.states → HasMutator roots slot m → found_in t.states (register m r) ≡ Some f
-    → IsStep (StandsFor (core_of roots t)) (Mutator slot (Size r)) (Count f.len) (StandsFor (core_of roots t))
-sized roots t slot r m f lawful at is s h =
-    let found = finds t s (register m r) f lawful h.store is in
-    (s, Calls.acts (attached roots t s slot m h at) (subst (λ n. Acts s slot m (Size r) (Count n) s) found.2.size (Acts.sized found.1)), h)
+pub based : (roots roots' : RootSet) (t : Store) (y : Cycle) (slot d a : ℕ) (m : HeapMutator) (f : Found) → IsLawful t.states → HasMutator roots slot m → restrict (is_kept t.pending y.marking.marks) (found_in t.states) (register m a) ≡ Some f
+    → SetsWord roots slot d f.base roots' → IsCall (core_of roots t y) (Mutator slot (Base d a)) (Word f.base) (core_of roots' t y)
+based roots roots' t y slot d a m f lawful at is sets = quiet (core_of roots t y) roots' (Mutator slot (Base d a)) (Word f.base) (λ s h.
+    let found = finds (is_kept t.pending y.marking.marks) t s (register m a) f lawful h.store is in (
+      with_register s slot m d f.base,
+      Calls.acts (attached roots t y s slot m h at) (Acts.based found.1),
+      stands_set roots roots' t t y y s (with_register s slot m d f.base) slot d f.base m h at sets refl refl (record { pages = h.store.pages; shows = h.store.shows }),
+    ))
+
+pub sized : (roots : RootSet) (t : Store) (y : Cycle) (slot r : ℕ) (m : HeapMutator) (f : Found) → IsLawful t.states → HasMutator roots slot m → restrict (is_kept t.pending y.marking.marks) (found_in t.states) (register m r) ≡ Some f
+    → IsCall (core_of roots t y) (Mutator slot (Size r)) (Count f.len) (core_of roots t y)
+sized roots t y slot r m f lawful at is = quiet (core_of roots t y) roots (Mutator slot (Size r)) (Count f.len) (λ s h.
+    let found = finds (is_kept t.pending y.marking.marks) t s (register m r) f lawful h.store is in
+    (s, Calls.acts (attached roots t y s slot m h at) (subst (λ n. Acts s slot m (Size r) (Count n) s) found.2.size (Acts.sized found.1)), h))

@@ -1,5 +1,5 @@
 -- What the roots of a core are to the heap that it stands for.
-use Rattle.std.proofs.Common.{◌≡◌, ℕ, set, Some, refl, sym, ap, ◌∙◌, subst}
+use Rattle.std.proofs.Common.{inl, ◌≡◌, ℕ, set, Some, None, refl, sym, ap, ◌∙◌, subst}
 use Rattle.std.specs.Prelude.{slice_get}
 use Rattle.words.specs.declared.refusal.Refusal.{Refusal}
 use Rattle.words.specs.declared.refusal.Refusal.TheVariants.{NoSlot}
@@ -11,42 +11,65 @@ use Rattle.heap_spec.specs.declared.reply.Reply.TheVariants.{Refused}
 use Rattle.heap_spec.specs.Heap.{Heap, Mutator as HeapMutator, IsAttached}
 use Rattle.heap_spec.specs.Replies.{IsStep}
 use Rattle.heap_spec.specs.Steps.{Acts, Calls, Step}
+use Rattle.block_map.specs.declared.found.Found.{Found}
 use Rattle.roots.specs.Roots.{RootSet, HasMutator, HasNoMutator, with_word, with_roots, SetsWord, StepsRoots}
 use Rattle.roots.proofs.Steps.{set_mutators}
-use Rattle.heap_core.specs.Contents.{Contents, Store}
-use Rattle.heap_core.specs.Standing.{StandsFor, Stores}
+use Rattle.object_space.specs.Store.{Store}
+use Rattle.heap_core.specs.Contents.{Contents, Cycle}
+use Rattle.heap_core.specs.Calls.{IsCall}
+use Rattle.object_space.specs.Kept.{is_kept}
+use Rattle.object_space.specs.Shown.{Stores}
+use Rattle.heap_core.specs.Standing.{StandsFor}
 
--- the core with these roots and this store
-abbrev pub core_of : RootSet → Store → Contents
-core_of roots t = record { roots = roots; store = t }
+-- the core of these
+abbrev pub core_of : RootSet → Store → Cycle → Contents
+core_of roots t y = record { roots = roots; store = t; cycle = y }
+
+pub none_some : (f : Found) → None ≡ Some f → ⊥
+none_some f e = cc
+
+-- a call that leaves the store and the cycle as they are
+pub quiet : (c : Contents) (roots : RootSet) (event : Event) (reply : Reply) → IsStep (StandsFor c) event reply (StandsFor (record c { roots = roots })) → IsCall c event reply (record c { roots = roots })
+quiet c roots event reply steps = record {
+  steps = steps;
+  phase = refl;
+  count = refl;
+  marks = λ f is m. inl m;
+  stays = λ f is m. m;
+  came = λ is f there none. absurd (none_some f (sym none ∙ there));
+  dirty = λ p h. inl h;
+  stays_dirty = λ p h. h;
+  current = refl;
+  stack = refl;
+}
 
 -- a step that changes no more than the roots
-pub steps_roots : (roots roots' : RootSet) (t : Store) (event : Event) (reply : Reply) → StepsRoots roots event reply roots' → IsStep (StandsFor (core_of roots t)) event reply (StandsFor (core_of roots' t))
-steps_roots roots roots' t event reply steps s h =
+pub steps_roots : (roots roots' : RootSet) (t : Store) (y : Cycle) (event : Event) (reply : Reply) → StepsRoots roots event reply roots' → IsCall (core_of roots t y) event reply (core_of roots' t y)
+steps_roots roots roots' t y event reply steps = quiet (core_of roots t y) roots' event reply (λ s h.
     let same : with_roots s roots ≡ s =
     ap (λ ms. record s { mutators = ms; globals = roots.globals }) (sym h.mutators) ∙ ap (λ gs. record s { globals = gs }) (sym h.globals) in (
       with_roots s roots',
       subst (λ (x : Heap). Step x event reply (with_roots s roots')) same (steps s),
       record { mutators = refl; globals = refl; store = record { pages = h.store.pages; shows = h.store.shows } },
-    )
+    ))
 
 -- the mutator of a slot is the heap's
-pub attached : (roots : RootSet) (t : Store) (s : Heap) (slot : ℕ) (m : HeapMutator) → StandsFor (core_of roots t) s → HasMutator roots slot m → IsAttached s slot m
-attached roots t s slot m h at = ap (λ ms. slice_get ms slot) h.mutators ∙ at
+pub attached : (roots : RootSet) (t : Store) (y : Cycle) (s : Heap) (slot : ℕ) (m : HeapMutator) → StandsFor (core_of roots t y) s → HasMutator roots slot m → IsAttached s slot m
+attached roots t y s slot m h at = ap (λ ms. slice_get ms slot) h.mutators ∙ at
 
 -- a call for a slot that has no mutator
-pub refused_vacant : (c : Contents) (slot : ℕ) (call : Call) → HasNoMutator c.roots slot → IsStep (StandsFor c) (Mutator slot call) (Refused NoSlot) (StandsFor c)
-refused_vacant c slot call none s h = (s, Calls.vacant (ap (λ ms. slice_get ms slot) h.mutators ∙ none), h)
+pub refused_vacant : (c : Contents) (slot : ℕ) (call : Call) → HasNoMutator c.roots slot → IsCall c (Mutator slot call) (Refused NoSlot) c
+refused_vacant c slot call none = quiet c c.roots (Mutator slot call) (Refused NoSlot) (λ s h. (s, Calls.vacant (ap (λ ms. slice_get ms slot) h.mutators ∙ none), h))
 
 -- a call of a mutator that is refused
-pub refused : (roots : RootSet) (t : Store) (slot : ℕ) (m : HeapMutator) (call : Call) (refusal : Refusal) → HasMutator roots slot m
-    → ((s : Heap) → Stores t s → Acts s slot m call (Refused refusal) s) → IsStep (StandsFor (core_of roots t)) (Mutator slot call) (Refused refusal) (StandsFor (core_of roots t))
-refused roots t slot m call refusal at acts s h = (s, Calls.acts (attached roots t s slot m h at) (acts s h.store), h)
+pub refused : (roots : RootSet) (t : Store) (y : Cycle) (slot : ℕ) (m : HeapMutator) (call : Call) (refusal : Refusal) → HasMutator roots slot m
+    → ((s : Heap) → Stores (is_kept t.pending y.marking.marks) t s → Acts s slot m call (Refused refusal) s) → IsCall (core_of roots t y) (Mutator slot call) (Refused refusal) (core_of roots t y)
+refused roots t y slot m call refusal at acts = quiet (core_of roots t y) roots (Mutator slot call) (Refused refusal) (λ s h. (s, Calls.acts (attached roots t y s slot m h at) (acts s h.store), h))
 
 -- the roots stand for those of a heap in which a register was set
-pub stands_set : (roots roots' : RootSet) (t t' : Store) (s after : Heap) (slot r w : ℕ) (m : HeapMutator) → StandsFor (core_of roots t) s → HasMutator roots slot m → SetsWord roots slot r w roots'
-    → after.mutators ≡ set s.mutators slot (Some (with_word m r w)) → after.globals ≡ s.globals → Stores t' after → StandsFor (core_of roots' t') after
-stands_set roots roots' t t' s after slot r w m h at is mutators globals stores = record {
+pub stands_set : (roots roots' : RootSet) (t t' : Store) (y y' : Cycle) (s after : Heap) (slot r w : ℕ) (m : HeapMutator) → StandsFor (core_of roots t y) s → HasMutator roots slot m → SetsWord roots slot r w roots'
+    → after.mutators ≡ set s.mutators slot (Some (with_word m r w)) → after.globals ≡ s.globals → Stores (is_kept t'.pending y'.marking.marks) t' after → StandsFor (core_of roots' t' y') after
+stands_set roots roots' t t' y y' s after slot r w m h at is mutators globals stores = record {
   mutators = mutators ∙ ap (λ ms. set ms slot (Some (with_word m r w))) h.mutators ∙ sym (set_mutators roots roots' slot r w m at is);
   globals = globals ∙ h.globals ∙ sym is.0;
   store = stores;

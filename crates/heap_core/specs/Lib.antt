@@ -1,4 +1,7 @@
 pub mod Contents
-pub mod OpenRows
-pub mod Rooms
 pub mod Standing
+pub mod Beside
+pub mod Calls
+pub mod Collections
+pub mod Following
+pub mod AsObject

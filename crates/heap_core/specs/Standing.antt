@@ -1,31 +1,22 @@
 -- Which heap a core stands for.
-use Rattle.std.specs.Prelude.{◌≡◌, ℕ, ◌+◌, ◌<◌, ◌≤◌, Option, Some, List, length, slice_index}
-use Rattle.heap_spec.specs.Heap.{Heap, Object}
-use Rattle.pages.specs.Memory.{place}
+use Rattle.std.specs.Prelude.{Bool, ◌≡◌, ℕ, Option}
+use Rattle.heap_spec.specs.Heap.{Heap}
 use Rattle.block_map.specs.FoundIn.{found_in}
 use Rattle.block_map.specs.declared.found.Found.{Found}
-use Rattle.heap_core.specs.Contents.{Contents, Store}
+use Rattle.object_space.specs.Kept.{restrict, is_kept}
+use Rattle.object_space.specs.Shown.{Stores}
+use Rattle.heap_core.specs.Contents.{Contents}
 
--- The object of the heap is the one that the map finds, and has the words that the memory has there.
-pub record IsShown (words : List ℕ) (f : Found) (o : Object) : Type 0 where
-  pub kind : o.kind ≡ f.kind
-  pub size : length o.words ≡ f.len
-  pub word : (i : ℕ) → i < f.len → slice_index o.words i ≡ slice_index words (place f.base + i)
+-- whether the object is kept
+abbrev pub keeps : Contents → Found → Bool
+keeps c = is_kept c.store.pending c.cycle.marking.marks
 
--- The objects are those that the map finds. Their births aren't kept: they are distinct, and from 1 up to the count.
-pub record Shows (found : ℕ → Option Found) (words : List ℕ) (objects : ℕ → Option Object) (births : ℕ) : Type 0 where
-  pub kept : (f : Found) → found f.base ≡ Some f → (o : Object) × (objects f.base ≡ Some o) × IsShown words f o
-  pub only : (base : ℕ) (o : Object) → objects base ≡ Some o → (f : Found) × (found base ≡ Some f) × (f.base ≡ base)
-  pub born : (base : ℕ) (o : Object) → objects base ≡ Some o → (1 ≤ o.birth) × (o.birth ≤ births)
-  pub distinct : (a b : ℕ) (o p : Object) → objects a ≡ Some o → objects b ≡ Some p → o.birth ≡ p.birth → a ≡ b
+-- The object that a word reads, of those that are kept.
+abbrev pub objects_of : Contents → ℕ → Option Found
+objects_of c = restrict (keeps c) (found_in c.store.states)
 
--- The store has the pages and the objects of the heap.
-pub record Stores (t : Store) (s : Heap) : Type 0 where
-  pub pages : s.pages ≡ length t.states
-  pub shows : Shows (found_in t.states) t.words s.objects s.births
-
--- The core has the heap's mutators and globals, and its store has the heap's objects.
+-- The core has the heap's mutators and globals, and its kept objects are the heap's.
 pub record StandsFor (c : Contents) (s : Heap) : Type 0 where
   pub mutators : s.mutators ≡ c.roots.mutators
   pub globals : s.globals ≡ c.roots.globals
-  pub store : Stores c.store s
+  pub store : Stores (keeps c) c.store s

@@ -1,13 +1,19 @@
 //! The core, and how it is made.
+ghost use Rattle.std.specs.Prelude.{◌≡◌, false};
 ghost use Rattle.heap_spec.specs.Heap.{opening};
 ghost use Rattle.pages.specs.Opening.{IsOpened};
 ghost use Rattle.heap_core.specs.Standing.{StandsFor};
 
+mod beside;
+mod cycle;
+mod events;
 mod objects;
 mod registers;
 
-use crate::objects::Objects;
-use roots::Roots;
+use arrayvec::ArrayVec;
+use marker::Marker;
+use object_space::ObjectSpace;
+use roots::{ROOT_WORDS, Roots};
 use std::alloc::Global;
 use std::marker::Model;
 use words::OpenError;
@@ -16,15 +22,21 @@ use words::OpenError;
 #[derive(Drop)]
 pub struct Core {
     roots: Roots,
-    objects: Objects,
+    objects: ObjectSpace,
+    marker: Marker,
+    is_marking: bool,
+    count: u64,
+    root_words: ArrayVec<u64, ROOT_WORDS>,
 }
 
 impl Model for Core {
-    ghost use Rattle.heap_core.specs.Contents.{Contents};
+    ghost use Rattle.heap_core.specs.Contents.{Contents, IsTraced};
 
     ghost Value = { Contents };
 
-    ghost view = { λ c. record { roots = c.roots; store = c.objects } };
+    ghost view = { λ c. record { roots = c.roots; store = c.objects; cycle = record { marking = c.marker; is_marking = c.is_marking; count = c.count } } };
+
+    ghost invariant = { λ c. IsTraced c.objects (record { marking = c.marker; is_marking = c.is_marking; count = c.count }) };
 }
 
 impl Core {
@@ -34,12 +46,17 @@ impl Core {
     /// [`OpenError::BadPages`] exactly for no page or more than the limit, and else [`OpenError::Memory`] where a growth
     /// of memory was refused.
     pub fn new(alloc: Global, pages: u32) -> Result<Core, OpenError>
-        ensures { IsOpened pages result (λ core. StandsFor core (opening pages)) }
+        ensures { IsOpened pages result (λ core. StandsFor core (opening pages) × (core.cycle.is_marking ≡ false) × (core.cycle.count ≡ 0)) }
     {
-        let objects = Objects::new(alloc, pages)?;
+        let objects = ObjectSpace::new(alloc, pages)?;
+        let marker = Marker::new(alloc, pages)?;
         Ok(Core {
             roots: Roots::new(),
             objects,
+            marker,
+            is_marking: false,
+            count: 0,
+            root_words: ArrayVec::new(),
         })
     }
 }

@@ -1,9 +1,12 @@
-//! The core of a heap on one thread: its roots, and the objects on its pages. Each call of a mutator is one step of the
-//! sequential heap. All memory is taken when a core is made, and no call waits.
+//! The core of a heap on one thread: its roots, the objects on its pages, and its collector. Each call of a mutator is one
+//! step of the sequential heap, and each call of the collector begins, goes on with or ends a cycle. All memory is taken
+//! when a core is made, and no call waits.
 #![tactic(auto)]
 
 mod heap;
-mod objects;
+mod object;
+pub mod quiet;
+mod ranges;
 
 pub use heap::Core;
 pub use heap_spec::{Event, Reply};

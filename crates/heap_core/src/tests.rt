@@ -78,3 +78,123 @@ fn refusals_come_in_their_order(rt: HostRuntime) -> Result<(), Fail> {
     assert_eq!(rt; core.size(slot, inner), Err(Refusal::NoObject));
     Ok(())
 }
+
+#[test]
+fn entry_is_read_over_calls(rt: HostRuntime) -> Result<(), Fail> {
+    let (mut core, slot) = core_of(&rt, 4)?;
+    assert_eq!(rt; core.mark(4), Err(Refusal::WrongPhase));
+    assert_eq!(rt; core.alloc(slot, reg(1)?, 4, Kind::Normal), Ok(()));
+    assert_eq!(rt; core.begin(), Ok(()));
+    assert_eq!(rt; core.begin(), Err(Refusal::WrongPhase));
+    assert_eq!(rt; core.roots(), Ok(()));
+    assert_eq!(rt; core.mark(3), Ok(3));
+    assert_eq!(rt; core.mark(3), Ok(1));
+    assert_eq!(rt; core.mark(3), Ok(0));
+    assert_eq!(rt; core.finish(), Ok(0));
+    assert_eq!(rt; core.finish(), Err(Refusal::WrongPhase));
+    assert_eq!(rt; core.gc_no(), 1);
+    Ok(())
+}
+
+#[test]
+fn stored_page_is_retraced(rt: HostRuntime) -> Result<(), Fail> {
+    let (mut core, slot) = core_of(&rt, 4)?;
+    assert_eq!(rt; core.alloc(slot, reg(1)?, 2, Kind::Normal), Ok(()));
+    assert_eq!(rt; core.begin(), Ok(()));
+    assert_eq!(rt; core.retrace(), Ok(0));
+    assert_eq!(rt; core.store(slot, reg(1)?, 0, reg(1)?), Ok(()));
+    assert_eq!(rt; core.retrace(), Ok(1));
+    assert_eq!(rt; core.retrace(), Ok(0));
+    assert_eq!(rt; core.finish(), Ok(0));
+    Ok(())
+}
+
+#[test]
+fn unreached_objects_go(rt: HostRuntime) -> Result<(), Fail> {
+    let (mut core, slot) = core_of(&rt, 4)?;
+    let (first, second, word) = (reg(1)?, reg(2)?, reg(3)?);
+    assert_eq!(rt; core.alloc(slot, first, 2, Kind::Normal), Ok(()));
+    assert_eq!(rt; core.alloc(slot, second, 2, Kind::Normal), Ok(()));
+    assert_eq!(rt; core.store(slot, first, 0, second), Ok(()));
+    assert_eq!(rt; core.store(slot, second, 0, first), Ok(()));
+    assert_eq!(rt; core.set(slot, second, 0), Ok(()));
+    assert_eq!(rt; core.collect(), Ok(0));
+    assert_eq!(rt; core.copy(slot, word, first), Ok(()));
+    assert_eq!(rt; core.set(slot, first, 0), Ok(()));
+    assert_eq!(rt; core.collect(), Ok(0));
+    assert_eq!(rt; core.set(slot, word, 0), Ok(()));
+    assert_eq!(rt; core.begin(), Ok(()));
+    assert_eq!(rt; core.finish(), Ok(2));
+    assert_eq!(rt;
+        core.alloc(slot, first, 16_384, Kind::PointerFree),
+        Err(Refusal::Full)
+    );
+    assert_eq!(rt; core.alloc(slot, first, 2_048, Kind::PointerFree), Ok(()));
+    Ok(())
+}
+
+#[test]
+fn cell_is_cut_again_under_the_marker(rt: HostRuntime) -> Result<(), Fail> {
+    let (mut core, slot) = core_of(&rt, 1)?;
+    let (first, second, word) = (reg(1)?, reg(2)?, reg(3)?);
+    assert_eq!(rt; core.alloc(slot, first, 256, Kind::Normal), Ok(()));
+    assert_eq!(rt; core.alloc(slot, second, 256, Kind::Normal), Ok(()));
+    assert_eq!(rt; core.begin(), Ok(()));
+    assert_eq!(rt; core.roots(), Ok(()));
+    assert_eq!(rt; core.free(slot, first), Ok(()));
+    assert_eq!(rt; core.free(slot, second), Ok(()));
+    assert_eq!(rt; core.alloc(slot, first, 2, Kind::Normal), Ok(()));
+    assert_eq!(rt; core.finish(), Ok(0));
+    assert_eq!(rt; core.load(slot, word, first, 0), Ok(0));
+    Ok(())
+}
+
+#[test]
+fn pages_are_swept_when_asked(rt: HostRuntime) -> Result<(), Fail> {
+    let (mut core, slot) = core_of(&rt, 4)?;
+    assert_eq!(rt; core.alloc(slot, reg(1)?, 2, Kind::Normal), Ok(()));
+    assert_eq!(rt; core.alloc(slot, reg(1)?, 4, Kind::Normal), Ok(()));
+    assert_eq!(rt; core.set(slot, reg(1)?, 0), Ok(()));
+    assert_eq!(rt; core.begin(), Ok(()));
+    assert_eq!(rt; core.finish(), Ok(2));
+    assert_eq!(rt; core.sweep(), Ok(1));
+    assert_eq!(rt; core.sweep(), Ok(1));
+    assert_eq!(rt; core.sweep(), Ok(0));
+    Ok(())
+}
+
+#[test]
+fn dead_objects_are_none_before_they_are_swept(rt: HostRuntime) -> Result<(), Fail> {
+    let (mut core, slot) = core_of(&rt, 1)?;
+    let (first, second, word) = (reg(1)?, reg(2)?, reg(3)?);
+    assert_eq!(rt; core.alloc(slot, first, 256, Kind::Normal), Ok(()));
+    assert_eq!(rt; core.alloc(slot, second, 256, Kind::Normal), Ok(()));
+    assert_eq!(rt; core.sub(slot, second, second, first), Ok(()));
+    assert_eq!(rt; core.begin(), Ok(()));
+    assert_eq!(rt; core.finish(), Ok(1));
+    assert_eq!(rt; core.add(slot, second, first, 2_048), Ok(()));
+    assert_eq!(rt; core.load(slot, word, second, 0), Err(Refusal::NoObject));
+    assert_eq!(rt; core.free(slot, second), Err(Refusal::NoObject));
+    assert_eq!(rt; core.load(slot, word, first, 0), Ok(0));
+    assert_eq!(rt;
+        core.alloc(slot, word, 2, Kind::PointerFree),
+        Err(Refusal::Full)
+    );
+    assert_eq!(rt; core.alloc(slot, word, 256, Kind::Normal), Ok(()));
+    assert_eq!(rt; core.sub(slot, word, word, first), Ok(()));
+    assert_eq!(rt; core.get(slot, word), Ok(2_048));
+    Ok(())
+}
+
+#[test]
+fn full_sweeps_first(rt: HostRuntime) -> Result<(), Fail> {
+    let (mut core, slot) = core_of(&rt, 1)?;
+    assert_eq!(rt; core.alloc(slot, reg(1)?, 256, Kind::Normal), Ok(()));
+    assert_eq!(rt; core.alloc(slot, reg(2)?, 256, Kind::Normal), Ok(()));
+    assert_eq!(rt; core.set(slot, reg(1)?, 0), Ok(()));
+    assert_eq!(rt; core.set(slot, reg(2)?, 0), Ok(()));
+    assert_eq!(rt; core.begin(), Ok(()));
+    assert_eq!(rt; core.finish(), Ok(2));
+    assert_eq!(rt; core.alloc(slot, reg(3)?, 2, Kind::PointerFree), Ok(()));
+    Ok(())
+}

@@ -73,7 +73,7 @@ impl<O: Object, J: Naming> Log<O, J> {
         reply: &O::Reply,
     )
         requires here { keeper.old.table_id ≡ J.table }
-        requires may { MayAppend O.rank_of (Legal O.opens O.step) E.said add keeper.old.me.0
+        requires may { MayAppend O.rank_of (Legal (O.opens J.origin) O.step) E.said add keeper.old.me.0
             (event who call.now reply.now) }
         requires guest { (keeper.old.me.0.hosts ≡ true) × (keeper.old.me.0.guest.slot ≡ who) }
         requires rank { (is_first (O.rank_of call.now) ≡ false) × (is_last (O.rank_of call.now) ≡ false) }
@@ -94,7 +94,7 @@ impl<O: Object, J: Naming> Log<O, J> {
         reply: &O::Reply,
     )
         requires here { keeper.old.table_id ≡ J.table }
-        requires may { MayAppend O.rank_of (Legal O.opens O.step) E.said add keeper.old.me.0
+        requires may { MayAppend O.rank_of (Legal (O.opens J.origin) O.step) E.said add keeper.old.me.0
             (event who call.now reply.now) }
         requires free { is_live O.rank_of who keeper.old.me.0.log ≡ false }
         requires rank { (is_first (O.rank_of call.now) ≡ true) × (is_last (O.rank_of call.now) ≡ false) }
@@ -115,7 +115,7 @@ impl<O: Object, J: Naming> Log<O, J> {
         reply: &O::Reply,
     )
         requires here { keeper.old.table_id ≡ J.table }
-        requires may { MayAppend O.rank_of (Legal O.opens O.step) E.said add keeper.old.me.0
+        requires may { MayAppend O.rank_of (Legal (O.opens J.origin) O.step) E.said add keeper.old.me.0
             (event who call.now reply.now) }
         requires guest { (keeper.old.me.0.hosts ≡ true) × (keeper.old.me.0.guest.slot ≡ who) }
         requires rank { is_last (O.rank_of call.now) ≡ true }

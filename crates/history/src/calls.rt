@@ -36,7 +36,7 @@ impl<O: Object, J: Naming> Log<O, J> {
           seen = logged.new.history;
           mine = event who call.now result.1 ∷ [];
         } }
-        ensures agrees { Agrees O.rank_of O.opens O.step result.0 }
+        ensures agrees { Agrees O.rank_of (O.opens J.origin) O.step result.0 }
     {
         let add = weight_of(&O::rank(call));
         let reply = logged.object.act(who, call);
@@ -62,7 +62,7 @@ impl<O: Object, J: Naming> Log<O, J> {
           seen = logged.new.history;
           mine = pass.old.mine ++ event pass.old.slot call.now result ∷ [];
         } }
-        ensures agrees { Agrees O.rank_of O.opens O.step pass.new }
+        ensures agrees { Agrees O.rank_of (O.opens J.origin) O.step pass.new }
     {
         let add = weight_of(&O::rank(call));
         let who = pass.slot;
@@ -81,7 +81,7 @@ impl<O: Object, J: Naming> Log<O, J> {
         ensures history { logged.new.history ≡ logged.old.history ++ event pass.slot call.now result ∷ [] }
         ensures before { IsPrefix pass.seen logged.old.history }
         ensures owned { Owned O.rank_of pass.slot logged.old.history pass.mine }
-        ensures legal { Legal O.opens O.step logged.new.history }
+        ensures legal { Legal (O.opens J.origin) O.step logged.new.history }
     {
         let add = weight_of(&O::rank(call));
         let Pass {

@@ -25,14 +25,14 @@ impl<O: Object, J: Naming> Model for Logged<O, J> {
     ghost view = { λ l. record { object = l.object; history = l.keeper.me.0.log } };
 
     ghost invariant = { λ l. IsKeeper J.table l.keeper.table_id l.keeper.me.0
-        × StandsAfter O.opens O.step O.stands l.keeper.me.0.log l.object };
+        × StandsAfter (O.opens J.origin) O.step O.stands l.keeper.me.0.log l.object };
 }
 
 impl<O: Object, J: Naming> Logged<O, J> {
     /// The object. It stands for a state that the history leads to.
     pub fn object(&self) -> &O
         ensures object { result.now ≡ self.now.object }
-        ensures stands { StandsAfter O.opens O.step O.stands self.now.history self.now.object }
+        ensures stands { StandsAfter (O.opens J.origin) O.step O.stands self.now.history self.now.object }
     {
         &self.object
     }

@@ -24,12 +24,12 @@ impl<O: Object> Play<(), View<O::Call, O::Reply>> for Learns<O> {
 }
 
 /// A pass sees the history as it is when the word is read.
-pub struct Sees<O> {
-    of: PhantomData<O>,
+pub struct Sees<O, J> {
+    of: PhantomData<(O, J)>,
 }
 
-impl<O: Object> Play<(), View<O::Call, O::Reply>> for Sees<O> {
-    ghost then = { λ s v n w. Saw O.rank_of (Legal O.opens O.step) v n w };
+impl<O: Object, J: Naming> Play<(), View<O::Call, O::Reply>> for Sees<O, J> {
+    ghost then = { λ s v n w. Saw O.rank_of (Legal (O.opens J.origin) O.step) v n w };
 }
 
 /// A pass and the guest at its seat take the longer of what the two have seen.
@@ -47,7 +47,7 @@ impl<O: Object, J: Naming> Log<O, J> {
         ensures logged { logged.new ≡ logged.old }
         ensures before { IsPrefix pass.old.seen logged.old.history }
         ensures pass { pass.new ≡ record { slot = pass.old.slot; seen = logged.old.history; mine = pass.old.mine } }
-        ensures agrees { Agrees O.rank_of O.opens O.step pass.new }
+        ensures agrees { Agrees O.rank_of (O.opens J.origin) O.step pass.new }
     {
         self.lend(&mut pass.seat, &mut logged.keeper);
         // The pass alone can't know which history it is. The keeper's view says so, and the load lets its guest take it on.
@@ -60,10 +60,10 @@ impl<O: Object, J: Naming> Log<O, J> {
         ensures before { IsPrefix pass.old.seen pass.new.seen }
         ensures count { result ≡ count O.rank_of pass.new.seen % 2 ^ 64 }
         ensures pass { pass.new ≡ record { slot = pass.old.slot; seen = pass.new.seen; mine = pass.old.mine } }
-        ensures agrees { Agrees O.rank_of O.opens O.step pass.new }
+        ensures agrees { Agrees O.rank_of (O.opens J.origin) O.step pass.new }
     {
         // The number tells of a history that the same load shows: without a seat it would tell of none.
-        self.table.shared.load::<Sees<O>>(&mut pass.seat, 0)
+        self.table.shared.load::<Sees<O, J>>(&mut pass.seat, 0)
     }
 
     /// Both passes have then seen what one of them had. It waits for nobody.
@@ -72,8 +72,8 @@ impl<O: Object, J: Naming> Log<O, J> {
         ensures one { IsPrefix a.old.seen b.old.seen ⊎ IsPrefix b.old.seen a.old.seen }
         ensures a { a.new ≡ record { slot = a.old.slot; seen = longer a.old.seen b.old.seen; mine = a.old.mine } }
         ensures b { b.new ≡ record { slot = b.old.slot; seen = longer a.old.seen b.old.seen; mine = b.old.mine } }
-        ensures a_agrees { Agrees O.rank_of O.opens O.step a.new }
-        ensures b_agrees { Agrees O.rank_of O.opens O.step b.new }
+        ensures a_agrees { Agrees O.rank_of (O.opens J.origin) O.step a.new }
+        ensures b_agrees { Agrees O.rank_of (O.opens J.origin) O.step b.new }
     {
         self.lend(&mut b.seat, &mut a.seat);
         // Both have seen beginnings of one history, so one begins the other. A step tells of one seat, so both are at `a`'s for it.

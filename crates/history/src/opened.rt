@@ -15,7 +15,7 @@ use std::marker::{Model, PhantomData};
 /// The parts of a new history, which have no name yet. Contracts see the object and the table.
 #[derive(Drop)]
 pub struct Opened<O: Object> {
-    table: Table<(), View<O::Call, O::Reply>, (), Rule<O>, Global>,
+    table: Table<(), View<O::Call, O::Reply>, u64, Rule<O>, Global>,
     object: O,
     keeper: Seat<(), View<O::Call, O::Reply>>,
     pass: Seat<(), View<O::Call, O::Reply>>,
@@ -27,18 +27,22 @@ impl<O: Object> Model for Opened<O> {
 
     ghost Value = { Unnamed O };
 
-    ghost view = { λ o. record { object = o.object; table = o.table.shared.table_id } };
+    ghost view = { λ o. record { object = o.object; table = o.table.shared.table_id; origin = o.table.shared.key } };
 
-    ghost invariant = { λ o. AreOpened O.opens O.stands o.table.shared.table_id o.keeper.table_id o.pass.table_id
+    ghost invariant = { λ o. AreOpened (O.opens o.table.shared.key) O.stands o.table.shared.table_id o.keeper.table_id o.pass.table_id
         o.keeper.me.0 o.pass.me.0 o.object };
 }
 
 /// An empty history of an object. Its one error is want of memory, for the word: no later call on the history takes any.
-pub fn open<O: Object + Drop>(alloc: Global, object: O) -> Result<Opened<O>, AllocError>
-    requires { (s : O.State) × O.opens s × O.stands object s }
-    ensures { IfOk result (λ opened. opened.object ≡ object) }
+pub fn open<O: Object + Drop>(
+    alloc: Global,
+    origin: u64,
+    object: O,
+) -> Result<Opened<O>, AllocError>
+    requires { (s : O.State) × O.opens origin s × O.stands object s }
+    ensures { IfOk result (λ opened. (opened.object ≡ object) × (opened.origin ≡ origin)) }
 {
-    let (table, mut keeper) = Table::of_words(alloc, &[0], &())?;
+    let (table, mut keeper) = Table::of_words(alloc, &[0], &origin)?;
     // The first seat has both rights. The collector's pass leaves it here, and the keeper's stays.
     let pass = table.shared.split_seat::<Lends>(&mut keeper);
     Ok(Opened {
@@ -53,7 +57,8 @@ impl<O: Object> Opened<O> {
     /// The parts, under the name that was picked for the table: the log, the object with its empty history, and the
     /// collector's pass, which has seen nothing.
     pub fn named<J: Naming>(self) -> (Log<O, J>, Logged<O, J>, Pass<O, J>)
-        requires { self.table ≡ J.table }
+        requires table { self.table ≡ J.table }
+        requires origin { self.origin ≡ J.origin }
         ensures logged { result.1 ≡ record { object = self.object; history = [] } }
         ensures pass { result.2 ≡ record { slot = collector; seen = []; mine = [] } }
     {

@@ -23,7 +23,7 @@ impl<O: Object, J: Naming> Model for Pass<O, J> {
 
     ghost view = { λ p. p.seat.me.0.pass };
 
-    ghost invariant = { λ p. IsHolder O.rank_of O.opens O.step J.table p.seat.table_id p.slot p.seat.me.0 };
+    ghost invariant = { λ p. IsHolder O.rank_of (O.opens J.origin) O.step J.table p.seat.table_id p.slot p.seat.me.0 };
 }
 
 impl<O: Object, J: Naming> Pass<O, J> {
@@ -31,7 +31,7 @@ impl<O: Object, J: Naming> Pass<O, J> {
     pub fn slot(&self) -> u8
         ensures slot { result ≡ self.now.slot }
         // At any time what a pass has seen is legal, and its own events are exactly the slot's in it.
-        ensures agrees { Agrees O.rank_of O.opens O.step self.now }
+        ensures agrees { Agrees O.rank_of (O.opens J.origin) O.step self.now }
     {
         self.slot
     }

@@ -61,6 +61,14 @@ impl Marks {
         self.row.set(granule);
     }
 
+    /// Takes the granule's mark away.
+    pub fn clear(&mut self, granule: usize)
+        requires { granule < length self.old }
+        ensures { self.new ≡ slice_set self.old granule false }
+    {
+        self.row.clear(granule);
+    }
+
     /// Takes all marks away, by whole words.
     pub fn clear_all(&mut self)
         ensures { IsClear self.new (length self.old) }
@@ -85,26 +93,5 @@ impl Marks {
         ensures others { (k : ℕ) → k / 64 ≢ j → slice_index_or self.new k false ≡ slice_index_or self.old k false }
     {
         self.row.set_word(j, word);
-    }
-}
-
-#[cfg(test)]
-mod tests {
-    use super::*;
-    use std::test::Fail;
-    use words::granule_of;
-    use words::limits::FIRST_ADDRESS;
-
-    #[test]
-    fn keeps_one_mark_a_granule(rt: HostRuntime) -> Result<(), Fail> {
-        let mut marks = Marks::new(rt.alloc(), MAX_PAGES)?;
-        assert_eq!(rt; marks.granules(), 262_144);
-        let third_of_second_page = granule_of(FIRST_ADDRESS + 4_096 + 2 * 16 + 8);
-        assert_eq!(rt; third_of_second_page, 258);
-        marks.set(258);
-        assert!(rt; marks.is_set(258) && !marks.is_set(257) && !marks.is_set(259));
-        marks.clear_all();
-        assert!(rt; !marks.is_set(258));
-        Ok(())
     }
 }

@@ -201,29 +201,3 @@ fn copy_words(closed: &Closed<(), Global>, marks: &mut Marks)
         marks.set_word(j, closed.word(j));
     }
 }
-
-#[cfg(test)]
-mod tests {
-    use super::*;
-    use std::test::Fail;
-
-    #[test]
-    fn two_claimers_share_the_marks(rt: HostRuntime) -> Result<(), Fail> {
-        let mut marks = Marks::new(rt.alloc(), 1)?;
-        marks.set(3);
-        let Ok((table, mut first)) = MarkTable::new(rt.alloc(), &marks) else {
-            panic!(rt; "no memory for a table of four words")
-        };
-        let mut second = table.split(&mut first);
-        assert!(rt; table.claim(&mut first, 7) && !table.claim(&mut second, 7));
-        assert!(rt; table.claim(&mut second, 70) && !table.claim(&mut first, 3));
-        assert!(rt; table.is_set(&mut second, 7) && !table.is_set(&mut second, 8));
-        table.join(&mut first, second);
-        table.finish(first, &mut marks);
-        for granule in 0..256 {
-            let want = granule == 3 || granule == 7 || granule == 70;
-            assert!(rt; marks.is_set(granule) == want, "at {granule}");
-        }
-        Ok(())
-    }
-}

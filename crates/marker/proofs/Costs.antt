@@ -4,7 +4,7 @@ use Rattle.std.specs.Prelude.{count_by}
 use Rattle.std.proofs.lemmas.Bool.{false≢true, cond-true, eq-eqb}
 use Rattle.block_map.specs.declared.found.Found.{Found}
 use Rattle.block_map.specs.Objects.{IsPlaced}
-use Rattle.words.specs.declared.limits.TheConstants.{FIRST_ADDRESS}
+use Rattle.words.specs.declared.limits.TheConstants.{FIRST_ADDRESS, GRANULE_BYTES, PAGE_WORDS}
 use Rattle.mark_bits.specs.Granules.{granule}
 use Rattle.words.specs.Bits.{Has}
 use Rattle.marker.specs.declared.entry.Entry.{Entry}
@@ -30,21 +30,17 @@ pub span_at : (pages : ℕ) (found : ℕ → Option Found) (g : Found) → IsPla
 unfolding span
 span_at pages found g p e =
     let a = p.aligned in let b = p.above in
-    let s : FIRST_ADDRESS + 16 * granule g.base ≡ g.base = omega arith in
+    let s : FIRST_ADDRESS + GRANULE_BYTES * granule g.base ≡ g.base = omega arith in
     (λ i. span_in (found (s i)) (s i)) ∙ ap (λ o. span_in o g.base) e ∙ cond-true (g.base == g.base) (pages_of g) 0 (eq-eqb g.base g.base refl)
 
 -- an object's words lie on the pages that it covers
-pub words_covered : (pages : ℕ) (g : Found) → IsPlaced pages g → g.len ≤ 512 * pages_of g
+pub words_covered : (pages : ℕ) (g : Found) → IsPlaced pages g → g.len ≤ PAGE_WORDS * pages_of g
 words_covered pages g p = let a = p.above in let s = p.some in omega arith
 
 -- an entry for all of an object
 pub left_new : (found : ℕ → Option Found) (g : Found) (e : Entry) → found g.base ≡ Some g → e.base ≡ g.base → left found e ≡ g.len - e.next
 unfolding left
 left_new found g e o b = ap (λ x. left_in (found x) e) b ∙ ap (λ y. left_in y e) o ∙ cond-true (g.base == e.base) (g.len - e.next) 0 (eq-eqb g.base e.base (sym b))
-
-pub page_words_le : (b : Bool) → page_words b ≤ 512
-page_words_le true = omega arith
-page_words_le false = omega arith
 
 -- what was unmarked is unmarked or newly marked
 pub newly_rest : (found : ℕ → Option Found) (k : ℕ) (old new : List Bool) → length new ≡ length old → ((i : ℕ) → Has old i → Has new i)
@@ -58,10 +54,10 @@ newly_rest found k (true ∷ old) (true ∷ new) l g = newly_rest found (k + 1) 
 newly_rest found k (false ∷ old) (false ∷ new) l g = let h = newly_rest found (k + 1) old new (omega (arith, l)) (λ i. g (suc i)) in omega (arith, h)
 newly_rest found k (false ∷ old) (true ∷ new) l g = let h = newly_rest found (k + 1) old new (omega (arith, l)) (λ i. g (suc i)) in omega (arith, h)
 
-dirty_fold : (row : List Bool) (a b : ℕ) → a ≡ 512 * b → fold (λ n x. n + page_words x) a row ≡ 512 * fold (λ n x. n + cond x 1 0) b row
+dirty_fold : (row : List Bool) (a b : ℕ) → a ≡ PAGE_WORDS * b → fold (λ n x. n + page_words x) a row ≡ PAGE_WORDS * fold (λ n x. n + cond x 1 0) b row
 dirty_fold [] a b e = e
-dirty_fold (true ∷ row) a b e = dirty_fold row (a + 512) (b + 1) (omega arith)
+dirty_fold (true ∷ row) a b e = dirty_fold row (a + PAGE_WORDS) (b + 1) (omega arith)
 dirty_fold (false ∷ row) a b e = dirty_fold row (a + 0) (b + 0) (omega arith)
 
-pub dirty_words : (row : List Bool) → sum_by page_words row ≡ 512 * count_by (λ b. b) row
+pub dirty_words : (row : List Bool) → sum_by page_words row ≡ PAGE_WORDS * count_by (λ b. b) row
 dirty_words row = dirty_fold row 0 0 (omega arith)

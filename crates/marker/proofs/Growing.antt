@@ -1,14 +1,40 @@
--- The laws of the marker's steps.
-use Rattle.std.proofs.Common.{◌≡◌, ℕ, List, Bool, false, Contains, Option, Some, refl, ◌∙◌, inl, inr, ⊎_elim, arith}
+-- Marks, dirty pages and the stack grow while words are read.
+use Rattle.std.proofs.Common.{◌≡◌, ℕ, ◌<◌, ◌≤◌, List, [], ◌++◌, length, Contains, Option, Some, refl, sym, ap, ◌∙◌, subst, inl, inr, ⊎_elim, append_assoc, append-nil, arith}
 use Rattle.std.specs.Prelude.{◌⊎◌}
-use Rattle.block_map.specs.declared.found.Found.{Found}
+use Rattle.std.proofs.lemmas.List.Elements.{Contains-append_left}
+use Rattle.words.specs.declared.class.Kind.TheVariants.{Normal}
 use Rattle.words.specs.Bits.{Has}
+use Rattle.block_map.specs.declared.found.Found.{Found}
 use Rattle.marker.specs.declared.entry.Entry.{Entry}
-use Rattle.marker.specs.Marking.{Marking, IsMarked, IsEntry, IsPending, Covers, IsNewlyMarked}
-use Rattle.marker.specs.Closure.{Closure, held, root}
-use Rattle.marker.specs.Invariant.{InvariantBut, IsTargetMarked, IsAwaited}
-use Rattle.marker.specs.Growth.{Extends, MarksOnly, Traces}
+use Rattle.marker.specs.Marking.{Marking, IsMarked, IsEntry, IsPending, IsObjectGranule, Covers, IsNewlyMarked}
+use Rattle.marker.specs.Closure.{held}
+use Rattle.marker.specs.Invariant.{DirtyPageInvariant, IsTargetMarked, IsAwaited}
+use Rattle.marker.specs.Work.{cost}
+use Rattle.marker.specs.Growth.{Traces}
+use Rattle.marker.specs.Entries.{IsBelow}
 use Rattle.marker.proofs.Closures.{closure_more}
+
+-- Marks, dirty pages and the stack only grow, and each word of a newly marked object is awaited.
+pub record Extends (found : ℕ → Option Found) (old new : Marking) : Type 0 where
+  pub marks_len : length new.marks ≡ length old.marks
+  pub dirty_len : length new.dirty ≡ length old.dirty
+  pub marks : (b : ℕ) → IsMarked old b → IsMarked new b
+  pub objects : (k : ℕ) → Has new.marks k → Has old.marks k ⊎ IsObjectGranule found k
+  pub dirty : (p : ℕ) → Has old.dirty p → Has new.dirty p
+  pub current : new.current ≡ old.current
+  pub stack : IsBelow old.stack new.stack
+  pub fresh : (f : Found) → found f.base ≡ Some f → IsMarked new f.base → IsMarked old f.base ⊎ (f.kind ≡ Normal → (i : ℕ) → i < f.len → IsAwaited new f i)
+  pub dirtied : (p : ℕ) → Has new.dirty p → Has old.dirty p ⊎ ((f : Found) × IsNewlyMarked found old new f × Covers f p)
+  pub cost : cost found new ≤ cost found old
+
+pub below_refl : (s : List Entry) → IsBelow s s
+below_refl s = ([], sym (append-nil s))
+
+pub below_trans : (a b c : List Entry) → IsBelow a b → IsBelow b c → IsBelow a c
+below_trans a b c x y = (x.0 ++ y.0, y.1 ∙ ap (λ s. s ++ y.0) x.1 ∙ append_assoc a x.0 y.0)
+
+pub below_contains : (a b : List Entry) (e : Entry) → IsBelow a b → Contains a e → Contains b e
+below_contains a b e x h = subst (λ s. Contains s e) (sym x.1) (Contains-append_left a x.0 e h)
 
 module _ (found : ℕ → Option Found) where
   pub extends_refl : (m : Marking) → Extends found m m
@@ -16,24 +42,29 @@ module _ (found : ℕ → Option Found) where
     marks_len = refl;
     dirty_len = refl;
     marks = λ b h. h;
+    objects = λ k h. inl h;
     dirty = λ p h. h;
     current = refl;
-    stack = λ e h. h;
+    stack = below_refl m.stack;
     fresh = λ f e k. inl k;
     dirtied = λ p h. inl h;
     cost = omega arith;
   }
 
-  pub entry_more : (a b : Marking) → Extends found a b → (e : Entry) → IsEntry a e → IsEntry b e
-  entry_more a b x e one = ⊎_elim (λ (h : a.current ≡ Some e). inl (x.current ∙ h)) (λ h. inr (x.stack e h)) one
+  entry_more : (a b : Marking) → Extends found a b → (e : Entry) → IsEntry a e → IsEntry b e
+  entry_more a b x e one = ⊎_elim (λ (h : a.current ≡ Some e). inl (x.current ∙ h)) (λ h. inr (below_contains a.stack b.stack e x.stack h)) one
+
+  pub pending_more : (a b : Marking) → Extends found a b → (base i : ℕ) → IsPending a base i → IsPending b base i
+  pending_more a b x base i p = record { entry = p.entry; one = entry_more a b x p.entry p.one; same = p.same; left = p.left }
 
   pub awaited_more : (a b : Marking) → Extends found a b → (f : Found) (i : ℕ) → IsAwaited a f i → IsAwaited b f i
-  awaited_more a b x f i h =
-      ⊎_elim (λ d. inl (x.dirty _ d))
-      (λ (p : IsPending a f.base i). inr (record { entry = p.entry; one = entry_more a b x p.entry p.one; same = p.same; left = p.left })) h
+  awaited_more a b x f i h = ⊎_elim (λ d. inl (x.dirty _ d)) (λ p. inr (pending_more a b x f.base i p)) h
 
   pub target_more : (a b : Marking) → Extends found a b → (w : ℕ) → IsTargetMarked found a w → IsTargetMarked found b w
   target_more a b x w t g e = x.marks g.base (t g e)
+
+  objects_more : (a b c : Marking) (k : ℕ) → Has b.marks k ⊎ IsObjectGranule found k → (Has b.marks k → Has a.marks k ⊎ IsObjectGranule found k) → Has a.marks k ⊎ IsObjectGranule found k
+  objects_more a b c k h x = ⊎_elim x (λ o. inr o) h
 
   pub dirtied_more : (a b c : Marking) → ((d : ℕ) → IsMarked a d → IsMarked b d) → ((d : ℕ) → IsMarked b d → IsMarked c d) → (p : ℕ)
       → Has b.dirty p ⊎ ((f : Found) × IsNewlyMarked found b c f × Covers f p)
@@ -49,9 +80,10 @@ module _ (found : ℕ → Option Found) where
     marks_len = y.marks_len ∙ x.marks_len;
     dirty_len = y.dirty_len ∙ x.dirty_len;
     marks = λ d h. y.marks d (x.marks d h);
+    objects = λ k h. objects_more a b c k (y.objects k h) (x.objects k);
     dirty = λ p h. y.dirty p (x.dirty p h);
     current = y.current ∙ x.current;
-    stack = λ e h. y.stack e (x.stack e h);
+    stack = below_trans a.stack b.stack c.stack x.stack y.stack;
     fresh = λ f e k. ⊎_elim
         (λ m. ⊎_elim (λ o. inl o) (λ h. inr (λ n i lt. awaited_more b c y f i (h n i lt))) (x.fresh f e m))
         (λ h. inr h) (y.fresh f e k);
@@ -59,33 +91,18 @@ module _ (found : ℕ → Option Found) where
     cost = (let p = x.cost in let q = y.cost in omega arith);
   }
 
-  pub traced_more : (exempt : ℕ → Bool) (words : List ℕ) (a b : Marking) → Extends found a b → InvariantBut exempt found words a → InvariantBut exempt found words b
-  traced_more exempt words a b x t f e n k i lt =
+  pub traced_more : (words : List ℕ) (a b : Marking) → Extends found a b → DirtyPageInvariant found words a → DirtyPageInvariant found words b
+  traced_more words a b x t f e n k i lt =
       ⊎_elim
-      (λ o. ⊎_elim (λ h. inl h) (λ r. ⊎_elim (λ g. inr (inl (target_more a b x _ g))) (λ h. inr (inr (awaited_more a b x f i h))) r) (t f e n o i lt))
-      (λ h. inr (inr (h n i lt))) (x.fresh f e k)
-
-  pub within_roots : (words roots : List ℕ) (a b : Marking) → MarksOnly found (Contains roots) a b → (f : Found) → found f.base ≡ Some f → IsMarked b f.base → Closure found words roots (IsMarked a) f
-  within_roots words roots a b only f e k = ⊎_elim (λ o. held e o) (λ (h : (w : ℕ) × Contains roots w × (found w ≡ Some f)). root h.1 h.2) (only f e k)
-
-  pub only_trans : (P : ℕ → Type 0) (a b c : Marking) → MarksOnly found P a b → MarksOnly found P b c → MarksOnly found P a c
-  only_trans P a b c x y f e k = ⊎_elim (λ m. x f e m) (λ h. inr h) (y f e k)
-
-  pub traces_of : (words roots : List ℕ) (a b : Marking) → Extends found a b → MarksOnly found (Contains roots) a b → Traces found words roots a b
-  traces_of words roots a b x only = record {
-    marks_len = x.marks_len;
-    dirty_len = x.dirty_len;
-    marks = x.marks;
-    within = within_roots words roots a b only;
-    dirtied = x.dirtied;
-    keeps = λ t. traced_more (λ _. false) words a b x t;
-  }
+      (λ o. ⊎_elim (λ g. inl (target_more a b x _ g)) (λ h. inr (awaited_more a b x f i h)) (t f e n o i lt))
+      (λ h. inr (h n i lt)) (x.fresh f e k)
 
   pub traces_refl : (words roots : List ℕ) (a : Marking) → Traces found words roots a a
   traces_refl words roots a = record {
     marks_len = refl;
     dirty_len = refl;
     marks = λ b h. h;
+    objects = λ k h. inl h;
     within = λ f e k. held e k;
     dirtied = λ p h. inl h;
     keeps = λ t. t;
@@ -96,6 +113,7 @@ module _ (found : ℕ → Option Found) where
     marks_len = y.marks_len ∙ x.marks_len;
     dirty_len = y.dirty_len ∙ x.dirty_len;
     marks = λ d h. y.marks d (x.marks d h);
+    objects = λ k h. objects_more a b c k (y.objects k h) (x.objects k);
     within = λ f e k. closure_more found words roots roots (IsMarked b) (IsMarked a) (λ w h. h) x.within (y.within f e k);
     dirtied = λ p h. dirtied_more a b c x.marks y.marks p (y.dirtied p h) (x.dirtied p);
     keeps = λ t. y.keeps (x.keeps t);
@@ -106,6 +124,7 @@ module _ (found : ℕ → Option Found) where
     marks_len = x.marks_len;
     dirty_len = x.dirty_len;
     marks = x.marks;
+    objects = x.objects;
     within = λ f e k. closure_more found words roots more (IsMarked a) (IsMarked a) r (λ g o h. held o h) (x.within f e k);
     dirtied = x.dirtied;
     keeps = x.keeps;

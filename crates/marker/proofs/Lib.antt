@@ -3,12 +3,10 @@ pub mod Growing
 pub mod Costs
 pub mod Spreads
 pub mod MarkWord
-pub mod Reading
-pub mod Scanning
-pub mod Mutating
-pub mod Taking
-pub mod Ordering
-pub mod Sizes
 pub mod Words
+pub mod Settling
+pub mod Reading
+pub mod Taking
+pub mod Mutating
 pub mod Rescanning
 pub mod Parts

@@ -1,20 +1,21 @@
 -- What mutators do while the heap is marked keeps the invariant.
-use Rattle.std.proofs.Common.{◌≡◌, ◌≢◌, ℕ, ◌+◌, ◌-◌, ◌*◌, ◌/◌, ◌<◌, ◌≤◌, List, length, true, false, get_or, set, Contains, Option, Some, None, refl, sym, ap, ◌∙◌, subst, inl, inr, ⊎_elim, arith, get_or-set_same, get_or-set_other}
+use Rattle.std.proofs.Common.{◌≡◌, ◌≢◌, ℕ, ◌+◌, ◌*◌, ◌<◌, ◌≤◌, List, length, Bool, true, false, get_or, set, Contains, Option, Some, None, sym, ap, ◌∙◌, subst, inl, inr, ⊎_elim, arith, length-set, get_or-set_same, get_or-set_other}
 use Rattle.std.specs.Prelude.{◌⊎◌}
 use Rattle.std.proofs.lemmas.Option.{same_Some}
 use Rattle.std.proofs.lemmas.Bool.{false≢true, cases_eq, cases_lt}
+use Rattle.std.proofs.lemmas.List.{get_or_past}
 use Rattle.block_map.specs.declared.found.Found.{Found}
 use Rattle.block_map.specs.Objects.{Reads, IsMap}
-use Rattle.words.specs.declared.limits.TheConstants.{FIRST_ADDRESS}
+use Rattle.words.specs.declared.limits.TheConstants.{WORD_BYTES}
 use Rattle.words.specs.Bits.{Has}
 use Rattle.block_map.specs.Places.{page_of}
 use Rattle.mark_bits.specs.Granules.{granule}
-use Rattle.pages.specs.Memory.{word_at, with_word_at}
-use Rattle.marker.specs.Marking.{Marking, IsFresh, IsMarked, IsPending, word_address}
+use Rattle.pages.specs.Memory.{place, word_at, with_word_at}
+use Rattle.marker.specs.Marking.{Marking, IsFresh, IsMarked, IsPending, AreMarksObjects, word_address}
 use Rattle.marker.specs.Invariant.{DirtyPageInvariant}
-use Rattle.marker.specs.Mutations.{IsWritten, IsAllocated, HasNoNew, KeepsWords, HasZeroWords}
+use Rattle.marker.specs.Mutations.{IsWritten, IsAllocated, IsFreed, HasNoNew, KeepsWords, HasZeroWords}
 use Rattle.block_map.specs.Changes.{IsAdded, IsRemoved, IsSameMap}
-use Rattle.marker.proofs.MarkWord.{same_object}
+use Rattle.marker.proofs.Closures.{at_base, same_object}
 use Rattle.marker.proofs.Spreads.{has_set, has_set_back}
 
 -- the entries are the same
@@ -26,28 +27,38 @@ pending_same a b c s base i p = record {
   left = p.left;
 }
 
+-- where a place was cleared and there is a member, there was one, at another place
+was_set : (row : List Bool) (k p : ℕ) → Has (set row k false) p → Has row p × (p ≢ k)
+was_set row k p h =
+    ⊎_elim
+    (λ (e : p ≡ k). ⊎_elim
+    (λ (lt : k < length row). absurd (false≢true (sym (get_or-set_same row k false false lt) ∙ ap (λ j. get_or (set row k false) j false) (sym e) ∙ h)))
+    (λ (ge : length row ≤ k). absurd (false≢true (sym (get_or_past (set row k false) p false (let l = length-set row k false in omega (arith, l))) ∙ h)))
+    (cases_lt k (length row)))
+    (λ ne. (sym (get_or-set_other row k p false false ne) ∙ h, ne))
+    (cases_eq p k)
+
 -- a word is stored
 pub store_traced : (found : ℕ → Option Found) (words : List ℕ) (address w : ℕ) (old new : Marking) → IsWritten address old new → page_of address < length old.dirty
     → DirtyPageInvariant found words old → DirtyPageInvariant found (with_word_at words address w) new
 store_traced found words address w old new x inside t f e n k i lt =
-    let b = word_address f i in
     ⊎_elim
     (λ (z : page_of (word_address f i) ≡ page_of address).
-    inr (inr (inl (ap (λ q. get_or new.dirty q false) z ∙ ap (λ y. get_or y (page_of address) false) x.dirty ∙ get_or-set_same old.dirty (page_of address) true false inside))))
+    inr (inl (ap (λ q. get_or new.dirty q false) z ∙ ap (λ y. get_or y (page_of address) false) x.dirty ∙ get_or-set_same old.dirty (page_of address) true false inside)))
     (λ ne.
-    let apart : (word_address f i - FIRST_ADDRESS) / 8 ≢ (address - FIRST_ADDRESS) / 8 = λ m. ne (omega arith) in
-    ⊎_elim (λ h. inl h)
-    (λ r. inr (⊎_elim
-    (λ g. inl (λ o y. subst (λ q. Has q (granule o.base)) (sym x.marks) (g o (ap found (sym (get_or-set_other words ((address - FIRST_ADDRESS) / 8) ((word_address f i - FIRST_ADDRESS) / 8) w 0 apart)) ∙ y))))
+    let apart : place (word_address f i) ≢ place address = λ m. ne (omega arith) in
+    ⊎_elim
+    (λ g. inl (λ o y. subst (λ q. Has q (granule o.base)) (sym x.marks) (g o (ap found (sym (get_or-set_other words (place address) (place (word_address f i)) w 0 apart)) ∙ y))))
     (λ a. inr (⊎_elim (λ d. inl (subst (λ q. Has q (page_of (word_address f i))) (sym x.dirty) (has_set old.dirty (page_of address) (page_of (word_address f i)) inside d)))
-    (λ p. inr (pending_same old new x.current x.stack f.base i p)) a)) r))
+    (λ p. inr (pending_same old new x.current x.stack f.base i p)) a))
     (t f e n (subst (λ q. Has q (granule f.base)) x.marks k) i lt))
     (cases_eq (page_of (word_address f i)) (page_of address))
 
+-- the address is one of the object's, or it isn't
 reads_cases : (w : ℕ) (f : Found) → Reads w f ⊎ (Reads w f → ⊥)
 reads_cases w f =
     ⊎_elim (λ (lt : w < f.base). inr (λ (r : Reads w f). let a = r.from in absurd (omega arith)))
-    (λ ge. ⊎_elim (λ (lt : w < f.base + 8 * f.len). inl (record { from = omega arith; below = lt })) (λ le. inr (λ (r : Reads w f). let b = r.below in absurd (omega arith))) (cases_lt w (f.base + 8 * f.len)))
+    (λ ge. ⊎_elim (λ (lt : w < f.base + WORD_BYTES * f.len). inl (record { from = omega arith; below = lt })) (λ le. inr (λ (r : Reads w f). let b = r.below in absurd (omega arith))) (cases_lt w (f.base + WORD_BYTES * f.len)))
     (cases_lt w f.base)
 
 -- where an object has left, none has come
@@ -66,9 +77,38 @@ same_less found after s = record { before = λ w g e. sym (s.same w) ∙ e }
 -- objects leave
 pub free_traced : (found after : ℕ → Option Found) (words words' : List ℕ) (m : Marking) → HasNoNew found after → KeepsWords after words words' → DirtyPageInvariant found words m → DirtyPageInvariant after words' m
 free_traced found after words words' m r same t f e n k i lt =
-    ⊎_elim (λ h. inl h)
-    (λ y. inr (⊎_elim (λ g. inl (λ o z. g o (r.before _ o (ap after (sym (same f i e lt)) ∙ z)))) (λ a. inr a) y))
+    ⊎_elim (λ g. inl (λ o z. g o (r.before _ o (ap after (sym (same f i e lt)) ∙ z)))) (λ a. inr a)
     (t f (r.before f.base f e) n k i lt)
+
+-- the mark of an object that has left is taken away
+pub freed_traced : (pages : ℕ) (found after : ℕ → Option Found) (words words' : List ℕ) (f : Found) (old new : Marking) → IsMap pages found → found f.base ≡ Some f → IsRemoved found after f
+    → KeepsWords after words words' → IsFreed f.base old new → DirtyPageInvariant found words old → DirtyPageInvariant after words' new
+freed_traced pages found after words words' f old new map object removed same x t g e n k i lt =
+    let r = removed_less found after f removed in
+    ⊎_elim
+    (λ h. inl (λ o y.
+    let there = r.before _ o y in
+    let apart : granule o.base ≢ granule f.base = λ z.
+    let s = same_object pages found map o f (at_base pages found map _ o there) object z in
+    let in_it = map.reads _ f (there ∙ ap Some s) in
+    let gone : None ≡ Some o = sym (removed.before _ in_it) ∙ y in absurd (cc gone) in
+    subst (λ q. Has q (granule o.base)) (sym x.marks) (get_or-set_other old.marks (granule f.base) (granule o.base) false false apart ∙ h o (ap found (sym (same g i e lt)) ∙ there))))
+    (λ a. inr (⊎_elim (λ d. inl (subst (λ q. Has q (page_of (word_address g i))) (sym x.dirty) d)) (λ p. inr (pending_same old new x.current x.stack g.base i p)) a))
+    (t g (r.before g.base g e) n (was_set old.marks (granule f.base) (granule g.base) (subst (λ q. Has q (granule g.base)) x.marks k)).0 i lt)
+
+-- the object that leaves is one that has the base
+pub freed_keeps : (pages : ℕ) (found after : ℕ → Option Found) (words words' : List ℕ) (f : Found) (base : ℕ) (old new : Marking) → IsFreed base old new → f.base ≡ base
+    → IsMap pages found → found f.base ≡ Some f → IsRemoved found after f → KeepsWords after words words' → DirtyPageInvariant found words old → DirtyPageInvariant after words' new
+freed_keeps pages found after words words' f base old new x b map object removed same t =
+    freed_traced pages found after words words' f old new map object removed same (subst (λ (a : ℕ). IsFreed a old new) (sym b) x) t
+
+-- the mark that is taken away was the object's
+pub freed_objects : (found after : ℕ → Option Found) (f : Found) (old new : Marking) → found f.base ≡ Some f → IsRemoved found after f → IsFreed f.base old new → AreMarksObjects found old → AreMarksObjects after new
+freed_objects found after f old new object removed x all k h =
+    let was = was_set old.marks (granule f.base) k (subst (λ q. Has q k) x.marks h) in
+    let o = all k was.0 in
+    let apart : Reads o.object.base f → ⊥ = λ r. was.1 (sym o.first ∙ ap (λ (g : Found). granule g.base) (same_Some o.object f (sym o.is ∙ removed.after _ r))) in
+    record { object = o.object; is = sym (removed.others _ apart) ∙ o.is; first = o.first }
 
 -- an object comes, with words 0
 pub alloc_traced : (pages : ℕ) (found after : ℕ → Option Found) (words words' : List ℕ) (f : Found) (old new : Marking) → IsMap pages after → after f.base ≡ Some f → IsAdded found after f
@@ -78,10 +118,10 @@ alloc_traced pages found after words words' f old new map object added same zero
     ⊎_elim
     (λ (r : Reads g.base f).
     let s : g ≡ f = same_Some g f (sym e ∙ added.after g.base r) in
-    inr (inl (λ o y. absurd (
+    inl (λ o y. absurd (
     let z : word_at words' (word_address g i) ≡ 0 = ap (λ h. word_at words' (word_address h i)) s ∙ zero i (subst (λ (h : Found). i < h.len) s lt) in
     let y0 : after 0 ≡ Some o = ap after (sym z) ∙ y in
-    let p = (map.placed 0 o y0).above in let q = (map.reads 0 o y0).from in omega arith))))
+    let p = (map.placed 0 o y0).above in let q = (map.reads 0 o y0).from in omega arith)))
     (λ not.
     let was : found g.base ≡ Some g = sym (added.others g.base not) ∙ e in
     let some = (map.placed f.base f object).some in
@@ -91,25 +131,34 @@ alloc_traced pages found after words words' f old new map object added same zero
     (has_set_back old.marks (granule f.base) (granule g.base) (subst (λ q. Has q (granule g.base)) x.marks k)) in
     let more = λ (o : Found) (h : IsMarked old o.base). let y : IsMarked new o.base = subst (λ q. Has q (granule o.base)) (sym x.marks) (has_set old.marks (granule f.base) (granule o.base) inside h) in y in
     let here : IsMarked new f.base = subst (λ q. Has q (granule f.base)) (sym x.marks) (get_or-set_same old.marks (granule f.base) true false inside) in
-    ⊎_elim (λ h. inl h)
-    (λ w. inr (⊎_elim
+    ⊎_elim
     (λ h. inl (λ o y. ⊎_elim
     (λ (r : Reads (word_at words' (word_address g i)) f). subst (λ (q : Found). IsMarked new q.base) (same_Some f o (sym (added.after _ r) ∙ y)) here)
     (λ no. more o (h o (ap found (sym (same g i was lt)) ∙ sym (added.others _ no) ∙ y)))
     (reads_cases (word_at words' (word_address g i)) f)))
-    (λ a. inr (⊎_elim (λ d. inl (subst (λ q. Has q (page_of (word_address g i))) (sym x.dirty) d)) (λ p. inr (pending_same old new x.current x.stack g.base i p)) a)) w))
+    (λ a. inr (⊎_elim (λ d. inl (subst (λ q. Has q (page_of (word_address g i))) (sym x.dirty) d)) (λ p. inr (pending_same old new x.current x.stack g.base i p)) a))
     (t g was n marked i lt))
     (reads_cases g.base f)
 
--- the object that comes is one that its base reads
+-- the object that comes is one that has the base
 pub alloc_keeps : (pages : ℕ) (found after : ℕ → Option Found) (words words' : List ℕ) (f : Found) (base : ℕ) (old new : Marking) → granule base < length old.marks → IsAllocated base old new → f.base ≡ base
     → IsMap pages after → after f.base ≡ Some f → IsAdded found after f → KeepsWords found words words' → HasZeroWords words' f → DirtyPageInvariant found words old → DirtyPageInvariant after words' new
 alloc_keeps pages found after words words' f base old new inside x b map object added same zero t =
-    alloc_traced pages found after words words' f old new map object added same zero
-    (subst (λ y. IsAllocated y old new) (sym b) x) (subst (λ y. granule y < length old.marks) (sym b) inside) t
+    alloc_traced pages found after words words' f old new map object added same zero (subst (λ (a : ℕ). IsAllocated a old new) (sym b) x) (subst (λ (a : ℕ). granule a < length old.marks) (sym b) inside) t
+
+-- the mark that is set is the object's
+pub alloc_objects : (found after : ℕ → Option Found) (f : Found) (old new : Marking) → after f.base ≡ Some f → IsAdded found after f → IsAllocated f.base old new → AreMarksObjects found old → AreMarksObjects after new
+alloc_objects found after f old new object added x all k h =
+    ⊎_elim
+    (λ o.
+    let y = all k o in
+    let apart : Reads y.object.base f → ⊥ = λ r. let z : None ≡ Some y.object = sym (added.before _ r) ∙ y.is in absurd (cc z) in
+    record { object = y.object; is = added.others _ apart ∙ y.is; first = y.first })
+    (λ (s : k ≡ granule f.base). record { object = f; is = object; first = sym s })
+    (has_set_back old.marks (granule f.base) k (subst (λ q. Has q k) x.marks h))
 
 -- nothing is marked
 pub fresh_traced : (pages : ℕ) (found : ℕ → Option Found) (words : List ℕ) (m : Marking) → IsFresh pages m → DirtyPageInvariant found words m
 fresh_traced pages found words m fresh f e n k i lt = absurd (false≢true (sym (fresh.marks.clear (granule f.base)) ∙ k))
 
-pub ruleset mutating = (store_traced, free_traced, alloc_keeps, fresh_traced)
+pub ruleset mutating = (store_traced, fresh_traced)

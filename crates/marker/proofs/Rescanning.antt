@@ -1,166 +1,186 @@
 -- A dirty page is read again, object by object.
-use Rattle.std.proofs.Common.{◌≡◌, ◌≢◌, ℕ, ◌+◌, ◌-◌, ◌*◌, ◌<◌, ◌≤◌, List, [], length, true, false, get_or, set, sum_by, Contains, Option, Some, None, sym, ap, ◌∙◌, subst, inl, inr, ⊎_elim, arith, length-set, get_or-set_same, get_or-set_other}
-use Rattle.std.specs.Prelude.{◌⊎◌}
+use Rattle.std.proofs.Common.{◌≡◌, ◌≢◌, ℕ, ◌+◌, ◌*◌, ◌<◌, ◌≤◌, List, [], ◌++◌, length, false, get_or, set, sum_by, Contains, Option, Some, None, refl, sym, ap, ◌∙◌, subst, inl, inr, ⊎_elim, arith, length-set, get_or-set_same, get_or-set_other}
 use Rattle.std.proofs.lemmas.Option.{same_Some}
-use Rattle.std.proofs.lemmas.Bool.{false≢true, cases_eq}
-use Rattle.std.proofs.lemmas.Bool.Decides.{nat_tests}
+use Rattle.std.proofs.lemmas.Bool.{false≢true, cases_eq, cases_lt}
 use Rattle.std.proofs.lemmas.List.Sums.{sum_by-set}
+use Rattle.std.proofs.lemmas.List.Elements.{Contains-append_cases, Contains-append_left, Contains-append_right}
 use Rattle.words.specs.declared.class.Kind.TheVariants.{Normal}
+use Rattle.words.specs.declared.limits.TheConstants.{PAGE_GRANULES, PAGE_WORDS, WORD_BYTES}
+use Rattle.words.specs.Bits.{Has, IsFirstFrom}
+use Rattle.pages.specs.Memory.{word_at}
 use Rattle.block_map.specs.declared.found.Found.{Found}
 use Rattle.block_map.specs.Objects.{IsMap}
-use Rattle.words.specs.Bits.{Has, IsFirstFrom}
-use Rattle.block_map.specs.Places.{page_of}
-use Rattle.mark_bits.specs.Granules.{granule}
-use Rattle.pages.specs.Memory.{word_at}
-use Rattle.marker.specs.Marking.{Marking, IsMarked, IsPending, word_address, Covers, IsNewlyMarked}
-use Rattle.marker.specs.Work.{left, left_of, page_words, unmarked_from, cost}
-use Rattle.marker.specs.Closure.{Closure, held, word}
-use Rattle.marker.specs.Invariant.{DirtyPageInvariant, InvariantBut, IsTargetMarked}
-use Rattle.marker.specs.Growth.{Extends, Traces}
-use Rattle.marker.specs.Retracing.{Rereads, Retraces, is_from}
-use Rattle.marker.proofs.Closures.{closure_more}
-use Rattle.marker.proofs.Growing.{extends_refl, extends_trans, target_more, awaited_more}
-use Rattle.block_map.specs.Places.{page_start}
+use Rattle.block_map.specs.Places.{page_of, page_start}
 use Rattle.block_map.specs.Walks.{IsNextObject, IsNoObject}
-use Rattle.marker.specs.Growth.{MarksWords}
-use Rattle.marker.proofs.Words.{words_within}
-use Rattle.std.proofs.lemmas.Bool.{cases_lt}
+use Rattle.marker.specs.Marking.{Marking, IsMarked, IsPending, with_dirty, word_address}
+use Rattle.marker.specs.Work.{page_words, cost}
+use Rattle.marker.specs.Closure.{held}
+use Rattle.marker.specs.Invariant.{DirtyPageInvariant}
+use Rattle.marker.specs.Growth.{Traces, MarksWords, begun, words_of}
+use Rattle.marker.specs.Retracing.{IsWordBetween, Rereads, Retraces}
+use Rattle.marker.proofs.Closures.{closure_more}
+use Rattle.marker.proofs.Growing.{Extends, target_more, pending_more}
+use Rattle.marker.proofs.Words.{words_append, words_extends, words_targets, words_within, word_of, contains_word}
 
--- the words of an object read it
-pub reads_own : (pages : ℕ) (found : ℕ → Option Found) → IsMap pages found → (f : Found) (i : ℕ) → found f.base ≡ Some f → i < f.len → found (word_address f i) ≡ Some f
+-- the words of an object point into it
+reads_own : (pages : ℕ) (found : ℕ → Option Found) → IsMap pages found → (f : Found) (i : ℕ) → found f.base ≡ Some f → i < f.len → found (word_address f i) ≡ Some f
 reads_own pages found map f i e lt = map.whole f.base (word_address f i) f e (record { from = omega arith; below = omega arith })
 
--- no word of the object is read, since it is unmarked or its words are not read
-pub rereads_not : (found : ℕ → Option Found) (words : List ℕ) (f : Found) (at stop : ℕ) (m : Marking) → (f.kind ≡ Normal → IsMarked m f.base → ⊥) → Rereads found words f at stop m m
-rereads_not found words f at stop m not = record {
-  extends = extends_refl found m;
-  targets = λ i lt n k le below. absurd (not n k);
-  within = λ g e k. held e k;
-}
-
--- the words of a marked Normal object are read from one address up to another
-pub rereads_words : (found : ℕ → Option Found) (words : List ℕ) (f : Found) (at stop first n : ℕ) (old new : Marking) → found f.base ≡ Some f → f.kind ≡ Normal → IsMarked old f.base → first + n ≤ f.len
-    → ((i : ℕ) → at ≤ word_address f i → first ≤ i) → stop ≤ f.base + 8 * (first + n) → MarksWords found words f first n old new → Rereads found words f at stop old new
-rereads_words found words f at stop first n old new e normal marked fits low high r = record {
-  extends = r.extends;
-  targets = λ i lt k h le below. r.targets i (low i le) (omega arith);
-  within = words_within found words f first n old new e normal marked fits r;
-}
-
--- The state of the walk over a page, which has come to the address `at`.
-pub record Rescans (found : ℕ → Option Found) (words : List ℕ) (page at : ℕ) (old new : Marking) : Type 0 where
-  pub extends : Extends found old new
-  pub within : (f : Found) → found f.base ≡ Some f → IsMarked new f.base → Closure found words [] (IsMarked old) f
-  pub traced : InvariantBut (is_from page (page_start page)) found words old → InvariantBut (is_from page at) found words new
-
-pub rescans_none : (found : ℕ → Option Found) (words : List ℕ) (page : ℕ) (m : Marking) → Rescans found words page (page_start page) m m
-rescans_none found words page m = record { extends = extends_refl found m; within = λ f e k. held e k; traced = λ t. t }
-
-from_true : (page at a : ℕ) → is_from page at a ≡ true → (page_of a ≡ page) × (at ≤ a)
-from_true page at a h = (grind (arith, nat_tests), grind (arith, nat_tests))
-
-true_from : (page at a : ℕ) → page_of a ≡ page → at ≤ a → is_from page at a ≡ true
-true_from page at a e h = grind (arith, nat_tests)
-
--- a word between where the walk stood and where the next object's part ends is that object's
-next_is : (pages : ℕ) (found : ℕ → Option Found) (at high stop a : ℕ) (f g : Found) → IsMap pages found → IsNextObject found at high f → stop ≤ f.base + 8 * f.len → at ≤ a → a < stop → found a ≡ Some g → f ≡ g
+-- a word from the address on and before the end of the next object is that object's
+next_is : (pages : ℕ) (found : ℕ → Option Found) (at high stop a : ℕ) (f g : Found) → IsMap pages found → IsNextObject found at high f → stop ≤ f.base + WORD_BYTES * f.len → at ≤ a → a < stop → found a ≡ Some g → f ≡ g
 next_is pages found at high stop a f g map next le from below e =
     let r = (map.reads next.at f next.reads).from in
     let after : next.at ≤ a = ⊎_elim (λ (lt : a < next.at). let x : None ≡ Some g = sym (next.least a from lt) ∙ e in absurd (cc x)) (λ ge. ge) (cases_lt a next.at) in
     same_Some f g (sym (map.whole next.at a f next.reads (record { from = omega arith; below = omega arith })) ∙ e)
 
-pub rescans_step : (pages : ℕ) (found : ℕ → Option Found) (words : List ℕ) (page at high stop : ℕ) (f : Found) (old m new : Marking) → IsMap pages found → IsNextObject found at high f → stop ≤ f.base + 8 * f.len
-    → Rescans found words page at old m → Rereads found words f at stop m new → Rescans found words page stop old new
-rescans_step pages found words page at high stop f old m new map next le s w = record {
-  extends = extends_trans found old m new s.extends w.extends;
-  within = λ g e k. closure_more found words [] [] (IsMarked m) (IsMarked old) (λ v h. h) s.within (w.within g e k);
-  traced = λ t g e n k j l. ⊎_elim
-      (λ (o : IsMarked m g.base). ⊎_elim
-      (λ (x : is_from page at (word_address g j) ≡ true).
-      let y = from_true page at (word_address g j) x in
-      ⊎_elim
-      (λ (below : word_address g j < stop).
-      let same : f ≡ g = next_is pages found at high stop (word_address g j) f g map next le y.1 below (reads_own pages found map g j e l) in
-      let targets = subst (λ (h : Found). (i : ℕ) → i < h.len → h.kind ≡ Normal → IsMarked m h.base → at ≤ word_address h i → word_address h i < stop → IsTargetMarked found new (word_at words (word_address h i))) same w.targets in
-      inr (inl (targets j l n o y.1 below)))
-      (λ past. inl (true_from page stop (word_address g j) y.0 past)) (cases_lt (word_address g j) stop))
-      (λ r. inr (⊎_elim (λ h. inl (target_more found m new w.extends _ h)) (λ h. inr (awaited_more found m new w.extends g j h)) r))
-      (s.traced t g e n o j l))
-      (λ h. inr (inr (h n j l))) (w.extends.fresh g e k);
+between_more : (found : ℕ → Option Found) (words : List ℕ) (low high from below : ℕ) (a b : Marking) → from ≤ low → high ≤ below → ((d : ℕ) → IsMarked a d → IsMarked b d)
+    → (w : ℕ) → IsWordBetween found words low high a w → IsWordBetween found words from below b w
+between_more found words low high from below a b p q more w x =
+    record {
+      object = x.object;
+      is = x.is;
+      normal = x.normal;
+      marked = more x.object.base x.marked;
+      index = x.index;
+      inside = x.inside;
+      word = x.word;
+      from = (let y = x.from in omega arith);
+      below = (let y = x.below in omega arith);
+    }
+
+-- between the addresses there is no word of a marked Normal object
+pub rereads_none : (found : ℕ → Option Found) (words : List ℕ) (low high : ℕ) (m : Marking) → ((w : ℕ) → IsWordBetween found words low high m w → ⊥) → Rereads found words low high m m
+rereads_none found words low high m not = record {
+  read = [];
+  marks = begun;
+  all = λ w x. absurd (not w x);
+  only = λ w c. let l = c.1 in absurd (omega arith);
+  within = λ f e k. held e k;
 }
 
--- no object is left on the page
-pub rescans_end : (pages : ℕ) (found : ℕ → Option Found) (words : List ℕ) (page at : ℕ) (old new : Marking) → IsMap pages found → IsNoObject found at (page_start (page + 1))
-    → Rescans found words page at old new → InvariantBut (is_from page (page_start page)) found words old → DirtyPageInvariant found words new
-rescans_end pages found words page at old new map none s t g e n k j l =
-    ⊎_elim
-    (λ (x : is_from page at (word_address g j) ≡ true).
-    let y = from_true page at (word_address g j) x in let p = y.0 in
-    let nothing : found (word_address g j) ≡ None = none.none (word_address g j) y.1 (omega arith) in
-    let z : None ≡ Some g = sym nothing ∙ reads_own pages found map g j e l in absurd (cc z))
-    (λ r. inr r)
-    (s.traced t g e n k j l)
+module _ (pages : ℕ) (found : ℕ → Option Found) (map : IsMap pages found) (words : List ℕ) where
+  -- the next object is none whose words are read
+  pub rereads_passed : (at high stop : ℕ) (f : Found) (m : Marking) → IsNextObject found at high f → stop ≤ f.base + WORD_BYTES * f.len → (f.kind ≡ Normal → IsMarked m f.base → ⊥) → Rereads found words at stop m m
+  rereads_passed at high stop f m next le not =
+      rereads_none found words at stop m (λ w x.
+      let s = next_is pages found at high stop (word_address x.object x.index) f x.object map next le x.from x.below (reads_own pages found map x.object x.index x.is x.inside) in
+      not (ap (λ (y : Found). y.kind) s ∙ x.normal) (subst (λ (y : Found). IsMarked m y.base) (sym s) x.marked))
 
--- a page is made clean, and all its objects are read
-module _ (pages : ℕ) (found : ℕ → Option Found) (words : List ℕ) (page at : ℕ) (old mid new : Marking) (map : IsMap pages found) (least : IsFirstFrom old.dirty 0 page)
-    (marks_is : mid.marks ≡ old.marks) (current_is : mid.current ≡ old.current) (stack_is : mid.stack ≡ old.stack) (dirty_is : mid.dirty ≡ set old.dirty page false)
-    (all : Rescans found words page at mid new) (none : IsNoObject found at (page_start (page + 1))) where
-  back : (b : ℕ) → IsMarked mid b → IsMarked old b
-  back b h = subst (λ y. Has y (granule b)) marks_is h
+  -- no object is left
+  pub rereads_end : (at stop : ℕ) (m : Marking) → IsNoObject found at stop → Rereads found words at stop m m
+  rereads_end at stop m none =
+      rereads_none found words at stop m (λ w x.
+      let z : None ≡ Some x.object = sym (none.none (word_address x.object x.index) x.from x.below) ∙ reads_own pages found map x.object x.index x.is x.inside in absurd (cc z))
 
-  forth : (b : ℕ) → IsMarked old b → IsMarked mid b
-  forth b h = subst (λ y. Has y (granule b)) (sym marks_is) h
+  -- the words of the next object are read
+  pub rereads_words : (at high stop first n : ℕ) (f : Found) (old new : Marking) → length old.marks ≡ PAGE_GRANULES * pages → IsNextObject found at high f → stop ≤ f.base + WORD_BYTES * f.len
+      → found f.base ≡ Some f → f.kind ≡ Normal → IsMarked old f.base → first + n ≤ f.len
+      → ((i : ℕ) → at ≤ word_address f i → first ≤ i) → ((i : ℕ) → first ≤ i → at ≤ word_address f i) → stop ≡ f.base + WORD_BYTES * (first + n)
+      → MarksWords found old (words_of words f first n) new → Rereads found words at stop old new
+  rereads_words at high stop first n f old new size next le is normal marked fits low back end x =
+      record {
+        read = words_of words f first n;
+        marks = x;
+        all = λ w y.
+            let s = next_is pages found at high stop (word_address y.object y.index) f y.object map next le y.from y.below (reads_own pages found map y.object y.index y.is y.inside) in
+            let from = subst (λ (z : Found). at ≤ word_address z y.index) (sym s) y.from in
+            let below = subst (λ (z : Found). word_address z y.index < stop) (sym s) y.below in
+            subst (Contains (words_of words f first n)) (ap (λ (z : Found). word_at words (word_address z y.index)) s ∙ sym y.word) (contains_word words f first n y.index (low y.index from) (omega arith));
+        only = λ w c.
+            let y = word_of words f first n w c in let lt = y.2 in
+            record {
+              object = f;
+              is = is;
+              normal = normal;
+              marked = (words_extends pages found map old size x).marks f.base marked;
+              index = y.0;
+              inside = omega arith;
+              from = back y.0 y.1;
+              below = omega arith;
+              word = y.3;
+            };
+        within = words_within pages found map old size words f first n is normal marked fits x;
+      }
 
-  still : (p : ℕ) → p ≢ page → Has old.dirty p → Has mid.dirty p
-  still p ne h = subst (λ y. Has y p) (sym dirty_is) (get_or-set_other old.dirty page p false false ne ∙ h)
+  -- words up to an address, and then words from it on
+  pub rereads_append : (low at high : ℕ) (a b c : Marking) → length a.marks ≡ PAGE_GRANULES * pages → low ≤ at → at ≤ high → Rereads found words low at a b → Rereads found words at high b c → Rereads found words low high a c
+  rereads_append low at high a b c size p q x y =
+      let ab = words_extends pages found map a size x.marks in
+      let bc = words_extends pages found map b (ab.marks_len ∙ size) y.marks in
+      record {
+        read = x.read ++ y.read;
+        marks = words_append found a x.read b x.marks y.marks;
+        all = λ w z. ⊎_elim
+            (λ (before : word_address z.object z.index < at).
+            Contains-append_left x.read y.read w (x.all w (record { object = z.object; is = z.is; normal = z.normal; marked = z.marked; index = z.index; inside = z.inside; word = z.word; from = z.from; below = before })))
+            (λ after.
+            Contains-append_right x.read y.read w (y.all w (record { object = z.object; is = z.is; normal = z.normal; marked = ab.marks z.object.base z.marked; index = z.index; inside = z.inside; word = z.word; from = after; below = z.below })))
+            (cases_lt (word_address z.object z.index) at);
+        only = λ w h. ⊎_elim
+            (λ h. between_more found words low at low high b c (omega arith) q bc.marks w (x.only w h))
+            (λ h. between_more found words at high low high c c p (omega arith) (λ d k. k) w (y.only w h))
+            (Contains-append_cases x.read y.read w h);
+        within = λ f e k. closure_more found words [] [] (IsMarked b) (IsMarked a) (λ v h. h) x.within (y.within f e k);
+      }
 
-  not_here : Has mid.dirty page → ⊥
-  not_here h = false≢true (sym (get_or-set_same old.dirty page false false least.inside) ∙ ap (λ y. get_or y page false) (sym dirty_is) ∙ h)
+  -- the lowest dirty page was made clean, and its words were read
+  module _ (page : ℕ) (old new : Marking) (size : length old.marks ≡ PAGE_GRANULES * pages) (least : IsFirstFrom old.dirty 0 page)
+      (x : Rereads found words (page_start page) (page_start (page + 1)) (with_dirty old (set old.dirty page false)) new) where
+    abbrev mid : Marking
+    mid = with_dirty old (set old.dirty page false)
 
-  before : (p : ℕ) → Has mid.dirty p → Has old.dirty p
-  before p h = ⊎_elim (λ (e : p ≡ page). absurd (not_here (subst (Has mid.dirty) e h)))
-      (λ ne. sym (get_or-set_other old.dirty page p false false ne) ∙ ap (λ y. get_or y p false) (sym dirty_is) ∙ h) (cases_eq p page)
+    extends : Extends found (with_dirty old (set old.dirty page false)) new
+    extends = words_extends pages found map mid size x.marks
 
-  cleared : DirtyPageInvariant found words old → InvariantBut (is_from page (page_start page)) found words mid
-  cleared t f e n k i lt =
-      ⊎_elim (λ (x : false ≡ true). absurd (false≢true x))
-      (λ r. ⊎_elim (λ g. inr (inl (λ o y. forth o.base (g o y))))
-      (λ w. ⊎_elim
-      (λ d. ⊎_elim (λ (z : page_of (word_address f i) ≡ page). inl (let above = (map.placed f.base f e).above in true_from page (page_start page) (word_address f i) z (omega arith)))
-      (λ ne. inr (inr (inl (still _ ne d)))) (cases_eq (page_of (word_address f i)) page))
-      (λ (p : IsPending old f.base i). inr (inr (inr (record {
-        entry = p.entry;
-        one = ⊎_elim (λ (c : old.current ≡ Some p.entry). inl (current_is ∙ c)) (λ c. inr (subst (λ y. Contains y p.entry) (sym stack_is) c)) p.one;
-        same = p.same;
-        left = p.left;
-      }))))
-      w) r)
-      (t f e n (back f.base k) i lt)
+    still : (p : ℕ) → p ≢ page → Has old.dirty p → Has (set old.dirty page false) p
+    still p ne h = get_or-set_other old.dirty page p false false ne ∙ h
 
-  newly : (f : Found) → IsNewlyMarked found mid new f → IsNewlyMarked found old new f
-  newly f n = (n.0, (λ o. n.1 (forth f.base o)), n.2)
+    not_here : Has (set old.dirty page false) page → ⊥
+    not_here h = false≢true (sym (get_or-set_same old.dirty page false false least.inside) ∙ h)
 
-  pub retraces : Retraces found page old new
-  unfolding cost
-  retraces = record {
-    lowest = least;
-    clean = λ h. ⊎_elim (λ d. absurd (not_here d)) (λ (x : (f : Found) × IsNewlyMarked found mid new f × Covers f page). (x.0, newly x.0 x.1, x.2)) (all.extends.dirtied page h);
-    cost = (let a = all.extends.cost in
-        let u : unmarked_from found 0 mid.marks ≡ unmarked_from found 0 old.marks = ap (unmarked_from found 0) marks_is in
-        let c : left_of found mid.current ≡ left_of found old.current = ap (left_of found) current_is in
-        let s : sum_by (left found) mid.stack ≡ sum_by (left found) old.stack = ap (sum_by (left found)) stack_is in
-        let d : sum_by page_words mid.dirty ≡ sum_by page_words (set old.dirty page false) = ap (sum_by page_words) dirty_is in
+    before : (p : ℕ) → Has (set old.dirty page false) p → Has old.dirty p
+    before p h = ⊎_elim (λ (e : p ≡ page). absurd (not_here (subst (Has (set old.dirty page false)) e h)))
+        (λ ne. sym (get_or-set_other old.dirty page p false false ne) ∙ h) (cases_eq p page)
+
+    less : cost found new + PAGE_WORDS ≤ cost found old
+    unfolding cost
+    less =
+        let a = extends.cost in
         let e : sum_by page_words (set old.dirty page false) + page_words (get_or old.dirty page false) ≡ sum_by page_words old.dirty + 0 = sum_by-set page_words old.dirty page false false least.inside in
-        let g : page_words (get_or old.dirty page false) ≡ 512 = ap page_words least.member in
-        omega arith);
-  }
+        let g : page_words (get_or old.dirty page false) ≡ PAGE_WORDS = ap page_words least.member in
+        omega arith
 
-  pub retrace_traces : Traces found words [] old new
-  retrace_traces = record {
-    marks_len = all.extends.marks_len ∙ ap length marks_is;
-    dirty_len = all.extends.dirty_len ∙ ap length dirty_is ∙ length-set old.dirty page false;
-    marks = λ b h. all.extends.marks b (forth b h);
-    within = λ f e k. closure_more found words [] [] (IsMarked mid) (IsMarked old) (λ v h. h) (λ g o h. held o (back g.base h)) (all.within f e k);
-    dirtied = λ p h. ⊎_elim (λ d. inl (before p d)) (λ (x : (f : Found) × IsNewlyMarked found mid new f × Covers f p). inr (x.0, newly x.0 x.1, x.2)) (all.extends.dirtied p h);
-    keeps = λ t. rescans_end pages found words page at mid new map none all (cleared t);
-  }
+    pub retraces : Retraces found words page old new
+    retraces = record {
+      lowest = least;
+      reads = x;
+      clean = λ h. ⊎_elim (λ d. absurd (not_here d)) (λ n. n) (extends.dirtied page h);
+      others = λ p ne h. extends.dirty p (still p ne h);
+      cost = less;
+    }
+
+    keeps : DirtyPageInvariant found words old → DirtyPageInvariant found words new
+    keeps t f e n k i lt =
+        ⊎_elim
+        (λ o. ⊎_elim (λ g. inl (target_more found mid new extends _ g))
+        (λ w. ⊎_elim
+        (λ d. ⊎_elim
+        (λ (here : page_of (word_address f i) ≡ page).
+        let above = (map.placed f.base f e).above in
+        inl (words_targets pages found map mid size x.marks _ (x.all _ (record { object = f; is = e; normal = n; marked = o; index = i; inside = lt; word = refl; from = omega arith; below = omega arith }))))
+        (λ ne. inr (inl (extends.dirty _ (still _ ne d)))) (cases_eq (page_of (word_address f i)) page))
+        (λ (p : IsPending old f.base i). inr (inr (pending_more found mid new extends f.base i (record { entry = p.entry; one = p.one; same = p.same; left = p.left })))) w)
+        (t f e n o i lt))
+        (λ h. inr (h n i lt))
+        (extends.fresh f e k)
+
+    pub retrace_traces : Traces found words [] old new
+    retrace_traces = record {
+      marks_len = extends.marks_len;
+      dirty_len = extends.dirty_len ∙ length-set old.dirty page false;
+      marks = extends.marks;
+      objects = extends.objects;
+      within = x.within;
+      dirtied = λ p h. ⊎_elim (λ d. inl (before p d)) (λ n. inr n) (extends.dirtied p h);
+      keeps = keeps;
+    }

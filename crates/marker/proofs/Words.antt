@@ -1,48 +1,148 @@
--- Words of one object are read.
-use Rattle.std.proofs.Common.{◌≡◌, ℕ, ◌+◌, ◌*◌, ◌<◌, ◌≤◌, List, [], Option, Some, refl, sym, ap, ◌∙◌, subst, inl, inr, ⊎_elim, arith}
+-- What words that are done with come to.
+use Rattle.std.proofs.Common.{◌≡◌, ℕ, ◌+◌, ◌-◌, ◌*◌, ◌<◌, ◌≤◌, List, [], ◌∷◌, ◌++◌, length, get_or, take, Contains, Option, Some, refl, sym, ap, ◌∙◌, subst, inl, inr, ⊎_elim, append_assoc, append-nil, arith}
 use Rattle.std.specs.Prelude.{◌⊎◌}
-use Rattle.std.proofs.lemmas.Bool.{cases_lt}
+use Rattle.std.proofs.lemmas.Option.{same_Some}
+use Rattle.std.proofs.lemmas.List.{take_more}
+use Rattle.std.proofs.lemmas.List.FromFn.{map-range_with_len_more, length-map-range_with_len, get_or-map-range_with_len}
+use Rattle.std.proofs.lemmas.List.Elements.{Contains-append_left, Contains-append_right, Contains-append_cases}
 use Rattle.words.specs.declared.class.Kind.TheVariants.{Normal}
+use Rattle.words.specs.declared.limits.TheConstants.{PAGE_GRANULES}
+use Rattle.words.specs.Bits.{Has}
+use Rattle.mark_bits.specs.Granules.{granule}
 use Rattle.pages.specs.Memory.{word_at}
 use Rattle.block_map.specs.declared.found.Found.{Found}
+use Rattle.block_map.specs.Objects.{IsMap}
 use Rattle.marker.specs.Marking.{Marking, IsMarked, word_address}
-use Rattle.marker.specs.Closure.{Closure, held, word}
-use Rattle.marker.specs.Invariant.{IsTargetMarked}
-use Rattle.marker.specs.Growth.{Extends, MarksWord, MarksWords, IsWordOf}
-use Rattle.marker.proofs.Growing.{extends_refl, extends_trans, target_more}
+use Rattle.marker.specs.Closure.{Closure, held, root, word}
+use Rattle.marker.specs.Invariant.{IsTargetMarked, AreRootsMarked}
+use Rattle.marker.specs.Growth.{MarksWord, MarksWords, Traces, Awaits, words_of, nothing, object, begun, and_word, pointer_free, pushed, dirtied}
+use Rattle.marker.proofs.Closures.{at_base, same_object}
+use Rattle.marker.proofs.Growing.{Extends, extends_refl, extends_trans, target_more, traced_more}
+use Rattle.marker.proofs.MarkWord.{object_extends, object_marked, object_only}
 
-pub words_none : (found : ℕ → Option Found) (words : List ℕ) (f : Found) (first : ℕ) (m : Marking) → MarksWords found words f first 0 m m
-words_none found words f first m = record {
-  extends = extends_refl found m;
-  targets = λ i le lt. absurd (omega arith);
-  only = λ g e k. inl k;
-}
+awaits_pages : (f : Found) (old new : Marking) → Awaits f old new → length new.dirty ≡ length old.dirty
+awaits_pages f old new (pointer_free k s d) = ap length d
+awaits_pages f old new (pushed k r s d) = ap length d
+awaits_pages f old new (dirtied k r s d) = d.len
 
--- one word more is read
-pub words_more : (found : ℕ → Option Found) (words : List ℕ) (f : Found) (first n : ℕ) (old m new : Marking) → MarksWords found words f first n old m
-    → MarksWord found (word_at words (word_address f (first + n))) m new → MarksWords found words f first (n + 1) old new
-words_more found words f first n old m new r w = record {
-  extends = extends_trans found old m new r.extends w.extends;
-  targets = λ i le lt. ⊎_elim
-      (λ (s : i < first + n). target_more found m new w.extends _ (r.targets i le s))
-      (λ (ge : first + n ≤ i). let e : first + n ≡ i = omega arith in subst (λ j. IsTargetMarked found new (word_at words (word_address f j))) e w.target)
-      (cases_lt i (first + n));
-  only = λ g e k. ⊎_elim
-      (λ (o : IsMarked m g.base). ⊎_elim (λ a. inl a)
-      (λ (h : (v : ℕ) × IsWordOf words f first n v × (found v ≡ Some g)).
-      let x = h.1 in let b = x.below in inr (h.0, record { index = x.index; from = x.from; below = omega arith; is = x.is }, h.2))
-      (r.only g e o))
-      (λ (h : (v : ℕ) × (v ≡ word_at words (word_address f (first + n))) × (found v ≡ Some g)).
-      inr (h.0, record { index = first + n; from = omega arith; below = omega arith; is = h.1 }, h.2))
-      (w.only g e k);
-}
+-- the number of pages stays
+pub word_pages : (found : ℕ → Option Found) (w : ℕ) (old new : Marking) → MarksWord found w old new → length new.dirty ≡ length old.dirty
+word_pages found w old new (nothing t e) = ap (λ (m : Marking). length m.dirty) e
+word_pages found w old new (object f is x) = awaits_pages f old new x.awaits
 
--- words of a marked Normal object read objects of the closure
-pub words_within : (found : ℕ → Option Found) (words : List ℕ) (f : Found) (first n : ℕ) (old new : Marking) → found f.base ≡ Some f → f.kind ≡ Normal → IsMarked old f.base → first + n ≤ f.len
-    → MarksWords found words f first n old new → (g : Found) → found g.base ≡ Some g → IsMarked new g.base → Closure found words [] (IsMarked old) g
-words_within found words f first n old new e normal marked fits r g is k =
-    ⊎_elim (λ o. held is o)
-    (λ (h : (v : ℕ) × IsWordOf words f first n v × (found v ≡ Some g)).
-    let x = h.1 in let b = x.below in
-    word x.index (held e marked) normal (omega arith) (ap found (sym x.is) ∙ h.2))
-    (r.only g is k)
+pub words_pages : (found : ℕ → Option Found) (old : Marking) {ws : List ℕ} {new : Marking} → MarksWords found old ws new → length new.dirty ≡ length old.dirty
+words_pages found old begun = refl
+words_pages found old (and_word {m = m} x y) = word_pages found _ m _ y ∙ words_pages found old x
+
+-- words after words
+pub words_append : (found : ℕ → Option Found) (a : Marking) (ws : List ℕ) (b : Marking) → MarksWords found a ws b → {vs : List ℕ} {c : Marking} → MarksWords found b vs c → MarksWords found a (ws ++ vs) c
+words_append found a ws b x begun = subst (λ l. MarksWords found a l b) (sym (append-nil ws)) x
+words_append found a ws b x (and_word {ws = vs} {w = v} {new = c} y z) =
+    subst (λ l. MarksWords found a l c) (append_assoc ws vs (v ∷ [])) (and_word (words_append found a ws b x y) z)
+
+-- one root more
+pub words_taken : (found : ℕ → Option Found) (old m new : Marking) (roots : List ℕ) (i : ℕ) → i < length roots → MarksWords found old (take i roots) m → MarksWord found (get_or roots i 0) m new → MarksWords found old (take (i + 1) roots) new
+words_taken found old m new roots i lt x y = subst (λ l. MarksWords found old l new) (sym (take_more roots i 0 lt)) (and_word x y)
+
+-- one word of an object more
+pub words_more : (found : ℕ → Option Found) (words : List ℕ) (f : Found) (first n : ℕ) (old m new : Marking) → MarksWords found old (words_of words f first n) m
+    → MarksWord found (word_at words (word_address f (first + n))) m new → MarksWords found old (words_of words f first (n + 1)) new
+words_more found words f first n old m new x y =
+    subst (λ l. MarksWords found old l new) (sym (map-range_with_len_more (λ i. word_at words (word_address f i)) first n (first + n) refl)) (and_word x y)
+
+-- which words are some of an object's
+pub contains_word : (words : List ℕ) (f : Found) (first n i : ℕ) → first ≤ i → i < first + n → Contains (words_of words f first n) (word_at words (word_address f i))
+contains_word words f first n i le lt =
+    let k : i - first < n = omega arith in
+    let l : length (words_of words f first n) ≡ n = length-map-range_with_len (λ j. word_at words (word_address f j)) first n in
+    (i - first, omega (arith, l), get_or-map-range_with_len (λ j. word_at words (word_address f j)) first n (i - first) i _ k (omega arith))
+
+pub word_of : (words : List ℕ) (f : Found) (first n w : ℕ) → Contains (words_of words f first n) w → (i : ℕ) × (first ≤ i) × (i < first + n) × (w ≡ word_at words (word_address f i))
+word_of words f first n w h =
+    let l : length (words_of words f first n) ≡ n = length-map-range_with_len (λ j. word_at words (word_address f j)) first n in
+    let lt = h.1 in
+    let k : h.0 < n = omega (arith, l, lt) in
+    (first + h.0, omega arith, omega arith, sym h.2 ∙ get_or-map-range_with_len (λ j. word_at words (word_address f j)) first n h.0 (first + h.0) _ k refl)
+
+-- The granule is the first one of an object that one of the words points into.
+pub record IsTargetGranule (found : ℕ → Option Found) (ws : List ℕ) (k : ℕ) : Type 0 where
+  pub target : ℕ
+  pub one : Contains ws target
+  pub object : Found
+  pub points : found target ≡ Some object
+  pub first : granule object.base ≡ k
+
+module _ (pages : ℕ) (found : ℕ → Option Found) (map : IsMap pages found) where
+  word_extends : (w : ℕ) (old new : Marking) → length old.marks ≡ PAGE_GRANULES * pages → MarksWord found w old new → Extends found old new
+  word_extends w old new size (nothing t e) = subst (Extends found old) (sym e) (extends_refl found old)
+  word_extends w old new size (object f is x) = object_extends pages found map f (at_base pages found map w f is) old new size x
+
+  word_target : (w : ℕ) (old new : Marking) → length old.marks ≡ PAGE_GRANULES * pages → MarksWord found w old new → IsTargetMarked found new w
+  word_target w old new size (nothing t e) = subst (λ m. IsTargetMarked found m w) (sym e) t
+  word_target w old new size (object f is x) = λ g e.
+      subst (λ (y : Found). IsMarked new y.base) (same_Some f g (sym is ∙ e)) (object_marked pages found map f (at_base pages found map w f is) old new size x)
+
+  word_only : (w : ℕ) (old new : Marking) → length old.marks ≡ PAGE_GRANULES * pages → MarksWord found w old new → (k : ℕ) → Has new.marks k → Has old.marks k ⊎ IsTargetGranule found (w ∷ []) k
+  word_only w old new size (nothing t e) k h = inl (subst (λ (m : Marking). Has m.marks k) e h)
+  word_only w old new size (object f is x) k h =
+      ⊎_elim (λ o. inl o) (λ s. inr (record { target = w; one = (0, (let l : 0 < 1 = omega arith in l), refl); object = f; points = is; first = s }))
+      (object_only pages found map f (at_base pages found map w f is) old new size x k h)
+
+  module _ (old : Marking) (size : length old.marks ≡ PAGE_GRANULES * pages) where
+    pub words_extends : {ws : List ℕ} {new : Marking} → MarksWords found old ws new → Extends found old new
+    words_extends begun = extends_refl found old
+    words_extends (and_word {w = w} {m = m} {new = new} x y) =
+        let e = words_extends x in extends_trans found old m new e (word_extends w m new (e.marks_len ∙ size) y)
+
+    pub words_targets : {ws : List ℕ} {new : Marking} → MarksWords found old ws new → AreRootsMarked found ws new
+    words_targets begun w c = let l = c.1 in absurd (omega arith)
+    words_targets (and_word {ws = ws} {w = v} {m = m} {new = new} x y) w c =
+        let s = (words_extends x).marks_len ∙ size in
+        ⊎_elim (λ h. target_more found m new (word_extends v m new s y) w (words_targets x w h))
+        (λ (h : Contains (v ∷ []) w).
+        let l = h.1 in let z : h.0 ≡ 0 = omega arith in
+        subst (IsTargetMarked found new) (sym (ap (λ j. get_or (v ∷ []) j w) z) ∙ h.2) (word_target v m new s y))
+        (Contains-append_cases ws (v ∷ []) w c)
+
+    pub words_only : {ws : List ℕ} {new : Marking} → MarksWords found old ws new → (k : ℕ) → Has new.marks k → Has old.marks k ⊎ IsTargetGranule found ws k
+    words_only begun k h = inl h
+    words_only (and_word {ws = ws} {w = v} {m = m} {new = new} x y) k h =
+        ⊎_elim
+        (λ o. ⊎_elim (λ a. inl a)
+        (λ (t : IsTargetGranule found ws k). inr (record { target = t.target; one = Contains-append_left ws (v ∷ []) t.target t.one; object = t.object; points = t.points; first = t.first }))
+        (words_only x k o))
+        (λ (t : IsTargetGranule found (v ∷ []) k). inr (record { target = t.target; one = Contains-append_right ws (v ∷ []) t.target t.one; object = t.object; points = t.points; first = t.first }))
+        (word_only v m new ((words_extends x).marks_len ∙ size) y k h)
+
+    -- a marked object was marked before, or one of the words points into it
+    pub words_cases : {ws : List ℕ} {new : Marking} → MarksWords found old ws new → (f : Found) → found f.base ≡ Some f → IsMarked new f.base → IsMarked old f.base ⊎ ((w : ℕ) × Contains ws w × (found w ≡ Some f))
+    words_cases {ws = ws} x f e h =
+        ⊎_elim (λ o. inl o)
+        (λ (t : IsTargetGranule found ws (granule f.base)).
+        let s = same_object pages found map t.object f (at_base pages found map t.target t.object t.points) e t.first in
+        inr (t.target, t.one, t.points ∙ ap Some s))
+        (words_only x (granule f.base) h)
+
+    -- the words of roots are done with
+    pub roots_traces : (words : List ℕ) {roots : List ℕ} {new : Marking} → MarksWords found old roots new → Traces found words roots old new
+    roots_traces words {roots = roots} {new = new} x =
+        let e = words_extends x in
+        record {
+          marks_len = e.marks_len;
+          dirty_len = e.dirty_len;
+          marks = e.marks;
+          objects = e.objects;
+          within = λ f is h. ⊎_elim (λ o. held is o) (λ (t : (w : ℕ) × Contains roots w × (found w ≡ Some f)). root t.1 t.2) (words_cases x f is h);
+          dirtied = e.dirtied;
+          keeps = traced_more found words old new e;
+        }
+
+    -- words of a marked Normal object point into objects of the closure
+    pub words_within : (words : List ℕ) (f : Found) (first n : ℕ) {new : Marking} → found f.base ≡ Some f → f.kind ≡ Normal → IsMarked old f.base → first + n ≤ f.len
+        → MarksWords found old (words_of words f first n) new → (g : Found) → found g.base ≡ Some g → IsMarked new g.base → Closure found words [] (IsMarked old) g
+    words_within words f first n e normal marked fits x g is h =
+        ⊎_elim (λ o. held is o)
+        (λ (t : (w : ℕ) × Contains (words_of words f first n) w × (found w ≡ Some g)).
+        let y = word_of words f first n t.0 t.1 in let b = y.2 in
+        word y.0 (held e marked) normal (omega arith) (ap found (sym y.3) ∙ t.2))
+        (words_cases x g is h)

@@ -1,69 +1,64 @@
--- How marks grow.
-use Rattle.std.specs.Prelude.{◌≡◌, ℕ, ◌+◌, ◌-◌, ◌*◌, ◌<◌, ◌≤◌, Bool, List, length, Contains, Option, Some, ◌⊎◌, slice_index, sum_by}
-use Rattle.words.specs.declared.class.Kind.TheVariants.{Normal}
-use Rattle.words.specs.declared.limits.TheConstants.{PAGE_WORDS}
+-- What is done with words that are read.
+use Rattle.std.specs.Prelude.{◌≡◌, ℕ, ◌+◌, ◌<◌, ◌≤◌, Bool, true, List, [], ◌∷◌, ◌++◌, length, map, slice_set, Option, Some, ◌⊎◌}
+use Rattle.std.specs.List.{range_with_len}
+use Rattle.words.specs.declared.class.Kind.TheVariants.{Normal, PointerFree}
+use Rattle.words.specs.declared.limits.TheConstants.{MARK_STACK_ENTRIES}
 use Rattle.words.specs.Bits.{Has}
+use Rattle.mark_bits.specs.Granules.{granule}
 use Rattle.pages.specs.Memory.{word_at}
+use Rattle.block_map.specs.Places.{page_of}
 use Rattle.block_map.specs.declared.found.Found.{Found}
 use Rattle.marker.specs.declared.entry.Entry.{Entry}
-use Rattle.marker.specs.Marking.{Marking, IsMarked, IsNewlyMarked, Covers, word_address}
-use Rattle.marker.specs.Work.{page_words, cost}
-use Rattle.marker.specs.Invariant.{DirtyPageInvariant, IsTargetMarked, IsAwaited}
+use Rattle.marker.specs.Marking.{Marking, IsMarked, IsNewlyMarked, IsObjectGranule, Covers, last_page, word_address}
+use Rattle.marker.specs.Invariant.{DirtyPageInvariant, IsTargetMarked}
 use Rattle.marker.specs.Closure.{Closure}
 
--- What a call of the marker does: it keeps the invariant, marks only objects of the closure of the marks before and
--- the roots, and makes only pages of newly marked objects dirty.
-pub record Traces (found : ℕ → Option Found) (words roots : List ℕ) (old new : Marking) : Type 0 where
-  pub marks_len : length new.marks ≡ length old.marks
-  pub dirty_len : length new.dirty ≡ length old.dirty
-  pub marks : (b : ℕ) → IsMarked old b → IsMarked new b
-  pub within : (f : Found) → found f.base ≡ Some f → IsMarked new f.base → Closure found words roots (IsMarked old) f
-  pub dirtied : (p : ℕ) → Has new.dirty p → Has old.dirty p ⊎ ((f : Found) × IsNewlyMarked found old new f × Covers f p)
-  pub keeps : DirtyPageInvariant found words old → DirtyPageInvariant found words new
-
--- Marks, dirty pages and the entries of the stack only grow, and each word of a newly marked object is awaited.
-pub record Extends (found : ℕ → Option Found) (old new : Marking) : Type 0 where
-  pub marks_len : length new.marks ≡ length old.marks
-  pub dirty_len : length new.dirty ≡ length old.dirty
-  pub marks : (b : ℕ) → IsMarked old b → IsMarked new b
-  pub dirty : (p : ℕ) → Has old.dirty p → Has new.dirty p
-  pub current : new.current ≡ old.current
-  pub stack : (e : Entry) → Contains old.stack e → Contains new.stack e
-  pub fresh : (f : Found) → found f.base ≡ Some f → IsMarked new f.base → IsMarked old f.base ⊎ (f.kind ≡ Normal → (i : ℕ) → i < f.len → IsAwaited new f i)
-  pub dirtied : (p : ℕ) → Has new.dirty p → Has old.dirty p ⊎ ((f : Found) × IsNewlyMarked found old new f × Covers f p)
-  pub cost : cost found new ≤ cost found old
-
--- only objects that one of these words reads are newly marked
-abbrev pub MarksOnly : (ℕ → Option Found) → (ℕ → Type 0) → Marking → Marking → Type 0
-MarksOnly found P old new = (f : Found) → found f.base ≡ Some f → IsMarked new f.base → IsMarked old f.base ⊎ ((w : ℕ) × P w × (found w ≡ Some f))
-
--- The object that a word reads has become marked, and no other.
-pub record MarksWord (found : ℕ → Option Found) (w : ℕ) (old new : Marking) : Type 0 where
-  pub extends : Extends found old new
-  pub target : IsTargetMarked found new w
-  pub only : MarksOnly found (λ v. v ≡ w) old new
-
--- the word is one of n words of an object from its word `first` on
-pub record IsWordOf (words : List ℕ) (f : Found) (first n w : ℕ) : Type 0 where
-  pub index : ℕ
-  pub from : first ≤ index
-  pub below : index < first + n
-  pub is : w ≡ word_at words (word_address f index)
-
--- What n words of an object read from its word `first` on has become marked, and no other object.
-pub record MarksWords (found : ℕ → Option Found) (words : List ℕ) (f : Found) (first n : ℕ) (old new : Marking) : Type 0 where
-  pub extends : Extends found old new
-  pub targets : (i : ℕ) → first ≤ i → i < first + n → IsTargetMarked found new (word_at words (word_address f i))
-  pub only : MarksOnly found (IsWordOf words f first n) old new
-
--- The pages from `first` on, up to `end`, have become dirty.
+-- The pages from `first` on, up to `end`, have become dirty, and no others.
 pub record IsDirtied (old new : List Bool) (first end : ℕ) : Type 0 where
   pub len : length new ≡ length old
   pub inside : (p : ℕ) → first ≤ p → p < end → Has new p
   pub more : (p : ℕ) → Has old p → Has new p
   pub others : (p : ℕ) → Has new p → Has old p ⊎ ((first ≤ p) × (p < end))
-  pub cost : sum_by page_words new ≤ sum_by page_words old + PAGE_WORDS * (end - first)
 
--- what the first n words of the roots read is marked
-abbrev pub AreReadTo : (ℕ → Option Found) → List ℕ → ℕ → Marking → Type 0
-AreReadTo found roots n m = (k : ℕ) → k < n → IsTargetMarked found m (slice_index roots k)
+-- the entry of an object from its word 0 on
+abbrev pub entry_of : Found → Entry
+entry_of f = record { base = f.base; next = 0 }
+
+-- What is done so that the words of a newly marked object are read, one of three: nothing, since they point into none;
+-- its entry goes on top of the stack; or, where the stack is full, the pages that it covers become dirty.
+pub data Awaits (f : Found) (old new : Marking) : Type 0 where
+  pointer_free : f.kind ≡ PointerFree → new.stack ≡ old.stack → new.dirty ≡ old.dirty → Awaits f old new
+  pushed : f.kind ≡ Normal → length old.stack < MARK_STACK_ENTRIES → new.stack ≡ old.stack ++ entry_of f ∷ [] → new.dirty ≡ old.dirty → Awaits f old new
+  dirtied : f.kind ≡ Normal → length old.stack ≡ MARK_STACK_ENTRIES → new.stack ≡ old.stack → IsDirtied old.dirty new.dirty (page_of f.base) (last_page f + 1) → Awaits f old new
+
+-- An unmarked object has become marked, and nothing else has changed but what is done for its words.
+pub record MarksObject (f : Found) (old new : Marking) : Type 0 where
+  pub unmarked : IsMarked old f.base → ⊥
+  pub marks : new.marks ≡ slice_set old.marks (granule f.base) true
+  pub current : new.current ≡ old.current
+  pub awaits : Awaits f old new
+
+-- What is done with a word: the object that it points into becomes marked, if it is not.
+pub data MarksWord (found : ℕ → Option Found) (w : ℕ) (old new : Marking) : Type 0 where
+  nothing : IsTargetMarked found old w → new ≡ old → MarksWord found w old new
+  object : (f : Found) → found w ≡ Some f → MarksObject f old new → MarksWord found w old new
+
+-- What is done with words, in their order.
+pub data MarksWords (found : ℕ → Option Found) (old : Marking) : List ℕ → Marking → Type 0 where
+  begun : MarksWords found old [] old
+  and_word : {ws : List ℕ} {w : ℕ} {m new : Marking} → MarksWords found old ws m → MarksWord found w m new → MarksWords found old (ws ++ w ∷ []) new
+
+-- n words of an object from its word `first` on
+abbrev pub words_of : List ℕ → Found → ℕ → ℕ → List ℕ
+words_of words f first n = map (λ i. word_at words (word_address f i)) (range_with_len first n)
+
+-- What a call of the marker does: it keeps the invariant, marks only objects, and only those of the closure of the marks
+-- before and the roots, and makes only pages of newly marked objects dirty.
+pub record Traces (found : ℕ → Option Found) (words roots : List ℕ) (old new : Marking) : Type 0 where
+  pub marks_len : length new.marks ≡ length old.marks
+  pub dirty_len : length new.dirty ≡ length old.dirty
+  pub marks : (b : ℕ) → IsMarked old b → IsMarked new b
+  pub objects : (k : ℕ) → Has new.marks k → Has old.marks k ⊎ IsObjectGranule found k
+  pub within : (f : Found) → found f.base ≡ Some f → IsMarked new f.base → Closure found words roots (IsMarked old) f
+  pub dirtied : (p : ℕ) → Has new.dirty p → Has old.dirty p ⊎ ((f : Found) × IsNewlyMarked found old new f × Covers f p)
+  pub keeps : DirtyPageInvariant found words old → DirtyPageInvariant found words new

@@ -1,11 +1,11 @@
 -- The dirty-page invariant.
-use Rattle.std.specs.Prelude.{◌≡◌, ℕ, ◌<◌, Bool, true, false, List, Contains, Option, Some, ◌⊎◌}
+use Rattle.std.specs.Prelude.{◌≡◌, ℕ, ◌<◌, List, Contains, Option, Some, ◌⊎◌}
 use Rattle.words.specs.declared.class.Kind.TheVariants.{Normal}
 use Rattle.pages.specs.Memory.{word_at}
 use Rattle.block_map.specs.declared.found.Found.{Found}
 use Rattle.marker.specs.Marking.{Marking, IsMarked, IsDirtyAt, IsPending, word_address}
 
--- the object that the word reads, if any, is marked
+-- the object that the word points into, if any, is marked
 abbrev pub IsTargetMarked : (ℕ → Option Found) → Marking → ℕ → Type 0
 IsTargetMarked found m w = (g : Found) → found w ≡ Some g → IsMarked m g.base
 
@@ -13,16 +13,12 @@ IsTargetMarked found m w = (g : Found) → found w ≡ Some g → IsMarked m g.b
 abbrev pub IsAwaited : Marking → Found → ℕ → Type 0
 IsAwaited m f i = IsDirtyAt m (word_address f i) ⊎ IsPending m f.base i
 
--- the same as below, but for words at exempt addresses
-abbrev pub InvariantBut : (ℕ → Bool) → (ℕ → Option Found) → List ℕ → Marking → Type 0
-InvariantBut exempt found words m = (f : Found) → found f.base ≡ Some f → f.kind ≡ Normal → IsMarked m f.base → (i : ℕ) → i < f.len
-    → (exempt (word_address f i) ≡ true) ⊎ (IsTargetMarked found m (word_at words (word_address f i)) ⊎ IsAwaited m f i)
-
--- For each word of a marked Normal object: what it reads is marked, or the word's page is dirty, or an entry with
+-- For each word of a marked Normal object: what it points into is marked, or the word's page is dirty, or an entry with
 -- that object's base still has the word to read.
 abbrev pub DirtyPageInvariant : (ℕ → Option Found) → List ℕ → Marking → Type 0
-DirtyPageInvariant = InvariantBut (λ _. false)
+DirtyPageInvariant found words m = (f : Found) → found f.base ≡ Some f → f.kind ≡ Normal → IsMarked m f.base → (i : ℕ) → i < f.len
+    → IsTargetMarked found m (word_at words (word_address f i)) ⊎ IsAwaited m f i
 
--- what each of these words reads is marked
+-- what each of these words points into is marked
 abbrev pub AreRootsMarked : (ℕ → Option Found) → List ℕ → Marking → Type 0
 AreRootsMarked found roots m = (w : ℕ) → Contains roots w → IsTargetMarked found m w

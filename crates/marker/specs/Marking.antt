@@ -1,7 +1,7 @@
 -- What contracts see of a marker.
-use Rattle.std.specs.Prelude.{◌≡◌, ℕ, ◌+◌, ◌-◌, ◌*◌, ◌<◌, ◌≤◌, Bool, List, [], length, Contains, Option, Some, None, ◌⊎◌}
+use Rattle.std.specs.Prelude.{◌≡◌, ℕ, ◌+◌, ◌-◌, ◌*◌, ◌≤◌, ◌++◌, Bool, List, [], length, Contains, Option, Some, None, option_to_list, ◌⊎◌}
 use Rattle.words.specs.Bits.{Has, IsClear}
-use Rattle.words.specs.declared.limits.TheConstants.{MAX_PAGES, PAGE_GRANULES, WORD_BYTES}
+use Rattle.words.specs.declared.limits.TheConstants.{MARK_STACK_ENTRIES, MAX_PAGES, PAGE_GRANULES, WORD_BYTES}
 use Rattle.mark_bits.specs.Granules.{granule}
 use Rattle.block_map.specs.Places.{page_of}
 use Rattle.block_map.specs.declared.found.Found.{Found}
@@ -14,11 +14,20 @@ pub record Marking : Type 0 where
   pub current : Option Entry
   pub stack : List Entry
 
--- the marker is one of a heap of so many pages
-pub record IsSized (pages : ℕ) (m : Marking) : Type 0 where
-  pub marks : length m.marks ≡ PAGE_GRANULES * pages
-  pub dirty : length m.dirty ≡ pages
-  pub few : pages ≤ MAX_PAGES
+-- What is true of every marker: it has a mark for each granule of its pages, and no word of the stack's entries was read.
+pub record IsConsistent (m : Marking) : Type 0 where
+  pub marks : length m.marks ≡ PAGE_GRANULES * length m.dirty
+  pub few : length m.dirty ≤ MAX_PAGES
+  pub room : length m.stack ≤ MARK_STACK_ENTRIES
+  pub unread : (e : Entry) → Contains m.stack e → e.next ≡ 0
+
+-- the same with other dirty pages
+abbrev pub with_dirty : Marking → List Bool → Marking
+with_dirty m dirty = record { marks = m.marks; dirty = dirty; current = m.current; stack = m.stack }
+
+-- the same with another entry that is being read
+abbrev pub with_current : Marking → Entry → Marking
+with_current m e = record { marks = m.marks; dirty = m.dirty; current = Some e; stack = m.stack }
 
 -- the address of the word i of an object
 abbrev pub word_address : Found → ℕ → ℕ
@@ -40,6 +49,16 @@ Covers f p = (page_of f.base ≤ p) × (p ≤ last_page f)
 abbrev pub IsMarked : Marking → ℕ → Type 0
 IsMarked m base = Has m.marks (granule base)
 
+-- the granule is the first one of an object
+pub record IsObjectGranule (found : ℕ → Option Found) (k : ℕ) : Type 0 where
+  pub object : Found
+  pub is : found object.base ≡ Some object
+  pub first : granule object.base ≡ k
+
+-- each mark is that of an object
+abbrev pub AreMarksObjects : (ℕ → Option Found) → Marking → Type 0
+AreMarksObjects found m = (k : ℕ) → Has m.marks k → IsObjectGranule found k
+
 -- the object is marked now and was not before
 abbrev pub IsNewlyMarked : (ℕ → Option Found) → Marking → Marking → Found → Type 0
 IsNewlyMarked found old new f = (found f.base ≡ Some f) × (IsMarked old f.base → ⊥) × IsMarked new f.base
@@ -47,6 +66,14 @@ IsNewlyMarked found old new f = (found f.base ≡ Some f) × (IsMarked old f.bas
 -- the page of the address is dirty
 abbrev pub IsDirtyAt : Marking → ℕ → Type 0
 IsDirtyAt m address = Has m.dirty (page_of address)
+
+-- each dirty page has stayed dirty
+abbrev pub StaysDirty : Marking → Marking → Type 0
+StaysDirty old new = (p : ℕ) → Has old.dirty p → Has new.dirty p
+
+-- all entries, the one that is being read last
+abbrev pub entries : Marking → List Entry
+entries m = m.stack ++ option_to_list m.current
 
 -- one of the entries
 abbrev pub IsEntry : Marking → Entry → Type 0

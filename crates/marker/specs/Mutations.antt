@@ -1,5 +1,5 @@
 -- What mutators do to a heap that is being marked.
-use Rattle.std.specs.Prelude.{◌≡◌, ℕ, ◌<◌, true, List, slice_set, Option, Some}
+use Rattle.std.specs.Prelude.{◌≡◌, ℕ, ◌<◌, true, false, List, slice_set, Option, Some}
 use Rattle.mark_bits.specs.Granules.{granule}
 use Rattle.pages.specs.Memory.{word_at}
 use Rattle.block_map.specs.declared.found.Found.{Found}
@@ -20,7 +20,14 @@ pub record IsAllocated (base : ℕ) (old new : Marking) : Type 0 where
   pub current : new.current ≡ old.current
   pub stack : new.stack ≡ old.stack
 
--- no object has come: each that a word reads now, it read before
+-- the object with this base is not marked any more
+pub record IsFreed (base : ℕ) (old new : Marking) : Type 0 where
+  pub marks : new.marks ≡ slice_set old.marks (granule base) false
+  pub dirty : new.dirty ≡ old.dirty
+  pub current : new.current ≡ old.current
+  pub stack : new.stack ≡ old.stack
+
+-- no object has come: each that a word points into now, it pointed into before
 pub record HasNoNew (found after : ℕ → Option Found) : Type 0 where
   pub before : (w : ℕ) (f : Found) → after w ≡ Some f → found w ≡ Some f
 

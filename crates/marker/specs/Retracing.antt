@@ -1,30 +1,42 @@
 -- A dirty page is read again.
-use Rattle.std.specs.Prelude.{◌≡◌, ℕ, ◌+◌, ◌-◌, ◌<◌, ◌≤◌, List, [], Option, Some, ◌&&◌, leb, eqb, Bool}
+use Rattle.std.specs.Prelude.{◌≡◌, ◌≢◌, ℕ, ◌+◌, ◌<◌, ◌≤◌, false, List, [], Contains, slice_set, Option, Some}
 use Rattle.words.specs.declared.class.Kind.TheVariants.{Normal}
 use Rattle.words.specs.declared.limits.TheConstants.{PAGE_WORDS}
 use Rattle.words.specs.Bits.{Has, IsFirstFrom}
 use Rattle.pages.specs.Memory.{word_at}
-use Rattle.block_map.specs.Places.{page_of}
+use Rattle.block_map.specs.Places.{page_start}
 use Rattle.block_map.specs.declared.found.Found.{Found}
-use Rattle.marker.specs.Marking.{Marking, IsMarked, IsNewlyMarked, Covers, word_address}
-use Rattle.marker.specs.Work.{cost}
-use Rattle.marker.specs.Invariant.{IsTargetMarked}
+use Rattle.marker.specs.Marking.{Marking, IsMarked, IsNewlyMarked, Covers, with_dirty, word_address}
 use Rattle.marker.specs.Closure.{Closure}
-use Rattle.marker.specs.Growth.{Extends}
+use Rattle.marker.specs.Work.{cost}
+use Rattle.marker.specs.Growth.{MarksWords}
 
--- The lowest dirty page was read again: it is clean unless an object on it was newly marked, and what is left to
--- read is less by its words.
-pub record Retraces (found : ℕ → Option Found) (page : ℕ) (old new : Marking) : Type 0 where
+-- the word is one of a marked Normal object's, and stands from one address on and below another
+pub record IsWordBetween (found : ℕ → Option Found) (words : List ℕ) (low high : ℕ) (m : Marking) (w : ℕ) : Type 0 where
+  pub object : Found
+  pub is : found object.base ≡ Some object
+  pub normal : object.kind ≡ Normal
+  pub marked : IsMarked m object.base
+  pub index : ℕ
+  pub inside : index < object.len
+  pub from : low ≤ word_address object index
+  pub below : word_address object index < high
+  pub word : w ≡ word_at words (word_address object index)
+
+-- The words of marked Normal objects that stand between two addresses were read again: all words of those that were
+-- marked before, and no words but those of objects that are marked afterwards.
+pub record Rereads (found : ℕ → Option Found) (words : List ℕ) (low high : ℕ) (old new : Marking) : Type 0 where
+  pub read : List ℕ
+  pub marks : MarksWords found old read new
+  pub all : (w : ℕ) → IsWordBetween found words low high old w → Contains read w
+  pub only : (w : ℕ) → Contains read w → IsWordBetween found words low high new w
+  pub within : (f : Found) → found f.base ≡ Some f → IsMarked new f.base → Closure found words [] (IsMarked old) f
+
+-- The lowest dirty page was made clean, and then the words on it were read again: it is clean unless an object on it was
+-- newly marked, all others stay dirty, and what is left to read is less by its words.
+pub record Retraces (found : ℕ → Option Found) (words : List ℕ) (page : ℕ) (old new : Marking) : Type 0 where
   pub lowest : IsFirstFrom old.dirty 0 page
+  pub reads : Rereads found words (page_start page) (page_start (page + 1)) (with_dirty old (slice_set old.dirty page false)) new
   pub clean : Has new.dirty page → (f : Found) × IsNewlyMarked found old new f × Covers f page
+  pub others : (p : ℕ) → p ≢ page → Has old.dirty p → Has new.dirty p
   pub cost : cost found new + PAGE_WORDS ≤ cost found old
-
--- The words of an object from the address `at` on, up to `stop`, were read again if it is a marked Normal one.
-pub record Rereads (found : ℕ → Option Found) (words : List ℕ) (f : Found) (at stop : ℕ) (old new : Marking) : Type 0 where
-  pub extends : Extends found old new
-  pub targets : (i : ℕ) → i < f.len → f.kind ≡ Normal → IsMarked old f.base → at ≤ word_address f i → word_address f i < stop → IsTargetMarked found new (word_at words (word_address f i))
-  pub within : (g : Found) → found g.base ≡ Some g → IsMarked new g.base → Closure found words [] (IsMarked old) g
-
--- the address is one of the page, from the address `at` on
-abbrev pub is_from : ℕ → ℕ → ℕ → Bool
-is_from page at address = eqb (page_of address) page && leb at address

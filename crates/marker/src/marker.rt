@@ -7,10 +7,10 @@ ghost use Rattle.mark_bits.specs.Granules.{granule};
 ghost use Rattle.block_map.specs.declared.found.Found.{Found};
 ghost use Rattle.block_map.specs.Objects.{IsPlaced};
 ghost use Rattle.block_map.specs.FoundIn.{found_in, IsLawful};
-ghost use Rattle.marker.specs.Marking.{IsSized, IsFresh};
+ghost use Rattle.marker.specs.Marking.{IsConsistent, IsFresh, StaysDirty};
 ghost use Rattle.marker.specs.Work.{cost};
 ghost use Rattle.marker.specs.Invariant.{AreRootsMarked, DirtyPageInvariant};
-ghost use Rattle.marker.specs.Growth.{MarksWord, MarksWords, Traces};
+ghost use Rattle.marker.specs.Growth.{Awaits, MarksWord, MarksWords, Traces, words_of};
 
 use crate::entry::Entry;
 use crate::spread::dirty_object;
@@ -37,11 +37,13 @@ pub struct Marker {
 }
 
 impl Model for Marker {
-    ghost use Rattle.marker.specs.Marking.{Marking};
+    ghost use Rattle.marker.specs.Marking.{Marking, IsConsistent};
 
     ghost Value = { Marking };
 
     ghost view = { λ m. record { marks = m.marks; dirty = m.dirty; current = m.current; stack = m.stack.items } };
+
+    ghost invariant = { λ m. IsConsistent (record { marks = m.marks; dirty = m.dirty; current = m.current; stack = m.stack.items }) };
 }
 
 // The bytes of a heap.
@@ -75,10 +77,17 @@ impl Marker {
         })
     }
 
+    #[inline]
+    /// What is true of every marker.
+    pub fn laws(&self)
+        ensures { IsConsistent self.now }
+    {
+        let _marks = &self.marks;
+    }
+
     #[tactic(auto, using(crate::proofs::Mutating::mutating))]
     /// Begins a cycle: no mark, no dirty page and no entry.
     pub fn begin(&mut self)
-        requires { IsSized (length self.old.dirty) self.old }
         ensures fresh { IsFresh (length self.old.dirty) self.new }
         ensures invariant { (found : ℕ → Option Found) (words : List ℕ) → DirtyPageInvariant found words self.new }
     {
@@ -98,11 +107,11 @@ impl Marker {
         self.marks.is_set(granule_of(base))
     }
 
-    // Marks the object that the word reads. The heap's range is tested here, before the map is asked.
+    // Marks the object that the word points into. The heap's range is tested here, before the map is asked.
     #[inline]
     #[tactic(auto, using(crate::proofs::MarkWord::ranging))]
     pub(crate) fn mark_word(&mut self, map: &BlockMap, heap_bytes: u64, word: u64)
-        requires sized { IsSized (length map.now) self.old }
+        requires pages { length self.old.dirty ≡ length map.now }
         requires lawful { IsLawful map.now }
         requires bytes { heap_bytes ≡ PAGE_BYTES * length map.now }
         ensures { MarksWord (found_in map.now) word self.old self.new }
@@ -116,10 +125,10 @@ impl Marker {
         self.mark_target(map, word);
     }
 
-    // Marks the object that a word reads, if it reads one.
+    // Marks the object that a word points into, if it points into one.
     fn mark_target(&mut self, map: &BlockMap, word: u64)
-        requires { IsSized (length map.now) self.old }
-        ensures { MarksWord (found_in map.now) word self.old self.new }
+        requires pages { length self.old.dirty ≡ length map.now }
+        ensures marks { MarksWord (found_in map.now) word self.old self.new }
     {
         let Some(found) = map.find(word) else {
             return;
@@ -129,6 +138,17 @@ impl Marker {
             return;
         }
         self.marks.set(granule);
+        self.await_words(found);
+    }
+
+    // Sees to it that the words of a newly marked object are read.
+    #[inline]
+    fn await_words(&mut self, found: Found)
+        requires placed { IsPlaced (length self.old.dirty) found }
+        ensures marks { self.new.marks ≡ self.old.marks }
+        ensures current { self.new.current ≡ self.old.current }
+        ensures awaits { Awaits found self.old self.new }
+    {
         if found.kind == Kind::PointerFree {
             return;
         }
@@ -142,7 +162,7 @@ impl Marker {
         }
     }
 
-    // Marks what words of an object read: so many, from its word `first` on.
+    // Marks what words of an object point into: so many, from its word `first` on.
     #[inline]
     pub(crate) fn mark_words(
         &mut self,
@@ -153,16 +173,17 @@ impl Marker {
         first: u32,
         count: u64,
     )
-        requires sized { IsSized (length map.now) self.old }
+        requires pages { length self.old.dirty ≡ length map.now }
         requires lawful { IsLawful map.now }
         requires bytes { heap_bytes ≡ PAGE_BYTES * length map.now }
         requires memory { length reader.old.words ≡ PAGE_WORDS * length map.now }
         requires placed { IsPlaced (length map.now) found }
         requires fits { first + count ≤ found.len }
-        ensures reads { MarksWords (found_in map.now) reader.old.words found first count self.old self.new }
+        ensures marks { MarksWords (found_in map.now) self.old (words_of reader.old.words found first count) self.new }
         ensures words { reader.new.words ≡ reader.old.words }
         ensures counted { reader.new.reads ≡ reader.old.reads + count }
     {
+        self.laws();
         let start = found.base + WORD_BYTES * u64::from(first);
         for i in 0..count {
             let word = reader.read(start + WORD_BYTES * i);
@@ -170,15 +191,17 @@ impl Marker {
         }
     }
 
-    /// Marks the objects that root words read.
-    #[tactic(auto, using(crate::proofs::Scanning::scanning))]
+    /// Marks the objects that root words point into. Entries stay where they are.
     pub fn scan_roots(&mut self, map: &BlockMap, roots: &[u64])
-        requires { IsSized (length map.now) self.old }
+        requires pages { length self.old.dirty ≡ length map.now }
+        ensures marks { MarksWords (found_in map.now) self.old roots.now self.new }
         ensures traces { (words : List ℕ) → Traces (found_in map.now) words roots.now self.old self.new }
         ensures roots { AreRootsMarked (found_in map.now) roots.now self.new }
+        ensures dirty { StaysDirty self.old self.new }
         ensures cost { cost (found_in map.now) self.new ≤ cost (found_in map.now) self.old }
         ensures lawful { IsLawful map.now }
     {
+        self.laws();
         let heap_bytes = heap_bytes(map);
         for word in roots {
             self.mark_word(map, heap_bytes, *word);

@@ -4,29 +4,28 @@ ghost use Rattle.words.specs.declared.limits.TheConstants.{FIRST_ADDRESS};
 ghost use Rattle.mark_bits.specs.Granules.{granule};
 ghost use Rattle.block_map.specs.declared.found.Found.{Found};
 ghost use Rattle.block_map.specs.Objects.{IsMap};
-ghost use Rattle.block_map.specs.Changes.{IsAdded};
+ghost use Rattle.block_map.specs.Changes.{IsAdded, IsRemoved};
 ghost use Rattle.pages.specs.Memory.{with_word_at};
 ghost use Rattle.block_map.specs.Places.{page_of};
-ghost use Rattle.marker.specs.Marking.{IsSized};
+ghost use Rattle.marker.specs.Marking.{AreMarksObjects};
 ghost use Rattle.marker.specs.Invariant.{DirtyPageInvariant};
-ghost use Rattle.marker.specs.Mutations.{IsWritten, IsAllocated, HasNoNew, KeepsWords, HasZeroWords};
+ghost use Rattle.marker.specs.Mutations.{IsWritten, IsAllocated, IsFreed, KeepsWords, HasZeroWords};
 
 use crate::marker::Marker;
 use mark_bits::granule_of;
-use words::limits::{FIRST_ADDRESS, PAGE_BYTES};
+use words::limits::FIRST_ADDRESS;
+use words::{PageNo, page_of};
 
 impl Marker {
     /// A word was written at the address. The invariant stays, whatever was written.
     #[tactic(auto, using(crate::proofs::Mutating::mutating))]
     pub fn written(&mut self, address: u64)
-        requires sized { IsSized (length self.old.dirty) self.old }
         requires low { FIRST_ADDRESS ≤ address }
         requires inside { page_of address < length self.old.dirty }
         ensures written { IsWritten address self.old self.new }
         ensures keeps { (found : ℕ → Option Found) (words : List ℕ) (w : ℕ) → DirtyPageInvariant found words self.old → DirtyPageInvariant found (with_word_at words address w) self.new }
     {
-        self.dirty
-            .set(((address - FIRST_ADDRESS) / PAGE_BYTES) as u32);
+        self.dirty.set(page_of(address) as PageNo);
     }
 
     /// An object of zero words was allocated at this base. It is marked at once, and the invariant stays.
@@ -34,16 +33,23 @@ impl Marker {
         requires low { FIRST_ADDRESS ≤ base }
         requires inside { granule base < length self.old.marks }
         ensures allocated { IsAllocated base self.old self.new }
+        ensures objects { (found after : ℕ → Option Found) (f : Found) → f.base ≡ base → after base ≡ Some f → IsAdded found after f → AreMarksObjects found self.old → AreMarksObjects after self.new }
         ensures keeps { (pages : ℕ) (found after : ℕ → Option Found) (words words' : List ℕ) (f : Found) → f.base ≡ base → IsMap pages after → after base ≡ Some f → IsAdded found after f → KeepsWords found words words' → HasZeroWords words' f
             → DirtyPageInvariant found words self.old → DirtyPageInvariant after words' self.new }
     {
         self.marks.set(granule_of(base));
     }
 
-    /// Objects were freed, or pages were cut. The entries of freed objects go stale and harm nothing: nothing is to be
-    /// done, and the invariant stays.
-    #[tactic(auto, using(crate::proofs::Mutating::mutating))]
-    pub fn freed(&self)
-        ensures { (found after : ℕ → Option Found) (words words' : List ℕ) → HasNoNew found after → KeepsWords after words words' → DirtyPageInvariant found words self.now → DirtyPageInvariant after words' self.now }
-    {}
+    /// The object with this base was freed. It is marked no more, so that each mark is an object's, and the invariant
+    /// stays: an entry of the object goes stale, and harms nothing.
+    pub fn freed(&mut self, base: u64)
+        requires low { FIRST_ADDRESS ≤ base }
+        requires inside { granule base < length self.old.marks }
+        ensures freed { IsFreed base self.old self.new }
+        ensures objects { (found after : ℕ → Option Found) (f : Found) → f.base ≡ base → found base ≡ Some f → IsRemoved found after f → AreMarksObjects found self.old → AreMarksObjects after self.new }
+        ensures keeps { (pages : ℕ) (found after : ℕ → Option Found) (words words' : List ℕ) (f : Found) → f.base ≡ base → IsMap pages found → found base ≡ Some f → IsRemoved found after f → KeepsWords after words words'
+            → DirtyPageInvariant found words self.old → DirtyPageInvariant after words' self.new }
+    {
+        self.marks.clear(granule_of(base));
+    }
 }

@@ -4,30 +4,31 @@ ghost use Rattle.words.specs.declared.limits.TheConstants.{MAX_PAGES, PAGE_BYTES
 ghost use Rattle.words.specs.Bits.{IsFirstFrom};
 ghost use Rattle.block_map.specs.Walks.{IsNextObject};
 ghost use Rattle.block_map.specs.FoundIn.{found_in, IsLawful};
-ghost use Rattle.marker.specs.Marking.{IsSized, IsClean};
+ghost use Rattle.marker.specs.Marking.{IsClean, with_dirty};
 ghost use Rattle.marker.specs.Growth.{Traces};
 ghost use Rattle.marker.specs.Retracing.{Rereads, Retraces};
 
 use crate::marker::{Marker, heap_bytes};
 use block_map::{BlockMap, Found};
 use pages::Reader;
-use words::limits::{FIRST_ADDRESS, PAGE_BYTES, WORD_BYTES};
-use words::{Kind, PageNo};
+use words::limits::{PAGE_BYTES, WORD_BYTES};
+use words::{Kind, PageNo, page_start};
 
 impl Marker {
     /// Reads the words of marked Normal objects on the lowest dirty page again.
     pub fn retrace(&mut self, map: &BlockMap, reader: &mut Reader) -> Option<PageNo>
-        requires sized { IsSized (length map.now) self.old }
+        requires pages { length self.old.dirty ≡ length map.now }
         requires memory { length reader.old.words ≡ PAGE_WORDS * length map.now }
-        ensures page { MatchOption result (IsClean self.old × (self.new ≡ self.old)) (λ p. Retraces (found_in map.now) p self.old self.new) }
+        ensures page { MatchOption result (IsClean self.old × (self.new ≡ self.old)) (λ p. Retraces (found_in map.now) reader.old.words p self.old self.new) }
         ensures traces { Traces (found_in map.now) reader.old.words [] self.old self.new }
         ensures words { reader.new.words ≡ reader.old.words }
         ensures reads { reader.new.reads ≤ reader.old.reads + PAGE_WORDS }
         ensures none { IfNone result (reader.new.reads ≡ reader.old.reads) }
     {
+        self.laws();
         let page = self.take_page()?;
         let heap_bytes = heap_bytes(map);
-        let mut address = FIRST_ADDRESS + PAGE_BYTES * u64::from(page);
+        let mut address = page_start(page);
         let end = address + PAGE_BYTES;
         while let Some(found) = map.next_on_page(page, address) {
             address = self.reread(map, heap_bytes, reader, found, address, end);
@@ -37,11 +38,8 @@ impl Marker {
 
     // Makes the lowest dirty page clean.
     fn take_page(&mut self) -> Option<PageNo>
-        ensures marks { self.new.marks ≡ self.old.marks }
-        ensures current { self.new.current ≡ self.old.current }
-        ensures stack { self.new.stack ≡ self.old.stack }
+        ensures page { MatchOption result (IsClean self.old × (self.new ≡ self.old)) (λ p. IsFirstFrom self.old.dirty 0 p × (self.new ≡ with_dirty self.old (slice_set self.old.dirty p false))) }
         ensures small { IfSome result (λ p. p < MAX_PAGES) }
-        ensures page { MatchOption result (IsClean self.old × (self.new ≡ self.old)) (λ p. IsFirstFrom self.old.dirty 0 p × (self.new.dirty ≡ slice_set self.old.dirty p false)) }
     {
         let page = self.dirty.first()?;
         self.dirty.clear(page);
@@ -59,14 +57,14 @@ impl Marker {
         low: u64,
         high: u64,
     ) -> u64
-        requires sized { IsSized (length map.now) self.old }
+        requires pages { length self.old.dirty ≡ length map.now }
         requires lawful { IsLawful map.now }
         requires bytes { heap_bytes ≡ PAGE_BYTES * length map.now }
         requires memory { length reader.old.words ≡ PAGE_WORDS * length map.now }
         requires next { IsNextObject (found_in map.now) low high found }
         requires low { low % WORD_BYTES ≡ 0 }
         requires high { high % WORD_BYTES ≡ 0 }
-        ensures rereads { Rereads (found_in map.now) reader.old.words found low result self.old self.new }
+        ensures rereads { Rereads (found_in map.now) reader.old.words low result self.old self.new }
         ensures further { low < result }
         ensures inside { result ≤ found.base + WORD_BYTES * found.len }
         ensures within { result ≤ high }
@@ -74,6 +72,7 @@ impl Marker {
         ensures words { reader.new.words ≡ reader.old.words }
         ensures reads { WORD_BYTES * reader.new.reads + low ≤ WORD_BYTES * reader.old.reads + result }
     {
+        self.laws();
         let stop = (found.base + WORD_BYTES * u64::from(found.len)).min(high);
         if found.kind == Kind::PointerFree {
             return stop;

@@ -8,7 +8,8 @@ ghost use Rattle.marker.specs.Growth.{IsDirtied};
 
 use block_map::Found;
 use dirty_pages::DirtyPages;
-use words::limits::{FIRST_ADDRESS, MAX_PAGES, PAGE_BYTES, WORD_BYTES};
+use words::limits::{MAX_PAGES, WORD_BYTES};
+use words::{PageNo, page_of};
 
 /// Makes the pages that an object covers dirty.
 #[tactic(auto, using(crate::proofs::Spreads::spreads))]
@@ -17,9 +18,9 @@ pub(crate) fn dirty_object(dirty: &mut DirtyPages, found: Found)
     requires small { length dirty.old ≤ MAX_PAGES }
     ensures { IsDirtied dirty.old dirty.new (page_of found.base) (last_page found + 1) }
 {
-    let first = ((found.base - FIRST_ADDRESS) / PAGE_BYTES) as u32;
+    let first = page_of(found.base) as PageNo;
     let end = found.base + WORD_BYTES * u64::from(found.len);
-    let last = ((end - 1 - FIRST_ADDRESS) / PAGE_BYTES) as u32;
+    let last = page_of(end - 1) as PageNo;
     for page in first..last + 1 {
         dirty.set(page);
     }

@@ -1,13 +1,13 @@
 //! Steps of marking: words of entries are read, at most so many a call.
-ghost use Rattle.std.specs.Prelude.{◌≡◌, ℕ, ◌+◌, ◌*◌, ◌<◌, ◌≤◌, [], ◌++◌, true, false, length, MatchOption, IfSome, ◌⊎◌, option_to_list, Some};
+ghost use Rattle.std.specs.Prelude.{◌≡◌, ℕ, ◌+◌, ◌*◌, ◌<◌, ◌≤◌, ◌↔◌, [], ◌++◌, true, false, length, MatchOption, IfSome, option_to_list, Some};
 ghost use Rattle.words.specs.declared.limits.TheConstants.{MAX_PAGES, PAGE_BYTES, PAGE_WORDS};
 ghost use Rattle.block_map.specs.Objects.{IsPlaced};
 ghost use Rattle.block_map.specs.FoundIn.{found_in, IsLawful};
 ghost use Rattle.marker.specs.declared.entry.Entry.{Entry};
-ghost use Rattle.marker.specs.Marking.{IsSized, IsEmpty};
+ghost use Rattle.marker.specs.Marking.{IsEmpty, StaysDirty, entries};
 ghost use Rattle.marker.specs.Work.{cost};
 ghost use Rattle.marker.specs.Growth.{Traces};
-ghost use Rattle.marker.specs.Entries.{IsSpent, IsLive, Settles, ReadsOn, Takes, TakesOff, IsInOrder};
+ghost use Rattle.marker.specs.Entries.{IsSpent, IsLive, Settles, ReadsOn, Takes, TakesOff};
 
 use crate::entry::Entry;
 use crate::marker::{Marker, heap_bytes};
@@ -26,21 +26,22 @@ pub struct Marked {
 }
 
 impl Marker {
-    /// Reads words of entries, at most so many.
+    /// Reads words of entries, at most so many. The entry that was begun is read to its end before another is begun.
     pub fn step(&mut self, map: &BlockMap, reader: &mut Reader, budget: u64) -> Marked
-        requires sized { IsSized (length map.now) self.old }
+        requires pages { length self.old.dirty ≡ length map.now }
         requires memory { length reader.old.words ≡ PAGE_WORDS * length map.now }
         ensures takes { Takes (found_in map.now) reader.old.words self.old result.read self.new }
         ensures traces { Traces (found_in map.now) reader.old.words [] self.old self.new }
         ensures read { result.read ≤ budget }
-        ensures empty { result.empty ≡ true → IsEmpty self.new }
-        ensures fewer { result.read < budget → result.empty ≡ true }
+        ensures empty { (result.empty ≡ true) ↔ IsEmpty self.new }
+        ensures fewer { result.read < budget → IsEmpty self.new }
         ensures taken { TakesOff (found_in map.now) reader.old.words self.old self.new }
-        ensures order { IsInOrder (found_in map.now) reader.old.words self.old self.new }
+        ensures dirty { StaysDirty self.old self.new }
         ensures cost { cost (found_in map.now) self.new + result.read ≤ cost (found_in map.now) self.old }
         ensures words { reader.new.words ≡ reader.old.words }
         ensures reads { reader.new.reads ≡ reader.old.reads + result.read }
     {
+        self.laws();
         let heap_bytes = heap_bytes(map);
         let mut read = 0;
         while let Some(found) = self.settle(map) {
@@ -54,9 +55,8 @@ impl Marker {
 
     // Drops entries that have no word to read, up to one that has.
     fn settle(&mut self, map: &BlockMap) -> Option<Found>
-        requires { IsSized (length map.now) self.old }
+        requires pages { length self.old.dirty ≡ length map.now }
         ensures settles { Settles (found_in map.now) self.old self.new }
-        ensures order { (e : Entry) → self.old.current ≡ Some e → IsSpent (found_in map.now) self.old e ⊎ (self.new ≡ self.old) }
         ensures live { MatchOption result (IsEmpty self.new) (λ f. IsLive (found_in map.now) self.new f) }
         ensures placed { IfSome result (λ f. IsPlaced (length map.now) f × (length map.now ≤ MAX_PAGES)) }
     {
@@ -73,7 +73,7 @@ impl Marker {
     #[tactic(auto, using(crate::proofs::MarkWord::marking))]
     // Whether the entry that is being read has a word left, and of which object.
     fn live(&self, map: &BlockMap) -> Option<Found>
-        requires { IsSized (length map.now) self.now }
+        requires pages { length self.now.dirty ≡ length map.now }
         ensures live { MatchOption result ((e : Entry) → self.now.current ≡ Some e → IsSpent (found_in map.now) self.now e) (λ f. IsLive (found_in map.now) self.now f) }
         ensures placed { IfSome result (λ f. IsPlaced (length map.now) f × (length map.now ≤ MAX_PAGES)) }
     {
@@ -99,7 +99,7 @@ impl Marker {
     fn take_entry(&mut self) -> bool
         ensures marks { self.new.marks ≡ self.old.marks }
         ensures dirty { self.new.dirty ≡ self.old.dirty }
-        ensures taken { self.old.stack ≡ self.new.stack ++ option_to_list self.new.current }
+        ensures taken { self.old.stack ≡ entries self.new }
         ensures fewer { result ≡ true → length self.new.stack + 1 ≡ length self.old.stack }
         ensures none { result ≡ false → IsEmpty self.new }
     {
@@ -116,7 +116,7 @@ impl Marker {
         found: Found,
         most: u64,
     ) -> u64
-        requires sized { IsSized (length map.now) self.old }
+        requires pages { length self.old.dirty ≡ length map.now }
         requires lawful { IsLawful map.now }
         requires bytes { heap_bytes ≡ PAGE_BYTES * length map.now }
         requires live { IsLive (found_in map.now) self.old found }
@@ -126,10 +126,6 @@ impl Marker {
         ensures read { ReadsOn (found_in map.now) reader.old.words result self.old self.new }
         ensures some { 0 < result }
         ensures most { result ≤ most }
-        ensures traces { Traces (found_in map.now) reader.old.words [] self.old self.new }
-        ensures taken { TakesOff (found_in map.now) reader.old.words self.old self.new }
-        ensures order { IsInOrder (found_in map.now) reader.old.words self.old self.new }
-        ensures cost { cost (found_in map.now) self.new + result ≤ cost (found_in map.now) self.old }
         ensures words { reader.new.words ≡ reader.old.words }
         ensures reads { reader.new.reads ≡ reader.old.reads + result }
     {

@@ -1,11 +1,1 @@
-pub mod Served
-pub mod Grammar
-pub mod WordsLeft
-pub mod Places
-pub mod Calls
-pub mod Lines
-pub mod Reading
-pub mod Printing
-pub mod Answers
-pub mod Turns
 pub mod Faults

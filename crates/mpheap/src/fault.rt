@@ -1,13 +1,12 @@
 //! Why the program ends with a status that isn't 0, and what it says of it.
 ghost use Rattle.std.specs.Prelude.{◌≡◌, ◌<◌, length};
-ghost use Rattle.mpheap.specs.declared.limits.TheConstants.{REPLY_BYTES};
+ghost use Rattle.scripts.specs.declared.limits.TheConstants.{REPLY_BYTES};
 ghost use Rattle.mpheap.specs.Faults.{status_of, fault_text};
 
-use crate::errors::ScriptError;
-use crate::limits::REPLY_BYTES;
-use crate::source::{Sink, write_all};
 use arrayvec::ArrayString;
 use itoa::Buffer;
+use scripts::limits::REPLY_BYTES;
+use scripts::{ScriptError, Sink, write_all};
 use std::alloc::AllocError;
 
 /// Why the program ends with a status that isn't 0.

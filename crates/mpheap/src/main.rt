@@ -1,28 +1,14 @@
 //! The program: a script of commands is read, run over a heap, and answered.
 #![tactic(auto)]
 
-mod block;
-mod command;
-mod count;
-mod errors;
 mod fault;
-mod limits;
-mod line;
-mod number;
-mod parts;
-mod place;
-mod print;
 mod program;
-mod run_script;
-mod serve;
-mod source;
-mod std_io;
 #[cfg(test)]
 mod tests;
 
 use crate::fault::Fault;
 use crate::program::program;
-use crate::std_io::Std;
+use scripts::Std;
 use std::process::ExitCode;
 use std::{env, io};
 

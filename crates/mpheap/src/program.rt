@@ -3,12 +3,9 @@ ghost use Rattle.std.specs.Prelude.{◌≤◌, IfOk};
 ghost use Rattle.words.specs.declared.limits.TheConstants.{MAX_PAGES};
 
 use crate::fault::Fault;
-use crate::number::number;
-use crate::run_script::run_script;
-use crate::source::{Sink, Source};
-use crate::std_io::Std;
 use clap::error::ErrorKind;
 use clap::{Arg, ArgMatches, Command, Error};
+use scripts::{Sink, Source, Std, number, run_script};
 use std::alloc::{AllocError, Global};
 use std::convert::AsStr;
 use std::fs;
@@ -30,7 +27,7 @@ fn command_line<'a>(alloc: Global) -> Result<Command<'a>, AllocError> {
         .subcommand(run)
 }
 
-/// A refused parse is no row of the table, except for want of memory.
+/// A refused parse is no row of the table, except out of memory.
 fn refused(error: &Error) -> Fault {
     if error.kind() == ErrorKind::OutOfMemory {
         Fault::Memory

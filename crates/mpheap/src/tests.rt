@@ -1,136 +1,119 @@
-//! The program as its users see it. Readers and writers here fail where they are told to.
-
-mod bad_lines;
-mod fakes;
-mod faults;
-mod rows;
+//! The program as its users see it: its words, its statuses, and what it says of a fault.
+ghost use Rattle.std.specs.Prelude.{None};
 
 use crate::program::program;
-use bad_lines::BAD_LINES;
-use fakes::{Script, Taken};
-use rows::{EDGES, REPEATED, ROWS};
+use pages::Count;
+use scripts::{Failed, Sink, Source, Std};
+use std::fs;
 use std::process::Abort;
 use std::rt::Files;
 use std::test::Fail;
 
-/// Runs the program with these words, and compares all that can be seen.
-fn check<R: Abort + Files + AllocGlobal>(
-    rt: &R,
-    name: &str,
-    words: &[&str],
-    input: &mut Script<'_>,
-    wanted: (&str, &str, u8),
-) -> Result<(), Fail> {
-    let (replies, faults, ends) = wanted;
-    let mut output = Taken::new(rt.alloc())?;
-    let mut errors = Taken::new(rt.alloc())?;
-    let status = program(rt.alloc(), rt, words, input, &mut output, &mut errors);
-    assert_eq!(rt; output.text(), Some(replies), "{name}");
-    assert_eq!(rt; errors.text(), Some(faults), "{name}");
-    assert_eq!(rt; status, ends, "{name}");
-    Ok(())
+const SCRIPT: &str = "attach\n0 alloc 1 3 normal\n0 set 2 77\n0 store 1 0 2\n0 load 3 1 0\n";
+
+const REPLIES: &str = "mutator 0\nok\nok\nok\n77\n";
+
+const RUN: [&str; 3] = ["run", "--pages", "4"];
+
+/// Fails whenever it is asked.
+#[derive(Drop)]
+struct Broken {
+    faults: Count,
 }
 
-/// The same of `run --pages N` over a script of good lines.
-fn check_row<R: Abort + Files + AllocGlobal>(
-    rt: &R,
-    name: &str,
-    pages: &str,
-    script: &str,
-    replies: &str,
-) -> Result<(), Fail> {
-    let mut input = Script::new(script.as_bytes());
-    let words = ["run", "--pages", pages];
-    check(rt, name, &words, &mut input, (replies, "", 0))
-}
-
-#[test]
-fn rows_print_their_replies(rt: HostRuntime) -> Result<(), Fail> {
-    for row in &ROWS {
-        check_row(&rt, row.name, row.pages, row.script, row.replies)?;
-    }
-    Ok(())
-}
-
-#[test]
-fn edges_print_their_replies(rt: HostRuntime) -> Result<(), Fail> {
-    for row in &EDGES {
-        check_row(&rt, row.name, row.pages, row.script, row.replies)?;
-    }
-    Ok(())
-}
-
-#[test]
-fn repeated_lines_print_their_replies(rt: HostRuntime) -> Result<(), Fail> {
-    for row in &REPEATED {
-        let mut script = String::from_str(rt.alloc(), row.before.0)?;
-        let mut replies = String::from_str(rt.alloc(), row.before.1)?;
-        for _ in 0..row.times {
-            script.push_str(row.line.0)?;
-            replies.push_str(row.line.1)?;
+impl Broken {
+    fn new() -> Broken {
+        Broken {
+            faults: Count::zero(),
         }
-        script.push_str(row.after.0)?;
-        replies.push_str(row.after.1)?;
-        check_row(&rt, row.name, row.pages, script.as_str(), replies.as_str())?;
     }
-    Ok(())
-}
 
-/// Each line is bad as the first of its script, and as the second.
-#[test]
-fn bad_lines_end_the_script(rt: HostRuntime) -> Result<(), Fail> {
-    let words = ["run", "--pages", "4"];
-    for (name, line) in &BAD_LINES {
-        let first = format!(in rt.alloc(); "{line}\nattach\n")?;
-        let mut input = Script::new(first.as_bytes());
-        check(&rt, name, &words, &mut input, ("", "bad line 1\n", 2))?;
-
-        let second = format!(in rt.alloc(); "attach\n{line}\nattach\n")?;
-        let mut input = Script::new(second.as_bytes());
-        let wanted = ("mutator 0\n", "bad line 2\n", 2);
-        check(&rt, name, &words, &mut input, wanted)?;
+    fn fail(&mut self) -> Failed
+        ensures { self.new.faults.n ≡ self.old.faults.n + 1 }
+    {
+        self.faults = self.faults.next();
+        Failed
     }
-    Ok(())
 }
 
-/// A byte above 127 makes its line bad.
-#[test]
-fn byte_255(rt: HostRuntime) -> Result<(), Fail> {
-    let mut input = Script::new(b"attach\n\xff");
-    let words = ["run", "--pages", "4"];
-    let wanted = ("mutator 0\n", "bad line 2\n", 2);
-    check(&rt, "byte_255", &words, &mut input, wanted)
-}
+impl Source for Broken {
+    ghost remaining = { λ s. None };
 
-/// A line is bad once its 256th byte was read, and the reader isn't asked again, which would fail.
-#[test]
-fn line_too_long(rt: HostRuntime) -> Result<(), Fail> {
-    let line = [b'a'; 256];
-    let words = ["run", "--pages", "4"];
-    for (most, calls) in [(1usize, 256usize), (255, 2), (256, 1)] {
-        let mut input = Script::failing_at(&line, most, calls);
-        let wanted = ("", "bad line 1\n", 2);
-        check(&rt, "line_too_long", &words, &mut input, wanted)?;
-        assert_eq!(rt; input.calls, calls);
+    ghost faults = { λ s. s.faults.n };
+
+    fn read(&mut self, _buf: &mut [u8]) -> Result<usize, Failed> {
+        Err(self.fail())
     }
-    Ok(())
 }
 
-/// A line of 255 bytes is read to its end before it is judged.
-#[test]
-fn longest_line(rt: HostRuntime) -> Result<(), Fail> {
-    let line = [b'a'; 255];
-    let mut input = Script::new(&line);
-    let words = ["run", "--pages", "4"];
-    let wanted = ("", "bad line 1\n", 2);
-    check(&rt, "longest_line", &words, &mut input, wanted)?;
-    assert_eq!(rt; input.calls, 2);
-    Ok(())
+impl Sink for Broken {
+    ghost written = { λ s. None };
+
+    ghost faults = { λ s. s.faults.n };
+
+    fn write(&mut self, _bytes: &[u8]) -> Result<usize, Failed> {
+        Err(self.fail())
+    }
 }
 
-/// Words that are of no row of the table.
+/// Runs the program over an input, and compares all that can be seen.
+fn check<R: Abort + Files + AllocGlobal, I: Source>(
+    rt: &R,
+    words: &[&str],
+    input: &mut I,
+    wanted: (&str, &str, u8),
+) {
+    let (replies, fault, ends) = wanted;
+    let mut output = Std::new(Vec::<u8>::new(rt.alloc()));
+    let mut errors = Std::new(Vec::<u8>::new(rt.alloc()));
+    let status = program(rt.alloc(), rt, words, input, &mut output, &mut errors);
+    assert_eq!(rt; output.inner.as_slice(), replies.as_bytes());
+    assert_eq!(rt; errors.inner.as_slice(), fault.as_bytes());
+    assert_eq!(rt; status, ends);
+}
+
 #[test]
-fn bad_commands(rt: HostRuntime) -> Result<(), Fail> {
+fn a_script_is_answered(rt: HostRuntime) {
+    let mut input = Std::new(SCRIPT.as_bytes());
+    check(&rt, &RUN, &mut input, (REPLIES, "", 0));
+}
+
+#[test]
+fn a_bad_line_ends_with_status_2(rt: HostRuntime) {
+    let mut input = Std::new("attach\n?\n".as_bytes());
+    check(&rt, &RUN, &mut input, ("mutator 0\n", "bad line 2\n", 2));
+}
+
+#[test]
+fn a_read_fault_ends_with_status_1(rt: HostRuntime) {
+    let mut input = Broken::new();
+    check(&rt, &RUN, &mut input, ("", "read fault\n", 1));
+}
+
+#[test]
+fn a_write_fault_ends_with_status_1(rt: HostRuntime) {
+    let mut input = Std::new(SCRIPT.as_bytes());
+    let mut output = Broken::new();
+    let mut errors = Std::new(Vec::<u8>::new(rt.alloc()));
+    let status = program(rt.alloc(), &rt, &RUN, &mut input, &mut output, &mut errors);
+    assert_eq!(rt; errors.inner.as_slice(), "write fault\n".as_bytes());
+    assert_eq!(rt; status, 1);
+}
+
+/// A writer of errors that fails changes nothing else.
+#[test]
+fn a_fault_that_cannot_be_told(rt: HostRuntime) {
+    let mut input = Std::new("attach\n?\n".as_bytes());
+    let mut output = Std::new(Vec::<u8>::new(rt.alloc()));
+    let mut errors = Broken::new();
+    let status = program(rt.alloc(), &rt, &RUN, &mut input, &mut output, &mut errors);
+    assert_eq!(rt; output.inner.as_slice(), "mutator 0\n".as_bytes());
+    assert_eq!(rt; status, 2);
+}
+
+/// Words that are of no row of the table, and the input isn't read.
+#[test]
+fn bad_commands(rt: HostRuntime) {
     let commands: [&[&str]; 18] = [
         &[],
         &["run"],
@@ -152,10 +135,43 @@ fn bad_commands(rt: HostRuntime) -> Result<(), Fail> {
         &["--version"],
     ];
     for words in commands {
-        let mut input = Script::new(b"attach\n");
-        let wanted = ("", "bad command\n", 2);
-        check(&rt, "bad_commands", words, &mut input, wanted)?;
-        assert_eq!(rt; input.calls, 0);
+        check(&rt, words, &mut Broken::new(), ("", "bad command\n", 2));
     }
+}
+
+/// A file in the place of the input, a file that isn't there, and a directory.
+fn check_files<R: Abort + Files + AllocGlobal>(rt: &R, path: &str) {
+    let rows = [
+        (path, REPLIES, "", 0u8),
+        ("mpheap_no_such.script", "", "read fault\n", 1),
+        (".", "", "read fault\n", 1),
+    ];
+    for (file, replies, fault, status) in rows {
+        let words = ["run", "--pages", "4", file];
+        check(rt, &words, &mut Broken::new(), (replies, fault, status));
+    }
+}
+
+#[test]
+fn files(rt: HostRuntime) -> Result<(), Fail> {
+    let path = "mpheap_test.script";
+    fs::write(&rt, path, SCRIPT)?;
+    check_files(&rt, path);
+    fs::remove_file(&rt, path)?;
+    Ok(())
+}
+
+/// Where memory is refused, at whichever request, nothing was written, and where none is refused, all is. By itself this
+/// runs with ample memory; `rt try --test --fail-alloc N` refuses the N-th request.
+#[test]
+fn refused_memory(rt: HostRuntime) -> Result<(), Fail> {
+    let mut input = Std::new(SCRIPT.as_bytes());
+    let mut output = Std::new(Vec::<u8>::with_capacity(rt.alloc(), 64)?);
+    let mut errors = Std::new(Vec::<u8>::with_capacity(rt.alloc(), 64)?);
+    let status = program(rt.alloc(), &rt, &RUN, &mut input, &mut output, &mut errors);
+    let seen = (output.inner.as_slice(), errors.inner.as_slice(), status);
+    let granted = (REPLIES.as_bytes(), "".as_bytes(), 0u8);
+    let refused = ("".as_bytes(), "no memory\n".as_bytes(), 1u8);
+    assert!(rt; seen == granted || seen == refused);
     Ok(())
 }

@@ -1,5 +1,5 @@
 -- The roots of a heap, and what it is for them to make a step.
-use Rattle.std.specs.Prelude.{◌≡◌, ℕ, Option, Some, None, List, [], ◌∷◌, ◌++◌, flat_map, replicate, slice_get, slice_set}
+use Rattle.std.specs.Prelude.{◌≡◌, ℕ, ◌<◌, Option, Some, None, List, [], ◌∷◌, ◌++◌, flat_map, replicate, slice_get, slice_set}
 use Rattle.words.specs.declared.limits.TheConstants.{SLOTS, GLOBALS}
 use Rattle.heap_spec.specs.declared.event.Event.{Event}
 use Rattle.heap_spec.specs.declared.reply.Reply.{Reply}
@@ -26,6 +26,15 @@ HasMutator roots slot m = slice_get roots.mutators slot ≡ Some (Some m)
 -- no mutator is attached at the slot
 abbrev pub HasNoMutator : RootSet → ℕ → Type 0
 HasNoMutator roots slot = slice_get roots.mutators slot ≡ Some None
+
+-- no slot is vacant
+abbrev pub HasNoSlot : RootSet → Type 0
+HasNoSlot roots = (k : ℕ) → HasNoMutator roots k → ⊥
+
+-- the lowest slot with no mutator
+pub record IsNextSlot (roots : RootSet) (slot : ℕ) : Type 0 where
+  pub is_vacant : HasNoMutator roots slot
+  pub lowest : (k : ℕ) → k < slot → HasNoMutator roots k → ⊥
 
 -- the mutator with this word in the register
 abbrev pub with_word : Mutator → ℕ → ℕ → Mutator

@@ -9,6 +9,3 @@ mod roots;
 pub use mutator::Mutator;
 pub use root_words::ROOT_WORDS;
 pub use roots::Roots;
-
-#[cfg(test)]
-mod tests;

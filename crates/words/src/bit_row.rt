@@ -3,7 +3,7 @@ ghost use Rattle.std.specs.Prelude.{◌≡◌, ◌≢◌, ◌%◌, ◌==◌, ℕ
 ghost use Rattle.std.specs.Int.{bit_at};
 ghost use Rattle.words.specs.Bits.{bit, bits, IsEmptyFrom, IsFirstFrom, IsClear, IsFullFrom, IsFirstClearFrom};
 
-use crate::scan::{one_from, zero_from};
+use crate::scan::first_from;
 use std::alloc::{AllocError, Global};
 use std::marker::Model;
 
@@ -99,7 +99,7 @@ impl BitRow {
         if low >= self.len {
             return None;
         }
-        let i = one_from(self.words.as_slice(), low);
+        let i = first_from(self.words.as_slice(), true, low);
         if i < self.len { Some(i) } else { None }
     }
 
@@ -111,7 +111,7 @@ impl BitRow {
         if low >= self.len {
             return None;
         }
-        let clear = zero_from(self.words.as_slice(), low);
+        let clear = first_from(self.words.as_slice(), false, low);
         if clear < self.len { Some(clear) } else { None }
     }
 }

@@ -2,7 +2,7 @@
 ghost use Rattle.std.specs.Prelude.{◌≡◌, ℕ, ◌/◌, ◌<◌, ◌≤◌, Bool, true, false, List, length, replicate, slice_index_or, slice_set, MatchOption, MatchBool};
 ghost use Rattle.words.specs.Bits.{bits, IsFullRow, IsEmptyFrom, IsFirstFrom, IsFirstClear};
 
-use crate::scan::{one_from, zero_from};
+use crate::scan::first_from;
 use std::marker::Model;
 
 /// A row of at most 256 bits, each at first clear, which takes no memory of its own.
@@ -68,7 +68,7 @@ impl CellRow {
     pub fn first_clear(&self) -> Option<u16>
         ensures { MatchOption result (IsFullRow self.now) (λ i. IsFirstClear self.now i) }
     {
-        let i = zero_from(&self.words, 0);
+        let i = first_from(&self.words, false, 0);
         if i < self.len as usize {
             Some(i as u16)
         } else {
@@ -81,7 +81,7 @@ impl CellRow {
     pub fn is_empty(&self) -> bool
         ensures { MatchBool result (IsEmptyFrom self.now 0) ((i : ℕ) × IsFirstFrom self.now 0 i) }
     {
-        one_from(&self.words, 0) >= self.len as usize
+        first_from(&self.words, true, 0) >= self.len as usize
     }
 
     /// The lowest member from `low` on.
@@ -92,7 +92,7 @@ impl CellRow {
         if low >= self.len {
             return None;
         }
-        let member = one_from(&self.words, low as usize);
+        let member = first_from(&self.words, true, low as usize);
         if member < self.len as usize {
             Some(member as u16)
         } else {

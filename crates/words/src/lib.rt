@@ -11,13 +11,11 @@ pub mod limits;
 mod places;
 mod refusal;
 mod scan;
-#[cfg(test)]
-mod tests;
 
 pub use bit_row::BitRow;
 pub use cell_row::CellRow;
 pub use class::{CLASSES, Class, Kind, Placement, class_of};
-pub use layout::granule_of;
+pub use layout::{granule_of, page_of, page_start};
 pub use limits::PageNo;
 pub use places::{Global, Reg, Slot};
 pub use refusal::{OpenError, Refusal};

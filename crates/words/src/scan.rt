@@ -1,64 +1,42 @@
-//! The lowest bit of a row of words that is set, or that is not: whole words are passed over, and
-//! `trailing_zeros` finds the bit in its word.
-ghost use Rattle.std.specs.Prelude.{◌%◌, ◌+◌, ◌*◌, ◌/◌, ◌^◌, ◌<◌, ◌≤◌, length};
-ghost use Rattle.words.specs.Bits.{bit, IsOneFrom, IsZeroFrom};
+//! The lowest bit of a row of words that has a value: whole words are passed over, and `trailing_zeros` finds the bit in
+//! its word.
+ghost use Rattle.std.specs.Prelude.{◌^◌, ◌<◌, ◌*◌, length, MatchOption};
+ghost use Rattle.words.specs.Bits.{HasNoBit, IsFirstBit, IsFirstBitOf, IsTurned};
 
-// The place of the lowest bit that is set from the word `start` on, or the number of all bits.
-#[tactic(auto, using(crate::proofs::Scans::scans))]
-fn one_in(words: &[u64], start: usize) -> usize
-    requires few { length words.now < 2 ^ 32 }
-    requires start { start ≤ length words.now }
-    ensures { IsOneFrom words.now (64 * start) result }
+// The word whose ones are the bits of `word` that have the value.
+#[tactic(auto, using(crate::proofs::Scans::turns))]
+fn turned(word: u64, value: bool) -> u64
+    ensures { IsTurned word value result }
 {
-    for j in start..words.len() {
-        let word = words[j];
-        if word != 0 {
-            return 64 * j + word.trailing_zeros() as usize;
-        }
-    }
-    64 * words.len()
+    if value { word } else { !word }
 }
 
-// The same from the bit `low` on.
+// The lowest bit of a word from the bit `low` on that has the value.
+#[tactic(auto, using(crate::proofs::Scans::in_word))]
+fn first_in(word: u64, value: bool, low: u32) -> Option<u32>
+    requires { low < 64 }
+    ensures { MatchOption result (HasNoBit word value low) (λ i. IsFirstBit word value low i) }
+{
+    let rest = turned(word, value) >> low;
+    if rest == 0 {
+        return None;
+    }
+    Some(low + rest.trailing_zeros())
+}
+
+// The place of the lowest bit from `low` on that has the value, or the number of all bits.
 #[tactic(auto, using(crate::proofs::Scans::scans))]
-pub(crate) fn one_from(words: &[u64], low: usize) -> usize
+pub(crate) fn first_from(words: &[u64], value: bool, low: usize) -> usize
     requires few { length words.now < 2 ^ 32 }
     requires low { low < 64 * length words.now }
-    ensures { IsOneFrom words.now low result }
+    ensures { IsFirstBitOf words.now value low result }
 {
-    let rest = words[low / 64] >> (low % 64);
-    if rest != 0 {
-        return low + rest.trailing_zeros() as usize;
-    }
-    one_in(words, low / 64 + 1)
-}
-
-// The place of the lowest bit that is not set from the word `start` on, or the number of all bits.
-#[tactic(auto, using(crate::proofs::Scans::zeros))]
-fn zero_in(words: &[u64], start: usize) -> usize
-    requires few { length words.now < 2 ^ 32 }
-    requires start { start ≤ length words.now }
-    ensures { IsZeroFrom words.now (64 * start) result }
-{
-    for j in start..words.len() {
-        let word = !words[j];
-        if word != 0 {
-            return 64 * j + word.trailing_zeros() as usize;
+    let mut from = (low % 64) as u32;
+    for j in low / 64..words.len() {
+        if let Some(i) = first_in(words[j], value, from) {
+            return 64 * j + i as usize;
         }
+        from = 0;
     }
     64 * words.len()
-}
-
-// The same from the bit `low` on.
-#[tactic(auto, using(crate::proofs::Scans::zeros))]
-pub(crate) fn zero_from(words: &[u64], low: usize) -> usize
-    requires few { length words.now < 2 ^ 32 }
-    requires low { low < 64 * length words.now }
-    ensures { IsZeroFrom words.now low result }
-{
-    let rest = !words[low / 64] >> (low % 64);
-    if rest != 0 {
-        return low + rest.trailing_zeros() as usize;
-    }
-    zero_in(words, low / 64 + 1)
 }

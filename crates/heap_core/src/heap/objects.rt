@@ -1,8 +1,9 @@
 //! The calls that reach objects. A refused call changes nothing.
-ghost use Rattle.heap_spec.specs.Replies.{IsStep, count_reply, done_reply, word_reply};
-ghost use Rattle.heap_core.specs.Standing.{StandsFor};
+ghost use Rattle.heap_spec.specs.Replies.{count_reply, done_reply, word_reply};
+ghost use Rattle.heap_core.specs.Calls.{IsCall};
 
 use super::Core;
+use super::beside::{note_object, note_write};
 use heap_spec::{Call, Event};
 use words::limits::WORD_BYTES;
 use words::{Kind, Refusal, Reg, Slot, class_of};
@@ -15,7 +16,7 @@ impl Core {
     /// and else [`Refusal::NoObject`] if it reads no object.
     #[inline]
     pub fn load(&mut self, slot: Slot, into: Reg, at: Reg, offset: u64) -> Result<u64, Refusal>
-        ensures { IsStep (StandsFor self.old) (Event.Mutator slot (Call.Load into at offset)) (word_reply result) (StandsFor self.new) }
+        ensures { IsCall self.old (Event.Mutator slot (Call.Load into at offset)) (word_reply result) self.new }
     {
         let Some(mutator) = self.roots.mutator(slot) else {
             return Err(Refusal::NoSlot);
@@ -24,7 +25,7 @@ impl Core {
         if address % WORD_BYTES != 0 {
             return Err(Refusal::Misaligned);
         }
-        let Some(_) = self.objects.find(address) else {
+        let Some(_) = self.objects.find(&self.marker, address) else {
             return Err(Refusal::NoObject);
         };
         let word = self.objects.read(address);
@@ -38,7 +39,7 @@ impl Core {
     /// As [`Core::load`].
     #[inline]
     pub fn store(&mut self, slot: Slot, at: Reg, offset: u64, from: Reg) -> Result<(), Refusal>
-        ensures { IsStep (StandsFor self.old) (Event.Mutator slot (Call.Store at offset from)) (done_reply result) (StandsFor self.new) }
+        ensures { IsCall self.old (Event.Mutator slot (Call.Store at offset from)) (done_reply result) self.new }
     {
         let Some(mutator) = self.roots.mutator(slot) else {
             return Err(Refusal::NoSlot);
@@ -48,10 +49,11 @@ impl Core {
         if target % WORD_BYTES != 0 {
             return Err(Refusal::Misaligned);
         }
-        let Some(_) = self.objects.find(target) else {
+        let Some(_) = self.objects.find(&self.marker, target) else {
             return Err(Refusal::NoObject);
         };
         self.objects.write(target, word);
+        note_write(&mut self.marker, self.is_marking, target);
         Ok(())
     }
 
@@ -60,13 +62,13 @@ impl Core {
     /// # Errors
     /// [`Refusal::NoSlot`] if the slot has no mutator, and else [`Refusal::NoObject`] if the word reads no object.
     pub fn base(&mut self, slot: Slot, into: Reg, from: Reg) -> Result<u64, Refusal>
-        ensures { IsStep (StandsFor self.old) (Event.Mutator slot (Call.Base into from)) (word_reply result) (StandsFor self.new) }
+        ensures { IsCall self.old (Event.Mutator slot (Call.Base into from)) (word_reply result) self.new }
     {
         let Some(mutator) = self.roots.mutator(slot) else {
             return Err(Refusal::NoSlot);
         };
         let word = mutator.word(from);
-        let Some(found) = self.objects.find(word) else {
+        let Some(found) = self.objects.find(&self.marker, word) else {
             return Err(Refusal::NoObject);
         };
         self.roots.set_word(slot, into, found.base);
@@ -78,13 +80,13 @@ impl Core {
     /// # Errors
     /// As [`Core::base`].
     pub fn size(&self, slot: Slot, reg: Reg) -> Result<u64, Refusal>
-        ensures { IsStep (StandsFor self.now) (Event.Mutator slot (Call.Size reg)) (count_reply result) (StandsFor self.now) }
+        ensures { IsCall self.now (Event.Mutator slot (Call.Size reg)) (count_reply result) self.now }
     {
         let Some(mutator) = self.roots.mutator(slot) else {
             return Err(Refusal::NoSlot);
         };
         let word = mutator.word(reg);
-        let Some(found) = self.objects.find(word) else {
+        let Some(found) = self.objects.find(&self.marker, word) else {
             return Err(Refusal::NoObject);
         };
         Ok(u64::from(found.len))
@@ -95,7 +97,7 @@ impl Core {
     /// [`Refusal::NoSlot`] if the slot has no mutator, else [`Refusal::BadSize`] for a request of no words or of more than
     /// the limit, and else [`Refusal::Full`] exactly if no address has room.
     pub fn alloc(&mut self, slot: Slot, into: Reg, words: u64, kind: Kind) -> Result<(), Refusal>
-        ensures { IsStep (StandsFor self.old) (Event.Mutator slot (Call.Alloc into words kind)) (done_reply result) (StandsFor self.new) }
+        ensures { IsCall self.old (Event.Mutator slot (Call.Alloc into words kind)) (done_reply result) self.new }
     {
         let Some(_) = self.roots.mutator(slot) else {
             return Err(Refusal::NoSlot);
@@ -103,9 +105,10 @@ impl Core {
         let Some(placement) = class_of(words) else {
             return Err(Refusal::BadSize);
         };
-        let Some(base) = self.objects.allocate(placement, kind) else {
+        let Some(base) = self.objects.allocate(&self.marker, placement, kind) else {
             return Err(Refusal::Full);
         };
+        note_object(&mut self.marker, self.is_marking, base);
         self.roots.set_word(slot, into, base);
         Ok(())
     }
@@ -116,19 +119,22 @@ impl Core {
     /// [`Refusal::NoSlot`] if the slot has no mutator, else [`Refusal::NoObject`] if the word reads no object, and else
     /// [`Refusal::NotBase`] if it isn't the object's base.
     pub fn free(&mut self, slot: Slot, reg: Reg) -> Result<(), Refusal>
-        ensures { IsStep (StandsFor self.old) (Event.Mutator slot (Call.Free reg)) (done_reply result) (StandsFor self.new) }
+        ensures { IsCall self.old (Event.Mutator slot (Call.Free reg)) (done_reply result) self.new }
     {
         let Some(mutator) = self.roots.mutator(slot) else {
             return Err(Refusal::NoSlot);
         };
         let word = mutator.word(reg);
-        let Some(found) = self.objects.find(word) else {
+        let Some(found) = self.objects.find(&self.marker, word) else {
             return Err(Refusal::NoObject);
         };
         if found.base != word {
             return Err(Refusal::NotBase);
         }
+        // Its clauses tell how many marks there are.
+        self.marker.laws();
         self.objects.release(found);
+        self.marker.freed(word);
         Ok(())
     }
 }

@@ -1,17 +1,26 @@
 //! The calls that touch nothing but the roots. Each is refused with [`Refusal::NoSlot`] exactly if the slot has no mutator,
 //! and else as it says; a refused call changes nothing.
-ghost use Rattle.heap_spec.specs.Replies.{IsStep, done_reply, slot_reply, word_reply};
-ghost use Rattle.heap_core.specs.Standing.{StandsFor};
+ghost use Rattle.std.specs.Prelude.{MatchOption};
+ghost use Rattle.roots.specs.Roots.{HasNoSlot, IsNextSlot};
+ghost use Rattle.heap_spec.specs.Replies.{done_reply, slot_reply, word_reply};
+ghost use Rattle.heap_core.specs.Calls.{IsCall};
 
 use super::Core;
 use heap_spec::{Call, Event};
 use words::{Global, Refusal, Reg, Slot};
 
 impl Core {
+    /// The lowest slot that has no mutator, which the next one to come gets.
+    pub fn vacant(&self) -> Option<Slot>
+        ensures { MatchOption result (HasNoSlot self.now.roots) (λ slot. IsNextSlot self.now.roots slot) }
+    {
+        self.roots.vacant()
+    }
+
     /// A mutator comes, into the lowest slot that has none, with registers of 0 and an empty stack.
     #[inline]
     pub fn attach(&mut self) -> Result<Slot, Refusal>
-        ensures { IsStep (StandsFor self.old) Event.Attach (slot_reply result) (StandsFor self.new) }
+        ensures { IsCall self.old Event.Attach (slot_reply result) self.new }
     {
         self.roots.attach()
     }
@@ -19,7 +28,7 @@ impl Core {
     /// The mutator of the slot goes.
     #[inline]
     pub fn detach(&mut self, slot: Slot) -> Result<(), Refusal>
-        ensures { IsStep (StandsFor self.old) (Event.Mutator slot Call.Detach) (done_reply result) (StandsFor self.new) }
+        ensures { IsCall self.old (Event.Mutator slot Call.Detach) (done_reply result) self.new }
     {
         self.roots.detach(slot)
     }
@@ -27,7 +36,7 @@ impl Core {
     /// Puts a word into a register.
     #[inline]
     pub fn set(&mut self, slot: Slot, reg: Reg, word: u64) -> Result<(), Refusal>
-        ensures { IsStep (StandsFor self.old) (Event.Mutator slot (Call.Set reg word)) (done_reply result) (StandsFor self.new) }
+        ensures { IsCall self.old (Event.Mutator slot (Call.Set reg word)) (done_reply result) self.new }
     {
         self.roots.set(slot, reg, word)
     }
@@ -35,7 +44,7 @@ impl Core {
     /// Puts the word of `from` into `into`.
     #[inline]
     pub fn copy(&mut self, slot: Slot, into: Reg, from: Reg) -> Result<(), Refusal>
-        ensures { IsStep (StandsFor self.old) (Event.Mutator slot (Call.Copy into from)) (done_reply result) (StandsFor self.new) }
+        ensures { IsCall self.old (Event.Mutator slot (Call.Copy into from)) (done_reply result) self.new }
     {
         self.roots.copy(slot, into, from)
     }
@@ -43,7 +52,7 @@ impl Core {
     /// Puts the word of `from` and a number, added, into `into`.
     #[inline]
     pub fn add(&mut self, slot: Slot, into: Reg, from: Reg, number: u64) -> Result<(), Refusal>
-        ensures { IsStep (StandsFor self.old) (Event.Mutator slot (Call.Add into from number)) (done_reply result) (StandsFor self.new) }
+        ensures { IsCall self.old (Event.Mutator slot (Call.Add into from number)) (done_reply result) self.new }
     {
         self.roots.add(slot, into, from, number)
     }
@@ -51,7 +60,7 @@ impl Core {
     /// Puts the word of `from` less that of `less` into `into`.
     #[inline]
     pub fn sub(&mut self, slot: Slot, into: Reg, from: Reg, less: Reg) -> Result<(), Refusal>
-        ensures { IsStep (StandsFor self.old) (Event.Mutator slot (Call.Sub into from less)) (done_reply result) (StandsFor self.new) }
+        ensures { IsCall self.old (Event.Mutator slot (Call.Sub into from less)) (done_reply result) self.new }
     {
         self.roots.sub(slot, into, from, less)
     }
@@ -59,7 +68,7 @@ impl Core {
     /// The word of a register.
     #[inline]
     pub fn get(&self, slot: Slot, reg: Reg) -> Result<u64, Refusal>
-        ensures { IsStep (StandsFor self.now) (Event.Mutator slot (Call.Get reg)) (word_reply result) (StandsFor self.now) }
+        ensures { IsCall self.now (Event.Mutator slot (Call.Get reg)) (word_reply result) self.now }
     {
         self.roots.get(slot, reg)
     }
@@ -67,7 +76,7 @@ impl Core {
     /// Puts the word of a register on the stack.
     #[inline]
     pub fn push(&mut self, slot: Slot, from: Reg) -> Result<(), Refusal>
-        ensures { IsStep (StandsFor self.old) (Event.Mutator slot (Call.Push from)) (done_reply result) (StandsFor self.new) }
+        ensures { IsCall self.old (Event.Mutator slot (Call.Push from)) (done_reply result) self.new }
     {
         self.roots.push(slot, from)
     }
@@ -75,7 +84,7 @@ impl Core {
     /// Takes the top word off the stack into a register.
     #[inline]
     pub fn pop(&mut self, slot: Slot, into: Reg) -> Result<u64, Refusal>
-        ensures { IsStep (StandsFor self.old) (Event.Mutator slot (Call.Pop into)) (word_reply result) (StandsFor self.new) }
+        ensures { IsCall self.old (Event.Mutator slot (Call.Pop into)) (word_reply result) self.new }
     {
         self.roots.pop(slot, into)
     }
@@ -83,7 +92,7 @@ impl Core {
     /// Puts the word of a global into a register.
     #[inline]
     pub fn gget(&mut self, slot: Slot, into: Reg, global: Global) -> Result<u64, Refusal>
-        ensures { IsStep (StandsFor self.old) (Event.Mutator slot (Call.GlobalGet into global)) (word_reply result) (StandsFor self.new) }
+        ensures { IsCall self.old (Event.Mutator slot (Call.GlobalGet into global)) (word_reply result) self.new }
     {
         self.roots.gget(slot, into, global)
     }
@@ -91,7 +100,7 @@ impl Core {
     /// Puts the word of a register into a global.
     #[inline]
     pub fn gput(&mut self, slot: Slot, global: Global, from: Reg) -> Result<(), Refusal>
-        ensures { IsStep (StandsFor self.old) (Event.Mutator slot (Call.GlobalPut global from)) (done_reply result) (StandsFor self.new) }
+        ensures { IsCall self.old (Event.Mutator slot (Call.GlobalPut global from)) (done_reply result) self.new }
     {
         self.roots.gput(slot, global, from)
     }

@@ -1,7 +1,7 @@
 //! The calls of mutators that touch nothing but the roots. Each makes a step of every heap that has these roots.
-ghost use Rattle.std.specs.Prelude.{◌≡◌, ℕ, ◌<◌, slice_get, Some, None, IfSome, IfNone};
+ghost use Rattle.std.specs.Prelude.{◌≡◌, ℕ, ◌<◌, slice_get, Some, None, IfSome, IfNone, MatchOption};
 ghost use Rattle.heap_spec.specs.Replies.{done_reply, slot_reply, word_reply};
-ghost use Rattle.roots.specs.Roots.{StepsRoots};
+ghost use Rattle.roots.specs.Roots.{StepsRoots, HasNoSlot, IsNextSlot};
 
 use super::{Mutators, Roots, pop_of, push_of};
 use crate::mutator::Mutator;
@@ -25,6 +25,13 @@ fn lowest_vacant(mutators: &Mutators) -> Option<Slot>
 }
 
 impl Roots {
+    /// The lowest slot with no mutator, which the next one to come gets.
+    pub fn vacant(&self) -> Option<Slot>
+        ensures { MatchOption result (HasNoSlot self.now) (λ slot. IsNextSlot self.now slot) }
+    {
+        lowest_vacant(&self.mutators)
+    }
+
     /// A mutator comes, into the lowest slot that has none, with registers of 0 and an empty stack.
     pub fn attach(&mut self) -> Result<Slot, Refusal>
         ensures { StepsRoots self.old Event.Attach (slot_reply result) self.new }

@@ -1,4 +1,3 @@
-use Rattle.marker.proofs.Sizes.{sized_same}
 use Rattle.std.proofs.Common.{length, ◌∙◌, refl, rules, subst, List, [], ℕ, arith}
 use Rattle.block_map.specs.FoundIn.{found_in}
 use Rattle.marker.specs.Growth.{Traces}
@@ -10,7 +9,6 @@ pub loop-init : goal.loop-init
 loop-init c =
     let t = c.scan_roots.ensures.traces c.args.reader.now.words in
     record {
-      sized = sized_same _ _ _ t.marks_len t.dirty_len c.requires.sized;
       closes = record { traces = t; scanned = c.scan_roots.ensures.roots; less = (let a = c.scan_roots.ensures.cost in omega arith) };
       words = refl;
     }
@@ -21,13 +19,15 @@ next_traces c = subst (λ (w : List ℕ). Traces (found_in c.args.map.now) w [] 
 closes : (c : After-mark_on) → Closes (found_in c.args.map.now) c.args.reader.now.words c.args.roots.now c.args.reader.now.reads c.args.marker.now c.mark_on.new.reader.reads c.mark_on.new.marker
 closes c = closes_step (found_in c.args.map.now) c.args.reader.now.words c.args.roots.now _ _ _ _ _ _ c.loop.invariant.closes (next_traces c) c.mark_on.ensures.reads
 
+pub mark_on-requires-clause-pages : goal.mark_on-requires-clause-pages
+mark_on-requires-clause-pages c = c.loop.invariant.closes.traces.dirty_len ∙ c.requires.pages
+
 pub loop-preserved : goal.loop-preserved
 loop-preserved c =
     let a = (goal.at.loop-preserved c).After-mark_on in
     let t = next_traces a in
     let i = c.loop.invariant in
     record {
-      sized = sized_same _ _ _ t.marks_len t.dirty_len i.sized;
       closes = closes a;
       words = c.mark_on.ensures.words ∙ i.words;
     }

@@ -1,13 +1,11 @@
-use Rattle.std.proofs.Common.{◌≡◌, length}
+use Rattle.std.proofs.Common.{◌≡◌}
 use Rattle.block_map.specs.FoundIn.{found_in}
-use Rattle.marker.specs.Marking.{IsSized}
 use Rattle.marker.specs.Work.{cost}
 use Rattle.final_pause.proofs.Closing.{Closes}
 use Rattle.final_pause.proofs.pause.close_marks.Given as goal
 
 abbrev pub invariant-loop : goal.invariant-loop
 invariant-loop l = record {
-  sized : IsSized (length l.map) l.marker;
   closes : Closes (found_in l.map) l.fn.reader.words l.roots l.fn.reader.reads l.fn.marker l.reader.reads l.marker;
   words : l.reader.words ≡ l.fn.reader.words;
 }

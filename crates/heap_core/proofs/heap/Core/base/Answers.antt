@@ -9,9 +9,9 @@ returns-in_default c = rw (← c.self.view_is) (refused_vacant _ _ _ c.in_defaul
 
 pub returns-in_default-find : goal.returns-in_default-find
 returns-in_default-find c = rw (← c.self.view_is)
-    (refused _ _ _ c.in-Some.mutator.now _ _ c.in-Some.ensures.some
-    (λ s h. Acts.base_nothing (finds_nothing _ s _ c.in_default-find.ensures.lawful h (rw c.word-word.ensures at (sym c.in_default-find.ensures.found)))))
+    (refused _ _ _ _ c.in-Some.mutator.now _ _ c.in-Some.ensures.some
+    (λ s h. Acts.base_nothing (finds_nothing _ _ s _ c.in_default-find.ensures.lawful h (rw c.word-word.ensures at (sym c.in_default-find.ensures.found)))))
 
 pub returns : goal.returns
 returns c = rw (← c.self.view_is)
-    (based _ _ _ _ _ _ c.in-Some.mutator.now c.in-Some-find.found c.in-Some-find.ensures.lawful c.in-Some.ensures.some (rw c.word-word.ensures at (sym c.in-Some-find.ensures.found)) c.set_word.ensures)
+    (based _ _ _ _ _ _ _ c.in-Some.mutator.now c.in-Some-find.found c.in-Some-find.ensures.lawful c.in-Some.ensures.some (rw c.word-word.ensures at (sym c.in-Some-find.ensures.found)) c.set_word.ensures)

@@ -1,13 +1,24 @@
-use Rattle.std.proofs.Common.{sym, ap}
+use Rattle.std.proofs.Common.{true, refl, sym, ap, ◌∙◌}
+use Rattle.heap_core.proofs.Tracing.{traced_ended}
 use Rattle.roots.specs.Roots.{RootSet}
 use Rattle.heap_core.proofs.heap.Core.new.Goals as goal
 
 pub returns : goal.returns
 returns c = (
   c.in_ok-objects.ensures.0,
-  record {
-    mutators = sym (ap (λ (r : RootSet). r.mutators) c.new-2.ensures);
-    globals = sym (ap (λ (r : RootSet). r.globals) c.new-2.ensures);
-    store = c.in_ok-objects.ensures.1;
-  },
+  (
+    record {
+      mutators = sym (ap (λ (r : RootSet). r.mutators) c.new-3.ensures);
+      globals = sym (ap (λ (r : RootSet). r.globals) c.new-3.ensures);
+      store = c.in_ok-objects.ensures.1.1 _;
+    },
+    refl,
+    refl,
+  ),
 )
+
+pub invariant_of-result : goal.invariant_of-result
+invariant_of-result c =
+    let pages = (c.in_ok-objects.ensures.1.1 (λ _. true)).pages in
+    let fresh = c.in_ok-marker.ensures.1 in
+    traced_ended _ _ _ (fresh.dirty.size ∙ pages)

@@ -1,7 +1,9 @@
-use Rattle.std.proofs.Common.{sym}
+use Rattle.std.proofs.Common.{refl, sym, arith}
+use Rattle.heap_core.proofs.Tracing.{traced_write}
 use Rattle.heap_spec.specs.Steps.{Acts}
+use Rattle.object_space.proofs.Kept.{kept_map}
 use Rattle.heap_core.proofs.Roots.{refused, refused_vacant}
-use Rattle.heap_core.proofs.Shown.{is_word}
+use Rattle.object_space.proofs.Shown.{is_word}
 use Rattle.heap_core.proofs.Lookups.{finds_nothing, stores}
 use Rattle.heap_core.proofs.heap.Core.store.Goals as goal
 
@@ -10,19 +12,29 @@ returns-in_default c = rw (← c.self.view_is) (refused_vacant _ _ _ c.in_defaul
 
 pub returns-then-target-ne0 : goal.returns-then-target-ne0
 returns-then-target-ne0 c = rw (← c.self.view_is)
-    (refused _ _ _ c.in-Some.mutator.now _ _ c.in-Some.ensures.some (λ s h. Acts.store_misaligned (rw c.address-target.ensures at c.if-target-ne0.true)))
+    (refused _ _ _ _ c.in-Some.mutator.now _ _ c.in-Some.ensures.some (λ s h. Acts.store_misaligned (rw c.address-target.ensures at c.if-target-ne0.true)))
 
 pub returns-in_default-find : goal.returns-in_default-find
 returns-in_default-find c = rw (← c.self.view_is)
-    (refused _ _ _ c.in-Some.mutator.now _ _ c.in-Some.ensures.some
-    (λ s h. Acts.store_nothing (rw c.address-target.ensures at c.if-target-ne0.false) (finds_nothing _ s _ c.in_default-find.ensures.lawful h (rw c.address-target.ensures at (sym c.in_default-find.ensures.found)))))
+    (refused _ _ _ _ c.in-Some.mutator.now _ _ c.in-Some.ensures.some
+    (λ s h. Acts.store_nothing (rw c.address-target.ensures at c.if-target-ne0.false) (finds_nothing _ _ s _ c.in_default-find.ensures.lawful h (rw c.address-target.ensures at (sym c.in_default-find.ensures.found)))))
 
 pub write-requires : goal.write-requires
-write-requires c = is_word _ _ c.in-Some-find.ensures.lawful.map _ c.in-Some-find.ensures.long _ c.in-Some-find.field-0 (sym c.in-Some-find.ensures.found) c.if-target-ne0.false
+write-requires c = is_word _ _ (kept_map _ _ _ c.in-Some-find.ensures.lawful.map) _ c.in-Some-find.ensures.long _ c.in-Some-find.field-0 (sym c.in-Some-find.ensures.found) c.if-target-ne0.false
+
+pub note_write-requires-clause-inside : goal.note_write-requires-clause-inside
+note_write-requires-clause-inside c =
+    let here = is_word _ _ (kept_map _ _ _ c.in-Some-find.ensures.lawful.map) _ c.in-Some-find.ensures.long _ c.in-Some-find.field-0 (sym c.in-Some-find.ensures.found) c.if-target-ne0.false in
+    let size = c.self.invariant.pages in let long = c.in-Some-find.ensures.long in let below = here.below in let above = here.above in
+    omega arith
+
+pub invariant_of-self : goal.invariant_of-self
+invariant_of-self c = traced_write _ _ (record { marking = c.self.inside.marker; is_marking = c.self.inside.is_marking; count = c.self.inside.count }) _ _ _ c.self.invariant c.write.ensures c.note_write.ensures refl
 
 pub returns : goal.returns
 returns c = rw (← c.self.view_is)
-    (stores _ _ _ _ _ _ _ c.in-Some.mutator.now c.in-Some-find.field-0 c.in-Some-find.ensures.lawful c.in-Some-find.ensures.long c.in-Some.ensures.some
+    (stores _ _ _ _ _ _ _ _ _ c.in-Some.mutator.now c.in-Some-find.field-0 c.in-Some-find.ensures.lawful c.in-Some-find.ensures.long c.in-Some.ensures.some
     (rw c.address-target.ensures at c.if-target-ne0.false)
     (rw c.address-target.ensures at (sym c.in-Some-find.ensures.found))
-    (rw (c.address-target.ensures, c.word-word.ensures) at c.write.ensures))
+    (rw (c.address-target.ensures, c.word-word.ensures) at c.write.ensures)
+    (rw c.address-target.ensures at c.note_write.ensures) refl refl)

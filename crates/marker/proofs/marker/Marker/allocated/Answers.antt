@@ -1,5 +1,4 @@
-use Rattle.std.proofs.Common.{set, true, sym, ap, ◌∙◌}
-use Rattle.block_map.specs.declared.found.Found.{Found}
+use Rattle.std.proofs.Common.{set, true, ap, ◌∙◌}
 use Rattle.mark_bits.specs.Granules.{granule}
 use Rattle.marker.specs.Marking.{Marking}
 use Rattle.marker.proofs.Mutating.{alloc_keeps}

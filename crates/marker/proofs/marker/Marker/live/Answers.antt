@@ -1,11 +1,16 @@
-use Rattle.std.proofs.Common.{length, sym, ◌∙◌}
+use Rattle.std.proofs.Common.{◌≤◌, length, sym, ◌∙◌, subst}
+use Rattle.words.specs.declared.limits.TheConstants.{MAX_PAGES}
+use Rattle.marker.specs.Marking.{IsConsistent}
+use Rattle.marker.proofs.Closures.{marks_of}
 use Rattle.marker.proofs.MarkWord.{markable}
 use Rattle.marker.proofs.marker.Marker.live.Goals as goal
 
-pub is_marked-requires : goal.is_marked-requires
-is_marked-requires c =
-    let m = markable (length c.args.map.now) _ _ c.in_ok-found.found _ c.find.ensures.lawful.map (sym c.find.ensures.found ∙ c.in_ok-found.was) c.requires.marks in
-    record { low = m.0; inside = m.1 }
+pub is_marked-requires-clause-inside : goal.is_marked-requires-clause-inside
+is_marked-requires-clause-inside c =
+    let k : IsConsistent c.args.self.now = subst IsConsistent c.self.view_is c.self.invariant in
+    (markable (length c.args.map.now) _ _ c.in_ok-found.found _ c.find.ensures.lawful.map (sym c.find.ensures.found ∙ c.in_ok-found.was) (marks_of _ _ k c.requires.pages)).1
 
 pub returns-then-is_marked-clause-placed : goal.returns-then-is_marked-clause-placed
-returns-then-is_marked-clause-placed c = (c.find.ensures.lawful.map.placed _ _ (sym c.find.ensures.found ∙ c.in_ok-found.was), c.requires.few)
+returns-then-is_marked-clause-placed c =
+    let k : IsConsistent c.args.self.now = subst IsConsistent c.self.view_is c.self.invariant in
+    (c.find.ensures.lawful.map.placed _ _ (sym c.find.ensures.found ∙ c.in_ok-found.was), subst (λ n. n ≤ MAX_PAGES) c.requires.pages k.few)

@@ -1,43 +1,33 @@
-use Rattle.std.proofs.Common.{◌≡◌, ◌<◌, ℕ, Bool, false, true, length, get_or, set, List, refl, sym, ap, ◌∙◌, subst, rules}
-use Rattle.mark_bits.specs.Granules.{granule}
-use Rattle.marker.specs.Marking.{IsSized}
-use Rattle.marker.proofs.MarkWord.{markable, word_free, word_pushed, word_spread, word_from}
+use Rattle.std.proofs.Common.{◌≡◌, ◌*◌, ◌<◌, ℕ, length, refl, sym, ap, ◌∙◌, subst}
+use Rattle.words.specs.declared.limits.TheConstants.{PAGE_GRANULES}
+use Rattle.block_map.specs.Objects.{IsPlaced}
+use Rattle.block_map.specs.FoundIn.{found_in}
+use Rattle.marker.specs.Marking.{Marking}
+use Rattle.marker.proofs.Closures.{marks_of}
+use Rattle.marker.proofs.MarkWord.{markable, word_object}
 use Rattle.marker.proofs.marker.Marker.mark_target.Goals as goal
-
-pub granule_of-granule-requires : goal.granule_of-granule-requires
-granule_of-granule-requires c = (c.find.ensures.lawful.map.placed _ _ (sym c.find.ensures.found ∙ c.in-Some.is)).above
 
 pub is_set-requires : goal.is_set-requires
 is_set-requires c =
-    let sized : IsSized (length c.args.map.now) _ = subst (IsSized (length c.args.map.now)) (sym c.self.view_is) c.requires in
-    let m = markable (length c.args.map.now) _ c.args.word c.in-Some.found _ c.find.ensures.lawful.map (sym c.find.ensures.found ∙ c.in-Some.is) sized.marks in
+    let size : length c.self.inside.marks ≡ PAGE_GRANULES * length c.args.map.now = marks_of _ _ c.self.invariant (ap (λ (m : Marking). length m.dirty) c.self.view_is ∙ c.requires.pages) in
+    let m = markable (length c.args.map.now) _ c.args.word c.in-Some.found _ c.find.ensures.lawful.map (sym c.find.ensures.found ∙ c.in-Some.is) size in
     subst (λ (n : ℕ). n < length c.self.inside.marks) (sym c.granule_of-granule.ensures) m.1
 
 pub set-requires : goal.set-requires
 set-requires c =
-    let sized : IsSized (length c.args.map.now) _ = subst (IsSized (length c.args.map.now)) (sym c.self.view_is) c.requires in
-    let m = markable (length c.args.map.now) _ c.args.word c.in-Some.found _ c.find.ensures.lawful.map (sym c.find.ensures.found ∙ c.in-Some.is) sized.marks in
+    let size : length c.self.inside.marks ≡ PAGE_GRANULES * length c.args.map.now = marks_of _ _ c.self.invariant (ap (λ (m : Marking). length m.dirty) c.self.view_is ∙ c.requires.pages) in
+    let m = markable (length c.args.map.now) _ c.args.word c.in-Some.found _ c.find.ensures.lawful.map (sym c.find.ensures.found ∙ c.in-Some.is) size in
     subst (λ (n : ℕ). n < length c.self.inside.marks) (sym c.granule_of-granule.ensures) m.1
 
-pub returns-then-eq : goal.returns-then-eq
-returns-then-eq c =
-    let sized : IsSized (length c.args.map.now) _ = subst (IsSized (length c.args.map.now)) (sym c.self.view_is) c.requires in
-    word_from _ _ _ _ _ c.self.view_is
-    (word_free (length c.args.map.now) _ c.find.ensures.lawful.map _ c.in-Some.found (sym c.find.ensures.found ∙ c.in-Some.is) _ _ sized (ap (λ n. get_or c.self.inside.marks n false) (sym c.granule_of-granule.ensures) ∙ sym c.is_set.ensures ∙ c.if-is_set.false) (c.set.ensures ∙ ap (λ n. set c.self.inside.marks n true) c.granule_of-granule.ensures) refl refl refl (search rules))
+pub await_words-requires : goal.await_words-requires
+await_words-requires c =
+    record {
+      placed = subst (λ n. IsPlaced n c.in-Some.found) (sym (ap (λ (m : Marking). length m.dirty) c.self.view_is ∙ c.requires.pages)) (c.find.ensures.lawful.map.placed _ _ (sym c.find.ensures.found ∙ c.in-Some.is));
+    }
 
-pub dirty_object-requires-clause-placed : goal.dirty_object-requires-clause-placed
-dirty_object-requires-clause-placed c =
-    let sized : IsSized (length c.args.map.now) _ = subst (IsSized (length c.args.map.now)) (sym c.self.view_is) c.requires in
-    rw sized.dirty (c.find.ensures.lawful.map.placed _ _ (sym c.find.ensures.found ∙ c.in-Some.is))
-
-pub returns-then-is_full : goal.returns-then-is_full
-returns-then-is_full c =
-    let sized : IsSized (length c.args.map.now) _ = subst (IsSized (length c.args.map.now)) (sym c.self.view_is) c.requires in
-    word_from _ _ _ _ _ c.self.view_is
-    (word_spread (length c.args.map.now) _ c.find.ensures.lawful.map _ c.in-Some.found (sym c.find.ensures.found ∙ c.in-Some.is) _ _ sized (ap (λ n. get_or c.self.inside.marks n false) (sym c.granule_of-granule.ensures) ∙ sym c.is_set.ensures ∙ c.if-is_set.false) (c.set.ensures ∙ ap (λ n. set c.self.inside.marks n true) c.granule_of-granule.ensures) refl c.dirty_object.ensures refl)
-
-pub returns-else-is_full : goal.returns-else-is_full
-returns-else-is_full c =
-    let sized : IsSized (length c.args.map.now) _ = subst (IsSized (length c.args.map.now)) (sym c.self.view_is) c.requires in
-    word_from _ _ _ _ _ c.self.view_is
-    (word_pushed (length c.args.map.now) _ c.find.ensures.lawful.map _ c.in-Some.found (sym c.find.ensures.found ∙ c.in-Some.is) _ _ sized (ap (λ n. get_or c.self.inside.marks n false) (sym c.granule_of-granule.ensures) ∙ sym c.is_set.ensures ∙ c.if-is_set.false) (c.set.ensures ∙ ap (λ n. set c.self.inside.marks n true) c.granule_of-granule.ensures) refl _ refl refl refl c.push.ensures.items)
+pub returns : goal.returns
+returns c =
+    record {
+      marks = word_object (found_in c.args.map.now) c.args.word c.in-Some.found c.granule_of-granule.result c.args.self.now _ _ c.await_words.new.self c.self.view_is (sym c.find.ensures.found ∙ c.in-Some.is) c.granule_of-granule.ensures
+          (sym c.is_set.ensures ∙ c.if-is_set.false) c.set.ensures refl refl refl c.await_words.ensures.marks c.await_words.ensures.current c.await_words.ensures.awaits;
+    }

@@ -1,0 +1,121 @@
+//! Collections of a heap of 10,000 objects of two words: a full one, the pause of a cycle that has marked beside the
+//! mutator, and what an allocation costs after it.
+use crate::figures::{report, since};
+use crate::marking::targets;
+use crate::user::User;
+use std::alloc::Global;
+use std::io;
+use std::rt::Clock;
+use std::time::Instant;
+
+const OBJECTS: usize = 10_000;
+
+const ROUNDS: u32 = 10;
+
+// A base, and 0 where there is no object with that number.
+fn base_of(bases: &[u64], number: u64) -> u64 {
+    usize::try_from(number)
+        .ok()
+        .and_then(|i| bases.get(i).copied())
+        .unwrap_or(0)
+}
+
+// Allocates the objects, each with its words as the shape says. The first reaches the others.
+fn build(user: &mut User, bases: &mut [u64], shape: &str) {
+    for base in bases.iter_mut() {
+        *base = user.allocate(2);
+    }
+    for number in 0..OBJECTS as u64 {
+        let (first, second) = targets(shape, number, OBJECTS as u64);
+        let base = base_of(bases, number);
+        user.link(base, 0, base_of(bases, first));
+        user.link(base, 1, base_of(bases, second));
+    }
+    user.keep(base_of(bases, 0));
+}
+
+// Full collections in which all objects stay that were reached, the fastest of some.
+fn time_collect<R: Eprint + Clock>(rt: &R, name: &str, user: &mut User) -> io::Result<()> {
+    let mut least = u128::MAX;
+    let _first = user.collect();
+    for _ in 0..ROUNDS {
+        let start = Instant::now(rt)?;
+        let _gone = user.collect();
+        least = least.min(since(rt, start)?);
+    }
+    report(rt, name, least, OBJECTS as u64, 0)
+}
+
+// The pause alone, with so many stores since all was marked, the fastest of some.
+fn time_finish<R: Eprint + Clock>(
+    rt: &R,
+    name: &str,
+    user: &mut User,
+    bases: &[u64],
+    stores: u64,
+) -> io::Result<()> {
+    let mut least = u128::MAX;
+    for _ in 0..ROUNDS {
+        user.mark_all();
+        for number in 0..stores {
+            let base = base_of(bases, number.wrapping_mul(7));
+            user.link(
+                base,
+                0,
+                base_of(bases, number.wrapping_mul(7).wrapping_add(1)),
+            );
+        }
+        user.keep(base_of(bases, 0));
+        let start = Instant::now(rt)?;
+        let _gone = user.finish();
+        least = least.min(since(rt, start)?);
+    }
+    report(rt, name, least, 1, stores)
+}
+
+// Allocations after the pause in which all objects went: the mean of all, and the longest.
+fn time_allocs<R: Eprint + Clock>(rt: &R, user: &mut User) -> io::Result<()> {
+    user.keep(0);
+    user.mark_all();
+    let gone = user.finish();
+    let mut all: u128 = 0;
+    let mut longest: u128 = 0;
+    for _ in 0..OBJECTS {
+        let start = Instant::now(rt)?;
+        let _base = user.allocate(2);
+        let spent = since(rt, start)?;
+        all = all.saturating_add(spent);
+        longest = longest.max(spent);
+    }
+    report(rt, "alloc_after_cycle", all, OBJECTS as u64, gone)?;
+    report(rt, "alloc_longest", longest, 1, user.sweep_all())
+}
+
+fn measure_list<R: Eprint + Clock>(rt: &R, user: &mut User, bases: &mut [u64]) -> io::Result<()> {
+    build(user, bases, "list");
+    time_collect(rt, "collect_list", user)?;
+    for (stores, name) in [
+        (0, "finish_stores_0"),
+        (10, "finish_stores_10"),
+        (100, "finish_stores_100"),
+        (1_000, "finish_stores_1000"),
+    ] {
+        time_finish(rt, name, user, bases, stores)?;
+    }
+    time_allocs(rt, user)
+}
+
+/// Full collections, pauses, and allocations after them.
+pub(crate) fn measure<R: Eprint + Clock>(rt: &R, alloc: Global) -> io::Result<()> {
+    let mut bases = vec![in alloc; 0u64; OBJECTS]?;
+    for (shape, name) in [("tree", "collect_tree"), ("graph", "collect_graph")] {
+        if let Some(mut user) = User::new(alloc) {
+            build(&mut user, bases.as_mut_slice(), shape);
+            time_collect(rt, name, &mut user)?;
+        }
+    }
+    if let Some(mut user) = User::new(alloc) {
+        measure_list(rt, &mut user, bases.as_mut_slice())?;
+    }
+    Ok(())
+}

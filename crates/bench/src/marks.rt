@@ -1,0 +1,129 @@
+//! A claim and a look on a table of marks: each thread claims, then looks at, each bit of one table.
+ghost use Rattle.std.specs.Prelude.{◌≡◌, ◌+◌, ◌<◌, ◌≤◌, length, All, IfOk};
+ghost use Rattle.words.specs.declared.limits.TheConstants.{MAX_HELPERS};
+ghost use Rattle.mark_bits.specs.Tables.{view, start_of, IsOf};
+ghost use Rattle.bench.specs.Ready.{IsReady};
+
+use crate::figures::{report, since};
+use mark_bits::{Claimer, MarkTable, Marks};
+use std::alloc::{AllocError, Global};
+use std::marker::Sync;
+use std::rt::Clock;
+use std::thread::Threads;
+use std::time::Instant;
+use std::{io, thread};
+use words::limits::{MAX_HELPERS, MAX_PAGES, PAGE_GRANULES};
+
+const ROUNDS: u8 = 10;
+
+const BITS: u64 = PAGE_GRANULES * MAX_PAGES as u64;
+
+fn claim_each(table: &MarkTable, granules: usize, me: &mut Claimer)
+    requires granules { granules ≡ length (start_of table.now) }
+    requires ready { IsReady table.now me.old }
+    ensures { IsReady table.now me.new }
+{
+    for bit in 0..granules {
+        let _won = table.claim(me, bit);
+    }
+}
+
+fn look_each(table: &MarkTable, granules: usize, me: &mut Claimer)
+    requires granules { granules ≡ length (start_of table.now) }
+    requires ready { IsReady table.now me.old }
+    ensures { IsReady table.now me.new }
+{
+    for bit in 0..granules {
+        let _set = table.is_set(me, bit);
+    }
+}
+
+fn claim_side_by_side<R: Threads + Sync>(
+    rt: &R,
+    table: &MarkTable,
+    granules: usize,
+    crew: &mut [Claimer],
+)
+    requires granules { granules ≡ length (start_of table.now) }
+    requires crew { All (λ c. IsReady table.now c) crew.old }
+    ensures { All (λ c. IsReady table.now c) crew.new }
+{
+    let work = |_: usize, me: &mut Claimer|
+        requires { (granules ≡ length (start_of table.now)) × IsReady table.now me.now }
+        ensures { IsReady table.entry.now me.exit.now }
+    {
+        claim_each(table, granules, me);
+    };
+    thread::for_each_mut(rt, crew, MAX_HELPERS as usize, &work);
+}
+
+fn look_side_by_side<R: Threads + Sync>(
+    rt: &R,
+    table: &MarkTable,
+    granules: usize,
+    crew: &mut [Claimer],
+)
+    requires granules { granules ≡ length (start_of table.now) }
+    requires crew { All (λ c. IsReady table.now c) crew.old }
+    ensures { All (λ c. IsReady table.now c) crew.new }
+{
+    let work = |_: usize, me: &mut Claimer|
+        requires { (granules ≡ length (start_of table.now)) × IsReady table.now me.now }
+        ensures { IsReady table.entry.now me.exit.now }
+    {
+        look_each(table, granules, me);
+    };
+    thread::for_each_mut(rt, crew, MAX_HELPERS as usize, &work);
+}
+
+fn hire(
+    alloc: Global,
+    table: &MarkTable,
+    first: &mut Claimer,
+    helpers: u8,
+) -> Result<Vec<Claimer>, AllocError>
+    requires of { IsOf table.now first.old }
+    requires parts { helpers < (view first.old).parts }
+    ensures { IfOk result (λ v. All (λ c. IsReady table.now c) v.items) }
+{
+    let mut crew = Vec::new(alloc);
+    for _ in 0..helpers {
+        crew.push(table.split(first))?;
+    }
+    Ok(crew)
+}
+
+// Nanoseconds of a claim of all bits by each helper, and of a look at all bits.
+fn cost<R: Threads + Sync + Clock>(rt: &R, alloc: Global, helpers: u8) -> io::Result<(u128, u128)>
+    requires { helpers ≤ MAX_HELPERS }
+{
+    let marks = Marks::new(alloc, MAX_PAGES)?;
+    let Ok((table, mut first)) = MarkTable::new(alloc, &marks) else {
+        return Err(AllocError.into());
+    };
+    let mut crew = hire(alloc, &table, &mut first, helpers)?;
+    let start = Instant::now(rt)?;
+    claim_side_by_side(rt, &table, marks.granules(), crew.as_mut_slice());
+    let claims = since(rt, start)?;
+    let start = Instant::now(rt)?;
+    look_side_by_side(rt, &table, marks.granules(), crew.as_mut_slice());
+    Ok((claims, since(rt, start)?))
+}
+
+/// Claims and looks by one, two and four threads.
+pub(crate) fn measure<R: Threads + Sync + Eprint + Clock>(rt: &R, alloc: Global) -> io::Result<()> {
+    for (helpers, claim, look) in [
+        (1u8, "claim_by_1", "is_set_by_1"),
+        (2, "claim_by_2", "is_set_by_2"),
+        (4, "claim_by_4", "is_set_by_4"),
+    ] {
+        let mut least = (u128::MAX, u128::MAX);
+        for _ in 0..ROUNDS {
+            let (claims, looks) = cost(rt, alloc, helpers)?;
+            least = (least.0.min(claims), least.1.min(looks));
+        }
+        report(rt, claim, least.0, BITS, u64::from(helpers))?;
+        report(rt, look, least.1, BITS, u64::from(helpers))?;
+    }
+    Ok(())
+}

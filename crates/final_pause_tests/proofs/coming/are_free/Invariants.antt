@@ -1,5 +1,0 @@
-use Rattle.block_map_tests.specs.Spans.{IsFreeSpan}
-use Rattle.final_pause_tests.proofs.coming.are_free.Given as goal
-
-abbrev pub invariant-loop-page : goal.invariant-loop-page
-invariant-loop-page l = IsFreeSpan l.map l.first l.page

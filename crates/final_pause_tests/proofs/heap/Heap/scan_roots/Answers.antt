@@ -1,5 +1,0 @@
-use Rattle.final_pause_tests.proofs.Marked.{traced}
-use Rattle.final_pause_tests.proofs.heap.Heap.scan_roots.Goals as goal
-
-pub invariant_of-self : goal.invariant_of-self
-invariant_of-self c = traced _ _ c.args.roots.now _ _ c.self.invariant (c.scan_roots.ensures.traces c.self.inside.memory)

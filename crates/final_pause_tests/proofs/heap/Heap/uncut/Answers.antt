@@ -1,5 +1,0 @@
-use Rattle.final_pause_tests.proofs.Marked.{cleared_less, lessened}
-use Rattle.final_pause_tests.proofs.heap.Heap.uncut.Goals as goal
-
-pub invariant_of-self : goal.invariant_of-self
-invariant_of-self c = lessened _ _ _ _ c.uncut.ensures.states.size (cleared_less _ _ _ _ c.uncut.ensures.cleared) c.self.invariant

@@ -1,0 +1,148 @@
+-- What the collector's view of the objects is to the heap: its closure is the heap's, and what it forgets is what goes.
+use Rattle.std.proofs.Common.{Bool, ◌≡◌, ℕ, ◌+◌, ◌*◌, List, length, get_or, Contains, Some, refl, sym, ap, ◌∙◌, subst, arith, flat_map, ◌++◌}
+use Rattle.std.specs.Prelude.{◌↔◌}
+use Rattle.std.proofs.lemmas.Option.{same_Some}
+use Rattle.std.proofs.lemmas.Bool.{false≢true}
+use Rattle.std.proofs.lemmas.List.Elements.{All-contains, All-contains_itself, All-weaker}
+use Rattle.mark_bits.specs.Granules.{granule}
+use Rattle.heap_spec.specs.declared.reply.Reply.TheVariants.{Count}
+use Rattle.heap_spec.specs.Heap.{Heap, Object, HasObject, root_words, words_of}
+use Rattle.heap_spec.specs.Closure as heap
+use Rattle.heap_spec.specs.Closure.{Reached}
+use Rattle.heap_spec.specs.Cycles.{TakesOut, CollectsFully}
+use Rattle.heap_spec.specs.Heap.{without}
+use Rattle.heap_spec.proofs.Closures.{closure_mono, reached_in}
+use Rattle.pages.specs.Memory.{place}
+use Rattle.block_map.specs.declared.found.Found.{Found}
+use Rattle.block_map.specs.FoundIn.{found_in}
+use Rattle.block_map.specs.Objects.{IsMap}
+use Rattle.marker.specs.Marking.{Marking, IsMarked, IsFresh}
+use Rattle.marker.specs.Closure.{Closure}
+use Rattle.marker.specs.Growth.{Traces}
+use Rattle.marker.proofs.Closures.{closure_more}
+use Rattle.reachability.specs.Shows.{IsFor, Shows as Sees, IsMarkedBirth}
+use Rattle.reachability.proofs.Closures.{marks_agree}
+use Rattle.roots.specs.Roots.{root_words_of}
+use Rattle.object_space.specs.Store.{Store, IsSwept}
+use Rattle.heap_core.specs.Contents.{Contents, Cycle}
+use Rattle.object_space.specs.Shown.{Shows, IsShown}
+use Rattle.heap_core.specs.Standing.{StandsFor, keeps}
+use Rattle.object_space.specs.Kept.{restrict, kept_in}
+use Rattle.object_space.proofs.Kept.{kept_all, nothing_pending}
+use Rattle.object_space.proofs.Allocations.{shows_same}
+use Rattle.object_space.specs.Sweeps.{ForgetsUnreached}
+use Rattle.heap_core.specs.Collections.{ForgetsOutside}
+use Rattle.object_space.proofs.Sweeping.{shows_without}
+
+module _ (c : Contents) (map : IsMap (length c.store.states) (found_in c.store.states)) (swept : IsSwept c.store) (s : Heap) (h : StandsFor c s) where
+  -- where nothing is to be swept, the objects of the map are the heap's
+  pub all_shown : Shows (found_in c.store.states) c.store.words s.objects s.births
+  all_shown = shows_same (restrict (keeps c) (found_in c.store.states)) (found_in c.store.states) c.store.words s.objects s.births
+      (record { same = λ w. sym ((kept_all (keeps c) (found_in c.store.states) (λ w f there. nothing_pending c.store.pending c.cycle.marking.marks f (swept f.page))).same w) }) h.store.shows
+
+  -- the heap's root words are the core's
+  pub roots_are : root_words s ≡ root_words_of c.roots
+  roots_are = ap (λ ms. flat_map words_of ms ++ s.globals) h.mutators ∙ ap (λ gs. flat_map words_of c.roots.mutators ++ gs) h.globals
+
+  is_for : (f : Found) (o : Object) → IsShown c.store.words f o → found_in c.store.states f.base ≡ Some f → IsFor c.store.words o f
+  is_for f o shown there = record {
+    kind = shown.kind;
+    len = shown.size;
+    words_are = λ i lt. shown.word i lt ∙ ap (λ k. get_or c.store.words k 0) (where_is i);
+  }
+    where
+      where_is : (i : ℕ) → place f.base + i ≡ place (f.base + 8 * i)
+      where_is i = let above = (map.placed f.base f there).above in omega arith
+
+  -- the collector sees the heap
+  pub sees : Sees s (found_in c.store.states) c.store.words
+  sees = record {
+    seen = λ b o has.
+        let f = all_shown.only b o has in
+        let there = ap (found_in c.store.states) f.2 ∙ f.1 in
+        let kept = all_shown.kept f.0 there in
+        let same : kept.0 ≡ o = same_Some _ _ (sym kept.1 ∙ ap s.objects f.2 ∙ has) in
+        (f.0, f.1, f.2, is_for f.0 o (subst (IsShown c.store.words f.0) same kept.2) there);
+    real = λ f there. let kept = all_shown.kept f there in (kept.0, kept.1, is_for f kept.0 kept.2 there);
+  }
+
+  -- an object of the heap is one that the collector finds
+  pub found_at : (base : ℕ) (o : Object) → HasObject s base o → (f : Found) × (found_in c.store.states base ≡ Some f) × (f.base ≡ base)
+  found_at base o has = all_shown.only base o has
+
+  -- the collector's closure of the marks is the heap's
+  pub closures : (f : Found) → found_in c.store.states f.base ≡ Some f → Closure (found_in c.store.states) c.store.words (root_words_of c.roots) (IsMarked c.cycle.marking) f ↔ heap.Closure s (IsMarkedBirth s c.cycle.marking) f.base
+  closures f there = subst (λ rs. Closure (found_in c.store.states) c.store.words rs (IsMarked c.cycle.marking) f ↔ heap.Closure s (IsMarkedBirth s c.cycle.marking) f.base) roots_are
+      (marks_agree (length c.store.states) s (found_in c.store.states) c.store.words c.cycle.marking map sees all_shown.distinct f there)
+
+  -- marks that grow by the marker's closure grow within the heap's
+  pub grows_within : (roots : List ℕ) (m : Marking) → ((w : ℕ) → Contains roots w → Contains (root_words_of c.roots) w) → Traces (found_in c.store.states) c.store.words roots c.cycle.marking m
+      → (base : ℕ) (o : Object) → HasObject s base o → IsMarked m base → heap.Closure s (IsMarkedBirth s c.cycle.marking) base
+  grows_within roots m among traces base o has marked =
+      let f = found_at base o has in
+      let there = ap (found_in c.store.states) f.2 ∙ f.1 in
+      let inner = traces.within f.0 there (subst (IsMarked m) (sym f.2) marked) in
+      let outer = closure_more (found_in c.store.states) c.store.words roots (root_words_of c.roots) (IsMarked c.cycle.marking) (IsMarked c.cycle.marking) among (λ g e k. Closure.held e k) inner in
+      subst (heap.Closure s (IsMarkedBirth s c.cycle.marking)) f.2 ((closures f.0 there).0 outer)
+
+  -- what is forgotten was an object, outside of the closure
+  forgotten : (t' : Store) (n : ℕ) (marks : List Bool) (x : ForgetsUnreached c.store (root_words_of c.roots) c.cycle.marking n marks t') (base : ℕ) → Contains x.bases base
+      → (o : Object) × HasObject s base o × (heap.Closure s (IsMarkedBirth s c.cycle.marking) base → ⊥)
+  forgotten t' n marks x base is =
+      let f = All-contains (λ b. (g : Found) × (found_in c.store.states b ≡ Some g) × (g.base ≡ b)) x.bases base x.without.gone is in
+      let there : found_in c.store.states f.0.base ≡ Some f.0 = ap (found_in c.store.states) f.2 ∙ f.1 in
+      let kept = all_shown.kept f.0 there in
+      (kept.0, ap s.objects (sym f.2) ∙ kept.1, λ inside. (x.outside f.0 there).0 (subst (Contains x.bases) (sym f.2) is) ((closures f.0 there).1 (subst (heap.Closure s (IsMarkedBirth s c.cycle.marking)) (sym f.2) inside)))
+
+  -- and goes
+  pub takes_out : (t' : Store) (n : ℕ) (marks : List Bool) (x : ForgetsUnreached c.store (root_words_of c.roots) c.cycle.marking n marks t') → TakesOut s x.bases (Count n) (without s x.bases)
+  takes_out t' n marks x = record {
+    objects = All-weaker (Contains x.bases) (λ b. (o : Object) × HasObject s b o) (λ b is. let o = forgotten t' n marks x b is in (o.0, o.1)) x.bases (All-contains_itself x.bases);
+    distinct = x.without.distinct;
+    unreached = All-weaker (Contains x.bases) (λ b. Reached s b → ⊥) (λ b is r. let o = forgotten t' n marks x b is in o.2 (reached_in s (IsMarkedBirth s c.cycle.marking) r)) x.bases (All-contains_itself x.bases);
+    number = ap Count x.number;
+    after = refl;
+  }
+
+  pub goes : (t' : Store) (n : ℕ) (marks : List Bool) (x : ForgetsUnreached c.store (root_words_of c.roots) c.cycle.marking n marks t') (base : ℕ) (o : Object) → HasObject s base o
+      → (heap.Closure s (IsMarkedBirth s c.cycle.marking) base → ⊥) → Contains x.bases base
+  goes t' n marks x base o has outside =
+      let f = found_at base o has in
+      let there = ap (found_in c.store.states) f.2 ∙ f.1 in
+      subst (Contains x.bases) f.2 ((x.outside f.0 there).1 (λ inside. outside (subst (heap.Closure s (IsMarkedBirth s c.cycle.marking)) f.2 ((closures f.0 there).0 inside))))
+
+  -- the core stands for what is left
+  pub stands_without : (t' : Store) (y : Cycle) (n : ℕ) (x : ForgetsUnreached c.store (root_words_of c.roots) c.cycle.marking n y.marking.marks t') → StandsFor (record { roots = c.roots; store = t'; cycle = y }) (without s x.bases)
+  stands_without t' y n x = record {
+    mutators = h.mutators;
+    globals = h.globals;
+    store = record {
+      pages = h.store.pages ∙ sym x.pages;
+      shows = subst (λ ws. Shows (kept_in t'.states t'.pending y.marking.marks) ws (without s x.bases).objects s.births) (sym x.words)
+          (shows_without (length c.store.states) (found_in c.store.states) (kept_in t'.states t'.pending y.marking.marks) c.store.words s.objects s.births x.bases all_shown x.without);
+    };
+  }
+
+  pub ends : (t' : Store) (y : Cycle) (n : ℕ) → ForgetsUnreached c.store (root_words_of c.roots) c.cycle.marking n y.marking.marks t'
+      → (s' : Heap) × ForgetsOutside s (IsMarkedBirth s c.cycle.marking) (Count n) s' × StandsFor (record { roots = c.roots; store = t'; cycle = y }) s'
+  ends t' y n x = (
+    without s x.bases,
+    record { bases = x.bases; takes = takes_out t' n y.marking.marks x; outside = λ base is. (forgotten t' n y.marking.marks x base is).2; all = goes t' n y.marking.marks x },
+    stands_without t' y n x,
+  )
+
+  -- where nothing was marked, exactly what is not reached goes
+  none_marked : (b : ℕ) → IsFresh (length c.store.states) c.cycle.marking → IsMarkedBirth s c.cycle.marking b → ⊥
+  none_marked b fresh m = false≢true (sym (fresh.marks.clear (granule m.base)) ∙ m.marked)
+
+  pub collects : (t' : Store) (y : Cycle) (n : ℕ) → IsFresh (length c.store.states) c.cycle.marking → ForgetsUnreached c.store (root_words_of c.roots) c.cycle.marking n y.marking.marks t'
+      → (s' : Heap) × CollectsFully s (Count n) s' × StandsFor (record { roots = c.roots; store = t'; cycle = y }) s'
+  collects t' y n fresh x = (
+    without s x.bases,
+    record {
+      bases = x.bases;
+      takes = takes_out t' n y.marking.marks x;
+      all = λ base o has n'. goes t' n y.marking.marks x base o has (λ inside. n' (closure_mono s (IsMarkedBirth s c.cycle.marking) (λ _. ⊥) (λ b m. none_marked b fresh m) inside));
+    },
+    stands_without t' y n x,
+  )

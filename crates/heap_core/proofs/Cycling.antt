@@ -1,0 +1,76 @@
+-- The calls of the collector, over the core as a whole.
+use Rattle.std.proofs.Common.{◌≡◌, ℕ, ◌+◌, ◌%◌, true, false, List, [], length, Contains, refl, sym, ◌∙◌, arith}
+use Rattle.block_map.specs.FoundIn.{found_in}
+use Rattle.block_map.specs.Objects.{IsMap}
+use Rattle.heap_spec.specs.Heap.{Heap}
+use Rattle.heap_spec.specs.Layout.{word_end}
+use Rattle.marker.specs.Marking.{Marking, IsFresh}
+use Rattle.marker.specs.Growth.{Traces}
+use Rattle.roots.specs.Roots.{root_words_of}
+use Rattle.object_space.specs.Store.{Store, IsSwept}
+use Rattle.heap_core.specs.Contents.{Contents, Cycle}
+use Rattle.heap_core.specs.Standing.{StandsFor}
+use Rattle.object_space.specs.Sweeps.{ForgetsUnreached, Sweeps}
+use Rattle.object_space.specs.Kept.{restrict, is_kept, IsPendingAfter}
+use Rattle.object_space.proofs.Kept.{kept_same, nothing_pending}
+use Rattle.object_space.proofs.Allocations.{shows_same}
+use Rattle.heap_core.proofs.Calls.{swept_stands}
+use Rattle.heap_core.specs.Collections.{BeginsCycle, MarksOn, EndsCycle, CollectsAll}
+use Rattle.heap_core.proofs.Collecting.{grows_within, ends, collects}
+
+none_in : (w : ℕ) → Contains [] w → ⊥
+none_in w h = let l = h.1 in omega arith
+
+-- Where nothing is to be swept, the marks may change: the core stands for what it stood for.
+pub stands_still : (c : Contents) (y : Cycle) → IsSwept c.store → (s : Heap) → StandsFor c s → StandsFor (record c { cycle = y }) s
+stands_still c y swept s h = record {
+  mutators = h.mutators;
+  globals = h.globals;
+  store = record {
+    pages = h.store.pages;
+    shows = shows_same (restrict (is_kept c.store.pending c.cycle.marking.marks) (found_in c.store.states)) (restrict (is_kept c.store.pending y.marking.marks) (found_in c.store.states)) c.store.words s.objects s.births
+        (kept_same (is_kept c.store.pending c.cycle.marking.marks) (is_kept c.store.pending y.marking.marks) (found_in c.store.states)
+        (λ w f there. nothing_pending c.store.pending y.marking.marks f (swept f.page) ∙ sym (nothing_pending c.store.pending c.cycle.marking.marks f (swept f.page)))) h.store.shows;
+  };
+}
+
+pub begins : (c : Contents) (t : Store) (m : Marking) → Sweeps c.store c.cycle.marking.marks t → IsSwept t → IsFresh (length c.store.states) m
+    → BeginsCycle c (record { roots = c.roots; store = t; cycle = record { marking = m; is_marking = true; count = c.cycle.count } })
+begins c t m sweeps swept fresh = record {
+  stands = λ s h. stands_still (record c { store = t }) _ swept s (swept_stands c.roots c.store t c.cycle sweeps s h);
+  phase = refl;
+  count = refl;
+  fresh = fresh;
+  swept = swept;
+}
+
+pub marks_on : (c : Contents) (roots : List ℕ) (m : Marking) → IsMap (length c.store.states) (found_in c.store.states) → IsSwept c.store → ((w : ℕ) → Contains roots w → Contains (root_words_of c.roots) w)
+    → Traces (found_in c.store.states) c.store.words roots c.cycle.marking m → MarksOn roots c (record c { cycle = record c.cycle { marking = m } })
+marks_on c roots m map swept among traces = record {
+  stands = λ s h. stands_still c _ swept s h;
+  phase = refl;
+  count = refl;
+  within = λ s h base o has marked. grows_within c map swept s h roots m among traces base o has marked;
+  traces = traces;
+}
+
+pub marks_more : (c : Contents) (m : Marking) → IsMap (length c.store.states) (found_in c.store.states) → IsSwept c.store → Traces (found_in c.store.states) c.store.words [] c.cycle.marking m → MarksOn [] c (record c { cycle = record c.cycle { marking = m } })
+marks_more c m map swept traces = marks_on c [] m map swept (λ w h. absurd (none_in w h)) traces
+
+pub ends_cycle : (c : Contents) (t' : Store) (m : Marking) (count n : ℕ) → IsMap (length c.store.states) (found_in c.store.states) → IsSwept c.store → ForgetsUnreached c.store (root_words_of c.roots) c.cycle.marking n m.marks t' → IsPendingAfter t'.states m.marks t'.pending
+    → count ≡ (c.cycle.count + 1) % word_end → EndsCycle c n (record { roots = c.roots; store = t'; cycle = record { marking = m; is_marking = false; count = count } })
+ends_cycle c t' m count n map swept x pending counts = record {
+  ends = record { phase = refl; count = counts };
+  forgets = λ s h. ends c map swept s h t' _ n x;
+  pending = pending;
+}
+
+-- a collection sweeps, and drops the marks, first
+pub collects_all : (c : Contents) (t : Store) (dropped : Marking) (t' : Store) (m : Marking) (count n : ℕ) → IsMap (length t.states) (found_in t.states) → Sweeps c.store c.cycle.marking.marks t → IsSwept t → IsFresh (length t.states) dropped
+    → ForgetsUnreached t (root_words_of c.roots) dropped n m.marks t' → IsSwept t' → count ≡ (c.cycle.count + 1) % word_end
+    → CollectsAll c n (record { roots = c.roots; store = t'; cycle = record { marking = m; is_marking = false; count = count } })
+collects_all c t dropped t' m count n map sweeps swept fresh x swept' counts = record {
+  ends = record { phase = refl; count = counts };
+  swept = swept';
+  collects = λ s h. collects (record { roots = c.roots; store = t; cycle = record c.cycle { marking = dropped } }) map swept s (stands_still (record c { store = t }) _ swept s (swept_stands c.roots c.store t c.cycle sweeps s h)) t' _ n fresh x;
+}

@@ -1,0 +1,259 @@
+-- How a core follows a run.
+use Rattle.std.proofs.Common.{Result, Ok, Err, ◌++◌, length, take, get_or, set, ◌≡◌, ℕ, ◌+◌, ◌%◌, ◌<◌, ◌≤◌, ◌⊎◌, true, false, List, [], ◌∷◌, Some, None, refl, sym, ap, ◌∙◌, subst, inl, inr, ⊎_elim, arith}
+use Rattle.std.specs.Prelude.{⊤}
+use Rattle.std.proofs.lemmas.List.{take_more, take_more_set, take_all, length-take-le}
+use Rattle.words.specs.declared.refusal.Refusal.{Refusal}
+use Rattle.words.specs.declared.refusal.Refusal.TheVariants.{WrongPhase}
+use Rattle.heap_spec.specs.Replies.{done_reply, count_reply}
+use Rattle.roots.specs.Roots.{root_words_of}
+use Rattle.std.proofs.lemmas.Bool.{false≢true}
+use Rattle.mark_bits.specs.Granules.{granule}
+use Rattle.heap_spec.specs.declared.event.Event.{Event}
+use Rattle.heap_spec.specs.declared.event.Event.TheVariants.{Attach, Mutator, Begin, Roots, Mark, Retrace, Finish, Sweep, Collect, Number}
+use Rattle.heap_spec.specs.declared.reply.Reply.{Reply}
+use Rattle.heap_spec.specs.declared.reply.Reply.TheVariants.{Done, Count, Refused}
+use Rattle.heap_spec.specs.Layout.{word_end}
+use Rattle.heap_spec.specs.Heap.{Heap, Object, HasObject}
+use Rattle.heap_spec.specs.Closure.{Closure, IsInClosure, given}
+use Rattle.heap_spec.specs.Histories.{Happens}
+use Rattle.heap_spec.specs.Steps.{Step}
+use Rattle.heap_spec.specs.Runs.{Start, Run, Told, heap_after, is_marking, marking_after, count, counted, goes_on, Touched, touched_after, IsBornSince}
+use Rattle.heap_spec.specs.Transcripts.{LineOf, LegalTranscript}
+use Rattle.heap_spec.proofs.Births.{step_births}
+use Rattle.heap_spec.proofs.Closures.{closure_mono}
+use Rattle.heap_spec.proofs.Runs.{touched_closed}
+use Rattle.marker.specs.Marking.{IsMarked}
+use Rattle.reachability.specs.Shows.{IsMarkedBirth}
+use Rattle.heap_core.specs.Contents.{Contents, Cycle}
+use Rattle.heap_core.specs.Standing.{StandsFor, objects_of}
+use Rattle.heap_core.specs.Calls.{IsCall}
+use Rattle.heap_core.specs.Collections.{IsGrantedIn, IsAlwaysGranted, BeginsCycle, MarksOn, ReadsRoots, TakesWords, RetracesPage, ReadsPage, EndsCycle, CollectsAll, SweepsOne}
+use Rattle.heap_core.specs.Following.{Follows, IsLine, AreLines, told_of}
+
+-- what a step is to a run
+pub record IsMoment (start : Start) (run : Run) (event : Event) (reply : Reply) (s' : Heap) : Type 0 where
+  pub happens : Happens Touched start run event reply s'
+  pub marking : marking_after event (is_marking start run) ≡ is_marking start run
+  pub counts : counted event ≡ 0
+  pub touches : (birth : ℕ) → IsInClosure s' (λ b. Touched start run b ⊎ IsBornSince (heap_after start run) b) birth → touched_after event (Touched start run) (heap_after start run) s' birth
+
+step_moment : (start : Start) (run : Run) (event : Event) (reply : Reply) (s' : Heap) → Step (heap_after start run) event reply s' → IsMoment start run event reply s'
+step_moment start run Attach reply s' step = record { happens = step; marking = refl; counts = refl; touches = λ b x. x }
+step_moment start run (Mutator slot call) reply s' step = record { happens = step; marking = refl; counts = refl; touches = λ b x. x }
+step_moment start run Begin reply s' step = absurd step
+step_moment start run Roots reply s' step = absurd step
+step_moment start run (Mark n) reply s' step = absurd step
+step_moment start run Retrace reply s' step = absurd step
+step_moment start run Finish reply s' step = absurd step
+step_moment start run Sweep reply s' step = absurd step
+step_moment start run Collect reply s' step = absurd step
+step_moment start run Number reply s' step = absurd step
+
+none_some : {A : Type 0} (x : A) → None ≡ Some x → ⊥
+none_some x e = cc
+
+-- A call of a mutator is a line.
+module _ (old : Contents) (event : Event) (reply : Reply) (new : Contents) (call : IsCall old event reply new) (start : Start) (run : Run) (follows : Follows old start run)
+    (after : Heap) (step : Step (heap_after start run) event reply after) (stands : StandsFor new after) where
+  touches : old.cycle.is_marking ≡ true → (base : ℕ) (o : Object) → HasObject after base o → IsMarked new.cycle.marking base → Touched start run o.birth ⊎ ((heap_after start run).births < o.birth)
+  touches is base o has marked =
+      let f = stands.store.shows.only base o has in
+      let there = ap (objects_of new) f.2 ∙ f.1 in
+      ⊎_elim
+      (λ old_one. ⊎_elim
+      (λ was. inl (subst (Touched start run) (sym old_one.2.birth) (follows.touched is base old_one.0 old_one.1 (subst (IsMarked old.cycle.marking) f.2 was))))
+      (λ none. let g = follows.stands.store.shows.only base old_one.0 old_one.1 in absurd (none_some g.0 (sym (ap (objects_of old) (sym f.2) ∙ none) ∙ g.1)))
+      (call.marks f.0 there (subst (IsMarked new.cycle.marking) (sym f.2) marked)))
+      (λ born. inr born)
+      (step_births (heap_after start run) event reply after step base o has)
+
+  moment : IsMoment start run event reply after
+  moment = step_moment start run event reply after step
+
+  count_same : count start run ≡ (count start run + counted event) % word_end
+  count_same = let none = moment.counts in let small = follows.small in let same = follows.count in omega arith
+
+  next_follows : Follows new start (goes_on run event reply after)
+  next_follows = record {
+    stands = stands;
+    phase = call.phase ∙ follows.phase ∙ sym moment.marking;
+    count = call.count ∙ follows.count ∙ count_same;
+    small = subst (λ n. n < word_end) (sym call.count) follows.small;
+    touched = λ is base o has marked. moment.touches o.birth (base, o, has, refl, given has (touches (sym call.phase ∙ is) base o has marked));
+  }
+
+  line : (next : Run) × LineOf Touched start run event reply next × Follows new start next
+  line = (goes_on run event reply after, LineOf.happens moment.happens, next_follows)
+
+pub call_line : (old : Contents) (event : Event) (reply : Reply) (new : Contents) → IsCall old event reply new → IsLine old event reply new
+call_line old event reply new call start run follows =
+    let went = call.steps (heap_after start run) follows.stands in
+    line old event reply new call start run follows went.0 went.1 went.2
+
+-- A granted begin is a line.
+pub begin_line : (old new : Contents) → old.cycle.is_marking ≡ false → BeginsCycle old new → IsLine old Begin Done new
+begin_line old new idle begins start run follows = (
+  goes_on run Begin Done (heap_after start run),
+  LineOf.happens (sym follows.phase ∙ idle, (refl, refl)),
+  record {
+    stands = begins.stands (heap_after start run) follows.stands;
+    phase = begins.phase;
+    count = begins.count ∙ follows.count ∙ (let small = follows.small in let same = follows.count in omega arith);
+    small = subst (λ n. n < word_end) (sym begins.count) follows.small;
+    touched = λ is base o has marked. absurd (false≢true (sym (begins.fresh.marks.clear (granule base)) ∙ marked));
+  },
+)
+
+-- where a core is marking, what is touched is closed
+closed : (c : Contents) (start : Start) (run : Run) → Follows c start run → c.cycle.is_marking ≡ true → (birth : ℕ) → IsInClosure (heap_after start run) (Touched start run) birth → Touched start run birth
+closed c start [] follows is birth x = sym follows.phase ∙ is
+closed c start (m ∷ run) follows is birth x = touched_closed start m run follows.stands.store.shows.distinct birth x
+
+-- and each object of the closure of its marks is touched
+reached_touched : (c : Contents) (start : Start) (run : Run) → Follows c start run → c.cycle.is_marking ≡ true
+    → (base : ℕ) (o : Object) → HasObject (heap_after start run) base o → Closure (heap_after start run) (IsMarkedBirth (heap_after start run) c.cycle.marking) base → Touched start run o.birth
+reached_touched c start run follows is base o has inside =
+    closed c start run follows is o.birth (
+      base,
+      o,
+      has,
+      refl,
+      closure_mono (heap_after start run) (IsMarkedBirth (heap_after start run) c.cycle.marking) (Touched start run)
+          (λ b m. subst (Touched start run) m.same (follows.touched is m.base m.object m.has m.marked)) inside,
+    )
+
+-- A step of the marker leaves the run as it is.
+pub marks_follow : (roots : List ℕ) (old new : Contents) → old.cycle.is_marking ≡ true → MarksOn roots old new → (start : Start) (run : Run) → Follows old start run → Follows new start run
+marks_follow roots old new is marks start run follows = record {
+  stands = marks.stands (heap_after start run) follows.stands;
+  phase = marks.phase ∙ follows.phase;
+  count = marks.count ∙ follows.count;
+  small = subst (λ n. n < word_end) (sym marks.count) follows.small;
+  touched = λ now base o has marked. reached_touched old start run follows is base o has (marks.within (heap_after start run) follows.stands base o has marked);
+}
+
+-- A granted finish is a line: each object that is not touched goes.
+pub finish_line : (old new : Contents) (n : ℕ) → old.cycle.is_marking ≡ true → EndsCycle old n new → IsLine old Finish (Count n) new
+finish_line old new n is ends start run follows =
+    let went = ends.forgets (heap_after start run) follows.stands in (
+      goes_on run Finish (Count n) went.0,
+      LineOf.happens (
+        sym follows.phase ∙ is,
+        record {
+          bases = went.1.bases;
+          takes = went.1.takes;
+          untouched = λ base o has untouched. went.1.all base o has (λ inside. untouched (reached_touched old start run follows is base o has inside));
+        },
+      ),
+      record {
+        stands = went.2;
+        phase = ends.ends.phase;
+        count = ends.ends.count ∙ ap (λ k. (k + 1) % word_end) follows.count;
+        small = subst (λ k. k < word_end) (sym ends.ends.count) (omega arith);
+        touched = λ now base o has marked. absurd (false≢true (sym ends.ends.phase ∙ now));
+      },
+    )
+
+-- A collection is a line.
+pub collect_line : (old new : Contents) (n : ℕ) → CollectsAll old n new → IsLine old Collect (Count n) new
+collect_line old new n all start run follows =
+    let went = all.collects (heap_after start run) follows.stands in (
+      goes_on run Collect (Count n) went.0,
+      LineOf.happens went.1,
+      record {
+        stands = went.2;
+        phase = all.ends.phase;
+        count = all.ends.count ∙ ap (λ k. (k + 1) % word_end) follows.count;
+        small = subst (λ k. k < word_end) (sym all.ends.count) (omega arith);
+        touched = λ now base o has marked. absurd (false≢true (sym all.ends.phase ∙ now));
+      },
+    )
+
+-- A refused call of the collector is a line that leaves the run as it is.
+wrong_line : (old new : Contents) (event : Event) (why : Refusal) → why ≡ WrongPhase → new ≡ old → ((start : Start) (run : Run) → Follows old start run → LineOf Touched start run event (Refused WrongPhase) run) → IsLine old event (Refused why) new
+wrong_line old new event why is same line start run follows =
+    (run, subst (λ w. LineOf Touched start run event (Refused w) run) (sym is) (line start run follows), subst (λ c. Follows c start run) (sym same) follows)
+
+pub begin_result : (old new : Contents) (r : Result ⊤ Refusal) → IsGrantedIn false old r new (λ _. BeginsCycle old new) → IsLine old Begin (done_reply r) new
+begin_result old new (Ok done) g = begin_line old new g.0 g.1
+begin_result old new (Err why) g = wrong_line old new Begin why g.1 g.2 (λ start run follows. LineOf.refused (sym follows.phase ∙ g.0))
+
+pub roots_result : (old new : Contents) (r : Result ⊤ Refusal) → IsGrantedIn true old r new (λ _. ReadsRoots old new) → IsLine old Roots (done_reply r) new
+roots_result old new (Ok done) g = λ start run follows. (run, LineOf.roots (sym follows.phase ∙ g.0), marks_follow (root_words_of old.roots) old new g.0 g.1.marks start run follows)
+roots_result old new (Err why) g = wrong_line old new Roots why g.1 g.2 (λ start run follows. LineOf.refused (sym follows.phase ∙ g.0))
+
+pub mark_result : (old new : Contents) (asked : ℕ) (r : Result ℕ Refusal) → IsGrantedIn true old r new (λ n. TakesWords asked old n new) → IsLine old (Mark asked) (count_reply r) new
+mark_result old new asked (Ok n) g = λ start run follows. (run, LineOf.mark (sym follows.phase ∙ g.0) g.1.most, marks_follow [] old new g.0 g.1.marks start run follows)
+mark_result old new asked (Err why) g = wrong_line old new (Mark asked) why g.1 g.2 (λ start run follows. LineOf.refused (sym follows.phase ∙ g.0))
+
+one_page : (old new : Contents) (n : ℕ) → ReadsPage old new n → n ≤ 1
+one_page old new n (ReadsPage.none clean same) = omega arith
+one_page old new n (ReadsPage.page p reads) = omega arith
+
+pub retrace_result : (old new : Contents) (r : Result ℕ Refusal) → IsGrantedIn true old r new (λ n. RetracesPage old n new) → IsLine old Retrace (count_reply r) new
+retrace_result old new (Ok n) g = λ start run follows. (run, LineOf.retrace (sym follows.phase ∙ g.0) (one_page old new n g.1.reads), marks_follow [] old new g.0 g.1.marks start run follows)
+retrace_result old new (Err why) g = wrong_line old new Retrace why g.1 g.2 (λ start run follows. LineOf.refused (sym follows.phase ∙ g.0))
+
+pub finish_result : (old new : Contents) (r : Result ℕ Refusal) → IsGrantedIn true old r new (λ n. EndsCycle old n new) → IsLine old Finish (count_reply r) new
+finish_result old new (Ok n) g = finish_line old new n g.0 g.1
+finish_result old new (Err why) g = wrong_line old new Finish why g.1 g.2 (λ start run follows. LineOf.refused (sym follows.phase ∙ g.0))
+
+pub collect_result : (old new : Contents) (r : Result ℕ Refusal) → IsAlwaysGranted r (λ n. CollectsAll old n new) → IsLine old Collect (count_reply r) new
+collect_result old new (Ok n) g = collect_line old new n g
+collect_result old new (Err why) g = absurd g
+
+pub sweep_result : (old new : Contents) (r : Result ℕ Refusal) → IsAlwaysGranted r (λ n. SweepsOne old n new) → IsLine old Sweep (count_reply r) new
+sweep_result old new (Ok n) g = λ start run follows. (
+  run,
+  LineOf.sweep g.few,
+  record {
+    stands = g.stands (heap_after start run) follows.stands;
+    phase = ap (λ (y : Cycle). y.is_marking) g.cycle ∙ follows.phase;
+    count = ap (λ (y : Cycle). y.count) g.cycle ∙ follows.count;
+    small = subst (λ (y : Cycle). y.count < word_end) (sym g.cycle) follows.small;
+    touched = λ is base o has marked. follows.touched (ap (λ (y : Cycle). y.is_marking) (sym g.cycle) ∙ is) base o has (subst (λ (y : Cycle). IsMarked y.marking base) g.cycle marked);
+  },
+)
+sweep_result old new (Err why) g = absurd g
+
+pub number_line : (c : Contents) → IsLine c Number (Count c.cycle.count) c
+number_line c start run follows = (run, subst (λ n. LineOf Touched start run Number (Count n) run) (sym follows.count) LineOf.number, follows)
+
+-- One line more.
+transcript_more : (start : Start) {run mid last : Run} {lines : List Told} → LegalTranscript Touched start run lines mid → (event : Event) (reply : Reply) → LineOf Touched start mid event reply last → LegalTranscript Touched start run (lines ++ record { event = event; reply = reply } ∷ []) last
+transcript_more start LegalTranscript.ends event reply line = LegalTranscript.on line LegalTranscript.ends
+transcript_more start (LegalTranscript.on first rest) event reply line = LegalTranscript.on first (transcript_more start rest event reply line)
+
+pub no_lines : (c : Contents) → AreLines c [] c
+no_lines c start run follows = (run, LegalTranscript.ends, follows)
+
+pub lines_more : (old mid new : Contents) (lines : List Told) (event : Event) (reply : Reply) → AreLines old lines mid → IsLine mid event reply new → AreLines old (lines ++ record { event = event; reply = reply } ∷ []) new
+lines_more old mid new lines event reply so line start run follows =
+    let a = so start run follows in let b = line start a.0 a.2 in
+    (b.0, transcript_more start a.1 event reply b.1, b.2)
+
+-- one event and reply more
+told_more : (events : List Event) (replies : List Reply) (event : Event) (reply : Reply) → length events ≡ length replies → told_of (events ++ event ∷ []) (replies ++ reply ∷ []) ≡ told_of events replies ++ record { event = event; reply = reply } ∷ []
+told_more [] [] event reply same = refl
+told_more [] (r ∷ replies) event reply same = absurd (omega arith)
+told_more (e ∷ events) [] event reply same = absurd (omega arith)
+told_more (e ∷ events) (r ∷ replies) event reply same = ap (λ xs. record { event = e; reply = r } ∷ xs) (told_more events replies event reply (omega arith))
+
+pub run_more : (old mid new : Contents) (events : List Event) (replies : List Reply) (i : ℕ) (event : Event) (reply : Reply) → i < length events → length events ≡ length replies → event ≡ get_or events i event
+    → AreLines old (told_of (take i events) (take i replies)) mid → IsLine mid event reply new → AreLines old (told_of (take (i + 1) events) (take (i + 1) (set replies i reply))) new
+run_more old mid new events replies i event reply lt same is so next =
+    subst (λ lines. AreLines old lines new) (sym lists) (lines_more old mid new (told_of (take i events) (take i replies)) event reply so next)
+  where
+    lists : told_of (take (i + 1) events) (take (i + 1) (set replies i reply)) ≡ told_of (take i events) (take i replies) ++ record { event = event; reply = reply } ∷ []
+    lists =
+        ap (λ es. told_of es (take (i + 1) (set replies i reply))) (take_more events i event lt ∙ ap (λ e. take i events ++ e ∷ []) (sym is))
+        ∙ ap (λ rs. told_of (take i events ++ event ∷ []) rs) (take_more_set replies i reply (omega arith))
+        ∙ told_more (take i events) (take i replies) event reply (length-take-le i events (omega arith) ∙ sym (length-take-le i replies (omega arith)))
+
+pub run_all : (old new : Contents) (events : List Event) (replies : List Reply) (i : ℕ) → length events ≤ i → length events ≡ length replies → AreLines old (told_of (take i events) (take i replies)) new → AreLines old (told_of events replies) new
+run_all old new events replies i all same lines =
+    subst (λ rs. AreLines old (told_of events rs) new) (take_all i replies (omega arith)) (subst (λ es. AreLines old (told_of es (take i replies)) new) (take_all i events all) lines)
+
+-- From any heap that the core stands for, with its phase and its count.
+pub follows_start : (c : Contents) (s : Heap) → StandsFor c s → c.cycle.count < word_end → Follows c (record { heap = s; marking = c.cycle.is_marking; count = c.cycle.count }) []
+follows_start c s h small = record { stands = h; phase = refl; count = refl; small = small; touched = λ is base o has marked. is }

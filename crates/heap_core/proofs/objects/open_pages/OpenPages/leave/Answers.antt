@@ -1,6 +1,0 @@
-use Rattle.std.proofs.Common.{false}
-use Rattle.heap_core.proofs.OpenRows.{bit_set}
-use Rattle.heap_core.proofs.objects.open_pages.OpenPages.leave.Goals as goal
-
-pub returns : goal.returns
-returns c = rw (← c.self.view_is) (bit_set _ _ _ _ _ _ false c.number_of.ensures.listed c.number_of.ensures.number (rw (← c.self.view_is) at c.requires) c.clear_bit.ensures.rows)

@@ -1,0 +1,6 @@
+use Rattle.heap_core.proofs.AsObject.{line_stays}
+use Rattle.heap_core.proofs.Following.{retrace_result}
+use Rattle.heap_core.proofs.quiet.RetraceQuietCore.run.Goals as goal
+
+pub returns-clause-keeps : goal.returns-clause-keeps
+returns-clause-keeps c = line_stays _ _ _ _ tt (retrace_result _ _ _ c.retrace.ensures)

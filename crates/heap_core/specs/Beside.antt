@@ -1,0 +1,34 @@
+-- What calls of mutators tell the marker, while a cycle is marking.
+use Rattle.std.specs.Prelude.{◌≡◌, ◌≢◌, ℕ, ◌⊎◌, Bool, true, false, slice_index_or, List, length, Option, Some}
+use Rattle.words.specs.Bits.{Has}
+use Rattle.mark_bits.specs.Granules.{granule}
+use Rattle.pages.specs.Memory.{with_word_at}
+use Rattle.block_map.specs.declared.found.Found.{Found}
+use Rattle.block_map.specs.Changes.{IsAdded}
+use Rattle.block_map.specs.Objects.{IsMap}
+use Rattle.block_map.specs.Places.{page_of}
+use Rattle.marker.specs.Marking.{Marking, IsMarked}
+use Rattle.marker.specs.Invariant.{DirtyPageInvariant}
+use Rattle.marker.specs.Mutations.{KeepsWords, HasZeroWords}
+
+-- A word was written at the address: its page at most has become dirty, and the invariant stays.
+pub record NotesWrite (is_marking : Bool) (address : ℕ) (old new : Marking) : Type 0 where
+  pub marks : new.marks ≡ old.marks
+  pub dirty_len : length new.dirty ≡ length old.dirty
+  pub dirty : (p : ℕ) → Has new.dirty p → Has old.dirty p ⊎ (p ≡ page_of address)
+  pub stays_dirty : (p : ℕ) → Has old.dirty p → Has new.dirty p
+  pub current : new.current ≡ old.current
+  pub stack : new.stack ≡ old.stack
+  pub keeps : is_marking ≡ true → (found : ℕ → Option Found) (words : List ℕ) (w : ℕ) → DirtyPageInvariant found words old → DirtyPageInvariant found (with_word_at words address w) new
+
+-- An object of zero words came at the base: it at most has become marked, and the invariant stays.
+pub record NotesObject (is_marking : Bool) (base : ℕ) (old new : Marking) : Type 0 where
+  pub marks : (b : ℕ) → IsMarked new b → IsMarked old b ⊎ (granule b ≡ granule base)
+  pub others : (k : ℕ) → k ≢ granule base → slice_index_or new.marks k false ≡ slice_index_or old.marks k false
+  pub stays : (k : ℕ) → Has old.marks k → Has new.marks k
+  pub marked : is_marking ≡ true → IsMarked new base
+  pub dirty : new.dirty ≡ old.dirty
+  pub current : new.current ≡ old.current
+  pub stack : new.stack ≡ old.stack
+  pub keeps : is_marking ≡ true → (pages : ℕ) (found after : ℕ → Option Found) (words words' : List ℕ) (f : Found) → f.base ≡ base → IsMap pages after → after base ≡ Some f → IsAdded found after f → KeepsWords found words words' → HasZeroWords words' f
+      → DirtyPageInvariant found words old → DirtyPageInvariant after words' new

@@ -1,0 +1,105 @@
+-- What calls of the collector do to a core.
+use Rattle.std.specs.Prelude.{◌≡◌, ℕ, ◌+◌, ◌%◌, ◌<◌, ◌≤◌, Bool, true, false, List, [], length, count_by, Contains, Result, Ok, Err, if◌then◌else◌}
+use Rattle.words.specs.declared.refusal.Refusal.{Refusal}
+use Rattle.words.specs.declared.refusal.Refusal.TheVariants.{WrongPhase}
+use Rattle.heap_spec.specs.declared.reply.Reply.{Reply}
+use Rattle.heap_spec.specs.declared.reply.Reply.TheVariants.{Count}
+use Rattle.heap_spec.specs.Layout.{word_end}
+use Rattle.heap_spec.specs.Heap.{Heap, Object, HasObject}
+use Rattle.heap_spec.specs.Closure.{Closure}
+use Rattle.heap_spec.specs.Cycles.{TakesOut, CollectsFully}
+use Rattle.marker.specs.Marking.{IsMarked, IsFresh, IsEmpty, IsClean}
+use Rattle.marker.specs.Invariant.{AreRootsMarked}
+use Rattle.marker.specs.Growth.{Traces}
+use Rattle.marker.specs.Entries.{Takes, TakesOff}
+use Rattle.marker.specs.Retracing.{Retraces}
+use Rattle.reachability.specs.Shows.{IsMarkedBirth}
+use Rattle.roots.specs.Roots.{root_words_of}
+use Rattle.object_space.specs.Store.{IsSwept}
+use Rattle.heap_core.specs.Contents.{Contents}
+use Rattle.object_space.specs.Kept.{IsPendingAfter}
+use Rattle.block_map.specs.FoundIn.{found_in}
+use Rattle.heap_core.specs.Standing.{StandsFor}
+
+-- A call of the collector in one phase alone: granted exactly in that phase, refused in the other, and refused it changes
+-- nothing.
+abbrev pub IsGrantedIn : {A : Type 0} → Bool → Contents → Result A Refusal → Contents → (A → Type 0) → Type 0
+IsGrantedIn phase old (Ok x) new P = (old.cycle.is_marking ≡ phase) × P x
+IsGrantedIn phase old (Err refusal) new P = (old.cycle.is_marking ≡ (if phase then false else true)) × (refusal ≡ WrongPhase) × (new ≡ old)
+
+-- A call of the collector in any phase is granted.
+abbrev pub IsAlwaysGranted : {A : Type 0} → Result A Refusal → (A → Type 0) → Type 0
+IsAlwaysGranted (Ok x) P = P x
+IsAlwaysGranted (Err refusal) P = ⊥
+
+-- A cycle begins: the core is marking, with no mark, no dirty page, no entry, and nothing to be swept.
+pub record BeginsCycle (old new : Contents) : Type 0 where
+  pub stands : (s : Heap) → StandsFor old s → StandsFor new s
+  pub phase : new.cycle.is_marking ≡ true
+  pub count : new.cycle.count ≡ old.cycle.count
+  pub fresh : IsFresh (length old.store.states) new.cycle.marking
+  pub swept : IsSwept new.store
+
+-- The marker went on, with these roots. The core stands for what it stood for, in the same phase and with the same count;
+-- only objects of the closure of the marks before are marked, and only pages of newly marked ones have become dirty.
+pub record MarksOn (roots : List ℕ) (old new : Contents) : Type 0 where
+  pub stands : (s : Heap) → StandsFor old s → StandsFor new s
+  pub phase : new.cycle.is_marking ≡ old.cycle.is_marking
+  pub count : new.cycle.count ≡ old.cycle.count
+  pub within : (s : Heap) → StandsFor old s → (base : ℕ) (o : Object) → HasObject s base o → IsMarked new.cycle.marking base → Closure s (IsMarkedBirth s old.cycle.marking) base
+  pub traces : Traces (found_in old.store.states) old.store.words roots old.cycle.marking new.cycle.marking
+
+-- The roots were read: what they read is marked.
+pub record ReadsRoots (old new : Contents) : Type 0 where
+  pub marks : MarksOn (root_words_of old.roots) old new
+  pub roots : AreRootsMarked (found_in old.store.states) (root_words_of old.roots) new.cycle.marking
+
+-- So many words were taken off the entries, at most as many as were asked for, and fewer only if no entry is left.
+pub record TakesWords (asked : ℕ) (old : Contents) (n : ℕ) (new : Contents) : Type 0 where
+  pub marks : MarksOn [] old new
+  pub most : n ≤ asked
+  pub fewer : n < asked → IsEmpty new.cycle.marking
+  pub takes : Takes (found_in old.store.states) old.store.words old.cycle.marking n new.cycle.marking
+  pub taken : TakesOff (found_in old.store.states) old.store.words old.cycle.marking new.cycle.marking
+
+-- A page was read again, the lowest that was dirty, or none was dirty and nothing has changed.
+pub data ReadsPage (old new : Contents) : ℕ → Type 0 where
+  none : IsClean old.cycle.marking → new ≡ old → ReadsPage old new 0
+  page : (p : ℕ) → Retraces (found_in old.store.states) old.store.words p old.cycle.marking new.cycle.marking → ReadsPage old new 1
+
+pub record RetracesPage (old : Contents) (n : ℕ) (new : Contents) : Type 0 where
+  pub marks : MarksOn [] old new
+  pub reads : ReadsPage old new n
+
+-- Exactly the objects outside of the closure of these births go. None of them is reached.
+pub record ForgetsOutside (s : Heap) (births : ℕ → Type 0) (reply : Reply) (s' : Heap) : Type 0 where
+  pub bases : List ℕ
+  pub takes : TakesOut s bases reply s'
+  pub outside : (base : ℕ) → Contains bases base → Closure s births base → ⊥
+  pub all : (base : ℕ) (o : Object) → HasObject s base o → (Closure s births base → ⊥) → Contains bases base
+
+-- The marking has ended, and one collection more is counted.
+pub record EndsMarking (old new : Contents) : Type 0 where
+  pub phase : new.cycle.is_marking ≡ false
+  pub count : new.cycle.count ≡ (old.cycle.count + 1) % word_end
+
+-- A cycle ends: exactly the objects outside of the closure of the marks go, so many. The pages that are still to be swept
+-- are then the blocks with an unmarked allocated object.
+pub record EndsCycle (old : Contents) (n : ℕ) (new : Contents) : Type 0 where
+  pub ends : EndsMarking old new
+  pub forgets : (s : Heap) → StandsFor old s → (s' : Heap) × ForgetsOutside s (IsMarkedBirth s old.cycle.marking) (Count n) s' × StandsFor new s'
+  pub pending : IsPendingAfter new.store.states new.cycle.marking.marks new.store.pending
+
+-- A full collection: exactly the objects that are not reached go, so many, and nothing is left to be swept.
+pub record CollectsAll (old : Contents) (n : ℕ) (new : Contents) : Type 0 where
+  pub ends : EndsMarking old new
+  pub swept : IsSwept new.store
+  pub collects : (s : Heap) → StandsFor old s → (s' : Heap) × CollectsFully s (Count n) s' × StandsFor new s'
+
+-- One page was swept if one was to be swept, and then one fewer is. The core stands for what it stood for.
+pub record SweepsOne (old : Contents) (n : ℕ) (new : Contents) : Type 0 where
+  pub stands : (s : Heap) → StandsFor old s → StandsFor new s
+  pub cycle : new.cycle ≡ old.cycle
+  pub few : n ≤ 1
+  pub fewer : count_by (λ b. b) new.store.pending + n ≡ count_by (λ b. b) old.store.pending
+  pub none : n ≡ 0 → IsSwept old.store

@@ -1,0 +1,34 @@
+-- A core and a run of the heap.
+use Rattle.std.specs.Prelude.{◌≡◌, ℕ, ◌<◌, true, List, [], ◌∷◌}
+use Rattle.heap_spec.specs.Layout.{word_end}
+use Rattle.heap_spec.specs.declared.event.Event.{Event}
+use Rattle.heap_spec.specs.declared.reply.Reply.{Reply}
+use Rattle.heap_spec.specs.Heap.{Object, HasObject}
+use Rattle.heap_spec.specs.Runs.{Start, Run, Told, heap_after, is_marking, count, Touched}
+use Rattle.heap_spec.specs.Transcripts.{LineOf, LegalTranscript}
+use Rattle.marker.specs.Marking.{IsMarked}
+use Rattle.heap_core.specs.Contents.{Contents}
+use Rattle.heap_core.specs.Standing.{StandsFor}
+
+-- The core is where the run has led: it stands for the heap after it, in its phase and with its count, and while marking
+-- each marked object is touched.
+pub record Follows (c : Contents) (start : Start) (run : Run) : Type 0 where
+  pub stands : StandsFor c (heap_after start run)
+  pub phase : c.cycle.is_marking ≡ is_marking start run
+  pub count : c.cycle.count ≡ count start run
+  pub small : c.cycle.count < word_end
+  pub touched : c.cycle.is_marking ≡ true → (base : ℕ) (o : Object) → HasObject (heap_after start run) base o → IsMarked c.cycle.marking base → Touched start run o.birth
+
+-- From each run that the core followed, the event with its reply is a line of a legal transcript to one that it follows.
+abbrev pub IsLine : Contents → Event → Reply → Contents → Type 0
+IsLine old event reply new = (start : Start) (run : Run) → Follows old start run → (next : Run) × LineOf Touched start run event reply next × Follows new start next
+
+-- the events with their replies
+abbrev pub told_of : List Event → List Reply → List Told
+told_of [] replies = []
+told_of (event ∷ events) [] = []
+told_of (event ∷ events) (reply ∷ replies) = record { event = event; reply = reply } ∷ told_of events replies
+
+-- The same of many events with their replies.
+abbrev pub AreLines : Contents → List Told → Contents → Type 0
+AreLines old lines new = (start : Start) (run : Run) → Follows old start run → (last : Run) × LegalTranscript Touched start run lines last × Follows new start last

@@ -1,0 +1,120 @@
+//! The calls of the collector. Each is refused with [`Refusal::WrongPhase`] exactly in the wrong phase, and then changes
+//! nothing.
+ghost use Rattle.std.specs.Prelude.{◌≡◌, true, false, MatchResult, ⊤};
+ghost use Rattle.block_map.specs.FoundIn.{found_in};
+ghost use Rattle.marker.specs.Invariant.{DirtyPageInvariant};
+ghost use Rattle.heap_core.specs.Collections.{IsGrantedIn, IsAlwaysGranted, BeginsCycle, ReadsRoots, TakesWords, RetracesPage, EndsCycle, CollectsAll, SweepsOne};
+
+use super::Core;
+use words::Refusal;
+
+impl Core {
+    /// Whether a cycle is marking. The dirty-page invariant holds then.
+    pub fn is_marking(&self) -> bool
+        ensures phase { result ≡ self.now.cycle.is_marking }
+        ensures invariant { self.now.cycle.is_marking ≡ true → DirtyPageInvariant (found_in self.now.store.states) self.now.store.words self.now.cycle.marking }
+    {
+        let _marker = &self.marker;
+        self.is_marking
+    }
+
+    /// Begins a cycle.
+    pub fn begin(&mut self) -> Result<(), Refusal>
+        ensures { IsGrantedIn false self.old result self.new (λ _. BeginsCycle self.old self.new) }
+    {
+        if self.is_marking {
+            return Err(Refusal::WrongPhase);
+        }
+        self.objects.sweep_all(&self.marker);
+        self.marker.begin();
+        self.is_marking = true;
+        Ok(())
+    }
+
+    /// Marks what root words read.
+    pub fn roots(&mut self) -> Result<(), Refusal>
+        ensures { IsGrantedIn true self.old result self.new (λ _. ReadsRoots self.old self.new) }
+    {
+        if !self.is_marking {
+            return Err(Refusal::WrongPhase);
+        }
+        self.roots.write_words(&mut self.root_words);
+        self.objects
+            .mark_roots(&mut self.marker, self.root_words.as_slice());
+        Ok(())
+    }
+
+    /// Reads words of entries, at most so many, and answers how many.
+    pub fn mark(&mut self, most: u64) -> Result<u64, Refusal>
+        ensures { IsGrantedIn true self.old result self.new (λ n. TakesWords most self.old n self.new) }
+    {
+        if !self.is_marking {
+            return Err(Refusal::WrongPhase);
+        }
+        let marked = self.objects.mark(&mut self.marker, most);
+        Ok(marked.read)
+    }
+
+    /// Reads the lowest dirty page again. Answers 1, or 0 where no page is dirty.
+    pub fn retrace(&mut self) -> Result<u64, Refusal>
+        ensures { IsGrantedIn true self.old result self.new (λ n. RetracesPage self.old n self.new) }
+    {
+        if !self.is_marking {
+            return Err(Refusal::WrongPhase);
+        }
+        let Some(_) = self.objects.retrace(&mut self.marker) else {
+            return Ok(0);
+        };
+        Ok(1)
+    }
+
+    /// Ends the cycle: marks on until nothing is left to read, and forgets the objects that aren't marked. Answers how many.
+    pub fn finish(&mut self) -> Result<u64, Refusal>
+        ensures { IsGrantedIn true self.old result self.new (λ n. EndsCycle self.old n self.new) }
+    {
+        if !self.is_marking {
+            return Err(Refusal::WrongPhase);
+        }
+        self.roots.write_words(&mut self.root_words);
+        let count = self
+            .objects
+            .finish(&mut self.marker, self.root_words.as_slice());
+        self.is_marking = false;
+        self.count = self.count.wrapping_add(1);
+        Ok(count)
+    }
+
+    /// Drops a cycle that is marking, and forgets exactly the objects that aren't reached. Answers how many. It is never
+    /// refused.
+    pub fn collect(&mut self) -> Result<u64, Refusal>
+        ensures { IsAlwaysGranted result (λ n. CollectsAll self.old n self.new) }
+    {
+        self.objects.sweep_all(&self.marker);
+        self.marker.begin();
+        self.roots.write_words(&mut self.root_words);
+        let count = self
+            .objects
+            .collect(&mut self.marker, self.root_words.as_slice());
+        self.is_marking = false;
+        self.count = self.count.wrapping_add(1);
+        Ok(count)
+    }
+
+    /// Sweeps one page, if one is still to be swept. Answers 1 if one was, and else 0. It is never refused.
+    pub fn sweep(&mut self) -> Result<u64, Refusal>
+        ensures { IsAlwaysGranted result (λ n. SweepsOne self.old n self.new) }
+    {
+        if self.objects.sweep(&self.marker) {
+            Ok(1)
+        } else {
+            Ok(0)
+        }
+    }
+
+    /// How many collections were granted, modulo 2^64.
+    pub fn gc_no(&self) -> u64
+        ensures { result ≡ self.now.cycle.count }
+    {
+        self.count
+    }
+}

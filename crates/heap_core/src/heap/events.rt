@@ -1,0 +1,99 @@
+//! Events: each call of the core as one event with its reply, and lists of them.
+ghost use Rattle.std.specs.Prelude.{◌≡◌, length};
+ghost use Rattle.heap_spec.specs.Replies.{count_reply, done_reply, slot_reply, word_reply};
+ghost use Rattle.heap_core.specs.Calls.{IsCall};
+ghost use Rattle.heap_core.specs.Following.{IsLine, AreLines, told_of};
+
+use super::Core;
+use heap_spec::{Call, Event, Reply};
+use words::{Refusal, Slot};
+
+fn done(answer: Result<(), Refusal>) -> Reply
+    ensures { result ≡ done_reply answer }
+{
+    match answer {
+        Ok(()) => Reply::Done,
+        Err(refusal) => Reply::Refused(refusal),
+    }
+}
+
+fn word(answer: Result<u64, Refusal>) -> Reply
+    ensures { result ≡ word_reply answer }
+{
+    match answer {
+        Ok(word) => Reply::Word(word),
+        Err(refusal) => Reply::Refused(refusal),
+    }
+}
+
+fn count(answer: Result<u64, Refusal>) -> Reply
+    ensures { result ≡ count_reply answer }
+{
+    match answer {
+        Ok(count) => Reply::Count(count),
+        Err(refusal) => Reply::Refused(refusal),
+    }
+}
+
+fn slot_of(answer: Result<Slot, Refusal>) -> Reply
+    ensures { result ≡ slot_reply answer }
+{
+    match answer {
+        Ok(slot) => Reply::Slot(slot),
+        Err(refusal) => Reply::Refused(refusal),
+    }
+}
+
+impl Core {
+    // Makes a call of a slot.
+    fn serve_call(&mut self, slot: Slot, call: Call) -> Reply
+        ensures { IsCall self.old (Event.Mutator slot call) result self.new }
+    {
+        match call {
+            Call::Detach => done(self.detach(slot)),
+            Call::Set(register, word) => done(self.set(slot, register, word)),
+            Call::Copy(into, from) => done(self.copy(slot, into, from)),
+            Call::Add(into, from, number) => done(self.add(slot, into, from, number)),
+            Call::Sub(into, from, less) => done(self.sub(slot, into, from, less)),
+            Call::Get(register) => word(self.get(slot, register)),
+            Call::Push(from) => done(self.push(slot, from)),
+            Call::Pop(into) => word(self.pop(slot, into)),
+            Call::Load(into, at, offset) => word(self.load(slot, into, at, offset)),
+            Call::Store(at, offset, from) => done(self.store(slot, at, offset, from)),
+            Call::Alloc(into, words, kind) => done(self.alloc(slot, into, words, kind)),
+            Call::Free(register) => done(self.free(slot, register)),
+            Call::Base(into, from) => word(self.base(slot, into, from)),
+            Call::Size(register) => count(self.size(slot, register)),
+            Call::GlobalGet(into, global) => word(self.gget(slot, into, global)),
+            Call::GlobalPut(global, from) => done(self.gput(slot, global, from)),
+        }
+    }
+
+    /// Makes the call that an event is.
+    pub fn act(&mut self, event: Event) -> Reply
+        ensures { IsLine self.old event result self.new }
+    {
+        match event {
+            Event::Attach => slot_of(self.attach()),
+            Event::Mutator(slot, call) => self.serve_call(slot, call),
+            Event::Begin => done(self.begin()),
+            Event::Roots => done(self.roots()),
+            Event::Mark(most) => count(self.mark(most)),
+            Event::Retrace => count(self.retrace()),
+            Event::Finish => count(self.finish()),
+            Event::Sweep => count(self.sweep()),
+            Event::Collect => count(self.collect()),
+            Event::Number => Reply::Count(self.gc_no()),
+        }
+    }
+
+    /// Makes the calls that these events are, and writes their replies.
+    pub fn run(&mut self, events: &[Event], out: &mut [Reply])
+        requires { length events.now ≡ length out.old }
+        ensures { AreLines self.old (told_of events.now out.new) self.new }
+    {
+        for i in 0..events.len() {
+            out[i] = self.act(events[i]);
+        }
+    }
+}

@@ -1,0 +1,71 @@
+//! The collector's small steps as work that is no event of a history. Each is that one call of the core.
+use crate::heap::Core;
+use history::Quiet;
+use words::Refusal;
+
+/// [`Core::roots`]: marks what root words read.
+#[derive(Drop)]
+pub struct Roots;
+
+impl Quiet<Core> for Roots {
+    type Answer = Result<(), Refusal>;
+
+    ghost use Rattle.std.specs.Prelude.{true};
+    ghost use Rattle.heap_core.specs.Collections.{IsGrantedIn, ReadsRoots};
+
+    ghost gives = { λ work old answer after new. IsGrantedIn true old answer new (λ _. ReadsRoots old new) };
+
+    fn run(&mut self, object: &mut Core) -> Result<(), Refusal> {
+        object.roots()
+    }
+}
+
+/// [`Core::mark`]: reads words of entries, at most so many, and answers how many.
+#[derive(Drop)]
+pub struct Mark(pub u64);
+
+impl Quiet<Core> for Mark {
+    type Answer = Result<u64, Refusal>;
+
+    ghost use Rattle.std.specs.Prelude.{◌≡◌, true};
+    ghost use Rattle.heap_core.specs.Collections.{IsGrantedIn, TakesWords};
+
+    ghost gives = { λ work old answer after new. (after ≡ work) × IsGrantedIn true old answer new (λ n. TakesWords work.0 old n new) };
+
+    fn run(&mut self, object: &mut Core) -> Result<u64, Refusal> {
+        object.mark(self.0)
+    }
+}
+
+/// [`Core::retrace`]: reads the lowest dirty page again. Answers 1, or 0 where no page is dirty.
+#[derive(Drop)]
+pub struct Retrace;
+
+impl Quiet<Core> for Retrace {
+    type Answer = Result<u64, Refusal>;
+
+    ghost use Rattle.std.specs.Prelude.{true};
+    ghost use Rattle.heap_core.specs.Collections.{IsGrantedIn, RetracesPage};
+
+    ghost gives = { λ work old answer after new. IsGrantedIn true old answer new (λ n. RetracesPage old n new) };
+
+    fn run(&mut self, object: &mut Core) -> Result<u64, Refusal> {
+        object.retrace()
+    }
+}
+
+/// [`Core::sweep`]: sweeps one page, if one is still to be swept. Answers 1 if one was, and else 0.
+#[derive(Drop)]
+pub struct Sweep;
+
+impl Quiet<Core> for Sweep {
+    type Answer = Result<u64, Refusal>;
+
+    ghost use Rattle.heap_core.specs.Collections.{IsAlwaysGranted, SweepsOne};
+
+    ghost gives = { λ work old answer after new. IsAlwaysGranted answer (λ n. SweepsOne old n new) };
+
+    fn run(&mut self, object: &mut Core) -> Result<u64, Refusal> {
+        object.sweep()
+    }
+}

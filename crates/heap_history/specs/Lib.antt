@@ -1,0 +1,5 @@
+pub mod Ranks
+pub mod Passes
+pub mod Headline
+pub mod Replies
+pub mod Laws

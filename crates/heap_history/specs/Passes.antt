@@ -1,0 +1,44 @@
+-- The passes of a heap's mutators and of its collector.
+use Rattle.std.specs.Prelude.{◌≡◌, ℕ, ◌<◌, Bool, false, List, [], ◌∷◌}
+use Rattle.words.specs.declared.limits.TheConstants.{SLOTS}
+use Rattle.history.specs.declared.view.Known.{Known}
+use Rattle.history.specs.declared.event.Event.{Event as Made}
+use Rattle.history.specs.Histories.{is_first}
+use Rattle.history.specs.Passes.{Agrees}
+use Rattle.heap_spec.specs.declared.event.Event.{Event}
+use Rattle.heap_spec.specs.declared.reply.Reply.{Reply}
+use Rattle.heap_spec.specs.Runs.{marking_after}
+use Rattle.heap_spec.specs.SequentialObject.{Opens, StateStep}
+use Rattle.heap_history.specs.Ranks.{rank_of}
+
+-- an event of a history: who made it, what was asked, and what was answered
+abbrev pub Entry : Type 0
+Entry = Made Event Reply
+
+-- what a pass knows: its slot, the history that it has seen, and its own events in it
+abbrev pub HeapPass : Type 0
+HeapPass = Known Event Reply
+
+-- What holds of a pass between any two calls: what it has seen is a legal history of a heap of so many pages, in which its own events
+-- are exactly those of its slot since its attach.
+abbrev pub IsFine : ℕ → HeapPass → Type 0
+IsFine pages pass = Agrees rank_of (Opens pages) StateStep pass
+
+-- whether a cycle is marking after these events, from whether one was before
+abbrev pub marking_from : Bool → List Entry → Bool
+marking_from b [] = b
+marking_from b (e ∷ es) = marking_from (marking_after e.call b) es
+
+-- a cycle is marking after the collector's own events
+abbrev pub is_marking : List Entry → Bool
+is_marking es = marking_from false es
+
+-- the events begin with an attach
+abbrev pub begins : List Entry → Bool
+begins [] = false
+begins (e ∷ es) = is_first (rank_of e.call)
+
+-- a mutator's pass
+pub record IsMutator (slot : ℕ) (pass : HeapPass) : Type 0 where
+  pub slot_is : pass.slot ≡ slot
+  pub range : slot < SLOTS

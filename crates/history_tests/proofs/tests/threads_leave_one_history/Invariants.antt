@@ -1,5 +1,0 @@
-use Rattle.history_tests.proofs.tests.threads_leave_one_history.Given as goal
-
--- the table that was just opened
-abbrev pub ghosts-add_in_threads : goal.ghosts-add_in_threads
-ghosts-add_in_threads g a = record { table = a.opened.table }

@@ -1,9 +1,0 @@
-use Rattle.std.proofs.Common.{◌≡◌, ◌+◌, All, vec_len}
-use Rattle.mark_bits.specs.Tables.{view, IsOf}
-use Rattle.mark_bits_tests.specs.Crew.{IsReady}
-use Rattle.mark_bits_tests.proofs.hire.Given as goal
-
-abbrev pub invariant-loop : goal.invariant-loop
-invariant-loop l =
-    IsOf l.table l.first × All (λ h. IsReady l.table h) l.crew.items × (vec_len l.crew ≡ l.counter)
-    × (vec_len l.crew + (view l.first).parts ≡ (view l.initial.first).parts)

@@ -1,0 +1,159 @@
+-- Entries are dropped.
+use Rattle.std.proofs.Common.{◌≡◌, ℕ, ◌+◌, ◌-◌, ◌<◌, ◌≤◌, List, [], ◌∷◌, ◌++◌, length, get_or, sum_by, Contains, Option, Some, None, refl, sym, ap, ◌∙◌, subst, inl, inr, ⊎_elim, append_assoc, append-nil, length-append, arith}
+use Rattle.std.specs.Prelude.{◌⊎◌, option_to_list}
+use Rattle.std.proofs.lemmas.Option.{same_Some}
+use Rattle.std.proofs.lemmas.Bool.{cases_eq}
+use Rattle.std.proofs.lemmas.List.Sums.{sum_by-append}
+use Rattle.std.proofs.lemmas.List.Elements.{Contains-append_cases, Contains-append_left, Contains-push}
+use Rattle.std.proofs.lemmas.List.{same_from_push, length_push, get_or_push}
+use Rattle.std.proofs.lemmas.List.{get_or-append-add}
+use Rattle.words.specs.Bits.{Has}
+use Rattle.mark_bits.specs.Granules.{granule}
+use Rattle.block_map.specs.declared.found.Found.{Found}
+use Rattle.block_map.specs.Places.{page_of}
+use Rattle.marker.specs.declared.entry.Entry.{Entry}
+use Rattle.marker.specs.Marking.{Marking, IsEntry, IsPending, entries, word_address}
+use Rattle.marker.specs.Work.{left, left_of, page_words, unmarked_from, cost}
+use Rattle.marker.specs.Invariant.{DirtyPageInvariant}
+use Rattle.marker.specs.Closure.{held}
+use Rattle.marker.specs.Growth.{Traces}
+use Rattle.marker.specs.Entries.{IsSpent, Settles, IsReadOut, TakesOff, IsBelow}
+use Rattle.marker.proofs.Growing.{below_refl}
+
+-- Entries on top that have no word to read are dropped, so far.
+pub record Drops (found : ℕ → Option Found) (old new : Marking) : Type 0 where
+  pub marks : new.marks ≡ old.marks
+  pub dirty : new.dirty ≡ old.dirty
+  pub dropped : List Entry
+  pub entries_are : entries old ≡ entries new ++ dropped
+  pub spent : (e : Entry) → Contains dropped e → IsSpent found old e
+
+none_in : (e : Entry) → Contains [] e → ⊥
+none_in e h = let l = h.1 in omega arith
+
+in_option : (o : Option Entry) (e : Entry) → Contains (option_to_list o) e → o ≡ Some e
+in_option None e h = absurd (none_in e h)
+in_option (Some x) e (k, lt, is) =
+    let z : k ≡ 0 = omega arith in
+    let y : x ≡ e = sym (ap (λ j. get_or (x ∷ []) j e) z) ∙ is in
+    ap Some y
+
+pub entry_in : (m : Marking) (e : Entry) → IsEntry m e → Contains (entries m) e
+entry_in m e one =
+    ⊎_elim (λ (c : m.current ≡ Some e). subst (λ o. Contains (m.stack ++ option_to_list o) e) (sym c) (Contains-push m.stack e))
+    (λ c. Contains-append_left m.stack (option_to_list m.current) e c) one
+
+pub in_entry : (m : Marking) (e : Entry) → Contains (entries m) e → IsEntry m e
+in_entry m e h = ⊎_elim (λ c. inr c) (λ c. inl (in_option m.current e c)) (Contains-append_cases m.stack (option_to_list m.current) e h)
+
+same_entry : (a b : Entry) → (a ≡ b) ⊎ (a ≡ b → ⊥)
+same_entry a b =
+    ⊎_elim
+    (λ (x : a.base ≡ b.base). ⊎_elim (λ (y : a.next ≡ b.next). inl (λ i. record { base = x i; next = y i })) (λ n. inr (λ e. n (ap (λ (z : Entry). z.next) e))) (cases_eq a.next b.next))
+    (λ n. inr (λ e. n (ap (λ (z : Entry). z.base) e))) (cases_eq a.base b.base)
+
+pub is_current : (o : Option Entry) (e : Entry) → (o ≡ Some e) ⊎ (o ≡ Some e → ⊥)
+is_current None e = inr (λ h. absurd (cc h))
+is_current (Some x) e = ⊎_elim (λ s. inl (ap Some s)) (λ n. inr (λ h. n (same_Some x e h))) (same_entry x e)
+
+-- the last one of a list stands in each end of it that isn't empty
+top_in : (s t d : List Entry) (e : Entry) → s ++ e ∷ [] ≡ t ++ d → 0 < length d → Contains d e
+top_in s t d e h some =
+    let l : length (s ++ e ∷ []) ≡ length (t ++ d) = ap length h in
+    let m = length_push s e in let n = length-append t d in
+    let at : length t + (length d - 1) ≡ length s = omega arith in
+    (length d - 1, omega arith, sym (get_or-append-add t d (length d - 1) e) ∙ ap (λ j. get_or (t ++ d) j e) at ∙ ap (λ y. get_or y (length s) e) (sym h) ∙ get_or_push s e e (length s) refl)
+
+left_list : (found : ℕ → Option Found) (o : Option Entry) → sum_by (left found) (option_to_list o) ≡ left_of found o
+left_list found None = refl
+left_list found (Some e) = let h : 0 + left found e ≡ left found e = omega arith in h
+
+-- what all entries have left
+entries_left : (found : ℕ → Option Found) (m : Marking) → sum_by (left found) (entries m) ≡ left_of found m.current + sum_by (left found) m.stack
+entries_left found m =
+    let a = sum_by-append (left found) m.stack (option_to_list m.current) in
+    let b = left_list found m.current in omega arith
+
+module _ (found : ℕ → Option Found) where
+  pub drops_refl : (m : Marking) → Drops found m m
+  drops_refl m = record { marks = refl; dirty = refl; dropped = []; entries_are = sym (append-nil (entries m)); spent = λ e h. absurd (none_in e h) }
+
+  -- the next entry is taken
+  pub drops_more : (a b c : Marking) → Drops found a b → c.marks ≡ b.marks → c.dirty ≡ b.dirty → b.stack ≡ entries c → ((e : Entry) → b.current ≡ Some e → IsSpent found b e) → Drops found a c
+  drops_more a b c x m d s spent = record {
+    marks = m ∙ x.marks;
+    dirty = d ∙ x.dirty;
+    dropped = option_to_list b.current ++ x.dropped;
+    entries_are = x.entries_are ∙ ap (λ l. (l ++ option_to_list b.current) ++ x.dropped) s ∙ append_assoc (entries c) (option_to_list b.current) x.dropped;
+    spent = λ e h. ⊎_elim
+        (λ k f is base n o. spent e (in_option b.current e k) f is base n (subst (λ r. Has r (granule f.base)) (sym x.marks) o))
+        (λ k. x.spent e k) (Contains-append_cases (option_to_list b.current) x.dropped e h);
+  }
+
+  pub drops_settles : (a b : Marking) → Drops found a b → (b.current ≡ None → b.stack ≡ []) → Settles found a b
+  drops_settles a b x n = record { marks = x.marks; dirty = x.dirty; dropped = x.dropped; entries_are = x.entries_are; spent = x.spent; next = n }
+
+  module _ (a b : Marking) (x : Settles found a b) where
+    pub settled_entry : (e : Entry) → IsEntry a e → IsEntry b e ⊎ IsSpent found a e
+    settled_entry e one =
+        ⊎_elim (λ h. inl (in_entry b e h)) (λ h. inr (x.spent e h))
+        (Contains-append_cases (entries b) x.dropped e (subst (λ l. Contains l e) x.entries_are (entry_in a e one)))
+
+    pub settled_cost : cost found b ≤ cost found a
+    unfolding cost
+    settled_cost =
+        let s : sum_by (left found) (entries a) ≡ sum_by (left found) (entries b) + sum_by (left found) x.dropped = ap (sum_by (left found)) x.entries_are ∙ sum_by-append (left found) (entries b) x.dropped in
+        let p = entries_left found a in let q = entries_left found b in
+        let d : sum_by page_words b.dirty ≡ sum_by page_words a.dirty = ap (sum_by page_words) x.dirty in
+        let u : unmarked_from found 0 b.marks ≡ unmarked_from found 0 a.marks = ap (unmarked_from found 0) x.marks in
+        omega arith
+
+    settled_traced : (words : List ℕ) → DirtyPageInvariant found words a → DirtyPageInvariant found words b
+    settled_traced words t f is n k i lt =
+        ⊎_elim (λ g. inl (λ o e. subst (λ y. Has y (granule o.base)) (sym x.marks) (g o e)))
+        (λ w. inr (⊎_elim (λ d. inl (subst (λ y. Has y (page_of (word_address f i))) (sym x.dirty) d))
+        (λ (p : IsPending a f.base i). ⊎_elim (λ one. inr (record { entry = p.entry; one = one; same = p.same; left = p.left }))
+        (λ (s : IsSpent found a p.entry). absurd (let l = s f is (sym p.same) n (subst (λ y. Has y (granule f.base)) x.marks k) in let q = p.left in omega arith)) (settled_entry p.entry p.one)) w))
+        (t f is n (subst (λ y. Has y (granule f.base)) x.marks k) i lt)
+
+    pub settled_traces : (words : List ℕ) → Traces found words [] a b
+    settled_traces words = record {
+      marks_len = ap length x.marks;
+      dirty_len = ap length x.dirty;
+      marks = λ d h. subst (λ y. Has y (granule d)) (sym x.marks) h;
+      objects = λ k h. inl (subst (λ y. Has y k) x.marks h);
+      within = λ f e k. held e (subst (λ y. Has y (granule f.base)) x.marks k);
+      dirtied = λ p h. inl (subst (λ y. Has y p) x.dirty h);
+      keeps = settled_traced words;
+    }
+
+    -- the entry that is being read is dropped only if it is spent
+    by_next : (o : Option Entry) (s : List Entry) (e : Entry) → a.stack ++ e ∷ [] ≡ s ++ option_to_list o → (o ≡ None → s ≡ []) → (o ≡ Some e) × (a.stack ≡ s)
+    by_next None s e h n =
+        let z : a.stack ++ e ∷ [] ≡ [] = h ∙ append-nil s ∙ n refl in
+        let l : length (a.stack ++ e ∷ []) ≡ 0 = ap length z in
+        let k = length_push a.stack e in absurd (omega arith)
+    by_next (Some y) s e h n = let p = same_from_push a.stack s e y h in (ap Some (sym p.1), p.0)
+
+    by_dropped : (d : List Entry) (e : Entry) → a.stack ++ e ∷ [] ≡ entries b ++ d → (Contains d e) ⊎ ((b.current ≡ Some e) × (a.stack ≡ b.stack))
+    by_dropped [] e h = inr (by_next b.current b.stack e (h ∙ append-nil (entries b)) x.next)
+    by_dropped (y ∷ d) e h = inl (top_in a.stack (entries b) (y ∷ d) e h (omega arith))
+
+    settled_current : (e : Entry) → a.current ≡ Some e → IsSpent found a e ⊎ ((b.current ≡ Some e) × (a.stack ≡ b.stack))
+    settled_current e c = ⊎_elim (λ h. inl (x.spent e h)) (λ s. inr s) (by_dropped x.dropped e (sym (ap (λ o. a.stack ++ option_to_list o) c) ∙ x.entries_are))
+
+    spent_out : (words : List ℕ) (e : Entry) → IsSpent found a e → IsReadOut found words a b e
+    spent_out words e p f is h n k i le lt = absurd (let l = p f is h n k in omega arith)
+
+    pub settled_taken : (words : List ℕ) → TakesOff found words a b
+    settled_taken words e one =
+        ⊎_elim
+        (λ (c : a.current ≡ Some e).
+        ⊎_elim (λ p. inr (spent_out words e p))
+        (λ (s : (b.current ≡ Some e) × (a.stack ≡ b.stack)).
+        inl (record { now = e; one = inl s.0; base = refl; further = omega arith; read = λ f is h i le lt. absurd (omega arith); first = λ _. (s.0, subst (λ l. IsBelow a.stack l) s.1 (below_refl a.stack)) }))
+        (settled_current e c))
+        (λ (not : a.current ≡ Some e → ⊥).
+        ⊎_elim (λ o. inl (record { now = e; one = o; base = refl; further = omega arith; read = λ f is h i le lt. absurd (omega arith); first = λ c. absurd (not c) }))
+        (λ p. inr (spent_out words e p)) (settled_entry e one))
+        (is_current a.current e)

@@ -1,5 +1,0 @@
-use Rattle.mpheap.proofs.Splitting.{words_nonempty}
-use Rattle.mpheap.proofs.parts.Words.is_done.Goals as goal
-
-pub returns-in-Some : goal.returns-in-Some
-returns-in-Some c = rw (← c.self.view_is, c.in-Some.is) (words_nonempty c.in-Some.field-0.now)

@@ -1,0 +1,202 @@
+-- What it is to the heap that an object goes: a cell is free again, and with the last one its page, or all pages of a large
+-- object.
+use Rattle.std.proofs.Common.{◌≡◌, ℕ, ◌+◌, ◌*◌, ◌/◌, ◌<◌, ◌≤◌, ◌⊎◌, Bool, true, false, List, length, get_or, set, Option, Some, refl, sym, ap, ◌∙◌, subst, arith, ⊎_elim, length-set, get_or-set_same, get_or-set_other}
+use Rattle.std.specs.Prelude.{◌≢◌}
+use Rattle.std.proofs.lemmas.Bool.{cases_lt, cases_eq}
+use Rattle.std.proofs.lemmas.List.{get_or_past}
+use Rattle.words.specs.Bits.{IsEmptyFrom, IsFirstFrom}
+use Rattle.words.specs.declared.class.Kind.{Kind}
+use Rattle.pages.specs.Runs.{IsFilled}
+use Rattle.blocks.specs.Cells.{Cells}
+use Rattle.block_map.specs.States.{PageState, free, cut, head, body, state_at, span_of, IsCut, IsSpanSet, HasCell, with_cell}
+use Rattle.block_map.specs.Objects.{cell_object, large_object, object_on, IsObjectOn, IsObject}
+use Rattle.block_map.specs.Changes.{IsRemoved, IsSameMap, IsUncut, HasNoObject}
+use Rattle.block_map.specs.FoundIn.{found_in, IsLawful}
+use Rattle.block_map.specs.declared.found.Found.{Found}
+use Rattle.block_map.proofs.Spans.{place_of}
+use Rattle.object_space.specs.Store.{Store, IsSound, Agree, KeepsPending, IsPendingRow}
+use Rattle.object_space.specs.Rooms.{FreesCell, EmptiesCell, keeps, gives, without_cell}
+use Rattle.object_space.specs.Sweeps.{Loses}
+
+-- pages that become free in the pool and in the map
+module _ (row row' : List Bool) (states states' : List PageState) (first n : ℕ) (given : IsFilled row row' first n true) (span : IsSpanSet states states' first n (λ _. free)) where
+  pub agree_given : length row ≡ length states → ((p : ℕ) → (p < first) ⊎ (first + n ≤ p) → get_or row p false ≡ true → state_at states p ≡ free)
+      → ((p : ℕ) → (p < first) ⊎ (first + n ≤ p) → p < length states → state_at states p ≡ free → get_or row p false ≡ true) → Agree row' states'
+  agree_given size to from = record {
+    size = given.size ∙ size ∙ sym span.size;
+    free_in_map = λ p is. ⊎_elim (λ h. span.inside p h.0 h.1) (λ out. span.others p out ∙ to p out (sym (given.others p out) ∙ is)) (place_of first n p);
+    free_in_pool = λ p lt is. ⊎_elim (λ h. given.inside p h.0 h.1) (λ out. given.others p out ∙ from p out (let z = span.size in omega arith) (sym (span.others p out) ∙ is)) (place_of first n p);
+  }
+
+  pub used_given : ((p : ℕ) (b : Cells) → (p < first) ⊎ (first + n ≤ p) → state_at states p ≡ cut b → (i : ℕ) × (get_or b.taken i false ≡ true))
+      → (p : ℕ) (b : Cells) → state_at states' p ≡ cut b → (i : ℕ) × (get_or b.taken i false ≡ true)
+  used_given used p b is = ⊎_elim
+      (λ h. absurd (let z : free ≡ cut b = sym (span.inside p h.0 h.1) ∙ is in no_block b z))
+      (λ out. used p b out (sym (span.others p out) ∙ is))
+      (place_of first n p)
+    where
+      no_block : (b : Cells) → free ≡ cut b → ⊥
+      no_block b z = cc
+
+-- all pages of a large object
+pub sound_large_gone : (t : Store) (row' : List Bool) (states' : List PageState) (first n : ℕ) → IsSound t → IsFilled t.free row' first n true → IsSpanSet t.states states' first n (λ _. free)
+    → IsSound (record t { free = row'; states = states' })
+sound_large_gone t row' states' first n sound given span = record {
+  words = sound.words ∙ ap (λ m. 512 * m) (sym span.size);
+  agree = agree_given t.free row' t.states states' first n given span sound.agree.size (λ p out is. sound.agree.free_in_map p is) (λ p out lt is. sound.agree.free_in_pool p lt is);
+  used = used_given t.free row' t.states states' first n given span (λ p b out is. sound.used p b is);
+}
+
+-- a cell of a page that keeps another object
+module _ (t : Store) (sound : IsSound t) (page cell : ℕ) (b : Cells) (is : state_at t.states page ≡ cut b) (inside : page < length t.states) (states' : List PageState)
+    (put : states' ≡ set t.states page (with_cell (state_at t.states page) cell false)) where
+  abbrev pub emptied : Cells
+  emptied = record b { taken = set b.taken cell false }
+
+  pub state_after : state_at states' page ≡ cut emptied
+  state_after = ap (λ x. state_at x page) put ∙ get_or-set_same t.states page _ free inside ∙ ap (λ st. with_cell st cell false) is
+
+  other : (p : ℕ) → p ≢ page → state_at states' p ≡ state_at t.states p
+  other p ne = ap (λ x. state_at x p) put ∙ get_or-set_other t.states page p _ free ne
+
+  pub size_after : length states' ≡ length t.states
+  size_after = ap length put ∙ length-set t.states page _
+
+  not_free : cut b ≡ free → ⊥
+  not_free e = cc
+
+  after_not_free : cut emptied ≡ free → ⊥
+  after_not_free e = cc
+
+  same_cells : (c d : Cells) → cut c ≡ cut d → c ≡ d
+  same_cells c d e = cc
+
+  pub sound_kept : (i : ℕ) → get_or emptied.taken i false ≡ true → IsSound (record t { states = states' })
+  sound_kept i bit = record {
+    words = sound.words ∙ ap (λ m. 512 * m) (sym size_after);
+    agree = record {
+      size = sound.agree.size ∙ sym size_after;
+      free_in_map = λ p h. ⊎_elim
+          (λ e. absurd (not_free (sym is ∙ ap (state_at t.states) (sym e) ∙ sound.agree.free_in_map p h)))
+          (λ ne. other p ne ∙ sound.agree.free_in_map p h)
+          (cases_eq p page);
+      free_in_pool = λ p lt h. ⊎_elim
+          (λ e. absurd (after_not_free (sym state_after ∙ ap (state_at states') (sym e) ∙ h)))
+          (λ ne. sound.agree.free_in_pool p (let z = size_after in omega arith) (sym (other p ne) ∙ h))
+          (cases_eq p page);
+    };
+    used = λ p c h. ⊎_elim
+        (λ e. (i, ap (λ (x : Cells). get_or x.taken i false) (sym (same_cells emptied c (sym state_after ∙ ap (state_at states') (sym e) ∙ h))) ∙ bit))
+        (λ ne. sound.used p c (sym (other p ne) ∙ h))
+        (cases_eq p page);
+  }
+
+  ne_of : (p : ℕ) → (p < page) ⊎ (page + 1 ≤ p) → p ≢ page
+  ne_of p out = ⊎_elim (λ a (h : p ≡ page). omega arith) (λ a (h : p ≡ page). omega arith) out
+
+  -- and of a page that keeps none, which becomes free
+  pub sound_emptied : (row' : List Bool) (states'' : List PageState) → IsFilled t.free row' page 1 true → IsSpanSet states' states'' page 1 (λ _. free) → IsSound (record t { free = row'; states = states'' })
+  sound_emptied row' states'' given span = record {
+    words = sound.words ∙ ap (λ m. 512 * m) (sym (span.size ∙ size_after));
+    agree = agree_given t.free row' states' states'' page 1 given span (sound.agree.size ∙ sym size_after)
+        (λ p out h. other p (ne_of p out) ∙ sound.agree.free_in_map p h)
+        (λ p out lt h. sound.agree.free_in_pool p (let z = size_after in omega arith) (sym (other p (ne_of p out)) ∙ h));
+    used = used_given t.free row' states' states'' page 1 given span (λ p c out h. sound.used p c (sym (other p (ne_of p out)) ∙ h));
+  }
+
+-- a map that loses an object, and then nothing more
+pub removed_same : (found mid after : ℕ → Option Found) (f : Found) → IsRemoved found mid f → IsSameMap mid after → IsRemoved found after f
+removed_same found mid after f gone same = record {
+  before = λ w r. same.same w ∙ gone.before w r;
+  after = gone.after;
+  others = λ w n. gone.others w n ∙ sym (same.same w);
+}
+
+-- a cell is freed, and another of its page is allocated still
+pub frees_kept : (row : List Bool) (states states' : List PageState) (page cell : ℕ) (b : Cells) → states' ≡ without_cell states page cell → state_at states' page ≡ cut b → (i : ℕ) × IsFirstFrom b.taken 0 i
+    → IsRemoved (found_in states) (found_in states') (object_on page (state_at states page) cell) → FreesCell row row states states' page cell
+frees_kept row states states' page cell b became is first removed = record { pages = keeps b first.0 is first.1.member refl became; removed = removed }
+
+-- the last cell of a page is freed
+pub frees_last : (row row' : List Bool) (states mid states' : List PageState) (page cell : ℕ) (b : Cells) → mid ≡ without_cell states page cell → state_at mid page ≡ cut b → IsEmptyFrom b.taken 0
+    → IsRemoved (found_in states) (found_in mid) (object_on page (state_at states page) cell) → IsSpanSet mid states' page (span_of (state_at mid page)) (λ _. free)
+    → IsUncut page (state_at mid page) (found_in mid) (found_in states') → IsFilled row row' page 1 true → FreesCell row row' states states' page cell
+frees_last row row' states mid states' page cell b became is empty removed span uncut given = record {
+  pages = gives given (subst (λ m. IsSpanSet m states' page 1 (λ _. free)) became (subst (λ n. IsSpanSet mid states' page n (λ _. free)) (ap span_of is) span));
+  removed = removed_same (found_in states) (found_in mid) (found_in states') (object_on page (state_at states page) cell) removed (same none);
+}
+  where
+    none : HasNoObject b.taken
+    none k = ⊎_elim (λ lt. empty k (omega arith) lt) (λ past. get_or_past b.taken k false past) (cases_lt k (length b.taken))
+
+    same : HasNoObject b.taken → IsSameMap (found_in mid) (found_in states')
+    same = subst (λ st. IsUncut page st (found_in mid) (found_in states')) is uncut
+
+-- a store whose cell was freed
+module _ (t : Store) (sound : IsSound t) (page cell : ℕ) (b : Cells) (is : state_at t.states page ≡ cut b) (inside : page < length t.states) (row' : List Bool) (states' : List PageState) where
+  pub sound_freed : EmptiesCell t.free row' t.states states' page cell → IsSound (record t { free = row'; states = states' })
+  sound_freed (keeps c i at bit row became) =
+      let same : c ≡ emptied t sound page cell b is inside states' became = cells_same c _ (sym at ∙ state_after t sound page cell b is inside states' became) in
+      subst (λ r. IsSound (record t { free = r; states = states' })) (sym row)
+      (sound_kept t sound page cell b is inside states' became i (ap (λ (x : Cells). get_or x.taken i false) (sym same) ∙ bit))
+    where
+      cells_same : (x y : Cells) → cut x ≡ cut y → x ≡ y
+      cells_same x y e = cc
+  sound_freed (gives given span) = sound_emptied t sound page cell b is inside (without_cell t.states page cell) refl row' states' given span
+
+  pub size_freed : EmptiesCell t.free row' t.states states' page cell → length states' ≡ length t.states
+  size_freed (keeps c i at bit row became) = ap length became ∙ length-set t.states page _
+  size_freed (gives given span) = span.size ∙ length-set t.states page _
+
+-- and the store has lost its object
+pub loses_cell : (t : Store) (page cell : ℕ) (b : Cells) → state_at t.states page ≡ cut b → page < length t.states → (row' : List Bool) (states' : List PageState) (pending' : List Bool) (f : Found) → f ≡ cell_object page b cell
+    → FreesCell t.free row' t.states states' page cell → KeepsPending page t.states states' t.pending pending' → Loses t f (record t { free = row'; states = states'; pending = pending' })
+loses_cell t page cell b is inside row' states' pending' f same freed keeps_row =
+    let object : object_on page (state_at t.states page) cell ≡ f = ap (λ st. object_on page st cell) is ∙ sym same in
+    record { words = refl; pages = size freed.pages; removed = subst (IsRemoved (found_in t.states) (found_in states')) object freed.removed; row_size = keeps_row.size; rest = λ p ne. keeps_row.rest p (λ e. ne (e ∙ sym (ap (λ (x : Found). x.page) same))); fewer = keeps_row.less; pending = keeps_row.same }
+  where
+    size : EmptiesCell t.free row' t.states states' page cell → length states' ≡ length t.states
+    size (keeps c i at bit row became) = ap length became ∙ length-set t.states page _
+    size (gives given span) = span.size ∙ length-set t.states page _
+
+-- what is on the page of an object that is found
+pub on_page : (t : Store) (f : Found) → IsLawful t.states → found_in t.states f.base ≡ Some f → IsObject t.states f
+on_page t f lawful is = lawful.object f.base f is
+
+pub in_block : (t : Store) (f : Found) (b : Cells) → IsObject t.states f → state_at t.states f.page ≡ cut b → (f ≡ cell_object f.page b f.cell) × HasCell (state_at t.states f.page) f.cell true
+in_block t f b o is =
+    let on : IsObjectOn (cut b) f = subst (λ st. IsObjectOn st f) is o.on in
+    (on.0, subst (λ st. HasCell st f.cell true) (sym is) (on.1, on.2))
+
+-- and if it isn't a block, the object is a large one
+pub in_large : (t : Store) (f : Found) → IsObject t.states f → (IsCut (state_at t.states f.page) → ⊥) → (n : ℕ) × (k : Kind) × (state_at t.states f.page ≡ head n k) × (f ≡ large_object f.page n k)
+in_large t f o uncut = by (state_at t.states f.page) refl o.on uncut
+  where
+    by : (st : PageState) → state_at t.states f.page ≡ st → IsObjectOn st f → (IsCut st → ⊥) → (n : ℕ) × (k : Kind) × (state_at t.states f.page ≡ head n k) × (f ≡ large_object f.page n k)
+    by free is on uncut = absurd on
+    by (cut b) is on uncut = absurd (uncut tt)
+    by (head n k) is on uncut = (n, k, is, on)
+    by (body q) is on uncut = absurd on
+
+-- where the large object lies
+pub large_here : (t : Store) (f : Found) → IsLawful t.states → found_in t.states f.base ≡ Some f → (IsCut (state_at t.states f.page) → ⊥)
+    → (k : Kind) × (state_at t.states f.page ≡ head (f.len / 512) k) × (0 < f.len / 512) × (f.page + f.len / 512 ≤ length t.states) × (f ≡ large_object f.page (f.len / 512) k)
+large_here t f lawful is uncut = by (in_large t f (on_page t f lawful is) uncut)
+  where
+    by : (n : ℕ) × (k : Kind) × (state_at t.states f.page ≡ head n k) × (f ≡ large_object f.page n k)
+        → (k : Kind) × (state_at t.states f.page ≡ head (f.len / 512) k) × (0 < f.len / 512) × (f.page + f.len / 512 ≤ length t.states) × (f ≡ large_object f.page (f.len / 512) k)
+    by l =
+        let base : f.base ≡ 268435456 + 4096 * f.page = ap (λ (x : Found). x.base) l.3 in
+        let len : f.len ≡ 512 * l.0 = ap (λ (x : Found). x.len) l.3 in
+        let n : l.0 ≡ f.len / 512 = omega arith in
+        let some = (lawful.map.placed f.base f is).some in
+        let ends = (lawful.map.placed f.base f is).below in
+        (l.1, l.2 ∙ ap (λ m. head m l.1) n, omega arith, omega arith, l.3 ∙ ap (λ m. large_object f.page m l.1) n)
+
+pub loses_large : (t : Store) (f : Found) (row' : List Bool) (states' : List PageState) (k : Kind) (n : ℕ) → f ≡ large_object f.page n k → IsSpanSet t.states states' f.page n (λ _. free)
+    → IsRemoved (found_in t.states) (found_in states') (large_object f.page n k) → Loses t f (record t { free = row'; states = states' })
+loses_large t f row' states' k n same span removed = record { words = refl; pages = span.size; removed = subst (IsRemoved (found_in t.states) (found_in states')) (sym same) removed; row_size = refl; rest = λ p ne. refl; fewer = λ p h. h; pending = λ w g there. refl }
+
+-- the row of the pages to be swept
+pub pending_row : (t t' : Store) (page : ℕ) → IsPendingRow t → length t'.states ≡ length t.states → KeepsPending page t.states t'.states t.pending t'.pending → IsPendingRow t'
+pending_row t t' page row size keeps_row = record { size = keeps_row.size ∙ row.size ∙ sym size; cut = keeps_row.cut row.cut }

@@ -1,0 +1,66 @@
+-- What the objects that a map finds are to a heap that has the same.
+use Rattle.std.proofs.Common.{◌≡◌, ℕ, ◌+◌, ◌-◌, ◌*◌, ◌/◌, ◌%◌, ◌<◌, ◌≤◌, List, length, get_or, Option, Some, None, sym, ap, ◌∙◌, arith}
+use Rattle.std.specs.Prelude.{slice_index}
+use Rattle.std.proofs.lemmas.Option.{same_Some}
+use Rattle.heap_spec.specs.Layout.{Reads as IsRead}
+use Rattle.heap_spec.specs.Heap.{Object}
+use Rattle.pages.specs.Memory.{IsWordAddress, place, word_at}
+use Rattle.block_map.specs.Objects.{IsMap}
+use Rattle.block_map.specs.declared.found.Found.{Found}
+use Rattle.object_space.specs.Shown.{IsShown, Shows}
+
+module _ (found : ℕ → Option Found) (pages : ℕ) (map : IsMap pages found) where
+  -- an object that is found is found at its base
+  pub at_base : (w : ℕ) (f : Found) → found w ≡ Some f → found f.base ≡ Some f
+  at_base w f is =
+      let some = (map.placed w f is).some in
+      map.whole w f.base f is (record { from = omega arith; below = omega arith })
+
+  -- objects that are found at one base are one
+  pub one_at_base : (f g : Found) → found f.base ≡ Some f → found g.base ≡ Some g → g.base ≡ f.base → g ≡ f
+  one_at_base f g a b same = same_Some _ _ (sym b ∙ ap found same ∙ a)
+
+  -- the address of a word of an object is one of the memory's
+  pub is_word : (words : List ℕ) → length words ≡ 512 * pages → (w : ℕ) (f : Found) → found w ≡ Some f → w % 8 ≡ 0 → IsWordAddress words w
+  is_word words long w f is aligned =
+      let above = (map.placed w f is).above in let ends = (map.placed w f is).below in
+      let from = (map.reads w f is).from in let below = (map.reads w f is).below in
+      record { aligned = aligned; above = omega arith; below = omega arith }
+
+  -- where the word at an address stands in its object
+  pub word_index : (w : ℕ) (f : Found) → found w ≡ Some f → w % 8 ≡ 0 → ((w - f.base) / 8 < f.len) × (place f.base + (w - f.base) / 8 ≡ place w)
+  word_index w f is aligned =
+      let even = (map.placed w f is).aligned in let above = (map.placed w f is).above in
+      let from = (map.reads w f is).from in let below = (map.reads w f is).below in
+      (omega arith, omega arith)
+
+  -- the word of an object that has the place of an address is read by it
+  pub reads_place : (w i : ℕ) (g : Found) → found g.base ≡ Some g → i < g.len → 268435456 ≤ w → w % 8 ≡ 0 → place g.base + i ≡ place w → found w ≡ Some g
+  reads_place w i g is inside low aligned same =
+      let even = (map.placed g.base g is).aligned in let above = (map.placed g.base g is).above in
+      map.whole g.base w g is (record { from = omega arith; below = omega arith })
+
+  module _ (words : List ℕ) (objects : ℕ → Option Object) (births : ℕ) (shows : Shows found words objects births) where
+    -- an address that finds an object reads the heap's
+    pub reads_object : (w : ℕ) (f : Found) → found w ≡ Some f → (o : Object) × (objects f.base ≡ Some o) × IsShown words f o × IsRead w f.base (length o.words)
+    reads_object w f is =
+        let kept = shows.kept f (at_base w f is) in
+        let from = (map.reads w f is).from in let below = (map.reads w f is).below in let size = kept.2.size in
+        (kept.0, kept.1, kept.2, (from, omega arith))
+
+    -- an address that finds nothing reads nothing
+    pub reads_nothing : (w : ℕ) → found w ≡ None → (base : ℕ) (o : Object) → objects base ≡ Some o → IsRead w base (length o.words) → ⊥
+    reads_nothing w none base o is reads =
+        let only = shows.only base o is in
+        let kept = shows.kept only.0 (ap found only.2 ∙ only.1) in
+        let same : kept.0 ≡ o = same_Some _ _ (sym kept.1 ∙ ap objects only.2 ∙ is) in
+        let size : length o.words ≡ only.0.len = ap (λ (p : Object). length p.words) (sym same) ∙ kept.2.size in
+        let at = only.2 in let from = reads.0 in let below = reads.1 in
+        let again : found w ≡ Some only.0 = map.whole base w only.0 only.1 (record { from = omega arith; below = omega arith }) in
+        cc
+
+    -- an address that finds an object reads the word that the memory has there
+    pub word_read : (w : ℕ) (f : Found) (o : Object) → found w ≡ Some f → IsShown words f o → w % 8 ≡ 0 → slice_index o.words ((w - f.base) / 8) ≡ word_at words w
+    word_read w f o is shown aligned =
+        let at = word_index w f is aligned in
+        shown.word ((w - f.base) / 8) at.0 ∙ ap (λ i. get_or words i 0) at.1

@@ -1,0 +1,42 @@
+-- Sweeping keeps the kept objects.
+use Rattle.std.proofs.Common.{◌≡◌, ℕ, ◌+◌, ◌<◌, ◌≤◌, Bool, cond, List, length, get_or, set, false, refl, sym, ◌∙◌, subst, ⊎_elim, arith, get_or-set_other}
+use Rattle.std.specs.Prelude.{count_by}
+use Rattle.std.specs.List.{sum_by}
+use Rattle.std.proofs.lemmas.Bool.{cases_eq, cases_lt, false≢true}
+use Rattle.std.proofs.lemmas.List.{get_or_past}
+use Rattle.std.proofs.lemmas.List.Sums.{sum_by-set}
+use Rattle.words.specs.Bits.{Has}
+use Rattle.block_map.specs.FoundIn.{found_in}
+use Rattle.block_map.specs.Changes.{IsSameMap}
+use Rattle.object_space.specs.Store.{Store}
+use Rattle.object_space.specs.Kept.{restrict, is_kept, kept_in}
+use Rattle.object_space.specs.Sweeps.{Sweeps, SweepsPage}
+use Rattle.object_space.proofs.Kept.{page_swept}
+
+abbrev one_if : Bool → ℕ
+one_if b = cond b 1 0
+
+-- a page leaves the row
+count_cleared : (row : List Bool) (page : ℕ) → Has row page → count_by (λ b. b) (set row page false) ≤ count_by (λ b. b) row
+count_cleared row page is =
+    let e : sum_by one_if (set row page false) + one_if (get_or row page false) ≡ sum_by one_if row + 0 = sum_by-set one_if row page false false inside in omega arith
+  where
+    inside : page < length row
+    inside = ⊎_elim (λ lt. lt) (λ past. absurd (false≢true (sym (get_or_past row page false past) ∙ is))) (cases_lt page (length row))
+
+-- a page was swept
+pub sweeps_page : (old : Store) (marks : List Bool) (page : ℕ) (new : Store) → Has old.pending page → SweepsPage old marks page new → Sweeps old marks new
+sweeps_page old marks page new was x = record {
+  words = x.words;
+  pages = x.pages;
+  same = subst (λ row. IsSameMap (kept_in old.states old.pending marks) (restrict (is_kept row marks) (found_in new.states))) (sym x.pending)
+      (page_swept old.pending marks page (found_in old.states) (found_in new.states) was x.others x.marked x.only);
+  fewer = λ p h. ⊎_elim (λ (e : p ≡ page). subst (Has old.pending) (sym e) was) (λ ne. sym (get_or-set_other old.pending page p false false ne) ∙ subst (λ row. Has row p) x.pending h) (cases_eq p page);
+  number = subst (λ row. count_by (λ b. b) row ≤ count_by (λ b. b) old.pending) (sym x.pending) (count_cleared old.pending page was);
+}
+
+pub sweeps_none : (old : Store) (marks : List Bool) → Sweeps old marks old
+sweeps_none old marks = record { words = refl; pages = refl; same = record { same = λ w. refl }; fewer = λ p h. h; number = omega arith }
+
+pub sweeps_more : (old : Store) (marks : List Bool) (mid new : Store) → Sweeps old marks mid → Sweeps mid marks new → Sweeps old marks new
+sweeps_more old marks mid new a b = record { words = b.words ∙ a.words; pages = b.pages ∙ a.pages; same = record { same = λ w. b.same.same w ∙ a.same.same w }; fewer = λ p h. a.fewer p (b.fewer p h); number = let x = a.number in let y = b.number in omega arith }

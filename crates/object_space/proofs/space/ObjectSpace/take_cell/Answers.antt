@@ -1,0 +1,24 @@
+use Rattle.std.proofs.Common.{refl, true, sym, ap, ◌∙◌, subst, List, length, length-set}
+use Rattle.block_map.specs.States.{PageState, IsCut, state_at}
+use Rattle.object_space.proofs.Pending.{pending_cut, cut_cell}
+use Rattle.object_space.proofs.Allocations.{allocates_cell, gains_cell, sound_cell}
+use Rattle.object_space.proofs.space.ObjectSpace.take_cell.Goals as goal
+
+pub invariant_of-self : goal.invariant_of-self
+invariant_of-self c =
+    let cell = rw (← c.self.view_is) at c.requires.cell in
+    let swept = rw (← c.self.view_is) at c.requires.swept in
+    record {
+      sound = sound_cell _ _ _ c.args.place.page c.args.place.cell _ _ _ c.self.invariant.sound c.len-pages.ensures.laid c.len-pages.ensures.lawful cell c.take_cell.ensures.takes swept;
+      pending = pending_cut _ _ c.self.invariant.pending refl (ap length c.take_cell.ensures.takes.became ∙ length-set _ _ _)
+          (λ p is. subst (λ (x : List PageState). IsCut (state_at x p)) (sym c.take_cell.ensures.takes.became) (cut_cell _ c.args.place.page c.args.place.cell true cell.inside p is));
+      exact = c.take_cell.ensures.exact;
+    }
+
+pub returns-clause-room : goal.returns-clause-room
+returns-clause-room c = rw (← c.self.view_is)
+    (allocates_cell _ _ _ c.args.place.page c.args.place.cell _ _ _ c.self.invariant.sound c.len-pages.ensures.laid c.len-pages.ensures.lawful (rw (← c.self.view_is) at c.requires.cell) c.take_cell.ensures.takes)
+
+pub returns-clause-gains : goal.returns-clause-gains
+returns-clause-gains c = rw (← c.self.view_is)
+    (gains_cell _ _ _ c.args.place.page c.args.place.cell _ _ _ c.len-pages.ensures.laid c.len-pages.ensures.lawful (rw (← c.self.view_is) at c.requires.cell) c.take_cell.ensures.takes (rw (← c.self.view_is) at c.requires.swept))

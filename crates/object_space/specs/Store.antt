@@ -1,0 +1,62 @@
+-- Where the objects are, and what is true of it.
+use Rattle.std.specs.Prelude.{◌≡◌, ◌≢◌, ℕ, Some, ◌*◌, ◌<◌, true, false, Bool, List, length, slice_index_or}
+use Rattle.words.specs.declared.limits.TheConstants.{PAGE_WORDS}
+use Rattle.words.specs.Bits.{Has}
+use Rattle.blocks.specs.Cells.{Cells}
+use Rattle.block_map.specs.States.{PageState, free, cut, state_at, IsCut}
+use Rattle.block_map.specs.FoundIn.{found_in}
+use Rattle.block_map.specs.declared.found.Found.{Found}
+use Rattle.object_space.specs.AvailableRows.{IsExact}
+
+-- Where the objects are: the words of the memory, the row of the pool, in which true is a free page, what stands on
+-- each page, and the row of the pages that are still to be swept.
+pub record Store : Type 0 where
+  pub words : List ℕ
+  pub free : List Bool
+  pub states : List PageState
+  pub pending : List Bool
+
+-- the store of these
+abbrev pub store_of : List ℕ → List Bool → List PageState → List Bool → Store
+store_of words row states pending = record { words = words; free = row; states = states; pending = pending }
+
+-- The pool and the map have the same pages, and agree on which of them are free.
+pub record Agree (row : List Bool) (states : List PageState) : Type 0 where
+  pub size : length row ≡ length states
+  pub free_in_map : (page : ℕ) → slice_index_or row page false ≡ true → state_at states page ≡ free
+  pub free_in_pool : (page : ℕ) → page < length states → state_at states page ≡ free → slice_index_or row page false ≡ true
+
+-- Each page that is cut has an object: a page that has none left is free.
+abbrev pub HasObjects : List PageState → Type 0
+HasObjects states = (page : ℕ) (b : Cells) → state_at states page ≡ cut b → (i : ℕ) × (slice_index_or b.taken i false ≡ true)
+
+-- What is true of each store.
+pub record IsSound (t : Store) : Type 0 where
+  pub words : length t.words ≡ PAGE_WORDS * length t.states
+  pub agree : Agree t.free t.states
+  pub used : HasObjects t.states
+
+-- The pages that are still to be swept are cut.
+pub record IsPendingRow (t : Store) : Type 0 where
+  pub size : length t.pending ≡ length t.states
+  pub cut : (page : ℕ) → Has t.pending page → IsCut (state_at t.states page)
+
+-- While a page changes, the row of those that are still to be swept keeps to pages that are cut, and for the page of each
+-- object says what it said.
+pub record KeepsPending (page : ℕ) (states states' : List PageState) (row row' : List Bool) : Type 0 where
+  pub rest : (p : ℕ) → p ≢ page → slice_index_or row' p false ≡ slice_index_or row p false
+  pub size : length row' ≡ length row
+  pub cut : ((p : ℕ) → Has row p → IsCut (state_at states p)) → (p : ℕ) → Has row' p → IsCut (state_at states' p)
+  pub less : (p : ℕ) → Has row' p → Has row p
+  pub same : (w : ℕ) (g : Found) → found_in states' w ≡ Some g → slice_index_or row' g.page false ≡ slice_index_or row g.page false
+
+-- nothing is to be swept
+abbrev pub IsSwept : Store → Type 0
+IsSwept t = (page : ℕ) → Has t.pending page → ⊥
+
+-- What is true of the objects of each heap: their store is sound, the rows of pages with a free cell are exact, and the
+-- pages that are still to be swept are cut.
+pub record IsKept (t : Store) (rows : List (List Bool)) : Type 0 where
+  pub sound : IsSound t
+  pub exact : IsExact rows t.states
+  pub pending : IsPendingRow t

@@ -1,0 +1,175 @@
+-- Objects that go, and objects that come, as changes of the store.
+use Rattle.std.specs.Prelude.{◌≡◌, ◌↔◌, ℕ, ◌+◌, ◌*◌, ◌<◌, ◌≤◌, ◌≢◌, ◌⊎◌, count_by, Bool, true, false, slice_index_or, slice_set, List, length, Contains, All, nat_eq, Option, Some}
+use Rattle.std.specs.List.{IsDistinct}
+use Rattle.words.specs.declared.limits.TheConstants.{FIRST_ADDRESS, WORD_BYTES}
+use Rattle.words.specs.declared.class.Kind.{Kind}
+use Rattle.words.specs.declared.class.Placement.{Placement}
+use Rattle.heap_spec.specs.Room.{length_of}
+use Rattle.pages.specs.Memory
+use Rattle.pages.specs.Memory.{IsZeroed}
+use Rattle.words.specs.Bits.{Has}
+use Rattle.mark_bits.specs.Granules.{granule}
+use Rattle.object_space.specs.Store.{IsSwept}
+use Rattle.object_space.specs.Rooms.{HasRoomAt, HasNoRoom}
+use Rattle.object_space.specs.Kept.{kept_in, IsPendingAfter}
+use Rattle.block_map.specs.Changes.{IsSameMap}
+use Rattle.block_map.specs.Places.{page_start, page_of}
+use Rattle.block_map.specs.States.{IsCut, state_at}
+use Rattle.block_map.specs.Walks.{IsNextObject, IsNoObject}
+use Rattle.block_map.specs.declared.found.Found.{Found}
+use Rattle.block_map.specs.Changes.{IsAdded, IsRemoved}
+use Rattle.block_map.specs.FoundIn.{found_in}
+use Rattle.block_map.specs.Objects.{IsMap}
+use Rattle.marker.specs.Marking.{Marking, IsMarked}
+use Rattle.marker.specs.Closure.{Closure}
+use Rattle.object_space.specs.Store.{Store}
+
+-- The objects with these bases are gone, and nothing else has changed.
+pub record IsWithout (found after : ℕ → Option Found) (bases : List ℕ) : Type 0 where
+  pub gone : All (λ b. (f : Found) × (found b ≡ Some f) × (f.base ≡ b)) bases
+  pub distinct : IsDistinct nat_eq bases
+  pub left : (w : ℕ) (f : Found) → after w ≡ Some f → (found w ≡ Some f) × (Contains bases f.base → ⊥)
+  pub kept : (w : ℕ) (f : Found) → found w ≡ Some f → (Contains bases f.base → ⊥) → after w ≡ Some f
+
+-- The store has lost one object, and nothing else. Of the pages of other objects the same are to be swept.
+pub record Loses (old : Store) (f : Found) (new : Store) : Type 0 where
+  pub words : new.words ≡ old.words
+  pub pages : length new.states ≡ length old.states
+  pub removed : IsRemoved (found_in old.states) (found_in new.states) f
+  pub row_size : length new.pending ≡ length old.pending
+  pub rest : (p : ℕ) → p ≢ f.page → slice_index_or new.pending p false ≡ slice_index_or old.pending p false
+  pub fewer : (page : ℕ) → Has new.pending page → Has old.pending page
+  pub pending : (w : ℕ) (g : Found) → found_in new.states w ≡ Some g → slice_index_or new.pending g.page false ≡ slice_index_or old.pending g.page false
+
+-- The store has got one object, whose words are 0, and nothing else has changed.
+pub record Gains (old : Store) (place : Placement) (kind : Kind) (base : ℕ) (new : Store) : Type 0 where
+  pub object : Found
+  pub at : object.base ≡ base
+  pub size : object.len ≡ length_of place
+  pub of_kind : object.kind ≡ kind
+  pub pages : length new.states ≡ length old.states
+  pub before : IsMap (length old.states) (found_in old.states)
+  pub map : IsMap (length new.states) (found_in new.states)
+  pub found : found_in new.states base ≡ Some object
+  pub added : IsAdded (found_in old.states) (found_in new.states) object
+  pub zeroed : IsZeroed old.words new.words (Memory.place base) object.len
+  pub pending : new.pending ≡ old.pending
+  pub swept : slice_index_or old.pending object.page false ≡ false
+
+-- The objects from one address up to another were looked at: there is none, or one that is marked, or one that is not and
+-- is gone now. `n` is how many are gone.
+pub data Passes (old : Store) (marking : Marking) (address next n : ℕ) (new : Store) : Type 0 where
+  none : address < next → IsNoObject (found_in old.states) address next → n ≡ 0 → new ≡ old → Passes old marking address next n new
+  marked : (f : Found) → IsNextObject (found_in old.states) address (page_start (page_of address + 1)) f → next ≡ f.base + WORD_BYTES * f.len → IsMarked marking f.base → n ≡ 0 → new ≡ old → Passes old marking address next n new
+  forgot : (f : Found) → IsNextObject (found_in old.states) address (page_start (page_of address + 1)) f → next ≡ f.base + WORD_BYTES * f.len → (IsMarked marking f.base → ⊥) → n ≡ 1 → Loses old f new → Passes old marking address next n new
+
+-- All unmarked objects that an address reads from one up to another are gone, so many, none that only addresses past the
+-- limit read, and nothing else has changed.
+pub record HasPassed (old : Store) (marking : Marking) (from limit address n : ℕ) (now : Store) : Type 0 where
+  pub words : now.words ≡ old.words
+  pub pages : length now.states ≡ length old.states
+  pub pending : (w : ℕ) (g : Found) → found_in now.states w ≡ Some g → slice_index_or now.pending g.page false ≡ slice_index_or old.pending g.page false
+  pub row_size : length now.pending ≡ length old.pending
+  pub rest : (p : ℕ) → ((w : ℕ) (f : Found) → from ≤ w → w < limit → found_in old.states w ≡ Some f → f.page ≢ p) → slice_index_or now.pending p false ≡ slice_index_or old.pending p false
+  pub fewer : (page : ℕ) → Has now.pending page → Has old.pending page
+  pub low : from ≤ address
+  pub few : n ≤ address
+  pub bases : List ℕ
+  pub number : n ≡ length bases
+  pub without : IsWithout (found_in old.states) (found_in now.states) bases
+  pub unmarked : All (λ b. IsMarked marking b → ⊥) bases
+  pub read : All (λ b. (w : ℕ) × (f : Found) × (from ≤ w) × (w < limit) × (found_in old.states w ≡ Some f) × (f.base ≡ b)) bases
+  pub done : (w : ℕ) (f : Found) → from ≤ w → w < address → found_in now.states w ≡ Some f → IsMarked marking f.base
+
+-- The store has lost exactly the unmarked objects, so many.
+pub record ForgetsUnmarked (old : Store) (marking : Marking) (n : ℕ) (new : Store) : Type 0 where
+  pub words : new.words ≡ old.words
+  pub pages : length new.states ≡ length old.states
+  pub pending : (w : ℕ) (g : Found) → found_in new.states w ≡ Some g → slice_index_or new.pending g.page false ≡ slice_index_or old.pending g.page false
+  pub fewer : (page : ℕ) → Has new.pending page → Has old.pending page
+  pub bases : List ℕ
+  pub number : n ≡ length bases
+  pub without : IsWithout (found_in old.states) (found_in new.states) bases
+  pub unmarked : (f : Found) → found_in old.states f.base ≡ Some f → Contains bases f.base ↔ (IsMarked marking f.base → ⊥)
+
+-- To the heap exactly the objects outside of the closure of the marks and the roots are gone, so many.
+pub record ForgetsUnreached (old : Store) (roots : List ℕ) (marking : Marking) (n : ℕ) (marks : List Bool) (new : Store) : Type 0 where
+  pub words : new.words ≡ old.words
+  pub pages : length new.states ≡ length old.states
+  pub bases : List ℕ
+  pub number : n ≡ length bases
+  pub without : IsWithout (found_in old.states) (kept_in new.states new.pending marks) bases
+  pub outside : (f : Found) → found_in old.states f.base ≡ Some f → Contains bases f.base ↔ (Closure (found_in old.states) old.words roots (IsMarked marking) f → ⊥)
+
+-- A page was swept: its unmarked objects are gone, and it is not to be swept any more. Nothing else has changed.
+pub record SweepsPage (old : Store) (marks : List Bool) (page : ℕ) (new : Store) : Type 0 where
+  pub words : new.words ≡ old.words
+  pub pages : length new.states ≡ length old.states
+  pub pending : new.pending ≡ slice_set old.pending page false
+  pub others : (w : ℕ) (f : Found) → found_in old.states w ≡ Some f → f.page ≢ page → found_in new.states w ≡ Some f
+  pub marked : (w : ℕ) (f : Found) → found_in old.states w ≡ Some f → f.page ≡ page → Has marks (granule f.base) → found_in new.states w ≡ Some f
+  pub only : (w : ℕ) (f : Found) → found_in new.states w ≡ Some f → (found_in old.states w ≡ Some f) × (f.page ≡ page → Has marks (granule f.base))
+
+-- Pages were swept: the kept objects are the same.
+pub record Sweeps (old : Store) (marks : List Bool) (new : Store) : Type 0 where
+  pub words : new.words ≡ old.words
+  pub pages : length new.states ≡ length old.states
+  pub same : IsSameMap (kept_in old.states old.pending marks) (kept_in new.states new.pending marks)
+  pub fewer : (page : ℕ) → Has new.pending page → Has old.pending page
+  pub number : count_by (λ b. b) new.pending ≤ count_by (λ b. b) old.pending
+
+-- Once pages were swept as it needed, a place was taken for an object.
+pub record Allocates (old : Store) (marks : List Bool) (place : Placement) (kind : Kind) (base : ℕ) (new : Store) : Type 0 where
+  pub ready : Store
+  pub sweeps : Sweeps old marks ready
+  pub room : HasRoomAt ready place kind base
+  pub gains : Gains ready place kind base new
+
+-- Pages were swept, and no address has room for all the objects that are there now.
+pub record FindsNoPlace (old : Store) (marks : List Bool) (place : Placement) (kind : Kind) (new : Store) : Type 0 where
+  pub sweeps : Sweeps old marks new
+  pub none : HasNoRoom new place kind
+
+-- All pages were swept, and no address has room.
+pub record FindsNoRoom (old : Store) (marks : List Bool) (place : Placement) (kind : Kind) (new : Store) : Type 0 where
+  pub sweeps : Sweeps old marks new
+  pub swept : IsSwept new
+  pub none : HasNoRoom new place kind
+
+-- Each unmarked object is forgotten, so many: the large ones are gone from the map, and the pages of the others are to be
+-- swept. Nothing else has changed.
+pub record ForgetsLazily (old : Store) (marks : List Bool) (n : ℕ) (new : Store) : Type 0 where
+  pub words : new.words ≡ old.words
+  pub pages : length new.states ≡ length old.states
+  pub pending : IsPendingAfter new.states marks new.pending
+  pub bases : List ℕ
+  pub number : n ≡ length bases
+  pub without : IsWithout (found_in old.states) (kept_in new.states new.pending marks) bases
+  pub unmarked : (f : Found) → found_in old.states f.base ≡ Some f → Contains bases f.base ↔ (Has marks (granule f.base) → ⊥)
+
+-- An object is forgotten: the page of one in a block is to be swept, and any other is gone.
+pub data DropsObject (old : Store) (f : Found) (new : Store) : Type 0 where
+  unswept : IsCut (state_at old.states f.page) → new ≡ record old { pending = slice_set old.pending f.page true } → f.page < length old.pending → DropsObject old f new
+  gone : (Has old.pending f.page → ⊥) → Loses old f new → DropsObject old f new
+
+-- The objects from one address up to another were looked at, as by `Passes`, and one that is not marked is forgotten.
+pub data Drops (old : Store) (marking : Marking) (address next n : ℕ) (new : Store) : Type 0 where
+  no_object : address < next → IsNoObject (found_in old.states) address next → n ≡ 0 → new ≡ old → Drops old marking address next n new
+  marked_object : (f : Found) → IsNextObject (found_in old.states) address (page_start (page_of address + 1)) f → next ≡ f.base + WORD_BYTES * f.len → IsMarked marking f.base → n ≡ 0 → new ≡ old → Drops old marking address next n new
+  dropped : (f : Found) → IsNextObject (found_in old.states) address (page_start (page_of address + 1)) f → next ≡ f.base + WORD_BYTES * f.len → (IsMarked marking f.base → ⊥) → n ≡ 1 → DropsObject old f new → Drops old marking address next n new
+
+-- All unmarked objects that an address below this one reads are forgotten, so many.
+pub record HasDropped (old : Store) (marking : Marking) (address n : ℕ) (now : Store) : Type 0 where
+  pub words : now.words ≡ old.words
+  pub pages : length now.states ≡ length old.states
+  pub low : FIRST_ADDRESS ≤ address
+  pub few : n ≤ address
+  pub bases : List ℕ
+  pub number : n ≡ length bases
+  pub distinct : IsDistinct nat_eq bases
+  pub forgotten : All (λ b. (f : Found) × (found_in old.states b ≡ Some f) × (f.base ≡ b) × (f.base + WORD_BYTES * f.len ≤ address) × (IsMarked marking b → ⊥)) bases
+  pub all : (f : Found) → found_in old.states f.base ≡ Some f → f.base < address → (IsMarked marking f.base → ⊥) → Contains bases f.base
+  pub less : (w : ℕ) (f : Found) → found_in now.states w ≡ Some f → found_in old.states w ≡ Some f
+  pub stays : (w : ℕ) (f : Found) → found_in old.states w ≡ Some f → IsMarked marking f.base ⊎ (address ≤ w) → found_in now.states w ≡ Some f
+  pub unswept : (w : ℕ) (f : Found) → found_in now.states w ≡ Some f → w < address → (IsMarked marking f.base → ⊥) → Has now.pending f.page
+  pub only : (page : ℕ) → Has now.pending page → (w : ℕ) × (f : Found) × (found_in now.states w ≡ Some f) × (f.page ≡ page) × (IsMarked marking f.base → ⊥)

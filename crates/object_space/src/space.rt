@@ -1,0 +1,108 @@
+//! The objects of a heap: their words, the pages that they lie on, and which pages are free. That the pool and the map
+//! agree on the free pages is kept here, and no other module touches either.
+ghost use Rattle.std.specs.Prelude.{◌≡◌, ◌*◌, Bool, length};
+ghost use Rattle.words.specs.declared.limits.TheConstants.{PAGE_WORDS};
+ghost use Rattle.heap_spec.specs.Heap.{opening};
+ghost use Rattle.pages.specs.Memory.{IsWordAddress, word_at, with_word_at};
+ghost use Rattle.pages.specs.Opening.{IsOpened};
+ghost use Rattle.block_map.specs.FoundIn.{found_in, IsLawful};
+ghost use Rattle.block_map.specs.declared.found.Found.{Found};
+ghost use Rattle.object_space.specs.Store.{IsSwept};
+ghost use Rattle.object_space.specs.Kept.{kept_in};
+ghost use Rattle.object_space.specs.Shown.{Stores};
+
+mod allocate;
+mod available_pages;
+mod forget;
+mod free;
+mod mark;
+mod sweep;
+
+use self::available_pages::AvailablePages;
+use block_map::{BlockMap, Found};
+use marker::Marker;
+use pages::{Memory, PagePool};
+use std::alloc::Global;
+use std::marker::Model;
+use words::{BitRow, OpenError};
+
+/// The objects of a heap.
+#[derive(Drop)]
+pub struct ObjectSpace {
+    memory: Memory,
+    pool: PagePool,
+    map: BlockMap,
+    available: AvailablePages,
+    pending: BitRow,
+}
+
+impl Model for ObjectSpace {
+    ghost use Rattle.object_space.specs.Store.{Store, IsKept};
+
+    ghost Value = { Store };
+
+    ghost view = { λ o. record { words = o.memory; free = o.pool; states = o.map; pending = o.pending } };
+
+    ghost invariant = { λ o. IsKept (record { words = o.memory; free = o.pool; states = o.map; pending = o.pending }) o.available };
+}
+
+impl ObjectSpace {
+    /// So many pages, with no object on them.
+    pub fn new(alloc: Global, pages: u32) -> Result<ObjectSpace, OpenError>
+        ensures { IsOpened pages result (λ objects. IsSwept objects × ((keep : Found → Bool) → Stores keep objects (opening pages))) }
+    {
+        let memory = Memory::new(alloc, pages)?;
+        let pool = PagePool::new(alloc, pages)?;
+        let map = BlockMap::new(alloc, pages)?;
+        let Ok(available) = AvailablePages::new(alloc, pages) else {
+            return Err(OpenError::Memory);
+        };
+        let Ok(pending) = BitRow::new(alloc, pages as usize) else {
+            return Err(OpenError::Memory);
+        };
+        Ok(ObjectSpace {
+            memory,
+            pool,
+            map,
+            available,
+            pending,
+        })
+    }
+
+    /// The kept object that a word reads. On a page that is still to be swept only marked objects are kept.
+    #[inline]
+    pub fn find(&self, marker: &Marker, word: u64) -> Option<Found>
+        requires pages { length marker.now.dirty ≡ length self.now.states }
+        ensures found { result ≡ kept_in self.now.states self.now.pending marker.now.marks word }
+        ensures lawful { IsLawful self.now.states }
+        ensures long { length self.now.words ≡ PAGE_WORDS * length self.now.states }
+    {
+        // Its clauses tell how many marks there are.
+        marker.laws();
+        let Some(found) = self.map.find(word) else {
+            return None;
+        };
+        if self.pending.is_set(found.page as usize) && !marker.is_marked(found.base) {
+            return None;
+        }
+        Some(found)
+    }
+
+    /// The word at an address.
+    #[inline]
+    pub fn read(&self, address: u64) -> u64
+        requires { IsWordAddress self.now.words address }
+        ensures { result ≡ word_at self.now.words address }
+    {
+        self.memory.read(address)
+    }
+
+    /// Writes a word at an address.
+    #[inline]
+    pub fn write(&mut self, address: u64, word: u64)
+        requires { IsWordAddress self.old.words address }
+        ensures { self.new ≡ record self.old { words = with_word_at self.old.words address word } }
+    {
+        self.memory.write(address, word);
+    }
+}

@@ -1,0 +1,97 @@
+//! How an object goes: its cell is free again, and its page too once it has no object; of a large object all pages are.
+ghost use Rattle.std.specs.Prelude.{◌≡◌, ◌+◌, ◌<◌, ◌≤◌, true, Some, length};
+ghost use Rattle.words.specs.declared.class.Kind.{Kind};
+ghost use Rattle.pages.specs.Runs.{IsFilled};
+ghost use Rattle.block_map.specs.Changes.{IsRemoved};
+ghost use Rattle.block_map.specs.FoundIn.{found_in, IsLawful};
+ghost use Rattle.block_map.specs.States.{free, head, state_at, HasCell, IsLaid, IsSpanSet};
+ghost use Rattle.block_map.specs.Objects.{large_object};
+ghost use Rattle.object_space.specs.AvailableRows.{IsExact};
+ghost use Rattle.object_space.specs.Store.{KeepsPending};
+ghost use Rattle.object_space.specs.Rooms.{FreesCell};
+ghost use Rattle.object_space.specs.Sweeps.{Loses};
+
+use super::ObjectSpace;
+use super::available_pages::AvailablePages;
+use block_map::{BlockMap, Found};
+use pages::PagePool;
+use words::limits::PAGE_WORDS;
+use words::{BitRow, PageNo};
+
+// Frees a cell, and its page with the last one.
+fn free_cell(
+    pool: &mut PagePool,
+    map: &mut BlockMap,
+    available: &mut AvailablePages,
+    pending: &mut BitRow,
+    page: PageNo,
+    cell: u16,
+)
+    requires inside { page < length map.old }
+    requires cell { HasCell (state_at map.old page) cell true }
+    requires size { length pool.old ≡ length map.old }
+    requires exact { IsExact available.old map.old }
+    requires row { length pending.old ≡ length map.old }
+    ensures freed { FreesCell pool.old pool.new map.old map.new page cell }
+    ensures exact { IsExact available.new map.new }
+    ensures pending { KeepsPending page map.old map.new pending.old pending.new }
+{
+    map.put(page, cell);
+    let Some(block) = map.block(page) else {
+        unreachable!();
+    };
+    let class = block.class();
+    let kind = block.kind();
+    if !block.is_empty() {
+        available.enter(class, kind, page);
+        return;
+    }
+    map.uncut(page);
+    pool.give(page, 1);
+    available.leave(class, kind, page);
+    pending.clear(page as usize);
+    // Its clauses tell what is true of the map.
+    let _pages = map.len();
+}
+
+// Frees all pages of the large object that begins on a page.
+fn free_large(pool: &mut PagePool, map: &mut BlockMap, page: PageNo, pages: u32)
+    requires inside { page < length map.old }
+    requires large { (kind : Kind) × (state_at map.old page ≡ head pages kind) × (0 < pages) × (page + pages ≤ length pool.old) }
+    ensures pool { IsFilled pool.old pool.new page pages true }
+    ensures map { IsSpanSet map.old map.new page pages (λ _. free) }
+    ensures removed { (kind : Kind) → state_at map.old page ≡ head pages kind → IsRemoved (found_in map.old) (found_in map.new) (large_object page pages kind) }
+    ensures laid { IsLaid map.old }
+{
+    // Its clauses tell what is true of the map.
+    let _pages = map.len();
+    map.uncut(page);
+    pool.give(page, pages);
+}
+
+impl ObjectSpace {
+    /// Frees an allocated object.
+    pub fn release(&mut self, found: Found)
+        requires found { found_in self.old.states found.base ≡ Some found }
+        requires lawful { IsLawful self.old.states }
+        ensures { Loses self.old found self.new }
+    {
+        let page = found.page;
+        match self.map.block(page) {
+            Some(_) => free_cell(
+                &mut self.pool,
+                &mut self.map,
+                &mut self.available,
+                &mut self.pending,
+                page,
+                found.cell,
+            ),
+            None => free_large(
+                &mut self.pool,
+                &mut self.map,
+                page,
+                found.len / PAGE_WORDS as u32,
+            ),
+        }
+    }
+}

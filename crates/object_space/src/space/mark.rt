@@ -1,0 +1,78 @@
+//! What the marker does with the objects: it reads them by the map and the memory.
+ghost use Rattle.std.specs.Prelude.{◌≡◌, ◌+◌, ◌<◌, ◌≤◌, ◌↔◌, [], true, false, count_by, length, Some, MatchOption};
+ghost use Rattle.words.specs.declared.limits.TheConstants.{FIRST_ADDRESS, MAX_PAGES};
+ghost use Rattle.block_map.specs.declared.found.Found.{Found};
+ghost use Rattle.block_map.specs.FoundIn.{found_in, IsLawful};
+ghost use Rattle.block_map.specs.Walks.{IsNextObject, IsNoObject};
+ghost use Rattle.block_map.specs.States.{IsLaid, IsCut, state_at};
+ghost use Rattle.block_map.specs.Places.{page_start};
+ghost use Rattle.marker.specs.Marking.{IsMarked, IsEmpty, IsClean, IsDone};
+ghost use Rattle.marker.specs.Invariant.{AreRootsMarked, DirtyPageInvariant};
+ghost use Rattle.marker.specs.Closure.{Closure};
+ghost use Rattle.marker.specs.Growth.{Traces};
+ghost use Rattle.marker.specs.Entries.{Takes, TakesOff};
+ghost use Rattle.marker.specs.Retracing.{Retraces};
+ghost use Rattle.words.specs.Bits.{Has};
+ghost use Rattle.object_space.specs.Store.{IsSwept, IsPendingRow};
+ghost use Rattle.object_space.specs.Kept.{IsPendingAfter};
+ghost use Rattle.object_space.specs.Sweeps.{ForgetsUnmarked, ForgetsUnreached, ForgetsLazily, Passes, Drops, DropsObject, Sweeps, SweepsPage};
+
+use super::ObjectSpace;
+use final_pause::close_marks;
+use marker::{Marked, Marker};
+use pages::Reader;
+use words::PageNo;
+
+impl ObjectSpace {
+    /// Marks what root words read.
+    pub fn mark_roots(&self, marker: &mut Marker, roots: &[u64])
+        requires pages { length marker.old.dirty ≡ length self.now.states }
+        ensures traces { Traces (found_in self.now.states) self.now.words roots.now marker.old marker.new }
+        ensures roots { AreRootsMarked (found_in self.now.states) roots.now marker.new }
+        ensures lawful { IsLawful self.now.states }
+    {
+        marker.scan_roots(&self.map, roots);
+    }
+
+    /// Reads at most so many words of entries.
+    pub fn mark(&self, marker: &mut Marker, budget: u64) -> Marked
+        requires pages { length marker.old.dirty ≡ length self.now.states }
+        ensures takes { Takes (found_in self.now.states) self.now.words marker.old result.read marker.new }
+        ensures traces { Traces (found_in self.now.states) self.now.words [] marker.old marker.new }
+        ensures read { result.read ≤ budget }
+        ensures empty { (result.empty ≡ true) ↔ IsEmpty marker.new }
+        ensures fewer { result.read < budget → IsEmpty marker.new }
+        ensures taken { TakesOff (found_in self.now.states) self.now.words marker.old marker.new }
+        ensures lawful { IsLawful self.now.states }
+    {
+        // Its clauses tell what is true of the map.
+        let _pages = self.map.len();
+        let mut reader = Reader::new(&self.memory);
+        marker.step(&self.map, &mut reader, budget)
+    }
+
+    /// Reads the lowest dirty page again.
+    pub fn retrace(&self, marker: &mut Marker) -> Option<PageNo>
+        requires pages { length marker.old.dirty ≡ length self.now.states }
+        ensures page { MatchOption result (IsClean marker.old × (marker.new ≡ marker.old)) (λ p. Retraces (found_in self.now.states) self.now.words p marker.old marker.new) }
+        ensures traces { Traces (found_in self.now.states) self.now.words [] marker.old marker.new }
+        ensures lawful { IsLawful self.now.states }
+    {
+        // Its clauses tell what is true of the map.
+        let _pages = self.map.len();
+        let mut reader = Reader::new(&self.memory);
+        marker.retrace(&self.map, &mut reader)
+    }
+
+    // Marks all that the roots and the marks reach.
+    pub(super) fn close(&self, marker: &mut Marker, roots: &[u64])
+        requires pages { length marker.old.dirty ≡ length self.now.states }
+        requires invariant { DirtyPageInvariant (found_in self.now.states) self.now.words marker.old }
+        ensures closure { (f : Found) → found_in self.now.states f.base ≡ Some f → (IsMarked marker.new f.base ↔ Closure (found_in self.now.states) self.now.words roots.now (IsMarked marker.old) f) }
+        ensures done { IsDone marker.new }
+        ensures traces { Traces (found_in self.now.states) self.now.words roots.now marker.old marker.new }
+    {
+        let mut reader = Reader::new(&self.memory);
+        close_marks(marker, &self.map, &mut reader, roots);
+    }
+}

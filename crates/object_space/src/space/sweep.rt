@@ -1,0 +1,143 @@
+//! Sweeping: the unmarked objects of a page go, and what is kept stays.
+ghost use Rattle.std.specs.Prelude.{◌≡◌, ◌+◌, ◌<◌, ◌≤◌, ◌↔◌, [], true, false, count_by, length, Some, MatchOption};
+ghost use Rattle.words.specs.declared.limits.TheConstants.{FIRST_ADDRESS, MAX_PAGES};
+ghost use Rattle.block_map.specs.declared.found.Found.{Found};
+ghost use Rattle.block_map.specs.FoundIn.{found_in, IsLawful};
+ghost use Rattle.block_map.specs.Walks.{IsNextObject, IsNoObject};
+ghost use Rattle.block_map.specs.States.{IsLaid, IsCut, state_at};
+ghost use Rattle.block_map.specs.Places.{page_start};
+ghost use Rattle.marker.specs.Marking.{IsMarked, IsEmpty, IsClean, IsDone};
+ghost use Rattle.marker.specs.Invariant.{AreRootsMarked, DirtyPageInvariant};
+ghost use Rattle.marker.specs.Closure.{Closure};
+ghost use Rattle.marker.specs.Growth.{Traces};
+ghost use Rattle.marker.specs.Entries.{Takes, TakesOff};
+ghost use Rattle.marker.specs.Retracing.{Retraces};
+ghost use Rattle.words.specs.Bits.{Has};
+ghost use Rattle.object_space.specs.Store.{IsSwept, IsPendingRow};
+ghost use Rattle.object_space.specs.Kept.{IsPendingAfter};
+ghost use Rattle.object_space.specs.Sweeps.{ForgetsUnmarked, ForgetsUnreached, ForgetsLazily, Passes, Drops, DropsObject, Sweeps, SweepsPage};
+
+use super::ObjectSpace;
+use super::allocate::start_of;
+use block_map::Found;
+use marker::Marker;
+use words::PageNo;
+use words::limits::{FIRST_ADDRESS, PAGE_BYTES, WORD_BYTES};
+
+// How far a look at one object came, and how many objects it forgot.
+#[derive(Clone, Copy)]
+pub(super) struct Passed {
+    pub(super) next: u64,
+    pub(super) forgotten: u64,
+}
+
+impl ObjectSpace {
+    // The first object that has a byte of the page from an address on.
+    pub(super) fn next_on_page(&self, page: PageNo, from: u64) -> Option<Found>
+        requires inside { page < length self.now.states }
+        requires from { page_start page ≤ from }
+        ensures next { MatchOption result (IsNoObject (found_in self.now.states) from (page_start (page + 1))) (λ f. IsNextObject (found_in self.now.states) from (page_start (page + 1)) f) }
+        ensures lawful { IsLawful self.now.states }
+    {
+        // Its clauses tell what is true of the map.
+        let _pages = self.map.len();
+        self.map.next_on_page(page, from)
+    }
+
+    // The address past the last byte.
+    pub(super) fn end(&self) -> u64
+        ensures end { result ≡ page_start (length self.now.states) }
+        ensures lawful { IsLawful self.now.states }
+        ensures few { length self.now.states ≤ MAX_PAGES }
+        ensures laid { IsLaid self.now.states }
+    {
+        FIRST_ADDRESS + PAGE_BYTES * u64::from(self.map.len())
+    }
+
+    // Looks at the first object of a page from an address on, and forgets it if it isn't marked.
+    fn forget_next(&mut self, marker: &Marker, address: u64) -> Passed
+        requires pages { length marker.now.dirty ≡ length self.old.states }
+        requires low { FIRST_ADDRESS ≤ address }
+        requires inside { address < page_start (length self.old.states) }
+        ensures passes { Passes self.old marker.now address result.next result.forgotten self.new }
+        ensures lawful { IsLawful self.old.states }
+    {
+        // Its clauses tell how many marks there are.
+        marker.laws();
+        let page = ((address - FIRST_ADDRESS) / PAGE_BYTES) as PageNo;
+        let Some(found) = self.next_on_page(page, address) else {
+            return Passed {
+                next: FIRST_ADDRESS + PAGE_BYTES * (u64::from(page) + 1),
+                forgotten: 0,
+            };
+        };
+        let next = found.base + WORD_BYTES * u64::from(found.len);
+        if marker.is_marked(found.base) {
+            return Passed { next, forgotten: 0 };
+        }
+        self.release(found);
+        Passed { next, forgotten: 1 }
+    }
+
+    // Forgets the objects that aren't marked, and answers how many.
+    pub(super) fn forget_unmarked(&mut self, marker: &Marker) -> u64
+        requires pages { length marker.now.dirty ≡ length self.old.states }
+        ensures { ForgetsUnmarked self.old marker.now result self.new }
+    {
+        let end = self.end();
+        let mut address = FIRST_ADDRESS;
+        let mut count = 0;
+        while address < end {
+            let passed = self.forget_next(marker, address);
+            address = passed.next;
+            count += passed.forgotten;
+        }
+        count
+    }
+
+    // Sweeps a page.
+    pub(super) fn sweep_page(&mut self, marker: &Marker, page: PageNo)
+        requires pages { length marker.now.dirty ≡ length self.old.states }
+        requires inside { page < length self.old.states }
+        requires was { Has self.old.pending page }
+        ensures { SweepsPage self.old marker.now.marks page self.new }
+    {
+        // Its clauses tell what is true of the map, and that the page is cut.
+        let _end = self.end();
+        let Some(_) = self.map.block(page) else {
+            unreachable!();
+        };
+        let end = start_of(page) + PAGE_BYTES;
+        let mut address = start_of(page);
+        while address < end {
+            let passed = self.forget_next(marker, address);
+            address = passed.next;
+        }
+        self.pending.clear(page as usize);
+    }
+
+    /// Sweeps one page, if one is still to be swept. Answers whether one was.
+    pub fn sweep(&mut self, marker: &Marker) -> bool
+        requires pages { length marker.now.dirty ≡ length self.old.states }
+        ensures sweeps { Sweeps self.old marker.now.marks self.new }
+        ensures none { result ≡ false → IsSwept self.old × (self.new ≡ self.old) }
+        ensures fewer { result ≡ true → count_by (λ b. b) self.new.pending + 1 ≡ count_by (λ b. b) self.old.pending }
+    {
+        // Its clauses tell that there are few.
+        let _pages = self.map.len();
+        let Some(page) = self.pending.next(0) else {
+            return false;
+        };
+        self.sweep_page(marker, page as PageNo);
+        true
+    }
+
+    /// Sweeps all pages that are still to be swept.
+    pub fn sweep_all(&mut self, marker: &Marker)
+        requires pages { length marker.now.dirty ≡ length self.old.states }
+        ensures sweeps { Sweeps self.old marker.now.marks self.new }
+        ensures swept { IsSwept self.new }
+    {
+        while self.sweep(marker) {}
+    }
+}

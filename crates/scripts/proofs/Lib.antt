@@ -1,0 +1,7 @@
+pub mod Bytes
+pub mod Decimals
+pub mod Splitting
+pub mod FirstWords
+pub mod Texts
+pub mod Inputs
+pub mod Serving

@@ -1,0 +1,5 @@
+use Rattle.scripts.proofs.Decimals.{past}
+use Rattle.scripts.proofs.numbers.small_number.Goals as goal
+
+pub returns-else-n-lt256 : goal.returns-else-n-lt256
+returns-else-n-lt256 c = past 256 _ _ c.if-n-lt256.false c.in-Some.ensures.1 c.in-Some.ensures.0

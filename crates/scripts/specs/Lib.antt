@@ -1,0 +1,10 @@
+pub mod Grammar
+pub mod WordsLeft
+pub mod Fields
+pub mod Calls
+pub mod Lines
+pub mod Reading
+pub mod Printing
+pub mod Answers
+pub mod Ends
+pub mod Turns

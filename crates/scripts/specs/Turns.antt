@@ -1,0 +1,55 @@
+-- A run of a script, line by line.
+use Rattle.std.specs.Prelude.{◌≡◌, ℕ, ◌+◌, Option, List, [], ◌∷◌, ◌++◌, length, take, map, flat_map, All, Result, Ok, Err, ⊤}
+use Rattle.std.specs.List.{AllZip}
+use Rattle.std.specs.Io.KnownBytes.{Consumes, Appends}
+use Rattle.heap_spec.specs.declared.event.Event.{Event}
+use Rattle.heap_spec.specs.declared.reply.Reply.{Reply}
+use Rattle.heap_spec.specs.Runs.{Told, Run, Touched, fresh}
+use Rattle.heap_spec.specs.Transcripts.{LegalTranscript}
+use Rattle.heap_core.specs.Contents.{Contents}
+use Rattle.heap_core.specs.Following.{Follows, IsLine}
+use Rattle.scripts.specs.declared.errors.ScriptError.{ScriptError}
+use Rattle.scripts.specs.declared.errors.ScriptError.TheVariants.{BadLine, Read, Write, Memory}
+use Rattle.scripts.specs.Grammar.{IsLineOf, IsBad}
+use Rattle.scripts.specs.Lines.{newline}
+use Rattle.scripts.specs.Reading.{IsPlain}
+use Rattle.scripts.specs.Printing.{reply_line, printed}
+
+-- The line is a command's, and the core did it with a reply that prints so.
+pub record IsRun (pages : ℕ) (line : List ℕ) (old new : Contents) (out : List ℕ) : Type 0 where
+  pub command : Event
+  pub reply : Reply
+  pub is_line : IsLineOf line command
+  pub does : IsLine old command reply new
+  pub prints : out ≡ reply_line pages reply
+
+-- What a line of some number leads to: it is run and answered, or it is bad, or a front of its answer was written.
+abbrev pub IsTurn : ℕ → ℕ → List ℕ → Contents → Contents → Option (List ℕ) → Option (List ℕ) → Result ⊤ ScriptError → Type 0
+IsTurn pages number line old new wrote writes (Ok done) = (out : List ℕ) × IsRun pages line old new out × Appends wrote writes out
+IsTurn pages number line old new wrote writes (Err (BadLine n)) = (n ≡ number) × IsBad line × Appends wrote writes []
+IsTurn pages number line old new wrote writes (Err Write) = (out : List ℕ) × (n : ℕ) × IsRun pages line old new out × Appends wrote writes (take n out)
+IsTurn pages number line old new wrote writes (Err Read) = ⊥
+IsTurn pages number line old new wrote writes (Err Memory) = ⊥
+
+-- lines, each with its newline
+abbrev pub text_of : List (List ℕ) → List ℕ
+text_of lines = flat_map (λ line. line ++ newline ∷ []) lines
+
+-- Some lines were run and answered: what was read and written since the start, the transcript, and the core after it.
+pub record HasRun (pages : ℕ) (core : Contents) (lines : List (List ℕ)) (out : List ℕ) : Type 0 where
+  pub told : List Told
+  pub last : Run
+  pub plain : All IsPlain lines
+  pub commands : AllZip IsLineOf lines (map (λ (t : Told). t.event) told)
+  pub legal : LegalTranscript Touched (fresh pages) [] told last
+  pub prints : out ≡ printed pages told
+  pub follows : Follows core (fresh pages) last
+
+-- The lines before this number were run, since the start.
+pub record IsUpTo (pages number : ℕ) (core : Contents) (input left : Option (List ℕ)) (held written : Option (List ℕ)) : Type 0 where
+  pub lines : List (List ℕ)
+  pub out : List ℕ
+  pub run : HasRun pages core lines out
+  pub count : length lines + 1 ≡ number
+  pub read : Consumes input left (text_of lines)
+  pub wrote : Appends held written out

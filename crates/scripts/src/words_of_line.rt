@@ -1,0 +1,113 @@
+//! The words of a line, one after another.
+ghost use Rattle.std.specs.Prelude.{◌≡◌, ℕ, List, ◌∷◌, [], IfSome, IfNone, MatchOption, MatchBool};
+ghost use Rattle.scripts.specs.Grammar.{words_of};
+ghost use Rattle.scripts.specs.Fields.{ReadsOne, ReadsTwo, ReadsThree};
+
+use crate::field::Field;
+use std::marker::Model;
+
+/// The first word of a line, and what stands after the space behind it.
+fn next_word(line: &[u8]) -> (&[u8], Option<&[u8]>)
+    ensures last { IfNone result.1 (words_of line.now ≡ result.0.now ∷ []) }
+    ensures more { IfSome result.1 (λ rest. words_of line.now ≡ result.0.now ∷ words_of rest.now) }
+{
+    for i in 0..line.len() {
+        if line[i] == b' ' {
+            return (&line[..i], Some(&line[i + 1..]));
+        }
+    }
+    (line, None)
+}
+
+/// What is left of a line, seen as its words.
+#[derive(Drop)]
+pub struct Words<'a> {
+    rest: Option<&'a [u8]>,
+}
+
+impl<'a> Model for Words<'a> {
+    ghost use Rattle.std.specs.Prelude.{List, ℕ};
+    ghost use Rattle.scripts.specs.WordsLeft.{words_left};
+
+    ghost Value = { List (List ℕ) };
+
+    ghost view = { λ w. words_left w.rest };
+}
+
+impl<'a> Words<'a> {
+    /// The words of a line.
+    pub fn of(line: &'a [u8]) -> Words<'a>
+        ensures { result ≡ words_of line.now }
+    {
+        Words { rest: Some(line) }
+    }
+
+    /// Takes the next word.
+    pub fn word(&mut self) -> Option<&'a [u8]>
+        ensures { MatchOption result (self.old ≡ []) (λ word. self.old ≡ word.now ∷ self.new) }
+    {
+        let Some(rest) = self.rest else {
+            return None;
+        };
+        let (word, rest) = next_word(rest);
+        self.rest = rest;
+        Some(word)
+    }
+
+    /// Takes the next word, which is to be of this field.
+    fn next<A: Field>(&mut self) -> Option<A>
+        ensures { MatchOption result ((a : A) (rest : List (List ℕ)) → A.fits a → self.old ≡ A.text a ∷ rest → ⊥)
+            (λ a. (self.old ≡ A.text a ∷ self.new) × A.fits a) }
+    {
+        let Some(word) = self.word() else {
+            return None;
+        };
+        A::read(word)
+    }
+
+    /// Takes the last word, which is to be of this field.
+    pub fn one<A: Field>(&mut self) -> Option<A>
+        ensures { ReadsOne A.text A.fits self.old result }
+    {
+        let Some(a) = self.next() else {
+            return None;
+        };
+        self.is_done().then_some(a)
+    }
+
+    /// Takes the last two words, which are to be of these fields.
+    pub fn two<A: Field, B: Field>(&mut self) -> Option<(A, B)>
+        ensures { ReadsTwo A.text A.fits B.text B.fits self.old result }
+    {
+        let Some(a) = self.next() else {
+            return None;
+        };
+        let Some(b) = self.one() else {
+            return None;
+        };
+        Some((a, b))
+    }
+
+    /// Takes the last three words, which are to be of these fields.
+    pub fn three<A: Field, B: Field, C: Field>(&mut self) -> Option<(A, B, C)>
+        ensures { ReadsThree A.text A.fits B.text B.fits C.text C.fits self.old result }
+    {
+        let Some(a) = self.next() else {
+            return None;
+        };
+        let Some((b, c)) = self.two() else {
+            return None;
+        };
+        Some((a, b, c))
+    }
+
+    /// Whether no word is left.
+    pub fn is_done(&self) -> bool
+        ensures { MatchBool result (self.now ≡ []) (self.now ≡ [] → ⊥) }
+    {
+        match self.rest {
+            None => true,
+            Some(_) => false,
+        }
+    }
+}

@@ -1,0 +1,37 @@
+use Rattle.std.proofs.Common.{◌≡◌, true, false, not, sym, ap, subst, refl, ◌∙◌}
+use Rattle.words.specs.declared.refusal.Refusal.TheVariants.{WrongPhase}
+use Rattle.heap_spec.specs.declared.event.Event.TheVariants.{Begin}
+use Rattle.heap_spec.specs.declared.reply.Reply.{Reply}
+use Rattle.heap_spec.specs.declared.reply.Reply.TheVariants.{Done}
+use Rattle.heap_spec.specs.SequentialObject.{Opens, StateStep}
+use Rattle.history.proofs.Headlines.{extended, looked}
+use Rattle.heap_history.specs.Ranks.{rank_of}
+use Rattle.heap_history.specs.Passes.{HeapPass, is_marking as marks}
+use Rattle.heap_history.specs.Headline.{Extends, Looks}
+use Rattle.shared.proofs.Passing.{phase_is}
+use Rattle.shared.proofs.heap.SharedHeap.begin.Goals as goal
+
+pub returns-then-is_marking : goal.returns-then-is_marking
+returns-then-is_marking g c =
+    let st = c.object.ensures.stands in
+    let l = c.learn.ensures in
+    let new = c.learn.new.logged in
+    let seen = ap (λ p. p.seen) l.pass ∙ ap (λ x. x.history) (sym l.logged) in
+    let phase = phase_is new.object st.state new.history c.learn.new.pass.seen c.learn.new.pass.mine c.learn.new.pass.slot (ap (λ p. p.slot) l.pass ∙ c.me.invariant) seen l.agrees.owned st.reached st.stood_for ∙ ap marks (ap (λ p. p.mine) l.pass) in
+    let was = sym phase ∙ (ap (λ x. x.cycle.is_marking) (sym c.object.ensures.object) ∙ (sym c.is_marking.ensures.phase ∙ c.if-is_marking.true)) in
+    subst (λ (p : HeapPass). (marks p.mine ≡ true) × (WrongPhase ≡ WrongPhase) × Looks g.J.Naming.origin p c.learn.new.pass) c.me.view_is
+    (was, refl, looked rank_of (Opens g.J.Naming.origin) StateStep c.me.inside.pass c.learn.new.pass c.deref_mut-logged.result.now.history l.before l.pass l.agrees)
+
+pub returns : goal.returns
+returns g c =
+    let st = c.object.ensures.stands in
+    let l = c.learn.ensures in
+    let new = c.learn.new.logged in
+    let seen = ap (λ p. p.seen) l.pass ∙ ap (λ x. x.history) (sym l.logged) in
+    let phase = phase_is new.object st.state new.history c.learn.new.pass.seen c.learn.new.pass.mine c.learn.new.pass.slot (ap (λ p. p.slot) l.pass ∙ c.me.invariant) seen l.agrees.owned st.reached st.stood_for ∙ ap marks (ap (λ p. p.mine) l.pass) in
+    let was = sym phase ∙ (ap (λ x. x.cycle.is_marking) (sym c.object.ensures.object) ∙ (sym c.is_marking.ensures.phase ∙ c.if-is_marking.false)) in
+    let said = (c.act.ensures.step st.state st.stood_for).1.happens.1.0 in
+    let asked = extended rank_of (Opens g.J.Naming.origin) StateStep c.me.inside.pass c.learn.new.pass c.act.new.pass c.deref_mut-logged.result.now.history c.learn.new.logged.history c.act.new.logged.history Begin c.act.result
+    l.before l.pass (ap (λ x. x.history) l.logged) c.act.ensures.history c.act.ensures.pass c.act.ensures.agrees in
+    subst (λ (p : HeapPass). (marks p.mine ≡ false) × Extends g.J.Naming.origin p Begin Done c.act.new.pass) c.me.view_is
+    (was, subst (λ (r : Reply). Extends g.J.Naming.origin c.me.inside.pass Begin r c.act.new.pass) said asked)

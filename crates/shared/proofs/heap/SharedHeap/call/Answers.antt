@@ -1,0 +1,35 @@
+use Rattle.std.proofs.Common.{sym, ap, subst, ◌∙◌, ℕ}
+use Rattle.heap_spec.specs.declared.event.Event.TheVariants.{Mutator}
+use Rattle.heap_spec.specs.SequentialObject.{Opens, StateStep}
+use Rattle.history.proofs.Headlines.{extended}
+use Rattle.heap_history.specs.Ranks.{rank_of}
+use Rattle.heap_history.specs.Passes.{HeapPass}
+use Rattle.heap_history.specs.Headline.{Extends, Makes}
+use Rattle.heap_history.proofs.Telling.{has_slot, answers}
+use Rattle.shared.proofs.Passing.{caller_can}
+use Rattle.shared.proofs.heap.SharedHeap.call.Goals as goal
+
+pub act-requires-clause-can : goal.act-requires-clause-can
+act-requires-clause-can g c =
+    let st = c.object-object.ensures.stands in
+    let l = c.learn.ensures in
+    let new = c.learn.new.logged in
+    caller_can new.object st.state new.history c.learn.new.pass.seen c.learn.new.pass.slot c.me.inside.pass.slot c.me.inside.slot
+    (ap (λ p. p.slot) l.pass) c.me.invariant.slot_is c.me.invariant.range (ap (λ p. p.seen) l.pass ∙ ap (λ x. x.history) (sym l.logged)) l.agrees.owned.live st.reached st.stood_for
+
+pub returns-clause-makes : goal.returns-clause-makes
+returns-clause-makes g c =
+    let st = c.object-object.ensures.stands in
+    let l = c.learn.ensures in
+    let step = (c.act.ensures.step st.state st.stood_for).1 in
+    let asked = extended rank_of (Opens g.J.Naming.origin) StateStep c.me.inside.pass c.learn.new.pass c.act.new.pass c.deref_mut-logged.result.now.history c.learn.new.logged.history c.act.new.logged.history (Mutator c.me.inside.slot c.args.call) c.act.result
+    l.before l.pass (ap (λ x. x.history) l.logged) c.act.ensures.history c.act.ensures.pass c.act.ensures.agrees in
+    subst (λ (p : HeapPass). Makes g.J.Naming.origin p c.args.call c.act.result c.act.new.pass) c.me.view_is (record {
+      extends = subst (λ (n : ℕ). Extends g.J.Naming.origin c.me.inside.pass (Mutator n c.args.call) c.act.result c.act.new.pass) (sym c.me.invariant.slot_is) asked;
+      has_slot = has_slot _ _ _ _ c.args.call c.act.result step;
+    })
+
+pub returns-clause-answers : goal.returns-clause-answers
+returns-clause-answers g c =
+    let st = c.object-object.ensures.stands in
+    answers _ _ _ _ c.args.call c.act.result (c.act.ensures.step st.state st.stood_for).1

@@ -1,0 +1,42 @@
+use Rattle.std.proofs.Common.{◌≡◌, true, false, not, sym, ap, subst, refl, ◌∙◌}
+use Rattle.words.specs.declared.refusal.Refusal.TheVariants.{WrongPhase}
+use Rattle.heap_spec.specs.declared.event.Event.TheVariants.{Finish}
+use Rattle.heap_spec.specs.declared.reply.Reply.TheVariants.{Count}
+use Rattle.heap_spec.specs.SequentialObject.{Opens, StateStep}
+use Rattle.history.proofs.Headlines.{extended, looked}
+use Rattle.heap_history.specs.Ranks.{rank_of}
+use Rattle.heap_history.specs.Passes.{HeapPass, is_marking as marks}
+use Rattle.heap_history.specs.Headline.{Extends, Looks, IsGrantedIn}
+use Rattle.shared.proofs.Passing.{phase_is}
+use Rattle.shared.proofs.Granting.{is_count, finished}
+use Rattle.shared.proofs.heap.SharedHeap.finish.Goals as goal
+
+pub returns-then-not-is_marking : goal.returns-then-not-is_marking
+returns-then-not-is_marking g c =
+    let st = c.object.ensures.stands in
+    let l = c.learn.ensures in
+    let new = c.learn.new.logged in
+    let seen = ap (λ p. p.seen) l.pass ∙ ap (λ x. x.history) (sym l.logged) in
+    let phase = phase_is new.object st.state new.history c.learn.new.pass.seen c.learn.new.pass.mine c.learn.new.pass.slot (ap (λ p. p.slot) l.pass ∙ c.me.invariant) seen l.agrees.owned st.reached st.stood_for ∙ ap marks (ap (λ p. p.mine) l.pass) in
+    let was = sym phase ∙ (ap (λ x. x.cycle.is_marking) (sym c.object.ensures.object) ∙ (sym c.is_marking.ensures.phase ∙ c.if-not-is_marking.true)) in
+    subst (λ (p : HeapPass). (marks p.mine ≡ false) × (WrongPhase ≡ WrongPhase) × Looks g.J.Naming.origin p c.learn.new.pass) c.me.view_is
+    (was, refl, looked rank_of (Opens g.J.Naming.origin) StateStep c.me.inside.pass c.learn.new.pass c.deref_mut-logged.result.now.history l.before l.pass l.agrees)
+
+pub count-requires : goal.count-requires
+count-requires g c =
+    let st = c.object.ensures.stands in
+    is_count c.act.result _ (c.act.ensures.step st.state st.stood_for).1.happens.1.takes.number
+
+pub returns : goal.returns
+returns g c =
+    let st = c.object.ensures.stands in
+    let l = c.learn.ensures in
+    let new = c.learn.new.logged in
+    let seen = ap (λ p. p.seen) l.pass ∙ ap (λ x. x.history) (sym l.logged) in
+    let phase = phase_is new.object st.state new.history c.learn.new.pass.seen c.learn.new.pass.mine c.learn.new.pass.slot (ap (λ p. p.slot) l.pass ∙ c.me.invariant) seen l.agrees.owned st.reached st.stood_for ∙ ap marks (ap (λ p. p.mine) l.pass) in
+    let was = sym phase ∙ (ap (λ x. x.cycle.is_marking) (sym c.object.ensures.object) ∙ (sym c.is_marking.ensures.phase ∙ c.if-not-is_marking.false)) in
+    let said = (c.act.ensures.step st.state st.stood_for).1.happens.1.takes.number in
+    let asked = extended rank_of (Opens g.J.Naming.origin) StateStep c.me.inside.pass c.learn.new.pass c.act.new.pass c.deref_mut-logged.result.now.history c.learn.new.logged.history c.act.new.logged.history Finish c.act.result
+    l.before l.pass (ap (λ x. x.history) l.logged) c.act.ensures.history c.act.ensures.pass c.act.ensures.agrees in
+    subst (λ (p : HeapPass). IsGrantedIn true g.J.Naming.origin p Finish Count c.count.result c.act.new.pass) c.me.view_is
+    (finished g.J.Naming.origin c.me.inside.pass c.act.new.pass c.count.result c.act.result _ c.count.ensures said was asked)

@@ -1,0 +1,82 @@
+//! The calls of the collector. Granted ones are events; `quiet` and refused ones are none.
+ghost use Rattle.std.specs.Prelude.{◌≡◌, true, false};
+ghost use Rattle.heap_spec.specs.declared.event.Event.TheVariants.{Begin, Finish, Collect};
+ghost use Rattle.heap_spec.specs.declared.reply.Reply.TheVariants.{Done, Count};
+ghost use Rattle.heap_core.specs.Contents.{Contents};
+ghost use Rattle.heap_history.specs.Passes.{is_marking};
+ghost use Rattle.heap_history.specs.Headline.{Extends, Looks, IsGrantedIn};
+
+use crate::heap::SharedHeap;
+use crate::replies::count;
+use crate::tokens::Collector;
+use heap_core::Core;
+use heap_spec::{Event, Reply};
+use history::{Naming, Quiet};
+use std::sync::Wait;
+use words::Refusal;
+
+impl<J: Naming> SharedHeap<J> {
+    /// Begins a cycle.
+    ///
+    /// # Errors
+    /// [`Refusal::WrongPhase`] exactly while one is marking, which the collector's own events tell.
+    pub fn begin(&self, rt: &impl Wait, me: &mut Collector<J>) -> Result<(), Refusal>
+        ensures { IsGrantedIn false J.origin me.old Begin (λ _. Done) result me.new }
+    {
+        let mut guard = self.lock.lock(rt);
+        let logged = &mut *guard;
+        self.log.learn(logged, &mut me.pass);
+        if logged.object().is_marking() {
+            return Err(Refusal::WrongPhase);
+        }
+        self.log.act(logged, &mut me.pass, &Event::Begin);
+        Ok(())
+    }
+
+    /// Ends the cycle, and answers how many objects it forgot.
+    ///
+    /// # Errors
+    /// [`Refusal::WrongPhase`] exactly while none is marking, which the collector's own events tell.
+    pub fn finish(&self, rt: &impl Wait, me: &mut Collector<J>) -> Result<u64, Refusal>
+        ensures { IsGrantedIn true J.origin me.old Finish Count result me.new }
+    {
+        let mut guard = self.lock.lock(rt);
+        let logged = &mut *guard;
+        self.log.learn(logged, &mut me.pass);
+        if !logged.object().is_marking() {
+            return Err(Refusal::WrongPhase);
+        }
+        count(self.log.act(logged, &mut me.pass, &Event::Finish))
+    }
+
+    /// Collects in full, in any phase, and answers how many objects it forgot.
+    pub fn collect(&self, rt: &impl Wait, me: &mut Collector<J>) -> u64
+        ensures { Extends J.origin me.old Collect (Count result) me.new }
+    {
+        let mut guard = self.lock.lock(rt);
+        let logged = &mut *guard;
+        self.log.learn(logged, &mut me.pass);
+        let _object = logged.object();
+        match self.log.act(logged, &mut me.pass, &Event::Collect) {
+            Reply::Count(count) => count,
+            _ => unreachable!(),
+        }
+    }
+
+    /// Runs work that is no event on the core, under the lock: on some core that is marking exactly if the collector's own events say so.
+    pub fn quiet<Q: Quiet<Core>>(
+        &self,
+        rt: &impl Wait,
+        me: &mut Collector<J>,
+        work: &mut Q,
+    ) -> Q::Answer
+        ensures gives { (before : Contents) × (after : Contents) × Q.gives work.old before result work.new after × (before.cycle.is_marking ≡ is_marking me.old.mine) }
+        ensures looks { Looks J.origin me.old me.new }
+    {
+        let mut guard = self.lock.lock(rt);
+        let logged = &mut *guard;
+        self.log.learn(logged, &mut me.pass);
+        let _object = logged.object();
+        logged.quiet(work)
+    }
+}

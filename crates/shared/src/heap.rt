@@ -1,0 +1,76 @@
+//! The heap, and how mutators come and go.
+ghost use Rattle.std.specs.Prelude.{◌≡◌, [], MatchResult};
+ghost use Rattle.words.specs.declared.limits.TheConstants.{SLOTS};
+ghost use Rattle.words.specs.declared.refusal.Refusal.TheVariants.{NoSlot};
+ghost use Rattle.heap_history.specs.Headline.{Begun, Makes};
+ghost use Rattle.heap_history.specs.Replies.{Answers};
+ghost use Rattle.shared.specs.Calls.{IsNoDetach};
+
+use crate::tokens::{Collector, Mutator};
+use heap_core::Core;
+use heap_spec::{Call, Event, Reply};
+use history::{Log, Logged, Naming, Opened};
+use std::sync::{Mutex, Wait};
+use words::Refusal;
+
+/// The history's word, and the core under its lock. `J` names the heap: what has that name belongs to it.
+#[derive(Drop)]
+pub struct SharedHeap<J: Naming> {
+    pub(crate) log: Log<Core, J>,
+    pub(crate) lock: Mutex<Logged<Core, J>>,
+}
+
+impl<J: Naming> SharedHeap<J> {
+    /// The heap that was opened, under the name that was picked for it, and its collector, which has seen nothing.
+    pub fn named(opened: Opened<Core>) -> (SharedHeap<J>, Collector<J>)
+        requires table { opened.table ≡ J.table }
+        requires pages { opened.origin ≡ J.origin }
+        ensures { result.1 ≡ record { slot = SLOTS; seen = []; mine = [] } }
+    {
+        let (log, logged, pass) = opened.named::<J>();
+        let lock = Mutex::new(logged);
+        (SharedHeap { log, lock }, Collector { pass })
+    }
+
+    /// A new mutator, in the lowest slot that has none, with registers of 0 and an empty stack.
+    ///
+    /// # Errors
+    /// [`Refusal::NoSlot`]: all slots have a mutator.
+    pub fn attach(&self, rt: &impl Wait) -> Result<Mutator<J>, Refusal>
+        ensures { MatchResult result (λ m. Begun J.origin m) (λ refusal. refusal ≡ NoSlot) }
+    {
+        let mut guard = self.lock.lock(rt);
+        let logged = &mut *guard;
+        let Some(slot) = logged.object().vacant() else {
+            return Err(Refusal::NoSlot);
+        };
+        let (pass, _reply) = self.log.first(logged, slot.number(), &Event::Attach);
+        Ok(Mutator { slot, pass })
+    }
+
+    /// A mutator's last call. Its slot is free from then on.
+    pub fn detach(&self, rt: &impl Wait, me: Mutator<J>) {
+        let Mutator { slot, mut pass } = me;
+        let mut guard = self.lock.lock(rt);
+        let logged = &mut *guard;
+        // The history says that the slot is attached, and the core stands for where it leads.
+        self.log.learn(logged, &mut pass);
+        let _object = logged.object();
+        self.log
+            .last(logged, pass, &Event::Mutator(slot, Call::Detach));
+    }
+
+    // A mutator's call.
+    pub(crate) fn call(&self, rt: &impl Wait, me: &mut Mutator<J>, call: Call) -> Reply
+        requires { IsNoDetach call }
+        ensures makes { Makes J.origin me.old call result me.new }
+        ensures answers { Answers call result }
+    {
+        let event = Event::Mutator(me.slot, call);
+        let mut guard = self.lock.lock(rt);
+        let logged = &mut *guard;
+        self.log.learn(logged, &mut me.pass);
+        let _object = logged.object();
+        self.log.act(logged, &mut me.pass, &event)
+    }
+}

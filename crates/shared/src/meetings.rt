@@ -1,0 +1,53 @@
+//! The calls that take no lock and wait for nobody.
+ghost use Rattle.std.specs.Prelude.{◌≡◌, ◌≢◌, ◌%◌, ◌^◌, ◌⊎◌};
+ghost use mathlib.Core.List.{IsPrefix};
+ghost use Rattle.history.specs.Histories.{count};
+ghost use Rattle.history.specs.Passes.{longer};
+ghost use Rattle.heap_history.specs.Ranks.{rank_of};
+ghost use Rattle.heap_history.specs.Passes.{IsFine};
+ghost use Rattle.heap_history.specs.Headline.{Looks};
+
+use crate::heap::SharedHeap;
+use crate::tokens::{Collector, Mutator};
+use history::Naming;
+
+impl<J: Naming> SharedHeap<J> {
+    /// How many collections were granted in the history that the mutator has then seen.
+    pub fn gc_no(&self, me: &mut Mutator<J>) -> u64
+        ensures looks { Looks J.origin me.old me.new }
+        ensures count { result ≡ count rank_of me.new.seen % 2 ^ 64 }
+    {
+        self.log.count(&mut me.pass)
+    }
+
+    /// How many collections were granted, which the collector's own events tell.
+    pub fn gc_no_of(&self, collector: &mut Collector<J>) -> u64
+        ensures looks { Looks J.origin collector.old collector.new }
+        ensures count { result ≡ count rank_of collector.new.mine % 2 ^ 64 }
+    {
+        self.log.count(&mut collector.pass)
+    }
+
+    /// Both have then seen what one of them had.
+    pub fn meet(&self, a: &mut Mutator<J>, b: &mut Mutator<J>)
+        ensures apart { a.old.slot ≢ b.old.slot }
+        ensures one { IsPrefix a.old.seen b.old.seen ⊎ IsPrefix b.old.seen a.old.seen }
+        ensures a { a.new ≡ record { slot = a.old.slot; seen = longer a.old.seen b.old.seen; mine = a.old.mine } }
+        ensures b { b.new ≡ record { slot = b.old.slot; seen = longer a.old.seen b.old.seen; mine = b.old.mine } }
+        ensures a_fine { IsFine J.origin a.new }
+        ensures b_fine { IsFine J.origin b.new }
+    {
+        self.log.meet(&mut a.pass, &mut b.pass);
+    }
+
+    /// Both have then seen what one of them had.
+    pub fn meet_collector(&self, me: &mut Mutator<J>, collector: &mut Collector<J>)
+        ensures one { IsPrefix me.old.seen collector.old.seen ⊎ IsPrefix collector.old.seen me.old.seen }
+        ensures me { me.new ≡ record { slot = me.old.slot; seen = longer me.old.seen collector.old.seen; mine = me.old.mine } }
+        ensures collector { collector.new ≡ record { slot = collector.old.slot; seen = longer me.old.seen collector.old.seen; mine = collector.old.mine } }
+        ensures me_fine { IsFine J.origin me.new }
+        ensures collector_fine { IsFine J.origin collector.new }
+    {
+        self.log.meet(&mut me.pass, &mut collector.pass);
+    }
+}

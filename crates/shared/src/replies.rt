@@ -1,0 +1,43 @@
+//! Replies as the results of calls.
+ghost use Rattle.std.specs.Prelude.{◌≡◌};
+ghost use Rattle.heap_spec.specs.Replies.{count_reply, done_reply, word_reply};
+ghost use Rattle.heap_history.specs.Replies.{IsDone, IsWord, IsCount};
+
+use heap_spec::Reply;
+use words::Refusal;
+
+/// Of a call that answers nothing more than that it is done.
+pub fn done(reply: Reply) -> Result<(), Refusal>
+    requires { IsDone reply }
+    ensures { done_reply result ≡ reply }
+{
+    match reply {
+        Reply::Done => Ok(()),
+        Reply::Refused(refusal) => Err(refusal),
+        _ => unreachable!(),
+    }
+}
+
+/// Of a call that answers a word.
+pub fn word(reply: Reply) -> Result<u64, Refusal>
+    requires { IsWord reply }
+    ensures { word_reply result ≡ reply }
+{
+    match reply {
+        Reply::Word(word) => Ok(word),
+        Reply::Refused(refusal) => Err(refusal),
+        _ => unreachable!(),
+    }
+}
+
+/// Of a call that answers a number of things.
+pub fn count(reply: Reply) -> Result<u64, Refusal>
+    requires { IsCount reply }
+    ensures { count_reply result ≡ reply }
+{
+    match reply {
+        Reply::Count(count) => Ok(count),
+        Reply::Refused(refusal) => Err(refusal),
+        _ => unreachable!(),
+    }
+}

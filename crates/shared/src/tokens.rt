@@ -1,0 +1,50 @@
+//! What the holders of a shared heap hold. Contracts see each as its pass.
+ghost use Rattle.std.specs.Prelude.{◌≡◌};
+
+use heap_core::Core;
+use history::{Naming, Pass};
+use std::marker::Model;
+use words::Slot;
+
+/// A mutator's right to call. It has to be spent by `detach`.
+pub struct Mutator<J: Naming> {
+    pub(crate) slot: Slot,
+    pub(crate) pass: Pass<Core, J>,
+}
+
+impl<J: Naming> Model for Mutator<J> {
+    ghost use Rattle.heap_history.specs.Passes.{HeapPass, IsMutator};
+
+    ghost Value = { HeapPass };
+
+    ghost view = { λ m. m.pass };
+
+    ghost invariant = { λ m. IsMutator m.slot m.pass };
+}
+
+/// The collector's right to call.
+#[derive(Drop)]
+pub struct Collector<J: Naming> {
+    pub(crate) pass: Pass<Core, J>,
+}
+
+impl<J: Naming> Model for Collector<J> {
+    ghost use Rattle.std.specs.Prelude.{◌≡◌};
+    ghost use Rattle.words.specs.declared.limits.TheConstants.{SLOTS};
+    ghost use Rattle.heap_history.specs.Passes.{HeapPass};
+
+    ghost Value = { HeapPass };
+
+    ghost view = { λ c. c.pass };
+
+    ghost invariant = { λ c. c.pass.slot ≡ SLOTS };
+}
+
+impl<J: Naming> Mutator<J> {
+    /// Its slot.
+    pub fn slot(&self) -> Slot
+        ensures { result ≡ self.now.slot }
+    {
+        self.slot
+    }
+}

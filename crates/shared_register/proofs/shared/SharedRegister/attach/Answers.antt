@@ -1,0 +1,31 @@
+use Rattle.std.proofs.Common.{sym, ap, subst, ◌∙◌, false, [], ◌∷◌, ◌++◌}
+use Rattle.std.specs.Prelude.{slice_index_or}
+use Rattle.history.specs.Histories.{event}
+use Rattle.history.specs.declared.view.Known.{Known}
+use Rattle.shared_register.specs.declared.register.Call.{Call}
+use Rattle.shared_register.specs.declared.register.Call.TheVariants.{Attach}
+use Rattle.shared_register.specs.declared.register.Reply.{Reply}
+use Rattle.shared_register.specs.declared.register.Reply.TheVariants.{Slot}
+use Rattle.shared_register.specs.Calls.{Begun, IsFine}
+use Rattle.shared_register.proofs.Chains.{free_slot_dead}
+use Rattle.shared_register.proofs.shared.SharedRegister.attach.Goals as goal
+
+pub first-pass-requires-clause-free : goal.first-pass-requires-clause-free
+first-pass-requires-clause-free g c =
+    let st = c.object.ensures.stands in
+    let free = c.in_ok-who.ensures in
+    let logged = c.deref_mut-logged.result.now in
+    free_slot_dead logged.object st.state logged.history c.in_ok-who.who free.0 (ap (λ x. slice_index_or x.attached c.in_ok-who.who false) (sym c.object.ensures.object) ∙ free.1) st.reached st.stood_for
+
+pub returns : goal.returns
+returns g c =
+    let st = c.object.ensures.stands in
+    let f = c.first-pass.ensures in
+    let who = c.in_ok-who.who in
+    let old = c.deref_mut-logged.result.now.history in
+    let said = (f.step st.state st.stood_for).1.0 in
+    subst (λ (p : Known Call Reply). Begun g.J.Naming.origin p Attach (Slot p.slot)) (sym f.pass) (record {
+      seen = (old, f.history ∙ ap (λ r. old ++ event who Attach r ∷ []) said);
+      mine = ap (λ r. event who Attach r ∷ []) said;
+      fine = subst (IsFine g.J.Naming.origin) f.pass f.agrees;
+    })

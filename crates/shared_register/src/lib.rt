@@ -1,0 +1,13 @@
+//! A worked example of `history`: a register behind a lock, whose calls say the sentence that `history` is for.
+#![tactic(auto)]
+
+mod jobs;
+mod register;
+mod shared;
+
+pub use jobs::{Job, make_calls, run_all, run_to_one_history, settle};
+pub use register::{Call, Register, Reply};
+pub use shared::{Collector, Mutator, ReadValue, SharedRegister, open};
+
+#[cfg(test)]
+mod tests;

@@ -1,0 +1,195 @@
+ghost use Rattle.std.specs.Prelude.{◌≡◌, IfOk};
+ghost use Rattle.shared_register.specs.Calls.{AreReady};
+
+use super::*;
+use history::{Naming, Opened};
+use std::alloc::{AllocError, Global};
+use std::marker::Brand;
+use std::process::Abort;
+use std::sync::Wait;
+use std::test::Fail;
+use std::thread::Threads;
+
+const CALLS: usize = 10_000;
+
+/// Calls, and room for their replies.
+#[derive(Drop)]
+struct Lines {
+    calls: Vec<Call>,
+    replies: Vec<Reply>,
+}
+
+fn additions(alloc: Global, count: usize) -> Result<Lines, AllocError>
+    ensures { IfOk result (λ l. AreReady l.calls.items l.replies.items) }
+{
+    let calls = vec![in alloc; Call::Add(1); count]?;
+    let replies = vec![in alloc; Reply::Done; count]?;
+    Ok(Lines { calls, replies })
+}
+
+// The numbers that the additions found, each counted once, in the mutator's order.
+fn count_found(replies: &[Reply], found: &mut [bool]) -> bool {
+    let mut last = None;
+    for reply in replies {
+        let Reply::Value(n) = reply else {
+            return false;
+        };
+        let at = *n as usize;
+        if at >= found.len() || found[at] || last.is_some_and(|m| m >= at) {
+            return false;
+        }
+        found[at] = true;
+        last = Some(at);
+    }
+    true
+}
+
+fn job<J: Naming, R: Wait + Abort>(rt: &R, shared: &SharedRegister<J>, lines: Lines) -> Job<J>
+    ensures { (result.calls ≡ lines.calls) × (result.replies ≡ lines.replies) }
+{
+    let me = shared.attach(rt).expect(rt, "a slot");
+    let Lines { calls, replies } = lines;
+    Job { me, calls, replies }
+}
+
+fn leave<J: Naming>(rt: &impl Wait, shared: &SharedRegister<J>, job: Job<J>) {
+    let Job { me, calls, replies } = job;
+    drop(calls);
+    drop(replies);
+    shared.detach(rt, me);
+}
+
+fn leave_all<J: Naming>(rt: &impl Wait, shared: &SharedRegister<J>, jobs: [Job<J>; 4]) {
+    let [a, b, c, d] = jobs;
+    leave(rt, shared, a);
+    leave(rt, shared, b);
+    leave(rt, shared, c);
+    leave(rt, shared, d);
+}
+
+fn add_in_threads<J: Naming + Send + Sync, R: Threads + Wait + Abort + Sync>(
+    rt: &R,
+    opened: Opened<Register>,
+    a: Lines,
+    b: Lines,
+    c: Lines,
+    d: Lines,
+    found: &mut [bool],
+) -> u64
+    requires table { (opened.table ≡ J.table) × (opened.origin ≡ J.origin) }
+    requires a { AreReady a.calls.items a.replies.items }
+    requires b { AreReady b.calls.items b.replies.items }
+    requires c { AreReady c.calls.items c.replies.items }
+    requires d { AreReady d.calls.items d.replies.items }
+{
+    let (shared, mut collector) = SharedRegister::<J>::new(opened);
+    let mut jobs = [
+        job(rt, &shared, a),
+        job(rt, &shared, b),
+        job(rt, &shared, c),
+        job(rt, &shared, d),
+    ];
+    run_to_one_history(rt, &shared, &mut collector, &mut jobs);
+    for job in &jobs {
+        assert!(rt; count_found(job.replies.as_slice(), found));
+    }
+    let sum = shared.call(rt, &mut jobs[0].me, &Call::Get);
+    leave_all(rt, &shared, jobs);
+    match sum {
+        Reply::Value(n) => n,
+        _ => 0,
+    }
+}
+
+// Every addition finds a number of its own, each mutator finds ever larger ones, and none is lost.
+#[test]
+fn threads_leave_one_history(rt: HostRuntime) -> Result<(), Fail> {
+    let alloc = rt.alloc();
+    let a = additions(alloc, CALLS)?;
+    let b = additions(alloc, CALLS)?;
+    let c = additions(alloc, CALLS)?;
+    let d = additions(alloc, CALLS)?;
+    let mut found = vec![in alloc; false; 4 * CALLS]?;
+    let opened = open(alloc, 0)?;
+    let sum = add_in_threads::<Brand, _>(&rt, opened, a, b, c, d, found.as_mut_slice());
+    assert_eq!(rt; sum, 40_000);
+    assert!(rt; found.iter().all(|&there| there));
+    Ok(())
+}
+
+fn count_in_a_row<J: Naming, R: Wait + Abort>(rt: &R, opened: Opened<Register>)
+    requires { (opened.table ≡ J.table) × (opened.origin ≡ J.origin) }
+{
+    let (shared, mut collector) = SharedRegister::<J>::new(opened);
+    let mut a = shared.attach(rt).expect(rt, "a slot");
+    let mut b = shared.attach(rt).expect(rt, "a slot");
+    shared.collect(rt, &mut collector);
+    shared.collect(rt, &mut collector);
+    shared.meet_collector(&mut a, &mut collector);
+    let by_a = shared.cycles(&mut a);
+    shared.meet(&mut a, &mut b);
+    let by_b = shared.cycles(&mut b);
+    let by_collector = shared.cycles_of(&mut collector);
+    shared.detach(rt, a);
+    shared.detach(rt, b);
+    assert_eq!(rt; [by_a, by_b, by_collector], [2, 2, 2]);
+}
+
+#[test]
+fn two_collections_are_counted_by_all(rt: HostRuntime) -> Result<(), Fail> {
+    let opened = open(rt.alloc(), 0)?;
+    count_in_a_row::<Brand, _>(&rt, opened);
+    Ok(())
+}
+
+fn run_cycles<J: Naming, R: Wait + Abort>(rt: &R, opened: Opened<Register>)
+    requires { (opened.table ≡ J.table) × (opened.origin ≡ J.origin) }
+{
+    let (shared, mut collector) = SharedRegister::<J>::new(opened);
+    let mut a = shared.attach(rt).expect(rt, "a slot");
+    let idle = shared.finish(rt, &mut collector);
+    let begun = shared.begin(rt, &mut collector);
+    let again = shared.begin(rt, &mut collector);
+    shared.call(rt, &mut a, &Call::Set(7));
+    let seven = shared.quiet(rt, &mut collector, &mut ReadValue);
+    let ended = shared.finish(rt, &mut collector);
+    let cycles = shared.cycles_of(&mut collector);
+    shared.detach(rt, a);
+    assert_eq!(rt; [idle, begun, again, ended], [false, true, false, true]);
+    assert_eq!(rt; [seven, cycles], [7, 1]);
+}
+
+#[test]
+fn a_cycle_begins_and_ends_once(rt: HostRuntime) -> Result<(), Fail> {
+    let opened = open(rt.alloc(), 0)?;
+    run_cycles::<Brand, _>(&rt, opened);
+    Ok(())
+}
+
+fn come_and_go<J: Naming, R: Wait + Abort>(rt: &R, opened: Opened<Register>)
+    requires { (opened.table ≡ J.table) × (opened.origin ≡ J.origin) }
+{
+    let (shared, _collector) = SharedRegister::<J>::new(opened);
+    for _ in 0..17 {
+        let me = shared.attach(rt).expect(rt, "a slot");
+        shared.detach(rt, me);
+    }
+}
+
+#[test]
+fn a_slot_is_free_after_its_last_call(rt: HostRuntime) -> Result<(), Fail> {
+    let opened = open(rt.alloc(), 0)?;
+    come_and_go::<Brand, _>(&rt, opened);
+    Ok(())
+}
+
+// With the first allocation refused, the first call answers its error, and the second one opens.
+#[test]
+fn a_refused_open_can_be_made_again(rt: HostRuntime) -> Result<(), Fail> {
+    let opened = match open(rt.alloc(), 0) {
+        Ok(opened) => opened,
+        Err(AllocError) => open(rt.alloc(), 0)?,
+    };
+    come_and_go::<Brand, _>(&rt, opened);
+    Ok(())
+}

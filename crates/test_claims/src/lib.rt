@@ -1,0 +1,166 @@
+//! Threads that claim all marks of a table side by side.
+#![tactic(auto)]
+
+#[cfg(test)]
+mod alone;
+
+ghost use Rattle.std.specs.Prelude.{◌≡◌, ℕ, ◌+◌, ◌<◌, ◌≤◌, true, length, All, OnOk, OnErr, IfOk, vec_len};
+ghost use Rattle.words.specs.Bits.{IsFullRow};
+ghost use Rattle.words.specs.declared.limits.TheConstants.{MAX_HELPERS};
+ghost use Rattle.mark_bits.specs.Claims.{knows};
+ghost use Rattle.mark_bits.specs.Tables.{view, start_of, IsOf};
+ghost use Rattle.test_claims.specs.Crew.{IsReady, IsDone};
+
+use mark_bits::{Claimer, MarkTable, Marks};
+use std::alloc::{AllocError, Global};
+use std::marker::Sync;
+use std::thread;
+use std::thread::Threads;
+use words::OpenError;
+use words::limits::MAX_HELPERS;
+
+/// What one thread claims with, and how many of its claims were the first.
+#[derive(Drop)]
+pub struct Helper {
+    claimer: Claimer,
+    wins: usize,
+}
+
+// The helper claims each bit.
+fn claim_each(table: &MarkTable, granules: usize, helper: &mut Helper)
+    requires granules { granules ≡ length (start_of table.now) }
+    requires ready { IsReady table.now helper.old }
+    ensures { IsDone table.now granules helper.new }
+{
+    for bit in 0..granules {
+        if table.claim(&mut helper.claimer, bit) {
+            helper.wins = helper.wins.saturating_add(1);
+        }
+    }
+}
+
+// All helpers claim each bit, each in a thread of its own.
+fn claim_side_by_side<R: Threads + Sync>(
+    rt: &R,
+    table: &MarkTable,
+    granules: usize,
+    crew: &mut [Helper],
+)
+    requires granules { granules ≡ length (start_of table.now) }
+    requires crew { All (λ h. IsReady table.now h) crew.old }
+    ensures done { All (λ h. IsDone table.now granules h) crew.new }
+    ensures len { length crew.new ≡ length crew.old }
+{
+    let work = |_: usize, helper: &mut Helper|
+        requires { (granules ≡ length (start_of table.now)) × IsReady table.now helper.now }
+        ensures { IsDone table.entry.now granules helper.exit.now }
+    {
+        claim_each(table, granules, helper);
+    };
+    thread::for_each_mut(rt, crew, MAX_HELPERS as usize, &work);
+}
+
+// Cuts off a claimer for each helper.
+fn hire(
+    alloc: Global,
+    table: &MarkTable,
+    first: &mut Claimer,
+    helpers: u8,
+) -> Result<Vec<Helper>, AllocError>
+    requires of { IsOf table.now first.old }
+    requires parts { helpers < (view first.old).parts }
+    ensures of { IsOf table.now first.new }
+    ensures crew { IfOk result (λ v. All (λ h. IsReady table.now h) v.items × (vec_len v + (view first.new).parts ≡ (view first.old).parts) × (vec_len v ≡ helpers)) }
+{
+    let mut crew = Vec::new(alloc);
+    for _ in 0..helpers {
+        let claimer = table.split(first);
+        crew.push(Helper { claimer, wins: 0 })?;
+    }
+    Ok(crew)
+}
+
+// Joins one helper, and answers how many of its claims were the first.
+fn take_in(table: &MarkTable, first: &mut Claimer, helper: Helper) -> usize
+    requires of { IsOf table.now first.old }
+    requires done { IsDone table.now (length (start_of table.now)) helper }
+    ensures of { IsOf table.now first.new }
+    ensures parts { (view first.new).parts ≡ (view first.old).parts + 1 }
+    ensures known { (k : ℕ) → k < length (start_of table.now) → knows (view first.new) k ≡ true }
+{
+    let Helper { claimer, wins } = helper;
+    table.join(first, claimer);
+    wins
+}
+
+// Joins all helpers, and answers how many claims were the first.
+fn gather(table: &MarkTable, first: &mut Claimer, mut crew: Vec<Helper>) -> usize
+    requires of { IsOf table.now first.old }
+    requires crew { All (λ h. IsDone table.now (length (start_of table.now)) h) crew.items }
+    ensures of { IsOf table.now first.new }
+    ensures parts { (view first.new).parts ≡ (view first.old).parts + vec_len crew }
+    ensures known { 0 < vec_len crew → (k : ℕ) → k < length (start_of table.now) → knows (view first.new) k ≡ true }
+{
+    let mut wins = 0usize;
+    while let Some(helper) = crew.pop() {
+        wins = wins.saturating_add(take_in(table, first, helper));
+    }
+    wins
+}
+
+/// Marks all granules, by as many threads as there are helpers, and answers how many claims were the first.
+pub fn claim_all<R: Threads + Sync>(
+    rt: &R,
+    alloc: Global,
+    marks: &mut Marks,
+    helpers: u8,
+) -> Result<usize, OpenError>
+    requires helpers { (0 < helpers) × (helpers ≤ MAX_HELPERS) }
+    ensures ok { OnOk result (IsFullRow marks.new) }
+    ensures err { OnErr result (marks.new ≡ marks.old) }
+{
+    let (table, mut first) = MarkTable::new(alloc, marks)?;
+    let Ok(mut crew) = hire(alloc, &table, &mut first, helpers) else {
+        return Err(OpenError::Memory);
+    };
+    claim_side_by_side(rt, &table, marks.granules(), crew.as_mut_slice());
+    let wins = gather(&table, &mut first, crew);
+    table.finish(first, marks);
+    Ok(wins)
+}
+
+#[cfg(test)]
+mod tests {
+    use super::*;
+    use std::test::Fail;
+
+    #[test]
+    fn four_threads_win_each_of_1_024_bits_once(rt: HostRuntime) -> Result<(), Fail> {
+        let mut marks = Marks::new(rt.alloc(), 4)?;
+        let wins = claim_all(&rt, rt.alloc(), &mut marks, 4);
+        assert_eq!(rt; wins, Ok(1_024));
+        for granule in 0..1_024 {
+            assert!(rt; granule < marks.granules() && marks.is_set(granule));
+        }
+        Ok(())
+    }
+
+    #[test]
+    fn eight_threads_win_each_of_262_144_bits_once(rt: HostRuntime) -> Result<(), Fail> {
+        let mut marks = Marks::new(rt.alloc(), 1_024)?;
+        let wins = claim_all(&rt, rt.alloc(), &mut marks, 8);
+        assert_eq!(rt; wins, Ok(262_144));
+        Ok(())
+    }
+
+    #[test]
+    fn nobody_wins_a_bit_that_was_set_at_the_start(rt: HostRuntime) -> Result<(), Fail> {
+        let mut marks = Marks::new(rt.alloc(), 2)?;
+        marks.set(0);
+        marks.set(100);
+        marks.set(511);
+        let wins = claim_all(&rt, rt.alloc(), &mut marks, 3);
+        assert_eq!(rt; wins, Ok(509));
+        Ok(())
+    }
+}

@@ -1,0 +1,20 @@
+//! Cores over pages, against a core without pages, against what roots reach, against counts, and with memory that is
+//! ample.
+#![tactic(auto)]
+
+#[cfg(test)]
+mod collecting;
+#[cfg(test)]
+mod draw;
+#[cfg(test)]
+mod filling;
+#[cfg(test)]
+mod opening;
+#[cfg(test)]
+mod pair;
+#[cfg(test)]
+mod reached;
+#[cfg(test)]
+mod replay;
+#[cfg(test)]
+mod twins;

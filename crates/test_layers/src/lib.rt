@@ -1,0 +1,18 @@
+//! The layers below the collector, looked at from outside: words against worked values, heaps that are laid out here against
+//! plain loops over what was put there, registers and stacks against what was pushed.
+#![tactic(auto)]
+
+#[cfg(test)]
+mod cells;
+#[cfg(test)]
+mod classes;
+#[cfg(test)]
+mod finding;
+#[cfg(test)]
+mod memory;
+#[cfg(test)]
+mod pool;
+#[cfg(test)]
+mod roots;
+#[cfg(test)]
+mod rows;

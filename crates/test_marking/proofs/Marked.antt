@@ -1,0 +1,54 @@
+-- What keeps a heap under a marker in order.
+use Rattle.std.proofs.Common.{◌≡◌, ℕ, ◌+◌, ◌*◌, ◌<◌, ◌≤◌, List, length, Option, Some, None, sym, ap, ◌∙◌, inl, inr, ⊎_elim, refl, arith}
+use Rattle.std.proofs.lemmas.Bool.{cases_lt}
+use Rattle.words.specs.declared.limits.TheConstants.{PAGE_WORDS}
+use Rattle.block_map.specs.States.{PageState}
+use Rattle.block_map.specs.Changes.{IsCleared, IsRemoved}
+use Rattle.block_map.specs.Objects.{IsMap}
+use Rattle.block_map.specs.FoundIn.{found_in}
+use Rattle.block_map.specs.declared.found.Found.{Found}
+use Rattle.marker.specs.Marking.{Marking}
+use Rattle.marker.specs.Growth.{Traces}
+use Rattle.marker.specs.Invariant.{DirtyPageInvariant}
+use Rattle.marker.specs.Mutations.{HasNoNew, IsFreed, KeepsWords}
+use Rattle.marker.proofs.Mutating.{free_traced}
+use Rattle.test_marking.specs.Marked.{IsOfOneHeap}
+
+-- the marker goes on
+pub traced : (states : List PageState) (words roots : List ℕ) (old new : Marking) → IsOfOneHeap states words old → Traces (found_in states) words roots old new → IsOfOneHeap states words new
+traced states words roots old new is t = record {
+  pages = t.dirty_len ∙ is.pages;
+  memory = is.memory;
+  invariant = t.keeps is.invariant;
+}
+
+-- where words read nothing any more, no object has come
+pub cleared_less : (found after : ℕ → Option Found) (low high : ℕ) → IsCleared found after low high → HasNoNew found after
+cleared_less found after low high c = record {
+  before = λ w f e. ⊎_elim
+      (λ (lt : w < low). sym (c.others w (inl lt)) ∙ e)
+      (λ ge. ⊎_elim
+      (λ (in_it : w < high). let x : None ≡ Some f = sym (c.inside w ge in_it) ∙ e in absurd (cc x))
+      (λ (past : high ≤ w). sym (c.others w (inr past)) ∙ e)
+      (cases_lt w high))
+      (cases_lt w low);
+}
+
+-- objects go
+pub lessened : (states states' : List PageState) (words : List ℕ) (m : Marking) → length states' ≡ length states → HasNoNew (found_in states) (found_in states') → IsOfOneHeap states words m → IsOfOneHeap states' words m
+lessened states states' words m size less is = record {
+  pages = is.pages ∙ sym size;
+  memory = is.memory ∙ ap (λ n. PAGE_WORDS * n) (sym size);
+  invariant = free_traced (found_in states) (found_in states') words words m less (λ f i e lt. refl) is.invariant;
+}
+
+-- an object goes, and its mark with it
+pub lost : (states states' : List PageState) (words : List ℕ) (base : ℕ) (f : Found) (old new : Marking) → length states' ≡ length states → IsMap (length states) (found_in states) → f.base ≡ base → 0 < f.len
+    → IsRemoved (found_in states) (found_in states') f → IsFreed base old new
+    → ((pages : ℕ) (found after : ℕ → Option Found) (words words' : List ℕ) (f : Found) → f.base ≡ base → IsMap pages found → found base ≡ Some f → IsRemoved found after f → KeepsWords after words words' → DirtyPageInvariant found words old → DirtyPageInvariant after words' new)
+    → IsOfOneHeap states words old → IsOfOneHeap states' words new
+lost states states' words base f old new size map b some removed freed keeps is = record {
+  pages = ap length freed.dirty ∙ is.pages ∙ sym size;
+  memory = is.memory ∙ ap (λ n. PAGE_WORDS * n) (sym size);
+  invariant = keeps (length states) (found_in states) (found_in states') words words f b map (removed.after base (record { from = omega arith; below = omega arith })) removed (λ g i e lt. refl) is.invariant;
+}

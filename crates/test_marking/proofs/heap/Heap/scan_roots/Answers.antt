@@ -1,0 +1,5 @@
+use Rattle.test_marking.proofs.Marked.{traced}
+use Rattle.test_marking.proofs.heap.Heap.scan_roots.Goals as goal
+
+pub invariant_of-self : goal.invariant_of-self
+invariant_of-self c = traced _ _ c.args.roots.now _ _ c.self.invariant (c.scan_roots.ensures.traces c.self.inside.memory)

@@ -1,0 +1,5 @@
+use Rattle.test_marking.proofs.Marked.{cleared_less, lessened}
+use Rattle.test_marking.proofs.heap.Heap.uncut.Goals as goal
+
+pub invariant_of-self : goal.invariant_of-self
+invariant_of-self c = lessened _ _ _ _ c.uncut.ensures.states.size (cleared_less _ _ _ _ c.uncut.ensures.cleared) c.self.invariant

@@ -1,0 +1,184 @@
+//! A heap under a marker. Each call looks first whether its conditions hold, and answers whether they did.
+use crate::coming::{are_free, large_at, object_in, receive};
+use block_map::{BlockMap, Found};
+use final_pause::close_marks;
+use marker::{Marked, Marker};
+use pages::{Memory, Reader};
+use std::alloc::Global;
+use std::marker::Model;
+use words::limits::{FIRST_ADDRESS, PAGE_BYTES, WORD_BYTES};
+use words::{Kind, PageNo, Placement, class_of};
+
+/// Objects that come, are written and go while a marker marks them.
+#[derive(Drop)]
+pub(crate) struct Heap {
+    map: BlockMap,
+    memory: Memory,
+    marker: Marker,
+}
+
+impl Model for Heap {
+    ghost use Rattle.marker.specs.Marking.{Marking};
+    ghost use Rattle.test_marking.specs.Marked.{IsOfOneHeap};
+
+    ghost Value = { Marking };
+
+    ghost view = { λ h. h.marker };
+
+    ghost invariant = { λ h. IsOfOneHeap h.map h.memory h.marker };
+}
+
+impl Heap {
+    /// So many pages with no object. `None` for want of memory, or out of range.
+    pub(crate) fn open(alloc: Global, pages: u32) -> Option<Heap> {
+        let Ok(map) = BlockMap::new(alloc, pages) else {
+            return None;
+        };
+        let Ok(memory) = Memory::new(alloc, pages) else {
+            return None;
+        };
+        let Ok(marker) = Marker::new(alloc, pages) else {
+            return None;
+        };
+        Some(Heap {
+            map,
+            memory,
+            marker,
+        })
+    }
+
+    /// Cuts a free page for a request of so many words.
+    pub(crate) fn cut(&mut self, page: PageNo, words: u64, kind: Kind) -> bool {
+        let Some(placement) = class_of(words) else {
+            return false;
+        };
+        let Placement::Small(class) = placement else {
+            return false;
+        };
+        if page >= self.map.len() || !self.map.is_free(page) {
+            return false;
+        }
+        self.map.cut(page, class, kind);
+        true
+    }
+
+    /// Allocates a free cell: its words become 0.
+    #[tactic(auto, using(block_map::proofs::Seen::has_cell))]
+    pub(crate) fn allocate(&mut self, page: PageNo, cell: u16) -> Option<Found> {
+        if page >= self.map.len() {
+            return None;
+        }
+        let Some(block) = self.map.block(page) else {
+            return None;
+        };
+        if cell >= block.cells() || block.is_taken(cell) {
+            return None;
+        }
+        let found = object_in(page, block, cell);
+        self.map.take(page, cell);
+        receive(&self.map, &mut self.memory, &mut self.marker, found);
+        Some(found)
+    }
+
+    /// Makes free pages one large object, whose words become 0.
+    pub(crate) fn allocate_large(
+        &mut self,
+        first: PageNo,
+        pages: u32,
+        kind: Kind,
+    ) -> Option<Found> {
+        if pages == 0
+            || first > self.map.len()
+            || pages > self.map.len() - first
+            || !are_free(&self.map, first, first + pages)
+        {
+            return None;
+        }
+        let found = large_at(first, pages, kind);
+        self.map.cut_large(first, pages, kind);
+        receive(&self.map, &mut self.memory, &mut self.marker, found);
+        Some(found)
+    }
+
+    /// Makes an allocated cell free.
+    #[tactic(auto, using(block_map::proofs::Seen::has_cell))]
+    pub(crate) fn free(&mut self, page: PageNo, cell: u16) -> bool {
+        self.marker.laws();
+        if page >= self.map.len() {
+            return false;
+        }
+        let Some(block) = self.map.block(page) else {
+            return false;
+        };
+        if cell >= block.cells() || !block.is_taken(cell) {
+            return false;
+        }
+        let found = object_in(page, block, cell);
+        self.map.put(page, cell);
+        self.marker.freed(found.base);
+        true
+    }
+
+    /// Gives the page of a block back. Its objects were freed before.
+    pub(crate) fn uncut(&mut self, page: PageNo) -> bool {
+        if page >= self.map.len() || self.map.span(page) == 0 {
+            return false;
+        }
+        self.map.uncut(page);
+        true
+    }
+
+    /// Writes a word of the heap.
+    pub(crate) fn store(&mut self, address: u64, word: u64) -> bool {
+        if address < FIRST_ADDRESS || address % WORD_BYTES != 0 {
+            return false;
+        }
+        if (address - FIRST_ADDRESS) / PAGE_BYTES >= u64::from(self.map.len()) {
+            return false;
+        }
+        self.memory.write(address, word);
+        self.marker.written(address);
+        true
+    }
+
+    /// Whether the object with this base is marked.
+    pub(crate) fn is_marked(&self, base: u64) -> bool {
+        self.marker.laws();
+        base >= FIRST_ADDRESS
+            && (base - FIRST_ADDRESS) / PAGE_BYTES < u64::from(self.map.len())
+            && self.marker.is_marked(base)
+    }
+
+    /// The number of pages.
+    pub(crate) fn pages(&self) -> u32 {
+        self.map.len()
+    }
+
+    /// Begins a cycle.
+    pub(crate) fn begin(&mut self) {
+        self.marker.begin();
+    }
+
+    /// Marks what root words read.
+    pub(crate) fn scan_roots(&mut self, roots: &[u64]) {
+        self.marker.scan_roots(&self.map, roots);
+    }
+
+    /// Reads words of entries, at most so many.
+    pub(crate) fn step(&mut self, budget: u64) -> Marked {
+        let mut reader = Reader::new(&self.memory);
+        self.marker.step(&self.map, &mut reader, budget)
+    }
+
+    /// Reads the lowest dirty page again.
+    pub(crate) fn retrace(&mut self) -> Option<PageNo> {
+        let mut reader = Reader::new(&self.memory);
+        self.marker.retrace(&self.map, &mut reader)
+    }
+
+    /// Ends the marking in one pause.
+    pub(crate) fn close(&mut self, roots: &[u64]) {
+        let mut reader = Reader::new(&self.memory);
+        close_marks(&mut self.marker, &self.map, &mut reader, roots);
+    }
+}

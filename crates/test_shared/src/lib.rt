@@ -1,0 +1,15 @@
+//! The heap behind the lock, as its users see it: worked rows in one thread, mutators in threads of their own, and cycles beside them.
+#![tactic(auto)]
+
+#[cfg(test)]
+mod attached;
+#[cfg(test)]
+mod rows;
+#[cfg(test)]
+mod scenes;
+#[cfg(test)]
+mod serve;
+#[cfg(test)]
+mod stress;
+#[cfg(test)]
+mod threads;

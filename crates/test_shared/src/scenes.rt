@@ -1,0 +1,61 @@
+//! Mutators that come and go, and what passes learn from one another, in one thread.
+ghost use Rattle.std.specs.Prelude.{◌≡◌};
+
+use heap_core::Core;
+use history::{Naming, Opened};
+use shared::{SharedHeap, open};
+use std::marker::Brand;
+use std::process::Abort;
+use std::sync::Wait;
+use std::test::Fail;
+use words::OpenError;
+
+fn come_and_go<J: Naming, R: Wait + Abort>(rt: &R, opened: Opened<Core>)
+    requires { (opened.table ≡ J.table) × (opened.origin ≡ J.origin) }
+{
+    let (heap, _collector) = SharedHeap::<J>::named(opened);
+    for _ in 0..17 {
+        let me = heap.attach(rt).ok().expect(rt, "a slot");
+        heap.detach(rt, me);
+    }
+}
+
+#[test]
+fn seventeen_mutators_come_and_go(rt: HostRuntime) -> Result<(), Fail> {
+    let opened = open(rt.alloc(), 1).ok().ok_or("a heap")?;
+    come_and_go::<Brand, _>(&rt, opened);
+    Ok(())
+}
+
+fn count_in_a_row<J: Naming, R: Wait + Abort>(rt: &R, opened: Opened<Core>)
+    requires { (opened.table ≡ J.table) × (opened.origin ≡ J.origin) }
+{
+    let (heap, mut collector) = SharedHeap::<J>::named(opened);
+    let mut a = heap.attach(rt).ok().expect(rt, "a slot");
+    let mut b = heap.attach(rt).ok().expect(rt, "a slot");
+    heap.collect(rt, &mut collector);
+    heap.collect(rt, &mut collector);
+    heap.meet_collector(&mut a, &mut collector);
+    let by_a = heap.gc_no(&mut a);
+    heap.meet(&mut a, &mut b);
+    let by_b = heap.gc_no(&mut b);
+    let by_collector = heap.gc_no_of(&mut collector);
+    heap.detach(rt, a);
+    heap.detach(rt, b);
+    assert_eq!(rt; [by_a, by_b, by_collector], [2, 2, 2]);
+}
+
+#[test]
+fn two_collections_are_counted_by_all(rt: HostRuntime) -> Result<(), Fail> {
+    let opened = open(rt.alloc(), 4).ok().ok_or("a heap")?;
+    count_in_a_row::<Brand, _>(&rt, opened);
+    Ok(())
+}
+
+#[test]
+fn no_page_and_too_many_are_refused(rt: HostRuntime) {
+    for pages in [0, 1025] {
+        let refused = open(rt.alloc(), pages).err();
+        assert_eq!(rt; refused, Some(OpenError::BadPages), "{pages} pages");
+    }
+}

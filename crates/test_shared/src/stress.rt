@@ -1,0 +1,186 @@
+//! Sixteen mutators and a collector in threads of their own, on a heap that is small for them. Each mutator keeps a list that only its
+//! registers and its own objects reach, and reads it back: a lost object would show as another's word, or as none.
+ghost use Rattle.std.specs.Prelude.{◌≡◌};
+
+use crate::attached::{Attached, attach};
+use crate::serve::reg;
+use arrayvec::ArrayVec;
+use each_law::{Law, run_each_beside};
+use heap_core::Core;
+use heap_core::quiet::{Mark, Retrace, Roots, Sweep};
+use heap_spec::{Call, Reply};
+use history::{Naming, Opened};
+use shared::{Collector, SharedHeap, open};
+use std::alloc::{AllocError, Global};
+use std::marker::Brand;
+use std::process::Abort;
+use std::sync::Wait;
+use std::test::Fail;
+use std::thread::Threads;
+use words::Kind;
+
+const MUTATORS: usize = 16;
+
+const PAGES: u32 = 8;
+
+// The calls of each actor, and how many a list's node and a cycle take at most.
+const CALLS: u64 = 100_000;
+
+const CALLS_A_NODE: u64 = 6;
+
+const CALLS_A_CYCLE: u64 = 8;
+
+/// The longest list that a mutator keeps.
+const LONGEST: usize = 24;
+
+/// A mutator with its list: what it pushed is what it is to pop.
+#[derive(Drop)]
+struct Player<'a, J: Naming, R: Wait> {
+    me: Attached<'a, J, R>,
+    kept: ArrayVec<u64, LONGEST>,
+    read_back: u64,
+    lost: u64,
+}
+
+/// The collector with its heap.
+#[derive(Drop)]
+struct Cycles<'a, J: Naming, R: Wait> {
+    rt: &'a R,
+    heap: &'a SharedHeap<J>,
+    collector: Collector<J>,
+    ended: u64,
+}
+
+// What becomes of players is looked at by the test.
+struct Plays;
+
+impl<T> Law<T> for Plays {
+    ghost does = { λ law job done. Unit {0} };
+}
+
+impl<'a, J: Naming, R: Wait> Player<'a, J, R> {
+    // A node in front of the list, with its word and the rest.
+    fn push(&mut self, word: u64) {
+        if self.me.call(Call::Alloc(reg(2), 2, Kind::Normal)) != Reply::Done {
+            return;
+        }
+        self.me.call(Call::Set(reg(3), word));
+        self.me.call(Call::Store(reg(2), 0, reg(3)));
+        self.me.call(Call::Store(reg(2), 1, reg(1)));
+        self.me.call(Call::Copy(reg(1), reg(2)));
+        self.me.call(Call::Set(reg(2), 0));
+        let _room = self.kept.try_push(word);
+    }
+
+    // The front node goes: nothing reaches it any more.
+    fn pop(&mut self) {
+        let Some(word) = self.kept.pop() else {
+            return;
+        };
+        if self.me.call(Call::Load(reg(3), reg(1), 0)) == Reply::Word(word) {
+            self.read_back = self.read_back.wrapping_add(1);
+        } else {
+            self.lost = self.lost.wrapping_add(1);
+        }
+        self.me.call(Call::Load(reg(1), reg(1), 1));
+    }
+}
+
+// Pushes and pops, and at last reads the list back whole.
+fn play<'a, J: Naming, R: Wait>(player: Player<'a, J, R>) -> Player<'a, J, R> {
+    let mut player = player;
+    for turn in 0..CALLS / CALLS_A_NODE {
+        if player.kept.is_full() || turn % 5 == 4 {
+            player.pop();
+        } else {
+            player.push(turn);
+        }
+    }
+    for _ in 0..LONGEST {
+        player.pop();
+    }
+    player
+}
+
+fn cycle<'a, J: Naming, R: Wait>(cycles: Cycles<'a, J, R>) -> Cycles<'a, J, R> {
+    let mut cycles = cycles;
+    for _ in 0..CALLS / CALLS_A_CYCLE {
+        let (rt, heap) = (cycles.rt, cycles.heap);
+        let _begun = heap.begin(rt, &mut cycles.collector);
+        let _roots = heap.quiet(rt, &mut cycles.collector, &mut Roots);
+        let _some = heap.quiet(rt, &mut cycles.collector, &mut Mark(16));
+        let _page = heap.quiet(rt, &mut cycles.collector, &mut Retrace);
+        let _more = heap.quiet(rt, &mut cycles.collector, &mut Mark(64));
+        let _count = heap.finish(rt, &mut cycles.collector);
+        let _swept = heap.quiet(rt, &mut cycles.collector, &mut Sweep);
+        cycles.ended = heap.gc_no_of(&mut cycles.collector);
+    }
+    cycles
+}
+
+/// What the test looks at: words that were read back, words that were lost, and cycles that ended.
+#[derive(Clone, Copy)]
+struct Found {
+    read_back: u64,
+    lost: u64,
+    ended: u64,
+}
+
+fn play_all<J: Naming + Send + Sync, R: Threads + Wait + Abort + Sync>(
+    rt: &R,
+    alloc: Global,
+    heap: &SharedHeap<J>,
+    collector: Collector<J>,
+) -> Result<Found, AllocError> {
+    let mut players = Vec::with_capacity(alloc, MUTATORS)?;
+    for _ in 0..MUTATORS {
+        players.push(Player {
+            me: attach(rt, heap),
+            kept: ArrayVec::new(),
+            read_back: 0,
+            lost: 0,
+        })?;
+    }
+    let cycles = Cycles {
+        rt,
+        heap,
+        collector,
+        ended: 0,
+    };
+    let work = |player| { play(player) };
+    let collect = |cycles| { cycle(cycles) };
+    let (players, cycles) = run_each_beside::<_, _, Plays, _, _, Plays, _>(
+        rt, alloc, &Plays, &work, players, &Plays, &collect, cycles,
+    )?;
+    let mut found = Found {
+        read_back: 0,
+        lost: 0,
+        ended: cycles.ended,
+    };
+    for player in &players {
+        found.read_back = found.read_back.wrapping_add(player.read_back);
+        found.lost = found.lost.wrapping_add(player.lost);
+    }
+    Ok(found)
+}
+
+fn sixteen_mutators<J: Naming + Send + Sync, R: Threads + Wait + Abort + Sync>(
+    rt: &R,
+    alloc: Global,
+    opened: Opened<Core>,
+) -> Result<Found, AllocError>
+    requires { (opened.table ≡ J.table) × (opened.origin ≡ J.origin) }
+{
+    let (heap, collector) = SharedHeap::<J>::named(opened);
+    play_all(rt, alloc, &heap, collector)
+}
+
+#[test]
+fn no_list_loses_a_node(rt: HostRuntime) -> Result<(), Fail> {
+    let opened = open(rt.alloc(), PAGES).ok().ok_or("a heap")?;
+    let found = sixteen_mutators::<Brand, _>(&rt, rt.alloc(), opened)?;
+    assert_eq!(rt; found.lost, 0);
+    assert!(rt; found.read_back > CALLS);
+    assert_eq!(rt; found.ended, CALLS / CALLS_A_CYCLE);
+    Ok(())
+}

@@ -1,0 +1,104 @@
+//! Two mutators in two threads.
+ghost use Rattle.std.specs.Prelude.{◌≡◌};
+
+use crate::attached::{Attached, attach};
+use crate::serve::reg;
+use each_law::{Law, run_each};
+use heap_core::Core;
+use heap_spec::{Call, Reply};
+use history::{Naming, Opened};
+use shared::{SharedHeap, open};
+use std::alloc::{AllocError, Global};
+use std::marker::Brand;
+use std::process::Abort;
+use std::sync::Wait;
+use std::sync::atomic::{AtomicU64, Ordering};
+use std::test::Fail;
+use std::thread::Threads;
+use words::Kind;
+
+// How often a mutator looks for the other's flag before it gives up.
+const TURNS: u64 = 1_000_000_000;
+
+/// A mutator in a thread, and what it found.
+#[derive(Drop)]
+struct Job<'a, J: Naming, R: Wait> {
+    me: Attached<'a, J, R>,
+    word: Reply,
+    seen: bool,
+}
+
+// What becomes of a job is looked at by the test.
+struct Runs;
+
+impl<'a, J: Naming, R: Wait> Law<Job<'a, J, R>> for Runs {
+    ghost does = { λ law job done. Unit {0} };
+}
+
+// Whether the flag was raised within so many turns.
+fn look(flag: &AtomicU64) -> bool {
+    for _ in 0..TURNS {
+        if flag.load(Ordering::SeqCst) == 1 {
+            return true;
+        }
+    }
+    false
+}
+
+// Stores a word of its own, raises its flag, looks for the other's, and loads.
+fn run_job<'a, J: Naming, R: Wait>(flags: &[AtomicU64; 2], job: Job<'a, J, R>) -> Job<'a, J, R> {
+    let Job { mut me, .. } = job;
+    let slot = me.slot();
+    me.call(Call::Alloc(reg(1), 2, Kind::Normal));
+    me.call(Call::Set(reg(2), 7 + u64::from(slot)));
+    me.call(Call::Store(reg(1), 0, reg(2)));
+    let (mine, other) = if slot == 0 {
+        (&flags[0], &flags[1])
+    } else {
+        (&flags[1], &flags[0])
+    };
+    mine.store(1, Ordering::SeqCst);
+    let seen = look(other);
+    let word = me.call(Call::Load(reg(3), reg(1), 0));
+    Job { me, word, seen }
+}
+
+fn make_job<'a, J: Naming, R: Wait + Abort>(rt: &'a R, heap: &'a SharedHeap<J>) -> Job<'a, J, R> {
+    Job {
+        me: attach(rt, heap),
+        word: Reply::Done,
+        seen: false,
+    }
+}
+
+fn run_both<J: Naming + Send + Sync, R: Threads + Wait + Abort + Sync>(
+    rt: &R,
+    alloc: Global,
+    heap: &SharedHeap<J>,
+) -> Result<[(Reply, bool); 2], AllocError> {
+    let flags = [AtomicU64::new(0), AtomicU64::new(0)];
+    let jobs = vec![in alloc; make_job(rt, heap), make_job(rt, heap)]?;
+    let work = |job| { run_job(&flags, job) };
+    let jobs = run_each::<_, _, Runs, _>(rt, alloc, &Runs, &work, jobs)?;
+    Ok([(jobs[0].word, jobs[0].seen), (jobs[1].word, jobs[1].seen)])
+}
+
+fn two_mutators<J: Naming + Send + Sync, R: Threads + Wait + Abort + Sync>(
+    rt: &R,
+    alloc: Global,
+    opened: Opened<Core>,
+) -> Result<[(Reply, bool); 2], AllocError>
+    requires { (opened.table ≡ J.table) × (opened.origin ≡ J.origin) }
+{
+    let (heap, _collector) = SharedHeap::<J>::named(opened);
+    run_both(rt, alloc, &heap)
+}
+
+// Two threads with one mutator each run at once, and each loads what it stored.
+#[test]
+fn each_mutator_loads_its_own_word(rt: HostRuntime) -> Result<(), Fail> {
+    let opened = open(rt.alloc(), 4).ok().ok_or("a heap")?;
+    let found = two_mutators::<Brand, _>(&rt, rt.alloc(), opened)?;
+    assert_eq!(rt; found, [(Reply::Word(7), true), (Reply::Word(8), true)]);
+    Ok(())
+}
