@@ -5,8 +5,8 @@ use Rattle.pages.specs.Memory.{word_at}
 use Rattle.block_map.specs.declared.found.Found.{Found}
 use Rattle.marker.specs.Marking.{word_address}
 
--- The least set that holds the given objects, each object that a root word reads, and with each Normal object every
--- object that one of its words reads. `found` is the object that a word reads, `given` says which bases are given.
+-- The least set that holds the given objects, each object that a root word points into, and with each Normal object every
+-- object that one of its words points into. `found` is the object that a word points into, `given` says which bases are given.
 pub data Closure (found : ℕ → Option Found) (words roots : List ℕ) (given : ℕ → Type 0) : Found → Type 0 where
   held : {f : Found} → found f.base ≡ Some f → given f.base → Closure found words roots given f
   root : {w : ℕ} {f : Found} → Contains roots w → found w ≡ Some f → Closure found words roots given f

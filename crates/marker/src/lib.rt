@@ -2,17 +2,20 @@
 //!
 //! # The dirty-page invariant
 //!
-//! While marking, for each word of a marked Normal object: what the word reads is marked, or the word's page is
+//! While marking, for each word of a marked Normal object: what the word points into is marked, or the word's page is
 //! dirty, or an entry with that object's base still has the word to read.
 //!
 //! - [`Marker::begin`] makes it true, since nothing is marked.
 //! - [`Marker::scan_roots`] keeps it: an object is marked and pushed at once, or, where the stack is full, marked and
 //!   its pages made dirty.
-//! - [`Marker::step`] keeps it: a word is taken off its entry once what it reads is marked. An entry is dropped unread
-//!   only if no marked Normal object has its base and the word.
+//! - [`Marker::step`] keeps it: a word is taken off its entry once what it points into is marked. An entry is dropped
+//!   unread only if no marked Normal object has its base and the word.
 //! - [`Marker::retrace`] keeps it: the lowest dirty page is made clean, and the words of all marked Normal objects on
 //!   it are read again.
 //! - [`Marker::written`], [`Marker::allocated`] and [`Marker::freed`] are what mutators owe, and keep it.
+//!
+//! Dirty pages become clean by [`Marker::begin`] and [`Marker::retrace`] alone. Marks go by [`Marker::begin`] and
+//! [`Marker::freed`] alone, and each is that of an allocated object.
 //!
 //! Where nothing is left to read, no page dirty and no entry on the stack, the invariant says that the marks are
 //! closed. Closing them in one pause is the matter of the crate above.
@@ -24,10 +27,11 @@
 //!
 //! # Entries
 //!
-//! An entry is a base and the number of its next word. The entry that is being read lies beside the stack, so that it
-//! is read to its end, over calls too, before another is taken. Pointer-free objects get no entry. The object of an
-//! entry may be freed and its page cut again: the entry is then stale, and is read on only if its base is again that of
-//! a marked Normal object, which does no harm, since such an object was marked and its words were zero when it came.
+//! An entry is a base and the number of its next word. The entry that is being read lies beside the stack, whose
+//! entries are unread, so that it is read to its end, over calls too, before another is begun. Pointer-free objects get
+//! no entry. The object of an entry may be freed and its page cut again: the entry is then stale, and is read on only if
+//! its base is again that of a marked Normal object, which does no harm, since such an object was marked and its words
+//! were zero when it came.
 #![tactic(auto)]
 
 mod entry;

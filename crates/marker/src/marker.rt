@@ -77,16 +77,16 @@ impl Marker {
         })
     }
 
-    #[inline]
     /// What is true of every marker.
+    #[inline]
     pub fn laws(&self)
         ensures { IsConsistent self.now }
     {
         let _marks = &self.marks;
     }
 
-    #[tactic(auto, using(crate::proofs::Mutating::mutating))]
     /// Begins a cycle: no mark, no dirty page and no entry.
+    #[tactic(auto, using(crate::proofs::Mutating::mutating))]
     pub fn begin(&mut self)
         ensures fresh { IsFresh (length self.old.dirty) self.new }
         ensures invariant { (found : ℕ → Option Found) (words : List ℕ) → DirtyPageInvariant found words self.new }
@@ -97,8 +97,8 @@ impl Marker {
         self.stack.clear();
     }
 
-    #[inline]
     /// Whether the object with this base is marked.
+    #[inline]
     pub fn is_marked(&self, base: u64) -> bool
         requires low { FIRST_ADDRESS ≤ base }
         requires inside { granule base < length self.now.marks }

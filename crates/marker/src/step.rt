@@ -70,8 +70,8 @@ impl Marker {
         }
     }
 
-    #[tactic(auto, using(crate::proofs::MarkWord::marking))]
     // Whether the entry that is being read has a word left, and of which object.
+    #[tactic(auto, using(crate::proofs::MarkWord::marking))]
     fn live(&self, map: &BlockMap) -> Option<Found>
         requires pages { length self.now.dirty ≡ length map.now }
         ensures live { MatchOption result ((e : Entry) → self.now.current ≡ Some e → IsSpent (found_in map.now) self.now e) (λ f. IsLive (found_in map.now) self.now f) }

@@ -7,8 +7,7 @@ use words::Kind;
 
 // Two objects of 256 words on the first page, read to their word `read`, and one that the second points to.
 fn begin(rt: &impl Abort, scene: &mut Scene, read: u64) -> Result<(), Fail> {
-    scene.fill(rt, 0, 256, Kind::Normal, 2)?;
-    scene.fill(rt, 1, 2, Kind::Normal, 1)?;
+    scene.lay(rt, &[(0, 256, Kind::Normal, 2), (1, 2, Kind::Normal, 1)])?;
     scene.link(rt, &[(1, 255, 2)])?;
     let (first, second) = (scene.object(0)?, scene.object(1)?);
     scene.heap.begin();
@@ -54,12 +53,13 @@ fn an_entry_goes_stale(rt: HostRuntime) -> Result<(), Fail> {
 
 // The words that entries have left once a new object of so many words stands where the first object stood.
 fn words_left(read: u64, words: u64, kind: Kind) -> u64 {
-    match (read, kind) {
-        (257, Kind::Normal) => words.saturating_add(1),
-        (257, Kind::PointerFree) => 1,
-        (300, Kind::Normal) => words.saturating_sub(42),
-        (_, Kind::Normal) => words.saturating_add(2),
-        (_, Kind::PointerFree) => 0,
+    if kind == Kind::PointerFree {
+        return u64::from(read == 257);
+    }
+    match read {
+        257 => words.saturating_add(1),
+        300 => words.saturating_sub(42),
+        _ => words.saturating_add(2),
     }
 }
 

@@ -2,12 +2,13 @@
 use crate::coming::{are_free, large_at, object_in, receive};
 use block_map::{BlockMap, Found};
 use final_pause::close_marks;
+use fixtures::map::small_class;
 use marker::{Marked, Marker};
 use pages::{Memory, Reader};
 use std::alloc::Global;
 use std::marker::Model;
 use words::limits::{FIRST_ADDRESS, PAGE_BYTES, WORD_BYTES};
-use words::{Kind, PageNo, Placement, class_of};
+use words::{Kind, PageNo};
 
 /// Objects that come, are written and go while a marker marks them.
 #[derive(Drop)]
@@ -49,10 +50,7 @@ impl Heap {
 
     /// Cuts a free page for a request of so many words.
     pub(crate) fn cut(&mut self, page: PageNo, words: u64, kind: Kind) -> bool {
-        let Some(placement) = class_of(words) else {
-            return false;
-        };
-        let Placement::Small(class) = placement else {
+        let Some(class) = small_class(words) else {
             return false;
         };
         if page >= self.map.len() || !self.map.is_free(page) {

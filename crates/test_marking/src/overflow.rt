@@ -11,10 +11,13 @@ const BUDGETS: [u64; 5] = [1, 2, 3, 299, u64::MAX];
 // objects after them are read by nothing.
 fn widen(rt: &impl Abort, scene: &mut Scene) -> Result<(), Fail> {
     let top = scene.allocate_large(0, 1, Kind::Normal)?;
-    scene.fill(rt, 1, 2, Kind::Normal, 256)?;
-    scene.fill(rt, 2, 2, Kind::Normal, 44)?;
-    scene.fill(rt, 3, 2, Kind::Normal, 43)?;
-    scene.fill(rt, 4, 4, Kind::Normal, 9)?;
+    let blocks = [
+        (1, 2, Kind::Normal, 256),
+        (2, 2, Kind::Normal, 44),
+        (3, 2, Kind::Normal, 43),
+        (4, 4, Kind::Normal, 9),
+    ];
+    scene.lay(rt, &blocks)?;
     for k in 0..300 {
         point(rt, scene, top, k)?;
     }

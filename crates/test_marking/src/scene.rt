@@ -52,6 +52,18 @@ impl Scene {
         Ok(())
     }
 
+    /// Cuts pages, and allocates the first cells of each: (page, words of a cell, kind, cells).
+    pub(crate) fn lay(
+        &mut self,
+        rt: &impl Abort,
+        blocks: &[(PageNo, u64, Kind, u16)],
+    ) -> Result<(), Fail> {
+        for (page, words, kind, cells) in blocks {
+            self.fill(rt, *page, *words, *kind, *cells)?;
+        }
+        Ok(())
+    }
+
     /// Makes free pages one large object.
     pub(crate) fn allocate_large(
         &mut self,

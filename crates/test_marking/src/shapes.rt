@@ -7,8 +7,7 @@ use words::Kind;
 
 // Eight Normal objects of 6 words, then four pointer-free ones.
 fn lay_cells(rt: &impl Abort, scene: &mut Scene) -> Result<(), Fail> {
-    scene.fill(rt, 0, 6, Kind::Normal, 8)?;
-    scene.fill(rt, 1, 6, Kind::PointerFree, 4)
+    scene.lay(rt, &[(0, 6, Kind::Normal, 8), (1, 6, Kind::PointerFree, 4)])
 }
 
 // From the object with the number `root` so many objects are reached.

@@ -6,9 +6,12 @@ use words::Kind;
 
 // A tree of objects of 12 words, each with three children, and pointer-free ones among the leaves.
 fn grow(rt: &impl Abort, scene: &mut Scene) -> Result<(), Fail> {
-    scene.fill(rt, 0, 12, Kind::Normal, 42)?;
-    scene.fill(rt, 1, 12, Kind::Normal, 42)?;
-    scene.fill(rt, 2, 12, Kind::PointerFree, 42)?;
+    let blocks = [
+        (0, 12, Kind::Normal, 42),
+        (1, 12, Kind::Normal, 42),
+        (2, 12, Kind::PointerFree, 42),
+    ];
+    scene.lay(rt, &blocks)?;
     for k in 0..40 {
         for child in 1..4 {
             scene.link(rt, &[(k, 4 * child as u32 - 1, 3 * k + child)])?;

@@ -8,27 +8,37 @@ use words::Kind;
 
 // Objects of 4 words: two that roots read, and one that the first of them points to.
 fn hide(rt: &impl Abort, scene: &mut Scene) -> Result<(), Fail> {
-    scene.fill(rt, 0, 4, Kind::Normal, 2)?;
-    scene.fill(rt, 1, 4, Kind::Normal, 3)?;
+    scene.lay(rt, &[(0, 4, Kind::Normal, 2), (1, 4, Kind::Normal, 3)])?;
     scene.link(rt, &[(0, 2, 2), (2, 3, 3)])
 }
 
-// After so many steps of one word the pointer moves from the first object to the second.
+// The pointer to the third object moves from the first to the second, and then points inside it.
+fn move_pointer(rt: &impl Abort, scene: &mut Scene) -> Result<(), Fail> {
+    let (first, second, moved) = (scene.object(0)?, scene.object(1)?, scene.object(2)?);
+    scene.store(rt, second, 1, word_of(moved, 3))?;
+    scene.store(rt, first, 2, 0)
+}
+
+// The bases of the first two objects.
+fn two_roots(scene: &Scene, is_swapped: bool) -> Result<[u64; 2], Fail> {
+    let (first, second) = (scene.object(0)?, scene.object(1)?);
+    if is_swapped {
+        Ok([second.base, first.base])
+    } else {
+        Ok([first.base, second.base])
+    }
+}
+
+// After so many steps of one word the pointer moves.
 fn moves(rt: &impl Abort, scene: &mut Scene, is_swapped: bool, steps: u32) -> Result<(), Fail> {
     hide(rt, scene)?;
-    let (first, second, moved) = (scene.object(0)?, scene.object(1)?, scene.object(2)?);
-    let roots = if is_swapped {
-        [second.base, first.base]
-    } else {
-        [first.base, second.base]
-    };
+    let roots = two_roots(scene, is_swapped)?;
     scene.heap.begin();
     scene.heap.scan_roots(&roots);
     for _ in 0..steps {
         let _ = scene.heap.step(1);
     }
-    scene.store(rt, second, 1, word_of(moved, 3))?;
-    scene.store(rt, first, 2, 0)?;
+    move_pointer(rt, scene)?;
     scene.assert_closes(rt, &roots)?;
     scene.assert_no_other_mark(rt);
     scene.assert_marked(rt, &[true, true, true, true, false]);
@@ -51,13 +61,11 @@ fn a_pointer_that_moves_between_steps_is_found(rt: HostRuntime) -> Result<(), Fa
     Ok(())
 }
 
-// A marked object of three pages, and three small ones, of which the first points to the third.
+// An object of three pages, and three small ones, of which the first points to the third.
 fn lay_large(rt: &impl Abort, scene: &mut Scene) -> Result<Found, Fail> {
     let large = scene.allocate_large(1, 3, Kind::Normal)?;
     scene.fill(rt, 4, 2, Kind::Normal, 3)?;
     scene.link(rt, &[(1, 1, 3)])?;
-    assert!(rt; scene.mark_by(rt, &[large.base], 299) == 3 * 512);
-    scene.assert_marked(rt, &[true, false, false, false]);
     Ok(large)
 }
 
@@ -65,6 +73,8 @@ fn lay_large(rt: &impl Abort, scene: &mut Scene) -> Result<Found, Fail> {
 fn is_read_again(rt: &impl Abort, scene: &mut Scene, index: u32, page: u32) -> Result<(), Fail> {
     let large = lay_large(rt, scene)?;
     let child = scene.object(1)?;
+    assert!(rt; scene.mark_by(rt, &[large.base], 299) == 3 * 512);
+    scene.assert_marked(rt, &[true, false, false, false]);
     scene.store(rt, large, index, child.base)?;
     assert!(rt; scene.heap.retrace() == Some(page), "word {index}");
     scene.assert_marked(rt, &[true, true, false, false]);
