@@ -1,6 +1,7 @@
 //! Runs of whole calls, each with the replies that the definitions of the heap give by hand.
 
 use crate::Core;
+use std::process::Abort;
 use std::test::Fail;
 use words::{Global, Kind, OpenError, Refusal, Reg};
 
@@ -8,9 +9,7 @@ fn register(number: u8) -> Result<Reg, Fail> {
     Ok(Reg::new(number).ok_or("register")?)
 }
 
-#[test]
-fn first_run(rt: HostRuntime) -> Result<(), Fail> {
-    let mut core = Core::new(rt.alloc(), 4).ok().ok_or("open")?;
+fn run_first(rt: &impl Abort, core: &mut Core) -> Result<(), Fail> {
     let slot = core.attach().ok().ok_or("attach")?;
     let (r1, r2, r3) = (register(1)?, register(2)?, register(3)?);
     assert_eq!(rt; slot.number(), 0);
@@ -37,6 +36,12 @@ fn first_run(rt: HostRuntime) -> Result<(), Fail> {
 }
 
 #[test]
+fn first_run(rt: HostRuntime) -> Result<(), Fail> {
+    let mut core = Core::new(rt.alloc(), 4).ok().ok_or("open")?;
+    run_first(&rt, &mut core)
+}
+
+#[test]
 fn pages_are_one_to_the_limit(rt: HostRuntime) -> Result<(), Fail> {
     assert_eq!(rt; Core::new(rt.alloc(), 0).err(), Some(OpenError::BadPages));
     assert_eq!(rt;
@@ -48,9 +53,7 @@ fn pages_are_one_to_the_limit(rt: HostRuntime) -> Result<(), Fail> {
     Ok(())
 }
 
-#[test]
-fn registers_wrap(rt: HostRuntime) -> Result<(), Fail> {
-    let mut core = Core::new(rt.alloc(), 1).ok().ok_or("open")?;
+fn wrap(rt: &impl Abort, core: &mut Core) -> Result<(), Fail> {
     let slot = core.attach().ok().ok_or("attach")?;
     let (r1, r2, r3) = (register(1)?, register(2)?, register(3)?);
     assert_eq!(rt; core.set(slot, r1, 5), Ok(()));
@@ -67,8 +70,12 @@ fn registers_wrap(rt: HostRuntime) -> Result<(), Fail> {
 }
 
 #[test]
-fn stack_and_globals(rt: HostRuntime) -> Result<(), Fail> {
+fn registers_wrap(rt: HostRuntime) -> Result<(), Fail> {
     let mut core = Core::new(rt.alloc(), 1).ok().ok_or("open")?;
+    wrap(&rt, &mut core)
+}
+
+fn push_and_put(rt: &impl Abort, core: &mut Core) -> Result<(), Fail> {
     let slot = core.attach().ok().ok_or("attach")?;
     let (r1, r2) = (register(1)?, register(2)?);
     let global = Global::new(63).ok_or("global")?;
@@ -87,8 +94,12 @@ fn stack_and_globals(rt: HostRuntime) -> Result<(), Fail> {
 }
 
 #[test]
-fn objects_are_freed_by_their_base(rt: HostRuntime) -> Result<(), Fail> {
+fn stack_and_globals(rt: HostRuntime) -> Result<(), Fail> {
     let mut core = Core::new(rt.alloc(), 1).ok().ok_or("open")?;
+    push_and_put(&rt, &mut core)
+}
+
+fn free_by_base(rt: &impl Abort, core: &mut Core) -> Result<(), Fail> {
     let slot = core.attach().ok().ok_or("attach")?;
     let (r1, r2, r3) = (register(1)?, register(2)?, register(3)?);
     assert_eq!(rt; core.alloc(slot, r1, 5, Kind::PointerFree), Ok(()));
@@ -105,4 +116,62 @@ fn objects_are_freed_by_their_base(rt: HostRuntime) -> Result<(), Fail> {
     assert_eq!(rt; core.alloc(slot, r1, 512, Kind::Normal), Ok(()));
     assert_eq!(rt; core.size(slot, r1), Ok(512));
     Ok(())
+}
+
+#[test]
+fn objects_are_freed_by_their_base(rt: HostRuntime) -> Result<(), Fail> {
+    let mut core = Core::new(rt.alloc(), 1).ok().ok_or("open")?;
+    free_by_base(&rt, &mut core)
+}
+
+// Two objects that point to each other, and one that a register points into.
+fn collect_ring(rt: &impl Abort, core: &mut Core) -> Result<(), Fail> {
+    let slot = core.attach().ok().ok_or("attach")?;
+    let (r1, r2, r3) = (register(1)?, register(2)?, register(3)?);
+    assert_eq!(rt; core.alloc(slot, r1, 2, Kind::Normal), Ok(()));
+    assert_eq!(rt; core.alloc(slot, r2, 2, Kind::Normal), Ok(()));
+    assert_eq!(rt; core.alloc(slot, r3, 2, Kind::Normal), Ok(()));
+    assert_eq!(rt; core.store(slot, r1, 0, r2), Ok(()));
+    assert_eq!(rt; core.store(slot, r2, 1, r1), Ok(()));
+    assert_eq!(rt; core.set(slot, r1, 0), Ok(()));
+    assert_eq!(rt; core.collect(), 0);
+    assert_eq!(rt; core.set(slot, r2, 0), Ok(()));
+    assert_eq!(rt; core.collect(), 2);
+    assert_eq!(rt; core.size(slot, r3), Ok(2));
+    assert_eq!(rt; core.collect(), 0);
+    Ok(())
+}
+
+#[test]
+fn unreached_objects_go(rt: HostRuntime) -> Result<(), Fail> {
+    let mut core = Core::new(rt.alloc(), 1).ok().ok_or("open")?;
+    collect_ring(&rt, &mut core)
+}
+
+// A pointer-free object has the base of another, which is reached by nothing else.
+fn forget_named(rt: &impl Abort, core: &mut Core) -> Result<(), Fail> {
+    let slot = core.attach().ok().ok_or("attach")?;
+    let (r1, r2) = (register(1)?, register(2)?);
+    assert_eq!(rt; core.alloc(slot, r1, 2, Kind::PointerFree), Ok(()));
+    assert_eq!(rt; core.alloc(slot, r2, 512, Kind::Normal), Ok(()));
+    assert_eq!(rt; core.store(slot, r1, 0, r2), Ok(()));
+    let kept = core.get(slot, r1).ok().ok_or("a base")?;
+    let gone = core.get(slot, r2).ok().ok_or("a base")?;
+    assert!(rt; !core.forget(&[gone]));
+    assert_eq!(rt; core.set(slot, r2, 0), Ok(()));
+    assert!(rt; !core.forget(&[gone, kept]));
+    assert!(rt; !core.forget(&[gone, gone]));
+    assert!(rt; !core.forget(&[gone.wrapping_add(8)]));
+    assert!(rt; core.forget(&[gone]));
+    assert!(rt; !core.forget(&[gone]));
+    assert!(rt; core.forget(&[]));
+    assert_eq!(rt; core.load(slot, r2, r1, 0), Ok(gone));
+    assert_eq!(rt; core.size(slot, r2), Err(Refusal::NoObject));
+    Ok(())
+}
+
+#[test]
+fn named_objects_go(rt: HostRuntime) -> Result<(), Fail> {
+    let mut core = Core::new(rt.alloc(), 2).ok().ok_or("open")?;
+    forget_named(&rt, &mut core)
 }
