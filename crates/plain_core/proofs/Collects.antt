@@ -119,19 +119,22 @@ module _ (c : Contents) (sound : IsSound c) (s : Heap) (h : StandsFor c s) where
       let p = points_at w base o r in
       (p.0, p.1, p.2, p.3, by_link f.4 f.2 (read_in f.1.kind (words_at c.words f.1) w kind words) (p.1, p.2, p.4))
 
-  -- objects that are gone since they are not marked are not reached, and a collection
+  -- what is not marked is not reached
+  pub not_reached : (marks : List Bool) → MarksReached (root_words_of c.roots) c.words c.objects marks → (i : ℕ) (e : Extent) → slice_get c.objects i ≡ Some e → get_or marks i false ≡ false → Reached s e.base → ⊥
+  not_reached marks m i e at unmarked r =
+      let f = reached_in e.base r in
+      let here : Reads e.base e.base e.length = reads_base c sound e (in_row c.objects i e at) e.base refl in
+      let there : Reads e.base f.1.base f.1.length = reads_base c sound f.1 (in_row c.objects f.0 f.1 f.2) e.base (sym f.3) in
+      let same : i ≡ f.0 = (sound_apart c sound).one e.base i f.0 (e, at, here) (f.1, f.2, there) in
+      true≢false (sym (m.marked f.0 f.4) ∙ ap (λ k. get_or marks k false) (sym same) ∙ unmarked)
+
+  -- objects that are not marked go
   module _ (marks : List Bool) (m : MarksReached (root_words_of c.roots) c.words c.objects marks) (stay : List Extent) (n : ℕ) (parts : Parts c.objects marks stay n) where
     abbrev bases : List ℕ
     bases = map (λ (e : Extent). e.base) parts.gone
 
     unreached : (e : Extent) → Contains parts.gone e → Reached s e.base → ⊥
-    unreached e gone r =
-        let f = reached_in e.base r in
-        let u = parts.unset e gone in
-        let here : Reads e.base e.base e.length = reads_base c sound e (in_row c.objects u.0 e u.1) e.base refl in
-        let there : Reads e.base f.1.base f.1.length = reads_base c sound f.1 (in_row c.objects f.0 f.1 f.2) e.base (sym f.3) in
-        let same : u.0 ≡ f.0 = (sound_apart c sound).one e.base u.0 f.0 (e, u.1, here) (f.1, f.2, there) in
-        true≢false (sym (m.marked f.0 f.4) ∙ ap (λ i. get_or marks i false) (sym same) ∙ u.2)
+    unreached e gone r = let u = parts.unset e gone in not_reached marks m u.0 e u.1 u.2 r
 
     takes : TakesOut s bases (Count n) (without s bases)
     takes = record {

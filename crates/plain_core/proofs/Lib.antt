@@ -11,3 +11,5 @@ pub mod Lists
 pub mod Reaching
 pub mod Stays
 pub mod Collects
+pub mod Claiming
+pub mod Forgets

@@ -4,4 +4,5 @@ pub mod Standing
 pub mod Reached
 pub mod Listing
 pub mod Parting
+pub mod Claims
 pub mod Collections

@@ -3,6 +3,7 @@
 //! again, and no thread, lock or atomic word.
 #![tactic(auto)]
 
+mod claims;
 mod extent;
 mod listing;
 mod parting;

@@ -26,11 +26,12 @@ pub struct Core {
     roots: Roots,
     root_words: ArrayVec<u64, ROOT_WORDS>,
     listing: Listing,
+    stays: Vec<bool>,
 }
 
 impl Model for Core {
     ghost use Rattle.std.specs.Prelude.{◌≤◌, ◌*◌};
-    ghost use Rattle.std.specs.Vec.{vec_capacity};
+    ghost use Rattle.std.specs.Vec.{vec_capacity, vec_len};
     ghost use Rattle.words.specs.declared.limits.TheConstants.{PAGE_GRANULES};
     ghost use Rattle.plain_core.specs.Contents.{Contents, IsSound};
     ghost use Rattle.plain_core.specs.Listing.{HasRoom};
@@ -39,7 +40,7 @@ impl Model for Core {
 
     ghost view = { λ c. record { pages = c.pages; words = c.words.items; objects = c.objects.items; roots = c.roots } };
 
-    ghost invariant = { λ c. IsSound (record { pages = c.pages; words = c.words.items; objects = c.objects.items; roots = c.roots }) × (PAGE_GRANULES * c.pages ≤ vec_capacity c.objects) × HasRoom (PAGE_GRANULES * c.pages) c.listing };
+    ghost invariant = { λ c. IsSound (record { pages = c.pages; words = c.words.items; objects = c.objects.items; roots = c.roots }) × (PAGE_GRANULES * c.pages ≤ vec_capacity c.objects) × HasRoom (PAGE_GRANULES * c.pages) c.listing × (PAGE_GRANULES * c.pages ≤ vec_len c.stays) };
 }
 
 impl Core {
@@ -62,6 +63,9 @@ impl Core {
         let Ok(listing) = Listing::new(alloc, PAGE_GRANULES as usize * pages as usize) else {
             return Err(OpenError::Memory);
         };
+        let Ok(stays) = vec![in alloc; true; PAGE_GRANULES as usize * pages as usize] else {
+            return Err(OpenError::Memory);
+        };
         Ok(Core {
             pages,
             words,
@@ -69,6 +73,7 @@ impl Core {
             roots: Roots::new(),
             root_words: ArrayVec::new(),
             listing,
+            stays,
         })
     }
 }

@@ -47,9 +47,9 @@ impl Cycle {
     }
 
     // A mutator may compute the address of an object that nothing reached.
-    fn watch(&mut self, pair: &Pair, slot: Slot, call: Call) {
+    fn watch(&mut self, pair: &Pair, slot: Slot, call: &Call) {
         let into = match call {
-            Call::Set(into, _) | Call::Add(into, _, _) | Call::Sub(into, _, _) => into,
+            Call::Set(into, _) | Call::Add(into, _, _) | Call::Sub(into, _, _) => *into,
             _ => return,
         };
         if !self.is_marking {
@@ -86,14 +86,17 @@ impl Cycle {
 
     // Ends a cycle, or collects: what is reached stays; what is not may stay only if it may have been reached since the
     // cycle began. The reply is how many went.
-    fn end(&mut self, pair: &mut Pair, event: Event) -> Result<(), Fail> {
-        let is_full = event == Event::Collect;
+    fn end(&mut self, pair: &mut Pair, is_full: bool) -> Result<(), Fail> {
         if !is_full && !self.is_marking {
-            return same(pair.paged.act(event), WRONG_PHASE);
+            return same(pair.paged.act(Event::Finish), WRONG_PHASE);
         }
         let looker = Looker::new(pair)?;
         look(pair, self.alloc, looker)?;
-        let reply = pair.paged.act(event);
+        let reply = if is_full {
+            pair.paged.act(Event::Collect)
+        } else {
+            pair.paged.act(Event::Finish)
+        };
         let mut gone: u64 = 0;
         for twin in &pair.twins.unreached(self.alloc)? {
             if looker.is_gone(&mut pair.paged, twin.paged) {
@@ -109,29 +112,46 @@ impl Cycle {
         same(reply, Reply::Count(gone))
     }
 
-    // A step of the marker, or of the sweep.
-    fn step(&mut self, pair: &mut Pair, event: Event) -> Result<(), Fail> {
-        let reply = pair.paged.act(event);
-        match event {
-            Event::Number => same(reply, Reply::Count(self.collections)),
-            Event::Sweep => {
-                if reply == Reply::Count(1) {
-                    self.swept = self.swept.wrapping_add(1);
-                }
-                at_most(reply, 1)
-            }
-            _ if !self.is_marking => same(reply, WRONG_PHASE),
-            Event::Roots => same(reply, Reply::Done),
-            Event::Mark(most) => at_most(reply, most),
-            _ => at_most(reply, 1),
+    // A reply of the marker: a count in range while a cycle is marking.
+    fn marked(&self, reply: Reply, most: u64) -> Result<(), Fail> {
+        if self.is_marking {
+            at_most(reply, most)
+        } else {
+            same(reply, WRONG_PHASE)
         }
+    }
+
+    fn roots(&self, pair: &mut Pair) -> Result<(), Fail> {
+        let reply = pair.paged.act(Event::Roots);
+        if self.is_marking {
+            same(reply, Reply::Done)
+        } else {
+            same(reply, WRONG_PHASE)
+        }
+    }
+
+    fn sweep(&mut self, pair: &mut Pair) -> Result<(), Fail> {
+        let reply = pair.paged.act(Event::Sweep);
+        if reply == Reply::Count(1) {
+            self.swept = self.swept.wrapping_add(1);
+        }
+        at_most(reply, 1)
     }
 
     fn act(&mut self, pair: &mut Pair, event: Event) -> Result<(), Fail> {
         match event {
             Event::Begin => self.begin(pair),
-            Event::Finish | Event::Collect => self.end(pair, event),
-            _ => self.step(pair, event),
+            Event::Roots => self.roots(pair),
+            Event::Mark(most) => self.marked(pair.paged.act(Event::Mark(most)), most),
+            Event::Retrace => self.marked(pair.paged.act(Event::Retrace), 1),
+            Event::Finish => self.end(pair, false),
+            Event::Sweep => self.sweep(pair),
+            Event::Collect => self.end(pair, true),
+            Event::Number => same(
+                pair.paged.act(Event::Number),
+                Reply::Count(self.collections),
+            ),
+            Event::Attach | Event::Mutator(_, _) => Err("an event of the collector".into()),
         }
     }
 }
@@ -212,7 +232,7 @@ fn mixed_calls(pair: &mut Pair, cycle: &mut Cycle, plan: &Plan) -> Result<u32, F
             cycle.act(pair, event)?;
         }
         let (slot, call, reply) = call_once(pair, &mut draw)?;
-        cycle.watch(pair, slot, call);
+        cycle.watch(pair, slot, &call);
         if reply == Reply::Refused(Refusal::Full) {
             full = full.wrapping_add(1);
         }

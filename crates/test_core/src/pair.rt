@@ -86,9 +86,9 @@ impl Pair {
         Ok(())
     }
 
-    pub(crate) fn ask(&mut self, slot: Slot, call: Call) -> (Reply, Reply) {
-        let here = self.paged.act(Event::Mutator(slot, call));
-        let there = ask_plain(&mut self.plain, slot, call);
+    pub(crate) fn ask(&mut self, slot: Slot, call: &Call) -> (Reply, Reply) {
+        let there = ask_plain(&mut self.plain, slot, *call);
+        let here = self.paged.act(Event::Mutator(slot, *call));
         (here, there)
     }
 

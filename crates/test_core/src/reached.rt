@@ -3,9 +3,9 @@
 use crate::pair::Pair;
 use crate::twins::Twin;
 use heap_core::Core;
-use std::alloc::Global;
+use std::alloc;
 use std::test::Fail;
-use words::{Kind, Refusal, Reg, Slot};
+use words::{Global, Kind, Refusal, Reg, Slot};
 
 /// A mutator that looks, and its two registers.
 #[derive(Clone, Copy)]
@@ -81,30 +81,37 @@ fn stack_words(core: &mut Core, slot: Slot, into: Reg, words: &mut Vec<u64>) -> 
     Ok(())
 }
 
-// The words of all registers, stacks and globals.
-fn root_words(core: &mut Core, looker: Looker, words: &mut Vec<u64>) -> Result<(), Fail> {
+// The words of a mutator's registers, if the slot has one.
+fn register_words(core: &Core, slot: Slot, words: &mut Vec<u64>) -> Result<(), Fail> {
     for number in 0..16 {
-        let slot = Slot::new(number).ok_or("a slot")?;
-        for register in 0..16 {
-            let reg = Reg::new(register).ok_or("a register")?;
-            if let Ok(word) = core.get(slot, reg) {
-                words.push(word)?;
-            }
-        }
-        stack_words(core, slot, looker.into, words)?;
+        let reg = Reg::new(number).ok_or("a register")?;
+        words.push(core.get(slot, reg).unwrap_or(0))?;
     }
+    Ok(())
+}
+
+fn global_words(core: &mut Core, looker: Looker, words: &mut Vec<u64>) -> Result<(), Fail> {
     for number in 0..64 {
-        let global = words::Global::new(number).ok_or("a global")?;
-        if let Ok(word) = core.gget(looker.slot, looker.into, global) {
-            words.push(word)?;
-        }
+        let global = Global::new(number).ok_or("a global")?;
+        let word = core.gget(looker.slot, looker.into, global);
+        words.push(word.ok().ok_or("a word of a global")?)?;
     }
     looker.leave(core);
     Ok(())
 }
 
+// The words of all registers, stacks and globals.
+fn root_words(core: &mut Core, looker: Looker, words: &mut Vec<u64>) -> Result<(), Fail> {
+    for number in 0..16 {
+        let slot = Slot::new(number).ok_or("a slot")?;
+        register_words(core, slot, words)?;
+        stack_words(core, slot, looker.into, words)?;
+    }
+    global_words(core, looker, words)
+}
+
 /// Finds out which objects are reached.
-pub(crate) fn look(pair: &mut Pair, alloc: Global, looker: Looker) -> Result<(), Fail> {
+pub(crate) fn look(pair: &mut Pair, alloc: alloc::Global, looker: Looker) -> Result<(), Fail> {
     let mut words = Vec::new(alloc);
     pair.twins.forget_reached();
     root_words(&mut pair.paged, looker, &mut words)?;

@@ -11,10 +11,10 @@ const CALLS: u32 = 20_000;
 
 // Before a call that reaches an object: the addresses are to name the same in both heaps. A word that was left behind by a
 // freed object may not, and then the register gets another word.
-fn prepare(pair: &mut Pair, draw: &mut Draw, slot: Slot, call: Call) {
+fn prepare(pair: &mut Pair, draw: &mut Draw, slot: Slot, call: &Call) {
     let (reg, offset) = match call {
-        Call::Load(_, at, offset) | Call::Store(at, offset, _) => (at, offset),
-        Call::Base(_, reg) | Call::Size(reg) | Call::Free(reg) => (reg, 0),
+        Call::Load(_, at, offset) | Call::Store(at, offset, _) => (*at, *offset),
+        Call::Base(_, reg) | Call::Size(reg) | Call::Free(reg) => (*reg, 0),
         _ => return,
     };
     let Some(words) = pair.words(slot, reg) else {
@@ -63,7 +63,7 @@ fn settle(
 fn allocate(pair: &mut Pair, slot: Slot, into: Reg, words: u64, kind: Kind) -> Result<Reply, Fail> {
     let room = pair.twins.has_room(pair.pages, words, kind);
     let kept = pair.words(slot, into);
-    let (here, there) = pair.ask(slot, Call::Alloc(into, words, kind));
+    let (here, there) = pair.ask(slot, &Call::Alloc(into, words, kind));
     if (here == Reply::Done && !room) || (here == Reply::Refused(Refusal::Full) && room) {
         return Err("full exactly where there is no room".into());
     }
@@ -76,7 +76,7 @@ fn allocate(pair: &mut Pair, slot: Slot, into: Reg, words: u64, kind: Kind) -> R
 }
 
 // What the two heaps answer is equal, but for bases.
-fn compare(pair: &mut Pair, slot: Slot, call: Call) -> Result<Reply, Fail> {
+fn compare(pair: &mut Pair, slot: Slot, call: &Call) -> Result<Reply, Fail> {
     let (here, there) = pair.ask(slot, call);
     let same = match (here, there) {
         (Reply::Word(word), Reply::Word(other)) => pair.twins.are_same(word, other),
@@ -92,7 +92,7 @@ fn compare(pair: &mut Pair, slot: Slot, call: Call) -> Result<Reply, Fail> {
 // Both heaps free, and what they free is an object.
 fn free(pair: &mut Pair, slot: Slot, reg: Reg) -> Result<Reply, Fail> {
     let words = pair.words(slot, reg);
-    let reply = compare(pair, slot, Call::Free(reg))?;
+    let reply = compare(pair, slot, &Call::Free(reg))?;
     if reply == Reply::Done {
         let base = words.ok_or("a mutator")?;
         if !pair.twins.remove(base.paged) {
@@ -105,7 +105,7 @@ fn free(pair: &mut Pair, slot: Slot, reg: Reg) -> Result<Reply, Fail> {
 // The difference of two addresses shows where objects lie: both heaps have that of their own words, and then a number.
 fn subtract(pair: &mut Pair, slot: Slot, into: Reg, from: Reg, less: Reg) -> Result<Reply, Fail> {
     let words = (pair.words(slot, from), pair.words(slot, less));
-    let reply = compare(pair, slot, Call::Sub(into, from, less))?;
+    let reply = compare(pair, slot, &Call::Sub(into, from, less))?;
     let (Some(a), Some(b)) = words else {
         return Ok(reply);
     };
@@ -119,11 +119,11 @@ fn subtract(pair: &mut Pair, slot: Slot, into: Reg, from: Reg, less: Reg) -> Res
     Ok(reply)
 }
 
-fn replay(pair: &mut Pair, slot: Slot, call: Call) -> Result<Reply, Fail> {
+fn replay(pair: &mut Pair, slot: Slot, call: &Call) -> Result<Reply, Fail> {
     match call {
-        Call::Alloc(into, words, kind) => allocate(pair, slot, into, words, kind),
-        Call::Free(reg) => free(pair, slot, reg),
-        Call::Sub(into, from, less) => subtract(pair, slot, into, from, less),
+        Call::Alloc(into, words, kind) => allocate(pair, slot, *into, *words, *kind),
+        Call::Free(reg) => free(pair, slot, *reg),
+        Call::Sub(into, from, less) => subtract(pair, slot, *into, *from, *less),
         _ => compare(pair, slot, call),
     }
 }
@@ -132,8 +132,8 @@ fn replay(pair: &mut Pair, slot: Slot, call: Call) -> Result<Reply, Fail> {
 pub(crate) fn call_once(pair: &mut Pair, draw: &mut Draw) -> Result<(Slot, Call, Reply), Fail> {
     let slot = draw.slot().ok_or("a slot")?;
     let call = draw.call().ok_or("a call")?;
-    prepare(pair, draw, slot, call);
-    let reply = replay(pair, slot, call)?;
+    prepare(pair, draw, slot, &call);
+    let reply = replay(pair, slot, &call)?;
     Ok((slot, call, reply))
 }
 

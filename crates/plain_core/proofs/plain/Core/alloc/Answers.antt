@@ -36,6 +36,7 @@ invariant_of-self c =
           (pushed_items _ _ _ _ (c.push-pushed.ensures.succeeds (let ok = c.self.inside.objects.ok in omega (arith, ok.0))) c.push-pushed.ensures.items),
       omega (arith, c.push-pushed.ensures.capacity),
       c.self.invariant.2,
+      c.self.invariant.3,
     )
 
 pub returns : goal.returns

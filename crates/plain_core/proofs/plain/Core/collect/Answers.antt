@@ -20,6 +20,7 @@ invariant_of-self c = (
   rest_sound _ c.self.invariant.0 c.keep_flagged.ensures.parts.gone _ c.keep_flagged.ensures.parts.all,
   rw c.keep_flagged.ensures.capacity c.self.invariant.1,
   room_kept _ _ _ c.self.invariant.2 c.list_reached.ensures.room,
+  c.self.invariant.3,
 )
 
 pub returns : goal.returns

@@ -41,6 +41,7 @@ invariant_of-self c =
       remove_sound _ c.self.invariant.0 _ _ _ (slice_get_within _ _ _ there) c.swap_remove-freed.ensures.value c.swap_remove-freed.ensures.items,
       omega (arith, c.swap_remove-freed.ensures.capacity),
       c.self.invariant.2,
+      c.self.invariant.3,
     )
 
 pub returns : goal.returns
