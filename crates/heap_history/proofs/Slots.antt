@@ -106,7 +106,7 @@ event_leaves s t who Attach reply lt h = subst (λ (x : HeapState). Leaves (heap
 event_leaves s t who (Mutator slot call) reply lt h =
     subst (λ (x : HeapState). Leaves (heap_of s) (heap_of x) who (not (is_last (rank_of_call call)))) (sym h.goes)
     (subst (λ (n : ℕ). Leaves (heap_of s) h.heap n (not (is_last (rank_of_call call)))) (sym h.fits.own)
-        (calls_leave (heap_of s) slot h.fits.mutator call (subst (λ (n : ℕ). IsAttached (heap_of s) n h.fits.mutator) h.fits.own h.fits.attached) h.happens))
+    (calls_leave (heap_of s) slot h.fits.mutator call (subst (λ (n : ℕ). IsAttached (heap_of s) n h.fits.mutator) h.fits.own h.fits.attached) h.happens))
 event_leaves s t who Begin reply lt h = absurd (omega (arith, h.fits))
 event_leaves s t who Finish reply lt h = absurd (omega (arith, h.fits))
 event_leaves s t who Collect reply lt h = absurd (omega (arith, h.fits))

@@ -51,7 +51,7 @@ walks_fresh s t (e ∷ es) w f = walks_fresh w.0 t es w.2 (step_fresh s w.0 e.wh
 pub reached_fresh : (pages : ℕ) (es : List Entry) (t : HeapState) → Reaches (Opens pages) StateStep es t → IsFreshRun t.pages t.run
 reached_fresh pages es t r =
     walks_fresh r.0 t es r.2 (subst (λ l. IsFreshRun r.0.pages l) (sym r.1.nothing)
-        (record { some_page = r.1.some_page; few_pages = r.1.few_pages; in_range = All-nil (λ (m : Moment). InRange m.told.event); is_run = tt }))
+    (record { some_page = r.1.some_page; few_pages = r.1.few_pages; in_range = All-nil (λ (m : Moment). InRange m.told.event); is_run = tt }))
 
 pub reached_sound : (pages : ℕ) (es : List Entry) (t : HeapState) → Reaches (Opens pages) StateStep es t → IsSound (heap_of t)
 reached_sound pages es t r = fresh_sound t.pages t.run (reached_fresh pages es t r)

@@ -31,6 +31,7 @@ impl Wanted {
 }
 
 const OK: Wanted = Wanted::Is(Reply::Done);
+
 const WRONG_PHASE: Wanted = Wanted::Is(Reply::Refused(Refusal::WrongPhase));
 
 fn count(number: u64) -> Wanted {
