@@ -9,7 +9,7 @@ use Rattle.heap_spec.specs.SequentialObject.{HeapState, heap_of, Opens, StateSte
 use Rattle.pages.specs.Opening.{IsPageCount}
 use Rattle.roots.specs.Roots.{IsNextSlot}
 use Rattle.heap_history.specs.Ranks.{rank_of}
-use Rattle.heap_history.specs.Passes.{Entry, is_marking as marks}
+use Rattle.heap_history.specs.Passes.{Entry, HeapPass, IsMutator, is_marking as marks}
 use Rattle.heap_history.proofs.Passing as pass
 use Rattle.heap_core.specs.Contents.{Contents}
 use Rattle.heap_core.specs.Standing.{StandsFor}
@@ -23,17 +23,29 @@ opening_stands c origin pages is range stands idle none = (
   record { stands = stands; phase = idle; count = none; small = omega (arith, none); touched = λ on base o has marked. absurd (true≢false (sym on ∙ idle)) },
 )
 
+-- a pass that has learnt the history `log`, and what it was before
+abbrev pub Learns : HeapPass → HeapPass → List Entry → Type 0
+Learns old new log = new ≡ record { slot = old.slot; seen = log; mine = old.mine }
+
 -- a slot with a pass has its mutator in the core
-pub caller_can : {pages : ℕ} → (c : Contents) (t : HeapState) (log seen : List Entry) (who own slot : ℕ) → who ≡ own → own ≡ slot → slot < 16 → seen ≡ log → is_live rank_of who seen ≡ true → Reaches (Opens pages) StateStep log t → Stands c t → HasCaller c who slot
-caller_can c t log seen who own slot e f lt s live r st =
-    let few : who < 16 = subst (λ (n : ℕ). n < 16) (sym (e ∙ f)) lt in
-    let at = pass.live_attached t log who few (ap (is_live rank_of who) (sym s) ∙ live) r in
-    record { range = few; own = e ∙ f; mutator = at.0; attached = ap (λ l. slice_get l who) (sym st.stands.mutators) ∙ at.1 }
+pub caller_can : {pages : ℕ} → (c : Contents) (t : HeapState) (old new : HeapPass) (log log1 : List Entry) (slot : ℕ) → Learns old new log → log1 ≡ log → IsMutator slot old
+    → Owned rank_of new.slot new.seen new.mine → Reaches (Opens pages) StateStep log1 t → Stands c t → HasCaller c new.slot slot
+caller_can c t old new log log1 slot learns same own o r st =
+    let is = ap (λ (p : HeapPass). p.slot) learns ∙ own.slot_is in
+    let few : new.slot < 16 = subst (λ (n : ℕ). n < 16) (sym is) own.range in
+    let seen : new.seen ≡ log1 = ap (λ (p : HeapPass). p.seen) learns ∙ sym same in
+    let at = pass.live_attached t log1 new.slot few (ap (is_live rank_of new.slot) (sym seen) ∙ o.live) r in
+    record { range = few; own = is; mutator = at.0; attached = ap (λ l. slice_get l new.slot) (sym st.stands.mutators) ∙ at.1 }
 
 -- a slot with no mutator has no pass
 pub vacant_dead : {pages : ℕ} → (c : Contents) (t : HeapState) (log : List Entry) (who : ℕ) → who < 16 → IsNextSlot c.roots who → Reaches (Opens pages) StateStep log t → Stands c t → is_live rank_of who log ≡ false
 vacant_dead c t log who lt low r st = pass.vacant_dead t log who lt (ap (λ l. slice_get l who) st.stands.mutators ∙ low.is_vacant) r
 
 -- the core's phase is that of the collector's own events
-pub phase_is : {pages : ℕ} → (c : Contents) (t : HeapState) (log seen mine : List Entry) (slot : ℕ) → slot ≡ 16 → seen ≡ log → Owned rank_of slot seen mine → Reaches (Opens pages) StateStep log t → Stands c t → c.cycle.is_marking ≡ marks mine
-phase_is c t log seen mine slot e s o r st = st.phase ∙ pass.phase_is t log mine slot e (subst (λ l. Owned rank_of slot l mine) s o) r
+pub phase_is : {pages : ℕ} → (c : Contents) (t : HeapState) (old new : HeapPass) (log log1 : List Entry) → Learns old new log → log1 ≡ log → old.slot ≡ 16
+    → Owned rank_of new.slot new.seen new.mine → Reaches (Opens pages) StateStep log1 t → Stands c t → c.cycle.is_marking ≡ marks old.mine
+phase_is c t old new log log1 learns same is o r st =
+    let seen : new.seen ≡ log1 = ap (λ (p : HeapPass). p.seen) learns ∙ sym same in
+    st.phase
+    ∙ pass.phase_is t log1 new.mine new.slot (ap (λ (p : HeapPass). p.slot) learns ∙ is) (subst (λ l. Owned rank_of new.slot l new.mine) seen o) r
+    ∙ ap (λ (p : HeapPass). marks p.mine) learns

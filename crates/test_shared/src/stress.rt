@@ -16,6 +16,7 @@ use std::marker::Brand;
 use std::process::Abort;
 use std::sync::Wait;
 use std::test::Fail;
+use std::thread;
 use std::thread::Threads;
 use words::Kind;
 
@@ -32,6 +33,9 @@ const CALLS_A_CYCLE: u64 = 8;
 
 /// The longest list that a mutator keeps.
 const LONGEST: usize = 24;
+
+// How many nodes the heap has room for: whoever reads more has seen cells used again.
+const NODES: u64 = 8 * 256;
 
 /// A mutator with its list: what it pushed is what it is to pop.
 #[derive(Drop)]
@@ -62,6 +66,7 @@ impl<'a, J: Naming, R: Wait> Player<'a, J, R> {
     // A node in front of the list, with its word and the rest.
     fn push(&mut self, word: u64) {
         if self.me.call(Call::Alloc(reg(2), 2, Kind::Normal)) != Reply::Done {
+            thread::yield_now();
             return;
         }
         self.me.call(Call::Set(reg(3), word));
@@ -180,7 +185,7 @@ fn no_list_loses_a_node(rt: HostRuntime) -> Result<(), Fail> {
     let opened = open(rt.alloc(), PAGES).ok().ok_or("a heap")?;
     let found = sixteen_mutators::<Brand, _>(&rt, rt.alloc(), opened)?;
     assert_eq!(rt; found.lost, 0);
-    assert!(rt; found.read_back > CALLS);
+    assert!(rt; found.read_back > NODES, "{} words", found.read_back);
     assert_eq!(rt; found.ended, CALLS / CALLS_A_CYCLE);
     Ok(())
 }

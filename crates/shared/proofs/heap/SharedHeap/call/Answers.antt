@@ -14,8 +14,7 @@ act-requires-clause-can g c =
     let st = c.object-object.ensures.stands in
     let l = c.learn.ensures in
     let new = c.learn.new.logged in
-    caller_can new.object st.state new.history c.learn.new.pass.seen c.learn.new.pass.slot c.me.inside.pass.slot c.me.inside.slot
-    (ap (λ p. p.slot) l.pass) c.me.invariant.slot_is c.me.invariant.range (ap (λ p. p.seen) l.pass ∙ ap (λ x. x.history) (sym l.logged)) l.agrees.owned.live st.reached st.stood_for
+    caller_can new.object st.state c.me.inside.pass c.learn.new.pass c.deref_mut-logged.result.now.history new.history c.me.inside.slot l.pass (ap (λ x. x.history) l.logged) c.me.invariant l.agrees.owned st.reached st.stood_for
 
 pub returns-clause-makes : goal.returns-clause-makes
 returns-clause-makes g c =

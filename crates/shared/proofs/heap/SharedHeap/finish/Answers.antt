@@ -16,8 +16,7 @@ returns-then-not-is_marking g c =
     let st = c.object.ensures.stands in
     let l = c.learn.ensures in
     let new = c.learn.new.logged in
-    let seen = ap (λ p. p.seen) l.pass ∙ ap (λ x. x.history) (sym l.logged) in
-    let phase = phase_is new.object st.state new.history c.learn.new.pass.seen c.learn.new.pass.mine c.learn.new.pass.slot (ap (λ p. p.slot) l.pass ∙ c.me.invariant) seen l.agrees.owned st.reached st.stood_for ∙ ap marks (ap (λ p. p.mine) l.pass) in
+    let phase = phase_is new.object st.state c.me.inside.pass c.learn.new.pass c.deref_mut-logged.result.now.history new.history l.pass (ap (λ x. x.history) l.logged) c.me.invariant l.agrees.owned st.reached st.stood_for in
     let was = sym phase ∙ (ap (λ x. x.cycle.is_marking) (sym c.object.ensures.object) ∙ (sym c.is_marking.ensures.phase ∙ c.if-not-is_marking.true)) in
     subst (λ (p : HeapPass). (marks p.mine ≡ false) × (WrongPhase ≡ WrongPhase) × Looks g.J.Naming.origin p c.learn.new.pass) c.me.view_is
     (was, refl, looked rank_of (Opens g.J.Naming.origin) StateStep c.me.inside.pass c.learn.new.pass c.deref_mut-logged.result.now.history l.before l.pass l.agrees)
@@ -32,8 +31,7 @@ returns g c =
     let st = c.object.ensures.stands in
     let l = c.learn.ensures in
     let new = c.learn.new.logged in
-    let seen = ap (λ p. p.seen) l.pass ∙ ap (λ x. x.history) (sym l.logged) in
-    let phase = phase_is new.object st.state new.history c.learn.new.pass.seen c.learn.new.pass.mine c.learn.new.pass.slot (ap (λ p. p.slot) l.pass ∙ c.me.invariant) seen l.agrees.owned st.reached st.stood_for ∙ ap marks (ap (λ p. p.mine) l.pass) in
+    let phase = phase_is new.object st.state c.me.inside.pass c.learn.new.pass c.deref_mut-logged.result.now.history new.history l.pass (ap (λ x. x.history) l.logged) c.me.invariant l.agrees.owned st.reached st.stood_for in
     let was = sym phase ∙ (ap (λ x. x.cycle.is_marking) (sym c.object.ensures.object) ∙ (sym c.is_marking.ensures.phase ∙ c.if-not-is_marking.false)) in
     let said = (c.act.ensures.step st.state st.stood_for).1.happens.1.takes.number in
     let asked = extended rank_of (Opens g.J.Naming.origin) StateStep c.me.inside.pass c.learn.new.pass c.act.new.pass c.deref_mut-logged.result.now.history c.learn.new.logged.history c.act.new.logged.history Finish c.act.result

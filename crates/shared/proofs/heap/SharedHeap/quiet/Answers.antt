@@ -8,6 +8,5 @@ returns-clause-gives g c =
     let st = c.object-object.ensures.stands in
     let l = c.learn.ensures in
     let new = c.learn.new.logged in
-    let seen = ap (λ p. p.seen) l.pass ∙ ap (λ x. x.history) (sym l.logged) in
-    let phase = phase_is new.object st.state new.history c.learn.new.pass.seen c.learn.new.pass.mine c.learn.new.pass.slot (ap (λ p. p.slot) l.pass ∙ c.me.invariant) seen l.agrees.owned st.reached st.stood_for ∙ ap marks (ap (λ p. p.mine) l.pass) in
+    let phase = phase_is new.object st.state c.me.inside.pass c.learn.new.pass c.deref_mut-logged.result.now.history new.history l.pass (ap (λ x. x.history) l.logged) c.me.invariant l.agrees.owned st.reached st.stood_for in
     (c.learn.new.logged.object, c.quiet.new.self.object, c.quiet.ensures.gives, phase ∙ ap (λ (p : HeapPass). marks p.mine) c.me.view_is)
