@@ -161,9 +161,13 @@ input_is_read_to_its_end() {
     is "a pipe with a pause" "$(lines attach "0 get 1")" "$(input)"
     is "rt is given a plain file" "regular file" "$(cat "$room/seen/kind")"
     rm -f "$room"/seen/*
-    python3 - "$wrapper" <<'TYPED' >"$room/out" 2>&1
+    typed=0
+    python3 - "$wrapper" <<'TYPED' >"$room/out" 2>&1 || typed=$?
 import os, pty, sys, time
-child, end = pty.fork()
+try:
+    child, end = pty.fork()
+except OSError:
+    sys.exit(77)
 if child == 0:
     os.execv(sys.argv[1], [sys.argv[1], "run", "--pages", "4"])
 for line in (b"attach\n", b"0 get 1\n", b"\x04"):
@@ -176,7 +180,11 @@ except OSError:
     pass
 os.waitpid(child, 0)
 TYPED
-    is "a script typed on a terminal" "$(lines attach "0 get 1")" "$(input)"
+    if [ "$typed" = 77 ]; then
+        echo "wrapper: no terminal can be made here: a typed script isn't tested"
+    else
+        is "a script typed on a terminal" "$(lines attach "0 get 1")" "$(input)"
+    fi
     rm -f "$room"/seen/*
     "$wrapper" run --pages 4 <&- >"$room/out" 2>&1
     is "a closed input's word names nothing" no "$(test -e "$(words | tail -n 1)" && echo yes || echo no)"
@@ -210,9 +218,11 @@ no_answer_is_status_three() {
     "$wrapper" run --pages 4 first.script >&- 2>"$room/err" || status=$?
     is "a closed output: status" 3 "$status"
     has "a closed output is told" "output" "$(cat "$room/err")"
-    status=0
-    "$wrapper" run --pages 4 first.script >/dev/full 2>"$room/err" || status=$?
-    is "a full output: status" 3 "$status"
+    if [ -w /dev/full ]; then
+        status=0
+        "$wrapper" run --pages 4 first.script >/dev/full 2>"$room/err" || status=$?
+        is "a full output: status" 3 "$status"
+    fi
     mkdir -p "$room/plain"
     for tool in sh dirname readlink cat printf awk sed find sort xargs sha256sum mktemp rm tail; do
         ln -sf "$(PATH=$real_path type -P "$tool")" "$room/plain/$tool"

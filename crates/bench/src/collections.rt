@@ -59,7 +59,11 @@ fn time_finish<R: Eprint + Clock>(
         user.mark_all();
         for number in 0..stores {
             let base = base_of(bases, number.wrapping_mul(7));
-            user.link(base, 0, base_of(bases, number.wrapping_mul(7).wrapping_add(1)));
+            user.link(
+                base,
+                0,
+                base_of(bases, number.wrapping_mul(7).wrapping_add(1)),
+            );
         }
         user.keep(base_of(bases, 0));
         let start = Instant::now(rt)?;

@@ -6,6 +6,10 @@
 //! marked objects once.
 #![tactic(auto)]
 
+mod gate;
+mod helpers;
 mod pause;
 
+pub use gate::{COLLECTOR, FIRST_HELPER, Gate, Open};
+pub use helpers::Helpers;
 pub use pause::close_marks;

@@ -1,6 +1,6 @@
 -- The core's lines as steps of its states, and the marker's as none.
-use Rattle.std.proofs.Common.{◌≡◌, ℕ, ◌<◌, Bool, true, false, List, refl, sym, ap, ◌∙◌, subst, arith, true≢false}
-use Rattle.std.specs.Prelude.{Some, None, slice_get}
+use Rattle.std.proofs.Common.{◌≡◌, ℕ, Bool, refl, sym, ap, ◌∙◌, subst, true≢false}
+use Rattle.std.specs.Prelude.{slice_get}
 use Rattle.history.specs.Objects.{StepsFrom}
 use Rattle.heap_spec.specs.declared.event.Event.{Event}
 use Rattle.heap_spec.specs.declared.event.Event.TheVariants.{Attach, Mutator, Begin, Roots, Mark, Retrace, Finish, Sweep, Collect, Number}
@@ -14,7 +14,7 @@ use Rattle.heap_spec.specs.SequentialObject.{HeapState, heap_of, Fits, StateStep
 use Rattle.heap_core.specs.Contents.{Contents}
 use Rattle.heap_core.specs.Standing.{StandsFor}
 use Rattle.heap_core.specs.Following.{Follows, IsLine}
-use Rattle.heap_core.specs.AsObject.{Stands, HasCaller, Can}
+use Rattle.heap_core.specs.AsObject.{Stands, Can}
 
 -- who may ask the core for an event fits it
 can_fits : (c : Contents) (s : Heap) (who : ℕ) (event : Event) → StandsFor c s → Can c who event → Fits s who event

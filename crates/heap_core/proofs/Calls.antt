@@ -123,7 +123,7 @@ allocated roots roots' t0 t t' y y' slot d n base kind place m at is sweeps room
   stays_dirty = λ p h. subst (λ ds. Has ds p) (sym notes.dirty) h;
   current = notes.current;
   stack = notes.stack;
-  marks = λ f there marked. ⊎_elim (λ old. inl old) (λ same. inr (new f (kept_cases (is_kept t'.pending y'.marking.marks) (found_in t'.states) f.base f there).0 same)) (notes.marks f.base marked);
+  marks = λ f there marked. ⊎_elim (λ old. inl old) (λ same. inr (new f (kept_cases (is_kept t'.pending y'.marking.marks) (found_in t'.states) f.base f there).0 same)) (notes.marks (granule f.base) marked);
   dirty = λ p h. inl (subst (λ ds. Has ds p) notes.dirty h);
 }
   where

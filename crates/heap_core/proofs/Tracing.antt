@@ -1,6 +1,6 @@
 -- What keeps a core traced: its marker is one of its pages, and while marking the dirty-page invariant holds.
 use Rattle.std.proofs.Common.{◌≡◌, ℕ, ◌+◌, ◌*◌, ◌<◌, ◌≤◌, ◌⊎◌, true, false, List, length, get_or, Option, Some, None, refl, sym, ap, ◌∙◌, subst, inl, inr, ⊎_elim, arith}
-use Rattle.std.proofs.lemmas.Bool.{cases_lt}
+use Rattle.std.proofs.lemmas.Bool.{cases_lt, false≢true}
 use Rattle.std.specs.Prelude.{Bool}
 use Rattle.pages.specs.Memory.{place, with_word_at}
 use Rattle.block_map.specs.declared.found.Found.{Found}
@@ -10,13 +10,14 @@ use Rattle.block_map.specs.Changes.{IsRemoved}
 use Rattle.words.specs.Bits.{Has}
 use Rattle.words.specs.declared.class.Kind.{Kind}
 use Rattle.words.specs.declared.class.Placement.{Placement}
-use Rattle.marker.specs.Marking.{Marking, IsFresh}
+use Rattle.mark_bits.specs.Granules.{granule}
+use Rattle.marker.specs.Marking.{Marking, IsFresh, IsObjectGranule, AreMarksObjects}
 use Rattle.marker.specs.Growth.{Traces}
 use Rattle.marker.specs.Invariant.{DirtyPageInvariant}
 use Rattle.marker.specs.Mutations.{KeepsWords, HasZeroWords, IsFreed}
 use Rattle.marker.proofs.Mutating.{free_traced}
 use Rattle.object_space.specs.Kept.{is_kept}
-use Rattle.object_space.proofs.Kept.{kept_all, nothing_pending}
+use Rattle.object_space.proofs.Kept.{kept_all, kept_cases, kept_is, marked_kept, nothing_pending}
 use Rattle.object_space.specs.Store.{Store, IsSwept}
 use Rattle.heap_core.specs.Contents.{Cycle, IsTraced}
 use Rattle.heap_core.specs.Beside.{NotesWrite, NotesObject}
@@ -26,6 +27,7 @@ use Rattle.object_space.specs.Sweeps.{Gains, Loses, Sweeps}
 pub traced_on : (t : Store) (y : Cycle) (roots : List ℕ) (m : Marking) → IsTraced t y → Traces (found_in t.states) t.words roots y.marking m → IsTraced t (record y { marking = m })
 traced_on t y roots m x traces = record {
   pages = traces.dirty_len ∙ x.pages;
+  objects = λ k h. ⊎_elim (x.objects k) (λ o. o) (traces.objects k h);
   swept = x.swept;
   invariant = λ is. traces.keeps (x.invariant is);
 }
@@ -35,6 +37,7 @@ pub traced_write : (t t' : Store) (y y' : Cycle) (address word : ℕ) → IsTrac
     → y'.is_marking ≡ y.is_marking → IsTraced t' y'
 traced_write t t' y y' address word x writes notes phase = subst (λ (z : Store). IsTraced z y') (sym writes) (record {
   pages = notes.dirty_len ∙ x.pages;
+  objects = λ k h. x.objects k (subst (λ ms. Has ms k) notes.marks h);
   swept = λ is. x.swept (sym phase ∙ is);
   invariant = λ is. notes.keeps (sym phase ∙ is) (found_in t.states) t.words word (x.invariant (sym phase ∙ is));
 })
@@ -67,38 +70,55 @@ gains_keeps t p kind base t' g f i there lt =
 pub traced_object : (t t' : Store) (y y' : Cycle) (p : Placement) (kind : Kind) (base : ℕ) → IsTraced t y → Gains t p kind base t' → NotesObject y.is_marking base y.marking y'.marking → y'.is_marking ≡ y.is_marking → IsTraced t' y'
 traced_object t t' y y' p kind base x g notes phase = record {
   pages = ap length notes.dirty ∙ x.pages ∙ sym g.pages;
+  objects = λ k h. ⊎_elim (λ old. stays k (x.objects k old)) (λ same. record { object = g.object; is = ap (found_in t'.states) g.at ∙ g.found; first = ap granule g.at ∙ sym same }) (notes.marks k h);
   swept = λ is. subst (λ row. (page : ℕ) → Has row page → ⊥) (sym g.pending) (x.swept (sym phase ∙ is));
   invariant = λ is. notes.keeps (sym phase ∙ is) (length t'.states) (found_in t.states) (found_in t'.states) t.words t'.words g.object g.at g.map g.found g.added (gains_keeps t p kind base t' g) (zeros t p kind base t' g) (x.invariant (sym phase ∙ is));
 }
   where
+    -- an object that was there is there
+    stays : (k : ℕ) → IsObjectGranule (found_in t.states) k → IsObjectGranule (found_in t'.states) k
+    stays k o = record { object = o.object; is = g.added.others o.object.base apart ∙ o.is; first = o.first }
+      where
+        clash : None ≡ Some o.object → ⊥
+        clash e = cc
+
+        apart : Reads o.object.base g.object → ⊥
+        apart r = clash (sym (g.added.before o.object.base r) ∙ o.is)
+
     zeros : (t : Store) (p : Placement) (kind : Kind) (base : ℕ) (t' : Store) (g : Gains t p kind base t') → HasZeroWords t'.words g.object
     zeros t p kind base t' g i lt =
         let at = g.at in let low = (g.map.placed base g.object g.found).above in
         g.zeroed.zero (place (g.object.base + 8 * i)) (omega arith) (omega arith)
 
 -- an object goes
-pub traced_freed : (t t' : Store) (y y' : Cycle) (f : Found) → IsTraced t y → IsMap (length t.states) (found_in t.states) → found_in t.states f.base ≡ Some f → Loses t f t' → IsFreed f.base y.marking y'.marking → y'.is_marking ≡ y.is_marking
+pub traced_freed : (t t' : Store) (y y' : Cycle) (f : Found) → IsTraced t y → (AreMarksObjects (found_in t.states) y.marking → AreMarksObjects (found_in t'.states) y'.marking) → IsMap (length t.states) (found_in t.states) → found_in t.states f.base ≡ Some f → Loses t f t' → IsFreed f.base y.marking y'.marking → y'.is_marking ≡ y.is_marking
     → ((pages : ℕ) (found after : ℕ → Option Found) (words words' : List ℕ) (g : Found) → g.base ≡ f.base → IsMap pages found → found f.base ≡ Some g → IsRemoved found after g → KeepsWords after words words' → DirtyPageInvariant found words y.marking → DirtyPageInvariant after words' y'.marking)
     → IsTraced t' y'
-traced_freed t t' y y' f x map there loses frees phase keeps = record {
+traced_freed t t' y y' f x objects map there loses frees phase keeps = record {
   pages = ap length frees.dirty ∙ x.pages ∙ sym loses.pages;
+  objects = objects x.objects;
   swept = λ is page h. x.swept (sym phase ∙ is) page (loses.fewer page h);
   invariant = λ is. keeps (length t.states) (found_in t.states) (found_in t'.states) t.words t'.words f refl map there loses.removed
       (λ g i there lt. ap (λ ws. get_or ws (place (g.base + 8 * i)) 0) loses.words) (x.invariant (sym phase ∙ is));
 }
+
+-- nothing is marked
+pub fresh_objects : (found : ℕ → Option Found) (pages : ℕ) (m : Marking) → IsFresh pages m → AreMarksObjects found m
+fresh_objects found pages m fresh k h = absurd (false≢true (sym (fresh.marks.clear k) ∙ h))
 
 -- a cycle begins
 pub traced_begun : (t : Store) (y : Cycle) (m : Marking) (marking : Bool) (count : ℕ) → IsTraced t y → IsSwept t → IsFresh (length y.marking.dirty) m → DirtyPageInvariant (found_in t.states) t.words m
     → IsTraced t (record { marking = m; is_marking = marking; count = count })
 traced_begun t y m marking count x swept fresh invariant = record {
   pages = fresh.dirty.size ∙ x.pages;
+  objects = fresh_objects (found_in t.states) (length y.marking.dirty) m fresh;
   swept = λ is. swept;
   invariant = λ is. invariant;
 }
 
 -- a cycle has ended
-pub traced_ended : (t : Store) (m : Marking) (count : ℕ) → length m.dirty ≡ length t.states → IsTraced t (record { marking = m; is_marking = false; count = count })
-traced_ended t m count pages = record { pages = pages; swept = λ is. absurd (clash is); invariant = λ is. absurd (clash is) }
+pub traced_ended : (t : Store) (m : Marking) (count : ℕ) → length m.dirty ≡ length t.states → AreMarksObjects (found_in t.states) m → IsTraced t (record { marking = m; is_marking = false; count = count })
+traced_ended t m count pages objects = record { pages = pages; objects = objects; swept = λ is. absurd (clash is); invariant = λ is. absurd (clash is) }
   where
     clash : false ≡ true → ⊥
     clash e = cc
@@ -107,11 +127,17 @@ traced_ended t m count pages = record { pages = pages; swept = λ is. absurd (cl
 pub traced_swept : (t0 t : Store) (y : Cycle) → IsTraced t0 y → Sweeps t0 y.marking.marks t → IsTraced t y
 traced_swept t0 t y x sweeps = record {
   pages = x.pages ∙ sym sweeps.pages;
+  objects = λ k h. let o = x.objects k h in record { object = o.object; is = kept_stays o.object (subst (Has y.marking.marks) (sym o.first) h) o.is; first = o.first };
   swept = λ is page h. x.swept is page (sweeps.fewer page h);
   invariant = λ is. free_traced (found_in t0.states) (found_in t.states) t0.words t.words y.marking (record { before = λ w f there. same is w ∙ there })
       (λ f i there lt. ap (λ ws. get_or ws (place (f.base + 8 * i)) 0) sweeps.words) (x.invariant is);
 }
   where
+    -- a marked object is kept
+    kept_stays : (f : Found) → Has y.marking.marks (granule f.base) → found_in t0.states f.base ≡ Some f → found_in t.states f.base ≡ Some f
+    kept_stays f marked there =
+        (kept_cases (is_kept t.pending y.marking.marks) (found_in t.states) f.base f (sweeps.same.same f.base ∙ kept_is (is_kept t0.pending y.marking.marks) (found_in t0.states) f.base f there (marked_kept t0.pending y.marking.marks f marked))).0
+
     same : y.is_marking ≡ true → (w : ℕ) → found_in t0.states w ≡ found_in t.states w
     same is w =
         sym ((kept_all (is_kept t0.pending y.marking.marks) (found_in t0.states) (λ v f there. nothing_pending t0.pending y.marking.marks f (x.swept is f.page))).same w)

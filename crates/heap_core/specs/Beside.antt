@@ -23,7 +23,7 @@ pub record NotesWrite (is_marking : Bool) (address : ℕ) (old new : Marking) : 
 
 -- An object of zero words came at the base: it at most has become marked, and the invariant stays.
 pub record NotesObject (is_marking : Bool) (base : ℕ) (old new : Marking) : Type 0 where
-  pub marks : (b : ℕ) → IsMarked new b → IsMarked old b ⊎ (granule b ≡ granule base)
+  pub marks : (k : ℕ) → Has new.marks k → Has old.marks k ⊎ (k ≡ granule base)
   pub others : (k : ℕ) → k ≢ granule base → slice_index_or new.marks k false ≡ slice_index_or old.marks k false
   pub stays : (k : ℕ) → Has old.marks k → Has new.marks k
   pub marked : is_marking ≡ true → IsMarked new base

@@ -8,9 +8,9 @@ use Rattle.heap_spec.specs.Layout.{word_end}
 use Rattle.heap_spec.specs.Heap.{Heap, Object, HasObject}
 use Rattle.heap_spec.specs.Closure.{Closure}
 use Rattle.heap_spec.specs.Cycles.{TakesOut, CollectsFully}
-use Rattle.marker.specs.Marking.{IsMarked, IsFresh, IsEmpty, IsClean}
+use Rattle.marker.specs.Marking.{IsMarked, IsFresh, IsEmpty, IsClean, StaysDirty}
 use Rattle.marker.specs.Invariant.{AreRootsMarked}
-use Rattle.marker.specs.Growth.{Traces}
+use Rattle.marker.specs.Growth.{MarksWords, Traces}
 use Rattle.marker.specs.Entries.{Takes, TakesOff}
 use Rattle.marker.specs.Retracing.{Retraces}
 use Rattle.reachability.specs.Shows.{IsMarkedBirth}
@@ -49,14 +49,18 @@ pub record MarksOn (roots : List ℕ) (old new : Contents) : Type 0 where
   pub within : (s : Heap) → StandsFor old s → (base : ℕ) (o : Object) → HasObject s base o → IsMarked new.cycle.marking base → Closure s (IsMarkedBirth s old.cycle.marking) base
   pub traces : Traces (found_in old.store.states) old.store.words roots old.cycle.marking new.cycle.marking
 
--- The roots were read: what they read is marked.
+-- The roots were read, word by word: what they read is marked. No page has become clean.
 pub record ReadsRoots (old new : Contents) : Type 0 where
   pub marks : MarksOn (root_words_of old.roots) old new
+  pub words : MarksWords (found_in old.store.states) old.cycle.marking (root_words_of old.roots) new.cycle.marking
+  pub dirty : StaysDirty old.cycle.marking new.cycle.marking
   pub roots : AreRootsMarked (found_in old.store.states) (root_words_of old.roots) new.cycle.marking
 
--- So many words were taken off the entries, at most as many as were asked for, and fewer only if no entry is left.
+-- So many words were taken off the entries, at most as many as were asked for, and fewer only if no entry is left. No page
+-- has become clean.
 pub record TakesWords (asked : ℕ) (old : Contents) (n : ℕ) (new : Contents) : Type 0 where
   pub marks : MarksOn [] old new
+  pub dirty : StaysDirty old.cycle.marking new.cycle.marking
   pub most : n ≤ asked
   pub fewer : n < asked → IsEmpty new.cycle.marking
   pub takes : Takes (found_in old.store.states) old.store.words old.cycle.marking n new.cycle.marking

@@ -1,7 +1,7 @@
 -- What a core contains.
 use Rattle.std.specs.Prelude.{◌≡◌, ℕ, true, Bool, length}
 use Rattle.roots.specs.Roots.{RootSet}
-use Rattle.marker.specs.Marking.{Marking}
+use Rattle.marker.specs.Marking.{Marking, AreMarksObjects}
 use Rattle.marker.specs.Invariant.{DirtyPageInvariant}
 use Rattle.block_map.specs.FoundIn.{found_in}
 use Rattle.object_space.specs.Store.{Store, IsSwept}
@@ -18,9 +18,10 @@ pub record Contents : Type 0 where
   pub store : Store
   pub cycle : Cycle
 
--- What is true of each core: its marker is one of its pages, and while a cycle is marking nothing is to be swept and the
--- dirty-page invariant holds.
+-- What is true of each core: its marker is one of its pages, each mark is that of an allocated object, and while a cycle is
+-- marking nothing is to be swept and the dirty-page invariant holds.
 pub record IsTraced (t : Store) (y : Cycle) : Type 0 where
   pub pages : length y.marking.dirty ≡ length t.states
+  pub objects : AreMarksObjects (found_in t.states) y.marking
   pub swept : y.is_marking ≡ true → IsSwept t
   pub invariant : y.is_marking ≡ true → DirtyPageInvariant (found_in t.states) t.words y.marking

@@ -4,3 +4,5 @@ pub mod Telling
 pub mod Stored
 pub mod Counting
 pub mod Passing
+pub mod Held
+pub mod Owning

@@ -106,7 +106,7 @@ event_leaves s t who Attach reply lt h = subst (λ (x : HeapState). Leaves (heap
 event_leaves s t who (Mutator slot call) reply lt h =
     subst (λ (x : HeapState). Leaves (heap_of s) (heap_of x) who (not (is_last (rank_of_call call)))) (sym h.goes)
     (subst (λ (n : ℕ). Leaves (heap_of s) h.heap n (not (is_last (rank_of_call call)))) (sym h.fits.own)
-        (calls_leave (heap_of s) slot h.fits.mutator call (subst (λ (n : ℕ). IsAttached (heap_of s) n h.fits.mutator) h.fits.own h.fits.attached) h.happens))
+    (calls_leave (heap_of s) slot h.fits.mutator call (subst (λ (n : ℕ). IsAttached (heap_of s) n h.fits.mutator) h.fits.own h.fits.attached) h.happens))
 event_leaves s t who Begin reply lt h = absurd (omega (arith, h.fits))
 event_leaves s t who Finish reply lt h = absurd (omega (arith, h.fits))
 event_leaves s t who Collect reply lt h = absurd (omega (arith, h.fits))
@@ -117,17 +117,20 @@ event_leaves s t who Sweep reply lt h = absurd h.fits
 event_leaves s t who Number reply lt h = absurd h.fits
 
 -- a step by a slot is such an event, or the collector's, which leaves all slots
+pub step_mutators : (s t : HeapState) (by who : ℕ) (event : Event) (reply : Reply) → by ≢ who → StateStep s by event reply t → slice_get (heap_of t).mutators who ≡ slice_get (heap_of s).mutators who
+step_mutators s t by who Attach reply ne h = (event_leaves s t by Attach reply h.fits.0 h).else who (λ e. ne (sym e))
+step_mutators s t by who (Mutator slot call) reply ne h = (event_leaves s t by (Mutator slot call) reply h.fits.range h).else who (λ e. ne (sym e))
+step_mutators s t by who Begin reply ne h = ap (λ (x : HeapState). slice_get (heap_of x).mutators who) h.goes ∙ ap (λ (x : Heap). slice_get x.mutators who) h.happens.1.1
+step_mutators s t by who Finish reply ne h = ap (λ (x : HeapState). slice_get (heap_of x).mutators who) h.goes ∙ ap (λ (x : Heap). slice_get x.mutators who) h.happens.1.takes.after
+step_mutators s t by who Collect reply ne h = ap (λ (x : HeapState). slice_get (heap_of x).mutators who) h.goes ∙ ap (λ (x : Heap). slice_get x.mutators who) h.happens.takes.after
+step_mutators s t by who Roots reply ne h = absurd h.fits
+step_mutators s t by who (Mark n) reply ne h = absurd h.fits
+step_mutators s t by who Retrace reply ne h = absurd h.fits
+step_mutators s t by who Sweep reply ne h = absurd h.fits
+step_mutators s t by who Number reply ne h = absurd h.fits
+
 pub step_other : (s t : HeapState) (by who : ℕ) (event : Event) (reply : Reply) → by ≢ who → StateStep s by event reply t → is_attached (heap_of t) who ≡ is_attached (heap_of s) who
-step_other s t by who Attach reply ne h = ap is_there ((event_leaves s t by Attach reply h.fits.0 h).else who (λ e. ne (sym e)))
-step_other s t by who (Mutator slot call) reply ne h = ap is_there ((event_leaves s t by (Mutator slot call) reply h.fits.range h).else who (λ e. ne (sym e)))
-step_other s t by who Begin reply ne h = ap (λ (x : HeapState). is_attached (heap_of x) who) h.goes ∙ ap (λ (x : Heap). is_attached x who) h.happens.1.1
-step_other s t by who Finish reply ne h = ap (λ (x : HeapState). is_attached (heap_of x) who) h.goes ∙ ap (λ (x : Heap). is_attached x who) h.happens.1.takes.after
-step_other s t by who Collect reply ne h = ap (λ (x : HeapState). is_attached (heap_of x) who) h.goes ∙ ap (λ (x : Heap). is_attached x who) h.happens.takes.after
-step_other s t by who Roots reply ne h = absurd h.fits
-step_other s t by who (Mark n) reply ne h = absurd h.fits
-step_other s t by who Retrace reply ne h = absurd h.fits
-step_other s t by who Sweep reply ne h = absurd h.fits
-step_other s t by who Number reply ne h = absurd h.fits
+step_other s t by who event reply ne h = ap is_there (step_mutators s t by who event reply ne h)
 
 pub step_here : (s t : HeapState) (who : ℕ) (event : Event) (reply : Reply) → who < 16 → StateStep s who event reply t → is_attached (heap_of t) who ≡ not (is_last (rank_of event))
 step_here s t who event reply lt h = (event_leaves s t who event reply lt h).there

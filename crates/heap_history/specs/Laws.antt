@@ -1,16 +1,50 @@
 -- What follows from the headline for a caller.
-use Rattle.std.specs.Prelude.{◌≡◌, ℕ, ◌<◌, ◌≤◌, true, [], ◌∷◌, ◌++◌}
+use Rattle.std.specs.Prelude.{◌≡◌, ◌≢◌, ℕ, ◌+◌, ◌*◌, ◌<◌, ◌≤◌, ◌⊎◌, true, All, List, [], ◌∷◌, ◌++◌}
 use mathlib.Core.List.{IsPrefix}
 use Rattle.history.specs.Histories.{event, count}
 use Rattle.heap_spec.specs.declared.call.Call.{Call}
-use Rattle.heap_spec.specs.declared.call.Call.TheVariants.{Set, Load, Store}
-use Rattle.heap_spec.specs.declared.event.Event.TheVariants.{Mutator}
+use Rattle.heap_spec.specs.declared.call.Call.TheVariants.{Detach, Set, Copy, Add, Sub, Get, Push, Pop, Load, Store, Alloc, Free, Base, Size, GlobalGet, GlobalPut}
+use Rattle.heap_spec.specs.declared.event.Event.{Event}
+use Rattle.heap_spec.specs.declared.event.Event.TheVariants.{Attach, Mutator, Begin, Roots, Mark, Retrace, Finish, Sweep, Collect, Number}
 use Rattle.heap_spec.specs.declared.reply.Reply.{Reply}
 use Rattle.heap_spec.specs.declared.reply.Reply.TheVariants.{Done, Word}
-use Rattle.words.specs.declared.limits.TheConstants.{SLOTS}
+use Rattle.words.specs.declared.limits.TheConstants.{SLOTS, WORD_BYTES}
+use Rattle.words.specs.declared.class.Kind.{Kind}
 use Rattle.heap_history.specs.Ranks.{rank_of}
-use Rattle.heap_history.specs.Passes.{HeapPass, IsFine, begins}
+use Rattle.heap_history.specs.Passes.{Entry, HeapPass, IsFine, begins}
 use Rattle.heap_history.specs.Headline.{Makes}
+
+-- a call that frees no object
+abbrev pub IsNoFreeCall : Call → Type 0
+IsNoFreeCall Detach = Unit {0}
+IsNoFreeCall (Set r w) = Unit {0}
+IsNoFreeCall (Copy d a) = Unit {0}
+IsNoFreeCall (Add d a n) = Unit {0}
+IsNoFreeCall (Sub d a b) = Unit {0}
+IsNoFreeCall (Get r) = Unit {0}
+IsNoFreeCall (Push r) = Unit {0}
+IsNoFreeCall (Pop d) = Unit {0}
+IsNoFreeCall (Load d a n) = Unit {0}
+IsNoFreeCall (Store a n r) = Unit {0}
+IsNoFreeCall (Alloc d n kind) = Unit {0}
+IsNoFreeCall (Free r) = ⊥
+IsNoFreeCall (Base d a) = Unit {0}
+IsNoFreeCall (Size r) = Unit {0}
+IsNoFreeCall (GlobalGet d g) = Unit {0}
+IsNoFreeCall (GlobalPut g r) = Unit {0}
+
+-- and an event that does not: a cycle may be one
+abbrev pub IsNoFree : Event → Type 0
+IsNoFree Attach = Unit {0}
+IsNoFree (Mutator slot call) = IsNoFreeCall call
+IsNoFree Begin = Unit {0}
+IsNoFree Roots = Unit {0}
+IsNoFree (Mark n) = Unit {0}
+IsNoFree Retrace = Unit {0}
+IsNoFree Finish = Unit {0}
+IsNoFree Sweep = Unit {0}
+IsNoFree Collect = Unit {0}
+IsNoFree Number = Unit {0}
 
 -- a call with no other event between it and what its caller had seen
 pub record MakesNext (pages : ℕ) (old : HeapPass) (call : Call) (reply : Reply) (new : HeapPass) : Type 0 where
@@ -21,6 +55,29 @@ pub record MakesNext (pages : ℕ) (old : HeapPass) (call : Call) (reply : Reply
 abbrev pub OwnLoadAnswers : Type 0
 OwnLoadAnswers = (pages a n r d w : ℕ) (reply : Reply) (start set stored loaded : HeapPass)
     → Makes pages start (Set r w) Done set → MakesNext pages set (Store a n r) Done stored → MakesNext pages stored (Load d a n) reply loaded → reply ≡ Word w
+
+-- A call that comes after these events of others, of all that its caller had not seen.
+pub record MakesAfter (pages : ℕ) (old : HeapPass) (since : List Entry) (call : Call) (reply : Reply) (new : HeapPass) : Type 0 where
+  pub makes : Makes pages old call reply new
+  pub seen : new.seen ≡ (old.seen ++ since) ++ event old.slot (Mutator old.slot call) reply ∷ []
+
+-- what others did, with no free among it
+abbrev pub OthersFreeNothing : ℕ → List Entry → Type 0
+OthersFreeNothing slot since = All (λ e. (e.who ≢ slot) × IsNoFree e.call) since
+
+-- A mutator allocates an object, and its register has the base, as it is told. Whatever others do then, cycles and stores among it but no
+-- free, the register still has the base of an object.
+abbrev pub OwnObjectStays : Type 0
+OwnObjectStays = (pages d n a e : ℕ) (kind : Kind) (since : List Entry) (reply : Reply) (start made told asked : HeapPass)
+    → Makes pages start (Alloc d n kind) Done made → MakesNext pages made (Get d) (Word a) told
+    → OthersFreeNothing start.slot since → MakesAfter pages told since (Base e d) reply asked → reply ≡ Word a
+
+-- Two objects that a mutator allocates, the second while a register has the first, don't overlap, if nobody frees between.
+abbrev pub OwnObjectsApart : Type 0
+OwnObjectsApart = (pages d n a d' n' b : ℕ) (kind kind' : Kind) (since : List Entry) (start made told more asked : HeapPass)
+    → Makes pages start (Alloc d n kind) Done made → MakesNext pages made (Get d) (Word a) told
+    → OthersFreeNothing start.slot since → MakesAfter pages told since (Alloc d' n' kind') Done more → MakesNext pages more (Get d') (Word b) asked
+    → (a + WORD_BYTES * n ≤ b) ⊎ (b + WORD_BYTES * n' ≤ a)
 
 -- A mutator's own events begin with its attach.
 abbrev pub MineBegins : Type 0

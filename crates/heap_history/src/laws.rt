@@ -1,9 +1,19 @@
 //! What follows from the headline for a caller, whatever others do. Each law is a function that does nothing, and its contract is the law.
-ghost use Rattle.heap_history.specs.Laws.{OwnLoadAnswers, MineBegins, CountGrows};
+ghost use Rattle.heap_history.specs.Laws.{OwnLoadAnswers, OwnObjectStays, OwnObjectsApart, MineBegins, CountGrows};
 
 /// A mutator loads the word that it stored, if nothing happened between.
 pub fn own_load_answers()
     ensures { OwnLoadAnswers }
+{}
+
+/// An object that a mutator allocated stays while a register has it, unless somebody frees it.
+pub fn own_object_stays()
+    ensures { OwnObjectStays }
+{}
+
+/// Two objects that a mutator allocated don't overlap.
+pub fn own_objects_apart()
+    ensures { OwnObjectsApart }
 {}
 
 /// The own events of a mutator begin with its attach.

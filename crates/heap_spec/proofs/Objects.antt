@@ -1,10 +1,12 @@
 -- The objects of a heap after a change at one base.
-use Rattle.std.proofs.Common.{◌≡◌, ◌≢◌, ℕ, ◌+◌, ◌*◌, ◌<◌, ◌≤◌, ◌⊎◌, Bool, true, false, List, length, cond, eqb, [], ◌∷◌, refl, sym, ap, ◌∙◌, subst, arith, inl, inr, ⊎_elim}
-use Rattle.std.specs.Prelude.{Option, Some, None, All, ◌||◌, slice_set}
+use Rattle.std.proofs.Common.{◌≡◌, ◌≢◌, ℕ, ◌+◌, ◌*◌, ◌<◌, ◌≤◌, ◌⊎◌, Bool, true, false, List, length, get_or, cond, eqb, [], ◌∷◌, refl, sym, ap, ◌∙◌, subst, arith, inl, inr, ⊎_elim}
+use Rattle.std.specs.Prelude.{Option, Some, None, All, Contains, ◌||◌, ◌==◌, slice_set}
+use Rattle.std.specs.List.{list_any}
 use Rattle.std.proofs.lemmas.Bool.{cases_lt, cases_eq, cases_order, cond-true, cond-false, eq-eqb, ne_eqb, true≢false}
 use Rattle.std.proofs.lemmas.Option.{same_Some, none-some}
 use Rattle.std.proofs.lemmas.List.{length-set}
-use Rattle.std.proofs.lemmas.List.Elements.{All-set}
+use Rattle.std.proofs.lemmas.List.Elements.{All-set, Contains-get_or}
+use Rattle.std.proofs.lemmas.List.Folds.{list_any_none, list_any-from_Any}
 use Rattle.words.specs.declared.class.Kind.{Kind}
 use Rattle.words.specs.declared.class.Placement.{Placement}
 use Rattle.words.specs.declared.class.Placement.TheVariants.{Small, Large}
@@ -31,6 +33,16 @@ at_cases m k v q x e =
 pub left_over : {A : Type 0} (b : Bool) (x : Option A) (o : A) → cond b None x ≡ Some o → (b ≡ false) × (x ≡ Some o)
 left_over true x o e = absurd (none-some o e)
 left_over false x o e = (refl, e)
+
+-- what is there without some is none of them, and was there
+pub without_some : {A : Type 0} (m : ℕ → Option A) (bases : List ℕ) (q : ℕ) (x : A) → without_at m bases q ≡ Some x → (Contains bases q → ⊥) × (m q ≡ Some x)
+without_some m bases q x e =
+    let left = left_over (list_any (λ b. b == q) bases) (m q) x e in
+    (λ among. true≢false (sym (list_any-from_Any (λ b. b == q) bases (among.0, q, among.1, among.2, eq-eqb q q refl)) ∙ left.0), left.1)
+
+-- and what is none of them is there still
+pub without_other : {A : Type 0} (m : ℕ → Option A) (bases : List ℕ) (q : ℕ) → (Contains bases q → ⊥) → without_at m bases q ≡ m q
+without_other m bases q out = cond-false _ None (m q) (list_any_none (λ b. b == q) bases (λ k d lt. ne_eqb (get_or bases k d) q (λ same. out (subst (Contains bases) same (Contains-get_or bases k d lt)))))
 
 -- what is left where one is taken out
 one_or_none : (b : Bool) → (b || false) ≡ b

@@ -1,11 +1,8 @@
 -- What holds in every run of a new heap.
 use Rattle.std.proofs.Common.{◌≡◌, ℕ, false, List, [], ◌∷◌, refl, sym, ap, ◌∙◌, subst}
-use Rattle.std.specs.Prelude.{None, All, Contains, ◌==◌}
-use Rattle.std.specs.List.{list_any}
-use Rattle.std.proofs.lemmas.Bool.{cond-false, eq-eqb, ne_eqb, true≢false}
+use Rattle.std.specs.Prelude.{All}
 use Rattle.std.proofs.lemmas.Option.{none-some, same_Some}
-use Rattle.std.proofs.lemmas.List.Elements.{All-head, All-tail, All-weaker}
-use Rattle.std.proofs.lemmas.List.Folds.{list_any_none, list_any-from_Any}
+use Rattle.std.proofs.lemmas.List.Elements.{All-head, All-tail, All-contains}
 use Rattle.heap_spec.specs.declared.event.Event.{Event}
 use Rattle.heap_spec.specs.declared.event.Event.TheVariants.{Attach, Mutator, Begin, Roots, Mark, Retrace, Finish, Sweep, Collect, Number}
 use Rattle.heap_spec.specs.declared.reply.Reply.{Reply}
@@ -18,7 +15,7 @@ use Rattle.heap_spec.specs.Ranges.{InRange}
 use Rattle.heap_spec.specs.Sound.{IsSound}
 use Rattle.heap_spec.specs.Laws.{IsFreshRun, HasDistinctBirths, KeepsReached, HasOnlyReached}
 use Rattle.heap_spec.proofs.Closures.{in_idem, reached_in}
-use Rattle.heap_spec.proofs.Objects.{left_over, same_object}
+use Rattle.heap_spec.proofs.Objects.{without_some, without_other, same_object}
 use Rattle.heap_spec.proofs.Calls.{calls_kept, attaches_kept, takes_out_kept, opening_is}
 
 -- what happens next keeps the heap sound
@@ -69,9 +66,7 @@ fresh_touched_reached pages (m ∷ run) base o has r = touched_reached (fresh pa
 -- a collection keeps what is reached
 reached_stays : (s : Heap) (bases : List ℕ) (reply : Reply) (s' : Heap) → TakesOut s bases reply s' → (base : ℕ) (o : Object) → HasObject s base o → Reached s base → HasObject s' base o
 reached_stays s bases reply s' takes base o has r =
-    let none : list_any (λ c. c == base) bases ≡ false = list_any_none (λ c. c == base) bases
-    (All-weaker (λ b. Reached s b → ⊥) (λ c. (c == base) ≡ false) (λ c un. ne_eqb c base (λ e. un (subst (Reached s) (sym e) r))) bases takes.unreached) in
-    ap (λ (t : Heap). t.objects base) takes.after ∙ cond-false _ None (s.objects base) none ∙ has
+    ap (λ (t : Heap). t.objects base) takes.after ∙ without_other s.objects bases base (λ among. All-contains (λ b. Reached s b → ⊥) bases base takes.unreached among r) ∙ has
 
 pub keeps_reached : (s : Heap) (bases : List ℕ) (reply : Reply) (s' : Heap) → TakesOut s bases reply s' → KeepsReached s s'
 keeps_reached s bases reply s' takes = record {
@@ -79,13 +74,8 @@ keeps_reached s bases reply s' takes = record {
   words = λ base o p has r there. ap (λ (x : Object). x.words) (same_Some p o (sym there ∙ reached_stays s bases reply s' takes base o has r));
 }
 
--- and what it leaves was there, and is none that it took
-pub left_by : (s : Heap) (bases : List ℕ) (reply : Reply) (s' : Heap) → TakesOut s bases reply s' → (base : ℕ) (o : Object) → HasObject s' base o → HasObject s base o × (Contains bases base → ⊥)
-left_by s bases reply s' takes base o has =
-    let left = left_over (list_any (λ c. c == base) bases) (s.objects base) o (sym (ap (λ (t : Heap). t.objects base) takes.after) ∙ has) in
-    (left.1, λ among. true≢false (sym (list_any-from_Any (λ c. c == base) bases (among.0, base, among.1, among.2, eq-eqb base base refl)) ∙ left.0))
-
+-- and no other
 pub only_reached : (s : Heap) (reply : Reply) (s' : Heap) → CollectsFully s reply s' → HasOnlyReached s s'
 only_reached s reply s' collects base p has =
-    let left = left_by s collects.bases reply s' collects.takes base p has in
-    ((p, left.0, same_object p), λ unreached. left.1 (collects.all base p left.0 unreached))
+    let left = without_some s.objects collects.bases base p (sym (ap (λ (t : Heap). t.objects base) collects.takes.after) ∙ has) in
+    ((p, left.1, same_object p), λ unreached. left.0 (collects.all base p left.1 unreached))

@@ -1,5 +1,5 @@
 //! The program as its users see it: its words, its statuses, and what it says of a fault.
-ghost use Rattle.std.specs.Prelude.{None};
+ghost use Rattle.std.specs.Prelude.{◌≡◌, ◌+◌, None};
 
 use crate::program::program;
 use pages::Count;

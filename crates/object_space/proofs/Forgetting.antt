@@ -1,9 +1,10 @@
 -- What is closed and then forgotten.
-use Rattle.std.proofs.Common.{◌≡◌, ℕ, List, Some}
+use Rattle.std.proofs.Common.{◌≡◌, ℕ, ◌⊎◌, ⊎_elim, subst, sym, List, Option, Some}
 use Rattle.std.specs.Prelude.{◌↔◌}
+use Rattle.words.specs.Bits.{Has}
 use Rattle.block_map.specs.declared.found.Found.{Found}
 use Rattle.block_map.specs.FoundIn.{found_in}
-use Rattle.marker.specs.Marking.{Marking, IsMarked}
+use Rattle.marker.specs.Marking.{Marking, IsMarked, IsObjectGranule, AreMarksObjects}
 use Rattle.marker.specs.Closure.{Closure}
 use Rattle.object_space.specs.Store.{Store, IsSwept}
 use Rattle.object_space.specs.Kept.{is_kept}
@@ -44,3 +45,10 @@ forgets_unreached old roots m m' n new swept x closes = record {
     (λ outside. (x.unmarked f there).1 (λ marked. outside ((closes f there).0 marked))),
   );
 }
+
+-- Each mark is that of an object that is left.
+pub marks_left : (found after : ℕ → Option Found) (m m' : Marking) → AreMarksObjects found m → ((k : ℕ) → Has m'.marks k → Has m.marks k ⊎ IsObjectGranule found k) → ((f : Found) → found f.base ≡ Some f → IsMarked m' f.base → after f.base ≡ Some f) → AreMarksObjects after m'
+marks_left found after m m' before grown left k h = by (⊎_elim (before k) (λ o. o) (grown k h))
+  where
+    by : IsObjectGranule found k → IsObjectGranule after k
+    by o = record { object = o.object; is = left o.object o.is (subst (Has m'.marks) (sym o.first) h); first = o.first }

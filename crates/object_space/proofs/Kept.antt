@@ -96,6 +96,14 @@ nothing_pending pending marks f none = by (get_or pending f.page false) refl
 pub pending_marked : (pending marks : List Bool) (f : Found) → Has pending f.page → is_kept pending marks f ≡ get_or marks (granule f.base) false
 pending_marked pending marks f is = cond-true (get_or pending f.page false) (get_or marks (granule f.base) false) true is
 
+-- a marked object is kept
+pub marked_kept : (pending marks : List Bool) (f : Found) → Has marks (granule f.base) → is_kept pending marks f ≡ true
+marked_kept pending marks f m = look (get_or pending f.page false) refl
+  where
+    look : (b : Bool) → get_or pending f.page false ≡ b → is_kept pending marks f ≡ true
+    look true p = pending_marked pending marks f p ∙ m
+    look false p = nothing_pending pending marks f (λ h. false≢true (sym p ∙ h))
+
 -- A page was swept: its unmarked objects are gone, and it is not to be swept any more. The kept objects are the same.
 pub page_swept : (pending marks : List Bool) (page : ℕ) (found after : ℕ → Option Found) → Has pending page
     → ((w : ℕ) (f : Found) → found w ≡ Some f → f.page ≢ page → after w ≡ Some f)
@@ -149,13 +157,6 @@ pub ended_lazily : (marks pending : List Bool) (found after : ℕ → Option Fou
     → (w : ℕ) (f : Found) → (restrict (is_kept pending marks) after w ≡ Some f → (found w ≡ Some f) × Has marks (granule f.base)) × ((found w ≡ Some f) × Has marks (granule f.base) → restrict (is_kept pending marks) after w ≡ Some f)
 ended_lazily marks pending found after less kept unswept w f = (to, from)
   where
-    marked_kept : Has marks (granule f.base) → is_kept pending marks f ≡ true
-    marked_kept m = look (get_or pending f.page false) refl
-      where
-        look : (b : Bool) → get_or pending f.page false ≡ b → is_kept pending marks f ≡ true
-        look true p = pending_marked pending marks f p ∙ m
-        look false p = nothing_pending pending marks f (λ h. false≢true (sym p ∙ h))
-
     to : restrict (is_kept pending marks) after w ≡ Some f → (found w ≡ Some f) × Has marks (granule f.base)
     to e = let k = kept_cases (is_kept pending marks) after w f e in (less w f k.0, look (get_or marks (granule f.base) false) refl k.0 k.1)
       where
@@ -164,4 +165,4 @@ ended_lazily marks pending found after less kept unswept w f = (to, from)
         look false m there k = absurd (false≢true (sym m ∙ sym (pending_marked pending marks f (unswept w f there (λ h. false≢true (sym m ∙ h)))) ∙ k))
 
     from : (found w ≡ Some f) × Has marks (granule f.base) → restrict (is_kept pending marks) after w ≡ Some f
-    from x = kept_is (is_kept pending marks) after w f (kept w f x.0 x.1) (marked_kept x.1)
+    from x = kept_is (is_kept pending marks) after w f (kept w f x.0 x.1) (marked_kept pending marks f x.1)

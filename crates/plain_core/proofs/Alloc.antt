@@ -165,7 +165,7 @@ has_room c e sound new fresh =
     omega arith
 
 -- what a push that succeeds leaves
-pub pushed_items : {T E : Type 0} (r : Result T E) (xs ys zs : List Extent) → IsOk r → zs ≡ cond (is_ok r) xs ys → zs ≡ xs
+pub pushed_items : {A T E : Type 0} (r : Result T E) (xs ys zs : List A) → IsOk r → zs ≡ cond (is_ok r) xs ys → zs ≡ xs
 pushed_items (Ok v) xs ys zs ok is = is
 pushed_items (Err e) xs ys zs ok is = absurd (cc)
 

@@ -7,3 +7,9 @@ pub mod Freshness
 pub mod Rooms
 pub mod Alloc
 pub mod Free
+pub mod Lists
+pub mod Reaching
+pub mod Stays
+pub mod Collects
+pub mod Claiming
+pub mod Forgets

@@ -1,5 +1,5 @@
 -- The heap that a plain core stands for.
-use Rattle.std.specs.Prelude.{◌≡◌, ℕ, ◌-◌, ◌/◌, ◌≤◌, List, take, drop, Contains}
+use Rattle.std.specs.Prelude.{◌≡◌, ℕ, ◌+◌, ◌-◌, ◌/◌, ◌≤◌, List, length, take, drop, Contains}
 use Rattle.words.specs.declared.limits.TheConstants.{WORD_BYTES, FIRST_ADDRESS}
 use Rattle.heap_spec.specs.Heap.{Heap, Object, HasObject}
 use Rattle.plain_core.specs.declared.extent.Extent.{Extent}
@@ -8,6 +8,11 @@ use Rattle.plain_core.specs.Contents.{Contents}
 -- where the word at an address stands in the row of words
 abbrev pub place : ℕ → ℕ
 place a = (a - FIRST_ADDRESS) / WORD_BYTES
+
+-- The words of an object are in the row.
+pub record LiesIn (row : List ℕ) (e : Extent) : Type 0 where
+  pub start : FIRST_ADDRESS ≤ e.base
+  pub ends : place e.base + e.length ≤ length row
 
 -- the words of an object in the row
 abbrev pub words_at : List ℕ → Extent → List ℕ

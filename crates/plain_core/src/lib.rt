@@ -3,7 +3,10 @@
 //! again, and no thread, lock or atomic word.
 #![tactic(auto)]
 
+mod claims;
 mod extent;
+mod listing;
+mod parting;
 mod places;
 mod plain;
 

@@ -4,11 +4,14 @@ ghost use Rattle.words.specs.declared.limits.TheConstants.{MAX_PAGES};
 ghost use Rattle.words.specs.declared.refusal.OpenError.TheVariants.{BadPages};
 ghost use Rattle.heap_spec.specs.Heap.{opening};
 
+mod collections;
 mod objects;
 mod registers;
 
 use crate::extent::Extent;
-use roots::Roots;
+use crate::listing::Listing;
+use arrayvec::ArrayVec;
+use roots::{ROOT_WORDS, Roots};
 use std::alloc::Global;
 use std::marker::Model;
 use words::OpenError;
@@ -21,19 +24,23 @@ pub struct Core {
     words: Vec<u64>,
     objects: Vec<Extent>,
     roots: Roots,
+    root_words: ArrayVec<u64, ROOT_WORDS>,
+    listing: Listing,
+    stays: Vec<bool>,
 }
 
 impl Model for Core {
     ghost use Rattle.std.specs.Prelude.{◌≤◌, ◌*◌};
-    ghost use Rattle.std.specs.Vec.{vec_capacity};
+    ghost use Rattle.std.specs.Vec.{vec_capacity, vec_len};
     ghost use Rattle.words.specs.declared.limits.TheConstants.{PAGE_GRANULES};
     ghost use Rattle.plain_core.specs.Contents.{Contents, IsSound};
+    ghost use Rattle.plain_core.specs.Listing.{HasRoom};
 
     ghost Value = { Contents };
 
     ghost view = { λ c. record { pages = c.pages; words = c.words.items; objects = c.objects.items; roots = c.roots } };
 
-    ghost invariant = { λ c. IsSound (record { pages = c.pages; words = c.words.items; objects = c.objects.items; roots = c.roots }) × (PAGE_GRANULES * c.pages ≤ vec_capacity c.objects) };
+    ghost invariant = { λ c. IsSound (record { pages = c.pages; words = c.words.items; objects = c.objects.items; roots = c.roots }) × (PAGE_GRANULES * c.pages ≤ vec_capacity c.objects) × HasRoom (PAGE_GRANULES * c.pages) c.listing × (PAGE_GRANULES * c.pages ≤ vec_len c.stays) };
 }
 
 impl Core {
@@ -53,11 +60,20 @@ impl Core {
         let Ok(objects) = Vec::with_capacity(alloc, PAGE_GRANULES as usize * pages as usize) else {
             return Err(OpenError::Memory);
         };
+        let Ok(listing) = Listing::new(alloc, PAGE_GRANULES as usize * pages as usize) else {
+            return Err(OpenError::Memory);
+        };
+        let Ok(stays) = vec![in alloc; true; PAGE_GRANULES as usize * pages as usize] else {
+            return Err(OpenError::Memory);
+        };
         Ok(Core {
             pages,
             words,
             objects,
             roots: Roots::new(),
+            root_words: ArrayVec::new(),
+            listing,
+            stays,
         })
     }
 }

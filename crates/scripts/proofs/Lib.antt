@@ -3,4 +3,5 @@ pub mod Decimals
 pub mod Splitting
 pub mod FirstWords
 pub mod Texts
+pub mod Inputs
 pub mod Serving

@@ -4,7 +4,7 @@ use Rattle.std.specs.Prelude.{All, Option, Some, None, Result, Ok, Err, slice_ge
 use Rattle.std.specs.List.{AllZip}
 use Rattle.std.specs.Io.KnownBytes.{Consumes, Appends, IsAtEnd}
 use Rattle.std.proofs.lemmas.List.{map_push, append-nil}
-use Rattle.std.proofs.lemmas.List.Elements.{All-push, All-nil, All-cons, All-append}
+use Rattle.std.proofs.lemmas.List.Elements.{All-push, All-nil}
 use Rattle.heap_spec.specs.declared.event.Event.{Event}
 use Rattle.heap_spec.specs.declared.reply.Reply.{Reply}
 use Rattle.heap_spec.specs.Heap.{opening}
@@ -25,6 +25,7 @@ use Rattle.scripts.specs.Printing.{reply_line, printed}
 use Rattle.scripts.specs.Answers.{Answers, BeginsAnswer, IsAnswered, Serves}
 use Rattle.scripts.specs.Turns.{IsRun, IsTurn, HasRun, IsUpTo, text_of}
 use Rattle.scripts.proofs.Bytes.{Appends-none, Appends-more, Consumes-none, Consumes-more}
+use Rattle.scripts.proofs.Inputs.{zip_push, length-push, known, at_end, no_buffer, no_left, more_lines, last_line, all_short}
 use Rattle.scripts.proofs.Texts.{lines_of-text, lines_of-line, lines_of-last, first_line, whole_lines_of-text, take-front, at-front, text_of-push}
 
 -- one line more of a transcript
@@ -35,13 +36,6 @@ legal_on start told (on m g) l = on m (legal_on start told g l)
 printed-push : (pages : ℕ) (lines : List Told) (told : Told) → printed pages (lines ++ told ∷ []) ≡ printed pages lines ++ reply_line pages told.reply
 printed-push pages [] told = append-nil (reply_line pages told.reply)
 printed-push pages (l ∷ lines) told = ap (λ x. reply_line pages l.reply ++ x) (printed-push pages lines told) ∙ sym (append_assoc (reply_line pages l.reply) (printed pages lines) (reply_line pages told.reply))
-
--- one pair more
-zip_push : {A B : Type 0} (R : A → B → Type 0) (xs : List A) (ys : List B) (x : A) (y : B) → AllZip R xs ys → R x y → AllZip R (xs ++ x ∷ []) (ys ++ y ∷ [])
-zip_push R [] [] x y h r = (r, tt)
-zip_push R [] (b ∷ ys) x y h r = absurd h
-zip_push R (a ∷ xs) [] x y h r = absurd h
-zip_push R (a ∷ xs) (b ∷ ys) x y h r = (h.0, zip_push R xs ys x y h.1 r)
 
 -- a new core follows the run without events
 pub follows_fresh : (pages : ℕ) (core : Contents) → StandsFor core (opening pages) → core.cycle.is_marking ≡ false → core.cycle.count ≡ 0 → Follows core (fresh pages) []
@@ -74,36 +68,6 @@ run_on pages old new lines out line o r plain turn =
 
 answers : (pages : ℕ) (core : Contents) (lines : List (List ℕ)) (out : List ℕ) → HasRun pages core lines out → length lines < LAST_LINE → Answers pages lines out
 answers pages core lines out r few = record { told = r.told; last = r.last; commands = r.commands; few = few; legal = r.legal; prints = r.prints }
-
-length-push : {A : Type 0} (xs : List A) (x : A) → length (xs ++ x ∷ []) ≡ length xs + 1
-length-push [] x = refl
-length-push (y ∷ xs) x = let h = length-push xs x in omega (arith, h)
-
--- What is left, where a reader tells that its bytes are the input.
-record Known (input : List ℕ) (rem : Option (List ℕ)) (buffer text : List ℕ) : Type 0 where
-  left : List ℕ
-  is_left : rem ≡ Some left
-  is_input : input ≡ (text ++ buffer) ++ left
-
-known : (input b0 buffer text : List ℕ) (rem0 rem : Option (List ℕ)) → b0 ≡ [] → rem0 ≡ Some input → Consumes (left_of b0 rem0) (left_of buffer rem) text → Known input rem buffer text
-known input b0 buffer text rem0 rem none tells reads =
-    let P : Option (List ℕ) → Type 0 = λ x. Consumes x (left_of buffer rem) text in
-    by_rest rem (subst P (ap (λ b. left_of b rem0) none ∙ ap (λ r. left_of [] r) tells) reads)
-  where
-    by_rest : (rest : Option (List ℕ)) → Consumes (Some input) (left_of buffer rest) text → Known input rest buffer text
-    by_rest None h = absurd h
-    by_rest (Some left) h = record { left = left; is_left = refl; is_input = h ∙ sym (append_assoc text buffer left) }
-
-at_end : (buffer left : List ℕ) (rem : Option (List ℕ)) → rem ≡ Some left → IsAtEnd (left_of buffer rem) → buffer ++ left ≡ []
-at_end buffer left rem is h = let P : Option (List ℕ) → Type 0 = λ r. IsAtEnd (left_of buffer r) in subst P is h
-
-no_buffer : (buffer left : List ℕ) → buffer ++ left ≡ [] → buffer ≡ []
-no_buffer [] left e = refl
-no_buffer (b ∷ buffer) left e = let h : ⊥ = cc in absurd h
-
-no_left : (buffer left : List ℕ) → buffer ++ left ≡ [] → left ≡ []
-no_left [] left e = e
-no_left (b ∷ buffer) left e = let h : ⊥ = cc in absurd h
 
 holds : (held out : List ℕ) (w0 w : Option (List ℕ)) → w0 ≡ Some held → Appends w0 w out → w ≡ Some (held ++ out)
 holds held out w0 w tells wrote =
@@ -145,20 +109,6 @@ bad_answered pages number core lines more bad out read left few count run is why
     let P : List (List ℕ) → Type 0 = λ ls. Answers pages ls out in
     (subst P (sym front) (answers pages core lines out run (omega (arith, count))), record { line = bad; counted = omega (arith, count); is_line = there; bad = why })
 
--- the lines of an input that begins with some lines and one more
-more_lines : (lines : List (List ℕ)) (line buffer left : List ℕ) → All IsPlain lines → IsPlain line → lines_of (((text_of lines ++ (line ++ newline ∷ [])) ++ buffer) ++ left) ≡ lines ++ line ∷ lines_of (buffer ++ left)
-more_lines lines line buffer left plain p =
-    ap lines_of (append_assoc (text_of lines ++ (line ++ newline ∷ [])) buffer left ∙ append_assoc (text_of lines) (line ++ newline ∷ []) (buffer ++ left))
-    ∙ lines_of-text lines ((line ++ newline ∷ []) ++ (buffer ++ left)) plain
-    ∙ ap (λ t. lines ++ lines_of t) (append_assoc line (newline ∷ []) (buffer ++ left))
-    ∙ ap (λ ls. lines ++ ls) (lines_of-line line (buffer ++ left) p)
-
--- the same, where the last line lacks its newline
-last_line : (lines : List (List ℕ)) (line buffer left : List ℕ) → All IsPlain lines → IsPlain line → 0 < length line → buffer ++ left ≡ [] → lines_of (((text_of lines ++ line) ++ buffer) ++ left) ≡ lines ++ line ∷ []
-last_line lines line buffer left plain p some end =
-    ap lines_of (append_assoc (text_of lines ++ line) buffer left ∙ ap (λ t. (text_of lines ++ line) ++ t) end ∙ append-nil (text_of lines ++ line))
-    ∙ lines_of-text lines line plain ∙ ap (λ ls. lines ++ ls) (lines_of-last line p some)
-
 -- a line that is too long
 pub too_long_serves : (pages number : ℕ) (core : Contents) (input held b0 buffer buffer' line : List ℕ) (rem0 rem rem' w0 w : Option (List ℕ)) → number ≤ LAST_LINE → b0 ≡ [] → rem0 ≡ Some input → w0 ≡ Some held
     → IsUpTo pages number core (left_of b0 rem0) (left_of buffer rem) w0 w → IsPlain line → IsLineRead TooLong line (left_of buffer rem) (left_of buffer' rem') → Serves pages input held rem' w (Err (BadLine number))
@@ -173,26 +123,6 @@ too_long_serves pages number core input held b0 buffer buffer' line rem0 rem rem
     bad_answered pages number core lines first.lines first.line u.out ((text_of lines ++ front) ++ buffer') left few u.count u.run
     (ap lines_of (append_assoc (text_of lines ++ front) buffer' left ∙ append_assoc (text_of lines) front (buffer' ++ left)) ∙ lines_of-text lines (front ++ (buffer' ++ left)) u.run.plain ∙ ap (λ ls. lines ++ ls) first.are)
     (inl (λ command l. let short = l.short in let h = first.long in omega (arith, short, h, long))))
-
--- the lines of commands are short
-commands_short : (lines : List (List ℕ)) (events : List Event) → AllZip IsLineOf lines events → All IsShort lines
-commands_short [] [] are = All-nil IsShort
-commands_short [] (e ∷ events) are = absurd are
-commands_short (line ∷ lines) [] are = absurd are
-commands_short (line ∷ lines) (e ∷ events) are = All-cons IsShort line lines are.0.short (commands_short lines events are.1)
-
-part_short : (part : List ℕ) → IsPlain part → IsShort part → All IsShort (lines_of part)
-part_short [] plain short = All-nil IsShort
-part_short (b ∷ part) plain short =
-    subst (All IsShort) (sym (lines_of-last (b ∷ part) plain (omega arith))) (All-cons IsShort (b ∷ part) [] short (All-nil IsShort))
-
--- no line of what was read is too long, where the lines before a part are commands'
-all_short : (lines : List (List ℕ)) (events : List Event) (part buffer : List ℕ) → AllZip IsLineOf lines events → All IsPlain lines → IsPlain part → IsShort part → buffer ≡ []
-    → All IsShort (lines_of ((text_of lines ++ part) ++ buffer))
-all_short lines events part buffer are plain p short empty =
-    let text : lines_of ((text_of lines ++ part) ++ buffer) ≡ lines ++ lines_of part
-    = ap lines_of (ap (λ b. (text_of lines ++ part) ++ b) empty ∙ append-nil (text_of lines ++ part)) ∙ lines_of-text lines part plain in
-    subst (All IsShort) (sym text) (All-append IsShort lines (lines_of part) (commands_short lines events are) (part_short part p short))
 
 -- the reader failed within a line
 pub read_serves : (pages number : ℕ) (core : Contents) (input held b0 buffer buffer' part : List ℕ) (rem0 rem rem' w0 w : Option (List ℕ)) → IsShort part → number ≤ LAST_LINE → b0 ≡ [] → rem0 ≡ Some input → w0 ≡ Some held

@@ -17,6 +17,8 @@ mod words_of_line;
 
 pub use commands::command;
 pub use errors::ScriptError;
+pub use input_buffer::InputBuffer;
+pub use line::{LineRead, next_line};
 pub use numbers::number;
 pub use print::print_reply;
 pub use script::{run_bytes, run_script};

@@ -6,12 +6,12 @@ ghost use Rattle.heap_core.specs.Contents.{Contents};
 ghost use Rattle.heap_history.specs.Passes.{is_marking};
 ghost use Rattle.heap_history.specs.Headline.{Extends, Looks, IsGrantedIn};
 
-use crate::replies::count;
 use crate::heap::SharedHeap;
+use crate::replies::count;
 use crate::tokens::Collector;
+use heap_core::Core;
 use heap_spec::{Event, Reply};
 use history::{Naming, Quiet};
-use heap_core::Core;
 use std::sync::Wait;
 use words::Refusal;
 
@@ -64,7 +64,12 @@ impl<J: Naming> SharedHeap<J> {
     }
 
     /// Runs work that is no event on the core, under the lock: on some core that is marking exactly if the collector's own events say so.
-    pub fn quiet<Q: Quiet<Core>>(&self, rt: &impl Wait, me: &mut Collector<J>, work: &mut Q) -> Q::Answer
+    pub fn quiet<Q: Quiet<Core>>(
+        &self,
+        rt: &impl Wait,
+        me: &mut Collector<J>,
+        work: &mut Q,
+    ) -> Q::Answer
         ensures gives { (before : Contents) × (after : Contents) × Q.gives work.old before result work.new after × (before.cycle.is_marking ≡ is_marking me.old.mine) }
         ensures looks { Looks J.origin me.old me.new }
     {

@@ -1,8 +1,8 @@
 //! What the holders of a shared heap hold. Contracts see each as its pass.
 ghost use Rattle.std.specs.Prelude.{◌≡◌};
 
-use history::{Naming, Pass};
 use heap_core::Core;
+use history::{Naming, Pass};
 use std::marker::Model;
 use words::Slot;
 

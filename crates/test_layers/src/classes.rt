@@ -5,7 +5,11 @@ use words::{Placement, Refusal, Slot, class_of};
 #[test]
 fn requests_of_a_class(rt: HostRuntime) {
     for (words, room) in [(1, 2), (2, 2), (3, 4), (13, 16), (129, 256), (256, 256)] {
-        assert_eq!(rt; small_class(words).map(|class| class.words()), Some(room), "at {words}");
+        assert_eq!(rt;
+            small_class(words).map(|class| class.words()),
+            Some(room),
+            "at {words}"
+        );
     }
 }
 

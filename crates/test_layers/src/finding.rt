@@ -228,7 +228,9 @@ fn finds_in_small_cells(rt: HostRuntime) -> Result<(), Fail> {
 }
 
 fn large_pages(rt: &impl Abort, scene: &mut Scene) -> Result<(), Fail> {
-    assert!(rt; cut(&mut scene.map, 2, 48, Kind::Normal) && cut(&mut scene.map, 39, 96, Kind::PointerFree));
+    assert!(rt;
+        cut(&mut scene.map, 2, 48, Kind::Normal) && cut(&mut scene.map, 39, 96, Kind::PointerFree)
+    );
     scene.add_large(0, 1, Kind::PointerFree)?;
     for cell in [0, 4, 9] {
         scene.add_small(2, cell, 48, Kind::Normal)?;

@@ -13,6 +13,6 @@ mod memory;
 #[cfg(test)]
 mod pool;
 #[cfg(test)]
-mod roots;
+mod root_calls;
 #[cfg(test)]
 mod rows;

@@ -77,7 +77,10 @@ fn is_read_on(
     let new = scene.allocate(0, 0)?;
     scene.store(rt, new, 1, kept.base)?;
     let marked = scene.heap.step(1_000);
-    assert!(rt; marked.read == words_left(read, words, kind), "after {read} words");
+    assert!(rt;
+        marked.read == words_left(read, words, kind),
+        "after {read} words"
+    );
     scene.assert_closes(rt, &[new.base])?;
     scene.assert_no_other_mark(rt);
     scene.assert_marked(rt, &[kind == Kind::Normal || read > 256, true]);

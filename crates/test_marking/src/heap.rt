@@ -103,6 +103,7 @@ impl Heap {
     /// Makes an allocated cell free.
     #[tactic(auto, using(block_map::proofs::Seen::has_cell))]
     pub(crate) fn free(&mut self, page: PageNo, cell: u16) -> bool {
+        self.marker.laws();
         if page >= self.map.len() {
             return false;
         }
@@ -142,6 +143,7 @@ impl Heap {
 
     /// Whether the object with this base is marked.
     pub(crate) fn is_marked(&self, base: u64) -> bool {
+        self.marker.laws();
         base >= FIRST_ADDRESS
             && (base - FIRST_ADDRESS) / PAGE_BYTES < u64::from(self.map.len())
             && self.marker.is_marked(base)

@@ -41,7 +41,10 @@ fn steps_of_each_size_agree(rt: HostRuntime) -> Result<(), Fail> {
 // A step of so many words reads `read`, and says whether no entry is left.
 fn assert_step(rt: &impl Abort, scene: &mut Scene, budget: u64, read: u64, is_empty: bool) {
     let marked = scene.heap.step(budget);
-    assert!(rt; marked.read == read && marked.empty == is_empty, "a step of {budget}");
+    assert!(rt;
+        marked.read == read && marked.empty == is_empty,
+        "a step of {budget}"
+    );
 }
 
 // Steps read what they may, and no more.

@@ -14,6 +14,8 @@ mod rows;
 #[cfg(test)]
 mod scene;
 #[cfg(test)]
+mod std_calls;
+#[cfg(test)]
 mod tables;
 #[cfg(test)]
 mod turns;

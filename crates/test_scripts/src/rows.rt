@@ -2,9 +2,12 @@
 
 use crate::collections::{COLLECTIONS, THOUSAND_LONG_LIST};
 use crate::scene::Scene;
-use crate::tables::{EDGES, REPEATED, ROWS, Repeated};
+use crate::tables::{EDGES, REPEATED, ROWS, Repeated, Row};
+use scripts::run_bytes;
+use std::alloc::Global;
 use std::process::Abort;
 use std::test::Fail;
+use words::limits::MAX_PAGES;
 
 #[test]
 fn rows_print_their_replies(rt: HostRuntime) -> Result<(), Fail> {
@@ -89,4 +92,20 @@ fn an_overflowing_mark_stack_loses_nothing(rt: HostRuntime) -> Result<(), Fail> 
     check_overflow(&rt, &mut scene, "mark_stack_overflow", cycle)?;
     let full = ("gc collect\n", "0\n");
     check_overflow(&rt, &mut scene, "mark_stack_overflow_in_collect", full)
+}
+
+/// Runs a row from bytes to bytes.
+fn check_bytes(rt: &impl Abort, alloc: Global, row: &Row) {
+    let name = row.name;
+    assert!(rt; 1 <= row.pages && row.pages <= MAX_PAGES, "{name}");
+    let (replies, answer) = run_bytes(alloc, row.script.as_bytes(), row.pages);
+    assert_eq!(rt; answer, Ok(()), "{name}");
+    assert_eq!(rt; replies.as_slice(), row.replies.as_bytes(), "{name}");
+}
+
+#[test]
+fn rows_go_from_bytes_to_bytes(rt: HostRuntime) {
+    for row in &COLLECTIONS {
+        check_bytes(&rt, rt.alloc(), row);
+    }
 }

@@ -6,7 +6,6 @@ use heap_core::Core;
 use heap_spec::{Call, Event, Reply};
 use history::{Naming, Opened};
 use shared::{Collector, Mutator, SharedHeap, open};
-use std::alloc::Global;
 use std::marker::Brand;
 use std::process::Abort;
 use std::sync::Wait;
@@ -32,6 +31,7 @@ impl Wanted {
 }
 
 const OK: Wanted = Wanted::Is(Reply::Done);
+
 const WRONG_PHASE: Wanted = Wanted::Is(Reply::Refused(Refusal::WrongPhase));
 
 fn count(number: u64) -> Wanted {
@@ -59,25 +59,15 @@ fn first_wrong<J: Naming>(
     None
 }
 
-fn check_named<J: Naming, R: Wait + Abort>(
-    rt: &R,
-    opened: Opened<Core>,
-    name: &str,
-    row: &[(Event, Wanted)],
-)
+// Runs a row on a heap of its own.
+fn check<J: Naming, R: Wait + Abort>(rt: &R, opened: Opened<Core>, row: &[(Event, Wanted)])
     requires { (opened.table ≡ J.table) × (opened.origin ≡ J.origin) }
 {
     let (heap, mut collector) = SharedHeap::<J>::named(opened);
     let mut me = heap.attach(rt).ok().expect(rt, "a slot");
     let wrong = first_wrong(rt, &heap, &mut me, &mut collector, row);
     heap.detach(rt, me);
-    assert_eq!(rt; wrong, None, "{name}");
-}
-
-// Runs a row on a heap of its own, of four pages.
-fn check<R: Wait + Abort>(rt: &R, alloc: Global, name: &str, row: &[(Event, Wanted)]) {
-    let opened = open(alloc, 4).ok().expect(rt, "a heap");
-    check_named::<Brand, _>(rt, opened, name, row);
+    assert_eq!(rt; wrong, None);
 }
 
 // A call of the row's one mutator.
@@ -151,11 +141,32 @@ fn wrong_phases() -> [(Event, Wanted); 11] {
 }
 
 #[test]
-fn rows_give_their_replies(rt: HostRuntime) -> Result<(), Fail> {
+fn the_hidden_pointer_stays(rt: HostRuntime) -> Result<(), Fail> {
     let slot = Slot::new(0).ok_or("a slot")?;
-    check(&rt, rt.alloc(), "hidden pointer", &hidden_pointer(slot));
-    check(&rt, rt.alloc(), "page read again", &page_read_again(slot));
-    check(&rt, rt.alloc(), "pages swept", &pages_swept(slot));
-    check(&rt, rt.alloc(), "wrong phases", &wrong_phases());
+    let opened = open(rt.alloc(), 4).ok().ok_or("a heap")?;
+    check::<Brand, _>(&rt, opened, &hidden_pointer(slot));
+    Ok(())
+}
+
+#[test]
+fn a_page_is_read_again(rt: HostRuntime) -> Result<(), Fail> {
+    let slot = Slot::new(0).ok_or("a slot")?;
+    let opened = open(rt.alloc(), 4).ok().ok_or("a heap")?;
+    check::<Brand, _>(&rt, opened, &page_read_again(slot));
+    Ok(())
+}
+
+#[test]
+fn pages_are_swept(rt: HostRuntime) -> Result<(), Fail> {
+    let slot = Slot::new(0).ok_or("a slot")?;
+    let opened = open(rt.alloc(), 4).ok().ok_or("a heap")?;
+    check::<Brand, _>(&rt, opened, &pages_swept(slot));
+    Ok(())
+}
+
+#[test]
+fn wrong_phases_are_refused(rt: HostRuntime) -> Result<(), Fail> {
+    let opened = open(rt.alloc(), 4).ok().ok_or("a heap")?;
+    check::<Brand, _>(&rt, opened, &wrong_phases());
     Ok(())
 }

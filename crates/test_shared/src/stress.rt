@@ -20,11 +20,14 @@ use std::thread::Threads;
 use words::Kind;
 
 const MUTATORS: usize = 16;
+
 const PAGES: u32 = 8;
 
 // The calls of each actor, and how many a list's node and a cycle take at most.
 const CALLS: u64 = 100_000;
+
 const CALLS_A_NODE: u64 = 6;
+
 const CALLS_A_CYCLE: u64 = 8;
 
 /// The longest list that a mutator keeps.

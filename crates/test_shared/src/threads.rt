@@ -46,10 +46,7 @@ fn look(flag: &AtomicU64) -> bool {
 }
 
 // Stores a word of its own, raises its flag, looks for the other's, and loads.
-fn run_job<'a, J: Naming, R: Wait>(
-    flags: &[AtomicU64; 2],
-    job: Job<'a, J, R>,
-) -> Job<'a, J, R> {
+fn run_job<'a, J: Naming, R: Wait>(flags: &[AtomicU64; 2], job: Job<'a, J, R>) -> Job<'a, J, R> {
     let Job { mut me, .. } = job;
     let slot = me.slot();
     me.call(Call::Alloc(reg(1), 2, Kind::Normal));

@@ -6,7 +6,7 @@ ghost use Rattle.block_map.specs.FoundIn.{found_in, IsLawful};
 ghost use Rattle.block_map.specs.Walks.{IsNextObject, IsNoObject};
 ghost use Rattle.block_map.specs.States.{IsLaid, IsCut, state_at};
 ghost use Rattle.block_map.specs.Places.{page_start};
-ghost use Rattle.marker.specs.Marking.{IsMarked, IsEmpty, IsClean, IsDone};
+ghost use Rattle.marker.specs.Marking.{AreMarksObjects, IsMarked, IsEmpty, IsClean, IsDone};
 ghost use Rattle.marker.specs.Invariant.{AreRootsMarked, DirtyPageInvariant};
 ghost use Rattle.marker.specs.Closure.{Closure};
 ghost use Rattle.marker.specs.Growth.{Traces};
@@ -108,6 +108,7 @@ impl ObjectSpace {
         ensures forgets { ForgetsUnreached self.old roots.now marker.old result marker.new.marks self.new }
         ensures pending { IsPendingAfter self.new.states marker.new.marks self.new.pending }
         ensures pages { length marker.new.dirty ≡ length self.new.states }
+        ensures objects { AreMarksObjects (found_in self.old.states) marker.old → AreMarksObjects (found_in self.new.states) marker.new }
         ensures lawful { IsLawful self.old.states }
     {
         // Its clauses tell what is true of the map.
@@ -124,6 +125,7 @@ impl ObjectSpace {
         ensures forgets { ForgetsUnreached self.old roots.now marker.old result marker.new.marks self.new }
         ensures swept { IsSwept self.new }
         ensures pages { length marker.new.dirty ≡ length self.new.states }
+        ensures objects { AreMarksObjects (found_in self.old.states) marker.old → AreMarksObjects (found_in self.new.states) marker.new }
         ensures lawful { IsLawful self.old.states }
     {
         // Its clauses tell what is true of the map.

@@ -6,10 +6,10 @@ ghost use Rattle.block_map.specs.FoundIn.{found_in, IsLawful};
 ghost use Rattle.block_map.specs.Walks.{IsNextObject, IsNoObject};
 ghost use Rattle.block_map.specs.States.{IsLaid, IsCut, state_at};
 ghost use Rattle.block_map.specs.Places.{page_start};
-ghost use Rattle.marker.specs.Marking.{IsMarked, IsEmpty, IsClean, IsDone};
+ghost use Rattle.marker.specs.Marking.{IsMarked, IsEmpty, IsClean, IsDone, StaysDirty};
 ghost use Rattle.marker.specs.Invariant.{AreRootsMarked, DirtyPageInvariant};
 ghost use Rattle.marker.specs.Closure.{Closure};
-ghost use Rattle.marker.specs.Growth.{Traces};
+ghost use Rattle.marker.specs.Growth.{MarksWords, Traces};
 ghost use Rattle.marker.specs.Entries.{Takes, TakesOff};
 ghost use Rattle.marker.specs.Retracing.{Retraces};
 ghost use Rattle.words.specs.Bits.{Has};
@@ -29,6 +29,8 @@ impl ObjectSpace {
         requires pages { length marker.old.dirty ≡ length self.now.states }
         ensures traces { Traces (found_in self.now.states) self.now.words roots.now marker.old marker.new }
         ensures roots { AreRootsMarked (found_in self.now.states) roots.now marker.new }
+        ensures marks { MarksWords (found_in self.now.states) marker.old roots.now marker.new }
+        ensures dirty { StaysDirty marker.old marker.new }
         ensures lawful { IsLawful self.now.states }
     {
         marker.scan_roots(&self.map, roots);
@@ -42,6 +44,7 @@ impl ObjectSpace {
         ensures read { result.read ≤ budget }
         ensures empty { (result.empty ≡ true) ↔ IsEmpty marker.new }
         ensures fewer { result.read < budget → IsEmpty marker.new }
+        ensures dirty { StaysDirty marker.old marker.new }
         ensures taken { TakesOff (found_in self.now.states) self.now.words marker.old marker.new }
         ensures lawful { IsLawful self.now.states }
     {

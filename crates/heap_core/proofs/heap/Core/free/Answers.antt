@@ -1,9 +1,7 @@
-use Rattle.std.proofs.Common.{sym, ap, ◌∙◌, refl, arith}
+use Rattle.std.proofs.Common.{◌≡◌, Some, sym, refl, subst, arith}
 use Rattle.heap_spec.specs.Steps.{Acts}
 use Rattle.heap_core.proofs.Tracing.{traced_freed}
 use Rattle.block_map.specs.FoundIn.{found_in}
-use Rattle.object_space.specs.Kept.{kept_in}
-use Rattle.object_space.proofs.Kept.{kept_cases}
 use Rattle.heap_core.proofs.Calls.{freed, inside, kept_there}
 use Rattle.heap_core.proofs.Lookups.{finds_nothing}
 use Rattle.heap_core.proofs.Roots.{refused, refused_vacant}
@@ -39,7 +37,7 @@ freed-requires-clause-inside c =
 pub invariant_of-self : goal.invariant_of-self
 invariant_of-self c =
     let there = kept_there c.self.inside.objects c.self.inside.marker.marks _ c.in-Some-find.found c.if-found-word.false (sym c.in-Some-find.ensures.found) in
-    traced_freed _ _ (record { marking = c.self.inside.marker; is_marking = c.self.inside.is_marking; count = c.self.inside.count }) _ c.in-Some-find.found c.self.invariant c.in-Some-find.ensures.lawful.map there c.release.ensures
+    traced_freed _ _ (record { marking = c.self.inside.marker; is_marking = c.self.inside.is_marking; count = c.self.inside.count }) _ c.in-Some-find.found c.self.invariant (c.freed.ensures.objects (found_in c.self.inside.objects.states) (found_in c.release.new.self.states) c.in-Some-find.found c.if-found-word.false (subst (λ w. found_in c.self.inside.objects.states w ≡ Some c.in-Some-find.found) c.if-found-word.false there) c.release.ensures.removed) c.in-Some-find.ensures.lawful.map there c.release.ensures
     (rw (sym c.if-found-word.false) at c.freed.ensures.freed) refl (rw (sym c.if-found-word.false) at c.freed.ensures.keeps)
 
 pub returns : goal.returns

@@ -10,6 +10,7 @@ returns c = rw (← c.self.view_is) (
   c.if-not-self.false,
   record {
     marks = marks_more _ _ c.mark-marked.ensures.lawful.map (c.self.invariant.swept c.if-not-self.false) c.mark-marked.ensures.traces;
+    dirty = c.mark-marked.ensures.dirty;
     most = c.mark-marked.ensures.read;
     fewer = c.mark-marked.ensures.fewer;
     takes = c.mark-marked.ensures.takes;

@@ -1,5 +1,5 @@
 use Rattle.std.proofs.Common.{true, refl, sym, ap, ◌∙◌}
-use Rattle.heap_core.proofs.Tracing.{traced_ended}
+use Rattle.heap_core.proofs.Tracing.{fresh_objects, traced_ended}
 use Rattle.roots.specs.Roots.{RootSet}
 use Rattle.heap_core.proofs.heap.Core.new.Goals as goal
 
@@ -21,4 +21,4 @@ pub invariant_of-result : goal.invariant_of-result
 invariant_of-result c =
     let pages = (c.in_ok-objects.ensures.1.1 (λ _. true)).pages in
     let fresh = c.in_ok-marker.ensures.1 in
-    traced_ended _ _ _ (fresh.dirty.size ∙ pages)
+    traced_ended _ _ _ (fresh.dirty.size ∙ pages) (fresh_objects _ _ _ fresh)

@@ -1,6 +1,6 @@
 use Rattle.std.proofs.Common.{◌≡◌, subst, ◌∙◌}
 use Rattle.block_map.specs.FoundIn.{found_in}
-use Rattle.marker.specs.Growth.{Traces}
+use Rattle.marker.specs.Growth.{MarksWords, Traces}
 use Rattle.marker.specs.Invariant.{AreRootsMarked}
 use Rattle.roots.specs.Roots.{root_words_of}
 use Rattle.heap_core.proofs.Tracing.{traced_on}
@@ -18,6 +18,8 @@ returns c =
       record {
         marks = marks_on _ _ _ c.mark_roots.ensures.lawful.map (c.self.invariant.swept c.if-not-self.false) (λ w h. h)
             (subst (λ rs. Traces (found_in c.self.inside.objects.states) c.self.inside.objects.words rs c.self.inside.marker c.mark_roots.new.marker) e c.mark_roots.ensures.traces);
+        words = subst (λ rs. MarksWords (found_in c.self.inside.objects.states) c.self.inside.marker rs c.mark_roots.new.marker) e c.mark_roots.ensures.marks;
+        dirty = c.mark_roots.ensures.dirty;
         roots = subst (λ rs. AreRootsMarked (found_in c.self.inside.objects.states) rs c.mark_roots.new.marker) e c.mark_roots.ensures.roots;
       },
     )

@@ -35,6 +35,8 @@ invariant_of-self c =
           (ap length (with_items_is c.self.inside.words c.zero.new.words (long ∙ sym c.self.inside.words.ok.0)) ∙ long)
           (pushed_items _ _ _ _ (c.push-pushed.ensures.succeeds (let ok = c.self.inside.objects.ok in omega (arith, ok.0))) c.push-pushed.ensures.items),
       omega (arith, c.push-pushed.ensures.capacity),
+      c.self.invariant.2,
+      c.self.invariant.3,
     )
 
 pub returns : goal.returns

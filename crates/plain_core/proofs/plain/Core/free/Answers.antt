@@ -40,6 +40,8 @@ invariant_of-self c =
     let spare : PAGE_GRANULES * c.self.inside.pages ≤ vec_capacity c.self.inside.objects = c.self.invariant.1 in (
       remove_sound _ c.self.invariant.0 _ _ _ (slice_get_within _ _ _ there) c.swap_remove-freed.ensures.value c.swap_remove-freed.ensures.items,
       omega (arith, c.swap_remove-freed.ensures.capacity),
+      c.self.invariant.2,
+      c.self.invariant.3,
     )
 
 pub returns : goal.returns

@@ -1,0 +1,187 @@
+-- What is reached of a core is what its heap reaches, and a collection takes the rest.
+use Rattle.std.proofs.Common.{◌≡◌, ℕ, zero, suc, ◌-◌, ◌*◌, ◌/◌, ◌≤◌, Bool, false, eqb, List, [], ◌∷◌, ◌++◌, map, flat_map, get_or, length, refl, sym, ap, ◌∙◌, subst, arith, ⊎_elim}
+use Rattle.std.specs.Prelude.{Some, All, Contains, slice_get, nat_eq}
+use Rattle.std.specs.List.{IsDistinct, AllByRecursion}
+use Rattle.std.specs.Option.{option_map}
+use Rattle.std.specs.Cmp.{nat_eq_equiv}
+use Rattle.std.proofs.lemmas.Map.Keys.{IsDistinct-head, IsDistinct-tail, IsDistinct-cons}
+use Rattle.std.proofs.lemmas.Map.Made.{IsDistinct-from_count}
+use Rattle.std.proofs.lemmas.Bool.{true≢false, ne_eqb}
+use Rattle.std.proofs.lemmas.List.{length-map}
+use Rattle.std.proofs.lemmas.List.Elements.{All-contains, All-map, Contains-get_or}
+use Rattle.std.proofs.lemmas.Option.{same_Some, none-some, slice_get_within, slice_get-get_or, slice_get-map, get_or_from_slice_get}
+use Rattle.words.specs.declared.limits.TheConstants.{FIRST_ADDRESS, GRANULE_BYTES, PAGE_GRANULES}
+use Rattle.words.specs.declared.class.Kind.{Kind}
+use Rattle.words.specs.declared.class.Kind.TheVariants.{Normal, PointerFree}
+use Rattle.heap_spec.specs.declared.reply.Reply.TheVariants.{Count}
+use Rattle.heap_spec.specs.Layout.{Reads}
+use Rattle.heap_spec.specs.Heap.{Heap, Object, HasObject, ReadsObject, words_of, root_words, without}
+use Rattle.heap_spec.specs.Closure.{given, root, word, Reached}
+use Rattle.heap_spec.specs.Cycles.{TakesOut, CollectsFully}
+use Rattle.roots.specs.Roots.{root_words_of}
+use Rattle.plain_core.specs.declared.extent.Extent.{Extent}
+use Rattle.plain_core.specs.Contents.{Contents, IsSound, IsInHeap, granule}
+use Rattle.plain_core.specs.Collections.{IsCollected}
+use Rattle.plain_core.specs.Standing.{StandsFor, LiesIn, words_at}
+use Rattle.plain_core.specs.Reached.{PointsInto, AreApart, IsReached, by_root, by_link, MarksReached, read_words}
+use Rattle.plain_core.specs.declared.listing.Listing.{Listing}
+use Rattle.plain_core.specs.Listing.{HasRoom, KeepsRoom}
+use Rattle.plain_core.specs.Parting.{Parts}
+use Rattle.plain_core.proofs.Freshness.{few_objects}
+use Rattle.plain_core.proofs.Objects.{extent_of, reads_object, reads_base}
+use Rattle.plain_core.proofs.Free.{AreBases, rest_stands, was_gone, stays_in, distinct_all, first_apart, differ}
+
+-- the element at a place of a row
+pub at_place : {A : Type 0} (row : List A) (x : A) → Contains row x → (i : ℕ) × (slice_get row i ≡ Some x)
+at_place row x has = (has.0, slice_get-get_or row has.0 x has.1 ∙ ap Some has.2)
+
+pub in_row : {A : Type 0} (row : List A) (i : ℕ) (x : A) → slice_get row i ≡ Some x → Contains row x
+in_row row i x at = (i, slice_get_within row i x at, get_or_from_slice_get row i x x at)
+
+-- the words that are read of an object are those of a Normal one
+read_of : (kind : Kind) (words : List ℕ) (w : ℕ) → Contains (read_words kind words) w → (kind ≡ Normal) × Contains words w
+read_of Normal words w has = (refl, has)
+read_of PointerFree words w has = absurd (let lt = has.1 in omega arith)
+
+read_in : (kind : Kind) (words : List ℕ) (w : ℕ) → kind ≡ Normal → Contains words w → Contains (read_words kind words) w
+read_in Normal words w is has = has
+read_in PointerFree words w is has = let z : PointerFree ≡ Normal = is in cc
+
+-- an object stands at one place
+once : (row : List Extent) → IsDistinct nat_eq (map granule row) → (i j : ℕ) (e : Extent) → slice_get row i ≡ Some e → slice_get row j ≡ Some e → i ≡ j
+once [] d i j e at at' = absurd (none-some e at)
+once (g ∷ row) d zero zero e at at' = refl
+once (g ∷ row) d zero (suc j) e at at' = absurd (first_apart row g d j e at' (same_Some g e at))
+once (g ∷ row) d (suc i) zero e at at' = absurd (first_apart row g d i e at (same_Some g e at'))
+once (g ∷ row) d (suc i) (suc j) e at at' = ap suc (once row (IsDistinct-tail nat_eq (granule g) (map granule row) d) i j e at at')
+
+-- no word points into two objects of a sound core
+pub sound_apart : (c : Contents) → IsSound c → AreApart c.objects
+sound_apart c sound = record {
+  one = λ w i j p q.
+      let same : q.0 ≡ p.0 = sound.apart q.0 p.0 w (in_row c.objects j q.0 q.1) (in_row c.objects i p.0 p.1) q.2 p.2 in
+      once c.objects sound.distinct i j p.0 p.1 (q.1 ∙ ap Some same);
+}
+
+-- the bases of distinct objects are distinct
+heads_apart : (q : Extent) (gone rest : List Extent) → AllByRecursion (λ y. eqb (granule q) y ≡ false) (map granule (gone ++ rest)) → AllByRecursion (λ y. eqb q.base y ≡ false) (map (λ (e : Extent). e.base) gone)
+heads_apart q [] rest all = tt
+heads_apart q (f ∷ gone) rest all = (ne_eqb q.base f.base (λ same. differ (granule q) (granule f) all.0 (ap (λ (b : ℕ). (b - FIRST_ADDRESS) / GRANULE_BYTES) same)), heads_apart q gone rest all.1)
+
+bases_distinct : (gone rest : List Extent) → IsDistinct nat_eq (map granule (gone ++ rest)) → IsDistinct nat_eq (map (λ (e : Extent). e.base) gone)
+bases_distinct [] rest d = IsDistinct-from_count nat_eq_equiv [] refl
+bases_distinct (g ∷ gone) rest d = IsDistinct-cons nat_eq g.base (map (λ (e : Extent). e.base) gone)
+    (heads_apart g gone rest (IsDistinct-head nat_eq (granule g) (map granule (gone ++ rest)) d)) (bases_distinct gone rest (IsDistinct-tail nat_eq (granule g) (map granule (gone ++ rest)) d))
+
+mapped : (gone : List Extent) (e : Extent) → Contains gone e → Contains (map (λ (x : Extent). x.base) gone) e.base
+mapped gone e has = let at : slice_get (map (λ (x : Extent). x.base) gone) has.0 ≡ Some e.base = slice_get-map (λ (x : Extent). x.base) gone has.0 ∙ ap (option_map (λ (x : Extent). x.base)) (slice_get-get_or gone has.0 e has.1 ∙ ap Some has.2) in in_row _ has.0 e.base at
+
+mapped_from : (gone : List Extent) (b : ℕ) → Contains (map (λ (x : Extent). x.base) gone) b → (e : Extent) × Contains gone e × (e.base ≡ b)
+mapped_from gone b has = All-contains (λ y. (e : Extent) × Contains gone e × (e.base ≡ y)) (map (λ (x : Extent). x.base) gone) b
+    (All-map (λ y. (e : Extent) × Contains gone e × (e.base ≡ y)) (λ (x : Extent). x.base) gone (λ k d lt. (get_or gone k d, Contains-get_or gone k d lt, refl))) has
+
+pub are_bases : (gone : List Extent) → AreBases gone (map (λ (e : Extent). e.base) gone)
+are_bases gone = record { of = mapped_from gone; all = mapped gone }
+
+module _ (c : Contents) (sound : IsSound c) (s : Heap) (h : StandsFor c s) where
+  roots_are : root_words s ≡ root_words_of c.roots
+  roots_are = ap (λ ms. flat_map words_of ms ++ s.globals) h.mutators ∙ ap (λ gs. flat_map words_of c.roots.mutators ++ gs) h.globals
+
+  -- where a word points into, the heap has an object that it reads
+  reads_at : (w i : ℕ) (p : PointsInto c.objects w i) → (e : Extent) → slice_get c.objects i ≡ Some e → (o : Object) × ReadsObject s w e.base o
+  reads_at w i p e at =
+      let o = reads_object c sound s h e (in_row c.objects i e at) w (subst (λ (x : Extent). Reads w x.base x.length) (same_Some p.0 e (sym p.1 ∙ at)) p.2) in (o.0, o.1)
+
+  pub reached_out : (i : ℕ) (e : Extent) → IsReached (root_words_of c.roots) c.words c.objects i → slice_get c.objects i ≡ Some e → Reached s e.base
+  reached_out i e (by_root {w = w} among p) at = root (subst (λ ws. Contains ws w) (sym roots_are) among) (reads_at w i p e at).1
+  reached_out i e (by_link {i = from} {w = w} {e = f} r there among p) at =
+      let kept = h.kept f (in_row c.objects from f there) in
+      let link = read_of f.kind (words_at c.words f) w among in
+      word (reached_out from f r there) kept.1 (kept.2.kind ∙ link.0) (subst (λ ws. Contains ws w) (sym kept.2.words) link.1) (reads_at w i p e at).1
+
+  -- the object that a word reads stands in the row
+  points_at : (w base : ℕ) (o : Object) → ReadsObject s w base o → (i : ℕ) × (e : Extent) × (slice_get c.objects i ≡ Some e) × (e.base ≡ base) × Reads w e.base e.length
+  points_at w base o r =
+      let e = extent_of c sound s h base o r.0 in
+      let i = at_place c.objects e.0 e.1 in
+      (i.0, e.0, i.1, e.2, subst (λ b. Reads w b e.0.length) (sym e.2) (subst (λ n. Reads w base n) (sym e.3) r.1))
+
+  pub reached_in : (base : ℕ) → Reached s base → (i : ℕ) × (e : Extent) × (slice_get c.objects i ≡ Some e) × (e.base ≡ base) × IsReached (root_words_of c.roots) c.words c.objects i
+  reached_in base (given has none) = absurd none
+  reached_in base (root {w = w} {o = o} among r) =
+      let p = points_at w base o r in (p.0, p.1, p.2, p.3, by_root (subst (λ ws. Contains ws w) roots_are among) (p.1, p.2, p.4))
+  reached_in base (word {from = from} {w = w} {p = q} {o = o} inner has normal among r) =
+      let f = reached_in from inner in
+      let kept = h.kept f.1 (in_row c.objects f.0 f.1 f.2) in
+      let same : kept.0 ≡ q = same_Some kept.0 q (sym kept.1 ∙ ap s.objects f.3 ∙ has) in
+      let kind : f.1.kind ≡ Normal = sym kept.2.kind ∙ ap (λ (x : Object). x.kind) same ∙ normal in
+      let words : Contains (words_at c.words f.1) w = subst (λ ws. Contains ws w) (sym (ap (λ (x : Object). x.words) same) ∙ kept.2.words) among in
+      let p = points_at w base o r in
+      (p.0, p.1, p.2, p.3, by_link f.4 f.2 (read_in f.1.kind (words_at c.words f.1) w kind words) (p.1, p.2, p.4))
+
+  -- what is not marked is not reached
+  pub not_reached : (marks : List Bool) → MarksReached (root_words_of c.roots) c.words c.objects marks → (i : ℕ) (e : Extent) → slice_get c.objects i ≡ Some e → get_or marks i false ≡ false → Reached s e.base → ⊥
+  not_reached marks m i e at unmarked r =
+      let f = reached_in e.base r in
+      let here : Reads e.base e.base e.length = reads_base c sound e (in_row c.objects i e at) e.base refl in
+      let there : Reads e.base f.1.base f.1.length = reads_base c sound f.1 (in_row c.objects f.0 f.1 f.2) e.base (sym f.3) in
+      let same : i ≡ f.0 = (sound_apart c sound).one e.base i f.0 (e, at, here) (f.1, f.2, there) in
+      true≢false (sym (m.marked f.0 f.4) ∙ ap (λ k. get_or marks k false) (sym same) ∙ unmarked)
+
+  -- objects that are not marked go
+  module _ (marks : List Bool) (m : MarksReached (root_words_of c.roots) c.words c.objects marks) (stay : List Extent) (n : ℕ) (parts : Parts c.objects marks stay n) where
+    abbrev bases : List ℕ
+    bases = map (λ (e : Extent). e.base) parts.gone
+
+    unreached : (e : Extent) → Contains parts.gone e → Reached s e.base → ⊥
+    unreached e gone r = let u = parts.unset e gone in not_reached marks m u.0 e u.1 u.2 r
+
+    takes : TakesOut s bases (Count n) (without s bases)
+    takes = record {
+      objects = All-map (λ b. (o : Object) × HasObject s b o) (λ (e : Extent). e.base) parts.gone
+          (λ k d lt. let o = h.kept (get_or parts.gone k d) (was_gone c sound parts.gone stay parts.all (get_or parts.gone k d) (Contains-get_or parts.gone k d lt)) in (o.0, o.1));
+      distinct = bases_distinct parts.gone stay (distinct_all c sound parts.gone stay parts.all);
+      unreached = All-map (λ b. Reached s b → ⊥) (λ (e : Extent). e.base) parts.gone (λ k d lt. unreached (get_or parts.gone k d) (Contains-get_or parts.gone k d lt));
+      number = ap Count (parts.number ∙ sym (length-map parts.gone (λ (e : Extent). e.base)));
+      after = refl;
+    }
+
+    goes : (base : ℕ) (o : Object) → HasObject s base o → (Reached s base → ⊥) → Contains bases base
+    goes base o has out =
+        let e = extent_of c sound s h base o has in
+        ⊎_elim
+        (λ gone. subst (Contains bases) e.2 (mapped parts.gone e.0 gone))
+        (λ stays. let u = parts.set e.0 stays in absurd (out (subst (Reached s) e.2 (reached_out u.0 e.0 (m.reached u.0 u.2) u.1))))
+        (stays_in c sound parts.gone stay parts.all e.0 e.1)
+
+    pub collected : (s' : Heap) × CollectsFully s (Count n) s' × StandsFor (record c { objects = stay }) s'
+    collected = (
+      without s bases,
+      record { bases = bases; takes = takes; all = goes },
+      rest_stands c sound parts.gone stay parts.all bases (are_bases parts.gone) s h,
+    )
+
+pub collects : (c : Contents) → IsSound c → (marks : List Bool) → MarksReached (root_words_of c.roots) c.words c.objects marks → (stay : List Extent) (n : ℕ) → Parts c.objects marks stay n → IsCollected c n (record c { objects = stay })
+collects c sound marks m stay n parts s h = collected c sound s h marks m stay n parts
+
+-- each object's words are in the row of words
+pub all_lie : (c : Contents) → IsSound c → All (LiesIn c.words) c.objects
+all_lie c sound k d lt =
+    let e : Extent = get_or c.objects k d in
+    let i : IsInHeap c.pages e = sound.in_heap k d lt in
+    let w = sound.words in
+    record { start = i.start; ends = omega (arith, i.start, i.aligned, i.ends) }
+
+-- the same marks, by equations
+pub marks_are : (roots roots' words words' : List ℕ) (row row' : List Extent) (marks marks' : List Bool) → roots ≡ roots' → words ≡ words' → row ≡ row' → marks' ≡ marks → MarksReached roots words row marks → MarksReached roots' words' row' marks'
+marks_are roots roots' words words' row row' marks marks' er ew eo em m =
+    subst (MarksReached roots' words' row') (sym em) (subst (λ o. MarksReached roots' words' o marks) eo (subst (λ w. MarksReached roots' w row marks) ew (subst (λ r. MarksReached r words row marks) er m)))
+
+-- there is room for all objects, before and after
+pub room_for : (c : Contents) → IsSound c → (l : Listing) → HasRoom (PAGE_GRANULES * c.pages) l → HasRoom (length c.objects) l
+room_for c sound l room =
+    let few : length c.objects ≤ PAGE_GRANULES * c.pages = few_objects c.pages c.objects sound.in_heap sound.distinct in
+    let marks = room.marks in let order = room.order in record { marks = omega arith; order = omega arith }
+
+pub room_kept : (n : ℕ) (l l' : Listing) → HasRoom n l → KeepsRoom l l' → HasRoom n l'
+room_kept n l l' room kept = let marks = room.marks in let order = room.order in let same = kept.marks in let more = kept.order in record { marks = omega arith; order = omega arith }

@@ -1,0 +1,94 @@
+-- Objects that are named by their bases are taken out of a core and of its heap.
+use Rattle.std.proofs.Common.{◌≡◌, ℕ, ◌*◌, ◌<◌, ◌≤◌, Bool, true, false, List, [], length, get_or, replicate, refl, sym, ap, ◌∙◌, subst, arith, ⊎_elim}
+use Rattle.std.specs.Prelude.{Some, Contains, slice_get}
+use Rattle.std.proofs.lemmas.Bool.{true≢false}
+use Rattle.std.proofs.lemmas.List.{length-replicate, get_or-replicate}
+use Rattle.std.proofs.lemmas.List.Elements.{All-contains, All-weaker}
+use Rattle.std.proofs.lemmas.Option.{slice_get_within}
+use Rattle.words.specs.declared.limits.TheConstants.{PAGE_GRANULES}
+use Rattle.heap_spec.specs.Layout.{Reads}
+use Rattle.heap_spec.specs.Heap.{Object, HasObject, without}
+use Rattle.heap_spec.specs.Closure.{Reached}
+use Rattle.roots.specs.Roots.{root_words_of}
+use Rattle.plain_core.specs.declared.extent.Extent.{Extent}
+use Rattle.plain_core.specs.Contents.{Contents, IsSound}
+use Rattle.plain_core.specs.Collections.{IsForgotten, CantForget}
+use Rattle.plain_core.specs.Claims.{HasOneEach, IsFreeToGo, AreFreeToGo, AreUnset}
+use Rattle.plain_core.specs.Reached.{MarksReached}
+use Rattle.plain_core.specs.Parting.{Parts}
+use Rattle.plain_core.proofs.Objects.{extent_of, reads_base}
+use Rattle.plain_core.proofs.Free.{AreBases, rest_stands, stays_in}
+use Rattle.plain_core.proofs.Freshness.{few_objects}
+use Rattle.plain_core.proofs.Lists.{nothing_in}
+use Rattle.plain_core.proofs.Collects.{at_place, in_row, sound_apart, not_reached, reached_out}
+
+-- no base is that of two objects of a sound core
+pub one_each : (c : Contents) → IsSound c → HasOneEach c.objects
+one_each c sound = record {
+  one = λ i j e f at at' same.
+      let here : Reads e.base e.base e.length = reads_base c sound e (in_row c.objects i e at) e.base refl in
+      let there : Reads e.base f.base f.length = reads_base c sound f (in_row c.objects j f at') e.base same in
+      (sound_apart c sound).one e.base i j (e, at, here) (f, at', there);
+}
+
+-- where all flags are set no object is named
+pub all_set : (c : Contents) → IsSound c → (flags : List Bool) (n : ℕ) → flags ≡ replicate n true → PAGE_GRANULES * c.pages ≤ n → AreUnset c.objects [] flags
+all_set c sound flags n is room = record {
+  size = long;
+  unset = λ i e at among. absurd (nothing_in e.base among);
+  only = λ i e at flag. absurd (set i (let lt = slice_get_within c.objects i e at in omega arith) flag);
+}
+  where
+    few : length c.objects ≤ PAGE_GRANULES * c.pages
+    few = few_objects c.pages c.objects sound.in_heap sound.distinct
+
+    long : length c.objects ≤ length flags
+    long = let size : length flags ≡ n = ap length is ∙ length-replicate n true in let most = few in omega arith
+
+    set : (i : ℕ) → i < length c.objects → get_or flags i false ≡ false → ⊥
+    set i lt flag = let most = few in true≢false (sym (ap (λ l. get_or l i false) is ∙ get_or-replicate n i true false (omega arith)) ∙ flag)
+
+module _ (c : Contents) (sound : IsSound c) (marks : List Bool) (m : MarksReached (root_words_of c.roots) c.words c.objects marks) (bases : List ℕ) where
+  module _ (free : AreFreeToGo c.objects marks bases) (flags : List Bool) (unset : AreUnset c.objects bases flags) (stay : List Extent) (n : ℕ) (parts : Parts c.objects flags stay n) where
+    are : AreBases parts.gone bases
+    are = record {
+      of = λ b among.
+          let f : IsFreeToGo c.objects marks b = All-contains (IsFreeToGo c.objects marks) bases b free.each among in
+          ⊎_elim
+          (λ gone. (f.object, gone, f.is_base))
+          (λ stays. let u = parts.set f.object stays in absurd (true≢false (sym u.2 ∙ unset.unset u.0 f.object u.1 (subst (Contains bases) (sym f.is_base) among))))
+          (stays_in c sound parts.gone stay parts.all f.object (in_row c.objects f.place f.object f.there));
+      all = λ e gone. let u = parts.unset e gone in unset.only u.0 e u.1 u.2;
+    }
+
+    pub forgets : IsForgotten c bases (record c { objects = stay })
+    forgets s h = (
+      without s bases,
+      record {
+        objects = All-weaker (IsFreeToGo c.objects marks) (λ b. (o : Object) × HasObject s b o)
+            (λ b f. let o = h.kept f.object (in_row c.objects f.place f.object f.there) in (o.0, ap s.objects (sym f.is_base) ∙ o.1)) bases free.each;
+        distinct = free.distinct;
+        unreached = All-weaker (IsFreeToGo c.objects marks) (λ b. Reached s b → ⊥)
+            (λ b f r. not_reached c sound s h marks m f.place f.object f.there f.unmarked (subst (Reached s) (sym f.is_base) r)) bases free.each;
+        number = refl;
+        after = refl;
+      },
+      rest_stands c sound parts.gone stay parts.all bases are s h,
+    )
+
+  -- what may be taken out is free to go
+  pub cant : (AreFreeToGo c.objects marks bases → ⊥) → CantForget c bases
+  cant stuck s h n s' takes = stuck (record {
+    each = All-weaker (λ b. ((o : Object) × HasObject s b o) × (Reached s b → ⊥)) (IsFreeToGo c.objects marks) (λ b x. free b x.0.0 x.0.1 x.1) bases (λ k d lt. (takes.objects k d lt, takes.unreached k d lt));
+    distinct = takes.distinct;
+  })
+    where
+      unmarked : (b : Bool) (i : ℕ) (e : Extent) → slice_get c.objects i ≡ Some e → (Reached s e.base → ⊥) → get_or marks i false ≡ b → get_or marks i false ≡ false
+      unmarked true i e at out is = absurd (out (reached_out c sound s h i e (m.reached i is) at))
+      unmarked false i e at out is = is
+
+      free : (b : ℕ) (o : Object) → HasObject s b o → (Reached s b → ⊥) → IsFreeToGo c.objects marks b
+      free b o has out =
+          let e = extent_of c sound s h b o has in
+          let i = at_place c.objects e.0 e.1 in
+          record { place = i.0; object = e.0; there = i.1; is_base = e.2; unmarked = unmarked (get_or marks i.0 false) i.0 e.0 i.1 (λ r. out (subst (Reached s) e.2 r)) refl }

@@ -1,0 +1,107 @@
+-- A list that is gone along lists what is reached.
+use Rattle.std.proofs.Common.{◌≡◌, ℕ, ◌+◌, ◌<◌, ◌≤◌, List, [], ◌∷◌, ◌++◌, length, get_or, take, refl, sym, ap, ◌∙◌, subst, arith, ⊎_elim}
+use Rattle.std.specs.Prelude.{Some, Contains, slice_get, ◌≢◌}
+use Rattle.std.proofs.lemmas.Option.{same_Some}
+use Rattle.std.proofs.lemmas.List.{take_all, take_more, take-append-le}
+use Rattle.std.proofs.lemmas.List.Elements.{Contains-push_cases, Contains-append_left, Contains-append_cases, Contains-get_or}
+use Rattle.words.specs.declared.class.Kind.{Kind}
+use Rattle.words.specs.declared.class.Kind.TheVariants.{Normal, PointerFree}
+use Rattle.plain_core.specs.declared.extent.Extent.{Extent}
+use Rattle.plain_core.specs.declared.listing.Listing.{Listing}
+use Rattle.plain_core.specs.Standing.{words_at}
+use Rattle.plain_core.specs.Reached.{PointsInto, IsReached, by_root, by_link, MarksReached, links_of, read_words}
+use Rattle.plain_core.specs.Listing.{IsReady, KeepsRoom, ListsAll}
+use Rattle.plain_core.proofs.Lists.{nothing_in, listed_few}
+
+-- what is read of an object by its kind
+words_none : (kind : Kind) (words : List ℕ) → kind ≡ PointerFree → read_words kind words ≡ []
+words_none Normal words e = let z : Normal ≡ PointerFree = e in cc
+words_none PointerFree words e = refl
+
+words_all : (kind : Kind) (words : List ℕ) → kind ≢ PointerFree → read_words kind words ≡ words
+words_all Normal words ne = refl
+words_all PointerFree words ne = absurd (ne refl)
+
+pub links_none : (words : List ℕ) (e : Extent) → e.kind ≡ PointerFree → links_of words e ≡ []
+links_none words e is = words_none e.kind (words_at words e) is
+
+pub links_all : (words : List ℕ) (e : Extent) → e.kind ≢ PointerFree → links_of words e ≡ words_at words e
+links_all words e ne = words_all e.kind (words_at words e) ne
+
+-- The list after so many of its objects were read: all on it are reached, it has what the roots point into, and what the
+-- words of these objects point into.
+pub record IsTraced (roots words : List ℕ) (row : List Extent) (start : Listing) (done : ℕ) (l : Listing) : Type 0 where
+  pub ready : IsReady row l
+  pub room : KeepsRoom start l
+  pub sound : (i : ℕ) → Contains l.order.items i → IsReached roots words row i
+  pub rooted : (w i : ℕ) → Contains roots w → PointsInto row w i → Contains l.order.items i
+  pub traced : (i : ℕ) (e : Extent) (w j : ℕ) → Contains (take done l.order.items) i → slice_get row i ≡ Some e → Contains (links_of words e) w → PointsInto row w j → Contains l.order.items j
+
+module _ (roots words : List ℕ) (row : List Extent) (start : Listing) where
+  -- the roots are read, and no object
+  pub traced_roots : (mid l : Listing) → mid.order.items ≡ [] → KeepsRoom start mid → ListsAll row roots mid l → IsTraced roots words row start 0 l
+  traced_roots mid l none room lists = record {
+    ready = lists.ready;
+    room = record { marks = lists.room.marks ∙ room.marks; order = let before = room.order in let after = lists.room.order in omega arith };
+    sound = λ i has. ⊎_elim
+        (λ old. absurd (nothing_in i (subst (λ o. Contains o i) none old)))
+        (λ new. let o = lists.goes.only i new in by_root o.1 o.2)
+        (Contains-append_cases mid.order.items lists.goes.more i (subst (λ o. Contains o i) lists.goes.goes_on has));
+    rooted = lists.goes.all;
+    traced = λ i e w j has at among p. absurd (nothing_in i has);
+  }
+
+  -- all that is listed was read before
+  pub traced_past : (done : ℕ) (l : Listing) → length l.order.items ≤ done → IsTraced roots words row start done l → IsTraced roots words row start (done + 1) l
+  traced_past done l past h = record {
+    ready = h.ready;
+    room = h.room;
+    sound = h.sound;
+    rooted = h.rooted;
+    traced = λ i e w j has at among p. h.traced i e w j (subst (λ o. Contains o i) (take_all (done + 1) l.order.items (omega arith) ∙ sym (take_all done l.order.items past)) has) at among p;
+  }
+
+  -- one object more is read
+  pub traced_more : (done index : ℕ) (e : Extent) (l l' : Listing) → done < length l.order.items → index ≡ get_or l.order.items done index → slice_get row index ≡ Some e → IsTraced roots words row start done l
+      → ListsAll row (links_of words e) l l' → IsTraced roots words row start (done + 1) l'
+  traced_more done index e l l' lt next there h lists = record {
+    ready = lists.ready;
+    room = record { marks = lists.room.marks ∙ h.room.marks; order = let before = h.room.order in let after = lists.room.order in omega arith };
+    sound = λ i has. ⊎_elim
+        (λ old. h.sound i old)
+        (λ new. let o = lists.goes.only i new in by_link (h.sound index (subst (Contains l.order.items) (sym next) (Contains-get_or l.order.items done index lt))) there o.1 o.2)
+        (Contains-append_cases l.order.items lists.goes.more i (subst (λ o. Contains o i) lists.goes.goes_on has));
+    rooted = λ w i among p. later i (h.rooted w i among p);
+    traced = λ i f w j has at among p. ⊎_elim
+        (λ old. later j (h.traced i f w j old at among p))
+        (λ same. let is : e ≡ f = same_Some e f (sym there ∙ ap (slice_get row) same ∙ at) in lists.goes.all w j (subst (λ x. Contains (links_of words x) w) (sym is) among) p)
+        (Contains-push_cases (take done l.order.items) index i (subst (λ o. Contains o i) first has));
+  }
+    where
+      later : (i : ℕ) → Contains l.order.items i → Contains l'.order.items i
+      later i has = subst (λ o. Contains o i) (sym lists.goes.goes_on) (Contains-append_left l.order.items lists.goes.more i has)
+
+      first : take (done + 1) l'.order.items ≡ take done l.order.items ++ index ∷ []
+      first = ap (take (done + 1)) lists.goes.goes_on ∙ take-append-le (done + 1) l.order.items lists.goes.more (omega arith) ∙ take_more l.order.items done index lt ∙ ap (λ x. take done l.order.items ++ x ∷ []) (sym next)
+
+  -- the list after a turn of the loop, by an equation
+  pub traced_then : (done index : ℕ) (e : Extent) (l mid l' : Listing) → l' ≡ mid → done < length l.order.items → index ≡ get_or l.order.items done index → slice_get row index ≡ Some e → IsTraced roots words row start done l
+      → ListsAll row (links_of words e) l mid → IsTraced roots words row start (done + 1) l'
+  traced_then done index e l mid l' is lt next there h lists = subst (IsTraced roots words row start (done + 1)) (sym is) (traced_more done index e l mid lt next there h lists)
+
+  pub traced_else : (done : ℕ) (l l' : Listing) → l' ≡ l → length l.order.items ≤ done → IsTraced roots words row start done l → IsTraced roots words row start (done + 1) l'
+  traced_else done l l' is past h = subst (IsTraced roots words row start (done + 1)) (sym is) (traced_past done l past h)
+
+  -- all was read
+  pub traced_all : (done : ℕ) (l : Listing) → length row ≤ done → IsTraced roots words row start done l → MarksReached roots words row l.marks.items
+  traced_all done l past h = record {
+    marked = λ i r. h.ready.listed.marked i (listed i r);
+    reached = λ i is. h.sound i (h.ready.listed.only i is);
+  }
+    where
+      all : take done l.order.items ≡ l.order.items
+      all = let few : length l.order.items ≤ length row = listed_few (length row) l.order.items h.ready.listed.distinct h.ready.listed.below in take_all done l.order.items (omega arith)
+
+      listed : (i : ℕ) → IsReached roots words row i → Contains l.order.items i
+      listed i (by_root {w = w} among p) = h.rooted w i among p
+      listed i (by_link {i = from} {w = w} {e = e} r at among p) = h.traced from e w i (subst (λ o. Contains o from) (sym all) (listed from r)) at among p

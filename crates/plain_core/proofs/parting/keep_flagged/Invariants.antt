@@ -1,0 +1,6 @@
+use Rattle.plain_core.proofs.Stays.{IsKept}
+use Rattle.plain_core.proofs.parting.keep_flagged.Given as goal
+
+-- so far
+abbrev pub invariant-loop-index : goal.invariant-loop-index
+invariant-loop-index l = IsKept l.fn.objects.items l.flags l.index l.stay l.objects.items

@@ -1,0 +1,43 @@
+//! Objects are named by their bases, to be taken out.
+ghost use Rattle.std.specs.Prelude.{◌≡◌, ◌≤◌, Some, IfSome, IfNone, IsTrue, false, All, [], length, slice_get};
+ghost use Rattle.plain_core.specs.declared.extent.Extent.{Extent};
+ghost use Rattle.plain_core.specs.Claims.{HasOneEach, AreFreeToGo, AreUnset};
+
+use crate::extent::Extent;
+
+// Where the object with this base stands.
+fn place_of(objects: &[Extent], base: u64) -> Option<usize>
+    ensures some { IfSome result (λ i. (e : Extent) × (slice_get objects.now i ≡ Some e) × (e.base ≡ base)) }
+    ensures none { IfNone result (All (λ e. e.base ≡ base → ⊥) objects.now) }
+{
+    for index in 0..objects.len() {
+        if objects[index].base == base {
+            return Some(index);
+        }
+    }
+    None
+}
+
+/// Unsets the flags of the objects with these bases, if they are distinct objects that are not marked.
+pub fn unset_flags(bases: &[u64], objects: &[Extent], marks: &[bool], flags: &mut Vec<bool>) -> bool
+    requires one { HasOneEach objects.now }
+    requires marks { length objects.now ≤ length marks.now }
+    requires flags { AreUnset objects.now [] flags.old.items }
+    ensures yes { IsTrue result → AreFreeToGo objects.now marks.now bases.now × AreUnset objects.now bases.now flags.new.items }
+    ensures no { result ≡ false → AreFreeToGo objects.now marks.now bases.now → ⊥ }
+    ensures size { length flags.new.items ≡ length flags.old.items }
+{
+    for base in bases {
+        let Some(index) = place_of(objects, *base) else {
+            return false;
+        };
+        if marks[index] {
+            return false;
+        }
+        if !flags[index] {
+            return false;
+        }
+        flags[index] = false;
+    }
+    true
+}

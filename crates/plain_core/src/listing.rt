@@ -1,0 +1,105 @@
+//! The objects that are reached: a list that grows while it is gone along, and a row that marks what is listed.
+ghost use Rattle.std.specs.Prelude.{◌≡◌, ◌<◌, [], ◌∷◌, Some, IfOk, All, length, slice_get};
+ghost use Rattle.plain_core.specs.Reached.{AreApart, MarksReached, links_of};
+ghost use Rattle.plain_core.specs.Standing.{LiesIn};
+ghost use Rattle.plain_core.specs.Listing.{HasRoom, IsReady, ListsAll, KeepsRoom};
+
+use crate::extent::{Extent, index_at};
+use std::alloc::{AllocError, Global};
+use words::Kind;
+use words::limits::{FIRST_ADDRESS, WORD_BYTES};
+
+/// Objects by their places in a row: those that are marked, and the same in the order in which they were listed.
+#[derive(Drop)]
+pub struct Listing {
+    pub marks: Vec<bool>,
+    pub order: Vec<usize>,
+}
+
+impl Listing {
+    /// An empty list with room for so many objects.
+    pub fn new(alloc: Global, count: usize) -> Result<Listing, AllocError>
+        ensures { IfOk result (λ listing. HasRoom count listing) }
+    {
+        let marks = vec![in alloc; false; count]?;
+        let order = Vec::with_capacity(alloc, count)?;
+        Ok(Listing { marks, order })
+    }
+}
+
+// Takes all objects off the list.
+fn clear(objects: &[Extent], listing: &mut Listing)
+    requires apart { AreApart objects.now }
+    requires room { HasRoom (length objects.now) listing.old }
+    ensures ready { IsReady objects.now listing.new }
+    ensures none { listing.new.order.items ≡ [] }
+    ensures room { KeepsRoom listing.old listing.new }
+{
+    listing.marks.fill(false);
+    listing.order.clear();
+}
+
+// Lists the object that a word points into, unless it is listed.
+fn list_one(word: u64, objects: &[Extent], listing: &mut Listing)
+    requires { IsReady objects.now listing.old }
+    ensures { ListsAll objects.now (word ∷ []) listing.old listing.new }
+{
+    let Some(index) = index_at(objects, word) else {
+        return;
+    };
+    if listing.marks[index] {
+        return;
+    }
+    listing.marks[index] = true;
+    listing.order.push_reserved(index);
+}
+
+// Lists the objects that some words point into.
+fn list_all(words: &[u64], objects: &[Extent], listing: &mut Listing)
+    requires { IsReady objects.now listing.old }
+    ensures { ListsAll objects.now words.now listing.old listing.new }
+{
+    for word in words {
+        list_one(*word, objects, listing);
+    }
+}
+
+// The object at a place.
+fn at(objects: &[Extent], index: usize) -> Extent
+    requires { index < length objects.now }
+    ensures { slice_get objects.now index ≡ Some result }
+{
+    objects[index]
+}
+
+// Lists the objects that the words of one point into.
+fn list_links(object: Extent, words: &[u64], objects: &[Extent], listing: &mut Listing)
+    requires ready { IsReady objects.now listing.old }
+    requires within { LiesIn words.now object }
+    ensures { ListsAll objects.now (links_of words.now object) listing.old listing.new }
+{
+    if object.kind == Kind::PointerFree {
+        return;
+    }
+    let start = ((object.base - FIRST_ADDRESS) / WORD_BYTES) as usize;
+    let end = start + object.length as usize;
+    list_all(&words[start..end], objects, listing);
+}
+
+/// Lists the objects that are reached from these roots.
+pub fn list_reached(roots: &[u64], words: &[u64], objects: &[Extent], listing: &mut Listing)
+    requires apart { AreApart objects.now }
+    requires room { HasRoom (length objects.now) listing.old }
+    requires within { All (LiesIn words.now) objects.now }
+    ensures marks { MarksReached roots.now words.now objects.now listing.new.marks.items }
+    ensures room { KeepsRoom listing.old listing.new }
+{
+    clear(objects, listing);
+    list_all(roots, objects, listing);
+    for next in 0..objects.len() {
+        if next < listing.order.len() {
+            let object = at(objects, listing.order[next]);
+            list_links(object, words, objects, listing);
+        }
+    }
+}

@@ -1,0 +1,24 @@
+//! Objects go, and the others stay.
+ghost use Rattle.std.specs.Prelude.{◌≡◌, ◌≤◌, length};
+ghost use Rattle.std.specs.Vec.{vec_capacity};
+ghost use Rattle.plain_core.specs.Parting.{Parts};
+
+use crate::extent::Extent;
+
+/// Keeps the objects whose flag is set, in their order, and answers how many others there were.
+pub fn keep_flagged(objects: &mut Vec<Extent>, flags: &[bool]) -> usize
+    requires { length objects.old.items ≤ length flags.now }
+    ensures parts { Parts objects.old.items flags.now objects.new.items result }
+    ensures capacity { vec_capacity objects.new ≡ vec_capacity objects.old }
+{
+    let count = objects.len();
+    let mut stay = 0;
+    for index in 0..count {
+        if flags[index] {
+            objects[stay] = objects[index];
+            stay += 1;
+        }
+    }
+    objects.truncate(stay);
+    count - stay
+}
