@@ -1,0 +1,5 @@
+pub mod Joins
+pub mod Printing
+pub mod Drawing
+pub mod Taking
+pub mod ReadLines
