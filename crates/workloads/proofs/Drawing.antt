@@ -22,7 +22,7 @@ pub draws_call : (m x0 x1 x2 x3 slot p q : ℕ) (call : Call) → x0 % (m + 1) <
     → Mutator slot call ≡ drawn m x0 x1 x2 x3
 draws_call m x0 x1 x2 x3 slot p q call lt is isp isq found =
     let same : slice_index_or (drawn_calls (x2 % 16) (x2 / 16 % 16) x3) (x1 % 16) Detach ≡ call =
-        get_or_from_slice_get (drawn_calls (x2 % 16) (x2 / 16 % 16) x3) (x1 % 16) call Detach (subst (λ r. slice_get (drawn_calls (x2 % 16) r x3) (x1 % 16) ≡ Some call) isq (subst (λ r. slice_get (drawn_calls r q x3) (x1 % 16) ≡ Some call) isp found)) in
+    get_or_from_slice_get (drawn_calls (x2 % 16) (x2 / 16 % 16) x3) (x1 % 16) call Detach (subst (λ r. slice_get (drawn_calls (x2 % 16) r x3) (x1 % 16) ≡ Some call) isq (subst (λ r. slice_get (drawn_calls r q x3) (x1 % 16) ≡ Some call) isp found)) in
     ap (λ k. Mutator k call) is ∙ ap (λ c. Mutator (x0 % (m + 1)) c) (sym same)
     ∙ ap (λ b. cond b (Mutator (x0 % (m + 1)) (slice_index_or (drawn_calls (x2 % 16) (x2 / 16 % 16) x3) (x1 % 16) Detach)) (slice_index_or (drawn_collections x3) (x1 % 8) Attach)) (sym (lt-ltb _ _ lt))
 
@@ -38,18 +38,18 @@ unfolding first_words
 one_word k x w w' e = ap (λ i. i.0 ∷ first_words pcg32 k i.1) (sym e)
 
 -- the four words of a line
-four_words : (k x0 x1 x2 x3 : ℕ) (w w1 w2 w3 w4 : Lcg) → (x0, w1) ≡ pcg32 w → (x1, w2) ≡ pcg32 w1 → (x2, w3) ≡ pcg32 w2 → (x3, w4) ≡ pcg32 w3
-    → first_words pcg32 (4 * (k + 1)) w ≡ x0 ∷ x1 ∷ x2 ∷ x3 ∷ first_words pcg32 (4 * k) w4
-four_words k x0 x1 x2 x3 w w1 w2 w3 w4 e1 e2 e3 e4 =
-    let four : 4 * (k + 1) ≡ suc (suc (suc (suc (4 * k)))) = omega arith in
-    ap (λ n. first_words pcg32 n w) four ∙ one_word _ x0 w w1 e1
+pub four_words : (n k x0 x1 x2 x3 : ℕ) (w w1 w2 w3 w4 : Lcg) → n ≡ k + 1 → (x0, w1) ≡ pcg32 w → (x1, w2) ≡ pcg32 w1 → (x2, w3) ≡ pcg32 w2 → (x3, w4) ≡ pcg32 w3
+    → first_words pcg32 (4 * n) w ≡ x0 ∷ x1 ∷ x2 ∷ x3 ∷ first_words pcg32 (4 * k) w4
+four_words n k x0 x1 x2 x3 w w1 w2 w3 w4 one e1 e2 e3 e4 =
+    let four : 4 * n ≡ suc (suc (suc (suc (4 * k)))) = omega arith in
+    ap (λ i. first_words pcg32 i w) four ∙ one_word _ x0 w w1 e1
     ∙ ap (λ t. x0 ∷ t) (one_word _ x1 w1 w2 e2 ∙ ap (λ t. x1 ∷ t) (one_word _ x2 w2 w3 e3 ∙ ap (λ t. x2 ∷ t) (one_word _ x3 w3 w4 e4)))
 
 -- one line that is drawn
 pub one_draw : (m k x0 x1 x2 x3 : ℕ) (w w1 w2 w3 w4 : Lcg) (old new : List ℕ) (command : Event) → (x0, w1) ≡ pcg32 w → (x1, w2) ≡ pcg32 w1 → (x2, w3) ≡ pcg32 w2 → (x3, w4) ≡ pcg32 w3
     → command ≡ drawn m x0 x1 x2 x3 → new ≡ (old ++ command_line command) ++ newline ∷ [] → old ++ drawn_text m (k + 1) w ≡ new ++ drawn_text m k w4
 one_draw m k x0 x1 x2 x3 w w1 w2 w3 w4 old new command e1 e2 e3 e4 is wrote =
-    ap (λ ws. old ++ text_of (map command_line (commands_of m ws))) (four_words k x0 x1 x2 x3 w w1 w2 w3 w4 e1 e2 e3 e4)
+    ap (λ ws. old ++ text_of (map command_line (commands_of m ws))) (four_words (k + 1) k x0 x1 x2 x3 w w1 w2 w3 w4 refl e1 e2 e3 e4)
     ∙ ap (λ c. old ++ ((command_line c ++ newline ∷ []) ++ drawn_text m k w4)) (sym is)
     ∙ sym (append_assoc old (command_line command ++ newline ∷ []) (drawn_text m k w4))
     ∙ ap (λ t. t ++ drawn_text m k w4) (sym (append_assoc old (command_line command) (newline ∷ [])) ∙ sym wrote)
@@ -58,6 +58,11 @@ one_draw m k x0 x1 x2 x3 w w1 w2 w3 w4 old new command e1 e2 e3 e4 is wrote =
 pub on_ok : {A E : Type 0} {P Q : Type 0} (r : Result A E) → (P → Q) → OnOk r P → OnOk r Q
 on_ok (Ok a) f h = f h
 on_ok (Err e) f h = h
+
+-- no command is drawn
+pub none_commands : (m : ℕ) (w : Lcg) → drawn_commands m 0 w ≡ []
+unfolding first_words
+none_commands m w = refl
 
 -- no line is drawn
 pub none_drawn : (m n : ℕ) (w : Lcg) → n ≡ 0 → drawn_text m n w ≡ []

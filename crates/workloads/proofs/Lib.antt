@@ -3,3 +3,5 @@ pub mod Printing
 pub mod Drawing
 pub mod Taking
 pub mod ReadLines
+pub mod CommandLines
+pub mod StressLines

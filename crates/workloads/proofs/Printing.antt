@@ -19,7 +19,7 @@ pub front_before : (old new : Option (List ℕ)) (front rest whole : List ℕ) �
 front_before old new front rest whole is f =
     let part = take f.0 front in
     let same : take (length part) whole ≡ part =
-        ap (take (length part)) (is ∙ ap (λ t. t ++ rest) (sym (take-append-drop f.0 front)) ∙ append_assoc part (drop f.0 front) rest) ∙ take-front part (drop f.0 front ++ rest) in
+    ap (take (length part)) (is ∙ ap (λ t. t ++ rest) (sym (take-append-drop f.0 front)) ∙ append_assoc part (drop f.0 front) rest) ∙ take-front part (drop f.0 front ++ rest) in
     (length part, subst (λ t. Appends old new t) (sym same) f.1)
 
 -- a front of what follows
@@ -27,7 +27,7 @@ pub front_after : (old mid new : Option (List ℕ)) (done front rest whole : Lis
 front_after old mid new done front rest whole is h f =
     let part = take f.0 front in
     let split : whole ≡ (done ++ part) ++ (drop f.0 front ++ rest) =
-        is ∙ ap (λ t. (done ++ t) ++ rest) (sym (take-append-drop f.0 front)) ∙ ap (λ t. t ++ rest) (sym (append_assoc done part (drop f.0 front))) ∙ append_assoc (done ++ part) (drop f.0 front) rest in
+    is ∙ ap (λ t. (done ++ t) ++ rest) (sym (take-append-drop f.0 front)) ∙ ap (λ t. t ++ rest) (sym (append_assoc done part (drop f.0 front))) ∙ append_assoc (done ++ part) (drop f.0 front) rest in
     let same : take (length (done ++ part)) whole ≡ done ++ part = ap (take (length (done ++ part))) split ∙ take-front (done ++ part) (drop f.0 front ++ rest) in
     (length (done ++ part), subst (λ t. Appends old new t) (sym same) (Appends-more old mid new done part h f.1))
 
@@ -59,6 +59,7 @@ mutators_append pages slot (x ∷ xs) ys =
   where
     rest : List ℕ
     rest = mutators_text pages (slot + length (x ∷ xs)) ys
+
     moved : (a n : ℕ) → a + 1 + n ≡ a + suc n
     moved a n = omega arith
 

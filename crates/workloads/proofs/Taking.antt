@@ -56,7 +56,7 @@ attach_on lines lists line w is front room few =
     let none : w.commands ≡ [] = no_commands w.commands (omega (arith, long, length-append (replicate m Attach) w.commands, length-replicate m Attach, front)) in
     let more : length (lists.mutators ++ [] ∷ []) ≡ m + 1 = length-push lists.mutators [] in
     let attaches : (replicate m Attach ++ w.commands) ++ Attach ∷ [] ≡ replicate (length (lists.mutators ++ [] ∷ [])) Attach ++ [] =
-        ap (λ cs. (replicate m Attach ++ cs) ++ Attach ∷ []) none ∙ ap (λ cs. cs ++ Attach ∷ []) (append-nil (replicate m Attach)) ∙ replicate-append-replicate m 1 Attach ∙ ap (λ n. replicate n Attach) (sym more) ∙ sym (append-nil _) in
+    ap (λ cs. (replicate m Attach ++ cs) ++ Attach ∷ []) none ∙ ap (λ cs. cs ++ Attach ∷ []) (append-nil (replicate m Attach)) ∙ replicate-append-replicate m 1 Attach ∙ ap (λ n. replicate n Attach) (sym more) ∙ sym (append-nil _) in
     record {
       commands = [];
       few = omega (arith, few, length-push lines line);
@@ -79,6 +79,7 @@ call_on lines lists line slot call w is may few =
   where
     unequal : (a b : ℕ) → eqb a b ≡ false → a ≡ b → ⊥
     unequal a b e same = let yes' : eqb a b ≡ true = eq-eqb a b same in cc
+
     by_slot : (k : ℕ) → k < length lists.mutators → (b : Bool) → eqb slot k ≡ b
         → get_or (set lists.mutators slot (get_or lists.mutators slot [] ++ call ∷ [])) k [] ≡ get_or lists.mutators k [] ++ filter_map (call_of k) (Mutator slot call ∷ [])
     by_slot k lt true e =

@@ -4,3 +4,4 @@ pub mod Taking
 pub mod Printing
 pub mod Draws
 pub mod Stress
+pub mod Laws

@@ -29,11 +29,7 @@ fn put_line(text: &mut Vec<u8>, command: Event) -> Result<(), AllocError>
 }
 
 /// Puts the line that the next four words draw.
-fn put_draw(
-    text: &mut Vec<u8>,
-    words: &mut Lcg64Xsh32,
-    mutators: u8,
-) -> Result<(), AllocError>
+fn put_draw(text: &mut Vec<u8>, words: &mut Lcg64Xsh32, mutators: u8) -> Result<(), AllocError>
     requires { mutators ≤ SLOTS }
     ensures { OnOk result ((steps : ℕ) → text.old.items ++ drawn_text mutators (steps + 1) words.old ≡ text.new.items ++ drawn_text mutators steps words.new) }
 {
@@ -71,12 +67,7 @@ fn put_draws(
 }
 
 /// Makes the random script of a seed, of so many mutators and so many lines behind their attaches.
-pub fn make_stress(
-    alloc: Global,
-    seed: u64,
-    mutators: u8,
-    steps: u32,
-) -> Result<Vec<u8>, RunError>
+pub fn make_stress(alloc: Global, seed: u64, mutators: u8, steps: u32) -> Result<Vec<u8>, RunError>
     requires some { 1 ≤ mutators }
     requires most { mutators ≤ SLOTS }
     requires steps { steps ≤ MAX_STEPS }

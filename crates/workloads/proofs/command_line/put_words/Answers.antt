@@ -12,7 +12,7 @@ one_more front word text spaced digits new numbers i lt is isp isd isn =
     let done = join_with_byte 32 (word ∷ map decimal (take i numbers)) in
     let next = decimal (get_or numbers i 0) in
     let joined : join_with_byte 32 (word ∷ map decimal (take (i + 1) numbers)) ≡ done ++ 32 ∷ next =
-        ap (λ ns. join_with_byte 32 (word ∷ map decimal ns)) (take_more numbers i 0 lt) ∙ ap (λ ws. join_with_byte 32 (word ∷ ws)) (map_push decimal (take i numbers) (get_or numbers i 0)) ∙ join-push 32 word (map decimal (take i numbers)) next in
+    ap (λ ns. join_with_byte 32 (word ∷ map decimal ns)) (take_more numbers i 0 lt) ∙ ap (λ ws. join_with_byte 32 (word ∷ ws)) (map_push decimal (take i numbers) (get_or numbers i 0)) ∙ join-push 32 word (map decimal (take i numbers)) next in
     isn ∙ ap (λ t. t ++ digits) (isp ∙ ap (λ t. t ++ 32 ∷ []) is) ∙ ap (λ t. ((front ++ done) ++ 32 ∷ []) ++ t) isd
     ∙ append_assoc (front ++ done) (32 ∷ []) next ∙ append_assoc front done (32 ∷ next) ∙ ap (λ t. front ++ t) (sym joined)
 
