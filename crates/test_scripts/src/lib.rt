@@ -5,8 +5,7 @@
 mod bad_lines;
 #[cfg(test)]
 mod collections;
-#[cfg(test)]
-mod fakes;
+pub mod fakes;
 #[cfg(test)]
 mod faults;
 #[cfg(test)]

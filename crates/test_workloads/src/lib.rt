@@ -1,0 +1,11 @@
+//! Workloads as their readers and writers see them: rules and bad lines, random scripts, and readers, writers and memory that fail.
+#![tactic(auto)]
+
+#[cfg(test)]
+mod faults;
+#[cfg(test)]
+mod printed;
+#[cfg(test)]
+mod rules;
+#[cfg(test)]
+mod stress;

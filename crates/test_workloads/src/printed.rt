@@ -1,0 +1,69 @@
+//! Replies are printed actor by actor.
+
+use heap_spec::Reply;
+use scripts::ScriptError;
+use std::alloc::{AllocError, Global};
+use std::process::Abort;
+use std::test::Fail;
+use test_scripts::fakes::Taken;
+use words::{Refusal, Slot};
+use workloads::{Lines, Replies, print_replies};
+
+const TEXT: &str =
+    "mutator 0\nok\nptr\n268439552\nmutator 1\nmutator 2\nrefused 6 Full\ncollector\n7\n";
+
+/// The replies that print as the text, on one page.
+fn replies(alloc: Global) -> Result<Replies, AllocError> {
+    let mut first = Lines::new(alloc);
+    first.push(Reply::Done)?;
+    first.push(Reply::Word(268_435_456))?;
+    first.push(Reply::Word(268_439_552))?;
+    let mut third = Lines::new(alloc);
+    third.push(Reply::Refused(Refusal::Full))?;
+    let mut collector = Lines::new(alloc);
+    collector.push(Reply::Count(7))?;
+    let mutators = vec![in alloc; first, Lines::new(alloc), third]?;
+    Ok(Replies::new(mutators, collector))
+}
+
+#[test]
+fn replies_are_printed(rt: HostRuntime) -> Result<(), Fail> {
+    let replies = replies(rt.alloc())?;
+    for most in [1usize, 3, 4_096] {
+        let mut output = Taken::limited(rt.alloc(), most, None)?;
+        assert_eq!(rt; print_replies(&replies, 1, &mut output), Ok(()));
+        assert_eq!(rt; output.text(), Some(TEXT));
+    }
+    Ok(())
+}
+
+/// An empty workload prints one line.
+#[test]
+fn no_replies(rt: HostRuntime) -> Result<(), Fail> {
+    let replies = Replies::new(Vec::new(rt.alloc()), Lines::new(rt.alloc()));
+    let mut output = Taken::new(rt.alloc())?;
+    assert_eq!(rt; print_replies(&replies, 4, &mut output), Ok(()));
+    assert_eq!(rt; output.text(), Some("collector\n"));
+    Ok(())
+}
+
+/// What the writer took before its fault stands, and no call of it follows.
+fn check_fault(rt: &impl Abort, alloc: Global, replies: &Replies, call: usize) -> Result<(), Fail> {
+    let mut output = Taken::limited(alloc, 1, Some(call))?;
+    assert_eq!(rt;
+        print_replies(replies, 1, &mut output),
+        Err(ScriptError::Write)
+    );
+    assert_eq!(rt; output.text(), TEXT.get(..call));
+    assert_eq!(rt; output.calls, call.saturating_add(1));
+    Ok(())
+}
+
+#[test]
+fn every_write_fails(rt: HostRuntime) -> Result<(), Fail> {
+    let replies = replies(rt.alloc())?;
+    for call in 0..TEXT.len() {
+        check_fault(&rt, rt.alloc(), &replies, call)?;
+    }
+    Ok(())
+}

@@ -1,0 +1,19 @@
+//! Workloads: scripts for threads, with a list of lines for each actor. How one is read, how its replies are printed, and random ones.
+#![tactic(auto)]
+
+mod command_line;
+mod draw;
+mod errors;
+pub mod laws;
+pub mod limits;
+mod lines;
+mod reading;
+mod replies;
+mod stress;
+mod workload;
+
+pub use errors::RunError;
+pub use lines::Lines;
+pub use replies::{Replies, print_replies};
+pub use stress::make_stress;
+pub use workload::Workload;

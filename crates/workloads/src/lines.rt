@@ -1,0 +1,45 @@
+//! A list that grows at its end.
+ghost use Rattle.std.specs.Prelude.{◌≡◌, [], ◌∷◌, ◌++◌, length, OnOk};
+
+use std::alloc::{AllocError, Global};
+use std::marker::Model;
+
+/// What an actor runs, or is answered, line by line. Contracts see it as a list.
+#[derive(Drop)]
+pub struct Lines<T> {
+    items: Vec<T>,
+}
+
+impl<T> Model for Lines<T> {
+    ghost use Rattle.std.specs.Prelude.{List};
+
+    ghost Value = { List T };
+
+    ghost view = { λ l. l.items.items };
+}
+
+impl<T: Drop> Lines<T> {
+    /// No line yet.
+    pub fn new(alloc: Global) -> Lines<T>
+        ensures { result ≡ [] }
+    {
+        Lines {
+            items: Vec::new(alloc),
+        }
+    }
+
+    /// One line more.
+    pub fn push(&mut self, item: T) -> Result<(), AllocError>
+        ensures { OnOk result (self.new ≡ self.old ++ item ∷ []) }
+    {
+        self.items.push(item)?;
+        Ok(())
+    }
+
+    /// The lines.
+    pub fn as_slice(&self) -> &[T]
+        ensures { result.now ≡ self.now }
+    {
+        self.items.as_slice()
+    }
+}
