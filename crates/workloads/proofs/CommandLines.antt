@@ -1,10 +1,10 @@
 -- The line of a command is a good one.
-use Rattle.std.proofs.Common.{◌≡◌, ◌≢◌, ℕ, ◌+◌, ◌*◌, ◌<◌, ◌≤◌, ◌^◌, Bool, true, false, eqb, leb, List, [], ◌∷◌, ◌++◌, length, map, get_or, refl, sym, ap, ◌∙◌, arith, lit≤, length-append, codes}
+use Rattle.std.proofs.Common.{◌≡◌, ℕ, ◌+◌, ◌*◌, ◌<◌, ◌≤◌, ◌^◌, Bool, true, false, eqb, leb, List, [], ◌∷◌, length, refl, ap, ◌∙◌, arith, lit≤, length-append, codes}
 use Rattle.std.specs.Prelude.{All, decimal, ◌&&◌}
-use Rattle.std.specs.List.{AllZip, slice_split, join_with_byte}
+use Rattle.std.specs.List.{slice_split, join_with_byte}
 use Rattle.std.proofs.lemmas.Bool.{ne_eqb, leb-true}
 use Rattle.std.proofs.lemmas.Fmt.{decimal_by_steps, length-decimal-le}
-use Rattle.std.proofs.lemmas.List.Elements.{All-nil, All-cons, All-push, All-append, All-head, All-tail}
+use Rattle.std.proofs.lemmas.List.Elements.{All-nil, All-cons, All-push, All-append}
 use Rattle.std.proofs.lemmas.List.Splits.{slice_split_at, slice_split_none}
 use Rattle.words.specs.declared.class.Kind.{Kind}
 use Rattle.words.specs.declared.class.Kind.TheVariants.{Normal, PointerFree}
@@ -13,7 +13,6 @@ use Rattle.heap_spec.specs.declared.call.Call.TheVariants.{Detach, Set, Copy, Ad
 use Rattle.heap_spec.specs.declared.event.Event.{Event}
 use Rattle.heap_spec.specs.declared.event.Event.TheVariants.{Attach, Mutator, Begin, Roots, Mark, Retrace, Finish, Sweep, Collect, Number}
 use Rattle.heap_spec.specs.Ranges.{CallInRange, InRange}
-use Rattle.scripts.specs.Lines.{newline}
 use Rattle.scripts.specs.Reading.{IsPlain}
 use Rattle.scripts.specs.Grammar.{kind_word, call_words, command_words, IsLineOf}
 use Rattle.workloads.specs.Stress.{command_line}
@@ -117,12 +116,14 @@ room w (v ∷ vs) t = let s = t.0.short in let r = room v vs t.1 in let a = leng
 line_good : (command : Event) (w : List ℕ) (ws : List (List ℕ)) → command_words command ≡ w ∷ ws → AreWordTexts (w ∷ ws) → length ws ≤ 4 → InRange command → IsLineOf (command_line command) command × IsPlain (command_line command)
 line_good command w ws is texts few range =
     let line : command_line command ≡ join_with_byte 32 (w ∷ ws) = ap (join_with_byte 32) is in
-    let long = room w ws texts in
-    (record {
-      short = rw line (omega arith);
-      words = rw (line, is) (split w ws texts);
-      in_range = range;
-    }, rw line (λ k d lt e. let h = printable w ws texts k d lt in omega arith))
+    let long = room w ws texts in (
+      record {
+        short = rw line (omega arith);
+        words = rw (line, is) (split w ws texts);
+        in_range = range;
+      },
+      rw line (λ k d lt e. let h = printable w ws texts k d lt in omega arith),
+    )
 
 -- the line of a command in range
 pub good_line : (command : Event) → InRange command → IsLineOf (command_line command) command × IsPlain (command_line command)

@@ -1,5 +1,5 @@
 -- What words draw, word by word and line by line.
-use Rattle.std.proofs.Common.{◌≡◌, ℕ, ◌+◌, ◌-◌, ◌*◌, ◌<◌, ◌≤◌, ◌%◌, ◌/◌, suc, List, [], ◌∷◌, ◌++◌, length, map, cond, ltb, refl, sym, ap, ◌∙◌, subst, arith, append_assoc}
+use Rattle.std.proofs.Common.{◌≡◌, ℕ, ◌+◌, ◌*◌, ◌<◌, ◌≤◌, ◌%◌, ◌/◌, suc, List, [], ◌∷◌, ◌++◌, map, cond, refl, sym, ap, ◌∙◌, subst, arith, append_assoc}
 use Rattle.std.specs.Prelude.{Some, slice_get, slice_index_or, replicate, Result, Ok, Err, OnOk}
 use Rattle.scripts.specs.Turns.{text_of}
 use Rattle.std.proofs.lemmas.Bool.{lt-ltb, le-ltb}

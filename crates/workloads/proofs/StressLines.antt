@@ -1,27 +1,26 @@
 -- Random scripts are workloads.
-use Rattle.std.proofs.Common.{◌≡◌, ◌≢◌, ℕ, ◌+◌, ◌*◌, ◌<◌, ◌≤◌, ◌/◌, ◌%◌, ◌^◌, zero, suc, Bool, true, false, cond, ltb, List, [], ◌∷◌, ◌++◌, length, map, get_or, refl, sym, ap, ◌∙◌, subst, arith, lit≤, length-append}
+use Rattle.std.proofs.Common.{◌≡◌, ◌≢◌, ℕ, ◌+◌, ◌<◌, ◌≤◌, ◌/◌, ◌%◌, ◌^◌, zero, suc, Bool, true, false, cond, ltb, List, [], ◌∷◌, ◌++◌, length, map, get_or, refl, sym, ap, ◌∙◌, subst, arith, lit≤, length-append}
 use Rattle.std.specs.Prelude.{All, replicate, filter, filter_map}
 use Rattle.std.specs.List.{AllZip}
 use Rattle.std.proofs.lemmas.Bool.{ltb-true}
-use Rattle.std.proofs.lemmas.List.{append-nil, length-replicate, length-map, map-append}
+use Rattle.std.proofs.lemmas.List.{append-nil, length-replicate, length-map}
 use Rattle.std.proofs.lemmas.List.Elements.{All-nil, All-cons, All-append, All-get_or, All-head, All-tail, All-map, All-replicate}
 use Rattle.rand_pcg.specs.Lcg.{Lcg}
 use Rattle.rand_pcg.specs.Pcg.{pcg32}
 use Rattle.words.specs.declared.limits.TheConstants.{SLOTS}
 use Rattle.heap_spec.specs.declared.call.Call.{Call}
-use Rattle.heap_spec.specs.declared.call.Call.TheVariants.{Detach, Set, Copy, Push, Pop, Load, Store, Alloc, Free, GlobalPut}
+use Rattle.heap_spec.specs.declared.call.Call.TheVariants.{Detach}
 use Rattle.heap_spec.specs.declared.event.Event.{Event}
-use Rattle.heap_spec.specs.declared.event.Event.TheVariants.{Attach, Mutator, Begin, Roots, Mark, Retrace, Finish, Sweep, Collect}
+use Rattle.heap_spec.specs.declared.event.Event.TheVariants.{Attach, Mutator}
 use Rattle.heap_spec.specs.Ranges.{CallInRange, InRange}
 use Rattle.scripts.specs.Grammar.{IsLineOf}
 use Rattle.scripts.specs.Lines.{lines_of}
 use Rattle.scripts.specs.Reading.{IsPlain}
-use Rattle.scripts.specs.Turns.{text_of}
 use Rattle.scripts.proofs.Texts.{lines_of-text}
 use Rattle.workloads.specs.declared.limits.TheConstants.{MAX_STEPS}
 use Rattle.workloads.specs.Draws.{drawn, drawn_calls, drawn_collections}
 use Rattle.workloads.specs.Stress.{command_line, commands_of, drawn_commands, seeded, stress, stress_text}
-use Rattle.workloads.specs.Workloads.{ActorLines, AreWorkload, MayRun, call_of, is_collectors}
+use Rattle.workloads.specs.Workloads.{ActorLines, MayRun, call_of, is_collectors}
 use Rattle.workloads.specs.Laws.{IsStressWorkload}
 use Rattle.workloads.proofs.Drawing.{four_words, none_commands}
 use Rattle.workloads.proofs.CommandLines.{good_line}
@@ -61,8 +60,10 @@ drawn_good m x0 x1 x2 x3 few = by_actor (ltb (x0 % (m + 1)) m) refl
   where
     call : Call
     call = get_or (drawn_calls (x2 % 16) (x2 / 16 % 16) x3) (x1 % 16) Detach
+
     collection : Event
     collection = get_or (drawn_collections x3) (x1 % 8) Attach
+
     by_actor : (b : Bool) → ltb (x0 % (m + 1)) m ≡ b → IsGood m (cond b (Mutator (x0 % (m + 1)) call) collection)
     by_actor true e =
         let slot : x0 % (m + 1) < m = ltb-true _ _ e in
@@ -79,7 +80,7 @@ drawn_all m (suc k) w few =
     let w4 = (pcg32 w3).1 in
     let more : suc k ≡ k + 1 = omega arith in
     let step : drawn_commands m (suc k) w ≡ drawn m (pcg32 w).0 (pcg32 w1).0 (pcg32 w2).0 (pcg32 w3).0 ∷ drawn_commands m k w4 =
-        ap (commands_of m) (four_words (suc k) k (pcg32 w).0 (pcg32 w1).0 (pcg32 w2).0 (pcg32 w3).0 w w1 w2 w3 w4 more refl refl refl refl) in
+    ap (commands_of m) (four_words (suc k) k (pcg32 w).0 (pcg32 w1).0 (pcg32 w2).0 (pcg32 w3).0 w w1 w2 w3 w4 more refl refl refl refl) in
     let rest = drawn_all m k w4 few in
     subst (λ cs. All (IsGood m) cs × (length cs ≡ suc k)) (sym step)
     (All-cons (IsGood m) _ (drawn_commands m k w4) (drawn_good m (pcg32 w).0 (pcg32 w1).0 (pcg32 w2).0 (pcg32 w3).0 few) rest.0, ap suc rest.1)
@@ -112,9 +113,9 @@ stress_workload seed m steps few most =
     let all = drawn_all m steps (seeded seed) few in
     let range : All InRange (stress seed m steps) = All-append InRange (replicate m Attach) commands (All-replicate InRange m Attach tt) (λ k d lt. (all.0 k d lt).0) in
     let lines : lines_of (stress_text seed m steps) ≡ map command_line (stress seed m steps) =
-        ap lines_of (sym (append-nil (stress_text seed m steps))) ∙ lines_of-text (map command_line (stress seed m steps)) [] (lines_plain (stress seed m steps) range) ∙ append-nil (map command_line (stress seed m steps)) in
+    ap lines_of (sym (append-nil (stress_text seed m steps))) ∙ lines_of-text (map command_line (stress seed m steps)) [] (lines_plain (stress seed m steps) range) ∙ append-nil (map command_line (stress seed m steps)) in
     let count : length (lines_of (stress_text seed m steps)) ≡ m + steps =
-        ap length lines ∙ length-map (stress seed m steps) command_line ∙ length-append (replicate m Attach) commands ∙ omega (arith, length-replicate m Attach, all.1) in
+    ap length lines ∙ length-map (stress seed m steps) command_line ∙ length-append (replicate m Attach) commands ∙ omega (arith, length-replicate m Attach, all.1) in
     let lists : ActorLines = record { mutators = lists_from 0 m commands; collector = filter is_collectors commands } in
     let long : length (lists_from 0 m commands) ≡ m = length-lists 0 m commands in
     record {

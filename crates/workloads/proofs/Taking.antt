@@ -1,6 +1,6 @@
 -- One line more of a workload.
 use Rattle.std.proofs.Common.{◌≡◌, ℕ, ◌+◌, ◌<◌, ◌≤◌, Bool, true, false, cond, eqb, leb, List, [], ◌∷◌, ◌++◌, length, get_or, set, refl, sym, ap, ◌∙◌, subst, arith, append_assoc, zero, suc, length-append, inl, inr}
-use Rattle.std.specs.Prelude.{All, Option, Some, None, filter, filter_map, replicate, ◌≢◌, ◌⊎◌}
+use Rattle.std.specs.Prelude.{All, Some, None, filter, filter_map, replicate, ◌⊎◌}
 use Rattle.std.specs.List.{AllZip, cons_option}
 use Rattle.std.proofs.lemmas.Bool.{eqb-true, eq-eqb}
 use Rattle.std.proofs.lemmas.Bool.Decides.{leb_tells}

@@ -1,5 +1,5 @@
 -- How the replies of a workload are printed.
-use Rattle.std.specs.Prelude.{ℕ, suc, List, [], ◌∷◌, ◌++◌, ◌+◌, codes, decimal, flat_map}
+use Rattle.std.specs.Prelude.{ℕ, List, [], ◌∷◌, ◌++◌, ◌+◌, codes, decimal, flat_map}
 use Rattle.heap_spec.specs.declared.reply.Reply.{Reply}
 use Rattle.scripts.specs.Lines.{newline}
 use Rattle.scripts.specs.Printing.{reply_line}

@@ -1,5 +1,5 @@
 -- What a workload is, and the first of its lines that breaks a rule.
-use Rattle.std.specs.Prelude.{◌≡◌, ℕ, ◌+◌, ◌-◌, ◌<◌, ◌≤◌, ◌⊎◌, ◌==◌, ◌≢◌, if◌then◌else◌, Bool, true, false, Option, Some, None, List, [], ◌++◌, length, take, replicate, filter, filter_map, All, slice_get, slice_index_or}
+use Rattle.std.specs.Prelude.{◌≡◌, ℕ, ◌-◌, ◌<◌, ◌≤◌, ◌⊎◌, ◌==◌, ◌≢◌, if◌then◌else◌, Bool, true, false, Option, Some, None, List, [], ◌++◌, length, take, replicate, filter, filter_map, All, slice_get, slice_index_or}
 use Rattle.std.specs.List.{AllZip}
 use Rattle.words.specs.declared.limits.TheConstants.{SLOTS}
 use Rattle.heap_spec.specs.declared.call.Call.{Call}

@@ -1,4 +1,4 @@
-use Rattle.std.proofs.Common.{◌≡◌, ◌+◌, ◌<◌, ◌≤◌, ◌%◌, sym, subst}
+use Rattle.std.proofs.Common.{◌≡◌, ◌+◌, ◌<◌, ◌≤◌, ◌%◌, subst}
 use Rattle.workloads.proofs.Drawing.{draws_call, draws_collection}
 use Rattle.workloads.proofs.draw.draw.Goals as goal
 

@@ -1,7 +1,6 @@
 use Rattle.std.proofs.Common.{◌≡◌, ◌≤◌, refl, ◌∙◌, Ok, Err, arith, lit≤}
 use Rattle.scripts.specs.declared.limits.TheConstants.{LAST_LINE}
 use Rattle.scripts.specs.declared.line.LineRead.TheVariants.{Line, Last, End, TooLong}
-use Rattle.scripts.specs.Reading.{left_of}
 use Rattle.scripts.proofs.Serving.{found_is}
 use Rattle.workloads.proofs.ReadLines.{starts, end_reads, too_long_reads, read_fails, line_taken, line_fails, last_reads, last_number_reads, turn_is}
 use Rattle.workloads.proofs.reading.read_lines.Goals as goal

@@ -1,4 +1,4 @@
-use Rattle.std.proofs.Common.{◌≡◌, List, ℕ, ◌++◌, [], refl, sym, append_assoc, ◌∙◌, ap}
+use Rattle.std.proofs.Common.{◌≡◌, List, ℕ, ◌++◌, [], sym, append_assoc, ◌∙◌, ap}
 use Rattle.std.proofs.lemmas.List.{append-nil}
 use Rattle.std.proofs.lemmas.Result.{on_err_weaker}
 use Rattle.scripts.proofs.Bytes.{Appends-more}

@@ -1,4 +1,3 @@
-use Rattle.std.proofs.Common.{Ok, Err}
 use Rattle.workloads.proofs.Drawing.{on_ok, one_draw}
 use Rattle.workloads.proofs.stress.put_draw.Goals as goal
 
