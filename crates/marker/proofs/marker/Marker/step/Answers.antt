@@ -1,8 +1,9 @@
-use Rattle.std.proofs.Common.{◌∙◌, ℕ, List, [], length, refl, subst, arith}
+use Rattle.std.proofs.Common.{◌≡◌, ◌+◌, ◌≤◌, ◌∙◌, ℕ, List, [], length, refl, subst, arith}
 use Rattle.block_map.specs.FoundIn.{found_in}
-use Rattle.marker.specs.Marking.{Marking}
+use Rattle.marker.specs.Marking.{Marking, StaysDirty}
+use Rattle.marker.specs.Work.{cost}
 use Rattle.marker.specs.Growth.{Traces}
-use Rattle.marker.specs.Entries.{ReadsOn, Takes, nothing, settled, read}
+use Rattle.marker.specs.Entries.{ReadsOn, Takes, TakesOff, nothing, settled, read}
 use Rattle.marker.proofs.Closures.{marks_of}
 use Rattle.marker.proofs.Settling.{settled_cost}
 use Rattle.marker.proofs.Reading.{read_cost}
@@ -47,35 +48,35 @@ returns-then-read-budget-clause-traces c = let s = (goal.at.returns-then-read-bu
 pub returns-clause-traces : goal.returns-clause-traces
 returns-clause-traces c = let s = (goal.at.returns-clause-traces c).After-settle in traces s (takes s)
 
+taken : (c : After-settle) → TakesOff (found_in c.args.map.now) c.args.reader.now.words c.args.self.now c.settle.new.self
+taken c =
+    takes_taken (length c.args.map.now) (found_in c.args.map.now) c.heap_bytes-heap_bytes.ensures.lawful.map c.args.reader.now.words c.args.self.now (marks_of _ _ c.laws.ensures c.requires.pages) (takes c)
+
 pub returns-then-read-budget-clause-taken : goal.returns-then-read-budget-clause-taken
-returns-then-read-budget-clause-taken c =
-    takes_taken (length c.args.map.now) (found_in c.args.map.now) c.heap_bytes-heap_bytes.ensures.lawful.map c.args.reader.now.words c.args.self.now (marks_of _ _ c.laws.ensures c.requires.pages)
-    (takes (goal.at.returns-then-read-budget-clause-taken c).After-settle)
+returns-then-read-budget-clause-taken c = taken (goal.at.returns-then-read-budget-clause-taken c).After-settle
 
 pub returns-clause-taken : goal.returns-clause-taken
-returns-clause-taken c =
-    takes_taken (length c.args.map.now) (found_in c.args.map.now) c.heap_bytes-heap_bytes.ensures.lawful.map c.args.reader.now.words c.args.self.now (marks_of _ _ c.laws.ensures c.requires.pages)
-    (takes (goal.at.returns-clause-taken c).After-settle)
+returns-clause-taken c = taken (goal.at.returns-clause-taken c).After-settle
+
+dirty : (c : After-settle) → StaysDirty c.args.self.now c.settle.new.self
+dirty c =
+    takes_dirty (length c.args.map.now) (found_in c.args.map.now) c.heap_bytes-heap_bytes.ensures.lawful.map c.args.reader.now.words c.args.self.now (marks_of _ _ c.laws.ensures c.requires.pages) (takes c)
 
 pub returns-then-read-budget-clause-dirty : goal.returns-then-read-budget-clause-dirty
-returns-then-read-budget-clause-dirty c =
-    takes_dirty (length c.args.map.now) (found_in c.args.map.now) c.heap_bytes-heap_bytes.ensures.lawful.map c.args.reader.now.words c.args.self.now (marks_of _ _ c.laws.ensures c.requires.pages)
-    (takes (goal.at.returns-then-read-budget-clause-dirty c).After-settle)
+returns-then-read-budget-clause-dirty c = dirty (goal.at.returns-then-read-budget-clause-dirty c).After-settle
 
 pub returns-clause-dirty : goal.returns-clause-dirty
-returns-clause-dirty c =
-    takes_dirty (length c.args.map.now) (found_in c.args.map.now) c.heap_bytes-heap_bytes.ensures.lawful.map c.args.reader.now.words c.args.self.now (marks_of _ _ c.laws.ensures c.requires.pages)
-    (takes (goal.at.returns-clause-dirty c).After-settle)
+returns-clause-dirty c = dirty (goal.at.returns-clause-dirty c).After-settle
+
+less : (c : After-settle) → cost (found_in c.args.map.now) c.settle.new.self + c.loop-found.read ≤ cost (found_in c.args.map.now) c.args.self.now
+less c =
+    takes_cost (length c.args.map.now) (found_in c.args.map.now) c.heap_bytes-heap_bytes.ensures.lawful.map c.args.reader.now.words c.args.self.now (marks_of _ _ c.laws.ensures c.requires.pages) (takes c)
 
 pub returns-then-read-budget-clause-cost : goal.returns-then-read-budget-clause-cost
-returns-then-read-budget-clause-cost c =
-    takes_cost (length c.args.map.now) (found_in c.args.map.now) c.heap_bytes-heap_bytes.ensures.lawful.map c.args.reader.now.words c.args.self.now (marks_of _ _ c.laws.ensures c.requires.pages)
-    (takes (goal.at.returns-then-read-budget-clause-cost c).After-settle)
+returns-then-read-budget-clause-cost c = less (goal.at.returns-then-read-budget-clause-cost c).After-settle
 
 pub returns-clause-cost : goal.returns-clause-cost
-returns-clause-cost c =
-    takes_cost (length c.args.map.now) (found_in c.args.map.now) c.heap_bytes-heap_bytes.ensures.lawful.map c.args.reader.now.words c.args.self.now (marks_of _ _ c.laws.ensures c.requires.pages)
-    (takes (goal.at.returns-clause-cost c).After-settle)
+returns-clause-cost c = less (goal.at.returns-clause-cost c).After-settle
 
 pub loop-found-smaller : goal.loop-found-smaller
 loop-found-smaller c =
