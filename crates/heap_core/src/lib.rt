@@ -10,6 +10,3 @@ mod ranges;
 
 pub use heap::Core;
 pub use heap_spec::{Event, Reply};
-
-#[cfg(test)]
-mod tests;
