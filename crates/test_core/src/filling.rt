@@ -42,39 +42,27 @@ fn empty(rt: &impl Abort, core: &mut Core, slot: Slot, bases: &[u64]) -> Result<
     Ok(())
 }
 
-// A heap is filled with objects of one class and kind, emptied, and then one object.
-fn filled_and_emptied(
-    rt: &impl Abort,
-    alloc: Global,
-    core: &mut Core,
-    words: u64,
-    kind: Kind,
-) -> Result<usize, Fail> {
-    let object = Reg::new(0).ok_or("a register")?;
-    let slot = core.attach().ok().ok_or("a mutator")?;
-    let mut bases = fill(alloc, core, slot, words, kind)?;
-    bases.sort()?;
-    bases.dedup();
-    empty(rt, core, slot, bases.as_slice())?;
-    let whole = u64::from(PAGES) * PAGE_WORDS;
-    assert_eq!(rt; core.alloc(slot, object, whole, kind), Ok(()));
-    assert_eq!(rt; core.size(slot, object), Ok(whole));
-    assert_eq!(rt; core.alloc(slot, object, words, kind), Err(Refusal::Full));
-    Ok(bases.len())
-}
-
-// Opens a heap for each.
-fn count_cells(rt: &impl Abort, alloc: Global, words: u64, kind: Kind) -> Result<usize, Fail> {
-    let mut core = Core::new(alloc, PAGES).ok().ok_or("a heap")?;
-    filled_and_emptied(rt, alloc, &mut core, words, kind)
-}
-
 #[test]
 fn each_class_is_filled_and_emptied(rt: HostRuntime) -> Result<(), Fail> {
+    let object = Reg::new(0).ok_or("a register")?;
     for (class, cells) in CLASSES.iter().zip(&CELLS) {
         for kind in [Kind::Normal, Kind::PointerFree] {
-            let count = count_cells(&rt, rt.alloc(), u64::from(*class), kind)?;
-            assert_eq!(rt; count / PAGES as usize, *cells, "cells of {class} words");
+            let words = u64::from(*class);
+            let mut core = Core::new(rt.alloc(), PAGES).ok().ok_or("a heap")?;
+            let slot = core.attach().ok().ok_or("a mutator")?;
+            let mut bases = fill(rt.alloc(), &mut core, slot, words, kind)?;
+            bases.sort()?;
+            bases.dedup();
+            assert_eq!(rt;
+                bases.len() / PAGES as usize,
+                *cells,
+                "cells of {words} words"
+            );
+            empty(&rt, &mut core, slot, bases.as_slice())?;
+            let whole = u64::from(PAGES) * PAGE_WORDS;
+            assert_eq!(rt; core.alloc(slot, object, whole, kind), Ok(()));
+            assert_eq!(rt; core.size(slot, object), Ok(whole));
+            assert_eq!(rt; core.alloc(slot, object, words, kind), Err(Refusal::Full));
         }
     }
     Ok(())

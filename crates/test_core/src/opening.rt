@@ -1,28 +1,26 @@
 //! Heaps of few and of many pages, where memory is ample.
 use heap_core::Core;
-use std::process::Abort;
 use std::test::Fail;
 use words::limits::PAGE_WORDS;
 use words::{Kind, OpenError, Refusal, Reg};
 
-// Each page takes an object of its own, and no page is left then.
-fn has_pages(rt: &impl Abort, core: &mut Core, pages: u32) -> Result<(), Fail> {
-    let object = Reg::new(0).ok_or("a register")?;
-    let slot = core.attach().ok().ok_or("a mutator")?;
-    for page in 0..pages {
-        let taken = core.alloc(slot, object, PAGE_WORDS, Kind::Normal);
-        assert_eq!(rt; taken, Ok(()), "page {page} of {pages}");
-    }
-    let more = core.alloc(slot, object, PAGE_WORDS, Kind::Normal);
-    assert_eq!(rt; more, Err(Refusal::Full));
-    Ok(())
-}
-
 #[test]
 fn heaps_open_with_their_pages(rt: HostRuntime) -> Result<(), Fail> {
+    let object = Reg::new(0).ok_or("a register")?;
     for pages in [1, 2, 31, 1_024] {
         let mut core = Core::new(rt.alloc(), pages).ok().ok_or("a heap")?;
-        has_pages(&rt, &mut core, pages)?;
+        let slot = core.attach().ok().ok_or("a mutator")?;
+        for page in 0..pages {
+            assert_eq!(rt;
+                core.alloc(slot, object, PAGE_WORDS, Kind::Normal),
+                Ok(()),
+                "page {page} of {pages}"
+            );
+        }
+        assert_eq!(rt;
+            core.alloc(slot, object, PAGE_WORDS, Kind::Normal),
+            Err(Refusal::Full)
+        );
     }
     Ok(())
 }
