@@ -36,7 +36,7 @@ bit_here words j k few =
     ap (λ i. bit_at (get_or words i 0) ((64 * j + k) % 64) == 1) word ∙ ap (λ i. bit_at (get_or words j 0) i == 1) place
 
 -- ---- a row grows by one bit
-member_more : (row : List Bool) (low k b : ℕ) → low ≤ k → k < length row → b < 2 → get_or row k false ≡ (b == 1) → members_between row low (k + 1) ≡ members_between row low k + b
+pub member_more : (row : List Bool) (low k b : ℕ) → low ≤ k → k < length row → b < 2 → get_or row k false ≡ (b == 1) → members_between row low (k + 1) ≡ members_between row low k + b
 member_more row low k b from lt small is =
     let len : length (drop low row) ≡ length row - low = length-drop low row in
     let i : ℕ = k - low in
@@ -48,6 +48,16 @@ member_more row low k b from lt small is =
     by zero small at = count_by_more_no (λ x. x) (drop low row) (k - low) false (omega (arith, length-drop low row)) at ∙ omega arith
     by (suc zero) small at = count_by_more_yes (λ x. x) (drop low row) (k - low) false (omega (arith, length-drop low row)) at
     by (suc (suc c)) small at = absurd (omega arith)
+
+-- and by bits that aren't set
+pub members_same : (row : List Bool) (low from n : ℕ) → low ≤ from → from + n ≤ length row → ((k : ℕ) → from ≤ k → k < from + n → get_or row k false ≡ false)
+    → members_between row low (from + n) ≡ members_between row low from
+members_same row low from zero after fits none = ap (members_between row low) (let e : from + 0 ≡ from = omega arith in e)
+members_same row low from (suc n) after fits none =
+    let next : from + suc n ≡ from + n + 1 = omega arith in
+    let before = members_same row low from n after (omega arith) (λ k a b. none k a (omega arith)) in
+    let one = member_more row low (from + n) 0 (omega arith) (omega arith) (omega arith) (none (from + n) (omega arith) (omega arith)) in
+    ap (members_between row low) next ∙ one ∙ omega (arith, before)
 
 -- and by the lowest bits of a word
 word_more : (words : List ℕ) (n low j k : ℕ) → low ≤ 64 * j → k ≤ 64 → 64 * j + k ≤ n
