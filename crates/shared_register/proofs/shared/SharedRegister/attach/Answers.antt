@@ -25,7 +25,9 @@ returns g c =
     let old = c.deref_mut-logged.result.now.history in
     let said = (f.step st.state st.stood_for).1.0 in
     subst (λ (p : Known Call Reply). Begun g.J.Naming.origin p Attach (Slot p.slot)) (sym f.pass) (record {
-      seen = (old, f.history ∙ ap (λ r. old ++ event who Attach r ∷ []) said);
+      before = old;
+      spent = first-pass-requires-clause-free g c;
+      seen = f.history ∙ ap (λ r. old ++ event who Attach r ∷ []) said;
       mine = ap (λ r. event who Attach r ∷ []) said;
       fine = subst (IsFine g.J.Naming.origin) f.pass f.agrees;
     })
