@@ -1,8 +1,8 @@
 -- What keeps a core traced: its marker is one of its pages, and while marking the dirty-page invariant holds.
-use Rattle.std.proofs.Common.{◌≡◌, ℕ, ◌+◌, ◌*◌, ◌<◌, ◌≤◌, ◌⊎◌, true, false, List, length, get_or, Option, Some, None, refl, sym, ap, ◌∙◌, subst, inl, inr, ⊎_elim, arith}
-use Rattle.std.proofs.lemmas.Bool.{cases_lt, false≢true}
+use Rattle.std.proofs.Common.{◌≡◌, ℕ, true, false, List, length, Option, Some, None, refl, sym, ap, ◌∙◌, subst, ⊎_elim}
+use Rattle.std.proofs.lemmas.Bool.{false≢true}
 use Rattle.std.specs.Prelude.{Bool}
-use Rattle.pages.specs.Memory.{place, with_word_at}
+use Rattle.pages.specs.Memory.{with_word_at}
 use Rattle.block_map.specs.declared.found.Found.{Found}
 use Rattle.block_map.specs.FoundIn.{found_in}
 use Rattle.block_map.specs.Objects.{IsMap, Reads}
@@ -14,7 +14,7 @@ use Rattle.mark_bits.specs.Granules.{granule}
 use Rattle.marker.specs.Marking.{Marking, IsFresh, IsObjectGranule, AreMarksObjects}
 use Rattle.marker.specs.Growth.{Traces}
 use Rattle.marker.specs.Invariant.{DirtyPageInvariant}
-use Rattle.marker.specs.Mutations.{KeepsWords, HasZeroWords, IsFreed}
+use Rattle.marker.specs.Mutations.{KeepsWords, IsFreed}
 use Rattle.marker.proofs.Mutating.{free_traced}
 use Rattle.object_space.specs.Kept.{is_kept}
 use Rattle.object_space.proofs.Kept.{kept_all, kept_cases, kept_is, marked_kept, nothing_pending}
