@@ -17,6 +17,7 @@ use Rattle.block_map.specs.declared.found.Found.{Found}
 use Rattle.block_map.specs.FoundIn.{found_in, found_large, IsLawful}
 use Rattle.block_map.specs.Objects.{IsObjectOn, IsMap, Reads, large_object}
 use Rattle.block_map.specs.States.{PageState, free, cut, head, body, state_at, IsCut, LaidAt, IsLaid}
+use Rattle.marker.specs.Mutations.{KeepsWords}
 use Rattle.object_space.specs.Store.{Store, IsSwept, IsPendingRow}
 use Rattle.object_space.specs.Sweeps.{Loses, ForgetsLazily}
 use Rattle.object_space.specs.Kept.{kept_in}
@@ -149,7 +150,7 @@ distinct_append xs (y ∷ ys) dx dy apart =
 -- ---- page by page
 pub forgotten_none : (old : Store) (marks : List Bool) → IsSwept old → HasForgotten old marks 0 0 old
 forgotten_none old marks swept = record {
-  words = refl;
+  words = λ f i there lt. refl;
   pages = refl;
   few = omega arith;
   bases = [];
@@ -180,7 +181,7 @@ module _ (old : Store) (marks : List Bool) (page n : ℕ) (mid : Store) (before 
 
   -- what the change of the page leaves
   module _ (k : ℕ) (new : Store) (bases : List ℕ) (number : k ≡ length bases) (few : k ≤ PAGE_GRANULES) (on : AreUnmarkedOn mid.states marks page bases)
-      (words : new.words ≡ mid.words) (pages : length new.states ≡ length mid.states)
+      (words : KeepsWords (found_in new.states) mid.words new.words) (pages : length new.states ≡ length mid.states)
       (less : (w : ℕ) (f : Found) → found_in new.states w ≡ Some f → found_in mid.states w ≡ Some f)
       (stays : (w : ℕ) (f : Found) → found_in mid.states w ≡ Some f → Has marks (granule f.base) ⊎ (page + 1 ≤ f.page) → found_in new.states w ≡ Some f)
       (keeps_row : (w : ℕ) (f : Found) → found_in new.states w ≡ Some f → Has mid.pending f.page → Has new.pending f.page)
@@ -188,7 +189,7 @@ module _ (old : Store) (marks : List Bool) (page n : ℕ) (mid : Store) (before 
       (only : (p : ℕ) → Has new.pending p → (w : ℕ) × (f : Found) × (found_in new.states w ≡ Some f) × (f.page ≡ p) × (Has marks (granule f.base) → ⊥)) where
     pub page_more : HasForgotten old marks (page + 1) (n + k) new
     page_more = record {
-      words = words ∙ h.words;
+      words = λ f i there lt. words f i there lt ∙ h.words f i (less f.base f there) lt;
       pages = pages ∙ h.pages;
       few = let was = h.few in omega arith;
       bases = h.bases ++ bases;
@@ -221,10 +222,10 @@ module _ (old : Store) (marks : List Bool) (page n : ℕ) (mid : Store) (before 
 
       by : ForgetsBases mid page x.bases new → HasForgotten old marks (page + 1) (n + k) new
       by (nothing empty same) = subst (HasForgotten old marks (page + 1) (n + k)) (sym same)
-          (page_more k mid x.bases x.number x.few x.objects refl refl (λ w f e. e) (λ w f e y. e) (λ w f e p. p)
+          (page_more k mid x.bases x.number x.few x.objects (λ f i there lt. refl) refl (λ w f e. e) (λ w f e y. e) (λ w f e p. p)
           (λ w f e here not. absurd (none_here empty w f e here not)) h.only)
       by (unswept is_cut inside base has same) = subst (HasForgotten old marks (page + 1) (n + k)) (sym same)
-          (page_more k (record mid { pending = set mid.pending page true }) x.bases x.number x.few x.objects refl refl (λ w f e. e) (λ w f e y. e)
+          (page_more k (record mid { pending = set mid.pending page true }) x.bases x.number x.few x.objects (λ f i there lt. refl) refl (λ w f e. e) (λ w f e y. e)
           (λ w f e p. set_keeps f.page p)
           (λ w f e here not. ap (λ q. get_or (set mid.pending page true) q false) here ∙ get_or-set_same mid.pending page true false inside)
           (λ p now. ⊎_elim

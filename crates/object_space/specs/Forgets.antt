@@ -7,6 +7,7 @@ use Rattle.mark_bits.specs.Granules.{granule}
 use Rattle.block_map.specs.declared.found.Found.{Found}
 use Rattle.block_map.specs.FoundIn.{found_in}
 use Rattle.block_map.specs.States.{PageState, IsCut, state_at}
+use Rattle.marker.specs.Mutations.{KeepsWords}
 use Rattle.object_space.specs.Store.{Store}
 use Rattle.object_space.specs.Sweeps.{Loses}
 
@@ -39,9 +40,9 @@ pub record ForgetsOn (old : Store) (marks : List Bool) (page n : ℕ) (new : Sto
   pub objects : AreUnmarkedOn old.states marks page bases
   pub change : ForgetsBases old page bases new
 
--- The unmarked objects that begin on pages below this one are forgotten, so many.
+-- The unmarked objects that begin on pages below this one are forgotten, so many. The words of the objects of the map stay.
 pub record HasForgotten (old : Store) (marks : List Bool) (page n : ℕ) (now : Store) : Type 0 where
-  pub words : now.words ≡ old.words
+  pub words : KeepsWords (found_in now.states) old.words now.words
   pub pages : length now.states ≡ length old.states
   pub few : n ≤ PAGE_GRANULES * page
   pub bases : List ℕ
