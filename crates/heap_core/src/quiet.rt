@@ -1,8 +1,4 @@
 //! The collector's small steps as work that is no event of a history. Each is that one call of the core.
-mod close_with;
-
-pub use self::close_with::CloseWith;
-
 use crate::heap::Core;
 use history::Quiet;
 use words::Refusal;
