@@ -9,7 +9,7 @@ use Rattle.heap_history.specs.Passes.{HeapPass, is_marking as marks}
 use Rattle.heap_history.specs.Headline.{Extends, Looks, IsGrantedIn}
 use Rattle.shared.proofs.Passing.{phase_is}
 use Rattle.shared.proofs.Granting.{is_count, finished}
-use Rattle.shared.proofs.heap.SharedHeap.finish.Goals as goal
+use Rattle.shared.proofs.heap.SharedHeap.finish_after.Goals as goal
 
 pub returns-then-not-is_marking : goal.returns-then-not-is_marking
 returns-then-not-is_marking g c =
