@@ -30,6 +30,7 @@ use Rattle.heap_core.specs.Standing.{StandsFor, keeps}
 use Rattle.object_space.specs.Kept.{restrict, kept_in}
 use Rattle.object_space.proofs.Kept.{kept_all, nothing_pending}
 use Rattle.object_space.proofs.Allocations.{shows_same}
+use Rattle.object_space.proofs.Words.{shows_kept}
 use Rattle.object_space.specs.Sweeps.{ForgetsUnreached}
 use Rattle.heap_core.specs.Collections.{ForgetsOutside}
 use Rattle.object_space.proofs.Sweeping.{shows_without}
@@ -126,7 +127,8 @@ module _ (c : Contents) (map : IsMap (length c.store.states) (found_in c.store.s
     globals = h.globals;
     store = record {
       pages = h.store.pages ∙ sym x.pages;
-      shows = subst (λ ws. Shows (kept_in t'.states t'.pending y.marking.marks) ws (without s x.bases).objects s.births) (sym x.words)
+      shows = shows_kept (kept_in t'.states t'.pending y.marking.marks) c.store.words t'.words (without s x.bases).objects s.births
+          (λ f there. (map.placed f.base f (x.without.left f.base f there).0).above) x.words
           (shows_without (length c.store.states) (found_in c.store.states) (kept_in t'.states t'.pending y.marking.marks) c.store.words s.objects s.births x.bases all_shown x.without);
     };
   }

@@ -1,6 +1,6 @@
 -- The calls of the collector, over the core as a whole.
-use Rattle.std.proofs.Common.{◌≡◌, ℕ, ◌+◌, ◌%◌, true, false, List, [], length, Contains, refl, sym, ◌∙◌, arith}
-use Rattle.std.specs.Prelude.{◌↔◌, Some}
+use Rattle.std.proofs.Common.{◌≡◌, ℕ, ◌+◌, ◌≤◌, ◌%◌, true, false, List, [], length, Contains, refl, sym, ◌∙◌, arith}
+use Rattle.std.specs.Prelude.{count_by, ◌↔◌, Some}
 use Rattle.block_map.specs.declared.found.Found.{Found}
 use Rattle.block_map.specs.FoundIn.{found_in}
 use Rattle.block_map.specs.Objects.{IsMap}
@@ -18,7 +18,7 @@ use Rattle.object_space.specs.Kept.{restrict, is_kept, IsPendingAfter}
 use Rattle.object_space.proofs.Kept.{kept_same, nothing_pending}
 use Rattle.object_space.proofs.Allocations.{shows_same}
 use Rattle.heap_core.proofs.Calls.{swept_stands}
-use Rattle.heap_core.specs.Collections.{BeginsCycle, MarksOn, ClosesMarks, EndsCycle, CollectsAll}
+use Rattle.heap_core.specs.Collections.{BeginsCycle, MarksOn, ClosesMarks, EndsCycle, CollectsAll, SweepsOne}
 use Rattle.heap_core.proofs.Collecting.{grows_within, all_marked, ends, collects}
 
 none_in : (w : ℕ) → Contains [] w → ⊥
@@ -45,6 +45,16 @@ begins c t m sweeps swept fresh = record {
   count = refl;
   fresh = fresh;
   swept = swept;
+}
+
+pub sweeps_one : (c : Contents) (t : Store) (n : ℕ) → Sweeps c.store c.cycle.marking.marks t → n ≤ 1 → count_by (λ b. b) t.pending + n ≡ count_by (λ b. b) c.store.pending → (n ≡ 0 → IsSwept c.store)
+    → SweepsOne c n (record { roots = c.roots; store = t; cycle = c.cycle })
+sweeps_one c t n sweeps few fewer none = record {
+  stands = λ s h. swept_stands c.roots c.store t c.cycle sweeps s h;
+  cycle = refl;
+  few = few;
+  fewer = fewer;
+  none = none;
 }
 
 pub marks_on : (c : Contents) (roots : List ℕ) (m : Marking) → IsMap (length c.store.states) (found_in c.store.states) → IsSwept c.store → ((w : ℕ) → Contains roots w → Contains (root_words_of c.roots) w)

@@ -14,6 +14,7 @@ use Rattle.block_map.specs.FoundIn.{found_in}
 use Rattle.block_map.specs.Objects.{IsMap, Reads}
 use Rattle.block_map.specs.Walks.{IsNextObject}
 use Rattle.marker.specs.Marking.{Marking, IsMarked}
+use Rattle.marker.specs.Mutations.{KeepsWords}
 use Rattle.object_space.specs.Store.{Store, IsSwept, IsPendingRow}
 use Rattle.object_space.specs.Kept.{kept_in}
 use Rattle.object_space.specs.Sweeps.{unswept, gone, Drops, no_object, marked_object, dropped, HasDropped, ForgetsLazily}
@@ -27,7 +28,7 @@ none_some f e = cc
 -- nothing was looked at
 pub dropped_none : (old : Store) (m : Marking) → IsMap (length old.states) (found_in old.states) → IsSwept old → HasDropped old m FIRST_ADDRESS 0 old
 dropped_none old m map swept = record {
-  words = refl;
+  words = λ f i there lt. refl;
   pages = refl;
   low = omega arith;
   few = omega arith;
@@ -99,7 +100,7 @@ module _ (old : Store) (m : Marking) (address n : ℕ) (mid : Store) (before : I
 
   -- and is one of them now
   module _ (f : Found) (is : IsNextObject (found_in mid.states) address (page_start (page_of address + 1)) f) (next k : ℕ) (at : next ≡ f.base + 8 * f.len) (no_mark : IsMarked m f.base → ⊥) (one : k ≡ 1) (new : Store)
-      (words : new.words ≡ mid.words) (pages : length new.states ≡ length mid.states)
+      (words : KeepsWords (found_in new.states) mid.words new.words) (pages : length new.states ≡ length mid.states)
       (less : (w : ℕ) (g : Found) → found_in new.states w ≡ Some g → found_in mid.states w ≡ Some g)
       (rest : (w : ℕ) (g : Found) → found_in mid.states w ≡ Some g → (Reads w f → ⊥) → found_in new.states w ≡ Some g)
       (pending : (w : ℕ) (g : Found) → found_in new.states w ≡ Some g → Has mid.pending g.page ⊎ Reads w f → Has new.pending g.page)
@@ -109,7 +110,7 @@ module _ (old : Store) (m : Marking) (address n : ℕ) (mid : Store) (before : I
 
     pub one_more : HasDropped old m next (n + k) new
     one_more = record {
-      words = words ∙ h.words;
+      words = λ g i now lt. words g i now lt ∙ h.words g i (less g.base g now) lt;
       pages = pages ∙ h.pages;
       low = let low = h.low in let past = ends_past f (page_start (page_of address + 1)) is in omega arith;
       few = let few = h.few in let past = ends_past f (page_start (page_of address + 1)) is in omega arith;
@@ -145,7 +146,7 @@ module _ (old : Store) (m : Marking) (address n : ℕ) (mid : Store) (before : I
       (same_more next k zero (let past = ends_past f (page_start (page_of address + 1)) is in omega arith)
       (λ w g there ge lt. subst (λ (x : Found). IsMarked m x.base) (sym (that_one f (page_start (page_of address + 1)) is w g there ge (omega arith))) is_marked))
   dropped_more next k new (dropped f is at no_mark one (unswept is_cut same inside)) = subst (HasDropped old m next (n + k)) (sym same)
-      (one_more f is next k at no_mark one (record mid { pending = set mid.pending f.page true }) refl refl (λ w g there. there) (λ w g there not. there)
+      (one_more f is next k at no_mark one (record mid { pending = set mid.pending f.page true }) (λ g i now lt. refl) refl (λ w g there. there) (λ w g there not. there)
       (λ w g there x. ⊎_elim
       (λ (e : g.page ≡ f.page). ap (λ p. get_or (set mid.pending f.page true) p false) e ∙ get_or-set_same mid.pending f.page true false inside)
       (λ ne. ⊎_elim (λ was. get_or-set_other mid.pending f.page g.page true false ne ∙ was) (λ r. absurd (ne (ap (λ (y : Found). y.page) (same_Some g f (sym there ∙ map.whole is.at w f is.reads r))))) x)

@@ -15,7 +15,7 @@ use Rattle.object_space.proofs.Kept.{kept_cases, kept_is, nothing_pending}
 pub forgets_lazily : (old : Store) (roots : List ℕ) (m m' : Marking) (n : ℕ) (new : Store) → ForgetsLazily old m'.marks n new
     → ((f : Found) → found_in old.states f.base ≡ Some f → IsMarked m' f.base ↔ Closure (found_in old.states) old.words roots (IsMarked m) f) → ForgetsUnreached old roots m n m'.marks new
 forgets_lazily old roots m m' n new x closes = record {
-  words = x.words;
+  words = λ f i there lt. x.words f i (kept_cases (is_kept new.pending m'.marks) (found_in new.states) f.base f there).0 lt;
   pages = x.pages;
   bases = x.bases;
   number = x.number;
@@ -30,7 +30,7 @@ forgets_lazily old roots m m' n new x closes = record {
 pub forgets_unreached : (old : Store) (roots : List ℕ) (m m' : Marking) (n : ℕ) (new : Store) → IsSwept new → ForgetsUnmarked old m' n new
     → ((f : Found) → found_in old.states f.base ≡ Some f → IsMarked m' f.base ↔ Closure (found_in old.states) old.words roots (IsMarked m) f) → ForgetsUnreached old roots m n m'.marks new
 forgets_unreached old roots m m' n new swept x closes = record {
-  words = x.words;
+  words = λ f i there lt. x.words f i (kept_cases (is_kept new.pending m'.marks) (found_in new.states) f.base f there).0 lt;
   pages = x.pages;
   bases = x.bases;
   number = x.number;

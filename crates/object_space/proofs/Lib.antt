@@ -2,6 +2,7 @@ pub mod Tables
 pub mod AvailableRows
 pub mod Kept
 pub mod Shown
+pub mod Words
 pub mod Changes
 pub mod Placing
 pub mod Rooms

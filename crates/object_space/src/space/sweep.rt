@@ -100,7 +100,8 @@ impl ObjectSpace {
         requires pages { length marker.now.dirty ≡ length self.old.states }
         requires inside { page < length self.old.states }
         requires was { Has self.old.pending page }
-        ensures { SweepsPage self.old marker.now.marks page self.new }
+        ensures sweeps { SweepsPage self.old marker.now.marks page self.new }
+        ensures lawful { IsLawful self.old.states }
     {
         // Its clauses tell what is true of the map, and that the page is cut.
         let _end = self.end();
@@ -138,6 +139,8 @@ impl ObjectSpace {
         ensures sweeps { Sweeps self.old marker.now.marks self.new }
         ensures swept { IsSwept self.new }
     {
+        // Its clauses tell what is true of the map.
+        let _end = self.end();
         while self.sweep(marker) {}
     }
 }
