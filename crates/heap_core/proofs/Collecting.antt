@@ -86,6 +86,14 @@ module _ (c : Contents) (map : IsMap (length c.store.states) (found_in c.store.s
       let outer = closure_more (found_in c.store.states) c.store.words roots (root_words_of c.roots) (IsMarked c.cycle.marking) (IsMarked c.cycle.marking) among (λ g e k. Closure.held e k) inner in
       subst (heap.Closure s (IsMarkedBirth s c.cycle.marking)) f.2 ((closures f.0 there).0 outer)
 
+  -- marks that are the marker's closure hold the heap's
+  pub all_marked : (m : Marking) → ((f : Found) → found_in c.store.states f.base ≡ Some f → IsMarked m f.base ↔ Closure (found_in c.store.states) c.store.words (root_words_of c.roots) (IsMarked c.cycle.marking) f)
+      → (base : ℕ) (o : Object) → HasObject s base o → heap.Closure s (IsMarkedBirth s c.cycle.marking) base → IsMarked m base
+  all_marked m closed base o has inside =
+      let f = found_at base o has in
+      let there = ap (found_in c.store.states) f.2 ∙ f.1 in
+      subst (IsMarked m) f.2 ((closed f.0 there).1 ((closures f.0 there).1 (subst (heap.Closure s (IsMarkedBirth s c.cycle.marking)) (sym f.2) inside)))
+
   -- what is forgotten was an object, outside of the closure
   forgotten : (t' : Store) (n : ℕ) (marks : List Bool) (x : ForgetsUnreached c.store (root_words_of c.roots) c.cycle.marking n marks t') (base : ℕ) → Contains x.bases base
       → (o : Object) × HasObject s base o × (heap.Closure s (IsMarkedBirth s c.cycle.marking) base → ⊥)
