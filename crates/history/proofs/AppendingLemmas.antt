@@ -9,7 +9,7 @@ use Rattle.history.specs.declared.object.TheConstants.{COLLECTOR}
 use Rattle.history.specs.declared.object.Rank.{Rank}
 use Rattle.history.specs.declared.event.Event.{Event}
 use Rattle.history.specs.declared.view.View.{View}
-use Rattle.history.specs.Histories.{count, is_first, is_last, is_live}
+use Rattle.history.specs.Histories.{is_first, is_last, is_live}
 use Rattle.history.specs.Passes.{Owned}
 use Rattle.history.specs.Plays.{MayAppend, acted, Acted, began, Began, ended, Ended}
 use Rattle.history.specs.Rules.{tally, keeping, holding, Fits, Standing, Kept}
@@ -18,25 +18,14 @@ use Rattle.history.proofs.Fitting.{off, has_one, has_none, alone, sole, owned_wh
 use Rattle.history.proofs.Tallies.{tally_set, tally_one, tally_none}
 use Rattle.history.proofs.Snocs.{count_snoc, own_first, own_more, live_here}
 
--- what the step makes of the word adds so much to it
-abbrev pub Adds : ℕ → (ℕ → ℕ) → Type 0
-Adds k word = (n : ℕ) → word (n % 2 ^ 64) ≡ (n + k) % 2 ^ 64
-
--- a load adds nothing, and a `fetch_add` what it is told
-pub loads : (k : ℕ) → k ≡ 0 → Adds k (λ n. n)
-loads k none n = omega (arith, none)
-
-pub fetches : (k : ℕ) → Adds k (λ n. (n + k) % 2 ^ 64)
-fetches k n = omega arith
-
 module _ {C R : Type 0} (rank : C → Rank) (legal : List (Event C R) → Type 0) where
   -- the keeper appends an event of a slot of which no other seat has a pass
-  appends : (word : ℕ → ℕ) (ws : List ℕ) (views : List (View C R)) (id : ℕ) (v w : View C R) (said : List (Event C R)) (e : Event C R) (k : ℕ) → Adds k word → Standing rank legal ws views v.log → get_elem? views id ≡ some v → MayAppend rank legal said k v e → Fits rank (v.log ++ e ∷ []) w → keeping w ≡ keeping v
+  appends : (ws : List ℕ) (views : List (View C R)) (id : ℕ) (v w : View C R) (said : List (Event C R)) (e : Event C R) (k : ℕ) → Standing rank legal ws views v.log → get_elem? views id ≡ some v → MayAppend rank legal said k v e → Fits rank (v.log ++ e ∷ []) w → keeping w ≡ keeping v
       → ((j : ℕ) (u : View C R) → j ≢ id → get_elem? views j ≡ some u → 1 ≤ holding e.who u → ⊥)
       → ((who : ℕ) → tally (holding who) (set views id w) ≤ 1)
-      → Standing rank legal (set ws 0 (word (slice_index ws 0))) (set views id w) (v.log ++ e ∷ [])
-  appends word ws views id v w said e k adds st at may fw same apart hs = record {
-    words_are = ap (λ (x : List ℕ). set x 0 (word (slice_index x 0))) st.words_are ∙ ap (λ (n : ℕ). n ∷ []) (adds (count rank v.log) ∙ ap (λ (n : ℕ). n % 2 ^ 64) (omega (arith, count_snoc rank v.log e, may.add_is)));
+      → Standing rank legal (set ws 0 ((slice_index ws 0 + k) % 2 ^ 64)) (set views id w) (v.log ++ e ∷ [])
+  appends ws views id v w said e k st at may fw same apart hs = record {
+    words_are = ap (λ (x : List ℕ). set x 0 ((slice_index x 0 + k) % 2 ^ 64)) st.words_are ∙ ap (λ (n : ℕ). n ∷ []) (omega (arith, count_snoc rank v.log e, may.add_is));
     is_legal = may.is_legal;
     fits = fits_set rank (v.log ++ e ∷ []) views id w (λ j u ne there. fits_longer rank v.log e u (st.fits j u there) (alone views id j v u st.keepers at may.keeps_it ne there) (apart j u ne there)) fw;
     keepers = omega (arith, st.keepers, tally_set keeping views id v w at, same);
@@ -56,12 +45,12 @@ module _ {C R : Type 0} (rank : C → Rank) (legal : List (Event C R) → Type 0
   guest_alone : (views : List (View C R)) (id : ℕ) (v : View C R) (who : ℕ) → tally (holding who) views ≤ 1 → get_elem? views id ≡ some v → v.hosts ≡ true → v.guest.slot ≡ who → v.holds ≡ true → who ≢ v.pass.slot
   guest_alone views id v who one at hv sv t same = omega (arith, one, tally_one (holding who) views id v at, has_one who v.hosts v.guest hv sv, has_one who v.holds v.pass t (sym same))
 
-  acts_at : (word : ℕ → ℕ) (ws : List ℕ) (views : List (View C R)) (id : ℕ) (v : View C R) (said : List (Event C R)) (e : Event C R) (k : ℕ) → Adds k word → Standing rank legal ws views v.log → get_elem? views id ≡ some v
+  acts_at : (ws : List ℕ) (views : List (View C R)) (id : ℕ) (v : View C R) (said : List (Event C R)) (e : Event C R) (k : ℕ) → Standing rank legal ws views v.log → get_elem? views id ≡ some v
       → MayAppend rank legal said k v e → v.hosts ≡ true → v.guest.slot ≡ e.who → is_first (rank e.call) ≡ false → is_last (rank e.call) ≡ false
-      → Standing rank legal (set ws 0 (word (slice_index ws 0))) (set views id (acted (e ∷ []) v)) (v.log ++ e ∷ [])
-  acts_at word ws views id v said e k adds st at may hv sv nf nl =
+      → Standing rank legal (set ws 0 ((slice_index ws 0 + k) % 2 ^ 64)) (set views id (acted (e ∷ []) v)) (v.log ++ e ∷ [])
+  acts_at ws views id v said e k st at may hv sv nf nl =
       let f = st.fits id v at in
-      appends word ws views id v (acted (e ∷ []) v) said e k adds st at may
+      appends ws views id v (acted (e ∷ []) v) said e k st at may
       (record {
         keeper = λ _. refl;
         pass = λ t. follows_longer rank v.log e v.pass (f.pass t) (guest_alone views id v e.who (st.holders e.who) at hv sv t);
@@ -72,25 +61,25 @@ module _ {C R : Type 0} (rank : C → Rank) (legal : List (Event C R) → Type 0
       (λ who. omega (arith, st.holders who, tally_set (holding who) views id v (acted (e ∷ []) v) at))
 
   -- an event of the keeper's guest
-  pub kept_acts : (word : ℕ → ℕ) (slots id : ℕ) (me : Me Unit (View C R)) (said : List (Event C R)) (e : Event C R) (k : ℕ) → Adds k word
+  pub kept_acts : (slots id : ℕ) (me : Me Unit (View C R)) (said : List (Event C R)) (e : Event C R) (k : ℕ)
       → MayAppend rank legal said k me.0 e → me.0.hosts ≡ true → me.0.guest.slot ≡ e.who → is_first (rank e.call) ≡ false → is_last (rank e.call) ≡ false
-      → Allows (λ (s : State Unit (View C R)). Kept rank legal s.words s.views) slots id me 0 word (λ n w. Acted rank (e ∷ []) me w)
-  kept_acts word slots id me said e k adds may hv sv nf nl s kept len at lt =
+      → Allows (λ (s : State Unit (View C R)). Kept rank legal s.words s.views) slots id me 0 (λ n. (n + k) % 2 ^ 64) (λ n w. Acted rank (e ∷ []) me w)
+  kept_acts slots id me said e k may hv sv nf nl s kept len at lt =
       let st = at_keeper rank legal s.words s.views id me.0 kept at may.keeps_it in
       let p = (st.fits id me.0 at).guest hv in (
         acted (e ∷ []) me.0,
         keeps,
         tt,
-        (me.0.log ++ e ∷ [], acts_at word s.words s.views id me.0 said e k adds st at may hv sv nf nl),
+        (me.0.log ++ e ∷ [], acts_at s.words s.views id me.0 said e k st at may hv sv nf nl),
         record { before = p.grows; owned = owned_more me.0.guest.slot me.0.log me.0.guest.mine e sv nf nl (owned_whole rank me.0.log me.0.guest p); view_is = refl },
       )
 
-  ends_at : (word : ℕ → ℕ) (ws : List ℕ) (views : List (View C R)) (id : ℕ) (v : View C R) (said : List (Event C R)) (e : Event C R) (k : ℕ) → Adds k word → Standing rank legal ws views v.log → get_elem? views id ≡ some v
+  ends_at : (ws : List ℕ) (views : List (View C R)) (id : ℕ) (v : View C R) (said : List (Event C R)) (e : Event C R) (k : ℕ) → Standing rank legal ws views v.log → get_elem? views id ≡ some v
       → MayAppend rank legal said k v e → v.hosts ≡ true → v.guest.slot ≡ e.who
-      → Standing rank legal (set ws 0 (word (slice_index ws 0))) (set views id (ended (e ∷ []) v)) (v.log ++ e ∷ [])
-  ends_at word ws views id v said e k adds st at may hv sv =
+      → Standing rank legal (set ws 0 ((slice_index ws 0 + k) % 2 ^ 64)) (set views id (ended (e ∷ []) v)) (v.log ++ e ∷ [])
+  ends_at ws views id v said e k st at may hv sv =
       let f = st.fits id v at in
-      appends word ws views id v (ended (e ∷ []) v) said e k adds st at may
+      appends ws views id v (ended (e ∷ []) v) said e k st at may
       (record {
         keeper = λ _. refl;
         pass = λ t. follows_longer rank v.log e v.pass (f.pass t) (guest_alone views id v e.who (st.holders e.who) at hv sv t);
@@ -101,16 +90,16 @@ module _ {C R : Type 0} (rank : C → Rank) (legal : List (Event C R) → Type 0
       (λ who. omega (arith, st.holders who, tally_set (holding who) views id v (ended (e ∷ []) v) at))
 
   -- the last event of the keeper's guest
-  pub kept_ends : (word : ℕ → ℕ) (slots id : ℕ) (me : Me Unit (View C R)) (said : List (Event C R)) (e : Event C R) (k : ℕ) → Adds k word
+  pub kept_ends : (slots id : ℕ) (me : Me Unit (View C R)) (said : List (Event C R)) (e : Event C R) (k : ℕ)
       → MayAppend rank legal said k me.0 e → me.0.hosts ≡ true → me.0.guest.slot ≡ e.who
-      → Allows (λ (s : State Unit (View C R)). Kept rank legal s.words s.views) slots id me 0 word (λ n w. Ended rank (e ∷ []) me w)
-  kept_ends word slots id me said e k adds may hv sv s kept len at lt =
+      → Allows (λ (s : State Unit (View C R)). Kept rank legal s.words s.views) slots id me 0 (λ n. (n + k) % 2 ^ 64) (λ n w. Ended rank (e ∷ []) me w)
+  kept_ends slots id me said e k may hv sv s kept len at lt =
       let st = at_keeper rank legal s.words s.views id me.0 kept at may.keeps_it in
       let p = (st.fits id me.0 at).guest hv in (
         ended (e ∷ []) me.0,
         keeps,
         tt,
-        (me.0.log ++ e ∷ [], ends_at word s.words s.views id me.0 said e k adds st at may hv sv),
+        (me.0.log ++ e ∷ [], ends_at s.words s.views id me.0 said e k st at may hv sv),
         record { before = p.grows; owned = owned_whole rank me.0.log me.0.guest p; view_is = refl },
       )
 
@@ -136,13 +125,13 @@ module _ {C R : Type 0} (rank : C → Rank) (legal : List (Event C R) → Type 0
       let w = began (e ∷ []) v in
       omega (arith, one, tally_set (holding other) views id v w at, has_none other w.hosts w.guest (λ _. n))
 
-  begins_at : (word : ℕ → ℕ) (ws : List ℕ) (views : List (View C R)) (id : ℕ) (v : View C R) (said : List (Event C R)) (e : Event C R) (k : ℕ) → Adds k word → Standing rank legal ws views v.log → get_elem? views id ≡ some v
+  begins_at : (ws : List ℕ) (views : List (View C R)) (id : ℕ) (v : View C R) (said : List (Event C R)) (e : Event C R) (k : ℕ) → Standing rank legal ws views v.log → get_elem? views id ≡ some v
       → MayAppend rank legal said k v e → is_first (rank e.call) ≡ true → is_last (rank e.call) ≡ false → is_live rank e.who v.log ≡ false
-      → Standing rank legal (set ws 0 (word (slice_index ws 0))) (set views id (began (e ∷ []) v)) (v.log ++ e ∷ [])
-  begins_at word ws views id v said e k adds st at may yf nl closed =
+      → Standing rank legal (set ws 0 ((slice_index ws 0 + k) % 2 ^ 64)) (set views id (began (e ∷ []) v)) (v.log ++ e ∷ [])
+  begins_at ws views id v said e k st at may yf nl closed =
       let free = nobody_has views v.log e.who closed st.fits in
       let f = st.fits id v at in
-      appends word ws views id v (began (e ∷ []) v) said e k adds st at may
+      appends ws views id v (began (e ∷ []) v) said e k st at may
       (record {
         keeper = λ _. refl;
         pass = λ t. follows_longer rank v.log e v.pass (f.pass t) (λ same. omega (arith, free id v at, has_one e.who v.holds v.pass t (sym same)));
@@ -153,15 +142,15 @@ module _ {C R : Type 0} (rank : C → Rank) (legal : List (Event C R) → Type 0
       (λ who. new_holder views id v e who at free (st.holders who) (ℕ_discrete e.who who))
 
   -- the first event of a slot that isn't live
-  pub kept_begins : (word : ℕ → ℕ) (slots id : ℕ) (me : Me Unit (View C R)) (said : List (Event C R)) (e : Event C R) (k : ℕ) → Adds k word
+  pub kept_begins : (slots id : ℕ) (me : Me Unit (View C R)) (said : List (Event C R)) (e : Event C R) (k : ℕ)
       → MayAppend rank legal said k me.0 e → is_first (rank e.call) ≡ true → is_last (rank e.call) ≡ false → is_live rank e.who me.0.log ≡ false
-      → Allows (λ (s : State Unit (View C R)). Kept rank legal s.words s.views) slots id me 0 word (λ n w. Began rank (e ∷ []) me w)
-  kept_begins word slots id me said e k adds may yf nl closed s kept len at lt =
+      → Allows (λ (s : State Unit (View C R)). Kept rank legal s.words s.views) slots id me 0 (λ n. (n + k) % 2 ^ 64) (λ n w. Began rank (e ∷ []) me w)
+  kept_begins slots id me said e k may yf nl closed s kept len at lt =
       let st = at_keeper rank legal s.words s.views id me.0 kept at may.keeps_it in (
         began (e ∷ []) me.0,
         keeps,
         tt,
-        (me.0.log ++ e ∷ [], begins_at word s.words s.views id me.0 said e k adds st at may yf nl closed),
+        (me.0.log ++ e ∷ [], begins_at s.words s.views id me.0 said e k st at may yf nl closed),
         record { owned = owned_first me.0.log e yf nl; view_is = refl },
       )
 

@@ -1,6 +1,5 @@
-//! The three steps that make the history longer. Each is one step of the keeper's seat, since only its view has the history to append to:
-//! a `fetch_add` for an event that the word counts, and for any other a load, which costs no locked instruction. The event joins the
-//! history and its slot's pass, which is the keeper's guest, in that one moment.
+//! The three steps that make the history longer. Each is one `fetch_add` by the keeper's seat: only its view has the history to
+//! append to. The event joins the history and its slot's pass, which is the keeper's guest, in that one moment.
 ghost use Rattle.std.specs.Prelude.{◌≡◌, [], ◌∷◌, true, false};
 ghost use Rattle.history.specs.Histories.{event, weight, is_first, is_last, is_live, Legal};
 ghost use Rattle.history.specs.Plays.{Acted, Began, Ended, MayAppend};
@@ -82,23 +81,20 @@ impl<O: Object, J: Naming> Log<O, J> {
         ensures acted { Acted O.rank_of (event who call.now reply.now ∷ []) keeper.old.me keeper.new.me }
     {
         // The guest sees the whole history with the event, and has it as its own: two steps would leave one without the other.
-        if add == 0 {
-            self.table.shared.load::<Acts<O, E>>(keeper, 0);
-        } else {
-            self.table.shared.fetch_add::<Acts<O, E>>(keeper, 0, add);
-        }
+        self.table.shared.fetch_add::<Acts<O, E>>(keeper, 0, add);
     }
 
     // A slot that has no pass makes its first call, and its new pass becomes the keeper's guest.
     pub(crate) fn begin<E: Said<O::Call, O::Reply>>(
         &self,
         keeper: &mut Seat<(), View<O::Call, O::Reply>>,
+        add: u64,
         who: u8,
         call: &O::Call,
         reply: &O::Reply,
     )
         requires here { keeper.old.table_id ≡ J.table }
-        requires may { MayAppend O.rank_of (Legal (O.opens J.origin) O.step) E.said 0 keeper.old.me.0
+        requires may { MayAppend O.rank_of (Legal (O.opens J.origin) O.step) E.said add keeper.old.me.0
             (event who call.now reply.now) }
         requires free { is_live O.rank_of who keeper.old.me.0.log ≡ false }
         requires rank { (is_first (O.rank_of call.now) ≡ true) × (is_last (O.rank_of call.now) ≡ false) }
@@ -106,19 +102,20 @@ impl<O: Object, J: Naming> Log<O, J> {
         ensures began { Began O.rank_of (event who call.now reply.now ∷ []) keeper.old.me keeper.new.me }
     {
         // No seat has a pass of the slot, since its last event, if any, was its last, and every pass would say otherwise.
-        self.table.shared.load::<Begins<O, E>>(keeper, 0);
+        self.table.shared.fetch_add::<Begins<O, E>>(keeper, 0, add);
     }
 
     // The keeper's guest makes its last call.
     pub(crate) fn end<E: Said<O::Call, O::Reply>>(
         &self,
         keeper: &mut Seat<(), View<O::Call, O::Reply>>,
+        add: u64,
         who: u8,
         call: &O::Call,
         reply: &O::Reply,
     )
         requires here { keeper.old.table_id ≡ J.table }
-        requires may { MayAppend O.rank_of (Legal (O.opens J.origin) O.step) E.said 0 keeper.old.me.0
+        requires may { MayAppend O.rank_of (Legal (O.opens J.origin) O.step) E.said add keeper.old.me.0
             (event who call.now reply.now) }
         requires guest { (keeper.old.me.0.hosts ≡ true) × (keeper.old.me.0.guest.slot ≡ who) }
         requires rank { is_last (O.rank_of call.now) ≡ true }
@@ -126,6 +123,6 @@ impl<O: Object, J: Naming> Log<O, J> {
         ensures ended { Ended O.rank_of (event who call.now reply.now ∷ []) keeper.old.me keeper.new.me }
     {
         // The guest is spent in the step that appends its last event, so that no pass is left that doesn't have it.
-        self.table.shared.load::<Ends<O, E>>(keeper, 0);
+        self.table.shared.fetch_add::<Ends<O, E>>(keeper, 0, add);
     }
 }

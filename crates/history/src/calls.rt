@@ -37,8 +37,9 @@ impl<O: Object, J: Naming> Log<O, J> {
         } }
         ensures agrees { Agrees O.rank_of (O.opens J.origin) O.step result.0 }
     {
+        let add = weight_of(&O::rank(call));
         let reply = logged.object.act(who, call);
-        self.begin::<Brand>(&mut logged.keeper, who, call, &reply);
+        self.begin::<Brand>(&mut logged.keeper, add, who, call, &reply);
         let seat = self.table.shared.split_seat::<Returns>(&mut logged.keeper);
         let pass = Pass {
             slot: who,
@@ -81,6 +82,7 @@ impl<O: Object, J: Naming> Log<O, J> {
         ensures owned { Owned O.rank_of pass.slot logged.old.history pass.mine }
         ensures legal { Legal (O.opens J.origin) O.step logged.new.history }
     {
+        let add = weight_of(&O::rank(call));
         let Pass {
             slot: who,
             mut seat,
@@ -88,7 +90,7 @@ impl<O: Object, J: Naming> Log<O, J> {
         } = pass;
         let reply = logged.object.act(who, call);
         self.lend(&mut seat, &mut logged.keeper);
-        self.end::<Brand>(&mut logged.keeper, who, call, &reply);
+        self.end::<Brand>(&mut logged.keeper, add, who, call, &reply);
         reply
     }
 }
