@@ -6,10 +6,13 @@
 //! marked objects once.
 #![tactic(auto)]
 
+mod crew;
 mod gate;
+mod helper;
 mod helpers;
 mod parallel;
 mod pause;
+mod share;
 
 pub use gate::{COLLECTOR, FIRST_HELPER, Gate, Open};
 pub use helpers::Helpers;

@@ -1,0 +1,150 @@
+//! The share of one helper: root words and entries by their places, and what they lead to.
+ghost use Rattle.std.specs.Prelude.{◌≡◌, ℕ, ◌+◌, ◌*◌, ◌%◌, ◌<◌, ◌≤◌, [], Some, length, slice_index};
+ghost use Rattle.mark_bits.specs.Tables.{view};
+ghost use Rattle.final_pause.specs.Helping.{Fits, Visits, ReadsWords, IsTargetKnown, found};
+ghost use Rattle.final_pause.specs.Serving.{IsServing, Serves, IsEntryRead, HasServed, AreRootsRead, AreEntriesRead, IsCurrentRead};
+
+use crate::gate::Gate;
+use crate::helper::{Helper, claim, keep};
+use block_map::{BlockMap, Found};
+use mark_bits::{MarkTable, granule_of};
+use marker::{Entry, Marker};
+use pages::Memory;
+use words::limits::WORD_BYTES;
+
+/// What the helpers of a pause share. No helper changes any of it but the table, by claims.
+#[derive(Clone, Copy)]
+pub(crate) struct Pause<'a> {
+    pub(crate) table: &'a MarkTable,
+    pub(crate) marker: &'a Marker,
+    pub(crate) map: &'a BlockMap,
+    pub(crate) memory: &'a Memory,
+    pub(crate) roots: &'a [u64],
+    pub(crate) helpers: usize,
+}
+
+impl<'a> Pause<'a> {
+    // Marks the object that a word points into. Where this helper is the first to, the object is its own to read.
+    fn visit<G: Gate>(&self, gate: &G, helper: &mut Helper, word: u64)
+        requires { Fits self.now helper.old }
+        ensures { Visits self.now word helper.old helper.new }
+    {
+        let Some(found) = self.map.find(word) else {
+            return;
+        };
+        let granule = granule_of(found.base);
+        // A look is cheaper than a claim, and most words point into marked objects.
+        if self.table.is_set(&mut helper.claimer, granule) {
+            return;
+        }
+        if claim(self.table, gate, helper, granule) {
+            keep(helper, found);
+        }
+    }
+
+    // Marks what words of an object point into: so many, from its word `first` on.
+    fn read_words<G: Gate>(
+        &self,
+        gate: &G,
+        helper: &mut Helper,
+        found: Found,
+        first: u32,
+        count: u64,
+    )
+        requires fits { Fits self.now helper.old }
+        requires object { found self.now found.base ≡ Some found }
+        requires inside { first + count ≤ found.len }
+        ensures { ReadsWords self.now found first count helper.old helper.new }
+    {
+        // Its clauses tell what is true of the map.
+        let _pages = self.map.len();
+        let start = found.base + WORD_BYTES * u64::from(first);
+        for i in 0..count {
+            let word = self.memory.read(start + WORD_BYTES * i);
+            self.visit(gate, helper, word);
+        }
+    }
+
+    // Reads the objects on the helper's stack, and those that come there, until none is left.
+    fn read_stack<G: Gate>(&self, gate: &G, helper: &mut Helper)
+        requires { IsServing self.now helper.old }
+        ensures serves { Serves self.now helper.old helper.new }
+        ensures empty { helper.new.stack.items ≡ [] }
+    {
+        while let Some(base) = helper.stack.pop() {
+            let Some(found) = self.map.find(base) else {
+                unreachable!();
+            };
+            self.read_words(gate, helper, found, 0, u64::from(found.len));
+        }
+    }
+
+    // Marks what the root words of the helper's share point into.
+    fn read_roots<G: Gate>(&self, gate: &G, helper: &mut Helper)
+        requires { IsServing self.now helper.old }
+        ensures serves { Serves self.now helper.old helper.new }
+        ensures roots { AreRootsRead self.now (view helper.new.claimer) helper.old.share (length self.now.roots.now) }
+    {
+        for i in 0..self.roots.len() {
+            if i % self.helpers == helper.share {
+                self.visit(gate, helper, self.roots[i]);
+            }
+        }
+    }
+
+    // Marks what the words that an entry has left point into.
+    fn read_entry<G: Gate>(&self, gate: &G, helper: &mut Helper, entry: Entry)
+        requires { IsServing self.now helper.old }
+        ensures serves { Serves self.now helper.old helper.new }
+        ensures read { IsEntryRead self.now (view helper.new.claimer) entry }
+    {
+        let Some(found) = self.marker.unread(self.map, entry) else {
+            return;
+        };
+        let count = found.len - entry.next;
+        self.read_words(gate, helper, found, entry.next, u64::from(count));
+    }
+
+    // Reads the entry that was being read, which belongs to the first share.
+    fn read_current<G: Gate>(&self, gate: &G, helper: &mut Helper)
+        requires { IsServing self.now helper.old }
+        ensures serves { Serves self.now helper.old helper.new }
+        ensures read { IsCurrentRead self.now (view helper.new.claimer) helper.old.share }
+    {
+        if helper.share != 0 {
+            return;
+        }
+        let Some(entry) = self.marker.current() else {
+            return;
+        };
+        self.read_entry(gate, helper, entry);
+    }
+
+    // Reads the waiting entries of the helper's share, each with what it leads to.
+    fn read_entries<G: Gate>(&self, gate: &G, helper: &mut Helper)
+        requires { IsServing self.now helper.old }
+        ensures serves { Serves self.now helper.old helper.new }
+        ensures read { AreEntriesRead self.now (view helper.new.claimer) helper.old.share (length self.now.marker.now.stack) }
+    {
+        let waiting = self.marker.waiting();
+        for i in 0..waiting.len() {
+            if i % self.helpers == helper.share {
+                self.read_entry(gate, helper, waiting[i]);
+                self.read_stack(gate, helper);
+            }
+        }
+    }
+
+    /// A helper's whole work: the root words of its share before anything else, the entries of its share, and all that
+    /// these lead to.
+    pub(crate) fn help<G: Gate>(&self, gate: &G, helper: &mut Helper)
+        requires { IsServing self.now helper.old }
+        ensures { HasServed self.now helper.old.share helper.new }
+    {
+        self.read_roots(gate, helper);
+        self.read_current(gate, helper);
+        self.read_stack(gate, helper);
+        self.read_entries(gate, helper);
+        self.read_stack(gate, helper);
+    }
+}
