@@ -1,7 +1,8 @@
 -- What helpers know, won and made dirty is put together.
-use Rattle.std.proofs.Common.{◌≡◌, ℕ, ◌+◌, ◌%◌, ◌<◌, ◌≤◌, List, ◌++◌, Bool, true, false, Contains, Option, Some, length, get_or, refl, sym, ap, subst, ◌∙◌, inl, inr, ⊎_elim, arith}
+use Rattle.std.proofs.Common.{◌≡◌, ℕ, ◌+◌, ◌%◌, ◌<◌, ◌≤◌, List, ◌++◌, Bool, true, false, Contains, Option, Some, length, get_or, refl, sym, ap, subst, ◌∙◌, inl, inr, ⊎_elim, mod-lt, arith}
 use Rattle.std.specs.Prelude.{◌⊎◌}
 use Rattle.std.proofs.lemmas.Bool.{cases_eq, true≢false}
+use Rattle.std.proofs.lemmas.List.{get_or_default}
 use Rattle.std.proofs.lemmas.List.Elements.{Contains-append_cases, Contains-append_left, Contains-append_right}
 use Rattle.words.specs.declared.class.Kind.TheVariants.{Normal}
 use Rattle.words.specs.Bits.{Has}
@@ -62,7 +63,7 @@ module _ (p : Pause) where
             (each q d);
         within = λ k c. ⊎_elim (λ a. g.within k a) (λ a. s.serving.within k a) (of_either k c);
         shares = λ n le lt. ⊎_elim
-            (λ (e : n ≡ low). subst (IsShareRead p (view first')) (sym e) (share_more p (view h.claimer) (view first') right low s.share))
+            (λ (e : n ≡ low). subst (IsShareRead p (view first')) (sym e) (share_more p (view h.claimer) (view first') right low s.read))
             (λ ne. share_more p (view first) (view first') left n (g.shares n (omega (arith, le, ne)) lt))
             (cases_eq n low);
       }
@@ -71,7 +72,7 @@ module _ (p : Pause) where
   module _ (map : IsMap (length p.map.now) (found p)) (some : 0 < p.helpers) (start : start_of p.table.now ≡ p.marker.now.marks) (pages : length p.marker.now.dirty ≡ length p.map.now)
       (first : Claimer) (dirty : List Bool) (new : Marking) (g : HasGathered p 0 first dirty) (gathered : Gathers (start_of p.table.now) (view first).won new.marks)
       (known : (k : ℕ) → knows (view first) k ≡ true → Has new.marks k) (row : new.dirty ≡ dirty) where
-    old : Marking
+    abbrev old : Marking
     old = p.marker.now
 
     was : (k : ℕ) → Has old.marks k → Has new.marks k
@@ -93,7 +94,7 @@ module _ (p : Pause) where
         ⊎_elim
         (λ (c : old.current ≡ Some q.entry). (g.shares 0 (omega arith) some).current refl q.entry c f o (sym q.same) n m i q.left lt)
         (λ (c : Contains old.stack q.entry).
-        let read : IsEntryRead p (view first) (get_or old.stack c.0 q.entry) = (g.shares (c.0 % p.helpers) (omega arith) (mod_lt c.0 p.helpers some)).entries c.0 q.entry c.1 refl in
+        let read : IsEntryRead p (view first) (get_or old.stack c.0 q.entry) = (g.shares (c.0 % p.helpers) (omega arith) (mod-lt c.0 some)).entries c.0 q.entry c.1 refl in
         subst (IsEntryRead p (view first)) c.2 read f o (sym q.same) n m i q.left lt)
         q.one
 
@@ -120,5 +121,5 @@ module _ (p : Pause) where
 
     pub gathered_roots : AreRootsMarked (found p) p.roots.now new
     gathered_roots w (i, lt, e) =
-        let k : IsTargetKnown p (view first) (get_or p.roots.now i 0) = (g.shares (i % p.helpers) (omega arith) (mod_lt i p.helpers some)).roots i lt refl in
-        target w (subst (λ (n : ℕ). IsTargetKnown p (view first) n) (get_or-default p.roots.now i 0 w lt ∙ e) k)
+        let k : IsTargetKnown p (view first) (get_or p.roots.now i 0) = (g.shares (i % p.helpers) (omega arith) (mod-lt i some)).roots i lt refl in
+        target w (subst (λ (n : ℕ). IsTargetKnown p (view first) n) (get_or_default p.roots.now i 0 w lt ∙ e) k)

@@ -28,13 +28,9 @@ module _ (p : Pause) where
 
   pub fits_more : (a b : Helper) → Extends p a b → Fits p a → Fits p b
   fits_more a b x f = record {
+    ready = f.ready;
     of = x.of;
-    start = f.start;
-    granules = f.granules;
     dirty = x.dirty_len ∙ f.dirty;
-    pages = f.pages;
-    few = f.few;
-    memory = f.memory;
   }
 
   module _ (map : IsMap (length p.map.now) (found p)) (P : ℕ → Type 0) (reach : (w : ℕ) → P w → (g : Found) → found p w ≡ Some g → IsReached p g) (a b : Helper) (only : ClaimsOnly p P a b) where
@@ -124,7 +120,7 @@ module _ (p : Pause) where
 
     serving_pop : IsServing p b
     serving_pop = record {
-      fits = record { of = x.of; start = s.fits.start; granules = s.fits.granules; dirty = x.dirty_len ∙ (ap length dirty ∙ s.fits.dirty); pages = s.fits.pages; few = s.fits.few; memory = s.fits.memory };
+      fits = record { ready = s.fits.ready; of = x.of; dirty = x.dirty_len ∙ (ap length dirty ∙ s.fits.dirty) };
       one = x.learns.parts ∙ (ap (λ c. (view c).parts) claimer ∙ s.one);
       won = λ g o n c i lt. ⊎_elim
           (λ h. ⊎_elim

@@ -9,6 +9,7 @@ use Rattle.mark_bits.specs.Tables.{view, start_of, IsOf}
 use Rattle.mark_bits.specs.Claims.{knows, LearnsMore}
 use Rattle.pages.specs.Memory.{word_at}
 use Rattle.block_map.specs.declared.found.Found.{Found}
+use Rattle.block_map.specs.Objects.{IsMap}
 use Rattle.block_map.specs.FoundIn.{found_in}
 use Rattle.marker.specs.Marking.{Covers, word_address}
 use Rattle.final_pause.specs.declared.helper.Helper.{Helper}
@@ -26,15 +27,22 @@ word_in p f i = word_at p.memory.now (word_address f i)
 abbrev pub won_of : Helper → List ℕ
 won_of h = (view h.claimer).won
 
--- the helper is one of this pause
-pub record Fits (p : Pause) (h : Helper) : Type 0 where
-  pub of : IsOf p.table.now h.claimer
+-- What is true of each pause while helpers are at work: the table began with the marker's marks, and marks, dirty pages and
+-- memory are those of the map's pages.
+pub record IsReady (p : Pause) : Type 0 where
   pub start : start_of p.table.now ≡ p.marker.now.marks
   pub granules : length (start_of p.table.now) ≡ PAGE_GRANULES * length p.map.now
-  pub dirty : length h.dirty ≡ length p.map.now
   pub pages : length p.marker.now.dirty ≡ length p.map.now
   pub few : length p.map.now ≤ MAX_PAGES
   pub memory : length p.memory.now ≡ PAGE_WORDS * length p.map.now
+  pub some : 0 < p.helpers
+  pub map : IsMap (length p.map.now) (found p)
+
+-- the helper is one of this pause
+pub record Fits (p : Pause) (h : Helper) : Type 0 where
+  pub ready : IsReady p
+  pub of : IsOf p.table.now h.claimer
+  pub dirty : length h.dirty ≡ length p.map.now
 
 -- the object that the word points into, if any, is known to be marked
 abbrev pub IsTargetKnown : Pause → ClaimerView → ℕ → Type 0

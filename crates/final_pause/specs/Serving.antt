@@ -74,7 +74,7 @@ pub record IsShareRead (p : Pause) (v : ClaimerView) (share : ℕ) : Type 0 wher
 pub record HasServed (p : Pause) (share : ℕ) (h : Helper) : Type 0 where
   pub serving : IsServing p h
   pub empty : h.stack.items ≡ []
-  pub share : IsShareRead p (view h.claimer) share
+  pub read : IsShareRead p (view h.claimer) share
 
 -- a helper at work goes on, and keeps its share
 pub record Serves (p : Pause) (old new : Helper) : Type 0 where

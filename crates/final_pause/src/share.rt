@@ -1,7 +1,9 @@
 //! The share of one helper: root words and entries by their places, and what they lead to.
 ghost use Rattle.std.specs.Prelude.{◌≡◌, ℕ, ◌+◌, ◌*◌, ◌%◌, ◌<◌, ◌≤◌, [], Some, length, slice_index};
-ghost use Rattle.mark_bits.specs.Tables.{view};
-ghost use Rattle.final_pause.specs.Helping.{Fits, Visits, ReadsWords, IsTargetKnown, found};
+ghost use Rattle.mark_bits.specs.Tables.{view, start_of};
+ghost use Rattle.words.specs.Layout.{granule};
+ghost use Rattle.block_map.specs.FoundIn.{found_in};
+ghost use Rattle.final_pause.specs.Helping.{IsReady, Fits, Visits, ReadsWords};
 ghost use Rattle.final_pause.specs.Serving.{IsServing, Serves, IsEntryRead, HasServed, AreRootsRead, AreEntriesRead, IsCurrentRead};
 
 use crate::gate::Gate;
@@ -24,6 +26,17 @@ pub(crate) struct Pause<'a> {
 }
 
 impl<'a> Pause<'a> {
+    // The granule at which an object begins.
+    #[inline]
+    fn granule(&self, found: Found) -> usize
+        requires ready { IsReady self.now }
+        requires object { found_in self.now.map.now found.base ≡ Some found }
+        ensures value { result ≡ granule found.base }
+        ensures inside { result < length (start_of self.now.table.now) }
+    {
+        granule_of(found.base)
+    }
+
     // Marks the object that a word points into. Where this helper is the first to, the object is its own to read.
     fn visit<G: Gate>(&self, gate: &G, helper: &mut Helper, word: u64)
         requires { Fits self.now helper.old }
@@ -32,7 +45,7 @@ impl<'a> Pause<'a> {
         let Some(found) = self.map.find(word) else {
             return;
         };
-        let granule = granule_of(found.base);
+        let granule = self.granule(found);
         // A look is cheaper than a claim, and most words point into marked objects.
         if self.table.is_set(&mut helper.claimer, granule) {
             return;
@@ -52,12 +65,10 @@ impl<'a> Pause<'a> {
         count: u64,
     )
         requires fits { Fits self.now helper.old }
-        requires object { found self.now found.base ≡ Some found }
+        requires object { found_in self.now.map.now found.base ≡ Some found }
         requires inside { first + count ≤ found.len }
         ensures { ReadsWords self.now found first count helper.old helper.new }
     {
-        // Its clauses tell what is true of the map.
-        let _pages = self.map.len();
         let start = found.base + WORD_BYTES * u64::from(first);
         for i in 0..count {
             let word = self.memory.read(start + WORD_BYTES * i);
