@@ -21,14 +21,22 @@ use Rattle.marker.specs.Closure.{Closure, held}
 use Rattle.marker.specs.Invariant.{AreRootsMarked, IsTargetMarked}
 use Rattle.marker.specs.Growth.{Traces}
 use Rattle.marker.proofs.Closures.{same_object}
+use Rattle.each_law.specs.Jobs.{HaveRun}
 use Rattle.final_pause.specs.declared.helper.Helper.{Helper}
 use Rattle.final_pause.specs.declared.share.Pause.{Pause}
 use Rattle.final_pause.specs.Helping.{found, word_in, won_of, IsTargetKnown, IsPageOfWon}
 use Rattle.final_pause.specs.Serving.{IsReached, IsReachedAt, IsEntryRead, IsShareRead, HasServed}
-use Rattle.final_pause.specs.Gathering.{HasGathered}
+use Rattle.final_pause.specs.Gathering.{AreNumbered, HasGathered}
 use Rattle.final_pause.proofs.Knowing.{none_in}
 use Rattle.final_pause.proofs.Growing.{target_more}
 use Rattle.final_pause.proofs.Serving.{share_more}
+
+-- each helper was run, and each had the share of its place
+pub served_at : {p : Pause} {old new : List Helper} → HaveRun (λ a b. HasServed p a.share b) old new → AreNumbered old → (i : ℕ) (d : Helper) → i < length new → HasServed p i (get_or new i d)
+served_at {p} {old} {new} run numbered i d lt =
+    let size = run.size in
+    let lt' : i < length old = omega (arith, lt, size) in
+    subst (λ (s : ℕ). HasServed p s (get_or new i d)) (numbered i d lt') (run.each i d d lt')
 
 module _ (p : Pause) where
   -- one more helper is joined
@@ -68,58 +76,58 @@ module _ (p : Pause) where
             (cases_eq n low);
       }
 
-  -- the table's bits are the marks, and the row's pages the dirty ones
-  module _ (map : IsMap (length p.map.now) (found p)) (some : 0 < p.helpers) (start : start_of p.table.now ≡ p.marker.now.marks) (pages : length p.marker.now.dirty ≡ length p.map.now)
-      (first : Claimer) (dirty : List Bool) (new : Marking) (g : HasGathered p 0 first dirty) (gathered : Gathers (start_of p.table.now) (view first).won new.marks)
-      (known : (k : ℕ) → knows (view first) k ≡ true → Has new.marks k) (row : new.dirty ≡ dirty) where
-    abbrev old : Marking
-    old = p.marker.now
+-- the table's bits are the marks, and the row's pages the dirty ones
+module _ {p : Pause} (first : Claimer) (dirty : List Bool) (new : Marking) (g : HasGathered p 0 first dirty)
+    (map : IsMap (length p.map.now) (found p)) (some : 0 < p.helpers) (start : start_of p.table.now ≡ p.marker.now.marks) (pages : length p.marker.now.dirty ≡ length p.map.now) (gathered : Gathers (start_of p.table.now) (view first).won new.marks)
+    (known : (k : ℕ) → knows (view first) k ≡ true → Has new.marks k) (row : new.dirty ≡ dirty) where
+  abbrev old : Marking
+  old = p.marker.now
 
-    was : (k : ℕ) → Has old.marks k → Has new.marks k
-    was k h = gathered-start (start_of p.table.now) (view first).won new.marks gathered k (subst (λ m. Has m k) (sym start) h)
+  was : (k : ℕ) → Has old.marks k → Has new.marks k
+  was k h = gathered-start (start_of p.table.now) (view first).won new.marks gathered k (subst (λ m. Has m k) (sym start) h)
 
-    either : (k : ℕ) → Has new.marks k → Has old.marks k ⊎ Contains (view first).won k
-    either k h = ⊎_elim (λ e. inl (subst (λ m. Has m k) start e)) (λ c. inr c) (gathered-each (start_of p.table.now) (view first).won new.marks gathered k h)
+  either : (k : ℕ) → Has new.marks k → Has old.marks k ⊎ Contains (view first).won k
+  either k h = ⊎_elim (λ e. inl (subst (λ m. Has m k) start e)) (λ c. inr c) (gathered-each (start_of p.table.now) (view first).won new.marks gathered k h)
 
-    is_new : (k : ℕ) → Contains (view first).won k → (Has old.marks k → ⊥) × Has new.marks k
-    is_new k c =
-        let w = gathered-won (start_of p.table.now) (view first).won new.marks gathered k c in
-        ((λ h. true≢false (sym (subst (λ m. Has m k) (sym start) h) ∙ w.1)), w.0)
+  is_new : (k : ℕ) → Contains (view first).won k → (Has old.marks k → ⊥) × Has new.marks k
+  is_new k c =
+      let w = gathered-won (start_of p.table.now) (view first).won new.marks gathered k c in
+      ((λ h. true≢false (sym (subst (λ m. Has m k) (sym start) h) ∙ w.1)), w.0)
 
-    target : (w : ℕ) → IsTargetKnown p (view first) w → IsTargetMarked (found p) new w
-    target w k f e = known (granule f.base) (k f e)
+  target : (w : ℕ) → IsTargetKnown p (view first) w → IsTargetMarked (found p) new w
+  target w k f e = known (granule f.base) (k f e)
 
-    read_pending : (f : Found) → found p f.base ≡ Some f → f.kind ≡ Normal → IsMarked old f.base → (i : ℕ) → i < f.len → IsPending old f.base i → IsTargetKnown p (view first) (word_in p f i)
-    read_pending f o n m i lt q =
-        ⊎_elim
-        (λ (c : old.current ≡ Some q.entry). (g.shares 0 (omega arith) some).current refl q.entry c f o (sym q.same) n m i q.left lt)
-        (λ (c : Contains old.stack q.entry).
-        let read : IsEntryRead p (view first) (get_or old.stack c.0 q.entry) = (g.shares (c.0 % p.helpers) (omega arith) (mod-lt c.0 some)).entries c.0 q.entry c.1 refl in
-        subst (IsEntryRead p (view first)) c.2 read f o (sym q.same) n m i q.left lt)
-        q.one
+  read_pending : (f : Found) → found p f.base ≡ Some f → f.kind ≡ Normal → IsMarked old f.base → (i : ℕ) → i < f.len → IsPending old f.base i → IsTargetKnown p (view first) (word_in p f i)
+  read_pending f o n m i lt q =
+      ⊎_elim
+      (λ (c : old.current ≡ Some q.entry). (g.shares 0 (omega arith) some).current refl q.entry c f o (sym q.same) n m i q.left lt)
+      (λ (c : Contains old.stack q.entry).
+      let read : IsEntryRead p (view first) (get_or old.stack c.0 q.entry) = (g.shares (c.0 % p.helpers) (omega arith) (mod-lt c.0 some)).entries c.0 q.entry c.1 refl in
+      subst (IsEntryRead p (view first)) c.2 read f o (sym q.same) n m i q.left lt)
+      q.one
 
-    pub gathered_traces : Traces (found p) p.memory.now p.roots.now p.marker.now new
-    gathered_traces = record {
-      marks_len = gathered.size ∙ ap length start;
-      dirty_len = ap length row ∙ (g.size ∙ sym pages);
-      marks = λ b h. was (granule b) h;
-      objects = λ k h. ⊎_elim (λ e. inl e) (λ c. let r = g.within k c in inr (record { object = r.object; is = r.is; first = r.first })) (either k h);
-      within = λ f o h. ⊎_elim
-          (λ e. held o e)
-          (λ c. let r = g.within (granule f.base) c in subst (IsReached p) (same_object (length p.map.now) (found p) map r.object f r.is o r.first) r.reached)
-          (either (granule f.base) h);
-      dirtied = λ q h. ⊎_elim (λ d. inl d)
-          (λ (w : (f : Found) × (found p f.base ≡ Some f) × Contains (view first).won (granule f.base) × Covers f q). let n = is_new (granule w.0.base) w.2 in inr (w.0, (w.1, n.0, n.1), w.3))
-          (g.dirtied q (subst (λ d. Has d q) row h));
-      keeps = λ inv f o n h i lt. ⊎_elim
-          (λ e. ⊎_elim (λ k. inl (λ x y. was (granule x.base) (k x y)))
-          (λ a. ⊎_elim (λ d. inr (inl (subst (λ d. Has d (page_of (word_address f i))) (sym row) (g.before _ d)))) (λ q. inl (target _ (read_pending f o n e i lt q))) a)
-          (inv f o n e i lt))
-          (λ c. ⊎_elim (λ k. inl (target _ k)) (λ d. inr (inl (subst (λ d. Has d (page_of (word_address f i))) (sym row) d))) (g.won f o n c i lt))
-          (either (granule f.base) h);
-    }
+  pub gathered_traces : Traces (found p) p.memory.now p.roots.now p.marker.now new
+  gathered_traces = record {
+    marks_len = gathered.size ∙ ap length start;
+    dirty_len = ap length row ∙ (g.size ∙ sym pages);
+    marks = λ b h. was (granule b) h;
+    objects = λ k h. ⊎_elim (λ e. inl e) (λ c. let r = g.within k c in inr (record { object = r.object; is = r.is; first = r.first })) (either k h);
+    within = λ f o h. ⊎_elim
+        (λ e. held o e)
+        (λ c. let r = g.within (granule f.base) c in subst (IsReached p) (same_object (length p.map.now) (found p) map r.object f r.is o r.first) r.reached)
+        (either (granule f.base) h);
+    dirtied = λ q h. ⊎_elim (λ d. inl d)
+        (λ (w : (f : Found) × (found p f.base ≡ Some f) × Contains (view first).won (granule f.base) × Covers f q). let n = is_new (granule w.0.base) w.2 in inr (w.0, (w.1, n.0, n.1), w.3))
+        (g.dirtied q (subst (λ d. Has d q) row h));
+    keeps = λ inv f o n h i lt. ⊎_elim
+        (λ e. ⊎_elim (λ k. inl (λ x y. was (granule x.base) (k x y)))
+        (λ a. ⊎_elim (λ d. inr (inl (subst (λ d. Has d (page_of (word_address f i))) (sym row) (g.before _ d)))) (λ q. inl (target _ (read_pending f o n e i lt q))) a)
+        (inv f o n e i lt))
+        (λ c. ⊎_elim (λ k. inl (target _ k)) (λ d. inr (inl (subst (λ d. Has d (page_of (word_address f i))) (sym row) d))) (g.won f o n c i lt))
+        (either (granule f.base) h);
+  }
 
-    pub gathered_roots : AreRootsMarked (found p) p.roots.now new
-    gathered_roots w (i, lt, e) =
-        let k : IsTargetKnown p (view first) (get_or p.roots.now i 0) = (g.shares (i % p.helpers) (omega arith) (mod-lt i some)).roots i lt refl in
-        target w (subst (λ (n : ℕ). IsTargetKnown p (view first) n) (get_or_default p.roots.now i 0 w lt ∙ e) k)
+  pub gathered_roots : AreRootsMarked (found p) p.roots.now new
+  gathered_roots w (i, lt, e) =
+      let k : IsTargetKnown p (view first) (get_or p.roots.now i 0) = (g.shares (i % p.helpers) (omega arith) (mod-lt i some)).roots i lt refl in
+      target w (subst (λ (n : ℕ). IsTargetKnown p (view first) n) (get_or_default p.roots.now i 0 w lt ∙ e) k)
