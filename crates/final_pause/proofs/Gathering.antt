@@ -6,6 +6,7 @@ use Rattle.std.proofs.lemmas.List.{get_or_default}
 use Rattle.std.proofs.lemmas.List.Elements.{Contains-append_cases, Contains-append_left, Contains-append_right}
 use Rattle.words.specs.declared.class.Kind.TheVariants.{Normal}
 use Rattle.words.specs.Bits.{Has}
+use Rattle.words.proofs.Sets.{has_inside}
 use Rattle.words.specs.Layout.{granule, page_of}
 use Rattle.mark_bits.specs.declared.claimer_view.ClaimerView.{ClaimerView}
 use Rattle.mark_bits.specs.declared.table.Claimer.{Claimer}
@@ -59,15 +60,14 @@ module _ (p : Pause) where
         of = of;
         parts = omega (arith, parts, were);
         size = len ∙ g.size;
-        before = λ q b. old q (g.before q b);
         won = λ f o m c i lt. ⊎_elim
             (λ a. ⊎_elim (λ k. inl (target_more p (view first) (view first') left _ k)) (λ d. inr (old _ d)) (g.won f o m a i lt))
             (λ a. ⊎_elim (λ k. inl (target_more p (view h.claimer) (view first') right _ k))
             (λ w. ⊎_elim (λ d. inr (more _ d)) (λ e. absurd (none_in h.stack.items f.base s.empty e)) w) (s.serving.won f o m a i lt))
             (of_either (granule f.base) c);
         dirtied = λ q d. ⊎_elim
-            (λ a. ⊎_elim (λ b. inl b) (λ (w : (f : Found) × (found p f.base ≡ Some f) × Contains (view first).won (granule f.base) × Covers f q). inr (w.0, w.1, won_left _ w.2, w.3)) (g.dirtied q a))
-            (λ a. let w = s.serving.dirtied q a in inr (w.0, w.1, won_right _ w.2, w.3))
+            (λ a. let w = g.dirtied q a in (w.0, w.1, won_left _ w.2, w.3))
+            (λ a. let w = s.serving.dirtied q a in (w.0, w.1, won_right _ w.2, w.3))
             (each q d);
         within = λ k c. ⊎_elim (λ a. g.within k a) (λ a. s.serving.within k a) (of_either k c);
         shares = λ n le lt. ⊎_elim
@@ -106,6 +106,13 @@ module _ {p : Pause} (first : Claimer) (dirty : List Bool) (new : Marking) (g : 
       subst (IsEntryRead p (view first)) c.2 read f o (sym q.same) n m i q.left lt)
       q.one
 
+  read_dirty : (f : Found) → found p f.base ≡ Some f → f.kind ≡ Normal → IsMarked old f.base → (i : ℕ) → i < f.len → Has old.dirty (page_of (word_address f i)) → IsTargetKnown p (view first) (word_in p f i)
+  read_dirty f o n m i lt d =
+      let page : ℕ = page_of (word_address f i) in
+      let inside : page < length p.map.now = (let l = has_inside old.dirty page d in omega (arith, l, pages)) in
+      let above = (map.placed f.base f o).above in
+      (g.shares (page % p.helpers) (omega arith) (mod-lt page some)).pages page inside refl d f o n m i lt (omega (arith, above)) (omega (arith, above))
+
   pub gathered_traces : Traces (found p) p.memory.now p.roots.now p.marker.now new
   gathered_traces = record {
     marks_len = gathered.size ∙ ap length start;
@@ -116,12 +123,10 @@ module _ {p : Pause} (first : Claimer) (dirty : List Bool) (new : Marking) (g : 
         (λ e. held o e)
         (λ c. let r = g.within (granule f.base) c in subst (IsReached p) (same_object (length p.map.now) (found p) map r.object f r.is o r.first) r.reached)
         (either (granule f.base) h);
-    dirtied = λ q h. ⊎_elim (λ d. inl d)
-        (λ (w : (f : Found) × (found p f.base ≡ Some f) × Contains (view first).won (granule f.base) × Covers f q). let n = is_new (granule w.0.base) w.2 in inr (w.0, (w.1, n.0, n.1), w.3))
-        (g.dirtied q (subst (λ d. Has d q) row h));
+    dirtied = λ q h. let w = g.dirtied q (subst (λ d. Has d q) row h) in let n = is_new (granule w.0.base) w.2 in inr (w.0, (w.1, n.0, n.1), w.3);
     keeps = λ inv f o n h i lt. ⊎_elim
         (λ e. ⊎_elim (λ k. inl (λ x y. was (granule x.base) (k x y)))
-        (λ a. ⊎_elim (λ d. inr (inl (subst (λ d. Has d (page_of (word_address f i))) (sym row) (g.before _ d)))) (λ q. inl (target _ (read_pending f o n e i lt q))) a)
+        (λ a. ⊎_elim (λ d. inl (target _ (read_dirty f o n e i lt d))) (λ q. inl (target _ (read_pending f o n e i lt q))) a)
         (inv f o n e i lt))
         (λ c. ⊎_elim (λ k. inl (target _ k)) (λ d. inr (inl (subst (λ d. Has d (page_of (word_address f i))) (sym row) d))) (g.won f o n c i lt))
         (either (granule f.base) h);

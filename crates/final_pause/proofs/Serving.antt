@@ -1,23 +1,27 @@
 -- A helper at work goes on: what it reads is reached, and what it owes is awaited.
-use Rattle.std.proofs.Common.{◌≡◌, ℕ, ◌+◌, ◌<◌, ◌≤◌, List, [], ◌∷◌, ◌++◌, Bool, true, Contains, Option, Some, length, refl, sym, ap, subst, ◌∙◌, inl, inr, ⊎_elim, arith}
+use Rattle.std.proofs.Common.{◌≡◌, ℕ, ◌+◌, ◌*◌, ◌<◌, ◌≤◌, List, [], ◌∷◌, ◌++◌, Bool, true, Contains, Option, Some, None, length, refl, sym, ap, subst, ◌∙◌, inl, inr, ⊎_elim, arith}
 use Rattle.std.specs.Prelude.{◌⊎◌}
 use Rattle.std.proofs.lemmas.Option.{same_Some}
+use Rattle.std.proofs.lemmas.Bool.{cases_lt}
 use Rattle.std.proofs.lemmas.List.Elements.{Contains-append_cases, Contains-append_left, Contains-append_right}
 use Rattle.words.specs.declared.class.Kind.TheVariants.{Normal}
+use Rattle.words.specs.declared.limits.TheConstants.{WORD_BYTES}
 use Rattle.words.specs.Bits.{Has}
-use Rattle.words.specs.Layout.{granule, page_of}
+use Rattle.words.specs.Layout.{granule, page_of, page_start}
 use Rattle.mark_bits.specs.declared.claimer_view.ClaimerView.{ClaimerView}
 use Rattle.mark_bits.specs.Tables.{view}
 use Rattle.mark_bits.specs.Claims.{knows}
 use Rattle.block_map.specs.declared.found.Found.{Found}
 use Rattle.block_map.specs.Objects.{IsMap}
-use Rattle.marker.specs.Marking.{word_address}
+use Rattle.marker.specs.Marking.{IsMarked, word_address}
 use Rattle.marker.specs.Closure.{word}
+use Rattle.block_map.specs.Walks.{IsNextObject, IsNoObject}
 use Rattle.marker.proofs.Closures.{at_base}
+use Rattle.marker.proofs.Rescanning.{next_is, reads_own}
 use Rattle.final_pause.specs.declared.helper.Helper.{Helper}
 use Rattle.final_pause.specs.declared.share.Pause.{Pause}
 use Rattle.final_pause.specs.Helping.{found, word_in, won_of, Fits, Extends, IsTargetKnown, IsAwaited, IsPageOfWon, IsPointedInto, ClaimsOnly, IsWordOf, ReadsWords}
-use Rattle.final_pause.specs.Serving.{IsReached, IsReachedAt, IsQueuedAt, IsServing, Serves, IsEntryRead, AreRootsRead, AreEntriesRead, IsCurrentRead, IsShareRead}
+use Rattle.final_pause.specs.Serving.{IsReached, IsReachedAt, IsQueuedAt, IsServing, Serves, IsEntryRead, AreRootsRead, AreEntriesRead, IsCurrentRead, AreWordsRead, ArePagesRead, IsShareRead}
 use Rattle.final_pause.proofs.Knowing.{contains_one}
 use Rattle.final_pause.proofs.Growing.{target_more, awaited_more, page_more}
 
@@ -152,9 +156,33 @@ module _ (p : Pause) where
     pub current_more : (share : ℕ) → IsCurrentRead p v share → IsCurrentRead p w share
     current_more share h z e c f o b k m j le ll = target_more p v w more _ (h z e c f o b k m j le ll)
 
+    pub words_more : (low high : ℕ) → AreWordsRead p v low high → AreWordsRead p w low high
+    words_more low high h f o b m i lt from below = target_more p v w more _ (h f o b m i lt from below)
+
+    pub pages_more : (share n : ℕ) → ArePagesRead p v share n → ArePagesRead p w share n
+    pages_more share n h page lt m d = words_more (page_start page) (page_start (page + 1)) (h page lt m d)
+
     pub share_more : (share : ℕ) → IsShareRead p v share → IsShareRead p w share
     share_more share h = record {
       roots = roots_more share _ h.roots;
       entries = entries_more share _ h.entries;
       current = current_more share h.current;
+      pages = pages_more share _ h.pages;
     }
+
+  -- words of one object that were read are those of the next object between two addresses
+  pub part_read : IsMap (length p.map.now) (found p) → (v : ClaimerView) (low high stop : ℕ) (g : Found) → IsNextObject (found p) low high g → stop ≤ g.base + WORD_BYTES * g.len
+      → (g.kind ≡ Normal → IsMarked p.marker.now g.base → (i : ℕ) → i < g.len → low ≤ word_address g i → word_address g i < stop → IsTargetKnown p v (word_in p g i)) → AreWordsRead p v low stop
+  part_read map v low high stop g next le read f o n m i lt from below =
+      let is : g ≡ f = next_is (length p.map.now) (found p) low high stop (word_address f i) g f map next le from below (reads_own (length p.map.now) (found p) map f i o lt) in
+      subst (λ (y : Found). y.kind ≡ Normal → IsMarked p.marker.now y.base → (j : ℕ) → j < y.len → low ≤ word_address y j → word_address y j < stop → IsTargetKnown p v (word_in p y j)) is read n m i lt from below
+
+  -- words up to an address, and then words from it on
+  pub words_append : (v : ClaimerView) (low at high : ℕ) → AreWordsRead p v low at → AreWordsRead p v at high → AreWordsRead p v low high
+  words_append v low at high a b f o n m i lt from below =
+      ⊎_elim (λ before. a f o n m i lt from before) (λ after. b f o n m i lt after below) (cases_lt (word_address f i) at)
+
+  -- no object is left
+  pub words_end : IsMap (length p.map.now) (found p) → (v : ClaimerView) (low high : ℕ) → IsNoObject (found p) low high → AreWordsRead p v low high
+  words_end map v low high none f o n m i lt from below =
+      let z : None ≡ Some f = sym (none.none (word_address f i) from below) ∙ reads_own (length p.map.now) (found p) map f i o lt in absurd (cc z)

@@ -17,15 +17,13 @@ use Rattle.final_pause.specs.Serving.{IsReachedAt, IsShareRead}
 abbrev pub AreNumbered : List Helper → Type 0
 AreNumbered crew = (i : ℕ) (d : Helper) → i < length crew → (slice_index_or crew i d).share ≡ i
 
--- The helpers from `low` on are joined: what they know and won is the first claimer's, and their dirty pages and those of before
--- are the one row's.
+-- The helpers from `low` on are joined: what they know and won is the first claimer's, and their dirty pages are the one row's.
 pub record HasGathered (p : Pause) (low : ℕ) (first : Claimer) (dirty : List Bool) : Type 0 where
   pub of : IsOf p.table.now first
   pub parts : (view first).parts + low ≡ all_parts
   pub size : length dirty ≡ length p.map.now
-  pub before : (q : ℕ) → Has p.marker.now.dirty q → Has dirty q
   pub won : (f : Found) → found p f.base ≡ Some f → f.kind ≡ Normal → Contains (view first).won (granule f.base) → (i : ℕ) → i < f.len
       → IsTargetKnown p (view first) (word_in p f i) ⊎ Has dirty (page_of (word_address f i))
-  pub dirtied : (q : ℕ) → Has dirty q → Has p.marker.now.dirty q ⊎ ((f : Found) × (found p f.base ≡ Some f) × Contains (view first).won (granule f.base) × Covers f q)
+  pub dirtied : (q : ℕ) → Has dirty q → (f : Found) × (found p f.base ≡ Some f) × Contains (view first).won (granule f.base) × Covers f q
   pub within : (k : ℕ) → Contains (view first).won k → IsReachedAt p k
   pub shares : (s : ℕ) → low ≤ s → s < p.helpers → IsShareRead p (view first) s

@@ -1,15 +1,15 @@
 -- A helper at work and at its end.
-use Rattle.std.specs.Prelude.{◌≡◌, ℕ, ◌%◌, ◌<◌, ◌≤◌, List, [], length, slice_index_or, slice_index, Contains, Option, Some, ◌⊎◌}
+use Rattle.std.specs.Prelude.{◌≡◌, ℕ, ◌+◌, ◌%◌, ◌<◌, ◌≤◌, List, [], length, slice_index_or, slice_index, Contains, Option, Some, ◌⊎◌}
 use Rattle.words.specs.declared.class.Kind.TheVariants.{Normal}
 use Rattle.words.specs.Bits.{Has, IsClear}
-use Rattle.words.specs.Layout.{granule}
+use Rattle.words.specs.Layout.{granule, page_start}
 use Rattle.mark_bits.specs.declared.claimer_view.ClaimerView.{ClaimerView}
 use Rattle.mark_bits.specs.Tables.{view, IsOf}
 use Rattle.mark_bits.specs.Claims.{LearnsMore}
 use Rattle.mark_bits.specs.declared.table.MarkTable.{MarkTable}
 use Rattle.block_map.specs.declared.found.Found.{Found}
 use Rattle.marker.specs.declared.entry.Entry.{Entry}
-use Rattle.marker.specs.Marking.{IsMarked}
+use Rattle.marker.specs.Marking.{IsMarked, word_address}
 use Rattle.marker.specs.Closure.{Closure}
 use Rattle.final_pause.specs.declared.helper.Helper.{Helper}
 use Rattle.final_pause.specs.declared.share.Pause.{Pause}
@@ -62,12 +62,27 @@ AreEntriesRead p v share n = (i : ℕ) (d : Entry) → i < n → i % p.helpers �
 abbrev pub IsCurrentRead : Pause → ClaimerView → ℕ → Type 0
 IsCurrentRead p v share = share ≡ 0 → (e : Entry) → p.marker.now.current ≡ Some e → IsEntryRead p v e
 
--- One share of the roots and of the entries left over was read. A root word and a waiting entry belong to the share of their
--- place modulo the number of helpers.
+-- What the words between two addresses point into is known to be marked, if they are words of Normal objects that were marked
+-- before.
+abbrev pub AreWordsRead : Pause → ClaimerView → ℕ → ℕ → Type 0
+AreWordsRead p v low high = (f : Found) → found p f.base ≡ Some f → f.kind ≡ Normal → IsMarked p.marker.now f.base
+    → (i : ℕ) → i < f.len → low ≤ word_address f i → word_address f i < high → IsTargetKnown p v (word_in p f i)
+
+-- the same for the words of a page
+abbrev pub IsPageRead : Pause → ClaimerView → ℕ → Type 0
+IsPageRead p v page = AreWordsRead p v (page_start page) (page_start (page + 1))
+
+-- the dirty pages of a share, among the first n, were read
+abbrev pub ArePagesRead : Pause → ClaimerView → ℕ → ℕ → Type 0
+ArePagesRead p v share n = (page : ℕ) → page < n → page % p.helpers ≡ share → Has p.marker.now.dirty page → IsPageRead p v page
+
+-- One share of the roots, of the entries left over and of the dirty pages was read. A root word, a waiting entry and a page belong
+-- to the share of their place modulo the number of helpers.
 pub record IsShareRead (p : Pause) (v : ClaimerView) (share : ℕ) : Type 0 where
   pub roots : AreRootsRead p v share (length p.roots.now)
   pub entries : AreEntriesRead p v share (length p.marker.now.stack)
   pub current : IsCurrentRead p v share
+  pub pages : ArePagesRead p v share (length p.map.now)
 
 -- A helper that is done: its share is read, and each word of a Normal object that it won points into what is known to be
 -- marked, or stands on a page of its row.

@@ -1,7 +1,6 @@
 //! Closing the marks with helpers.
 ghost use Rattle.std.specs.Prelude.{◌≡◌, ℕ, ◌*◌, ◌<◌, ◌≤◌, ◌↔◌, All, IfOk, Some, true, false, length, IfErr};
-ghost use Rattle.words.specs.Bits.{Has};
-ghost use Rattle.words.specs.declared.limits.TheConstants.{PAGE_WORDS, MAX_PAGES};
+ghost use Rattle.words.specs.declared.limits.TheConstants.{PAGE_WORDS};
 ghost use Rattle.block_map.specs.declared.found.Found.{Found};
 ghost use Rattle.block_map.specs.FoundIn.{found_in};
 ghost use Rattle.marker.specs.Marking.{IsMarked, IsDone};
@@ -25,8 +24,6 @@ use pages::{Memory, Reader};
 use std::alloc::{AllocError, Global};
 use std::sync::Wait;
 use std::thread::Threads;
-use words::PageNo;
-use words::limits::MAX_PAGES;
 
 impl<'a> Law<Helper> for Pause<'a> {
     ghost use Rattle.final_pause.specs.Serving.{HasServed};
@@ -56,18 +53,6 @@ fn help_each<R: Threads + Wait + Sync, G: Gate>(
     run_each(rt, alloc, &pause, &work, crew)
 }
 
-// The dirty pages once more, in memory of their own.
-fn copy_pages(alloc: Global, pages: PageNo, dirty: &DirtyPages) -> Result<DirtyPages, AllocError>
-    requires pages { pages ≤ MAX_PAGES }
-    requires size { length dirty.now ≡ pages }
-    ensures size { IfOk result (λ copy. length copy ≡ pages) }
-    ensures same { IfOk result (λ copy. (q : ℕ) → (Has copy q ↔ Has dirty.now q)) }
-{
-    let mut copy = DirtyPages::new(alloc, pages)?;
-    copy.add(dirty);
-    Ok(copy)
-}
-
 // Marks with helpers, each in a thread of its own. The answer is whether it did: without memory or a thread nothing
 // changes.
 fn mark_with_helpers<R: Threads + Wait + Sync, G: Gate>(
@@ -90,7 +75,7 @@ fn mark_with_helpers<R: Threads + Wait + Sync, G: Gate>(
     let Ok((table, mut first)) = marker.open_table(alloc) else {
         return false;
     };
-    let Ok(mut dirty) = copy_pages(alloc, map.len(), marker.dirty_pages()) else {
+    let Ok(mut dirty) = DirtyPages::new(alloc, map.len()) else {
         return false;
     };
     let Ok(crew) = hire(alloc, &table, map.len(), &mut first, helpers.number()) else {

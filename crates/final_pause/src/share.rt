@@ -1,10 +1,13 @@
 //! The share of one helper: root words and entries by their places, and what they lead to.
-ghost use Rattle.std.specs.Prelude.{◌≡◌, ℕ, ◌+◌, ◌*◌, ◌%◌, ◌<◌, ◌≤◌, [], Some, length, slice_index};
+ghost use Rattle.std.specs.Prelude.{◌≡◌, ℕ, ◌+◌, ◌*◌, ◌%◌, ◌<◌, ◌≤◌, [], true, Some, length};
 ghost use Rattle.mark_bits.specs.Tables.{view, start_of};
 ghost use Rattle.words.specs.Layout.{granule};
+ghost use Rattle.words.specs.declared.limits.TheConstants.{WORD_BYTES};
 ghost use Rattle.block_map.specs.FoundIn.{found_in};
-ghost use Rattle.final_pause.specs.Helping.{IsReady, Fits, Visits, ReadsWords};
-ghost use Rattle.final_pause.specs.Serving.{IsServing, Serves, IsEntryRead, HasServed, AreRootsRead, AreEntriesRead, IsCurrentRead};
+ghost use Rattle.block_map.specs.Walks.{IsNextObject};
+ghost use Rattle.words.specs.Bits.{Has};
+ghost use Rattle.final_pause.specs.Helping.{IsReady, IsFound, IsPartBetween, Fits, Visits, ReadsWords};
+ghost use Rattle.final_pause.specs.Serving.{IsServing, Serves, IsEntryRead, HasServed, AreRootsRead, AreEntriesRead, IsCurrentRead, AreWordsRead, IsPageRead, ArePagesRead};
 
 use crate::gate::Gate;
 use crate::helper::{Helper, claim, keep};
@@ -12,7 +15,8 @@ use block_map::{BlockMap, Found};
 use mark_bits::{MarkTable, granule_of};
 use marker::{Entry, Marker};
 use pages::Memory;
-use words::limits::WORD_BYTES;
+use words::limits::{PAGE_BYTES, WORD_BYTES};
+use words::{Kind, PageNo, page_start};
 
 /// What the helpers of a pause share. No helper changes any of it but the table, by claims.
 #[derive(Clone, Copy)]
@@ -23,6 +27,14 @@ pub(crate) struct Pause<'a> {
     pub(crate) memory: &'a Memory,
     pub(crate) roots: &'a [u64],
     pub(crate) helpers: usize,
+}
+
+// Some words of an object: so many, from its word `first` on, and the address at which they end.
+#[derive(Clone, Copy)]
+struct Part {
+    first: u32,
+    count: u64,
+    stop: u64,
 }
 
 impl<'a> Pause<'a> {
@@ -65,7 +77,7 @@ impl<'a> Pause<'a> {
         count: u64,
     )
         requires fits { Fits self.now helper.old }
-        requires object { found_in self.now.map.now found.base ≡ Some found }
+        requires object { IsFound self.now found }
         requires inside { first + count ≤ found.len }
         ensures { ReadsWords self.now found first count helper.old helper.new }
     {
@@ -146,8 +158,93 @@ impl<'a> Pause<'a> {
         }
     }
 
-    /// A helper's whole work: the root words of its share before anything else, the entries of its share, and all that
-    /// these lead to.
+    // Which words of the next object on a page stand between two addresses.
+    fn part(&self, found: Found, low: u64, high: u64) -> Part
+        requires ready { IsReady self.now }
+        requires next { IsNextObject (found_in self.now.map.now) low high found }
+        requires low { low % WORD_BYTES ≡ 0 }
+        requires high { high % WORD_BYTES ≡ 0 }
+        ensures { IsPartBetween low high found result }
+    {
+        let stop = (found.base + WORD_BYTES * u64::from(found.len)).min(high);
+        let first = low.saturating_sub(found.base) / WORD_BYTES;
+        Part {
+            first: first as u32,
+            count: (stop - found.base) / WORD_BYTES - first,
+            stop,
+        }
+    }
+
+    // Reads the words of the next object on a page that stand between two addresses, if it was a marked Normal one before
+    // the helpers started. Answers the first address past them.
+    fn read_part<G: Gate>(
+        &self,
+        gate: &G,
+        helper: &mut Helper,
+        found: Found,
+        low: u64,
+        high: u64,
+    ) -> u64
+        requires serving { IsServing self.now helper.old }
+        requires next { IsNextObject (found_in self.now.map.now) low high found }
+        requires low { low % WORD_BYTES ≡ 0 }
+        requires high { high % WORD_BYTES ≡ 0 }
+        ensures serves { Serves self.now helper.old helper.new }
+        ensures read { AreWordsRead self.now (view helper.new.claimer) low result }
+        ensures further { low < result }
+        ensures within { result ≤ high }
+        ensures aligned { result % WORD_BYTES ≡ 0 }
+    {
+        let part = self.part(found, low, high);
+        if found.kind == Kind::PointerFree {
+            return part.stop;
+        }
+        if !self.marker.is_marked(found.base) {
+            return part.stop;
+        }
+        self.read_words(gate, helper, found, part.first, part.count);
+        part.stop
+    }
+
+    // Reads the words on a page of all objects that were marked Normal ones before the helpers started.
+    fn read_page<G: Gate>(&self, gate: &G, helper: &mut Helper, page: PageNo)
+        requires serving { IsServing self.now helper.old }
+        requires inside { page < length self.now.map.now }
+        ensures serves { Serves self.now helper.old helper.new }
+        ensures read { IsPageRead self.now (view helper.new.claimer) page }
+    {
+        let mut address = page_start(page);
+        let end = address + PAGE_BYTES;
+        while let Some(found) = self.map.next_on_page(page, address) {
+            address = self.read_part(gate, helper, found, address, end);
+        }
+    }
+
+    // Whether the page is a dirty one of a share.
+    fn has_dirty(&self, share: usize, page: PageNo) -> bool
+        requires ready { IsReady self.now }
+        requires inside { page < length self.now.map.now }
+        ensures { page % self.now.helpers ≡ share → Has self.now.marker.now.dirty page → result ≡ true }
+    {
+        page as usize % self.helpers == share && self.marker.dirty_pages().is_dirty(page)
+    }
+
+    // Reads the dirty pages of the helper's share, each with what it leads to.
+    fn read_pages<G: Gate>(&self, gate: &G, helper: &mut Helper)
+        requires { IsServing self.now helper.old }
+        ensures serves { Serves self.now helper.old helper.new }
+        ensures read { ArePagesRead self.now (view helper.new.claimer) helper.old.share (length self.now.map.now) }
+    {
+        for page in 0..self.map.len() {
+            if self.has_dirty(helper.share, page) {
+                self.read_page(gate, helper, page);
+                self.read_stack(gate, helper);
+            }
+        }
+    }
+
+    /// A helper's whole work: the root words of its share before anything else, the entries and the dirty pages of its
+    /// share, and all that these lead to.
     pub(crate) fn help<G: Gate>(&self, gate: &G, helper: &mut Helper)
         requires { IsServing self.now helper.old }
         ensures { HasServed self.now helper.old.share helper.new }
@@ -156,6 +253,7 @@ impl<'a> Pause<'a> {
         self.read_current(gate, helper);
         self.read_stack(gate, helper);
         self.read_entries(gate, helper);
+        self.read_pages(gate, helper);
         self.read_stack(gate, helper);
     }
 }

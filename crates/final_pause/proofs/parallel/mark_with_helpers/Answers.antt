@@ -7,8 +7,8 @@ use Rattle.final_pause.proofs.parallel.mark_with_helpers.Goals as goal
 pub returns-in_default-clause-traces : goal.returns-in_default-clause-traces
 returns-in_default-clause-traces g c = traces_refl (found_in c.args.map.now) c.args.memory.now c.args.roots.now c.args.marker.now
 
-pub returns-in_default-copy_pages-clause-traces : goal.returns-in_default-copy_pages-clause-traces
-returns-in_default-copy_pages-clause-traces g c = traces_refl (found_in c.args.map.now) c.args.memory.now c.args.roots.now c.args.marker.now
+pub returns-in_default-new-clause-traces : goal.returns-in_default-new-clause-traces
+returns-in_default-new-clause-traces g c = traces_refl (found_in c.args.map.now) c.args.memory.now c.args.roots.now c.args.marker.now
 
 pub returns-in_default-hire-clause-traces : goal.returns-in_default-hire-clause-traces
 returns-in_default-hire-clause-traces g c = traces_refl (found_in c.args.map.now) c.args.memory.now c.args.roots.now c.args.marker.now

@@ -7,17 +7,17 @@ use Rattle.final_pause.proofs.share.Pause.read_words.Goals as goal
 
 pub overflow_add-start : goal.overflow_add-start
 overflow_add-start g c =
-    let f = c.from.ensures in let p = (c.requires.fits.ready.map.placed _ _ c.requires.object).below in
+    let f = c.from.ensures in let p = (c.requires.fits.ready.map.placed _ _ c.requires.object.points).below in
     let s = c.requires.fits.ready.few in let l = c.requires.inside in omega arith
 
 pub overflow_add-start-in-loop-i : goal.overflow_add-start-in-loop-i
 overflow_add-start-in-loop-i g c =
-    let f = c.from.ensures in let p = (c.requires.fits.ready.map.placed _ _ c.requires.object).below in
+    let f = c.from.ensures in let p = (c.requires.fits.ready.map.placed _ _ c.requires.object.points).below in
     let s = c.requires.fits.ready.few in let l = c.requires.inside in let t = c.loop-i-test.true in omega arith
 
 pub read-word-requires : goal.read-word-requires
 read-word-requires g c =
-    let r = c.requires.fits.ready in let at = r.map.placed _ _ c.requires.object in
+    let r = c.requires.fits.ready in let at = r.map.placed _ _ c.requires.object.points in
     let f = c.from.ensures in let p = at.below in let q = at.above in let a = at.aligned in let l = c.requires.inside in
     let t = c.loop-i-test.true in let m = r.memory in
     record { aligned = omega arith; above = omega arith; below = omega arith }
