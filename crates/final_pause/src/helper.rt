@@ -31,7 +31,12 @@ pub(crate) struct Helper {
 }
 
 // A claim between two calls of the gate.
-pub(crate) fn claim<G: Gate>(table: &MarkTable, gate: &G, helper: &mut Helper, granule: usize) -> bool
+pub(crate) fn claim<G: Gate>(
+    table: &MarkTable,
+    gate: &G,
+    helper: &mut Helper,
+    granule: usize,
+) -> bool
     requires of { IsOf table.now helper.old.claimer }
     requires inside { granule < length (start_of table.now) }
     ensures of { IsOf table.now helper.new.claimer }
