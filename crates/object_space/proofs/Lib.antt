@@ -15,5 +15,6 @@ pub mod Swept
 pub mod Searching
 pub mod Sweeping
 pub mod Passing
-pub mod Dropping
 pub mod Forgetting
+pub mod Counting
+pub mod Forgets

@@ -14,7 +14,7 @@ use Rattle.block_map.specs.Walks.{IsNextObject}
 use Rattle.pages.specs.Memory.{word_at}
 use Rattle.marker.specs.Marking.{Marking, IsMarked, word_address}
 use Rattle.object_space.specs.Store.{Store}
-use Rattle.object_space.specs.Sweeps.{Passes, none, marked, forgot, HasPassed, ForgetsUnmarked, SweepsPage}
+use Rattle.object_space.specs.Sweeps.{Passes, none, marked, forgot, HasPassed, SweepsPage}
 use Rattle.object_space.proofs.Shown.{at_base, one_at_base}
 use Rattle.object_space.proofs.Rooms.{Lies, in_cell, in_large, lies_cases, large_page, cell_end}
 use Rattle.block_map.specs.States.{PageState, cut, head, body, state_at, LaidAt, IsLaid}
@@ -127,24 +127,6 @@ module _ (old : Store) (m : Marking) (from limit address n : ℕ) (mid : Store) 
               ⊎_elim (λ (lt : w < f.base). inr (λ (r : Reads w f). let a = r.from in absurd (omega arith)))
               (λ ge. ⊎_elim (λ (lt : w < f.base + 8 * f.len). inl (record { from = omega arith; below = lt })) (λ le. inr (λ (r : Reads w f). let b = r.below in absurd (omega arith))) (cases_lt w (f.base + 8 * f.len)))
               (cases_lt w f.base)
-
--- the walk is over
-pub passed_all : (old : Store) (m : Marking) (limit address n : ℕ) (now : Store) → IsMap (length old.states) (found_in old.states) → page_start (length old.states) ≤ address → HasPassed old m FIRST_ADDRESS limit address n now → ForgetsUnmarked old m n now
-passed_all old m limit address n now map past h = record {
-  words = h.words;
-  pages = h.pages;
-  pending = h.pending;
-  fewer = h.fewer;
-  bases = h.bases;
-  number = h.number;
-  without = h.without;
-  unmarked = λ f there. (λ is. All-contains (λ b. IsMarked m b → ⊥) h.bases f.base h.unmarked is, λ not. by f there not (has h.bases f.base) refl);
-}
-  where
-    by : (f : Found) → found_in old.states f.base ≡ Some f → (IsMarked m f.base → ⊥) → (x : Bool) → has h.bases f.base ≡ x → Contains h.bases f.base
-    by f there not true e = true_has h.bases f.base e
-    by f there not false e =
-        absurd (not (h.done f.base f (map.placed f.base f there).above (let ends = (map.placed f.base f there).below in let some = (map.placed f.base f there).some in omega arith) (h.without.kept f.base f there (false_has h.bases f.base e))))
 
 -- an object that an address of a cut page reads is one of the page
 cut_page_object : (states : List PageState) (page : ℕ) (b : Cells) → IsLaid states → IsLawful states → state_at states page ≡ cut b → (w : ℕ) (f : Found) → page_start page ≤ w → w < page_start (page + 1) → found_in states w ≡ Some f → f.page ≡ page

@@ -81,17 +81,6 @@ pub record HasPassed (old : Store) (marking : Marking) (from limit address n : �
   pub read : All (λ b. (w : ℕ) × (f : Found) × (from ≤ w) × (w < limit) × (found_in old.states w ≡ Some f) × (f.base ≡ b)) bases
   pub done : (w : ℕ) (f : Found) → from ≤ w → w < address → found_in now.states w ≡ Some f → IsMarked marking f.base
 
--- The store has lost exactly the unmarked objects, so many, and the words of the others stay.
-pub record ForgetsUnmarked (old : Store) (marking : Marking) (n : ℕ) (new : Store) : Type 0 where
-  pub words : KeepsWords (found_in new.states) old.words new.words
-  pub pages : length new.states ≡ length old.states
-  pub pending : (w : ℕ) (g : Found) → found_in new.states w ≡ Some g → slice_index_or new.pending g.page false ≡ slice_index_or old.pending g.page false
-  pub fewer : (page : ℕ) → Has new.pending page → Has old.pending page
-  pub bases : List ℕ
-  pub number : n ≡ length bases
-  pub without : IsWithout (found_in old.states) (found_in new.states) bases
-  pub unmarked : (f : Found) → found_in old.states f.base ≡ Some f → Contains bases f.base ↔ (IsMarked marking f.base → ⊥)
-
 -- To the heap exactly the objects outside of the closure of the marks and the roots are gone, so many, and the words of the
 -- others stay.
 pub record ForgetsUnreached (old : Store) (roots : List ℕ) (marking : Marking) (n : ℕ) (marks : List Bool) (new : Store) : Type 0 where
@@ -149,30 +138,3 @@ pub record ForgetsLazily (old : Store) (marks : List Bool) (n : ℕ) (new : Stor
   pub number : n ≡ length bases
   pub without : IsWithout (found_in old.states) (kept_in new.states new.pending marks) bases
   pub unmarked : (f : Found) → found_in old.states f.base ≡ Some f → Contains bases f.base ↔ (Has marks (granule f.base) → ⊥)
-
--- An object is forgotten: the page of one in a block is to be swept, and any other is gone.
-pub data DropsObject (old : Store) (f : Found) (new : Store) : Type 0 where
-  unswept : IsCut (state_at old.states f.page) → new ≡ record old { pending = slice_set old.pending f.page true } → f.page < length old.pending → DropsObject old f new
-  gone : (Has old.pending f.page → ⊥) → Loses old f new → DropsObject old f new
-
--- The objects from one address up to another were looked at, as by `Passes`, and one that is not marked is forgotten.
-pub data Drops (old : Store) (marking : Marking) (address next n : ℕ) (new : Store) : Type 0 where
-  no_object : address < next → IsNoObject (found_in old.states) address next → n ≡ 0 → new ≡ old → Drops old marking address next n new
-  marked_object : (f : Found) → IsNextObject (found_in old.states) address (page_start (page_of address + 1)) f → next ≡ f.base + WORD_BYTES * f.len → IsMarked marking f.base → n ≡ 0 → new ≡ old → Drops old marking address next n new
-  dropped : (f : Found) → IsNextObject (found_in old.states) address (page_start (page_of address + 1)) f → next ≡ f.base + WORD_BYTES * f.len → (IsMarked marking f.base → ⊥) → n ≡ 1 → DropsObject old f new → Drops old marking address next n new
-
--- All unmarked objects that an address below this one reads are forgotten, so many. The words of the objects of the map stay.
-pub record HasDropped (old : Store) (marking : Marking) (address n : ℕ) (now : Store) : Type 0 where
-  pub words : KeepsWords (found_in now.states) old.words now.words
-  pub pages : length now.states ≡ length old.states
-  pub low : FIRST_ADDRESS ≤ address
-  pub few : n ≤ address
-  pub bases : List ℕ
-  pub number : n ≡ length bases
-  pub distinct : IsDistinct nat_eq bases
-  pub forgotten : All (λ b. (f : Found) × (found_in old.states b ≡ Some f) × (f.base ≡ b) × (f.base + WORD_BYTES * f.len ≤ address) × (IsMarked marking b → ⊥)) bases
-  pub all : (f : Found) → found_in old.states f.base ≡ Some f → f.base < address → (IsMarked marking f.base → ⊥) → Contains bases f.base
-  pub less : (w : ℕ) (f : Found) → found_in now.states w ≡ Some f → found_in old.states w ≡ Some f
-  pub stays : (w : ℕ) (f : Found) → found_in old.states w ≡ Some f → IsMarked marking f.base ⊎ (address ≤ w) → found_in now.states w ≡ Some f
-  pub unswept : (w : ℕ) (f : Found) → found_in now.states w ≡ Some f → w < address → (IsMarked marking f.base → ⊥) → Has now.pending f.page
-  pub only : (page : ℕ) → Has now.pending page → (w : ℕ) × (f : Found) × (found_in now.states w ≡ Some f) × (f.page ≡ page) × (IsMarked marking f.base → ⊥)

@@ -15,7 +15,6 @@ ghost use Rattle.marker.specs.Retracing.{Retraces};
 ghost use Rattle.words.specs.Bits.{Has};
 ghost use Rattle.object_space.specs.Store.{IsSwept, IsPendingRow};
 ghost use Rattle.object_space.specs.Kept.{IsPendingAfter};
-ghost use Rattle.object_space.specs.Sweeps.{ForgetsUnmarked, ForgetsUnreached, ForgetsLazily, Passes, Drops, DropsObject, Sweeps, SweepsPage};
 
 use super::ObjectSpace;
 use marker::{Marked, Marker};

@@ -15,7 +15,7 @@ ghost use Rattle.marker.specs.Retracing.{Retraces};
 ghost use Rattle.words.specs.Bits.{Has};
 ghost use Rattle.object_space.specs.Store.{IsSwept, IsPendingRow};
 ghost use Rattle.object_space.specs.Kept.{IsPendingAfter};
-ghost use Rattle.object_space.specs.Sweeps.{ForgetsUnmarked, ForgetsUnreached, ForgetsLazily, Passes, Drops, DropsObject, Sweeps, SweepsPage};
+ghost use Rattle.object_space.specs.Sweeps.{Passes, Sweeps, SweepsPage};
 
 use super::ObjectSpace;
 use super::allocate::start_of;
@@ -77,22 +77,6 @@ impl ObjectSpace {
         }
         self.release(found);
         Passed { next, forgotten: 1 }
-    }
-
-    // Forgets the objects that aren't marked, and answers how many.
-    pub(super) fn forget_unmarked(&mut self, marker: &Marker) -> u64
-        requires pages { length marker.now.dirty ≡ length self.old.states }
-        ensures { ForgetsUnmarked self.old marker.now result self.new }
-    {
-        let end = self.end();
-        let mut address = FIRST_ADDRESS;
-        let mut count = 0;
-        while address < end {
-            let passed = self.forget_next(marker, address);
-            address = passed.next;
-            count += passed.forgotten;
-        }
-        count
     }
 
     // Sweeps a page.
