@@ -74,7 +74,7 @@ fn pop<J: Naming>(rt: &impl Wait, heap: &SharedHeap<J>, me: &mut Mutator<J>, nod
     sum
 }
 
-fn outcome<J: Naming, R: Threads + Wait + Abort + Sync>(
+fn end_cycles<J: Naming, R: Threads + Wait + Abort + Sync>(
     rt: &R,
     alloc: Global,
     opened: Opened<Core>,
@@ -119,7 +119,7 @@ const WANTED: Outcome = Outcome {
 #[test]
 fn a_cycle_ends_alone(rt: HostRuntime) -> Result<(), Fail> {
     let opened = open(rt.alloc(), 4).ok().ok_or("a heap")?;
-    let alone = outcome::<Brand, _>(&rt, rt.alloc(), opened, None);
+    let alone = end_cycles::<Brand, _>(&rt, rt.alloc(), opened, None);
     assert_eq!(rt; alone, WANTED);
     Ok(())
 }
@@ -129,7 +129,7 @@ fn any_number_of_helpers_ends_it_alike(rt: HostRuntime) -> Result<(), Fail> {
     for number in 1..=MAX_HELPERS {
         let helpers = Helpers::new(number).ok_or("helpers")?;
         let opened = open(rt.alloc(), 4).ok().ok_or("a heap")?;
-        let helped = outcome::<Brand, _>(&rt, rt.alloc(), opened, Some(helpers));
+        let helped = end_cycles::<Brand, _>(&rt, rt.alloc(), opened, Some(helpers));
         assert_eq!(rt; helped, WANTED, "{number} helpers");
     }
     Ok(())
