@@ -28,7 +28,7 @@ impl Model for Marks {
 }
 
 impl Marks {
-    /// No mark in a heap of so many pages. The error is want of memory.
+    /// No mark in a heap of so many pages. The error is that there is no memory.
     pub fn new(alloc: Global, pages: PageNo) -> Result<Marks, AllocError>
         requires some { 0 < pages }
         requires few { pages ≤ MAX_PAGES }

@@ -25,7 +25,7 @@ impl Model for BitRow {
 
 #[tactic(auto, using(crate::proofs::Rows::rows))]
 impl BitRow {
-    /// A clear row of so many bits. The error is want of memory.
+    /// A clear row of so many bits. The error is that there is no memory.
     pub fn new(alloc: Global, len: usize) -> Result<BitRow, AllocError>
         requires { len < 2 ^ 32 }
         ensures { IfOk result (λ row. IsClear row len) }
