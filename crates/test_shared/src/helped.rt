@@ -41,10 +41,10 @@ fn end<J: Naming, R: Threads + Wait + Sync>(
     alloc: Global,
     heap: &SharedHeap<J>,
     collector: &mut Collector<J>,
-    helpers: Option<Helpers>,
+    helpers: &Option<Helpers>,
 ) -> Result<u64, Refusal> {
     match helpers {
-        Some(helpers) => heap.finish_with(rt, alloc, collector, helpers, &Open),
+        Some(helpers) => heap.finish_with(rt, alloc, collector, *helpers, &Open),
         None => heap.finish(rt, collector),
     }
 }
@@ -84,17 +84,17 @@ fn end_cycles<J: Naming, R: Threads + Wait + Abort + Sync>(
 {
     let (heap, mut collector) = SharedHeap::<J>::named(opened);
     let mut me = heap.attach(rt).ok().expect(rt, "a slot");
-    let early = end(rt, alloc, &heap, &mut collector, helpers);
+    let early = end(rt, alloc, &heap, &mut collector, &helpers);
     push(rt, &heap, &mut me, 0, FIRST);
     let _begun = heap.begin(rt, &mut collector);
     let _roots = heap.quiet(rt, &mut collector, &mut Roots);
     let _some = heap.quiet(rt, &mut collector, &mut Mark(3));
     push(rt, &heap, &mut me, FIRST, FIRST + MORE);
-    let first = end(rt, alloc, &heap, &mut collector, helpers);
+    let first = end(rt, alloc, &heap, &mut collector, &helpers);
     let popped = pop(rt, &heap, &mut me, FEWER);
     let _begun = heap.begin(rt, &mut collector);
-    let second = end(rt, alloc, &heap, &mut collector, helpers);
-    let late = end(rt, alloc, &heap, &mut collector, helpers);
+    let second = end(rt, alloc, &heap, &mut collector, &helpers);
+    let late = end(rt, alloc, &heap, &mut collector, &helpers);
     let rest = pop(rt, &heap, &mut me, FIRST + MORE - FEWER);
     heap.detach(rt, me);
     Outcome {
