@@ -7,6 +7,7 @@ ghost use Rattle.heap_core.specs.Standing.{StandsFor};
 mod beside;
 mod cycle;
 mod events;
+mod kept;
 mod objects;
 mod registers;
 
