@@ -112,10 +112,16 @@ module _ (c : Contents) (sound : IsSound c) (marks : List Bool) (m : MarksReache
           record { place = i.0; object = e.0; there = i.1; is_base = e.2; unmarked = unmarked c sound marks m s h (get_or marks i.0 false) i.0 e.0 i.1 (λ r. out (subst (Reached s) e.2 r)) refl }
 
   -- where one that is not reached is not named, they are not all
-  pub cant_all : (flags : List Bool) → AreUnset c.objects bases flags → (AreAllUnset (length c.objects) marks flags → ⊥) → CantTake c bases true
-  cant_all flags unset stuck s h n s' takes rest = stuck (record {
+  pub cant_all : (all : Bool) → all ≡ true → (flags : List Bool) → AreUnset c.objects bases flags → (AreAllUnset (length c.objects) marks flags → ⊥) → CantTake c bases all
+  cant_all all yes flags unset stuck s h n s' takes rest = stuck (record {
     unset = λ i lt is.
         let e = get_at c.objects i lt in
         let kept = h.kept e.0 (in_row c.objects i e.0 e.1) in
-        unset.unset i e.0 e.1 (rest refl e.0.base kept.0 kept.1 (not_reached c sound s h marks m i e.0 e.1 is));
+        unset.unset i e.0 e.1 (rest yes e.0.base kept.0 kept.1 (not_reached c sound s h marks m i e.0 e.1 is));
   })
+
+-- the same of equal rows
+pub all_unset_as : (n k : ℕ) (marks marks' flags flags' : List Bool) → n ≡ k → marks ≡ marks' → flags ≡ flags' → AreAllUnset n marks flags → AreAllUnset k marks' flags'
+all_unset_as n k marks marks' flags flags' size m f all = record {
+  unset = λ i lt is. ap (λ l. get_or l i false) (sym f) ∙ all.unset i (omega arith) (ap (λ l. get_or l i false) m ∙ is);
+}
