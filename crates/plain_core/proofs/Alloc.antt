@@ -229,9 +229,9 @@ found_fits c now view row rows n kind placement e is same long room = subst (λ 
 
 -- a request that was granted by an object
 pub put_at : (old new : Contents) (k d n base : ℕ) (kind : Kind) (placement : Placement) (e : Extent) → placement_of n ≡ Some placement → e.kind ≡ kind → e.base ≡ base → IsPut old k d placement e new → IsAllocatedAt old k d n kind base new
-put_at old new k d n base kind placement e is same at put s h =
+put_at old later k d n base kind placement e is same at put s h =
     let x = put s h n is in
     (x.0, subst (λ q. Calls s k (Alloc d n q) Done x.0) same x.1, subst (λ b. IsBornAt s b x.0) at x.2, x.3)
 
 pub put_steps : (old new : Contents) (k d n : ℕ) (kind : Kind) (placement : Placement) (e : Extent) → placement_of n ≡ Some placement → e.kind ≡ kind → IsPut old k d placement e new → StepsCall old k (Alloc d n kind) Done new
-put_steps old new k d n kind placement e is same put s h = let x = put_at old new k d n e.base kind placement e is same refl put s h in (x.0, x.1, x.3)
+put_steps old later k d n kind placement e is same put s h = let x = put_at old later k d n e.base kind placement e is same refl put s h in (x.0, x.1, x.3)

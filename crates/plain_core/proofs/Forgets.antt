@@ -94,7 +94,7 @@ module _ (c : Contents) (sound : IsSound c) (marks : List Bool) (m : MarksReache
         number = refl;
         after = refl;
       },
-      λ yes. has_unreached (rest yes) s h,
+      λ must. has_unreached (rest must) s h,
       rest_stands c sound parts.gone stay parts.all bases are s h,
     )
 
@@ -113,11 +113,11 @@ module _ (c : Contents) (sound : IsSound c) (marks : List Bool) (m : MarksReache
 
   -- where one that is not reached is not named, they are not all
   pub cant_all : (all : Bool) → all ≡ true → (flags : List Bool) → AreUnset c.objects bases flags → (AreAllUnset (length c.objects) marks flags → ⊥) → CantTake c bases all
-  cant_all all yes flags unset stuck s h n s' takes rest = stuck (record {
+  cant_all all must flags unset stuck s h n s' removes rest = stuck (record {
     unset = λ i lt is.
         let e = get_at c.objects i lt in
         let kept = h.kept e.0 (in_row c.objects i e.0 e.1) in
-        unset.unset i e.0 e.1 (rest yes e.0.base kept.0 kept.1 (not_reached c sound s h marks m i e.0 e.1 is));
+        unset.unset i e.0 e.1 (rest must e.0.base kept.0 kept.1 (not_reached c sound s h marks m i e.0 e.1 is));
   })
 
 -- the same of equal rows
