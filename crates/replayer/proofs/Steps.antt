@@ -53,7 +53,7 @@ acts_births s slot m (Acts.store_misaligned al) none = refl
 acts_births s slot m (Acts.store_nothing al e) none = refl
 acts_births s slot m (Acts.stored al r) none = refl
 acts_births s slot m (Acts.bad_size e) none = refl
-acts_births s slot m (Acts.full e no) none = refl
+acts_births s slot m (Acts.full e never) none = refl
 acts_births s slot m (Acts.allocated {d = d} {n = n} {kind = kind} a e room) none = absurd (none (d, n, kind, refl, refl))
 acts_births s slot m (Acts.free_nothing e) none = refl
 acts_births s slot m (Acts.free_inside r ne) none = refl
@@ -107,11 +107,11 @@ module _ (old : Contents) (small : old.number < word_end) (few : old.births < wo
       )
 
   pub no_attach : (reply : Reply) (hint : Hint) → IsNoStep old.core Attach reply → IsNoReplay old Attach reply hint
-  no_attach reply hint none start run next f r = stuck r.line
+  no_attach reply hint none start run next f r = stuck reply refl r.line
     where
-      stuck : {to : Run} → LineOf AllTouched start run Attach reply to → ⊥
-      stuck (LineOf.happens {s' = s'} happens) = none (heap_after start run) f.stands s' happens
-      stuck (LineOf.refused wrong) = wrong
+      stuck : (q : Reply) → q ≡ reply → {to : Run} → LineOf AllTouched start run Attach q to → ⊥
+      stuck q is (LineOf.happens {s' = s'} happens) = none (heap_after start run) f.stands s' (subst (λ x. Attaches (heap_after start run) x s') is happens)
+      stuck q is (LineOf.refused wrong) = wrong
 
   -- a call of a mutator that grants no request
   pub calls : (new : PlainContents) (slot : ℕ) (call : Call) (reply : Reply) (hint : Hint) → (IsGrant call reply → ⊥) → IsStep (StandsFor old.core) (Mutator slot call) reply (StandsFor new)
@@ -136,11 +136,11 @@ module _ (old : Contents) (small : old.number < word_end) (few : old.births < wo
       )
 
   pub no_call : (slot : ℕ) (call : Call) (reply : Reply) (hint : Hint) → IsNoStep old.core (Mutator slot call) reply → IsNoReplay old (Mutator slot call) reply hint
-  no_call slot call reply hint none start run next f r = stuck r.line
+  no_call slot call reply hint none start run next f r = stuck reply refl r.line
     where
-      stuck : {to : Run} → LineOf AllTouched start run (Mutator slot call) reply to → ⊥
-      stuck (LineOf.happens {s' = s'} happens) = none (heap_after start run) f.stands s' happens
-      stuck (LineOf.refused wrong) = wrong
+      stuck : (q : Reply) → q ≡ reply → {to : Run} → LineOf AllTouched start run (Mutator slot call) q to → ⊥
+      stuck q is (LineOf.happens {s' = s'} happens) = none (heap_after start run) f.stands s' (subst (λ x. Calls (heap_after start run) slot call x s') is happens)
+      stuck q is (LineOf.refused wrong) = wrong
 
   -- a granted request
   module _ (slot into words base : ℕ) (kind : Kind) where
@@ -348,7 +348,7 @@ same_bases s s' mine theirs is other all base o has out =
 -- collections that are granted
 module _ (old : Contents) (small : old.number < word_end) (few : old.births < word_end) (new : PlainContents) (bases : Bor (List ℕ)) where
   -- the replayer after one
-  ended : Contents
+  abbrev pub ended : Contents
   ended = record old { core = new; marking = false; number = (old.number + 1) % word_end }
 
   follows : (start : Start) (run : Run) (f : Follows old start run) (s' : Heap) (event : Event) (reply : Reply) → counted event ≡ 1 → marking_after event (is_marking start run) ≡ false → s' ≡ without (heap_after start run) bases.now → StandsFor new s'

@@ -121,8 +121,8 @@ impl Replayer {
 
     // A cycle ends, and forgets the objects of the hint.
     pub(crate) fn finish(&mut self, reply: &Reply, hint: Hint) -> bool
-        ensures yes { IsTrue result → IsReplayed self.old Event.Finish reply.now hint self.new }
-        ensures no { result ≡ false → IsNoReplay self.old Event.Finish reply.now hint }
+        ensures yes { IsTrue result → IsReplayed self.old Event.Finish reply.now hint.entry self.new }
+        ensures no { result ≡ false → IsNoReplay self.old Event.Finish reply.now hint.entry }
         ensures same { result ≡ false → self.new ≡ self.old }
     {
         if !self.marking {
@@ -144,8 +144,8 @@ impl Replayer {
 
     // All that isn't reached is forgotten: the objects of the hint.
     pub(crate) fn collect(&mut self, reply: &Reply, hint: Hint) -> bool
-        ensures yes { IsTrue result → IsReplayed self.old Event.Collect reply.now hint self.new }
-        ensures no { result ≡ false → IsNoReplay self.old Event.Collect reply.now hint }
+        ensures yes { IsTrue result → IsReplayed self.old Event.Collect reply.now hint.entry self.new }
+        ensures no { result ≡ false → IsNoReplay self.old Event.Collect reply.now hint.entry }
         ensures same { result ≡ false → self.new ≡ self.old }
     {
         let Hint::Forgot(bases) = hint else {

@@ -53,8 +53,8 @@ impl Replayer {
 
     // A request that was granted at the base of the hint.
     fn alloc(&mut self, slot: Slot, into: Reg, words: u64, kind: Kind, hint: Hint) -> bool
-        ensures yes { IsTrue result → IsReplayed self.old (Event.Mutator slot (Call.Alloc into words kind)) Reply.Done hint self.new }
-        ensures no { result ≡ false → IsNoReplay self.old (Event.Mutator slot (Call.Alloc into words kind)) Reply.Done hint }
+        ensures yes { IsTrue result → IsReplayed self.old (Event.Mutator slot (Call.Alloc into words kind)) Reply.Done hint.entry self.new }
+        ensures no { result ≡ false → IsNoReplay self.old (Event.Mutator slot (Call.Alloc into words kind)) Reply.Done hint.entry }
         ensures same { result ≡ false → self.new ≡ self.old }
     {
         let Hint::Place(base) = hint else {
@@ -72,8 +72,8 @@ impl Replayer {
 
     // A call of a mutator.
     fn call(&mut self, slot: Slot, call: &Call, reply: &Reply, hint: Hint) -> bool
-        ensures yes { IsTrue result → IsReplayed self.old (Event.Mutator slot call.now) reply.now hint self.new }
-        ensures no { result ≡ false → IsNoReplay self.old (Event.Mutator slot call.now) reply.now hint }
+        ensures yes { IsTrue result → IsReplayed self.old (Event.Mutator slot call.now) reply.now hint.entry self.new }
+        ensures no { result ≡ false → IsNoReplay self.old (Event.Mutator slot call.now) reply.now hint.entry }
         ensures same { result ≡ false → self.new ≡ self.old }
     {
         let Reply::Done = reply else {
@@ -87,8 +87,8 @@ impl Replayer {
 
     // An event, by its kind.
     fn replay(&mut self, event: Event, reply: &Reply, hint: Hint) -> bool
-        ensures yes { IsTrue result → IsReplayed self.old event reply.now hint self.new }
-        ensures no { result ≡ false → IsNoReplay self.old event reply.now hint }
+        ensures yes { IsTrue result → IsReplayed self.old event reply.now hint.entry self.new }
+        ensures no { result ≡ false → IsNoReplay self.old event reply.now hint.entry }
         ensures same { result ≡ false → self.new ≡ self.old }
     {
         match event {
@@ -108,8 +108,8 @@ impl Replayer {
     /// Whether the event with its reply goes on with what was told so far, by the hint. If so, the replayer goes on to the
     /// heap after it, and else it stays where it was. It takes no memory.
     pub fn step(&mut self, event: &Event, reply: &Reply, hint: Hint) -> bool
-        ensures yes { IsTrue result → IsReplayed self.old event.now reply.now hint self.new }
-        ensures no { result ≡ false → IsNoReplay self.old event.now reply.now hint }
+        ensures yes { IsTrue result → IsReplayed self.old event.now reply.now hint.entry self.new }
+        ensures no { result ≡ false → IsNoReplay self.old event.now reply.now hint.entry }
         ensures same { result ≡ false → self.new ≡ self.old }
     {
         self.replay(*event, reply, hint)
