@@ -42,9 +42,11 @@ impl Recorder {
     // Notes an object that stayed, or is gone.
     fn sort(&mut self, base: u64) -> Result<(), AllocError> {
         if self.keeps(base) {
-            return self.bases.push(base);
+            self.bases.push(base)?;
+            return Ok(());
         }
-        self.gone.push(base)
+        self.gone.push(base)?;
+        Ok(())
     }
 
     // Looks which objects are gone.
@@ -62,7 +64,8 @@ impl Recorder {
             return Ok(());
         };
         self.place = Some(base);
-        self.bases.push(base)
+        self.bases.push(base)?;
+        Ok(())
     }
 
     // Notes what an event left that was not refused.

@@ -321,8 +321,12 @@ module _ (old : Contents) (small : old.number < word_end) (few : old.births < wo
         stuck q is (LineOf.refused phase) names = phase
 
 -- the numbers of equal replies
-count_same : (a b : ℕ) → Count a ≡ Count b → a ≡ b
+pub count_same : (a b : ℕ) → Count a ≡ Count b → a ≡ b
 count_same a b e = cc
+
+-- a reply of another number
+pub uncounted : (reply : Reply) (n len : ℕ) → reply ≡ Count n → (n ≡ len → ⊥) → (k : ℕ) → k ≡ len → reply ≡ Count k → ⊥
+uncounted reply n len is ne k same also = ne (count_same n k (sym is ∙ also) ∙ same)
 
 -- no collection is granted where no bases are named
 pub no_bases : (hint : Hint) → ((bases : Bor (List ℕ)) → hint ≡ Forgot bases → ⊥) → (n : ℕ) (s s' : Heap) → NamesBases hint n s s' → ⊥

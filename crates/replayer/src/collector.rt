@@ -1,5 +1,6 @@
 //! The collector's events. Its small steps leave the heap as it is, and their replies are open within their ranges.
-ghost use Rattle.std.specs.Prelude.{◌≡◌, ℕ, IsTrue, IfSome, IfNone, false};
+ghost use Rattle.std.specs.Prelude.{◌≡◌, ◌<◌, ℕ, IsTrue, IfSome, IfNone, false};
+ghost use Rattle.heap_spec.specs.Layout.{word_end};
 ghost use Rattle.replayer.specs.declared.hint.Hint.{Hint as HintValue};
 ghost use Rattle.replayer.specs.Replays.{IsReplayed, IsNoReplay};
 
@@ -42,13 +43,37 @@ fn count_in(reply: &Reply) -> Option<u64>
 }
 
 impl Replayer {
+    // What is true of every replayer: its counts are words.
+    pub(crate) fn limits(&self)
+        ensures number { self.now.number < word_end }
+        ensures births { self.now.births < word_end }
+    {
+        let _number = self.number;
+        let _births = self.births;
+    }
+
+    // Whether a cycle is marking.
+    fn is_marking(&self) -> bool
+        ensures { result ≡ self.now.marking }
+    {
+        self.marking
+    }
+
+    // The count of collections.
+    fn collections(&self) -> u64
+        ensures { result ≡ self.now.number }
+    {
+        self.number
+    }
+
     // A cycle begins.
     pub(crate) fn begin(&mut self, reply: &Reply) -> bool
         ensures yes { IsTrue result → (hint : HintValue) → IsReplayed self.old Event.Begin reply.now hint self.new }
         ensures no { result ≡ false → (hint : HintValue) → IsNoReplay self.old Event.Begin reply.now hint }
         ensures same { result ≡ false → self.new ≡ self.old }
     {
-        if self.marking {
+        self.limits();
+        if self.is_marking() {
             return is_wrong_phase(reply);
         }
         if !is_done(reply) {
@@ -63,7 +88,8 @@ impl Replayer {
         ensures yes { IsTrue result → (hint : HintValue) → IsReplayed self.now Event.Roots reply.now hint self.now }
         ensures no { result ≡ false → (hint : HintValue) → IsNoReplay self.now Event.Roots reply.now hint }
     {
-        if !self.marking {
+        self.limits();
+        if !self.is_marking() {
             return is_wrong_phase(reply);
         }
         is_done(reply)
@@ -74,13 +100,17 @@ impl Replayer {
         ensures yes { IsTrue result → (hint : HintValue) → IsReplayed self.now (Event.Mark most) reply.now hint self.now }
         ensures no { result ≡ false → (hint : HintValue) → IsNoReplay self.now (Event.Mark most) reply.now hint }
     {
-        if !self.marking {
+        self.limits();
+        if !self.is_marking() {
             return is_wrong_phase(reply);
         }
         let Some(n) = count_in(reply) else {
             return false;
         };
-        n <= most
+        if n > most {
+            return false;
+        }
+        true
     }
 
     // A page is read again.
@@ -88,13 +118,17 @@ impl Replayer {
         ensures yes { IsTrue result → (hint : HintValue) → IsReplayed self.now Event.Retrace reply.now hint self.now }
         ensures no { result ≡ false → (hint : HintValue) → IsNoReplay self.now Event.Retrace reply.now hint }
     {
-        if !self.marking {
+        self.limits();
+        if !self.is_marking() {
             return is_wrong_phase(reply);
         }
         let Some(n) = count_in(reply) else {
             return false;
         };
-        n <= 1
+        if n > 1 {
+            return false;
+        }
+        true
     }
 
     // A page is swept.
@@ -102,10 +136,14 @@ impl Replayer {
         ensures yes { IsTrue result → (hint : HintValue) → IsReplayed self.now Event.Sweep reply.now hint self.now }
         ensures no { result ≡ false → (hint : HintValue) → IsNoReplay self.now Event.Sweep reply.now hint }
     {
+        self.limits();
         let Some(n) = count_in(reply) else {
             return false;
         };
-        n <= 1
+        if n > 1 {
+            return false;
+        }
+        true
     }
 
     // The count of collections.
@@ -113,10 +151,14 @@ impl Replayer {
         ensures yes { IsTrue result → (hint : HintValue) → IsReplayed self.now Event.Number reply.now hint self.now }
         ensures no { result ≡ false → (hint : HintValue) → IsNoReplay self.now Event.Number reply.now hint }
     {
+        self.limits();
         let Some(n) = count_in(reply) else {
             return false;
         };
-        n == self.number
+        if n != self.collections() {
+            return false;
+        }
+        true
     }
 
     // A cycle ends, and forgets the objects of the hint.
@@ -125,13 +167,18 @@ impl Replayer {
         ensures no { result ≡ false → IsNoReplay self.old Event.Finish reply.now hint.entry }
         ensures same { result ≡ false → self.new ≡ self.old }
     {
-        if !self.marking {
+        self.limits();
+        if !self.is_marking() {
             return is_wrong_phase(reply);
         }
         let Hint::Forgot(bases) = hint else {
             return false;
         };
-        if count_in(reply) != Some(bases.len() as u64) {
+        let Some(n) = count_in(reply) else {
+            return false;
+        };
+        let count = bases.len() as u64;
+        if n != count {
             return false;
         }
         if !self.core.forget(bases) {
@@ -148,10 +195,15 @@ impl Replayer {
         ensures no { result ≡ false → IsNoReplay self.old Event.Collect reply.now hint.entry }
         ensures same { result ≡ false → self.new ≡ self.old }
     {
+        self.limits();
         let Hint::Forgot(bases) = hint else {
             return false;
         };
-        if count_in(reply) != Some(bases.len() as u64) {
+        let Some(n) = count_in(reply) else {
+            return false;
+        };
+        let count = bases.len() as u64;
+        if n != count {
             return false;
         }
         if !self.core.collect_as(bases) {

@@ -1,7 +1,8 @@
 //! The replayer, how it is made, and its one question.
-ghost use Rattle.std.specs.Prelude.{◌≡◌, ◌+◌, ◌<◌, ◌↔◌, ◌⊎◌, IfOk, Err, IsTrue, false, []};
+ghost use Rattle.std.specs.Prelude.{◌≡◌, ◌+◌, ◌<◌, ◌≤◌, ◌↔◌, ◌⊎◌, IfOk, Err, IsTrue, false, []};
 ghost use Rattle.words.specs.declared.limits.TheConstants.{MAX_PAGES};
 ghost use Rattle.words.specs.declared.refusal.OpenError.TheVariants.{BadPages};
+ghost use Rattle.heap_spec.specs.Layout.{word_end};
 ghost use Rattle.heap_spec.specs.Runs.{fresh};
 ghost use Rattle.replayer.specs.Contents.{Follows};
 ghost use Rattle.replayer.specs.Replays.{IsReplayed, IsNoReplay};
@@ -51,16 +52,25 @@ impl Replayer {
         }
     }
 
+    // Whether no birth more can be counted.
+    fn is_full(&self) -> bool
+        ensures yes { IsTrue result → word_end ≤ self.now.births + 1 }
+        ensures no { result ≡ false → self.now.births + 1 < word_end }
+    {
+        self.births == u64::MAX
+    }
+
     // A request that was granted at the base of the hint.
     fn alloc(&mut self, slot: Slot, into: Reg, words: u64, kind: Kind, hint: Hint) -> bool
         ensures yes { IsTrue result → IsReplayed self.old (Event.Mutator slot (Call.Alloc into words kind)) Reply.Done hint.entry self.new }
         ensures no { result ≡ false → IsNoReplay self.old (Event.Mutator slot (Call.Alloc into words kind)) Reply.Done hint.entry }
         ensures same { result ≡ false → self.new ≡ self.old }
     {
+        self.limits();
         let Hint::Place(base) = hint else {
             return false;
         };
-        if self.births == u64::MAX {
+        if self.is_full() {
             return false;
         }
         if !self.core.alloc_at(slot, into, words, kind, base) {
@@ -76,6 +86,7 @@ impl Replayer {
         ensures no { result ≡ false → IsNoReplay self.old (Event.Mutator slot call.now) reply.now hint.entry }
         ensures same { result ≡ false → self.new ≡ self.old }
     {
+        self.limits();
         let Reply::Done = reply else {
             return self.core.call_as(slot, call, reply);
         };
@@ -91,6 +102,7 @@ impl Replayer {
         ensures no { result ≡ false → IsNoReplay self.old event reply.now hint.entry }
         ensures same { result ≡ false → self.new ≡ self.old }
     {
+        self.limits();
         match event {
             Event::Attach => self.core.attach_as(reply),
             Event::Mutator(slot, call) => self.call(slot, &call, reply, hint),
