@@ -198,7 +198,7 @@ pub born_where : (c : Contents) → IsSound c → (s : Heap) → StandsFor c s �
 born_where c sound s h k d n base kind place is (acts at (Acts.allocated {place = other} a is' room)) born =
     ⊎_elim
     (λ new. subst (IsPlace c.objects c.pages place kind) (sym new.0)
-        (place_of c sound s h place kind a (subst (λ p. HasRoom s p kind a) (same_Some other place (sym is' ∙ is)) room)))
+    (place_of c sound s h place kind a (subst (λ p. HasRoom s p kind a) (same_Some other place (sym is' ∙ is)) room)))
     (λ old. let b = h.born base born.object old.1 in let newest = born.newest in absurd (omega (arith, b.1)))
     (after_cases s a _ base born.object born.there)
 

@@ -90,7 +90,13 @@ fn is_large_place(objects: &[Extent], pages: u32, count: u32, address: u64) -> b
 }
 
 /// A new object of a placement at this base, as the extent that it has there, if it may go there.
-pub fn place_at(objects: &[Extent], pages: u32, placement: Placement, kind: Kind, base: u64) -> Option<Extent>
+pub fn place_at(
+    objects: &[Extent],
+    pages: u32,
+    placement: Placement,
+    kind: Kind,
+    base: u64,
+) -> Option<Extent>
     requires pages { pages ≤ MAX_PAGES }
     requires sized { IsSized placement }
     ensures some { IfSome result (λ e. (e.base ≡ base) × (e.kind ≡ kind) × (e.length ≡ length_of placement) × IsPlace objects.now pages placement kind base) }

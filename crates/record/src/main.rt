@@ -35,7 +35,11 @@ fn reply_text(alloc: Global, reply: &Reply) -> Result<String, AllocError> {
         Reply::Done => format!(in alloc; "ok"),
         Reply::Word(word) => format!(in alloc; "{word}"),
         Reply::Count(count) => format!(in alloc; "{count}"),
-        Reply::Refused(refusal) => format!(in alloc; "refused {} {}", refusal.code(), refusal.name()),
+        Reply::Refused(refusal) => format!(in alloc;
+            "refused {} {}",
+            refusal.code(),
+            refusal.name()
+        ),
     }
 }
 
@@ -63,7 +67,11 @@ fn answer_text(alloc: Global, reply: &Reply, hint: Hint) -> Result<String, Alloc
 }
 
 // The answer to a line, if it is one.
-fn answer(alloc: Global, recorder: &mut Recorder, line: &str) -> Result<Option<String>, AllocError> {
+fn answer(
+    alloc: Global,
+    recorder: &mut Recorder,
+    line: &str,
+) -> Result<Option<String>, AllocError> {
     if line.len() > LINE_BYTES {
         return Ok(None);
     }

@@ -103,7 +103,10 @@ fn parted(text: &str) -> (&str, &str, &str) {
 }
 
 /// The event, the reply and the hint of a line; the bases of a hint go into the list. `None` if it is no line of a run.
-pub fn read_line(line: &str, bases: &mut Vec<u64>) -> Result<Option<(Event, Reply, Told)>, AllocError> {
+pub fn read_line(
+    line: &str,
+    bases: &mut Vec<u64>,
+) -> Result<Option<(Event, Reply, Told)>, AllocError> {
     let Some((text, answer)) = line.split_once(" => ") else {
         return Ok(None);
     };

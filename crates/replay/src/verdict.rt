@@ -22,7 +22,12 @@ pub enum Verdict {
 }
 
 // What is wrong with the next line, if anything is.
-fn judge_line(replayer: &mut Replayer, number: u64, line: &str, bases: &mut Vec<u64>) -> Result<Option<Verdict>, AllocError> {
+fn judge_line(
+    replayer: &mut Replayer,
+    number: u64,
+    line: &str,
+    bases: &mut Vec<u64>,
+) -> Result<Option<Verdict>, AllocError> {
     let Some((event, reply, told)) = read_line(line, bases)? else {
         return Ok(Some(Verdict::Bad(number)));
     };

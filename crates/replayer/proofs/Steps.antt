@@ -101,7 +101,7 @@ module _ (old : Contents) (small : old.number < word_end) (few : old.births < wo
         record {
           stands = x.2;
           phase = f.phase;
-          number = sym (ap (λ k. (k + 0) % word_end) (sym f.number) ∙ same_number old.number small) ;
+          number = sym (ap (λ k. (k + 0) % word_end) (sym f.number) ∙ same_number old.number small);
           births = f.births ∙ sym births;
         },
       )

@@ -11,8 +11,11 @@ use words::limits::WORD_BYTES;
 use workloads::make_stress;
 
 const SEEDS: u64 = 10;
+
 const MUTATORS: u8 = 4;
+
 const STEPS: u32 = 1_500;
+
 const PAGES: u32 = 8;
 
 fn deny(replayer: &mut Replayer, event: &Event, reply: Reply, hint: Hint) -> Result<(), Fail> {
@@ -34,7 +37,12 @@ fn other(reply: &Reply) -> Reply {
 }
 
 // A request is granted at no address that isn't a cell's, and isn't refused where there is room.
-fn deny_places(replayer: &mut Replayer, event: &Event, reply: &Reply, hint: Hint) -> Result<(), Fail> {
+fn deny_places(
+    replayer: &mut Replayer,
+    event: &Event,
+    reply: &Reply,
+    hint: Hint,
+) -> Result<(), Fail> {
     let Hint::Place(base) = hint else {
         return Ok(());
     };
@@ -42,11 +50,21 @@ fn deny_places(replayer: &mut Replayer, event: &Event, reply: &Reply, hint: Hint
     deny(replayer, event, *reply, inside)?;
     deny(replayer, event, *reply, Hint::Place(0))?;
     deny(replayer, event, *reply, Hint::Nothing)?;
-    deny(replayer, event, Reply::Refused(Refusal::Full), Hint::Nothing)
+    deny(
+        replayer,
+        event,
+        Reply::Refused(Refusal::Full),
+        Hint::Nothing,
+    )
 }
 
 // What a collection forgot is neither one more, nor one twice, nor of a full one anything less.
-fn deny_bases(replayer: &mut Replayer, event: &Event, reply: &Reply, gone: &[u64]) -> Result<(), Fail> {
+fn deny_bases(
+    replayer: &mut Replayer,
+    event: &Event,
+    reply: &Reply,
+    gone: &[u64],
+) -> Result<(), Fail> {
     let (Reply::Count(count), Some(last)) = (reply, gone.last()) else {
         return Ok(());
     };
@@ -54,7 +72,12 @@ fn deny_bases(replayer: &mut Replayer, event: &Event, reply: &Reply, gone: &[u64
     deny(replayer, event, Reply::Count(2), Hint::Forgot(&twice))?;
     let inside = [last.wrapping_add(WORD_BYTES)];
     deny(replayer, event, Reply::Count(1), Hint::Forgot(&inside))?;
-    deny(replayer, event, Reply::Count(count.wrapping_add(1)), Hint::Forgot(gone))?;
+    deny(
+        replayer,
+        event,
+        Reply::Count(count.wrapping_add(1)),
+        Hint::Forgot(gone),
+    )?;
     deny(replayer, event, *reply, Hint::Nothing)?;
     if *event == Event::Collect {
         deny(replayer, event, Reply::Count(0), Hint::Forgot(&[]))?;
@@ -65,7 +88,12 @@ fn deny_bases(replayer: &mut Replayer, event: &Event, reply: &Reply, gone: &[u64
 // More than the range of an open reply.
 fn deny_ranges(replayer: &mut Replayer, event: &Event) -> Result<(), Fail> {
     match event {
-        Event::Mark(most) => deny(replayer, event, Reply::Count(most.wrapping_add(1)), Hint::Nothing),
+        Event::Mark(most) => deny(
+            replayer,
+            event,
+            Reply::Count(most.wrapping_add(1)),
+            Hint::Nothing,
+        ),
         Event::Retrace | Event::Sweep => deny(replayer, event, Reply::Count(2), Hint::Nothing),
         _ => Ok(()),
     }
@@ -97,7 +125,9 @@ fn replay_changed(pair: &mut Pair, text: &[u8]) -> Result<(), Fail> {
 }
 
 fn change_seed(alloc: Global, seed: u64) -> Result<(), Fail> {
-    let text = make_stress(alloc, seed, MUTATORS, STEPS).ok().ok_or("a script")?;
+    let text = make_stress(alloc, seed, MUTATORS, STEPS)
+        .ok()
+        .ok_or("a script")?;
     let mut pair = Pair::new(alloc, PAGES)?;
     replay_changed(&mut pair, text.as_slice())
 }
@@ -117,11 +147,29 @@ fn deny_reached(pair: &mut Pair) -> Result<(), Fail> {
         return Err("a base".into());
     };
     let bases = [base];
-    deny(&mut pair.replayer, &Event::Finish, Reply::Count(1), Hint::Forgot(&bases))?;
-    deny(&mut pair.replayer, &Event::Collect, Reply::Count(1), Hint::Forgot(&bases))?;
-    deny(&mut pair.replayer, &Event::Begin, Reply::Done, Hint::Nothing)?;
+    deny(
+        &mut pair.replayer,
+        &Event::Finish,
+        Reply::Count(1),
+        Hint::Forgot(&bases),
+    )?;
+    deny(
+        &mut pair.replayer,
+        &Event::Collect,
+        Reply::Count(1),
+        Hint::Forgot(&bases),
+    )?;
+    deny(
+        &mut pair.replayer,
+        &Event::Begin,
+        Reply::Done,
+        Hint::Nothing,
+    )?;
     pair.lines(&["0 set 1 0", "0 set 2 0"])?;
-    if !pair.replayer.step(&Event::Finish, &Reply::Count(1), Hint::Forgot(&bases)) {
+    if !pair
+        .replayer
+        .step(&Event::Finish, &Reply::Count(1), Hint::Forgot(&bases))
+    {
         return Err("a yes".into());
     }
     Ok(())

@@ -21,9 +21,18 @@ const OPENING: [&str; 7] = [
 ];
 
 const FIRST: [&str; 3] = ["0 load 2 1 0", "0 store 3 0 2", "0 store 1 0 4"];
+
 const SECOND_A: [&str; 3] = ["1 alloc 1 2 normal", "1 gput 0 1", "1 set 1 0"];
+
 const SECOND_B: [&str; 3] = ["1 alloc 1 2 normal", "1 set 1 0", "1 gget 2 0"];
-const COLLECTOR: [&str; 5] = ["gc begin", "gc roots", "gc mark 64", "gc retrace", "gc finish"];
+
+const COLLECTOR: [&str; 5] = [
+    "gc begin",
+    "gc roots",
+    "gc mark 64",
+    "gc retrace",
+    "gc finish",
+];
 
 // How far each actor is, and what was seen on the way.
 #[derive(Clone, Copy, Drop)]
@@ -148,7 +157,11 @@ fn check_b(rt: &impl Abort, alloc: Global, seed: u64) -> Result<(), Fail> {
     if turns.is_early {
         assert_eq!(rt; turns.finished, Reply::Count(1));
     }
-    let other = if turns.finished == Reply::Count(1) { 0 } else { 1 };
+    let other = if turns.finished == Reply::Count(1) {
+        0
+    } else {
+        1
+    };
     assert_eq!(rt; collected, Reply::Count(other));
     Ok(())
 }

@@ -5,8 +5,11 @@ use std::test::Fail;
 use workloads::make_stress;
 
 const SEEDS: u64 = 50;
+
 const MUTATORS: u8 = 4;
+
 const STEPS: u32 = 3_000;
+
 const PAGES: u32 = 8;
 
 fn replay_text(pair: &mut Pair, text: &[u8]) -> Result<(), Fail> {
@@ -19,7 +22,9 @@ fn replay_text(pair: &mut Pair, text: &[u8]) -> Result<(), Fail> {
 }
 
 fn replay_seed(alloc: Global, seed: u64) -> Result<(), Fail> {
-    let text = make_stress(alloc, seed, MUTATORS, STEPS).ok().ok_or("a script")?;
+    let text = make_stress(alloc, seed, MUTATORS, STEPS)
+        .ok()
+        .ok_or("a script")?;
     let mut pair = Pair::new(alloc, PAGES)?;
     replay_text(&mut pair, text.as_slice())
 }

@@ -11,4 +11,4 @@ returns-then-not-is_marking-clause-yes c done hint = rw (c.is_wrong_phase.ensure
 
 pub returns-clause-yes : goal.returns-clause-yes
 returns-clause-yes c done hint = rw c.in-Some.ensures.some
-    (retrace_stays c.args.self.now c.limits.ensures.number c.limits.ensures.births  c.in-Some.n hint (sym c.is_marking.ensures ∙ c.if-not-is_marking.false) (omega arith))
+    (retrace_stays c.args.self.now c.limits.ensures.number c.limits.ensures.births c.in-Some.n hint (sym c.is_marking.ensures ∙ c.if-not-is_marking.false) (omega arith))
