@@ -60,8 +60,8 @@ impl<J: Naming> SharedHeap<J> {
             .last(logged, pass, &Event::Mutator(slot, Call::Detach));
     }
 
-    // A mutator's call.
-    pub(crate) fn call(&self, rt: &impl Wait, me: &mut Mutator<J>, call: Call) -> Reply
+    /// A mutator's call, as a value.
+    pub fn call(&self, rt: &impl Wait, me: &mut Mutator<J>, call: Call) -> Reply
         requires { IsNoDetach call }
         ensures makes { Makes J.origin me.old call result me.new }
         ensures answers { Answers call result }
