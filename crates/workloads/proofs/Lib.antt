@@ -9,3 +9,4 @@ pub mod Counted
 pub mod Collected
 pub mod Called
 pub mod OneHistories
+pub mod Served

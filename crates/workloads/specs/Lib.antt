@@ -7,3 +7,4 @@ pub mod Stress
 pub mod Laws
 pub mod OneHistory
 pub mod Actors
+pub mod Serving

@@ -1,7 +1,7 @@
 //! Workloads, as they are read line by line.
 ghost use Rattle.std.specs.Prelude.{◌≡◌, ◌≢◌, ℕ, List, ◌-◌, ◌+◌, ◌<◌, ◌≤◌, true, [], ◌∷◌, ◌++◌, Some, All, length, slice_set, slice_index_or, OnOk, OnErr, MatchBool};
 ghost use Rattle.scripts.specs.declared.limits.TheConstants.{LINE_BYTES};
-ghost use Rattle.scripts.specs.Ends.{read_faults};
+ghost use Rattle.scripts.specs.Ends.{read_faults, write_faults};
 ghost use Rattle.workloads.specs.Workloads.{MayFollow, is_collectors};
 ghost use Rattle.workloads.specs.Reading.{Reads};
 ghost use Rattle.workloads.specs.Taking.{with_command, no_lines, IsTurn};
@@ -117,7 +117,8 @@ impl Workload {
     ) -> Result<(), ScriptError>
         requires number { 1 ≤ number }
         requires short { length line.now ≤ LINE_BYTES }
-        ensures { IsTurn number line.now self.old self.new result }
+        ensures turn { IsTurn number line.now self.old self.new result }
+        ensures writes_nothing { write_faults result ≡ 0 }
     {
         let Some(command) = command(line) else {
             return Err(ScriptError::BadLine(number));
@@ -135,6 +136,7 @@ impl Workload {
     pub fn read<R: Source>(alloc: Global, reader: &mut R) -> Result<Workload, ScriptError>
         ensures reads { (input : List ℕ) → R.remaining reader.old ≡ Some input → Reads input (R.remaining reader.new) result }
         ensures faults { R.faults reader.new ≡ R.faults reader.old + read_faults result }
+        ensures writes_nothing { write_faults result ≡ 0 }
     {
         let Ok(mut buffer) = InputBuffer::new(alloc) else {
             return Err(ScriptError::Memory);
