@@ -15,7 +15,7 @@ use std::thread::Threads;
 
 /// Reads a workload, runs it on threads over a heap of its own of so many pages, and prints the replies: a workload's lines are all read
 /// before the first is run, and all are run before the first reply is printed. The first fault ends it, and nothing is tried again.
-#[tactic(auto, using(crate::proofs::Served::unread, crate::proofs::Served::no_room, crate::proofs::Served::printed, crate::proofs::Served::reads_nothing))]
+#[tactic(auto, using(crate::proofs::Served::unread, crate::proofs::Served::reads_nothing))]
 pub fn run_workload<Rt: Threads + Wait + Sync, G: Gate, R: Source, W: Sink>(
     rt: &Rt,
     alloc: Global,
