@@ -1,5 +1,6 @@
 //! A core over pages in plain Rust, with the same data and the same calls as the proved one. It prints the same lines: a
 //! name, and picoseconds a call.
+mod locked;
 mod plain_row;
 
 use plain_row::next;
@@ -357,4 +358,5 @@ fn main() {
         }
         report(name, spent, sizes.len());
     }
+    locked::measure();
 }

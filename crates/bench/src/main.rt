@@ -6,6 +6,7 @@ mod calls;
 mod collections;
 mod figures;
 mod heap;
+mod locked;
 mod maps;
 mod marking;
 mod marks;
@@ -18,5 +19,6 @@ fn main(rt: HostRuntime) -> io::Result<()> {
     marks::measure(&rt, rt.alloc())?;
     calls::measure(&rt, rt.alloc())?;
     collections::measure(&rt, rt.alloc())?;
-    marking::measure(&rt, rt.alloc())
+    marking::measure(&rt, rt.alloc())?;
+    locked::measure(&rt, rt.alloc())
 }

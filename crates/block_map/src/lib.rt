@@ -4,6 +4,7 @@
 
 mod fills;
 mod found;
+mod large;
 mod look;
 mod map;
 mod page;

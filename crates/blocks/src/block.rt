@@ -2,7 +2,7 @@
 //! true is an allocated cell.
 ghost use Rattle.std.specs.Prelude.{◌≡◌, ℕ, ◌*◌, ◌/◌, ◌%◌, ◌<◌, true, false, length, replicate, slice_index_or, slice_set, MatchOption, MatchBool};
 ghost use Rattle.words.specs.declared.limits.TheConstants.{PAGE_WORDS, PAGE_BYTES};
-ghost use Rattle.words.specs.Bits.{IsFullRow, IsEmptyFrom, IsFirstFrom, IsFirstClear};
+ghost use Rattle.words.specs.Bits.{members, IsFullRow, IsEmptyFrom, IsFirstFrom, IsFirstClear};
 ghost use Rattle.words.specs.Classes.{IsSizeClass};
 ghost use Rattle.blocks.specs.Cells.{IsCells, IsInCell, IsLeftOver};
 
@@ -127,6 +127,14 @@ impl Block {
         ensures { self.new ≡ record self.old { taken = slice_set self.old.taken cell false } }
     {
         self.taken.clear(cell);
+    }
+
+    /// How many cells are allocated.
+    pub fn allocated(&self) -> u32
+        ensures count { result ≡ members self.now.taken }
+        ensures cells { IsCells self.now }
+    {
+        self.taken.count()
     }
 
     /// Whether no cell is allocated.

@@ -8,8 +8,10 @@
 
 mod gate;
 mod helpers;
+mod parallel;
 mod pause;
 
 pub use gate::{COLLECTOR, FIRST_HELPER, Gate, Open};
 pub use helpers::Helpers;
+pub use parallel::close_marks_with;
 pub use pause::close_marks;

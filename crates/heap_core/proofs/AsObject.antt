@@ -1,6 +1,8 @@
 -- The core's lines as steps of its states, and the marker's as none.
-use Rattle.std.proofs.Common.{◌≡◌, ℕ, Bool, refl, sym, ap, ◌∙◌, subst, true≢false}
-use Rattle.std.specs.Prelude.{slice_get}
+use Rattle.std.proofs.Common.{Result, Ok, Err, ◌≡◌, ℕ, Bool, true, refl, sym, ap, ◌∙◌, subst, true≢false}
+use Rattle.std.specs.Prelude.{⊤, slice_get}
+use Rattle.words.specs.declared.refusal.Refusal.{Refusal}
+use Rattle.roots.specs.Roots.{root_words_of}
 use Rattle.history.specs.Objects.{StepsFrom}
 use Rattle.heap_spec.specs.declared.event.Event.{Event}
 use Rattle.heap_spec.specs.declared.event.Event.TheVariants.{Attach, Mutator, Begin, Roots, Mark, Retrace, Finish, Sweep, Collect, Number}
@@ -13,8 +15,10 @@ use Rattle.heap_spec.specs.Ranges.{InRange}
 use Rattle.heap_spec.specs.SequentialObject.{HeapState, heap_of, Fits, StateStep}
 use Rattle.heap_core.specs.Contents.{Contents}
 use Rattle.heap_core.specs.Standing.{StandsFor}
+use Rattle.heap_core.specs.Collections.{ClosesMarks, IsGrantedIn}
 use Rattle.heap_core.specs.Following.{Follows, IsLine}
 use Rattle.heap_core.specs.AsObject.{Stands, Can}
+use Rattle.heap_core.proofs.Following.{marks_follow}
 
 -- who may ask the core for an event fits it
 can_fits : (c : Contents) (s : Heap) (who : ℕ) (event : Event) → StandsFor c s → Can c who event → Fits s who event
@@ -104,3 +108,8 @@ pub line_stays : (old new : Contents) (event : Event) (reply : Reply) → IsQuie
 line_stays old new event reply quiet line state follows =
     let next = line (fresh state.pages) state.run follows in
     subst (λ (run : Run). Follows new (fresh state.pages) run) (run_stays Touched (fresh state.pages) state.run quiet next.1) next.2
+
+-- Closing the marks is no event either.
+pub closes_stay : (old new : Contents) (r : Result ⊤ Refusal) → IsGrantedIn true old r new (λ _. ClosesMarks old new) → (state : HeapState) → Stands old state → Stands new state
+closes_stay old new (Ok done) g state follows = marks_follow (root_words_of old.roots) old new g.0 g.1.marks (fresh state.pages) state.run follows
+closes_stay old new (Err why) g state follows = subst (λ (c : Contents). Stands c state) (sym g.2) follows

@@ -1,5 +1,5 @@
 -- The calls that allocate and free.
-use Rattle.std.proofs.Common.{get_or, cond, replicate, true, false, length, inl, inr, ⊎_elim, ◌≡◌, ℕ, ◌+◌, [], ◌∷◌, Some, None, refl, sym, ap, ◌∙◌, subst, List}
+use Rattle.std.proofs.Common.{◌≤◌, get_or, cond, replicate, true, false, length, inl, inr, ⊎_elim, ◌≡◌, ℕ, ◌+◌, [], ◌∷◌, Some, None, refl, sym, ap, ◌∙◌, subst, List}
 use Rattle.std.specs.Prelude.{◌≢◌}
 use Rattle.words.specs.declared.class.Kind.{Kind}
 use Rattle.words.specs.declared.class.Placement.{Placement}
@@ -14,8 +14,7 @@ use Rattle.heap_spec.specs.Steps.{Acts, Calls, register, with_new, with_register
 use Rattle.words.specs.Bits.{Has}
 use Rattle.mark_bits.specs.Granules.{granule}
 use Rattle.block_map.specs.Objects.{Reads, IsPlaced}
-use Rattle.pages.specs.Memory
-use Rattle.pages.specs.Memory.{IsZeroed}
+use Rattle.words.specs.declared.limits.TheConstants.{FIRST_ADDRESS}
 use Rattle.heap_spec.specs.Heap.{with_at, without, without_at}
 use Rattle.heap_spec.specs.Room.{length_of}
 use Rattle.std.specs.Prelude.{Bool}
@@ -41,6 +40,7 @@ use Rattle.object_space.specs.Kept.{restrict, is_kept, kept_in}
 use Rattle.object_space.proofs.Kept.{kept_cases, kept_map, kept_added, kept_removed, kept_none, kept_same, kept_is, nothing_pending}
 use Rattle.object_space.proofs.Changes.{shows_added, shows_removed}
 use Rattle.object_space.proofs.Allocations.{shows_same}
+use Rattle.object_space.proofs.Words.{shows_kept}
 use Rattle.object_space.proofs.Shown.{at_base}
 use Rattle.object_space.proofs.Sweeping.{read_or_not}
 use Rattle.object_space.specs.Rooms.{HasRoomAt, HasNoRoom}
@@ -54,10 +54,13 @@ swept_stands roots t0 t y sweeps s h = record {
   globals = h.globals;
   store = record {
     pages = h.store.pages ∙ sym sweeps.pages;
-    shows = subst (λ ws. Shows (restrict (is_kept t.pending y.marking.marks) (found_in t.states)) ws s.objects s.births) (sym sweeps.words)
-        (shows_same (restrict (is_kept t0.pending y.marking.marks) (found_in t0.states)) (restrict (is_kept t.pending y.marking.marks) (found_in t.states)) t0.words s.objects s.births sweeps.same h.store.shows);
+    shows = shows_kept (kept_in t.states t.pending y.marking.marks) t0.words t.words s.objects s.births low sweeps.words
+        (shows_same (kept_in t0.states t0.pending y.marking.marks) (kept_in t.states t.pending y.marking.marks) t0.words s.objects s.births sweeps.same h.store.shows);
   };
 }
+  where
+    low : (f : Found) → kept_in t.states t.pending y.marking.marks f.base ≡ Some f → FIRST_ADDRESS ≤ f.base
+    low f there = (sweeps.before.placed f.base f (kept_cases (is_kept t0.pending y.marking.marks) (found_in t0.states) f.base f (sym (sweeps.same.same f.base) ∙ there)).0).above
 
 -- what was kept is kept, and so is the object that came
 module _ (t t' : Store) (y y' : Cycle) (place : Placement) (kind : Kind) (base : ℕ) (gains : Gains t place kind base t') (notes : NotesObject y.is_marking base y.marking y'.marking) where
@@ -95,7 +98,7 @@ module _ (t t' : Store) (y y' : Cycle) (place : Placement) (kind : Kind) (base :
         (shows_added (restrict (is_kept t.pending y.marking.marks) (found_in t.states)) (restrict (is_kept t'.pending y'.marking.marks) (found_in t'.states)) (length t.states)
         (kept_map (length t.states) (is_kept t.pending y.marking.marks) (found_in t.states) gains.before) t.words t'.words s.objects s.births stores.shows gains.object (length_of place) kind
         (kept_added (is_kept t.pending y.marking.marks) (is_kept t'.pending y'.marking.marks) (found_in t.states) (found_in t'.states) gains.object gains.added keeps_new keeps_same)
-        (subst (λ b. IsZeroed t.words t'.words (Memory.place b) gains.object.len) (sym gains.at) gains.zeroed) gains.size gains.of_kind placed.some placed.above placed.aligned);
+        (λ g i there lt. gains.words g i (kept_cases (is_kept t.pending y.marking.marks) (found_in t.states) g.base g there).0 lt) gains.zeroed gains.size gains.of_kind placed.some placed.above placed.aligned);
   }
     where
       placed : IsPlaced (length t'.states) gains.object
@@ -197,10 +200,16 @@ module _ (t t' : Store) (y y' : Cycle) (f : Found) (map : IsMap (length t.states
   stores_less : (s : Heap) → Stores (is_kept t.pending y.marking.marks) t s → Stores (is_kept t'.pending y'.marking.marks) t' (without s (f.base ∷ []))
   stores_less s stores = record {
     pages = stores.pages ∙ sym loses.pages;
-    shows = subst (λ ws. Shows (restrict (is_kept t'.pending y'.marking.marks) (found_in t'.states)) ws (without_at s.objects (f.base ∷ [])) s.births) (sym loses.words)
+    shows = shows_kept (kept_in t'.states t'.pending y'.marking.marks) t.words t'.words (without_at s.objects (f.base ∷ [])) s.births
+        (λ g there. (map.placed g.base g (kept_cases (is_kept t.pending y.marking.marks) (found_in t.states) g.base g (still g there)).0).above)
+        (λ g i there lt. loses.words g i (kept_cases (is_kept t'.pending y'.marking.marks) (found_in t'.states) g.base g there).0 lt)
         (shows_removed (restrict (is_kept t.pending y.marking.marks) (found_in t.states)) (restrict (is_kept t'.pending y'.marking.marks) (found_in t'.states)) (length t.states)
         (kept_map (length t.states) (is_kept t.pending y.marking.marks) (found_in t.states) map) t.words s.objects s.births stores.shows f is kept_left);
   }
+    where
+      -- what is left was there
+      still : (g : Found) → kept_in t'.states t'.pending y'.marking.marks g.base ≡ Some g → kept_in t.states t.pending y.marking.marks g.base ≡ Some g
+      still g there = ⊎_elim (λ r. absurd (none_some g (sym (kept_left.before g.base r) ∙ there))) (λ not. kept_left.others g.base not ∙ there) (read_or_not g.base f)
 
   -- what is there now was there before
   was_kept : (g : Found) → restrict (is_kept t'.pending y'.marking.marks) (found_in t'.states) g.base ≡ Some g → restrict (is_kept t.pending y.marking.marks) (found_in t.states) g.base ≡ None → ⊥

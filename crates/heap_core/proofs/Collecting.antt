@@ -30,6 +30,7 @@ use Rattle.heap_core.specs.Standing.{StandsFor, keeps}
 use Rattle.object_space.specs.Kept.{restrict, kept_in}
 use Rattle.object_space.proofs.Kept.{kept_all, nothing_pending}
 use Rattle.object_space.proofs.Allocations.{shows_same}
+use Rattle.object_space.proofs.Words.{shows_kept}
 use Rattle.object_space.specs.Sweeps.{ForgetsUnreached}
 use Rattle.heap_core.specs.Collections.{ForgetsOutside}
 use Rattle.object_space.proofs.Sweeping.{shows_without}
@@ -85,6 +86,14 @@ module _ (c : Contents) (map : IsMap (length c.store.states) (found_in c.store.s
       let outer = closure_more (found_in c.store.states) c.store.words roots (root_words_of c.roots) (IsMarked c.cycle.marking) (IsMarked c.cycle.marking) among (λ g e k. Closure.held e k) inner in
       subst (heap.Closure s (IsMarkedBirth s c.cycle.marking)) f.2 ((closures f.0 there).0 outer)
 
+  -- marks that are the marker's closure hold the heap's
+  pub all_marked : (m : Marking) → ((f : Found) → found_in c.store.states f.base ≡ Some f → IsMarked m f.base ↔ Closure (found_in c.store.states) c.store.words (root_words_of c.roots) (IsMarked c.cycle.marking) f)
+      → (base : ℕ) (o : Object) → HasObject s base o → heap.Closure s (IsMarkedBirth s c.cycle.marking) base → IsMarked m base
+  all_marked m closed base o has inside =
+      let f = found_at base o has in
+      let there = ap (found_in c.store.states) f.2 ∙ f.1 in
+      subst (IsMarked m) f.2 ((closed f.0 there).1 ((closures f.0 there).1 (subst (heap.Closure s (IsMarkedBirth s c.cycle.marking)) (sym f.2) inside)))
+
   -- what is forgotten was an object, outside of the closure
   forgotten : (t' : Store) (n : ℕ) (marks : List Bool) (x : ForgetsUnreached c.store (root_words_of c.roots) c.cycle.marking n marks t') (base : ℕ) → Contains x.bases base
       → (o : Object) × HasObject s base o × (heap.Closure s (IsMarkedBirth s c.cycle.marking) base → ⊥)
@@ -118,7 +127,8 @@ module _ (c : Contents) (map : IsMap (length c.store.states) (found_in c.store.s
     globals = h.globals;
     store = record {
       pages = h.store.pages ∙ sym x.pages;
-      shows = subst (λ ws. Shows (kept_in t'.states t'.pending y.marking.marks) ws (without s x.bases).objects s.births) (sym x.words)
+      shows = shows_kept (kept_in t'.states t'.pending y.marking.marks) c.store.words t'.words (without s x.bases).objects s.births
+          (λ f there. (map.placed f.base f (x.without.left f.base f there).0).above) x.words
           (shows_without (length c.store.states) (found_in c.store.states) (kept_in t'.states t'.pending y.marking.marks) c.store.words s.objects s.births x.bases all_shown x.without);
     };
   }

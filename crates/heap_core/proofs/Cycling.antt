@@ -1,10 +1,13 @@
 -- The calls of the collector, over the core as a whole.
-use Rattle.std.proofs.Common.{◌≡◌, ℕ, ◌+◌, ◌%◌, true, false, List, [], length, Contains, refl, sym, ◌∙◌, arith}
+use Rattle.std.proofs.Common.{◌≡◌, ℕ, ◌+◌, ◌≤◌, ◌%◌, true, false, List, [], length, Contains, refl, sym, ◌∙◌, arith}
+use Rattle.std.specs.Prelude.{count_by, ◌↔◌, Some}
+use Rattle.block_map.specs.declared.found.Found.{Found}
 use Rattle.block_map.specs.FoundIn.{found_in}
 use Rattle.block_map.specs.Objects.{IsMap}
 use Rattle.heap_spec.specs.Heap.{Heap}
 use Rattle.heap_spec.specs.Layout.{word_end}
-use Rattle.marker.specs.Marking.{Marking, IsFresh}
+use Rattle.marker.specs.Closure.{Closure}
+use Rattle.marker.specs.Marking.{Marking, IsMarked, IsFresh, IsDone}
 use Rattle.marker.specs.Growth.{Traces}
 use Rattle.roots.specs.Roots.{root_words_of}
 use Rattle.object_space.specs.Store.{Store, IsSwept}
@@ -15,8 +18,8 @@ use Rattle.object_space.specs.Kept.{restrict, is_kept, IsPendingAfter}
 use Rattle.object_space.proofs.Kept.{kept_same, nothing_pending}
 use Rattle.object_space.proofs.Allocations.{shows_same}
 use Rattle.heap_core.proofs.Calls.{swept_stands}
-use Rattle.heap_core.specs.Collections.{BeginsCycle, MarksOn, EndsCycle, CollectsAll}
-use Rattle.heap_core.proofs.Collecting.{grows_within, ends, collects}
+use Rattle.heap_core.specs.Collections.{BeginsCycle, MarksOn, ClosesMarks, EndsCycle, CollectsAll, SweepsOne}
+use Rattle.heap_core.proofs.Collecting.{grows_within, all_marked, ends, collects}
 
 none_in : (w : ℕ) → Contains [] w → ⊥
 none_in w h = let l = h.1 in omega arith
@@ -44,6 +47,16 @@ begins c t m sweeps swept fresh = record {
   swept = swept;
 }
 
+pub sweeps_one : (c : Contents) (t : Store) (n : ℕ) → Sweeps c.store c.cycle.marking.marks t → n ≤ 1 → count_by (λ b. b) t.pending + n ≡ count_by (λ b. b) c.store.pending → (n ≡ 0 → IsSwept c.store)
+    → SweepsOne c n (record { roots = c.roots; store = t; cycle = c.cycle })
+sweeps_one c t n sweeps few fewer none = record {
+  stands = λ s h. swept_stands c.roots c.store t c.cycle sweeps s h;
+  cycle = refl;
+  few = few;
+  fewer = fewer;
+  none = none;
+}
+
 pub marks_on : (c : Contents) (roots : List ℕ) (m : Marking) → IsMap (length c.store.states) (found_in c.store.states) → IsSwept c.store → ((w : ℕ) → Contains roots w → Contains (root_words_of c.roots) w)
     → Traces (found_in c.store.states) c.store.words roots c.cycle.marking m → MarksOn roots c (record c { cycle = record c.cycle { marking = m } })
 marks_on c roots m map swept among traces = record {
@@ -56,6 +69,14 @@ marks_on c roots m map swept among traces = record {
 
 pub marks_more : (c : Contents) (m : Marking) → IsMap (length c.store.states) (found_in c.store.states) → IsSwept c.store → Traces (found_in c.store.states) c.store.words [] c.cycle.marking m → MarksOn [] c (record c { cycle = record c.cycle { marking = m } })
 marks_more c m map swept traces = marks_on c [] m map swept (λ w h. absurd (none_in w h)) traces
+
+pub closes_marks : (c : Contents) (m : Marking) → IsMap (length c.store.states) (found_in c.store.states) → IsSwept c.store → Traces (found_in c.store.states) c.store.words (root_words_of c.roots) c.cycle.marking m → IsDone m
+    → ((f : Found) → found_in c.store.states f.base ≡ Some f → IsMarked m f.base ↔ Closure (found_in c.store.states) c.store.words (root_words_of c.roots) (IsMarked c.cycle.marking) f) → ClosesMarks c (record c { cycle = record c.cycle { marking = m } })
+closes_marks c m map swept traces done closed = record {
+  marks = marks_on c (root_words_of c.roots) m map swept (λ w h. h) traces;
+  done = done;
+  all = λ s h. all_marked c map swept s h m closed;
+}
 
 pub ends_cycle : (c : Contents) (t' : Store) (m : Marking) (count n : ℕ) → IsMap (length c.store.states) (found_in c.store.states) → IsSwept c.store → ForgetsUnreached c.store (root_words_of c.roots) c.cycle.marking n m.marks t' → IsPendingAfter t'.states m.marks t'.pending
     → count ≡ (c.cycle.count + 1) % word_end → EndsCycle c n (record { roots = c.roots; store = t'; cycle = record { marking = m; is_marking = false; count = count } })

@@ -1,8 +1,8 @@
 -- What keeps a core traced: its marker is one of its pages, and while marking the dirty-page invariant holds.
-use Rattle.std.proofs.Common.{◌≡◌, ℕ, ◌+◌, ◌*◌, ◌<◌, ◌≤◌, ◌⊎◌, true, false, List, length, get_or, Option, Some, None, refl, sym, ap, ◌∙◌, subst, inl, inr, ⊎_elim, arith}
-use Rattle.std.proofs.lemmas.Bool.{cases_lt, false≢true}
+use Rattle.std.proofs.Common.{◌≡◌, ℕ, true, false, List, length, Option, Some, None, refl, sym, ap, ◌∙◌, subst, ⊎_elim}
+use Rattle.std.proofs.lemmas.Bool.{false≢true}
 use Rattle.std.specs.Prelude.{Bool}
-use Rattle.pages.specs.Memory.{place, with_word_at}
+use Rattle.pages.specs.Memory.{with_word_at}
 use Rattle.block_map.specs.declared.found.Found.{Found}
 use Rattle.block_map.specs.FoundIn.{found_in}
 use Rattle.block_map.specs.Objects.{IsMap, Reads}
@@ -14,7 +14,7 @@ use Rattle.mark_bits.specs.Granules.{granule}
 use Rattle.marker.specs.Marking.{Marking, IsFresh, IsObjectGranule, AreMarksObjects}
 use Rattle.marker.specs.Growth.{Traces}
 use Rattle.marker.specs.Invariant.{DirtyPageInvariant}
-use Rattle.marker.specs.Mutations.{KeepsWords, HasZeroWords, IsFreed}
+use Rattle.marker.specs.Mutations.{KeepsWords, IsFreed}
 use Rattle.marker.proofs.Mutating.{free_traced}
 use Rattle.object_space.specs.Kept.{is_kept}
 use Rattle.object_space.proofs.Kept.{kept_all, kept_cases, kept_is, marked_kept, nothing_pending}
@@ -42,37 +42,13 @@ traced_write t t' y y' address word x writes notes phase = subst (λ (z : Store)
   invariant = λ is. notes.keeps (sym phase ∙ is) (found_in t.states) t.words word (x.invariant (sym phase ∙ is));
 })
 
--- the words of the objects that were there stay
-gains_keeps : (t : Store) (p : Placement) (kind : Kind) (base : ℕ) (t' : Store) → Gains t p kind base t' → KeepsWords (found_in t.states) t.words t'.words
-gains_keeps t p kind base t' g f i there lt =
-    g.zeroed.others (place (f.base + 8 * i)) (outside (f.base + 8 * i) refl)
-  where
-    outside : (w : ℕ) → w ≡ f.base + 8 * i → (place w < place base) ⊎ (place base + g.object.len ≤ place w)
-    outside w e =
-        let above = (g.before.placed f.base f there).above in let even = (g.before.placed f.base f there).aligned in
-        let here = (g.map.placed base g.object g.found).aligned in let at = g.at in
-        let low = (g.map.placed base g.object g.found).above in
-        ⊎_elim (λ before. inl before)
-        (λ from. ⊎_elim
-        (λ inside. absurd (
-        let r : Reads w g.object = record { from = omega arith; below = omega arith } in
-        let none : found_in t.states w ≡ None = g.added.before w r in
-        let some : found_in t.states w ≡ Some f = g.before.whole f.base w f there (record { from = omega arith; below = omega arith }) in
-        clash (sym none ∙ some)))
-        (λ past. inr past)
-        (cases_lt (place w) (place base + g.object.len)))
-        (cases_lt (place w) (place base))
-      where
-        clash : None ≡ Some f → ⊥
-        clash z = cc
-
 -- an object comes
 pub traced_object : (t t' : Store) (y y' : Cycle) (p : Placement) (kind : Kind) (base : ℕ) → IsTraced t y → Gains t p kind base t' → NotesObject y.is_marking base y.marking y'.marking → y'.is_marking ≡ y.is_marking → IsTraced t' y'
 traced_object t t' y y' p kind base x g notes phase = record {
   pages = ap length notes.dirty ∙ x.pages ∙ sym g.pages;
   objects = λ k h. ⊎_elim (λ old. stays k (x.objects k old)) (λ same. record { object = g.object; is = ap (found_in t'.states) g.at ∙ g.found; first = ap granule g.at ∙ sym same }) (notes.marks k h);
   swept = λ is. subst (λ row. (page : ℕ) → Has row page → ⊥) (sym g.pending) (x.swept (sym phase ∙ is));
-  invariant = λ is. notes.keeps (sym phase ∙ is) (length t'.states) (found_in t.states) (found_in t'.states) t.words t'.words g.object g.at g.map g.found g.added (gains_keeps t p kind base t' g) (zeros t p kind base t' g) (x.invariant (sym phase ∙ is));
+  invariant = λ is. notes.keeps (sym phase ∙ is) (length t'.states) (found_in t.states) (found_in t'.states) t.words t'.words g.object g.at g.map g.found g.added g.words g.zeroed (x.invariant (sym phase ∙ is));
 }
   where
     -- an object that was there is there
@@ -85,11 +61,6 @@ traced_object t t' y y' p kind base x g notes phase = record {
         apart : Reads o.object.base g.object → ⊥
         apart r = clash (sym (g.added.before o.object.base r) ∙ o.is)
 
-    zeros : (t : Store) (p : Placement) (kind : Kind) (base : ℕ) (t' : Store) (g : Gains t p kind base t') → HasZeroWords t'.words g.object
-    zeros t p kind base t' g i lt =
-        let at = g.at in let low = (g.map.placed base g.object g.found).above in
-        g.zeroed.zero (place (g.object.base + 8 * i)) (omega arith) (omega arith)
-
 -- an object goes
 pub traced_freed : (t t' : Store) (y y' : Cycle) (f : Found) → IsTraced t y → (AreMarksObjects (found_in t.states) y.marking → AreMarksObjects (found_in t'.states) y'.marking) → IsMap (length t.states) (found_in t.states) → found_in t.states f.base ≡ Some f → Loses t f t' → IsFreed f.base y.marking y'.marking → y'.is_marking ≡ y.is_marking
     → ((pages : ℕ) (found after : ℕ → Option Found) (words words' : List ℕ) (g : Found) → g.base ≡ f.base → IsMap pages found → found f.base ≡ Some g → IsRemoved found after g → KeepsWords after words words' → DirtyPageInvariant found words y.marking → DirtyPageInvariant after words' y'.marking)
@@ -98,8 +69,7 @@ traced_freed t t' y y' f x objects map there loses frees phase keeps = record {
   pages = ap length frees.dirty ∙ x.pages ∙ sym loses.pages;
   objects = objects x.objects;
   swept = λ is page h. x.swept (sym phase ∙ is) page (loses.fewer page h);
-  invariant = λ is. keeps (length t.states) (found_in t.states) (found_in t'.states) t.words t'.words f refl map there loses.removed
-      (λ g i there lt. ap (λ ws. get_or ws (place (g.base + 8 * i)) 0) loses.words) (x.invariant (sym phase ∙ is));
+  invariant = λ is. keeps (length t.states) (found_in t.states) (found_in t'.states) t.words t'.words f refl map there loses.removed loses.words (x.invariant (sym phase ∙ is));
 }
 
 -- nothing is marked
@@ -130,9 +100,13 @@ traced_swept t0 t y x sweeps = record {
   objects = λ k h. let o = x.objects k h in record { object = o.object; is = kept_stays o.object (subst (Has y.marking.marks) (sym o.first) h) o.is; first = o.first };
   swept = λ is page h. x.swept is page (sweeps.fewer page h);
   invariant = λ is. free_traced (found_in t0.states) (found_in t.states) t0.words t.words y.marking (record { before = λ w f there. same is w ∙ there })
-      (λ f i there lt. ap (λ ws. get_or ws (place (f.base + 8 * i)) 0) sweeps.words) (x.invariant is);
+      (λ f i there lt. sweeps.words f i (kept_is (is_kept t.pending y.marking.marks) (found_in t.states) f.base f there (swept is f)) lt) (x.invariant is);
 }
   where
+    -- while a cycle is marking all objects are kept
+    swept : y.is_marking ≡ true → (f : Found) → is_kept t.pending y.marking.marks f ≡ true
+    swept is f = nothing_pending t.pending y.marking.marks f (λ h. x.swept is f.page (sweeps.fewer f.page h))
+
     -- a marked object is kept
     kept_stays : (f : Found) → Has y.marking.marks (granule f.base) → found_in t0.states f.base ≡ Some f → found_in t.states f.base ≡ Some f
     kept_stays f marked there =
@@ -142,4 +116,4 @@ traced_swept t0 t y x sweeps = record {
     same is w =
         sym ((kept_all (is_kept t0.pending y.marking.marks) (found_in t0.states) (λ v f there. nothing_pending t0.pending y.marking.marks f (x.swept is f.page))).same w)
         ∙ sym (sweeps.same.same w)
-        ∙ (kept_all (is_kept t.pending y.marking.marks) (found_in t.states) (λ v f there. nothing_pending t.pending y.marking.marks f (λ h. x.swept is f.page (sweeps.fewer f.page h)))).same w
+        ∙ (kept_all (is_kept t.pending y.marking.marks) (found_in t.states) (λ v f there. swept is f)).same w

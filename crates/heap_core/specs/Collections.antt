@@ -8,7 +8,7 @@ use Rattle.heap_spec.specs.Layout.{word_end}
 use Rattle.heap_spec.specs.Heap.{Heap, Object, HasObject}
 use Rattle.heap_spec.specs.Closure.{Closure}
 use Rattle.heap_spec.specs.Cycles.{TakesOut, CollectsFully}
-use Rattle.marker.specs.Marking.{IsMarked, IsFresh, IsEmpty, IsClean, StaysDirty}
+use Rattle.marker.specs.Marking.{IsMarked, IsFresh, IsEmpty, IsClean, IsDone, StaysDirty}
 use Rattle.marker.specs.Invariant.{AreRootsMarked}
 use Rattle.marker.specs.Growth.{MarksWords, Traces}
 use Rattle.marker.specs.Entries.{Takes, TakesOff}
@@ -74,6 +74,13 @@ pub data ReadsPage (old new : Contents) : ℕ → Type 0 where
 pub record RetracesPage (old : Contents) (n : ℕ) (new : Contents) : Type 0 where
   pub marks : MarksOn [] old new
   pub reads : ReadsPage old new n
+
+-- The marking was closed: no page is dirty, no entry is left, and all objects of the closure of the marks before are marked, as by
+-- `MarksOn` no others are.
+pub record ClosesMarks (old new : Contents) : Type 0 where
+  pub marks : MarksOn (root_words_of old.roots) old new
+  pub done : IsDone new.cycle.marking
+  pub all : (s : Heap) → StandsFor old s → (base : ℕ) (o : Object) → HasObject s base o → Closure s (IsMarkedBirth s old.cycle.marking) base → IsMarked new.cycle.marking base
 
 -- Exactly the objects outside of the closure of these births go. None of them is reached.
 pub record ForgetsOutside (s : Heap) (births : ℕ → Type 0) (reply : Reply) (s' : Heap) : Type 0 where

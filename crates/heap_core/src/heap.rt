@@ -5,6 +5,7 @@ ghost use Rattle.pages.specs.Opening.{IsOpened};
 ghost use Rattle.heap_core.specs.Standing.{StandsFor};
 
 mod beside;
+mod close_with;
 mod cycle;
 mod events;
 mod objects;

@@ -9,7 +9,7 @@ use Rattle.std.proofs.lemmas.List.Elements.{All-head, All-tail, Contains-append_
 use Rattle.words.specs.declared.class.Kind.{Kind}
 use Rattle.words.specs.declared.class.Placement.{Placement}
 use Rattle.words.specs.declared.class.Placement.TheVariants.{Small, Large}
-use Rattle.history.specs.Histories.{Walks}
+use Rattle.history.specs.Histories.{AreOfOthers, Walks}
 use Rattle.heap_spec.specs.declared.call.Call.{Call}
 use Rattle.heap_spec.specs.declared.event.Event.{Event}
 use Rattle.heap_spec.specs.declared.event.Event.TheVariants.{Attach, Mutator, Begin, Roots, Mark, Retrace, Finish, Sweep, Collect, Number}
@@ -107,14 +107,13 @@ held_reached s h who m d a o at lt is has =
 
 -- The object and the mutator stay along a chain of others' steps that are no frees.
 pub walks_held : (s t : HeapState) (es : List Entry) → Walks StateStep s es t → IsFreshRun s.pages s.run → (who : ℕ) (m : HeapMutator) (d a : ℕ) (o : Object)
-    → IsAttached (heap_of s) who m → d < length m.registers → register m d ≡ a → HasObject (heap_of s) a o → All (λ (e : Entry). (e.who ≢ who) × IsNoFree e.call) es
+    → IsAttached (heap_of s) who m → d < length m.registers → register m d ≡ a → HasObject (heap_of s) a o → AreOfOthers who es → All (λ (e : Entry). IsNoFree e.call) es
     → IsAttached (heap_of t) who m × Stays (heap_of t) a o
-walks_held s t [] w fresh who m d a o at lt is has others = subst (λ (x : HeapState). IsAttached (heap_of x) who m × Stays (heap_of x) a o) w (at, (o, has, same_object o))
-walks_held s t (e ∷ es) w fresh who m d a o at lt is has others =
+walks_held s t [] w fresh who m d a o at lt is has others free = subst (λ (x : HeapState). IsAttached (heap_of x) who m × Stays (heap_of x) a o) w (at, (o, has, same_object o))
+walks_held s t (e ∷ es) w fresh who m d a o at lt is has others free =
     let sound = fresh_sound s.pages s.run fresh in
-    let first = All-head (λ (x : Entry). (x.who ≢ who) × IsNoFree x.call) e es others in
-    let stays = heap_stays s w.0 e.who e.call e.reply w.1 sound first.1 a o has (held_reached (heap_of s) sound who m d a o at lt is has) in
+    let stays = heap_stays s w.0 e.who e.call e.reply w.1 sound (All-head (λ (x : Entry). IsNoFree x.call) e es free) a o has (held_reached (heap_of s) sound who m d a o at lt is has) in
     let there : HasObject (heap_of w.0) a stays.0 = ap (λ (x : HeapState). (heap_of x).objects a) w.1.goes ∙ stays.1 in
-    let still = step_mutators s w.0 e.who who e.call e.reply first.0 w.1 ∙ at in
-    let rest = walks_held w.0 t es w.2 (step_fresh s w.0 e.who e.call e.reply w.1 fresh) who m d a stays.0 still lt is there (All-tail (λ (x : Entry). (x.who ≢ who) × IsNoFree x.call) e es others) in
+    let still = step_mutators s w.0 e.who who e.call e.reply (All-head (λ (x : Entry). x.who ≢ who) e es others) w.1 ∙ at in
+    let rest = walks_held w.0 t es w.2 (step_fresh s w.0 e.who e.call e.reply w.1 fresh) who m d a stays.0 still lt is there (All-tail (λ (x : Entry). x.who ≢ who) e es others) (All-tail (λ (x : Entry). IsNoFree x.call) e es free) in
     (rest.0, (rest.1.0, rest.1.1, same_then o stays.0 rest.1.0 stays.2 rest.1.2))

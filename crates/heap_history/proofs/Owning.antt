@@ -11,7 +11,7 @@ use Rattle.words.specs.declared.class.Kind.{Kind}
 use Rattle.words.specs.declared.class.Placement.{Placement}
 use Rattle.words.specs.declared.class.Placement.TheVariants.{Small, Large}
 use Rattle.words.specs.Placing.{placement_of}
-use Rattle.history.specs.Histories.{event, Walks, Reaches, Legal}
+use Rattle.history.specs.Histories.{event, AreOfOthers, Walks, Reaches, Legal}
 use Rattle.heap_spec.specs.declared.call.Call.{Call}
 use Rattle.heap_spec.specs.declared.call.Call.TheVariants.{Get, Alloc, Base}
 use Rattle.heap_spec.specs.declared.event.Event.TheVariants.{Mutator}
@@ -28,9 +28,9 @@ use Rattle.heap_spec.proofs.Layouts.{AreApart, placed}
 use Rattle.heap_spec.proofs.Objects.{with_at-same, object_lies, one_read, room_apart}
 use Rattle.heap_history.specs.Passes.{Entry, HeapPass}
 use Rattle.heap_history.specs.Headline.{Makes}
-use Rattle.heap_history.specs.Laws.{MakesNext, MakesAfter, OthersFreeNothing, IsNoFree}
+use Rattle.heap_history.specs.Laws.{MakesAfterNoFree, IsNoFree}
 use Rattle.heap_history.proofs.Slots.{slice_get-set_same, not_both}
-use Rattle.heap_history.proofs.Stored.{walks_last, walks_through, reached_fresh, reached_sound}
+use Rattle.heap_history.proofs.Stored.{walks_last, walks_through, walks_mutators, reached_fresh, reached_sound}
 use Rattle.heap_history.proofs.Held.{Stays, room_none, walks_held}
 
 -- a place holds what was asked for
@@ -105,6 +105,10 @@ base_is s h slot e d a m o at is has (acts {m = k} at' (Acts.base_nothing none))
     absurd (none a o (has, (omega (arith, word), omega (arith, word))))
 base_is s h slot e d a m o at is has (vacant none) = absurd (not_both s slot m at none)
 
+-- what was seen up to a call: an allocation, the look at its register, and what others did after each
+abbrev pub up_to : (slot d n a : ℕ) → Kind → List Entry → List Entry → List Entry → List Entry
+up_to slot d n a kind early between since = (((early ++ event slot (Mutator slot (Alloc d n kind)) Done ∷ []) ++ between) ++ event slot (Mutator slot (Get d)) (Word a) ∷ []) ++ since
+
 -- The object of an allocation and its register, after what others did.
 pub record Owned (pages : ℕ) (seen : List Entry) (t : HeapState) (slot d n a : ℕ) : Type 0 where
   pub reached : Reaches (Opens pages) StateStep seen t
@@ -115,75 +119,89 @@ pub record Owned (pages : ℕ) (seen : List Entry) (t : HeapState) (slot d n a :
   pub has : HasObject (heap_of t) a object
   pub size : n ≤ length object.words
 
-owned_after : (pages : ℕ) (early since : List Entry) (t : HeapState) (slot d n a : ℕ) (kind : Kind)
-    → Reaches (Opens pages) StateStep (((early ++ event slot (Mutator slot (Alloc d n kind)) Done ∷ []) ++ event slot (Mutator slot (Get d)) (Word a) ∷ []) ++ since) t
-    → OthersFreeNothing slot since
-    → Owned pages (((early ++ event slot (Mutator slot (Alloc d n kind)) Done ∷ []) ++ event slot (Mutator slot (Get d)) (Word a) ∷ []) ++ since) t slot d n a
-owned_after pages early since t slot d n a kind r others =
-    let e1 = event slot (Mutator slot (Alloc d n kind)) Done in
-    let e2 = event slot (Mutator slot (Get d)) (Word a) in
-    let all = walks_through r.0 t ((early ++ e1 ∷ []) ++ e2 ∷ []) since r.2 in
-    let t2 = walks_last r.0 all.0 (early ++ e1 ∷ []) e2 all.1 in
-    let t1 = walks_last r.0 t2.0 early e1 t2.1 in
-    let sound = reached_sound pages early t1.0 (r.0, r.1, t1.1) in
-    let new = alloc_is (heap_of t1.0) slot d n kind sound t1.2.in_range.1.0 t1.2.happens in
-    let first = ap heap_of t1.2.goes in
-    let at1 : IsAttached (heap_of t2.0) slot new.mutator = ap (λ (s : Heap). slice_get s.mutators slot) first ∙ new.at in
-    let has1 : HasObject (heap_of t2.0) new.base new.object = ap (λ (s : Heap). s.objects new.base) first ∙ new.has in
-    let told = get_is (heap_of t2.0) slot d a t2.2.happens new.mutator at1 in
-    let second : heap_of all.0 ≡ heap_of t2.0 = ap heap_of t2.2.goes ∙ told.1 in
-    let held = walks_held all.0 t since all.2 (reached_fresh pages ((early ++ e1 ∷ []) ++ e2 ∷ []) all.0 (r.0, r.1, all.1)) slot new.mutator d a new.object
-    (ap (λ (s : Heap). slice_get s.mutators slot) second ∙ at1) new.there (sym told.0) (ap (λ (s : Heap). s.objects a) second ∙ (ap (heap_of t2.0).objects (told.0 ∙ new.holds) ∙ has1)) others in
+-- none of these events frees an object
+abbrev FreesNothing : List Entry → Type 0
+FreesNothing es = All (λ (e : Entry). IsNoFree e.call) es
+
+owned_after : (pages : ℕ) (early between since : List Entry) (t : HeapState) (slot d n a : ℕ) (kind : Kind) → Reaches (Opens pages) StateStep (up_to slot d n a kind early between since) t
+    → AreOfOthers slot between → FreesNothing between → AreOfOthers slot since → FreesNothing since → Owned pages (up_to slot d n a kind early between since) t slot d n a
+owned_after pages early between since t slot d n a kind r others1 free1 others2 free2 =
+    let made = early ++ event slot (Mutator slot (Alloc d n kind)) Done ∷ [] in
+    let told = (made ++ between) ++ event slot (Mutator slot (Get d)) (Word a) ∷ [] in
+    let t3 = walks_through r.0 t told since r.2 in
+    let t2 = walks_last r.0 t3.0 (made ++ between) (event slot (Mutator slot (Get d)) (Word a)) t3.1 in
+    let t1 = walks_through r.0 t2.0 made between t2.1 in
+    let t0 = walks_last r.0 t1.0 early (event slot (Mutator slot (Alloc d n kind)) Done) t1.1 in
+    let new = alloc_is (heap_of t0.0) slot d n kind (reached_sound pages early t0.0 (r.0, r.1, t0.1)) t0.2.in_range.1.0 t0.2.happens in
+    let first = ap heap_of t0.2.goes in
+    let held1 = walks_held t1.0 t2.0 between t1.2 (reached_fresh pages made t1.0 (r.0, r.1, t1.1)) slot new.mutator d new.base new.object
+    (ap (λ (s : Heap). slice_get s.mutators slot) first ∙ new.at) new.there new.holds (ap (λ (s : Heap). s.objects new.base) first ∙ new.has) others1 free1 in
+    let get = get_is (heap_of t2.0) slot d a t2.2.happens new.mutator held1.0 in
+    let second : heap_of t3.0 ≡ heap_of t2.0 = ap heap_of t2.2.goes ∙ get.1 in
+    let held2 = walks_held t3.0 t since t3.2 (reached_fresh pages told t3.0 (r.0, r.1, t3.1)) slot new.mutator d a held1.1.0
+    (ap (λ (s : Heap). slice_get s.mutators slot) second ∙ held1.0) new.there (sym get.0) (ap (λ (s : Heap). s.objects a) second ∙ (ap (heap_of t2.0).objects (get.0 ∙ new.holds) ∙ held1.1.1)) others2 free2 in
     record {
       reached = r;
-      object = held.1.0;
+      object = held2.1.0;
       mutator = new.mutator;
-      at = held.0;
-      holds = sym told.0;
-      has = held.1.1;
-      size = subst (λ k. n ≤ k) (sym held.1.2.size) new.size;
+      at = held2.0;
+      holds = sym get.0;
+      has = held2.1.1;
+      size = subst (λ k. n ≤ k) (sym (held2.1.2.size ∙ held1.1.2.size)) new.size;
     }
 
 -- what such calls have seen
-seen_is : (pages d n a : ℕ) (kind : Kind) (since : List Entry) (call : Call) (reply : Reply) (start made told asked : HeapPass)
-    → (first : Makes pages start (Alloc d n kind) Done made) → MakesNext pages made (Get d) (Word a) told → MakesAfter pages told since call reply asked
-    → asked.seen ≡ ((((start.seen ++ first.extends.seen.0) ++ event start.slot (Mutator start.slot (Alloc d n kind)) Done ∷ []) ++ event start.slot (Mutator start.slot (Get d)) (Word a) ∷ []) ++ since) ++ event start.slot (Mutator start.slot call) reply ∷ []
-seen_is pages d n a kind since call reply start made told asked first second third =
+seen_is : (pages d n a : ℕ) (kind : Kind) (call : Call) (reply : Reply) (start made told asked : HeapPass)
+    → (first : Makes pages start (Alloc d n kind) Done made) → (second : Makes pages made (Get d) (Word a) told) → (third : Makes pages told call reply asked)
+    → asked.seen ≡ up_to start.slot d n a kind (start.seen ++ first.extends.between) second.extends.between third.extends.between ++ event start.slot (Mutator start.slot call) reply ∷ []
+seen_is pages d n a kind call reply start made told asked first second third =
+    let slot1 = first.extends.slot in
+    let slot2 = second.extends.slot ∙ slot1 in
+    let two = second.extends.seen ∙ (λ i. (first.extends.seen i ++ second.extends.between) ++ event (slot1 i) (Mutator (slot1 i) (Get d)) (Word a) ∷ []) in
+    third.extends.seen ∙ (λ i. (two i ++ third.extends.between) ++ event (slot2 i) (Mutator (slot2 i) call) reply ∷ [])
+
+-- the object is there when the third call is made
+owned_then : (pages d n a : ℕ) (kind : Kind) (call : Call) (reply : Reply) (start made told asked : HeapPass)
+    → (first : Makes pages start (Alloc d n kind) Done made) → (second : MakesAfterNoFree pages made (Get d) (Word a) told) → (third : MakesAfterNoFree pages told call reply asked) → (t : HeapState)
+    → Reaches (Opens pages) StateStep (up_to start.slot d n a kind (start.seen ++ first.extends.between) second.makes.extends.between third.makes.extends.between) t
+    → Owned pages (up_to start.slot d n a kind (start.seen ++ first.extends.between) second.makes.extends.between third.makes.extends.between) t start.slot d n a
+owned_then pages d n a kind call reply start made told asked first second third t r =
     let slot1 = first.extends.slot in
     let slot2 = second.makes.extends.slot ∙ slot1 in
-    let two = second.at_once ∙ (λ i. first.extends.seen.1 i ++ event (slot1 i) (Mutator (slot1 i) (Get d)) (Word a) ∷ []) in
-    third.seen ∙ (λ i. (two i ++ since) ++ event (slot2 i) (Mutator (slot2 i) call) reply ∷ [])
+    owned_after pages (start.seen ++ first.extends.between) second.makes.extends.between third.makes.extends.between t start.slot d n a kind r
+    (subst (λ (k : ℕ). AreOfOthers k second.makes.extends.between) slot1 second.makes.extends.others) second.kept
+    (subst (λ (k : ℕ). AreOfOthers k third.makes.extends.between) slot2 third.makes.extends.others) third.kept
 
-pub stays : (pages d n a e : ℕ) (kind : Kind) (since : List Entry) (reply : Reply) (start made told asked : HeapPass)
-    → Makes pages start (Alloc d n kind) Done made → MakesNext pages made (Get d) (Word a) told
-    → OthersFreeNothing start.slot since → MakesAfter pages told since (Base e d) reply asked → reply ≡ Word a
-stays pages d n a e kind since reply start made told asked first second others third =
-    let early = start.seen ++ first.extends.seen.0 in
-    let before = ((early ++ event start.slot (Mutator start.slot (Alloc d n kind)) Done ∷ []) ++ event start.slot (Mutator start.slot (Get d)) (Word a) ∷ []) ++ since in
-    let legal = subst (λ l. Legal (Opens pages) StateStep l) (seen_is pages d n a kind since (Base e d) reply start made told asked first second third) third.makes.extends.fine.legal in
+pub stays : (pages d n a e : ℕ) (kind : Kind) (reply : Reply) (start made told asked : HeapPass)
+    → Makes pages start (Alloc d n kind) Done made → MakesAfterNoFree pages made (Get d) (Word a) told → MakesAfterNoFree pages told (Base e d) reply asked → reply ≡ Word a
+stays pages d n a e kind reply start made told asked first second third =
+    let before = up_to start.slot d n a kind (start.seen ++ first.extends.between) second.makes.extends.between third.makes.extends.between in
+    let legal = subst (λ l. Legal (Opens pages) StateStep l) (seen_is pages d n a kind (Base e d) reply start made told asked first second.makes third.makes) third.makes.extends.fine.legal in
     let last = walks_last legal.1.0 legal.0 before (event start.slot (Mutator start.slot (Base e d)) reply) legal.1.2 in
-    let own = owned_after pages early since last.0 start.slot d n a kind (legal.1.0, legal.1.1, last.1) others in
+    let own = owned_then pages d n a kind (Base e d) reply start made told asked first second third last.0 (legal.1.0, legal.1.1, last.1) in
     base_is (heap_of last.0) (reached_sound pages before last.0 own.reached) start.slot e d a own.mutator own.object own.at own.holds own.has last.2.happens
 
-pub apart : (pages d n a d' n' b : ℕ) (kind kind' : Kind) (since : List Entry) (start made told more asked : HeapPass)
-    → Makes pages start (Alloc d n kind) Done made → MakesNext pages made (Get d) (Word a) told
-    → OthersFreeNothing start.slot since → MakesAfter pages told since (Alloc d' n' kind') Done more → MakesNext pages more (Get d') (Word b) asked
+pub apart : (pages d n a d' n' b : ℕ) (kind kind' : Kind) (start made told more asked : HeapPass)
+    → Makes pages start (Alloc d n kind) Done made → MakesAfterNoFree pages made (Get d) (Word a) told
+    → MakesAfterNoFree pages told (Alloc d' n' kind') Done more → Makes pages more (Get d') (Word b) asked
     → (a + 8 * n ≤ b) ⊎ (b + 8 * n' ≤ a)
-apart pages d n a d' n' b kind kind' since start made told more asked first second others third fourth =
-    let early = start.seen ++ first.extends.seen.0 in
-    let before = ((early ++ event start.slot (Mutator start.slot (Alloc d n kind)) Done ∷ []) ++ event start.slot (Mutator start.slot (Get d)) (Word a) ∷ []) ++ since in
+apart pages d n a d' n' b kind kind' start made told more asked first second third fourth =
+    let before = up_to start.slot d n a kind (start.seen ++ first.extends.between) second.makes.extends.between third.makes.extends.between in
+    let since = fourth.extends.between in
     let slot3 = third.makes.extends.slot ∙ (second.makes.extends.slot ∙ first.extends.slot) in
     let e3 = event start.slot (Mutator start.slot (Alloc d' n' kind')) Done in
     let e4 = event start.slot (Mutator start.slot (Get d')) (Word b) in
-    let three = seen_is pages d n a kind since (Alloc d' n' kind') Done start made told more first second third in
-    let four : asked.seen ≡ (before ++ e3 ∷ []) ++ e4 ∷ [] = fourth.at_once ∙ (λ i. three i ++ event (slot3 i) (Mutator (slot3 i) (Get d')) (Word b) ∷ []) in
-    let legal = subst (λ l. Legal (Opens pages) StateStep l) four fourth.makes.extends.fine.legal in
-    let t4 = walks_last legal.1.0 legal.0 (before ++ e3 ∷ []) e4 legal.1.2 in
+    let three = seen_is pages d n a kind (Alloc d' n' kind') Done start made told more first second.makes third.makes in
+    let four : asked.seen ≡ ((before ++ e3 ∷ []) ++ since) ++ e4 ∷ [] = fourth.extends.seen ∙ (λ i. (three i ++ since) ++ event (slot3 i) (Mutator (slot3 i) (Get d')) (Word b) ∷ []) in
+    let legal = subst (λ l. Legal (Opens pages) StateStep l) four fourth.extends.fine.legal in
+    let t5 = walks_last legal.1.0 legal.0 ((before ++ e3 ∷ []) ++ since) e4 legal.1.2 in
+    let t4 = walks_through legal.1.0 t5.0 (before ++ e3 ∷ []) since t5.1 in
     let t3 = walks_last legal.1.0 t4.0 before e3 t4.1 in
-    let own = owned_after pages early since t3.0 start.slot d n a kind (legal.1.0, legal.1.1, t3.1) others in
+    let own = owned_then pages d n a kind (Alloc d' n' kind') Done start made told more first second third t3.0 (legal.1.0, legal.1.1, t3.1) in
     let new = alloc_is (heap_of t3.0) start.slot d' n' kind' (reached_sound pages before t3.0 own.reached) t3.2.in_range.1.0 t3.2.happens in
-    let at : IsAttached (heap_of t4.0) start.slot new.mutator = ap (λ (s : Heap). slice_get s.mutators start.slot) (ap heap_of t3.2.goes) ∙ new.at in
-    let told2 : b ≡ new.base = (get_is (heap_of t4.0) start.slot d' b t4.2.happens new.mutator at).0 ∙ new.holds in
+    let others = subst (λ (k : ℕ). AreOfOthers k since) slot3 fourth.extends.others in
+    let at : IsAttached (heap_of t5.0) start.slot new.mutator = walks_mutators t4.0 t5.0 since start.slot t4.2 others ∙ (ap (λ (s : Heap). slice_get s.mutators start.slot) (ap heap_of t3.2.goes) ∙ new.at) in
+    let told2 : b ≡ new.base = (get_is (heap_of t5.0) start.slot d' b t5.2.happens new.mutator at).0 ∙ new.holds in
     let size = own.size in
     let size2 = new.size in
     ⊎_elim (λ before. inr (omega arith)) (λ after. inl (omega arith)) (new.away a own.object own.has)

@@ -31,12 +31,14 @@ pub own_count : {pages : ℕ} → (seen mine : List Entry) (slot : ℕ) → slot
 own_count seen mine slot e o l = sym (count_own seen l) ∙ ap (count rank_of) (sym (o.own_is ∙ ap (λ n. own rank_of n seen) e))
 
 -- an attach gives a pass whose own events begin with it
-pub begun : {pages : ℕ} → (s t : HeapState) (log log2 : List Entry) (who : ℕ) (reply : Reply) (pass : HeapPass) → StateStep s who Attach reply t → log2 ≡ log ++ event who Attach reply ∷ []
+pub begun : {pages : ℕ} → (s t : HeapState) (log log2 : List Entry) (who : ℕ) (reply : Reply) (pass : HeapPass) → StateStep s who Attach reply t → is_live rank_of who log ≡ false → log2 ≡ log ++ event who Attach reply ∷ []
     → pass ≡ record { slot = who; seen = log2; mine = event who Attach reply ∷ [] } → IsFine pages pass → Begun pages pass
-begun {pages = pages} s t log log2 who reply pass step log_is pass_is fine =
+begun {pages = pages} s t log log2 who reply pass step spent log_is pass_is fine =
     let said = (attach_is (heap_of s) who step.fits.1 step.happens).0 in
     subst (λ (p : HeapPass). Begun pages p) (sym pass_is) (record {
-      seen = (log, log_is ∙ ap (λ r. log ++ event who Attach r ∷ []) said);
+      before = log;
+      spent = spent;
+      seen = log_is ∙ ap (λ r. log ++ event who Attach r ∷ []) said;
       mine = ap (λ r. event who Attach r ∷ []) said;
       fine = subst (λ (p : HeapPass). IsFine pages p) pass_is fine;
     })

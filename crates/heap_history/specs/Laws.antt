@@ -51,32 +51,28 @@ pub record MakesNext (pages : ℕ) (old : HeapPass) (call : Call) (reply : Reply
   pub makes : Makes pages old call reply new
   pub at_once : new.seen ≡ old.seen ++ event old.slot (Mutator old.slot call) reply ∷ []
 
--- A mutator puts a word into a register and stores it. If nothing happens between, its load from the same place answers that word.
+-- A mutator puts a word into a register and stores it, whatever others do between. Its next load from the same place, if nothing
+-- happens between, answers that word.
 abbrev pub OwnLoadAnswers : Type 0
 OwnLoadAnswers = (pages a n r d w : ℕ) (reply : Reply) (start set stored loaded : HeapPass)
-    → Makes pages start (Set r w) Done set → MakesNext pages set (Store a n r) Done stored → MakesNext pages stored (Load d a n) reply loaded → reply ≡ Word w
+    → Makes pages start (Set r w) Done set → Makes pages set (Store a n r) Done stored → MakesNext pages stored (Load d a n) reply loaded → reply ≡ Word w
 
--- A call that comes after these events of others, of all that its caller had not seen.
-pub record MakesAfter (pages : ℕ) (old : HeapPass) (since : List Entry) (call : Call) (reply : Reply) (new : HeapPass) : Type 0 where
+-- A call with no free between it and what its caller had seen, whatever else others did.
+pub record MakesAfterNoFree (pages : ℕ) (old : HeapPass) (call : Call) (reply : Reply) (new : HeapPass) : Type 0 where
   pub makes : Makes pages old call reply new
-  pub seen : new.seen ≡ (old.seen ++ since) ++ event old.slot (Mutator old.slot call) reply ∷ []
+  pub kept : All (λ (e : Entry). IsNoFree e.call) makes.extends.between
 
--- what others did, with no free among it
-abbrev pub OthersFreeNothing : ℕ → List Entry → Type 0
-OthersFreeNothing slot since = All (λ e. (e.who ≢ slot) × IsNoFree e.call) since
-
--- A mutator allocates an object, and its register has the base, as it is told. Whatever others do then, cycles and stores among it but no
--- free, the register still has the base of an object.
+-- A mutator allocates an object, and its register has the base, as it is told. Whatever others do between its calls, cycles and stores
+-- among it but no free, the register still has the base of an object.
 abbrev pub OwnObjectStays : Type 0
-OwnObjectStays = (pages d n a e : ℕ) (kind : Kind) (since : List Entry) (reply : Reply) (start made told asked : HeapPass)
-    → Makes pages start (Alloc d n kind) Done made → MakesNext pages made (Get d) (Word a) told
-    → OthersFreeNothing start.slot since → MakesAfter pages told since (Base e d) reply asked → reply ≡ Word a
+OwnObjectStays = (pages d n a e : ℕ) (kind : Kind) (reply : Reply) (start made told asked : HeapPass)
+    → Makes pages start (Alloc d n kind) Done made → MakesAfterNoFree pages made (Get d) (Word a) told → MakesAfterNoFree pages told (Base e d) reply asked → reply ≡ Word a
 
 -- Two objects that a mutator allocates, the second while a register has the first, don't overlap, if nobody frees between.
 abbrev pub OwnObjectsApart : Type 0
-OwnObjectsApart = (pages d n a d' n' b : ℕ) (kind kind' : Kind) (since : List Entry) (start made told more asked : HeapPass)
-    → Makes pages start (Alloc d n kind) Done made → MakesNext pages made (Get d) (Word a) told
-    → OthersFreeNothing start.slot since → MakesAfter pages told since (Alloc d' n' kind') Done more → MakesNext pages more (Get d') (Word b) asked
+OwnObjectsApart = (pages d n a d' n' b : ℕ) (kind kind' : Kind) (start made told more asked : HeapPass)
+    → Makes pages start (Alloc d n kind) Done made → MakesAfterNoFree pages made (Get d) (Word a) told
+    → MakesAfterNoFree pages told (Alloc d' n' kind') Done more → Makes pages more (Get d') (Word b) asked
     → (a + WORD_BYTES * n ≤ b) ⊎ (b + WORD_BYTES * n' ≤ a)
 
 -- A mutator's own events begin with its attach.

@@ -41,10 +41,10 @@ pub enum Call {
     /// Frees the object whose base a register has.
     Free(Reg),
 
-    /// Puts the base of the object that the second register reads into the first.
+    /// Puts the base of the object that the second register points into, into the first.
     Base(Reg, Reg),
 
-    /// Answers the length in words of the object that a register reads.
+    /// Answers the length in words of the object that a register points into.
     Size(Reg),
 
     /// Puts the word of a global into a register.

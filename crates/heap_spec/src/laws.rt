@@ -27,7 +27,7 @@ pub fn objects_lie_in_heap()
     ensures { ObjectsLieInHeap }
 {}
 
-/// A word reads at most one object.
+/// A word points into at most one object.
 pub fn reads_at_most_one()
     ensures { ReadsAtMostOne }
 {}

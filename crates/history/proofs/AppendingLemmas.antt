@@ -71,7 +71,7 @@ module _ {C R : Type 0} (rank : C → Rank) (legal : List (Event C R) → Type 0
         keeps,
         tt,
         (me.0.log ++ e ∷ [], acts_at s.words s.views id me.0 said e k st at may hv sv nf nl),
-        record { before = p.prefix; owned = owned_more me.0.guest.slot me.0.log me.0.guest.mine e sv nf nl (owned_whole rank me.0.log me.0.guest p); view_is = refl },
+        record { before = p.grows; owned = owned_more me.0.guest.slot me.0.log me.0.guest.mine e sv nf nl (owned_whole rank me.0.log me.0.guest p); view_is = refl },
       )
 
   ends_at : (ws : List ℕ) (views : List (View C R)) (id : ℕ) (v : View C R) (said : List (Event C R)) (e : Event C R) (k : ℕ) → Standing rank legal ws views v.log → get_elem? views id ≡ some v
@@ -100,7 +100,7 @@ module _ {C R : Type 0} (rank : C → Rank) (legal : List (Event C R) → Type 0
         keeps,
         tt,
         (me.0.log ++ e ∷ [], ends_at s.words s.views id me.0 said e k st at may hv sv),
-        record { before = p.prefix; owned = owned_whole rank me.0.log me.0.guest p; view_is = refl },
+        record { before = p.grows; owned = owned_whole rank me.0.log me.0.guest p; view_is = refl },
       )
 
   -- nobody has a pass of a slot that isn't live

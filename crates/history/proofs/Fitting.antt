@@ -10,9 +10,8 @@ use Rattle.history.specs.declared.view.View.{View}
 use Rattle.history.specs.Passes.{Owned}
 use Rattle.history.specs.Rules.{tally, keeping, has, holding, Follows, Fits, Standing, Kept}
 use Rattle.history.specs.Views.{nobody}
-use Rattle.history.proofs.Fronts.{prefix_self, prefix_more, prefix_snoc, prefix_same}
+use Rattle.history.proofs.Growing.{grows_self, grows_more, owned_grows}
 use Rattle.history.proofs.Tallies.{tally_two}
-use Rattle.history.proofs.Snocs.{own_other, live_other}
 
 pub off : false ≡ true → ⊥
 off e = true≢false (sym e)
@@ -39,23 +38,15 @@ module _ {C R : Type 0} where
 module _ {C R : Type 0} (rank : C → Rank) where
   -- at the whole history the pass's own events are its slot's
   pub owned_whole : (log : List (Event C R)) (p : Known C R) → Follows rank log p → Owned rank p.slot log p.mine
-  owned_whole log p f = f.between log f.prefix (prefix_self log)
+  owned_whole log p f = owned_grows rank p.slot p.seen log p.mine f.grows f.owned
 
   -- a pass that has seen the whole history
   pub follows_whole : (log : List (Event C R)) (slot : ℕ) (mine : List (Event C R)) → Owned rank slot log mine → Follows rank log (record { slot = slot; seen = log; mine = mine })
-  follows_whole log slot mine o = record { prefix = prefix_self log; between = λ q a b. subst (λ (l : List (Event C R)). Owned rank slot l mine) (sym (prefix_same log q a b)) o }
-
-  owned_other : (slot : ℕ) (log mine : List (Event C R)) (e : Event C R) → e.who ≢ slot → Owned rank slot log mine → Owned rank slot (log ++ e ∷ []) mine
-  owned_other slot log mine e ne o = record { own_is = o.own_is ∙ sym (own_other rank slot log e ne); live = live_other rank slot log e ne ∙ o.live }
+  follows_whole log slot mine o = record { grows = grows_self slot log; owned = o }
 
   -- an event of another slot leaves the pass as it fits
   pub follows_longer : (log : List (Event C R)) (e : Event C R) (p : Known C R) → Follows rank log p → e.who ≢ p.slot → Follows rank (log ++ e ∷ []) p
-  follows_longer log e p f ne = record {
-    prefix = prefix_more p.seen log (e ∷ []) f.prefix;
-    between = λ q a b. ⊎_elim (f.between q a)
-        (λ (same : q ≡ log ++ e ∷ []). subst (λ (l : List (Event C R)). Owned rank p.slot l p.mine) (sym same) (owned_other p.slot log p.mine e ne (owned_whole log p f)))
-        (prefix_snoc q log e b);
-  }
+  follows_longer log e p f ne = record { grows = grows_more p.slot p.seen log e ne f.grows; owned = f.owned }
 
   -- an event of a slot of which the seat has no pass leaves its view as it fits, if it doesn't keep the history
   pub fits_longer : (log : List (Event C R)) (e : Event C R) (u : View C R) → Fits rank log u → (u.keeps ≡ true → ⊥) → (1 ≤ holding e.who u → ⊥) → Fits rank (log ++ e ∷ []) u

@@ -11,10 +11,12 @@ use Rattle.history.specs.declared.object.Rank.{Rank}
 use Rattle.history.specs.declared.event.Event.{Event}
 use Rattle.history.specs.declared.view.Known.{Known}
 use Rattle.history.specs.declared.view.View.{View}
+use Rattle.history.specs.Histories.{GrowsByOthers}
 use Rattle.history.specs.Passes.{longer}
 use Rattle.history.specs.Plays.{learnt, Learnt, saw, Saw, met, Met}
 use Rattle.history.specs.Rules.{keeping, holding, Follows, Fits, Standing, Kept}
-use Rattle.history.proofs.Fronts.{prefix_self, prefix_trans, prefix_shorter}
+use Rattle.history.proofs.Fronts.{prefix_self, prefix_shorter}
+use Rattle.history.proofs.Growing.{prefix_of, grows_within, owned_grows}
 use Rattle.history.proofs.Fitting.{has_one, owned_whole, follows_whole, fits_set, at_keeper}
 use Rattle.history.proofs.Tallies.{tally_set, tally_one}
 
@@ -41,7 +43,7 @@ module _ {C R : Type 0} (rank : C → Rank) (legal : List (Event C R) → Type 0
         keeps,
         tt,
         (me.0.log, stays s.words s.views me.0.log id me.0 (learnt me.0) st at (record { keeper = f.keeper; pass = f.pass; guest = λ t. follows_whole rank me.0.log me.0.guest.slot me.0.guest.mine o }) refl (λ who. refl)),
-        record { before = (f.guest hv).prefix; owned = o; view_is = refl },
+        record { before = (f.guest hv).grows; owned = o; view_is = refl },
       )
 
   index_of : (ws : List ℕ) (n : ℕ) → ws ≡ n ∷ [] → slice_index ws 0 ≡ n
@@ -58,7 +60,7 @@ module _ {C R : Type 0} (rank : C → Rank) (legal : List (Event C R) → Type 0
         keeps,
         tt,
         (kept.0, stays s.words s.views kept.0 id me.0 (saw kept.0 me.0) st at (record { keeper = f.keeper; pass = λ t. follows_whole rank kept.0 me.0.pass.slot me.0.pass.mine o; guest = f.guest }) refl (λ who. refl)),
-        record { log = kept.0; before = (f.pass hv).prefix; is_legal = st.is_legal; owned = o; found_is = index_of s.words _ st.words_are; view_is = refl },
+        record { log = kept.0; before = (f.pass hv).grows; is_legal = st.is_legal; owned = o; found_is = index_of s.words _ st.words_are; view_is = refl },
       )
 
   longer_prefix : (xs ys log : List (Event C R)) (b : Bool) → leb (length xs) (length ys) ≡ b → IsPrefix xs log → IsPrefix ys log → IsPrefix (longer xs ys) log
@@ -73,13 +75,20 @@ module _ {C R : Type 0} (rank : C → Rank) (legal : List (Event C R) → Type 0
   second_begins xs ys log true e p q = subst (λ (b : Bool). IsPrefix ys (cond b ys xs)) (sym e) (prefix_self ys)
   second_begins xs ys log false e p q = let less = leb-false (length xs) (length ys) e in subst (λ (b : Bool). IsPrefix ys (cond b ys xs)) (sym e) (prefix_shorter ys xs log q p (omega (arith, less)))
 
-  one_begins : (xs ys log : List (Event C R)) → IsPrefix xs log → IsPrefix ys log → Dec (length xs ≤ length ys) → IsPrefix xs ys ⊎ IsPrefix ys xs
-  one_begins xs ys log p q (yes h) = inl (prefix_shorter xs ys log p q h)
-  one_begins xs ys log p q (no n) = inr (prefix_shorter ys xs log q p (omega arith))
+  shorter_grows : (log : List (Event C R)) (p q : Known C R) → Follows rank log p → Follows rank log q → length p.seen ≤ length q.seen → GrowsByOthers p.slot p.seen q.seen
+  shorter_grows log p q f g h =
+      let top = prefix_of q.slot q.seen log g.grows in
+      (grows_within p.slot p.seen q.seen log (prefix_shorter p.seen q.seen log (prefix_of p.slot p.seen log f.grows) top h) top f.grows).0
+
+  one_grows : (log : List (Event C R)) (p q : Known C R) → Follows rank log p → Follows rank log q → Dec (length p.seen ≤ length q.seen) → GrowsByOthers p.slot p.seen q.seen ⊎ GrowsByOthers q.slot q.seen p.seen
+  one_grows log p q f g (yes h) = inl (shorter_grows log p q f g h)
+  one_grows log p q f g (no n) = inr (shorter_grows log q p g f (omega arith))
 
   -- a pass that has seen more of the history than before
   follows_more : (log more : List (Event C R)) (p : Known C R) → Follows rank log p → IsPrefix p.seen more → IsPrefix more log → Follows rank log (record { slot = p.slot; seen = more; mine = p.mine })
-  follows_more log more p f longer_is top = record { prefix = top; between = λ q a b. f.between q (prefix_trans p.seen more q longer_is a) b }
+  follows_more log more p f longer_is top =
+      let both = grows_within p.slot p.seen more log longer_is top f.grows in
+      record { grows = both.1; owned = owned_grows rank p.slot p.seen more p.mine both.0 f.owned }
 
   -- a pass and the guest at its seat take the longer of what the two have seen
   pub kept_meets : (slots id : ℕ) (me : Me Unit (View C R)) → me.0.holds ≡ true → me.0.hosts ≡ true
@@ -91,13 +100,15 @@ module _ {C R : Type 0} (rank : C → Rank) (legal : List (Event C R) → Type 0
       let q = f.guest hg in
       let a = me.0.pass.seen in
       let b = me.0.guest.seen in
-      let top = longer_prefix a b kept.0 (leb (length a) (length b)) refl p.prefix q.prefix in
-      let a_more = first_begins a b kept.0 (leb (length a) (length b)) refl p.prefix q.prefix in
-      let b_more = second_begins a b kept.0 (leb (length a) (length b)) refl p.prefix q.prefix in
+      let a_in = prefix_of me.0.pass.slot a kept.0 p.grows in
+      let b_in = prefix_of me.0.guest.slot b kept.0 q.grows in
+      let top = longer_prefix a b kept.0 (leb (length a) (length b)) refl a_in b_in in
+      let pass = follows_more kept.0 (longer a b) me.0.pass p (first_begins a b kept.0 (leb (length a) (length b)) refl a_in b_in) top in
+      let guest = follows_more kept.0 (longer a b) me.0.guest q (second_begins a b kept.0 (leb (length a) (length b)) refl a_in b_in) top in
       let apart = λ (same : me.0.pass.slot ≡ me.0.guest.slot). absurd {A = ⊥} (omega (arith, st.holders me.0.pass.slot, tally_one (holding me.0.pass.slot) s.views id me.0 at, has_one me.0.pass.slot me.0.holds me.0.pass hp refl, has_one me.0.pass.slot me.0.hosts me.0.guest hg (sym same))) in (
         met me.0,
         keeps,
         tt,
-        (kept.0, stays s.words s.views kept.0 id me.0 (met me.0) st at (record { keeper = f.keeper; pass = λ t. follows_more kept.0 (longer a b) me.0.pass p a_more top; guest = λ t. follows_more kept.0 (longer a b) me.0.guest q b_more top }) refl (λ who. refl)),
-        record { one = one_begins a b kept.0 p.prefix q.prefix (dec_le (length a) (length b)); apart = apart; pass_owned = p.between (longer a b) a_more top; guest_owned = q.between (longer a b) b_more top; view_is = refl },
+        (kept.0, stays s.words s.views kept.0 id me.0 (met me.0) st at (record { keeper = f.keeper; pass = λ t. pass; guest = λ t. guest }) refl (λ who. refl)),
+        record { one = one_grows kept.0 me.0.pass me.0.guest p q (dec_le (length a) (length b)); apart = apart; pass_owned = pass.owned; guest_owned = guest.owned; view_is = refl },
       )

@@ -1,11 +1,10 @@
 -- What each step of the table does to the view of its seat, and what it tells.
 use Rattle.std.specs.Prelude.{◌≡◌, ℕ, ◌%◌, ◌^◌, ◌⊎◌, true, false, List, [], ◌∷◌, ◌++◌}
-use mathlib.Core.List.{IsPrefix}
 use Rattle.atomic_table.specs.Table.{Me}
 use Rattle.history.specs.declared.object.Rank.{Rank}
 use Rattle.history.specs.declared.event.Event.{Event}
 use Rattle.history.specs.declared.view.View.{View}
-use Rattle.history.specs.Histories.{count, weight}
+use Rattle.history.specs.Histories.{count, weight, GrowsByOthers}
 use Rattle.history.specs.Passes.{Owned, longer}
 use Rattle.history.specs.Views.{no_pass}
 
@@ -22,7 +21,7 @@ module _ {C R : Type 0} where
   acted said v = record v { log = v.log ++ said; guest = record { slot = v.guest.slot; seen = v.log ++ said; mine = v.guest.mine ++ said } }
 
   pub record Acted (rank : C → Rank) (said : List (Event C R)) (v w : Me Unit (View C R)) : Type 0 where
-    pub before : IsPrefix v.0.guest.seen v.0.log
+    pub before : GrowsByOthers v.0.guest.slot v.0.guest.seen v.0.log
     pub owned : Owned rank v.0.guest.slot (v.0.log ++ said) (v.0.guest.mine ++ said)
     pub view_is : w ≡ (acted said v.0, v.1)
 
@@ -43,7 +42,7 @@ module _ {C R : Type 0} where
   ended said v = record v { log = v.log ++ said; hosts = false; guest = no_pass }
 
   pub record Ended (rank : C → Rank) (said : List (Event C R)) (v w : Me Unit (View C R)) : Type 0 where
-    pub before : IsPrefix v.0.guest.seen v.0.log
+    pub before : GrowsByOthers v.0.guest.slot v.0.guest.seen v.0.log
     pub owned : Owned rank v.0.guest.slot v.0.log v.0.guest.mine
     pub view_is : w ≡ (ended said v.0, v.1)
 
@@ -52,7 +51,7 @@ module _ {C R : Type 0} where
   learnt v = record v { guest = record { slot = v.guest.slot; seen = v.log; mine = v.guest.mine } }
 
   pub record Learnt (rank : C → Rank) (v w : Me Unit (View C R)) : Type 0 where
-    pub before : IsPrefix v.0.guest.seen v.0.log
+    pub before : GrowsByOthers v.0.guest.slot v.0.guest.seen v.0.log
     pub owned : Owned rank v.0.guest.slot v.0.log v.0.guest.mine
     pub view_is : w ≡ (learnt v.0, v.1)
 
@@ -62,7 +61,7 @@ module _ {C R : Type 0} where
 
   pub record Saw (rank : C → Rank) (legal : List (Event C R) → Type 0) (v : Me Unit (View C R)) (found : ℕ) (w : Me Unit (View C R)) : Type 0 where
     pub log : List (Event C R)
-    pub before : IsPrefix v.0.pass.seen log
+    pub before : GrowsByOthers v.0.pass.slot v.0.pass.seen log
     pub is_legal : legal log
     pub owned : Owned rank v.0.pass.slot log v.0.pass.mine
     pub found_is : found ≡ count rank log % 2 ^ 64
@@ -76,7 +75,7 @@ module _ {C R : Type 0} where
   }
 
   pub record Met (rank : C → Rank) (v w : Me Unit (View C R)) : Type 0 where
-    pub one : IsPrefix v.0.pass.seen v.0.guest.seen ⊎ IsPrefix v.0.guest.seen v.0.pass.seen
+    pub one : GrowsByOthers v.0.pass.slot v.0.pass.seen v.0.guest.seen ⊎ GrowsByOthers v.0.guest.slot v.0.guest.seen v.0.pass.seen
     pub apart : v.0.pass.slot ≡ v.0.guest.slot → ⊥
     pub pass_owned : Owned rank v.0.pass.slot (longer v.0.pass.seen v.0.guest.seen) v.0.pass.mine
     pub guest_owned : Owned rank v.0.guest.slot (longer v.0.pass.seen v.0.guest.seen) v.0.guest.mine

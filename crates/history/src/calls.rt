@@ -1,10 +1,9 @@
 //! The three calls that are events. Each is made under the lock. The object acts first, since the event has its reply, and no other
 //! call comes between, since only this lock's holder has the keeper's seat.
 ghost use Rattle.std.specs.Prelude.{◌≡◌, ◌<◌, [], ◌∷◌, ◌++◌, false};
-ghost use mathlib.Core.List.{IsPrefix};
 ghost use Rattle.history.specs.declared.object.TheConstants.{COLLECTOR as collector};
 ghost use Rattle.history.specs.declared.object.Rank.TheVariants.{First, Last};
-ghost use Rattle.history.specs.Histories.{event, is_first, is_last, is_live, Legal};
+ghost use Rattle.history.specs.Histories.{event, is_first, is_last, is_live, GrowsByOthers, Legal};
 ghost use Rattle.history.specs.Objects.{StepsFrom};
 ghost use Rattle.history.specs.Passes.{Agrees, Owned};
 
@@ -56,7 +55,7 @@ impl<O: Object, J: Naming> Log<O, J> {
         requires rank { (is_first (O.rank_of call.now) ≡ false) × (is_last (O.rank_of call.now) ≡ false) }
         ensures step { StepsFrom O.stands O.step logged.old.object pass.old.slot call.now result logged.new.object }
         ensures history { logged.new.history ≡ logged.old.history ++ event pass.old.slot call.now result ∷ [] }
-        ensures before { IsPrefix pass.old.seen logged.old.history }
+        ensures before { GrowsByOthers pass.old.slot pass.old.seen logged.old.history }
         ensures pass { pass.new ≡ record {
           slot = pass.old.slot;
           seen = logged.new.history;
@@ -79,7 +78,7 @@ impl<O: Object, J: Naming> Log<O, J> {
         requires rank { O.rank_of call.now ≡ Last }
         ensures step { StepsFrom O.stands O.step logged.old.object pass.slot call.now result logged.new.object }
         ensures history { logged.new.history ≡ logged.old.history ++ event pass.slot call.now result ∷ [] }
-        ensures before { IsPrefix pass.seen logged.old.history }
+        ensures before { GrowsByOthers pass.slot pass.seen logged.old.history }
         ensures owned { Owned O.rank_of pass.slot logged.old.history pass.mine }
         ensures legal { Legal (O.opens J.origin) O.step logged.new.history }
     {

@@ -1,4 +1,6 @@
 ghost use Rattle.std.specs.Prelude.{◌≡◌};
+ghost use Rattle.std.specs.Fn.{FnOnceReturnsAtMut};
+ghost use Rattle.history.specs.Objects.{KeepsStates};
 ghost use Rattle.history.specs.Histories.{StandsAfter};
 
 use crate::object::{Object, Quiet};
@@ -44,5 +46,17 @@ impl<O: Object, J: Naming> Logged<O, J> {
         ensures history { self.new.history ≡ self.old.history }
     {
         work.run(&mut self.object)
+    }
+
+    /// Runs a closure that is no event: the history stays as it is. It is for work that starts threads, which no `run` of a
+    /// [`Quiet`] can.
+    pub fn quiet_by<A, F: FnOnce(&mut O) -> A>(&mut self, work: F) -> A
+        requires can { F.IsAlwaysCallable work }
+        requires keeps { KeepsStates O.stands (FnOnceReturnsAtMut F.FnOnce work) }
+        ensures gives { FnOnceReturnsAtMut F.FnOnce work self.old.object result self.new.object }
+        ensures keeps { (s : O.State) → O.stands self.old.object s → O.stands self.new.object s }
+        ensures history { self.new.history ≡ self.old.history }
+    {
+        work(&mut self.object)
     }
 }

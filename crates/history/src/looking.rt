@@ -1,7 +1,6 @@
 //! The calls that are no events: a pass learns more of the history, which stays as it is. Each has one load by which it learns.
 ghost use Rattle.std.specs.Prelude.{◌≡◌, ◌≢◌, ◌%◌, ◌^◌, ◌⊎◌};
-ghost use mathlib.Core.List.{IsPrefix};
-ghost use Rattle.history.specs.Histories.{count, Legal};
+ghost use Rattle.history.specs.Histories.{count, GrowsByOthers, Legal};
 ghost use Rattle.history.specs.Passes.{Agrees, longer};
 ghost use Rattle.history.specs.Plays.{Learnt, Saw, Met};
 
@@ -45,7 +44,7 @@ impl<O: Object, J: Naming> Log<O, J> {
     /// The pass has then seen the whole history.
     pub fn learn(&self, logged: &mut Logged<O, J>, pass: &mut Pass<O, J>)
         ensures logged { logged.new ≡ logged.old }
-        ensures before { IsPrefix pass.old.seen logged.old.history }
+        ensures before { GrowsByOthers pass.old.slot pass.old.seen logged.old.history }
         ensures pass { pass.new ≡ record { slot = pass.old.slot; seen = logged.old.history; mine = pass.old.mine } }
         ensures agrees { Agrees O.rank_of (O.opens J.origin) O.step pass.new }
     {
@@ -57,7 +56,7 @@ impl<O: Object, J: Naming> Log<O, J> {
 
     /// The number of `Counted` events in the history that the pass has then seen, modulo 2^64. It waits for nobody.
     pub fn count(&self, pass: &mut Pass<O, J>) -> u64
-        ensures before { IsPrefix pass.old.seen pass.new.seen }
+        ensures before { GrowsByOthers pass.old.slot pass.old.seen pass.new.seen }
         ensures count { result ≡ count O.rank_of pass.new.seen % 2 ^ 64 }
         ensures pass { pass.new ≡ record { slot = pass.old.slot; seen = pass.new.seen; mine = pass.old.mine } }
         ensures agrees { Agrees O.rank_of (O.opens J.origin) O.step pass.new }
@@ -69,7 +68,7 @@ impl<O: Object, J: Naming> Log<O, J> {
     /// Both passes have then seen what one of them had. It waits for nobody.
     pub fn meet(&self, a: &mut Pass<O, J>, b: &mut Pass<O, J>)
         ensures apart { a.old.slot ≢ b.old.slot }
-        ensures one { IsPrefix a.old.seen b.old.seen ⊎ IsPrefix b.old.seen a.old.seen }
+        ensures one { GrowsByOthers a.old.slot a.old.seen b.old.seen ⊎ GrowsByOthers b.old.slot b.old.seen a.old.seen }
         ensures a { a.new ≡ record { slot = a.old.slot; seen = longer a.old.seen b.old.seen; mine = a.old.mine } }
         ensures b { b.new ≡ record { slot = b.old.slot; seen = longer a.old.seen b.old.seen; mine = b.old.mine } }
         ensures a_agrees { Agrees O.rank_of (O.opens J.origin) O.step a.new }

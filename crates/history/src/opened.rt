@@ -33,7 +33,7 @@ impl<O: Object> Model for Opened<O> {
         o.keeper.me.0 o.pass.me.0 o.object };
 }
 
-/// An empty history of an object. Its one error is want of memory, for the word: no later call on the history takes any.
+/// An empty history of an object. Its one error is that there is no memory for the word: no later call on the history takes any.
 pub fn open<O: Object + Drop>(
     alloc: Global,
     origin: u64,

@@ -1,8 +1,9 @@
 //! The set of marked granules, seen as one `bool` a granule of the heap.
-ghost use Rattle.std.specs.Prelude.{◌≡◌, ◌≢◌, ℕ, ◌*◌, ◌/◌, ◌%◌, ◌<◌, ◌≤◌, ◌==◌, true, false, length, slice_index_or, slice_set, IfOk};
+ghost use Rattle.std.specs.Prelude.{◌≡◌, ◌≢◌, ℕ, ◌+◌, ◌*◌, ◌/◌, ◌%◌, ◌<◌, ◌≤◌, ◌==◌, true, false, length, slice_index_or, slice_set, IfOk};
 ghost use Rattle.std.specs.Int.{bit_at};
 ghost use Rattle.words.specs.Bits.{bits, IsClear};
 ghost use Rattle.words.specs.declared.limits.TheConstants.{MAX_PAGES, PAGE_GRANULES};
+ghost use Rattle.mark_bits.specs.Granules.{marks_on};
 
 use std::alloc::{AllocError, Global};
 use std::marker::Model;
@@ -27,7 +28,7 @@ impl Model for Marks {
 }
 
 impl Marks {
-    /// No mark in a heap of so many pages. The error is want of memory.
+    /// No mark in a heap of so many pages. The error is that there is no memory.
     pub fn new(alloc: Global, pages: PageNo) -> Result<Marks, AllocError>
         requires some { 0 < pages }
         requires few { pages ≤ MAX_PAGES }
@@ -51,6 +52,15 @@ impl Marks {
         ensures { result ≡ slice_index_or self.now granule false }
     {
         self.row.is_set(granule)
+    }
+
+    /// How many granules of a page are marked, counted by whole words.
+    pub fn count_on(&self, page: PageNo) -> u32
+        requires { PAGE_GRANULES * (page + 1) ≤ length self.now }
+        ensures { result ≡ marks_on self.now page }
+    {
+        let first = PAGE_GRANULES as usize * page as usize;
+        self.row.count(first, first + PAGE_GRANULES as usize)
     }
 
     /// Marks the granule.

@@ -2,7 +2,7 @@
 use Rattle.std.proofs.Common.{◌≡◌, ℕ, ◌+◌, ◌-◌, ◌*◌, ◌<◌, ◌≤◌, List, [], ◌∷◌, ◌++◌, length, get_or, take, Contains, Option, Some, refl, sym, ap, ◌∙◌, subst, inl, inr, ⊎_elim, append_assoc, append-nil, arith}
 use Rattle.std.specs.Prelude.{◌⊎◌}
 use Rattle.std.proofs.lemmas.Option.{same_Some}
-use Rattle.std.proofs.lemmas.List.{take_more}
+use Rattle.std.proofs.lemmas.List.{take_all, take_more}
 use Rattle.std.proofs.lemmas.List.FromFn.{map-range_with_len_more, length-map-range_with_len, get_or-map-range_with_len}
 use Rattle.std.proofs.lemmas.List.Elements.{Contains-append_left, Contains-append_right, Contains-append_cases}
 use Rattle.words.specs.declared.class.Kind.TheVariants.{Normal}
@@ -12,11 +12,12 @@ use Rattle.mark_bits.specs.Granules.{granule}
 use Rattle.pages.specs.Memory.{word_at}
 use Rattle.block_map.specs.declared.found.Found.{Found}
 use Rattle.block_map.specs.Objects.{IsMap}
-use Rattle.marker.specs.Marking.{Marking, IsMarked, word_address}
+use Rattle.marker.specs.Marking.{Marking, IsConsistent, IsMarked, StaysDirty, word_address}
+use Rattle.marker.specs.Work.{cost}
 use Rattle.marker.specs.Closure.{Closure, held, root, word}
 use Rattle.marker.specs.Invariant.{IsTargetMarked, AreRootsMarked}
 use Rattle.marker.specs.Growth.{MarksWord, MarksWords, Traces, Awaits, words_of, nothing, object, begun, and_word, pointer_free, pushed, dirtied}
-use Rattle.marker.proofs.Closures.{at_base, same_object}
+use Rattle.marker.proofs.Closures.{at_base, marks_of, same_object}
 use Rattle.marker.proofs.Growing.{Extends, extends_refl, extends_trans, target_more, traced_more}
 use Rattle.marker.proofs.MarkWord.{object_extends, object_marked, object_only}
 
@@ -146,3 +147,25 @@ module _ (pages : ℕ) (found : ℕ → Option Found) (map : IsMap pages found) 
         let y = word_of words f first n t.0 t.1 in let b = y.2 in
         word y.0 (held e marked) normal (omega arith) (ap found (sym y.3) ∙ t.2))
         (words_cases x g is h)
+
+-- What the roots' words come to, once all are done with.
+pub record Scans (found : ℕ → Option Found) (roots : List ℕ) (old new : Marking) : Type 0 where
+  pub marks : MarksWords found old roots new
+  pub traces : (words : List ℕ) → Traces found words roots old new
+  pub targets : AreRootsMarked found roots new
+  pub dirty : StaysDirty old new
+  pub cost : cost found new ≤ cost found old
+
+pub scanned : {pages : ℕ} {found : ℕ → Option Found} {old new : Marking} {roots : List ℕ} {i : ℕ} → IsMap pages found → IsConsistent old → length old.dirty ≡ pages → length roots ≤ i
+    → MarksWords found old (take i roots) new → Scans found roots old new
+scanned {pages = pages} {found = found} {old = old} {new = new} {roots = roots} {i = i} map consistent size all x =
+    let y = subst (λ ws. MarksWords found old ws new) (take_all i roots all) x in
+    let marks = marks_of pages old consistent size in
+    let e = words_extends pages found map old marks y in
+    record {
+      marks = y;
+      traces = λ words. roots_traces pages found map old marks words y;
+      targets = words_targets pages found map old marks y;
+      dirty = e.dirty;
+      cost = e.cost;
+    }

@@ -34,6 +34,7 @@
 //! were zero when it came.
 #![tactic(auto)]
 
+mod count;
 mod entry;
 mod marker;
 mod mutators;

@@ -15,7 +15,7 @@ use Rattle.pages.specs.Runs.{IsFreeRun, HasNoFreeRun, IsFilled}
 use Rattle.blocks.specs.Cells.{Cells, IsCells}
 use Rattle.blocks.proofs.Places.{class_bounds}
 use Rattle.block_map.specs.States.{PageState, free, cut, head, body, state_at, IsCut, LaidAt, IsLaid, IsSpanSet, HasCell, all_free, with_cell, large_states}
-use Rattle.block_map.specs.Objects.{cell_object, large_object, object_on, IsPlaced}
+use Rattle.block_map.specs.Objects.{cell_object, large_object, object_on, IsMap, IsPlaced}
 use Rattle.block_map.specs.Changes.{IsAdded, IsSameMap}
 use Rattle.block_map.specs.FoundIn.{found_in, IsLawful}
 use Rattle.block_map.specs.declared.found.Found.{Found}
@@ -26,6 +26,7 @@ use Rattle.object_space.specs.Store.{Store, IsSound, Agree, IsPendingRow}
 use Rattle.object_space.specs.Shown.{Shows}
 use Rattle.object_space.specs.Rooms.{IsFreeCell, HasNoFreeCell, HasRoomAt, HasNoRoom, TakesCell, CutsPage}
 use Rattle.object_space.specs.Sweeps.{Gains}
+use Rattle.object_space.proofs.Words.{others_kept, zeroed_object}
 use Rattle.object_space.proofs.Rooms.{cell_below, cell_end, room_of_cell, room_of_page, no_small_room, large_room, no_large_room}
 
 -- the objects of a map that is the same are the same
@@ -98,8 +99,12 @@ module _ (t : Store) (laid : IsLaid t.states) (lawful : IsLawful t.states) (clas
     map = (map_laws states' taken_laid).map;
     found = ap (found_in states') takes.at ∙ takes.added.after (object_on page (state_at t.states page) cell).base (let long = some in record { from = omega arith; below = omega arith });
     added = takes.added;
-    zeroed = takes.zeroed;
+    zeroed = zeroed_object (length states') t.words words' f placed zeroed_here;
+    words = others_kept (found_in t.states) (found_in states') (length states') t.words words' f (subst (λ n. IsMap n (found_in t.states)) (sym (ap length takes.became ∙ length-set t.states page _)) lawful.map) placed takes.added zeroed_here;
   }
+    where
+      zeroed_here : IsZeroed t.words words' (place f.base) f.len
+      zeroed_here = subst (λ b. IsZeroed t.words words' (place b) (object_on page (state_at t.states page) cell).len) takes.at takes.zeroed
 
   after_state : state_at states' page ≡ cut (record place_is.block { taken = set place_is.block.taken cell true })
   after_state = ap (λ x. state_at x page) takes.became ∙ get_or-set_same t.states page _ free place_is.inside ∙ ap (λ st. with_cell st cell true) place_is.is_cut
@@ -245,6 +250,7 @@ module _ (t : Store) (sound : IsSound t) (laid : IsLaid t.states) (lawful : IsLa
           found = g.found;
           added = record { before = λ w r. sym (cuts.same.same w) ∙ g.added.before w r; after = g.added.after; others = λ w n. g.added.others w n ∙ cuts.same.same w };
           zeroed = g.zeroed;
+          words = λ f i there lt. g.words f i (cuts.same.same f.base ∙ there) lt;
         }
 
     pub sound_page : IsSound (record t { words = words'; free = free'; states = states'' })
@@ -278,8 +284,12 @@ module _ (t : Store) (sound : IsSound t) (laid : IsLaid t.states) (lawful : IsLa
     map = (map_laws states' (laid_large t.states states' first n kind laid some_pages was span)).map;
     found = added.after (page_start first) (record { from = omega arith; below = omega arith });
     added = added;
-    zeroed = zeroed;
+    zeroed = zeroed_object (length states') t.words words' (large_object first n kind) placed zeroed;
+    words = others_kept (found_in t.states) (found_in states') (length states') t.words words' (large_object first n kind) (subst (λ m. IsMap m (found_in t.states)) (sym span.size) lawful.map) placed added zeroed;
   }
+    where
+      placed : IsPlaced (length states') (large_object first n kind)
+      placed = (map_laws states' (laid_large t.states states' first n kind laid some_pages was span)).map.placed (page_start first) (large_object first n kind) (added.after (page_start first) (record { from = omega arith; below = omega arith }))
 
   large_not_free : (b : Bool) → (if b then head n kind else body first) ≡ free → ⊥
   large_not_free true e = cc

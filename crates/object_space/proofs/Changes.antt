@@ -1,12 +1,13 @@
 -- What changes of a map and of the memory are to the heap: a word is stored, an object goes, an object comes.
-use Rattle.std.proofs.Common.{◌≡◌, ℕ, ◌+◌, ◌-◌, ◌*◌, ◌/◌, ◌%◌, ◌<◌, ◌≤◌, ◌⊎◌, List, [], ◌∷◌, length, get_or, set, replicate, Option, Some, None, refl, sym, ap, ◌∙◌, subst, arith, inl, inr, ⊎_elim, length-set, get_or-set_same, get_or-set_other}
+use Rattle.std.proofs.Common.{◌≡◌, ℕ, ◌+◌, ◌-◌, ◌/◌, ◌%◌, ◌<◌, ◌≤◌, List, [], ◌∷◌, length, get_or, set, replicate, Option, Some, None, refl, sym, ap, ◌∙◌, subst, arith, ⊎_elim, length-set, get_or-set_same, get_or-set_other}
 use Rattle.std.specs.Prelude.{◌≢◌, slice_index}
-use Rattle.std.proofs.lemmas.Bool.{cases_lt, cases_eq}
+use Rattle.std.proofs.lemmas.Bool.{cases_eq}
 use Rattle.std.proofs.lemmas.List.{get_or-replicate, length-replicate}
 use Rattle.std.proofs.lemmas.Option.{same_Some}
 use Rattle.words.specs.declared.class.Kind.{Kind}
 use Rattle.heap_spec.specs.Heap.{Object, with_at, without_at}
-use Rattle.pages.specs.Memory.{IsZeroed, place, with_word_at}
+use Rattle.pages.specs.Memory.{place, with_word_at}
+use Rattle.marker.specs.Mutations.{KeepsWords, HasZeroWords}
 use Rattle.block_map.specs.Objects.{IsMap, Reads}
 use Rattle.block_map.specs.Changes.{IsAdded, IsRemoved}
 use Rattle.block_map.specs.declared.found.Found.{Found}
@@ -14,6 +15,7 @@ use Rattle.object_space.specs.Shown.{IsShown, Shows}
 use Rattle.heap_spec.proofs.Objects.{without_one, without_one-other}
 use Rattle.object_space.proofs.Tables.{with_at-same, with_at-other, with_at-cases}
 use Rattle.object_space.proofs.Shown.{at_base, one_at_base, word_index, reads_place}
+use Rattle.object_space.proofs.Words.{shown_kept, word_is}
 
 -- a word is stored
 module _ (found : ℕ → Option Found) (pages : ℕ) (map : IsMap pages found) (words : List ℕ) (objects : ℕ → Option Object) (births : ℕ) (shows : Shows found words objects births)
@@ -106,7 +108,7 @@ module _ (found after : ℕ → Option Found) (pages : ℕ) (map : IsMap pages f
 
 -- an object comes, all its words 0
 module _ (found after : ℕ → Option Found) (pages : ℕ) (map : IsMap pages found) (words zeroed : List ℕ) (objects : ℕ → Option Object) (births : ℕ) (shows : Shows found words objects births)
-    (f : Found) (len : ℕ) (kind : Kind) (came : IsAdded found after f) (zero : IsZeroed words zeroed (place f.base) f.len) (same_len : f.len ≡ len) (same_kind : f.kind ≡ kind)
+    (f : Found) (len : ℕ) (kind : Kind) (came : IsAdded found after f) (keeps : KeepsWords found words zeroed) (zero : HasZeroWords zeroed f) (same_len : f.len ≡ len) (same_kind : f.kind ≡ kind)
     (some : 0 < f.len) (low : 268435456 ≤ f.base) (even : f.base % 16 ≡ 0) where
   abbrev pub fresh : Object
   fresh = record { birth = births + 1; kind = kind; words = replicate len 0 }
@@ -118,27 +120,8 @@ module _ (found after : ℕ → Option Found) (pages : ℕ) (map : IsMap pages f
   fresh_shown = record {
     kind = sym same_kind;
     size = length-replicate len 0 ∙ sym same_len;
-    word = λ i lt. get_or-replicate len i 0 0 (omega arith) ∙ sym (zero.zero (place f.base + i) (omega arith) (omega arith));
+    word = λ i lt. get_or-replicate len i 0 0 (omega arith) ∙ sym (zero i lt) ∙ word_is zeroed f i low;
   }
-
-  none_before : (g : Found) → found g.base ≡ Some g → (w : ℕ) → Reads w f → Reads w g → ⊥
-  none_before g there w r q = let some : found w ≡ Some g = map.whole g.base w g there q in let none : found w ≡ None = came.before w r in cc
-
-  kept_shown : (g : Found) (p : Object) → found g.base ≡ Some g → IsShown words g p → IsShown zeroed g p
-  kept_shown g p there old = record {
-    kind = old.kind;
-    size = old.size;
-    word = λ i lt. old.word i lt ∙ sym (zero.others (place g.base + i) (outside i lt));
-  }
-    where
-      outside : (i : ℕ) → i < g.len → (place g.base + i < place f.base) ⊎ (place f.base + f.len ≤ place g.base + i)
-      outside i lt =
-          let above = (map.placed g.base g there).above in let aligned = (map.placed g.base g there).aligned in
-          ⊎_elim (λ before. inl before)
-          (λ from. ⊎_elim (λ inside. absurd (none_before g there (g.base + 8 * i) (record { from = omega arith; below = omega arith }) (record { from = omega arith; below = omega arith })))
-          (λ past. inr past)
-          (cases_lt (place g.base + i) (place f.base + f.len)))
-          (cases_lt (place g.base + i) (place f.base))
 
   pub shows_added : Shows after zeroed (with_at objects f.base (Some fresh)) (births + 1)
   shows_added = record {
@@ -146,7 +129,7 @@ module _ (found after : ℕ → Option Found) (pages : ℕ) (map : IsMap pages f
         (λ same. subst (λ (x : Found). (p : Object) × (with_at objects f.base (Some fresh) x.base ≡ Some p) × IsShown zeroed x p)
         (sym (new_one g there same))
         (fresh, with_at-same objects f.base (Some fresh) f.base refl, fresh_shown))
-        (λ ne. let was = was_found g there ne in let old = shows.kept g was in (old.0, with_at-other objects f.base (Some fresh) g.base ne ∙ old.1, kept_shown g old.0 was old.2))
+        (λ ne. let was = was_found g there ne in let old = shows.kept g was in (old.0, with_at-other objects f.base (Some fresh) g.base ne ∙ old.1, shown_kept words zeroed g old.0 (map.placed g.base g was).above (λ i lt. keeps g i was lt) old.2))
         (cases_eq g.base f.base);
     only = λ b p e. ⊎_elim
         (λ h. (f, ap after h.0 ∙ came.after f.base new_base_read, sym h.0))

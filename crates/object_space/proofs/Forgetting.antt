@@ -1,5 +1,5 @@
 -- What is closed and then forgotten.
-use Rattle.std.proofs.Common.{◌≡◌, ℕ, ◌⊎◌, ⊎_elim, subst, sym, List, Option, Some}
+use Rattle.std.proofs.Common.{◌≡◌, ℕ, ◌⊎◌, ⊎_elim, subst, sym, ◌∙◌, Bool, List, Option, Some}
 use Rattle.std.specs.Prelude.{◌↔◌}
 use Rattle.words.specs.Bits.{Has}
 use Rattle.block_map.specs.declared.found.Found.{Found}
@@ -8,14 +8,14 @@ use Rattle.marker.specs.Marking.{Marking, IsMarked, IsObjectGranule, AreMarksObj
 use Rattle.marker.specs.Closure.{Closure}
 use Rattle.object_space.specs.Store.{Store, IsSwept}
 use Rattle.object_space.specs.Kept.{is_kept}
-use Rattle.object_space.specs.Sweeps.{ForgetsUnmarked, ForgetsUnreached, ForgetsLazily}
-use Rattle.object_space.proofs.Kept.{kept_cases, kept_is, nothing_pending}
+use Rattle.object_space.specs.Sweeps.{ForgetsUnreached, ForgetsLazily, Sweeps}
+use Rattle.object_space.proofs.Kept.{kept_cases, kept_is, marked_kept}
 
 -- lazily
 pub forgets_lazily : (old : Store) (roots : List ℕ) (m m' : Marking) (n : ℕ) (new : Store) → ForgetsLazily old m'.marks n new
     → ((f : Found) → found_in old.states f.base ≡ Some f → IsMarked m' f.base ↔ Closure (found_in old.states) old.words roots (IsMarked m) f) → ForgetsUnreached old roots m n m'.marks new
 forgets_lazily old roots m m' n new x closes = record {
-  words = x.words;
+  words = λ f i there lt. x.words f i (kept_cases (is_kept new.pending m'.marks) (found_in new.states) f.base f there).0 lt;
   pages = x.pages;
   bases = x.bases;
   number = x.number;
@@ -26,29 +26,37 @@ forgets_lazily old roots m m' n new x closes = record {
   );
 }
 
--- and where it is swept at once
-pub forgets_unreached : (old : Store) (roots : List ℕ) (m m' : Marking) (n : ℕ) (new : Store) → IsSwept new → ForgetsUnmarked old m' n new
-    → ((f : Found) → found_in old.states f.base ≡ Some f → IsMarked m' f.base ↔ Closure (found_in old.states) old.words roots (IsMarked m) f) → ForgetsUnreached old roots m n m'.marks new
-forgets_unreached old roots m m' n new swept x closes = record {
-  words = x.words;
-  pages = x.pages;
+-- and what is left to be swept is swept at once
+pub sweeps_unreached : (old : Store) (roots : List ℕ) (m : Marking) (n : ℕ) (marks : List Bool) (mid new : Store) → ForgetsUnreached old roots m n marks mid → Sweeps mid marks new → ForgetsUnreached old roots m n marks new
+sweeps_unreached old roots m n marks mid new x y = record {
+  words = λ f i there lt. y.words f i there lt ∙ x.words f i (sym (y.same.same f.base) ∙ there) lt;
+  pages = y.pages ∙ x.pages;
   bases = x.bases;
   number = x.number;
   without = record {
     gone = x.without.gone;
     distinct = x.without.distinct;
-    left = λ w f e. x.without.left w f (kept_cases (is_kept new.pending m'.marks) (found_in new.states) w f e).0;
-    kept = λ w f e stays. kept_is (is_kept new.pending m'.marks) (found_in new.states) w f (x.without.kept w f e stays) (nothing_pending new.pending m'.marks f (swept f.page));
+    left = λ w f e. x.without.left w f (sym (y.same.same w) ∙ e);
+    kept = λ w f e stays. y.same.same w ∙ x.without.kept w f e stays;
   };
-  outside = λ f there. (
-    (λ is inside. (x.unmarked f there).0 is ((closes f there).1 inside)),
-    (λ outside. (x.unmarked f there).1 (λ marked. outside ((closes f there).0 marked))),
-  );
+  outside = x.outside;
 }
 
+-- Each mark is that of an object that is left while pages are swept, since marked objects are kept.
+pub objects_swept : (mid new : Store) (m : Marking) → Sweeps mid m.marks new → AreMarksObjects (found_in mid.states) m → AreMarksObjects (found_in new.states) m
+objects_swept mid new m y objects k marked =
+    let o = objects k marked in
+    let kept = kept_is (is_kept mid.pending m.marks) (found_in mid.states) o.object.base o.object o.is (marked_kept mid.pending m.marks o.object (subst (Has m.marks) (sym o.first) marked)) in
+    record { object = o.object; is = (kept_cases (is_kept new.pending m.marks) (found_in new.states) o.object.base o.object (y.same.same o.object.base ∙ kept)).0; first = o.first }
+
+-- Each new mark is that of an object too.
+pub objects_marked : (found : ℕ → Option Found) (m m' : Marking) → AreMarksObjects found m → ((k : ℕ) → Has m'.marks k → Has m.marks k ⊎ IsObjectGranule found k) → AreMarksObjects found m'
+objects_marked found m m' before grown k h = ⊎_elim (before k) (λ o. o) (grown k h)
+
 -- Each mark is that of an object that is left.
-pub marks_left : (found after : ℕ → Option Found) (m m' : Marking) → AreMarksObjects found m → ((k : ℕ) → Has m'.marks k → Has m.marks k ⊎ IsObjectGranule found k) → ((f : Found) → found f.base ≡ Some f → IsMarked m' f.base → after f.base ≡ Some f) → AreMarksObjects after m'
-marks_left found after m m' before grown left k h = by (⊎_elim (before k) (λ o. o) (grown k h))
-  where
-    by : IsObjectGranule found k → IsObjectGranule after k
-    by o = record { object = o.object; is = left o.object o.is (subst (Has m'.marks) (sym o.first) h); first = o.first }
+pub objects_forgotten : (old new : Store) (m : Marking) (n : ℕ) → ForgetsLazily old m.marks n new → AreMarksObjects (found_in old.states) m → AreMarksObjects (found_in new.states) m
+objects_forgotten old new m n x objects k marked =
+    let o = objects k marked in
+    let is : IsMarked m o.object.base = subst (Has m.marks) (sym o.first) marked in
+    let kept = x.without.kept o.object.base o.object o.is (λ has. (x.unmarked o.object o.is).0 has is) in
+    record { object = o.object; is = (kept_cases (is_kept new.pending m.marks) (found_in new.states) o.object.base o.object kept).0; first = o.first }

@@ -153,7 +153,7 @@ pub loses_cell : (t : Store) (page cell : ℕ) (b : Cells) → state_at t.states
     → FreesCell t.free row' t.states states' page cell → KeepsPending page t.states states' t.pending pending' → Loses t f (record t { free = row'; states = states'; pending = pending' })
 loses_cell t page cell b is inside row' states' pending' f same freed keeps_row =
     let object : object_on page (state_at t.states page) cell ≡ f = ap (λ st. object_on page st cell) is ∙ sym same in
-    record { words = refl; pages = size freed.pages; removed = subst (IsRemoved (found_in t.states) (found_in states')) object freed.removed; row_size = keeps_row.size; rest = λ p ne. keeps_row.rest p (λ e. ne (e ∙ sym (ap (λ (x : Found). x.page) same))); fewer = keeps_row.less; pending = keeps_row.same }
+    record { words = λ g i now lt. refl; pages = size freed.pages; removed = subst (IsRemoved (found_in t.states) (found_in states')) object freed.removed; row_size = keeps_row.size; rest = λ p ne. keeps_row.rest p (λ e. ne (e ∙ sym (ap (λ (x : Found). x.page) same))); fewer = keeps_row.less; pending = keeps_row.same }
   where
     size : EmptiesCell t.free row' t.states states' page cell → length states' ≡ length t.states
     size (keeps c i at bit row became) = ap length became ∙ length-set t.states page _
@@ -195,7 +195,7 @@ large_here t f lawful is uncut = by (in_large t f (on_page t f lawful is) uncut)
 
 pub loses_large : (t : Store) (f : Found) (row' : List Bool) (states' : List PageState) (k : Kind) (n : ℕ) → f ≡ large_object f.page n k → IsSpanSet t.states states' f.page n (λ _. free)
     → IsRemoved (found_in t.states) (found_in states') (large_object f.page n k) → Loses t f (record t { free = row'; states = states' })
-loses_large t f row' states' k n same span removed = record { words = refl; pages = span.size; removed = subst (IsRemoved (found_in t.states) (found_in states')) (sym same) removed; row_size = refl; rest = λ p ne. refl; fewer = λ p h. h; pending = λ w g there. refl }
+loses_large t f row' states' k n same span removed = record { words = λ g i now lt. refl; pages = span.size; removed = subst (IsRemoved (found_in t.states) (found_in states')) (sym same) removed; row_size = refl; rest = λ p ne. refl; fewer = λ p h. h; pending = λ w g there. refl }
 
 -- the row of the pages to be swept
 pub pending_row : (t t' : Store) (page : ℕ) → IsPendingRow t → length t'.states ≡ length t.states → KeepsPending page t.states t'.states t.pending t'.pending → IsPendingRow t'

@@ -2,6 +2,7 @@ pub mod Tables
 pub mod AvailableRows
 pub mod Kept
 pub mod Shown
+pub mod Words
 pub mod Changes
 pub mod Placing
 pub mod Rooms
@@ -14,5 +15,6 @@ pub mod Swept
 pub mod Searching
 pub mod Sweeping
 pub mod Passing
-pub mod Dropping
 pub mod Forgetting
+pub mod Counting
+pub mod Forgets

@@ -11,9 +11,10 @@ use Rattle.block_map.specs.Places.{page_start, page_of}
 use Rattle.block_map.specs.FoundIn.{found_in}
 use Rattle.block_map.specs.Objects.{IsMap, Reads}
 use Rattle.block_map.specs.Walks.{IsNextObject}
-use Rattle.marker.specs.Marking.{Marking, IsMarked}
+use Rattle.pages.specs.Memory.{word_at}
+use Rattle.marker.specs.Marking.{Marking, IsMarked, word_address}
 use Rattle.object_space.specs.Store.{Store}
-use Rattle.object_space.specs.Sweeps.{Passes, none, marked, forgot, HasPassed, ForgetsUnmarked, SweepsPage}
+use Rattle.object_space.specs.Sweeps.{Passes, none, marked, forgot, HasPassed, SweepsPage}
 use Rattle.object_space.proofs.Shown.{at_base, one_at_base}
 use Rattle.object_space.proofs.Rooms.{Lies, in_cell, in_large, lies_cases, large_page, cell_end}
 use Rattle.block_map.specs.States.{PageState, cut, head, body, state_at, LaidAt, IsLaid}
@@ -26,7 +27,7 @@ use Rattle.object_space.proofs.Sweeping.{without_none, without_more, has, true_h
 -- nothing was looked at
 pub passed_none : (old : Store) (m : Marking) (from limit : ℕ) → HasPassed old m from limit from 0 old
 passed_none old m from limit = record {
-  words = refl;
+  words = λ f i there lt. refl;
   pages = refl;
   pending = λ w g there. refl;
   row_size = refl;
@@ -96,7 +97,7 @@ module _ (old : Store) (m : Marking) (from limit address n : ℕ) (mid : Store) 
         (cases_lt w address);
   })
   passed_more next k new (forgot f is at unmarked_f one loses) = record {
-    words = loses.words ∙ h.words;
+    words = λ g i there lt. loses.words g i there lt ∙ h.words g i (still g.base g there) lt;
     pages = loses.pages ∙ h.pages;
     pending = λ w g there. loses.pending w g there ∙ h.pending w g (still w g there);
     row_size = loses.row_size ∙ h.row_size;
@@ -127,24 +128,6 @@ module _ (old : Store) (m : Marking) (from limit address n : ℕ) (mid : Store) 
               (λ ge. ⊎_elim (λ (lt : w < f.base + 8 * f.len). inl (record { from = omega arith; below = lt })) (λ le. inr (λ (r : Reads w f). let b = r.below in absurd (omega arith))) (cases_lt w (f.base + 8 * f.len)))
               (cases_lt w f.base)
 
--- the walk is over
-pub passed_all : (old : Store) (m : Marking) (limit address n : ℕ) (now : Store) → IsMap (length old.states) (found_in old.states) → page_start (length old.states) ≤ address → HasPassed old m FIRST_ADDRESS limit address n now → ForgetsUnmarked old m n now
-passed_all old m limit address n now map past h = record {
-  words = h.words;
-  pages = h.pages;
-  pending = h.pending;
-  fewer = h.fewer;
-  bases = h.bases;
-  number = h.number;
-  without = h.without;
-  unmarked = λ f there. (λ is. All-contains (λ b. IsMarked m b → ⊥) h.bases f.base h.unmarked is, λ not. by f there not (has h.bases f.base) refl);
-}
-  where
-    by : (f : Found) → found_in old.states f.base ≡ Some f → (IsMarked m f.base → ⊥) → (x : Bool) → has h.bases f.base ≡ x → Contains h.bases f.base
-    by f there not true e = true_has h.bases f.base e
-    by f there not false e =
-        absurd (not (h.done f.base f (map.placed f.base f there).above (let ends = (map.placed f.base f there).below in let some = (map.placed f.base f there).some in omega arith) (h.without.kept f.base f there (false_has h.bases f.base e))))
-
 -- an object that an address of a cut page reads is one of the page
 cut_page_object : (states : List PageState) (page : ℕ) (b : Cells) → IsLaid states → IsLawful states → state_at states page ≡ cut b → (w : ℕ) (f : Found) → page_start page ≤ w → w < page_start (page + 1) → found_in states w ≡ Some f → f.page ≡ page
 cut_page_object states page b laid lawful is w f low high there =
@@ -167,7 +150,7 @@ cut_page_object states page b laid lawful is w f low high there =
 pub passed_page : (old : Store) (m : Marking) (page address n : ℕ) (now new : Store) → IsLaid old.states → IsLawful old.states → (b : Cells) → state_at old.states page ≡ cut b → page_start (page + 1) ≤ address
     → HasPassed old m (page_start page) (page_start (page + 1)) address n now → new.words ≡ now.words → new.states ≡ now.states → new.pending ≡ set now.pending page false → SweepsPage old m.marks page new
 passed_page old m page address n now new laid lawful b is past h words states pending = record {
-  words = words ∙ h.words;
+  words = λ f i there lt. ap (λ ws. word_at ws (word_address f i)) words ∙ h.words f i (sym (ap (λ st. found_in st f.base) states) ∙ there) lt;
   pages = ap length states ∙ h.pages;
   pending = pending ∙ ext_get_or false (set now.pending page false) (set old.pending page false) (length-set now.pending page false ∙ h.row_size ∙ sym (length-set old.pending page false)) (λ p lt. row p (let size = length-set now.pending page false in omega arith));
   others = λ w f there ne. ap (λ st. found_in st w) states ∙ h.without.kept w f there (λ has. ne (on_page f (at_base (found_in old.states) (length old.states) lawful.map w f there) has));

@@ -8,10 +8,11 @@ use Rattle.std.proofs.lemmas.List.Sums.{sum_by-set}
 use Rattle.words.specs.Bits.{Has}
 use Rattle.block_map.specs.FoundIn.{found_in}
 use Rattle.block_map.specs.Changes.{IsSameMap}
+use Rattle.block_map.specs.Objects.{IsMap}
 use Rattle.object_space.specs.Store.{Store}
 use Rattle.object_space.specs.Kept.{restrict, is_kept, kept_in}
 use Rattle.object_space.specs.Sweeps.{Sweeps, SweepsPage}
-use Rattle.object_space.proofs.Kept.{page_swept}
+use Rattle.object_space.proofs.Kept.{kept_cases, page_swept}
 
 abbrev one_if : Bool → ℕ
 one_if b = cond b 1 0
@@ -25,9 +26,10 @@ count_cleared row page is =
     inside = ⊎_elim (λ lt. lt) (λ past. absurd (false≢true (sym (get_or_past row page false past) ∙ is))) (cases_lt page (length row))
 
 -- a page was swept
-pub sweeps_page : (old : Store) (marks : List Bool) (page : ℕ) (new : Store) → Has old.pending page → SweepsPage old marks page new → Sweeps old marks new
-sweeps_page old marks page new was x = record {
-  words = x.words;
+pub sweeps_page : (old : Store) (marks : List Bool) (page : ℕ) (new : Store) → IsMap (length old.states) (found_in old.states) → Has old.pending page → SweepsPage old marks page new → Sweeps old marks new
+sweeps_page old marks page new map was x = record {
+  before = map;
+  words = λ f i there lt. x.words f i (kept_cases (is_kept new.pending marks) (found_in new.states) f.base f there).0 lt;
   pages = x.pages;
   same = subst (λ row. IsSameMap (kept_in old.states old.pending marks) (restrict (is_kept row marks) (found_in new.states))) (sym x.pending)
       (page_swept old.pending marks page (found_in old.states) (found_in new.states) was x.others x.marked x.only);
@@ -35,8 +37,8 @@ sweeps_page old marks page new was x = record {
   number = subst (λ row. count_by (λ b. b) row ≤ count_by (λ b. b) old.pending) (sym x.pending) (count_cleared old.pending page was);
 }
 
-pub sweeps_none : (old : Store) (marks : List Bool) → Sweeps old marks old
-sweeps_none old marks = record { words = refl; pages = refl; same = record { same = λ w. refl }; fewer = λ p h. h; number = omega arith }
+pub sweeps_none : (old : Store) (marks : List Bool) → IsMap (length old.states) (found_in old.states) → Sweeps old marks old
+sweeps_none old marks map = record { before = map; words = λ f i there lt. refl; pages = refl; same = record { same = λ w. refl }; fewer = λ p h. h; number = omega arith }
 
 pub sweeps_more : (old : Store) (marks : List Bool) (mid new : Store) → Sweeps old marks mid → Sweeps mid marks new → Sweeps old marks new
-sweeps_more old marks mid new a b = record { words = b.words ∙ a.words; pages = b.pages ∙ a.pages; same = record { same = λ w. b.same.same w ∙ a.same.same w }; fewer = λ p h. a.fewer p (b.fewer p h); number = let x = a.number in let y = b.number in omega arith }
+sweeps_more old marks mid new a b = record { before = a.before; words = λ f i there lt. b.words f i there lt ∙ a.words f i (sym (b.same.same f.base) ∙ there) lt; pages = b.pages ∙ a.pages; same = record { same = λ w. b.same.same w ∙ a.same.same w }; fewer = λ p h. a.fewer p (b.fewer p h); number = let x = a.number in let y = b.number in omega arith }

@@ -4,3 +4,4 @@ pub mod Kept
 pub mod Shown
 pub mod Rooms
 pub mod Sweeps
+pub mod Forgets

@@ -5,8 +5,6 @@ use Rattle.words.specs.declared.limits.TheConstants.{FIRST_ADDRESS, WORD_BYTES}
 use Rattle.words.specs.declared.class.Kind.{Kind}
 use Rattle.words.specs.declared.class.Placement.{Placement}
 use Rattle.heap_spec.specs.Room.{length_of}
-use Rattle.pages.specs.Memory
-use Rattle.pages.specs.Memory.{IsZeroed}
 use Rattle.words.specs.Bits.{Has}
 use Rattle.mark_bits.specs.Granules.{granule}
 use Rattle.object_space.specs.Store.{IsSwept}
@@ -22,6 +20,7 @@ use Rattle.block_map.specs.FoundIn.{found_in}
 use Rattle.block_map.specs.Objects.{IsMap}
 use Rattle.marker.specs.Marking.{Marking, IsMarked}
 use Rattle.marker.specs.Closure.{Closure}
+use Rattle.marker.specs.Mutations.{KeepsWords, HasZeroWords}
 use Rattle.object_space.specs.Store.{Store}
 
 -- The objects with these bases are gone, and nothing else has changed.
@@ -31,9 +30,9 @@ pub record IsWithout (found after : ℕ → Option Found) (bases : List ℕ) : T
   pub left : (w : ℕ) (f : Found) → after w ≡ Some f → (found w ≡ Some f) × (Contains bases f.base → ⊥)
   pub kept : (w : ℕ) (f : Found) → found w ≡ Some f → (Contains bases f.base → ⊥) → after w ≡ Some f
 
--- The store has lost one object, and nothing else. Of the pages of other objects the same are to be swept.
+-- The store has lost one object, and nothing else. The words of the others stay, and of their pages the same are to be swept.
 pub record Loses (old : Store) (f : Found) (new : Store) : Type 0 where
-  pub words : new.words ≡ old.words
+  pub words : KeepsWords (found_in new.states) old.words new.words
   pub pages : length new.states ≡ length old.states
   pub removed : IsRemoved (found_in old.states) (found_in new.states) f
   pub row_size : length new.pending ≡ length old.pending
@@ -41,7 +40,7 @@ pub record Loses (old : Store) (f : Found) (new : Store) : Type 0 where
   pub fewer : (page : ℕ) → Has new.pending page → Has old.pending page
   pub pending : (w : ℕ) (g : Found) → found_in new.states w ≡ Some g → slice_index_or new.pending g.page false ≡ slice_index_or old.pending g.page false
 
--- The store has got one object, whose words are 0, and nothing else has changed.
+-- The store has got one object, whose words are 0. The words of the others stay, and nothing else has changed.
 pub record Gains (old : Store) (place : Placement) (kind : Kind) (base : ℕ) (new : Store) : Type 0 where
   pub object : Found
   pub at : object.base ≡ base
@@ -52,7 +51,8 @@ pub record Gains (old : Store) (place : Placement) (kind : Kind) (base : ℕ) (n
   pub map : IsMap (length new.states) (found_in new.states)
   pub found : found_in new.states base ≡ Some object
   pub added : IsAdded (found_in old.states) (found_in new.states) object
-  pub zeroed : IsZeroed old.words new.words (Memory.place base) object.len
+  pub zeroed : HasZeroWords new.words object
+  pub words : KeepsWords (found_in old.states) old.words new.words
   pub pending : new.pending ≡ old.pending
   pub swept : slice_index_or old.pending object.page false ≡ false
 
@@ -64,9 +64,9 @@ pub data Passes (old : Store) (marking : Marking) (address next n : ℕ) (new : 
   forgot : (f : Found) → IsNextObject (found_in old.states) address (page_start (page_of address + 1)) f → next ≡ f.base + WORD_BYTES * f.len → (IsMarked marking f.base → ⊥) → n ≡ 1 → Loses old f new → Passes old marking address next n new
 
 -- All unmarked objects that an address reads from one up to another are gone, so many, none that only addresses past the
--- limit read, and nothing else has changed.
+-- limit read, and nothing else has changed. The words of those that are left stay.
 pub record HasPassed (old : Store) (marking : Marking) (from limit address n : ℕ) (now : Store) : Type 0 where
-  pub words : now.words ≡ old.words
+  pub words : KeepsWords (found_in now.states) old.words now.words
   pub pages : length now.states ≡ length old.states
   pub pending : (w : ℕ) (g : Found) → found_in now.states w ≡ Some g → slice_index_or now.pending g.page false ≡ slice_index_or old.pending g.page false
   pub row_size : length now.pending ≡ length old.pending
@@ -81,38 +81,30 @@ pub record HasPassed (old : Store) (marking : Marking) (from limit address n : �
   pub read : All (λ b. (w : ℕ) × (f : Found) × (from ≤ w) × (w < limit) × (found_in old.states w ≡ Some f) × (f.base ≡ b)) bases
   pub done : (w : ℕ) (f : Found) → from ≤ w → w < address → found_in now.states w ≡ Some f → IsMarked marking f.base
 
--- The store has lost exactly the unmarked objects, so many.
-pub record ForgetsUnmarked (old : Store) (marking : Marking) (n : ℕ) (new : Store) : Type 0 where
-  pub words : new.words ≡ old.words
-  pub pages : length new.states ≡ length old.states
-  pub pending : (w : ℕ) (g : Found) → found_in new.states w ≡ Some g → slice_index_or new.pending g.page false ≡ slice_index_or old.pending g.page false
-  pub fewer : (page : ℕ) → Has new.pending page → Has old.pending page
-  pub bases : List ℕ
-  pub number : n ≡ length bases
-  pub without : IsWithout (found_in old.states) (found_in new.states) bases
-  pub unmarked : (f : Found) → found_in old.states f.base ≡ Some f → Contains bases f.base ↔ (IsMarked marking f.base → ⊥)
-
--- To the heap exactly the objects outside of the closure of the marks and the roots are gone, so many.
+-- To the heap exactly the objects outside of the closure of the marks and the roots are gone, so many, and the words of the
+-- others stay.
 pub record ForgetsUnreached (old : Store) (roots : List ℕ) (marking : Marking) (n : ℕ) (marks : List Bool) (new : Store) : Type 0 where
-  pub words : new.words ≡ old.words
+  pub words : KeepsWords (kept_in new.states new.pending marks) old.words new.words
   pub pages : length new.states ≡ length old.states
   pub bases : List ℕ
   pub number : n ≡ length bases
   pub without : IsWithout (found_in old.states) (kept_in new.states new.pending marks) bases
   pub outside : (f : Found) → found_in old.states f.base ≡ Some f → Contains bases f.base ↔ (Closure (found_in old.states) old.words roots (IsMarked marking) f → ⊥)
 
--- A page was swept: its unmarked objects are gone, and it is not to be swept any more. Nothing else has changed.
+-- A page was swept: its unmarked objects are gone, and it is not to be swept any more. The words of all others stay, and
+-- nothing else has changed.
 pub record SweepsPage (old : Store) (marks : List Bool) (page : ℕ) (new : Store) : Type 0 where
-  pub words : new.words ≡ old.words
+  pub words : KeepsWords (found_in new.states) old.words new.words
   pub pages : length new.states ≡ length old.states
   pub pending : new.pending ≡ slice_set old.pending page false
   pub others : (w : ℕ) (f : Found) → found_in old.states w ≡ Some f → f.page ≢ page → found_in new.states w ≡ Some f
   pub marked : (w : ℕ) (f : Found) → found_in old.states w ≡ Some f → f.page ≡ page → Has marks (granule f.base) → found_in new.states w ≡ Some f
   pub only : (w : ℕ) (f : Found) → found_in new.states w ≡ Some f → (found_in old.states w ≡ Some f) × (f.page ≡ page → Has marks (granule f.base))
 
--- Pages were swept: the kept objects are the same.
+-- Pages were swept: the kept objects are the same, and their words stay.
 pub record Sweeps (old : Store) (marks : List Bool) (new : Store) : Type 0 where
-  pub words : new.words ≡ old.words
+  pub before : IsMap (length old.states) (found_in old.states)
+  pub words : KeepsWords (kept_in new.states new.pending marks) old.words new.words
   pub pages : length new.states ≡ length old.states
   pub same : IsSameMap (kept_in old.states old.pending marks) (kept_in new.states new.pending marks)
   pub fewer : (page : ℕ) → Has new.pending page → Has old.pending page
@@ -137,39 +129,12 @@ pub record FindsNoRoom (old : Store) (marks : List Bool) (place : Placement) (ki
   pub none : HasNoRoom new place kind
 
 -- Each unmarked object is forgotten, so many: the large ones are gone from the map, and the pages of the others are to be
--- swept. Nothing else has changed.
+-- swept. The words of the objects of the map stay, and nothing else has changed.
 pub record ForgetsLazily (old : Store) (marks : List Bool) (n : ℕ) (new : Store) : Type 0 where
-  pub words : new.words ≡ old.words
+  pub words : KeepsWords (found_in new.states) old.words new.words
   pub pages : length new.states ≡ length old.states
   pub pending : IsPendingAfter new.states marks new.pending
   pub bases : List ℕ
   pub number : n ≡ length bases
   pub without : IsWithout (found_in old.states) (kept_in new.states new.pending marks) bases
   pub unmarked : (f : Found) → found_in old.states f.base ≡ Some f → Contains bases f.base ↔ (Has marks (granule f.base) → ⊥)
-
--- An object is forgotten: the page of one in a block is to be swept, and any other is gone.
-pub data DropsObject (old : Store) (f : Found) (new : Store) : Type 0 where
-  unswept : IsCut (state_at old.states f.page) → new ≡ record old { pending = slice_set old.pending f.page true } → f.page < length old.pending → DropsObject old f new
-  gone : (Has old.pending f.page → ⊥) → Loses old f new → DropsObject old f new
-
--- The objects from one address up to another were looked at, as by `Passes`, and one that is not marked is forgotten.
-pub data Drops (old : Store) (marking : Marking) (address next n : ℕ) (new : Store) : Type 0 where
-  no_object : address < next → IsNoObject (found_in old.states) address next → n ≡ 0 → new ≡ old → Drops old marking address next n new
-  marked_object : (f : Found) → IsNextObject (found_in old.states) address (page_start (page_of address + 1)) f → next ≡ f.base + WORD_BYTES * f.len → IsMarked marking f.base → n ≡ 0 → new ≡ old → Drops old marking address next n new
-  dropped : (f : Found) → IsNextObject (found_in old.states) address (page_start (page_of address + 1)) f → next ≡ f.base + WORD_BYTES * f.len → (IsMarked marking f.base → ⊥) → n ≡ 1 → DropsObject old f new → Drops old marking address next n new
-
--- All unmarked objects that an address below this one reads are forgotten, so many.
-pub record HasDropped (old : Store) (marking : Marking) (address n : ℕ) (now : Store) : Type 0 where
-  pub words : now.words ≡ old.words
-  pub pages : length now.states ≡ length old.states
-  pub low : FIRST_ADDRESS ≤ address
-  pub few : n ≤ address
-  pub bases : List ℕ
-  pub number : n ≡ length bases
-  pub distinct : IsDistinct nat_eq bases
-  pub forgotten : All (λ b. (f : Found) × (found_in old.states b ≡ Some f) × (f.base ≡ b) × (f.base + WORD_BYTES * f.len ≤ address) × (IsMarked marking b → ⊥)) bases
-  pub all : (f : Found) → found_in old.states f.base ≡ Some f → f.base < address → (IsMarked marking f.base → ⊥) → Contains bases f.base
-  pub less : (w : ℕ) (f : Found) → found_in now.states w ≡ Some f → found_in old.states w ≡ Some f
-  pub stays : (w : ℕ) (f : Found) → found_in old.states w ≡ Some f → IsMarked marking f.base ⊎ (address ≤ w) → found_in now.states w ≡ Some f
-  pub unswept : (w : ℕ) (f : Found) → found_in now.states w ≡ Some f → w < address → (IsMarked marking f.base → ⊥) → Has now.pending f.page
-  pub only : (page : ℕ) → Has now.pending page → (w : ℕ) × (f : Found) × (found_in now.states w ≡ Some f) × (f.page ≡ page) × (IsMarked marking f.base → ⊥)

@@ -13,6 +13,7 @@ ghost use Rattle.object_space.specs.Shown.{Stores};
 
 mod allocate;
 mod available_pages;
+mod close;
 mod forget;
 mod free;
 mod mark;

@@ -37,9 +37,11 @@ caller_can c t old new log log1 slot learns same own o r st =
     let at = pass.live_attached t log1 new.slot few (ap (is_live rank_of new.slot) (sym seen) ∙ o.live) r in
     record { range = few; own = is; mutator = at.0; attached = ap (λ l. slice_get l new.slot) (sym st.stands.mutators) ∙ at.1 }
 
--- a slot with no mutator has no pass
-pub vacant_dead : {pages : ℕ} → (c : Contents) (t : HeapState) (log : List Entry) (who : ℕ) → who < 16 → IsNextSlot c.roots who → Reaches (Opens pages) StateStep log t → Stands c t → is_live rank_of who log ≡ false
-vacant_dead c t log who lt low r st = pass.vacant_dead t log who lt (ap (λ l. slice_get l who) st.stands.mutators ∙ low.is_vacant) r
+-- a slot that was found with no mutator has no pass
+pub vacant_dead : {pages : ℕ} → (c found : Contents) (t : HeapState) (log : List Entry) (who slot : ℕ) → who < 16 → who ≡ slot → found ≡ c → IsNextSlot found.roots slot → Reaches (Opens pages) StateStep log t → Stands c t → is_live rank_of who log ≡ false
+vacant_dead c found t log who slot lt is same low r st =
+    let here : IsNextSlot c.roots who = subst (λ (x : Contents). IsNextSlot x.roots who) same (subst (λ (n : ℕ). IsNextSlot found.roots n) (sym is) low) in
+    pass.vacant_dead t log who lt (ap (λ l. slice_get l who) st.stands.mutators ∙ here.is_vacant) r
 
 -- the core's phase is that of the collector's own events
 pub phase_is : {pages : ℕ} → (c : Contents) (t : HeapState) (old new : HeapPass) (log log1 : List Entry) → Learns old new log → log1 ≡ log → old.slot ≡ 16

@@ -135,7 +135,7 @@ impl<J: Naming> SharedHeap<J> {
         done(self.call(rt, me, Call::Free(at)))
     }
 
-    /// Puts the base of the object that a register reads into a register.
+    /// Puts the base of the object that a register points into, into a register.
     pub fn base(
         &self,
         rt: &impl Wait,
@@ -148,7 +148,7 @@ impl<J: Naming> SharedHeap<J> {
         word(self.call(rt, me, Call::Base(into, at)))
     }
 
-    /// The length in words of the object that a register reads.
+    /// The length in words of the object that a register points into.
     pub fn size(&self, rt: &impl Wait, me: &mut Mutator<J>, at: Reg) -> Result<u64, Refusal>
         ensures { Makes J.origin me.old (Call.Size at) (count_reply result) me.new }
     {

@@ -1,13 +1,12 @@
 //! The calls of the collector. Granted ones are events; `quiet` and refused ones are none.
-ghost use Rattle.std.specs.Prelude.{◌≡◌, true, false};
-ghost use Rattle.heap_spec.specs.declared.event.Event.TheVariants.{Begin, Finish, Collect};
+ghost use Rattle.std.specs.Prelude.{◌≡◌, false};
+ghost use Rattle.heap_spec.specs.declared.event.Event.TheVariants.{Begin, Collect};
 ghost use Rattle.heap_spec.specs.declared.reply.Reply.TheVariants.{Done, Count};
 ghost use Rattle.heap_core.specs.Contents.{Contents};
 ghost use Rattle.heap_history.specs.Passes.{is_marking};
 ghost use Rattle.heap_history.specs.Headline.{Extends, Looks, IsGrantedIn};
 
 use crate::heap::SharedHeap;
-use crate::replies::count;
 use crate::tokens::Collector;
 use heap_core::Core;
 use heap_spec::{Event, Reply};
@@ -31,22 +30,6 @@ impl<J: Naming> SharedHeap<J> {
         }
         self.log.act(logged, &mut me.pass, &Event::Begin);
         Ok(())
-    }
-
-    /// Ends the cycle, and answers how many objects it forgot.
-    ///
-    /// # Errors
-    /// [`Refusal::WrongPhase`] exactly while none is marking, which the collector's own events tell.
-    pub fn finish(&self, rt: &impl Wait, me: &mut Collector<J>) -> Result<u64, Refusal>
-        ensures { IsGrantedIn true J.origin me.old Finish Count result me.new }
-    {
-        let mut guard = self.lock.lock(rt);
-        let logged = &mut *guard;
-        self.log.learn(logged, &mut me.pass);
-        if !logged.object().is_marking() {
-            return Err(Refusal::WrongPhase);
-        }
-        count(self.log.act(logged, &mut me.pass, &Event::Finish))
     }
 
     /// Collects in full, in any phase, and answers how many objects it forgot.

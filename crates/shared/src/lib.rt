@@ -9,6 +9,7 @@
 
 mod calls;
 mod cycles;
+mod ending;
 mod heap;
 mod meetings;
 mod opening;

@@ -1,7 +1,6 @@
 //! The calls that take no lock and wait for nobody.
 ghost use Rattle.std.specs.Prelude.{◌≡◌, ◌≢◌, ◌%◌, ◌^◌, ◌⊎◌};
-ghost use mathlib.Core.List.{IsPrefix};
-ghost use Rattle.history.specs.Histories.{count};
+ghost use Rattle.history.specs.Histories.{count, GrowsByOthers};
 ghost use Rattle.history.specs.Passes.{longer};
 ghost use Rattle.heap_history.specs.Ranks.{rank_of};
 ghost use Rattle.heap_history.specs.Passes.{IsFine};
@@ -31,7 +30,7 @@ impl<J: Naming> SharedHeap<J> {
     /// Both have then seen what one of them had.
     pub fn meet(&self, a: &mut Mutator<J>, b: &mut Mutator<J>)
         ensures apart { a.old.slot ≢ b.old.slot }
-        ensures one { IsPrefix a.old.seen b.old.seen ⊎ IsPrefix b.old.seen a.old.seen }
+        ensures one { GrowsByOthers a.old.slot a.old.seen b.old.seen ⊎ GrowsByOthers b.old.slot b.old.seen a.old.seen }
         ensures a { a.new ≡ record { slot = a.old.slot; seen = longer a.old.seen b.old.seen; mine = a.old.mine } }
         ensures b { b.new ≡ record { slot = b.old.slot; seen = longer a.old.seen b.old.seen; mine = b.old.mine } }
         ensures a_fine { IsFine J.origin a.new }
@@ -42,7 +41,7 @@ impl<J: Naming> SharedHeap<J> {
 
     /// Both have then seen what one of them had.
     pub fn meet_collector(&self, me: &mut Mutator<J>, collector: &mut Collector<J>)
-        ensures one { IsPrefix me.old.seen collector.old.seen ⊎ IsPrefix collector.old.seen me.old.seen }
+        ensures one { GrowsByOthers me.old.slot me.old.seen collector.old.seen ⊎ GrowsByOthers collector.old.slot collector.old.seen me.old.seen }
         ensures me { me.new ≡ record { slot = me.old.slot; seen = longer me.old.seen collector.old.seen; mine = me.old.mine } }
         ensures collector { collector.new ≡ record { slot = collector.old.slot; seen = longer me.old.seen collector.old.seen; mine = collector.old.mine } }
         ensures me_fine { IsFine J.origin me.new }

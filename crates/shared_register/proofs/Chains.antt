@@ -114,9 +114,9 @@ plain_can register t log who Detach lt o r st p = absurd p
 pub detach_can : {start : ℕ} → (register : Register) (t : State) (log : List (Event Call Reply)) (who : ℕ) → who < 16 → is_live rank_of who log ≡ true → Reaches (IsOpening start) Steps log t → Stands register t → Can register who Detach
 detach_can register t log who lt o r st = (lt, st.attached who lt ∙ (attached_live log t who lt r ∙ o))
 
--- a slot that isn't attached may have a first call
-pub free_slot_dead : {start : ℕ} → (register : Register) (t : State) (log : List (Event Call Reply)) (who : ℕ) → who < 16 → slice_index_or register.attached who false ≡ false → Reaches (IsOpening start) Steps log t → Stands register t → is_live rank_of who log ≡ false
-free_slot_dead register t log who lt free r st = sym (attached_live log t who lt r) ∙ (sym (st.attached who lt) ∙ free)
+-- a slot that was found not attached may have a first call
+pub free_slot_dead : {start : ℕ} → (register found : Register) (t : State) (log : List (Event Call Reply)) (who : ℕ) → found ≡ register → (who < 16) × (slice_index_or found.attached who false ≡ false) → Reaches (IsOpening start) Steps log t → Stands register t → is_live rank_of who log ≡ false
+free_slot_dead register found t log who same free r st = sym (attached_live log t who free.0 r) ∙ (sym (st.attached who free.0) ∙ (ap (λ (x : Register). slice_index_or x.attached who false) (sym same) ∙ free.1))
 
 -- the register's phase is that of the collector's events
 pub phase : {start : ℕ} → (register : Register) (t : State) (log mine : List (Event Call Reply)) → mine ≡ own rank_of 16 log → Reaches (IsOpening start) Steps log t → Stands register t → register.running ≡ is_running mine

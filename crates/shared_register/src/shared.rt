@@ -1,7 +1,6 @@
 ghost use Rattle.std.specs.Prelude.{◌≡◌, ◌≢◌, ◌<◌, ◌%◌, ◌^◌, ◌⊎◌, [], not, true, false, IfOk, IfSome, slice_index_or};
-ghost use mathlib.Core.List.{IsPrefix};
 ghost use Rattle.history.specs.declared.object.TheConstants.{COLLECTOR as collector};
-ghost use Rattle.history.specs.Histories.{count};
+ghost use Rattle.history.specs.Histories.{count, GrowsByOthers};
 ghost use Rattle.history.specs.Passes.{longer};
 ghost use Rattle.shared_register.specs.Steps.{rank_of};
 ghost use Rattle.shared_register.specs.Calls.{Extends, Looks, Begun, IsPlainCall, IsFine, is_running};
@@ -218,7 +217,7 @@ impl<J: Naming> SharedRegister<J> {
     /// Both have then seen what one of them had.
     pub fn meet(&self, a: &mut Mutator<J>, b: &mut Mutator<J>)
         ensures apart { a.old.slot ≢ b.old.slot }
-        ensures one { IsPrefix a.old.seen b.old.seen ⊎ IsPrefix b.old.seen a.old.seen }
+        ensures one { GrowsByOthers a.old.slot a.old.seen b.old.seen ⊎ GrowsByOthers b.old.slot b.old.seen a.old.seen }
         ensures a { a.new ≡ record { slot = a.old.slot; seen = longer a.old.seen b.old.seen; mine = a.old.mine } }
         ensures b { b.new ≡ record { slot = b.old.slot; seen = longer a.old.seen b.old.seen; mine = b.old.mine } }
         ensures a_fine { IsFine J.origin a.new }
@@ -229,7 +228,7 @@ impl<J: Naming> SharedRegister<J> {
 
     /// Both have then seen what one of them had.
     pub fn meet_collector(&self, me: &mut Mutator<J>, other: &mut Collector<J>)
-        ensures one { IsPrefix me.old.seen other.old.seen ⊎ IsPrefix other.old.seen me.old.seen }
+        ensures one { GrowsByOthers me.old.slot me.old.seen other.old.seen ⊎ GrowsByOthers other.old.slot other.old.seen me.old.seen }
         ensures me { me.new ≡ record { slot = me.old.slot; seen = longer me.old.seen other.old.seen; mine = me.old.mine } }
         ensures other { other.new ≡ record { slot = other.old.slot; seen = longer me.old.seen other.old.seen; mine = other.old.mine } }
         ensures me_fine { IsFine J.origin me.new }

@@ -1,252 +1,261 @@
 //! Calls of a core, with the answers that a heap of these pages has to give.
-use heap_core::Core;
+use crate::scene::{FULL, NO_OBJECT, Scene, reg};
+use heap_spec::{Call, Event, Reply};
 use std::process::Abort;
 use std::test::Fail;
 use words::limits::{FIRST_ADDRESS, MAX_REQUEST_WORDS, PAGE_WORDS};
-use words::{Kind, Refusal, Reg, Slot};
+use words::{Kind, Refusal, Slot};
 
-fn reg(number: u8) -> Result<Reg, Fail> {
-    Ok(Reg::new(number).ok_or("a register")?)
-}
-
-fn core_of(rt: &HostRuntime, pages: u32) -> Result<(Core, Slot), Fail> {
-    let mut core = Core::new(rt.alloc(), pages).ok().ok_or("a heap")?;
-    let slot = core.attach().ok().ok_or("a mutator")?;
-    Ok((core, slot))
-}
+const WRONG_PHASE: Reply = Reply::Refused(Refusal::WrongPhase);
 
 // What is stored is loaded, inside of the object alone.
-fn store_and_load(rt: &impl Abort, core: &mut Core, slot: Slot) -> Result<(), Fail> {
+fn store_and_load(rt: &impl Abort, scene: &mut Scene) -> Result<(), Fail> {
     let (object, word, copy) = (reg(1)?, reg(2)?, reg(3)?);
-    assert_eq!(rt; core.alloc(slot, object, 3, Kind::Normal), Ok(()));
-    assert_eq!(rt; core.get(slot, object), Ok(FIRST_ADDRESS));
-    assert_eq!(rt; core.size(slot, object), Ok(4));
-    assert_eq!(rt; core.set(slot, word, 77), Ok(()));
-    assert_eq!(rt; core.store(slot, object, 3, word), Ok(()));
-    assert_eq!(rt; core.load(slot, copy, object, 3), Ok(77));
-    assert_eq!(rt; core.load(slot, copy, object, 2), Ok(0));
-    assert_eq!(rt; core.load(slot, copy, object, 4), Err(Refusal::NoObject));
-    assert_eq!(rt; core.add(slot, copy, object, 31), Ok(()));
-    assert_eq!(rt; core.base(slot, word, copy), Ok(FIRST_ADDRESS));
-    assert_eq!(rt; core.load(slot, word, copy, 0), Err(Refusal::Misaligned));
+    scene.call(rt, Call::Alloc(object, 3, Kind::Normal), Reply::Done);
+    scene.call(rt, Call::Get(object), Reply::Word(FIRST_ADDRESS));
+    scene.call(rt, Call::Size(object), Reply::Count(4));
+    scene.call(rt, Call::Set(word, 77), Reply::Done);
+    scene.call(rt, Call::Store(object, 3, word), Reply::Done);
+    scene.call(rt, Call::Load(copy, object, 3), Reply::Word(77));
+    scene.call(rt, Call::Load(copy, object, 2), Reply::Word(0));
+    scene.call(rt, Call::Load(copy, object, 4), NO_OBJECT);
+    scene.call(rt, Call::Add(copy, object, 31), Reply::Done);
+    scene.call(rt, Call::Base(word, copy), Reply::Word(FIRST_ADDRESS));
+    scene.call(
+        rt,
+        Call::Load(word, copy, 0),
+        Reply::Refused(Refusal::Misaligned),
+    );
     Ok(())
 }
 
 #[test]
 fn words_are_stored_and_loaded(rt: HostRuntime) -> Result<(), Fail> {
-    let (mut core, slot) = core_of(&rt, 4)?;
-    store_and_load(&rt, &mut core, slot)
+    let mut scene = Scene::open(rt.alloc(), 4)?;
+    store_and_load(&rt, &mut scene)
 }
 
 // A page that was used comes with words of 0.
-fn zero_again(rt: &impl Abort, core: &mut Core, slot: Slot) -> Result<(), Fail> {
+fn zero_again(rt: &impl Abort, scene: &mut Scene) -> Result<(), Fail> {
     let (object, word) = (reg(0)?, reg(1)?);
-    assert_eq!(rt; core.alloc(slot, object, 2, Kind::Normal), Ok(()));
-    assert_eq!(rt; core.store(slot, object, 1, object), Ok(()));
-    assert_eq!(rt; core.free(slot, object), Ok(()));
-    assert_eq!(rt; core.alloc(slot, object, 512, Kind::PointerFree), Ok(()));
+    scene.call(rt, Call::Alloc(object, 2, Kind::Normal), Reply::Done);
+    scene.call(rt, Call::Store(object, 1, object), Reply::Done);
+    scene.call(rt, Call::Free(object), Reply::Done);
+    scene.call(
+        rt,
+        Call::Alloc(object, PAGE_WORDS, Kind::PointerFree),
+        Reply::Done,
+    );
     for offset in 0..PAGE_WORDS {
-        assert_eq!(rt; core.load(slot, word, object, offset), Ok(0));
+        scene.call(rt, Call::Load(word, object, offset), Reply::Word(0));
     }
     Ok(())
 }
 
 #[test]
 fn words_are_zero_again(rt: HostRuntime) -> Result<(), Fail> {
-    let (mut core, slot) = core_of(&rt, 1)?;
-    zero_again(&rt, &mut core, slot)
+    let mut scene = Scene::open(rt.alloc(), 1)?;
+    zero_again(&rt, &mut scene)
 }
 
 // Refusals come in the order of their row.
-fn refuse(rt: &impl Abort, core: &mut Core, slot: Slot) -> Result<(), Fail> {
+fn refuse(rt: &impl Abort, scene: &mut Scene) -> Result<(), Fail> {
     let other = Slot::new(5).ok_or("a slot")?;
     let (object, inner) = (reg(0)?, reg(1)?);
-    assert_eq!(rt;
-        core.alloc(other, object, 0, Kind::Normal),
-        Err(Refusal::NoSlot)
+    scene.event(
+        rt,
+        Event::Mutator(other, Call::Alloc(object, 0, Kind::Normal)),
+        Reply::Refused(Refusal::NoSlot),
     );
-    assert_eq!(rt;
-        core.alloc(slot, object, 0, Kind::Normal),
-        Err(Refusal::BadSize)
+    scene.call(
+        rt,
+        Call::Alloc(object, 0, Kind::Normal),
+        Reply::Refused(Refusal::BadSize),
     );
-    assert_eq!(rt;
-        core.alloc(slot, object, MAX_REQUEST_WORDS + 1, Kind::Normal),
-        Err(Refusal::BadSize)
+    scene.call(
+        rt,
+        Call::Alloc(object, MAX_REQUEST_WORDS + 1, Kind::Normal),
+        Reply::Refused(Refusal::BadSize),
     );
-    assert_eq!(rt;
-        core.alloc(slot, object, MAX_REQUEST_WORDS, Kind::Normal),
-        Err(Refusal::Full)
+    scene.call(
+        rt,
+        Call::Alloc(object, MAX_REQUEST_WORDS, Kind::Normal),
+        FULL,
     );
-    assert_eq!(rt; core.alloc(slot, object, 2, Kind::Normal), Ok(()));
-    assert_eq!(rt;
-        core.alloc(slot, object, 2, Kind::PointerFree),
-        Err(Refusal::Full)
-    );
-    assert_eq!(rt; core.add(slot, inner, object, 15), Ok(()));
-    assert_eq!(rt; core.free(slot, inner), Err(Refusal::NotBase));
-    assert_eq!(rt; core.add(slot, inner, object, 16), Ok(()));
-    assert_eq!(rt; core.free(slot, inner), Err(Refusal::NoObject));
-    assert_eq!(rt; core.size(slot, inner), Err(Refusal::NoObject));
+    scene.call(rt, Call::Alloc(object, 2, Kind::Normal), Reply::Done);
+    scene.call(rt, Call::Alloc(object, 2, Kind::PointerFree), FULL);
+    scene.call(rt, Call::Add(inner, object, 15), Reply::Done);
+    scene.call(rt, Call::Free(inner), Reply::Refused(Refusal::NotBase));
+    scene.call(rt, Call::Add(inner, object, 16), Reply::Done);
+    scene.call(rt, Call::Free(inner), NO_OBJECT);
+    scene.call(rt, Call::Size(inner), NO_OBJECT);
     Ok(())
 }
 
 #[test]
 fn refusals_come_in_their_order(rt: HostRuntime) -> Result<(), Fail> {
-    let (mut core, slot) = core_of(&rt, 1)?;
-    refuse(&rt, &mut core, slot)
+    let mut scene = Scene::open(rt.alloc(), 1)?;
+    refuse(&rt, &mut scene)
 }
 
 // An entry is read on by later calls.
-fn read_over_calls(rt: &impl Abort, core: &mut Core, slot: Slot) -> Result<(), Fail> {
-    assert_eq!(rt; core.mark(4), Err(Refusal::WrongPhase));
-    assert_eq!(rt; core.alloc(slot, reg(1)?, 4, Kind::Normal), Ok(()));
-    assert_eq!(rt; core.begin(), Ok(()));
-    assert_eq!(rt; core.begin(), Err(Refusal::WrongPhase));
-    assert_eq!(rt; core.roots(), Ok(()));
-    assert_eq!(rt; core.mark(3), Ok(3));
-    assert_eq!(rt; core.mark(3), Ok(1));
-    assert_eq!(rt; core.mark(3), Ok(0));
-    assert_eq!(rt; core.finish(), Ok(0));
-    assert_eq!(rt; core.finish(), Err(Refusal::WrongPhase));
-    assert_eq!(rt; core.gc_no(), 1);
+fn read_over_calls(rt: &impl Abort, scene: &mut Scene) -> Result<(), Fail> {
+    let object = reg(1)?;
+    scene.event(rt, Event::Mark(4), WRONG_PHASE);
+    scene.call(rt, Call::Alloc(object, 4, Kind::Normal), Reply::Done);
+    scene.event(rt, Event::Begin, Reply::Done);
+    scene.event(rt, Event::Begin, WRONG_PHASE);
+    scene.event(rt, Event::Roots, Reply::Done);
+    scene.event(rt, Event::Mark(3), Reply::Count(3));
+    scene.event(rt, Event::Mark(3), Reply::Count(1));
+    scene.event(rt, Event::Mark(3), Reply::Count(0));
+    scene.event(rt, Event::Finish, Reply::Count(0));
+    scene.event(rt, Event::Finish, WRONG_PHASE);
+    scene.event(rt, Event::Number, Reply::Count(1));
     Ok(())
 }
 
 #[test]
 fn entry_is_read_over_calls(rt: HostRuntime) -> Result<(), Fail> {
-    let (mut core, slot) = core_of(&rt, 4)?;
-    read_over_calls(&rt, &mut core, slot)
+    let mut scene = Scene::open(rt.alloc(), 4)?;
+    read_over_calls(&rt, &mut scene)
 }
 
 // A page that was stored to is read again, once.
-fn retrace(rt: &impl Abort, core: &mut Core, slot: Slot) -> Result<(), Fail> {
-    assert_eq!(rt; core.alloc(slot, reg(1)?, 2, Kind::Normal), Ok(()));
-    assert_eq!(rt; core.begin(), Ok(()));
-    assert_eq!(rt; core.retrace(), Ok(0));
-    assert_eq!(rt; core.store(slot, reg(1)?, 0, reg(1)?), Ok(()));
-    assert_eq!(rt; core.retrace(), Ok(1));
-    assert_eq!(rt; core.retrace(), Ok(0));
-    assert_eq!(rt; core.finish(), Ok(0));
+fn retrace(rt: &impl Abort, scene: &mut Scene) -> Result<(), Fail> {
+    let object = reg(1)?;
+    scene.call(rt, Call::Alloc(object, 2, Kind::Normal), Reply::Done);
+    scene.event(rt, Event::Begin, Reply::Done);
+    scene.event(rt, Event::Retrace, Reply::Count(0));
+    scene.call(rt, Call::Store(object, 0, object), Reply::Done);
+    scene.event(rt, Event::Retrace, Reply::Count(1));
+    scene.event(rt, Event::Retrace, Reply::Count(0));
+    scene.event(rt, Event::Finish, Reply::Count(0));
     Ok(())
 }
 
 #[test]
 fn stored_page_is_retraced(rt: HostRuntime) -> Result<(), Fail> {
-    let (mut core, slot) = core_of(&rt, 4)?;
-    retrace(&rt, &mut core, slot)
+    let mut scene = Scene::open(rt.alloc(), 4)?;
+    retrace(&rt, &mut scene)
 }
 
-// Two objects that point to each other stay while a root reads one, and go together.
-fn collect(rt: &impl Abort, core: &mut Core, slot: Slot) -> Result<(), Fail> {
+// Two objects that point to each other stay while a root points into one, and go together.
+fn collect(rt: &impl Abort, scene: &mut Scene) -> Result<(), Fail> {
     let (first, second, word) = (reg(1)?, reg(2)?, reg(3)?);
-    assert_eq!(rt; core.alloc(slot, first, 2, Kind::Normal), Ok(()));
-    assert_eq!(rt; core.alloc(slot, second, 2, Kind::Normal), Ok(()));
-    assert_eq!(rt; core.store(slot, first, 0, second), Ok(()));
-    assert_eq!(rt; core.store(slot, second, 0, first), Ok(()));
-    assert_eq!(rt; core.set(slot, second, 0), Ok(()));
-    assert_eq!(rt; core.collect(), Ok(0));
-    assert_eq!(rt; core.copy(slot, word, first), Ok(()));
-    assert_eq!(rt; core.set(slot, first, 0), Ok(()));
-    assert_eq!(rt; core.collect(), Ok(0));
-    assert_eq!(rt; core.set(slot, word, 0), Ok(()));
-    assert_eq!(rt; core.begin(), Ok(()));
-    assert_eq!(rt; core.finish(), Ok(2));
-    assert_eq!(rt;
-        core.alloc(slot, first, 16_384, Kind::PointerFree),
-        Err(Refusal::Full)
+    scene.call(rt, Call::Alloc(first, 2, Kind::Normal), Reply::Done);
+    scene.call(rt, Call::Alloc(second, 2, Kind::Normal), Reply::Done);
+    scene.call(rt, Call::Store(first, 0, second), Reply::Done);
+    scene.call(rt, Call::Store(second, 0, first), Reply::Done);
+    scene.call(rt, Call::Set(second, 0), Reply::Done);
+    scene.event(rt, Event::Collect, Reply::Count(0));
+    scene.call(rt, Call::Copy(word, first), Reply::Done);
+    scene.call(rt, Call::Set(first, 0), Reply::Done);
+    scene.event(rt, Event::Collect, Reply::Count(0));
+    scene.call(rt, Call::Set(word, 0), Reply::Done);
+    scene.event(rt, Event::Begin, Reply::Done);
+    scene.event(rt, Event::Finish, Reply::Count(2));
+    scene.call(
+        rt,
+        Call::Alloc(first, MAX_REQUEST_WORDS, Kind::PointerFree),
+        FULL,
     );
-    assert_eq!(rt; core.alloc(slot, first, 2_048, Kind::PointerFree), Ok(()));
+    scene.call(
+        rt,
+        Call::Alloc(first, 4 * PAGE_WORDS, Kind::PointerFree),
+        Reply::Done,
+    );
     Ok(())
 }
 
 #[test]
 fn unreached_objects_go(rt: HostRuntime) -> Result<(), Fail> {
-    let (mut core, slot) = core_of(&rt, 4)?;
-    collect(&rt, &mut core, slot)
+    let mut scene = Scene::open(rt.alloc(), 4)?;
+    collect(&rt, &mut scene)
 }
 
 // A page is freed and cut for another class while a cycle is marking.
-fn cut_again(rt: &impl Abort, core: &mut Core, slot: Slot) -> Result<(), Fail> {
+fn cut_again(rt: &impl Abort, scene: &mut Scene) -> Result<(), Fail> {
     let (first, second, word) = (reg(1)?, reg(2)?, reg(3)?);
-    assert_eq!(rt; core.alloc(slot, first, 256, Kind::Normal), Ok(()));
-    assert_eq!(rt; core.alloc(slot, second, 256, Kind::Normal), Ok(()));
-    assert_eq!(rt; core.begin(), Ok(()));
-    assert_eq!(rt; core.roots(), Ok(()));
-    assert_eq!(rt; core.free(slot, first), Ok(()));
-    assert_eq!(rt; core.free(slot, second), Ok(()));
-    assert_eq!(rt; core.alloc(slot, first, 2, Kind::Normal), Ok(()));
-    assert_eq!(rt; core.finish(), Ok(0));
-    assert_eq!(rt; core.load(slot, word, first, 0), Ok(0));
+    scene.call(rt, Call::Alloc(first, 256, Kind::Normal), Reply::Done);
+    scene.call(rt, Call::Alloc(second, 256, Kind::Normal), Reply::Done);
+    scene.event(rt, Event::Begin, Reply::Done);
+    scene.event(rt, Event::Roots, Reply::Done);
+    scene.call(rt, Call::Free(first), Reply::Done);
+    scene.call(rt, Call::Free(second), Reply::Done);
+    scene.call(rt, Call::Alloc(first, 2, Kind::Normal), Reply::Done);
+    scene.event(rt, Event::Finish, Reply::Count(0));
+    scene.call(rt, Call::Load(word, first, 0), Reply::Word(0));
     Ok(())
 }
 
 #[test]
 fn cell_is_cut_again_under_the_marker(rt: HostRuntime) -> Result<(), Fail> {
-    let (mut core, slot) = core_of(&rt, 1)?;
-    cut_again(&rt, &mut core, slot)
+    let mut scene = Scene::open(rt.alloc(), 1)?;
+    cut_again(&rt, &mut scene)
 }
 
 // Each page with a dead object is swept once.
-fn sweep(rt: &impl Abort, core: &mut Core, slot: Slot) -> Result<(), Fail> {
-    assert_eq!(rt; core.alloc(slot, reg(1)?, 2, Kind::Normal), Ok(()));
-    assert_eq!(rt; core.alloc(slot, reg(1)?, 4, Kind::Normal), Ok(()));
-    assert_eq!(rt; core.set(slot, reg(1)?, 0), Ok(()));
-    assert_eq!(rt; core.begin(), Ok(()));
-    assert_eq!(rt; core.finish(), Ok(2));
-    assert_eq!(rt; core.sweep(), Ok(1));
-    assert_eq!(rt; core.sweep(), Ok(1));
-    assert_eq!(rt; core.sweep(), Ok(0));
+fn sweep(rt: &impl Abort, scene: &mut Scene) -> Result<(), Fail> {
+    let object = reg(1)?;
+    scene.call(rt, Call::Alloc(object, 2, Kind::Normal), Reply::Done);
+    scene.call(rt, Call::Alloc(object, 4, Kind::Normal), Reply::Done);
+    scene.call(rt, Call::Set(object, 0), Reply::Done);
+    scene.event(rt, Event::Begin, Reply::Done);
+    scene.event(rt, Event::Finish, Reply::Count(2));
+    scene.event(rt, Event::Sweep, Reply::Count(1));
+    scene.event(rt, Event::Sweep, Reply::Count(1));
+    scene.event(rt, Event::Sweep, Reply::Count(0));
     Ok(())
 }
 
 #[test]
 fn pages_are_swept_when_asked(rt: HostRuntime) -> Result<(), Fail> {
-    let (mut core, slot) = core_of(&rt, 4)?;
-    sweep(&rt, &mut core, slot)
+    let mut scene = Scene::open(rt.alloc(), 4)?;
+    sweep(&rt, &mut scene)
 }
 
 // A dead object is none before its page is swept, and its cell is given again.
-fn leave_unswept(rt: &impl Abort, core: &mut Core, slot: Slot) -> Result<(), Fail> {
+fn leave_unswept(rt: &impl Abort, scene: &mut Scene) -> Result<(), Fail> {
     let (first, second, word) = (reg(1)?, reg(2)?, reg(3)?);
-    assert_eq!(rt; core.alloc(slot, first, 256, Kind::Normal), Ok(()));
-    assert_eq!(rt; core.alloc(slot, second, 256, Kind::Normal), Ok(()));
-    assert_eq!(rt; core.sub(slot, second, second, first), Ok(()));
-    assert_eq!(rt; core.begin(), Ok(()));
-    assert_eq!(rt; core.finish(), Ok(1));
-    assert_eq!(rt; core.add(slot, second, first, 2_048), Ok(()));
-    assert_eq!(rt; core.load(slot, word, second, 0), Err(Refusal::NoObject));
-    assert_eq!(rt; core.free(slot, second), Err(Refusal::NoObject));
-    assert_eq!(rt; core.load(slot, word, first, 0), Ok(0));
-    assert_eq!(rt;
-        core.alloc(slot, word, 2, Kind::PointerFree),
-        Err(Refusal::Full)
-    );
-    assert_eq!(rt; core.alloc(slot, word, 256, Kind::Normal), Ok(()));
-    assert_eq!(rt; core.sub(slot, word, word, first), Ok(()));
-    assert_eq!(rt; core.get(slot, word), Ok(2_048));
+    scene.call(rt, Call::Alloc(first, 256, Kind::Normal), Reply::Done);
+    scene.call(rt, Call::Alloc(second, 256, Kind::Normal), Reply::Done);
+    scene.call(rt, Call::Sub(second, second, first), Reply::Done);
+    scene.event(rt, Event::Begin, Reply::Done);
+    scene.event(rt, Event::Finish, Reply::Count(1));
+    scene.call(rt, Call::Add(second, first, 2_048), Reply::Done);
+    scene.call(rt, Call::Load(word, second, 0), NO_OBJECT);
+    scene.call(rt, Call::Free(second), NO_OBJECT);
+    scene.call(rt, Call::Load(word, first, 0), Reply::Word(0));
+    scene.call(rt, Call::Alloc(word, 2, Kind::PointerFree), FULL);
+    scene.call(rt, Call::Alloc(word, 256, Kind::Normal), Reply::Done);
+    scene.call(rt, Call::Sub(word, word, first), Reply::Done);
+    scene.call(rt, Call::Get(word), Reply::Word(2_048));
     Ok(())
 }
 
 #[test]
 fn dead_objects_are_none_before_they_are_swept(rt: HostRuntime) -> Result<(), Fail> {
-    let (mut core, slot) = core_of(&rt, 1)?;
-    leave_unswept(&rt, &mut core, slot)
+    let mut scene = Scene::open(rt.alloc(), 1)?;
+    leave_unswept(&rt, &mut scene)
 }
 
 // A full heap is swept before it is refused.
-fn fill_unswept(rt: &impl Abort, core: &mut Core, slot: Slot) -> Result<(), Fail> {
-    assert_eq!(rt; core.alloc(slot, reg(1)?, 256, Kind::Normal), Ok(()));
-    assert_eq!(rt; core.alloc(slot, reg(2)?, 256, Kind::Normal), Ok(()));
-    assert_eq!(rt; core.set(slot, reg(1)?, 0), Ok(()));
-    assert_eq!(rt; core.set(slot, reg(2)?, 0), Ok(()));
-    assert_eq!(rt; core.begin(), Ok(()));
-    assert_eq!(rt; core.finish(), Ok(2));
-    assert_eq!(rt; core.alloc(slot, reg(3)?, 2, Kind::PointerFree), Ok(()));
+fn fill_unswept(rt: &impl Abort, scene: &mut Scene) -> Result<(), Fail> {
+    let (first, second, third) = (reg(1)?, reg(2)?, reg(3)?);
+    scene.call(rt, Call::Alloc(first, 256, Kind::Normal), Reply::Done);
+    scene.call(rt, Call::Alloc(second, 256, Kind::Normal), Reply::Done);
+    scene.call(rt, Call::Set(first, 0), Reply::Done);
+    scene.call(rt, Call::Set(second, 0), Reply::Done);
+    scene.event(rt, Event::Begin, Reply::Done);
+    scene.event(rt, Event::Finish, Reply::Count(2));
+    let call = Call::Alloc(third, 2, Kind::PointerFree);
+    scene.call(rt, call, Reply::Done);
     Ok(())
 }
 
 #[test]
 fn full_sweeps_first(rt: HostRuntime) -> Result<(), Fail> {
-    let (mut core, slot) = core_of(&rt, 1)?;
-    fill_unswept(&rt, &mut core, slot)
+    let mut scene = Scene::open(rt.alloc(), 1)?;
+    fill_unswept(&rt, &mut scene)
 }

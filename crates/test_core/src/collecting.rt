@@ -22,7 +22,7 @@ struct Cycle {
     // The births of objects that were unreached when the cycle began.
     unreached: Vec<u64>,
 
-    // Whether a number came to read one of these since.
+    // Whether a number came to point into one of these since.
     is_found_again: bool,
     collections: u64,
     forgotten: u64,
@@ -58,7 +58,7 @@ impl Cycle {
         let Ok(word) = pair.paged.get(slot, into) else {
             return;
         };
-        if let Some(twin) = pair.twins.read_by(word) {
+        if let Some(twin) = pair.twins.found_by(word) {
             self.is_found_again = self.is_found_again || self.is_old_garbage(&twin);
         }
     }

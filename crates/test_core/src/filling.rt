@@ -1,68 +1,103 @@
 //! Each class is filled to its last cell and emptied again, and then the heap is one object.
-use heap_core::Core;
+use crate::scene::{FULL, NO_OBJECT, Scene, reg};
+use heap_spec::{Call, Reply};
 use std::alloc::Global;
 use std::process::Abort;
 use std::test::Fail;
 use words::limits::PAGE_WORDS;
-use words::{CLASSES, Kind, Refusal, Reg, Slot};
+use words::{CLASSES, Kind, Refusal};
 
 const PAGES: u32 = 3;
 
 // The cells of a page for each class, counted by hand.
 const CELLS: [usize; 13] = [256, 128, 85, 64, 42, 32, 21, 16, 10, 8, 5, 4, 2];
 
-// Allocates objects of so many words till the heap is full, and answers their bases.
-fn fill(
-    alloc: Global,
-    core: &mut Core,
-    slot: Slot,
-    words: u64,
-    kind: Kind,
-) -> Result<Vec<u64>, Fail> {
-    let object = Reg::new(1).ok_or("a register")?;
-    let mut bases = Vec::new(alloc);
-    for _ in 0..u64::from(PAGES) * PAGE_WORDS {
-        match core.alloc(slot, object, words, kind) {
-            Ok(()) => bases.push(core.get(slot, object).ok().ok_or("a base")?)?,
-            Err(Refusal::Full) => break,
-            Err(_) => return Err("room, or none".into()),
-        }
+// Allocates an object of so many words, and answers its base, or `None` where the heap is full.
+fn next_base(scene: &mut Scene, words: u64, kind: Kind) -> Result<Option<u64>, Fail> {
+    let object = reg(1)?;
+    match scene.core.alloc(scene.slot, object, words, kind) {
+        Ok(()) => Ok(scene.core.get(scene.slot, object).ok()),
+        Err(Refusal::Full) => Ok(None),
+        Err(_) => Err("room, or none".into()),
     }
-    Ok(bases)
 }
 
-// Frees objects by their bases, each once.
-fn empty(rt: &impl Abort, core: &mut Core, slot: Slot, bases: &[u64]) -> Result<(), Fail> {
-    let object = Reg::new(2).ok_or("a register")?;
-    for base in bases {
-        assert_eq!(rt; core.set(slot, object, *base), Ok(()));
-        assert_eq!(rt; core.free(slot, object), Ok(()));
-        assert_eq!(rt; core.free(slot, object), Err(Refusal::NoObject));
+// Allocates objects of so many words till the heap is full, and puts down their bases.
+fn fill(scene: &mut Scene, words: u64, kind: Kind, bases: &mut Vec<u64>) -> Result<(), Fail> {
+    for _ in 0..u64::from(PAGES) * PAGE_WORDS {
+        let Some(base) = next_base(scene, words, kind)? else {
+            break;
+        };
+        bases.push(base)?;
     }
     Ok(())
 }
 
+// Frees objects by their bases, each once.
+fn empty(rt: &impl Abort, scene: &mut Scene, bases: &[u64]) -> Result<(), Fail> {
+    let object = reg(2)?;
+    for base in bases {
+        scene.call(rt, Call::Set(object, *base), Reply::Done);
+        scene.call(rt, Call::Free(object), Reply::Done);
+        scene.call(rt, Call::Free(object), NO_OBJECT);
+    }
+    Ok(())
+}
+
+// An empty heap has room for one object of all its pages, and for no other beside it.
+fn is_one_object(rt: &impl Abort, scene: &mut Scene, words: u64, kind: Kind) -> Result<(), Fail> {
+    let object = reg(0)?;
+    let whole = u64::from(PAGES) * PAGE_WORDS;
+    scene.call(rt, Call::Alloc(object, whole, kind), Reply::Done);
+    scene.call(rt, Call::Size(object), Reply::Count(whole));
+    scene.call(rt, Call::Alloc(object, words, kind), FULL);
+    Ok(())
+}
+
+// How many bases there are, each counted once.
+fn distinct(bases: &mut Vec<u64>) -> Result<usize, Fail> {
+    bases.sort()?;
+    bases.dedup();
+    Ok(bases.len())
+}
+
+// A heap is filled with one class to its last cell, emptied, and then one object.
+fn is_filled_and_emptied(
+    rt: &impl Abort,
+    scene: &mut Scene,
+    bases: &mut Vec<u64>,
+    words: u64,
+    cells: usize,
+    kind: Kind,
+) -> Result<(), Fail> {
+    fill(scene, words, kind, bases)?;
+    let filled = distinct(bases)?;
+    assert!(rt;
+        filled == cells.wrapping_mul(PAGES as usize),
+        "cells of {words} words"
+    );
+    empty(rt, scene, bases.as_slice())?;
+    is_one_object(rt, scene, words, kind)
+}
+
+// The same in a heap of its own.
+fn is_filled_and_emptied_in(
+    rt: &impl Abort,
+    alloc: Global,
+    words: u64,
+    cells: usize,
+    kind: Kind,
+) -> Result<(), Fail> {
+    let mut bases = Vec::new(alloc);
+    let mut scene = Scene::open(alloc, PAGES)?;
+    is_filled_and_emptied(rt, &mut scene, &mut bases, words, cells, kind)
+}
+
 #[test]
 fn each_class_is_filled_and_emptied(rt: HostRuntime) -> Result<(), Fail> {
-    let object = Reg::new(0).ok_or("a register")?;
     for (class, cells) in CLASSES.iter().zip(&CELLS) {
         for kind in [Kind::Normal, Kind::PointerFree] {
-            let words = u64::from(*class);
-            let mut core = Core::new(rt.alloc(), PAGES).ok().ok_or("a heap")?;
-            let slot = core.attach().ok().ok_or("a mutator")?;
-            let mut bases = fill(rt.alloc(), &mut core, slot, words, kind)?;
-            bases.sort()?;
-            bases.dedup();
-            assert_eq!(rt;
-                bases.len() / PAGES as usize,
-                *cells,
-                "cells of {words} words"
-            );
-            empty(&rt, &mut core, slot, bases.as_slice())?;
-            let whole = u64::from(PAGES) * PAGE_WORDS;
-            assert_eq!(rt; core.alloc(slot, object, whole, kind), Ok(()));
-            assert_eq!(rt; core.size(slot, object), Ok(whole));
-            assert_eq!(rt; core.alloc(slot, object, words, kind), Err(Refusal::Full));
+            is_filled_and_emptied_in(&rt, rt.alloc(), u64::from(*class), *cells, kind)?;
         }
     }
     Ok(())

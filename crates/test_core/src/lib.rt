@@ -19,4 +19,6 @@ mod reached;
 #[cfg(test)]
 mod replay;
 #[cfg(test)]
+mod scene;
+#[cfg(test)]
 mod twins;

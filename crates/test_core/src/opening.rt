@@ -1,37 +1,46 @@
 //! Heaps of few and of many pages, where memory is ample.
+use crate::scene::{FULL, Scene, reg};
 use heap_core::Core;
+use heap_spec::{Call, Reply};
+use std::alloc::Global;
+use std::process::Abort;
 use std::test::Fail;
 use words::limits::PAGE_WORDS;
-use words::{Kind, OpenError, Refusal, Reg};
+use words::{Kind, OpenError};
+
+// A heap of so many pages has room for one object of a page on each, and for no more.
+fn is_filled_by_pages(rt: &impl Abort, scene: &mut Scene, pages: u32) -> Result<(), Fail> {
+    let call = Call::Alloc(reg(0)?, PAGE_WORDS, Kind::Normal);
+    for _ in 0..pages {
+        scene.call(rt, call, Reply::Done);
+    }
+    scene.call(rt, call, FULL);
+    Ok(())
+}
+
+// The same in a heap of its own.
+fn opens_with(rt: &impl Abort, alloc: Global, pages: u32) -> Result<(), Fail> {
+    let mut scene = Scene::open(alloc, pages)?;
+    is_filled_by_pages(rt, &mut scene, pages)
+}
 
 #[test]
 fn heaps_open_with_their_pages(rt: HostRuntime) -> Result<(), Fail> {
-    let object = Reg::new(0).ok_or("a register")?;
     for pages in [1, 2, 31, 1_024] {
-        let mut core = Core::new(rt.alloc(), pages).ok().ok_or("a heap")?;
-        let slot = core.attach().ok().ok_or("a mutator")?;
-        for page in 0..pages {
-            assert_eq!(rt;
-                core.alloc(slot, object, PAGE_WORDS, Kind::Normal),
-                Ok(()),
-                "page {page} of {pages}"
-            );
-        }
-        assert_eq!(rt;
-            core.alloc(slot, object, PAGE_WORDS, Kind::Normal),
-            Err(Refusal::Full)
-        );
+        opens_with(&rt, rt.alloc(), pages)?;
     }
     Ok(())
+}
+
+// Why there is no heap of so many pages, if there is none.
+fn refusal(alloc: Global, pages: u32) -> Option<OpenError> {
+    Core::new(alloc, pages).err()
 }
 
 #[test]
 fn heaps_of_no_or_too_many_pages_are_refused(rt: HostRuntime) {
     for pages in [0, 1_025, u32::MAX] {
-        let refused = match Core::new(rt.alloc(), pages) {
-            Ok(_) => None,
-            Err(error) => Some(error),
-        };
+        let refused = refusal(rt.alloc(), pages);
         assert_eq!(rt; refused, Some(OpenError::BadPages), "{pages} pages");
     }
 }

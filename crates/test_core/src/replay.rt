@@ -2,6 +2,7 @@
 use crate::draw::Draw;
 use crate::pair::{Pair, Words};
 use heap_spec::{Call, Reply};
+use std::process::Abort;
 use std::test::Fail;
 use words::{Kind, Refusal, Reg, Slot};
 
@@ -155,13 +156,12 @@ fn random_calls(pair: &mut Pair, draw: &mut Draw) -> Result<(u32, u32), Fail> {
     Ok((granted, full))
 }
 
-#[test]
-fn replies_equal_the_plain_core(rt: HostRuntime) -> Result<(), Fail> {
-    let mut pair = Pair::new(rt.alloc(), PAGES)?;
+// Both heaps answer alike, and the calls are of all kinds.
+fn answers_alike(rt: &impl Abort, pair: &mut Pair) -> Result<(), Fail> {
     for _ in 0..17 {
         pair.attach()?;
     }
-    let (granted, full) = random_calls(&mut pair, &mut Draw::new(PAGES, 16))?;
+    let (granted, full) = random_calls(pair, &mut Draw::new(PAGES, 16))?;
     assert!(rt;
         granted > CALLS / 3 && full > 100 && pair.twins.shifts() > 1,
         "{} shifts, {granted} granted, {full} full, {} objects",
@@ -169,4 +169,10 @@ fn replies_equal_the_plain_core(rt: HostRuntime) -> Result<(), Fail> {
         pair.twins.len()
     );
     Ok(())
+}
+
+#[test]
+fn replies_equal_the_plain_core(rt: HostRuntime) -> Result<(), Fail> {
+    let mut pair = Pair::new(rt.alloc(), PAGES)?;
+    answers_alike(&rt, &mut pair)
 }

@@ -24,8 +24,8 @@ impl Twin {
         self.words.wrapping_mul(WORD_BYTES)
     }
 
-    // Whether a word of the paged heap reads it.
-    fn is_read(&self, word: u64) -> bool {
+    // Whether a word of the paged heap points into it.
+    fn is_pointed_into(&self, word: u64) -> bool {
         word >= self.paged && word.wrapping_sub(self.paged) < self.bytes()
     }
 
@@ -93,9 +93,9 @@ impl Twins {
         shift == 0 || self.shifts.iter().any(|s| *s == shift)
     }
 
-    /// Whether both words read one object, at the same byte of it, or both read none.
+    /// Whether both words point into one object, at the same byte of it, or both into none.
     pub(crate) fn name_one(&self, paged: u64, plain: u64) -> bool {
-        let here = self.live.iter().find(|twin| twin.is_read(paged));
+        let here = self.live.iter().find(|twin| twin.is_pointed_into(paged));
         let there = self.live.iter().find(|twin| {
             plain >= twin.plain && plain.wrapping_sub(twin.plain) < twin.bytes()
         });
@@ -116,10 +116,10 @@ impl Twins {
         }
     }
 
-    /// Makes the object that a word of the paged heap reads reached, and answers it if it wasn't.
+    /// Makes the object that a word of the paged heap points into reached, and answers it if it wasn't.
     pub(crate) fn reach(&mut self, word: u64) -> Option<Twin> {
         for twin in self.live.iter_mut() {
-            if twin.is_read(word) {
+            if twin.is_pointed_into(word) {
                 let was_reached = twin.is_reached;
                 twin.is_reached = true;
                 return if was_reached { None } else { Some(*twin) };
@@ -128,9 +128,12 @@ impl Twins {
         None
     }
 
-    /// The object that a word of the paged heap reads.
-    pub(crate) fn read_by(&self, word: u64) -> Option<Twin> {
-        self.live.iter().find(|twin| twin.is_read(word)).copied()
+    /// The object that a word of the paged heap points into.
+    pub(crate) fn found_by(&self, word: u64) -> Option<Twin> {
+        self.live
+            .iter()
+            .find(|twin| twin.is_pointed_into(word))
+            .copied()
     }
 
     /// The objects that aren't reached.

@@ -30,7 +30,7 @@ fn large(page: PageNo, pages: u16, kind: Kind) -> Found {
     }
 }
 
-// The object that the word reads: the one whose bytes have that address.
+// The object that the word points into: the one whose bytes have that address.
 fn read_by(objects: &[Found], w: u64) -> Option<Found> {
     for found in objects {
         if found.base <= w && (w - found.base) / 8 < u64::from(found.len) {
@@ -40,7 +40,7 @@ fn read_by(objects: &[Found], w: u64) -> Option<Found> {
     None
 }
 
-// Each word within 8 of the address finds what it reads.
+// Each word within 8 of the address finds what it points into.
 fn assert_around(rt: &impl Abort, map: &BlockMap, objects: &[Found], address: u64) {
     for distance in 0..17 {
         let w = address.wrapping_add(distance).wrapping_sub(8);
@@ -138,14 +138,14 @@ impl Scene {
     }
 }
 
-fn assert_reads(rt: &impl Abort, map: &BlockMap, table: &[(u64, Option<Found>)]) {
+fn assert_rows(rt: &impl Abort, map: &BlockMap, table: &[(u64, Option<Found>)]) {
     for (w, wanted) in table {
         assert_eq!(rt; map.find(*w), *wanted, "at {w}");
     }
 }
 
 fn table_of_addresses(rt: &impl Abort, map: &mut BlockMap) {
-    assert_reads(
+    assert_rows(
         rt,
         map,
         &[
@@ -171,7 +171,7 @@ fn table_of_addresses(rt: &impl Abort, map: &mut BlockMap) {
         page: 1,
         cell: 0,
     });
-    assert_reads(
+    assert_rows(
         rt,
         map,
         &[

@@ -12,14 +12,14 @@ pub(crate) struct Graph {
 }
 
 // Whether the word is an address inside the object.
-fn reads(word: u64, found: &Found) -> bool {
+fn points_into(word: u64, found: &Found) -> bool {
     found.base <= word && (word - found.base) / 8 < u64::from(found.len)
 }
 
-// The number of the object that the word reads.
-fn read_by(objects: &[Found], word: u64) -> Option<usize> {
+// The number of the object that the word points into.
+fn pointed_to(objects: &[Found], word: u64) -> Option<usize> {
     for i in 0..objects.len() {
-        if reads(word, &objects[i]) {
+        if points_into(word, &objects[i]) {
             return Some(i);
         }
     }
@@ -99,7 +99,7 @@ impl Graph {
         let mut arrows = Vec::new(alloc);
         let objects = self.objects.as_slice();
         for (address, word) in &self.written {
-            let (Some(from), Some(to)) = (read_by(objects, *address), read_by(objects, *word))
+            let (Some(from), Some(to)) = (pointed_to(objects, *address), pointed_to(objects, *word))
             else {
                 continue;
             };
@@ -110,7 +110,7 @@ impl Graph {
         Ok(arrows)
     }
 
-    /// Which objects are in the closure of those that are given and those that the roots read.
+    /// Which objects are in the closure of those that are given and those that the roots point into.
     pub(crate) fn closure(
         &self,
         alloc: Global,
@@ -126,7 +126,7 @@ impl Graph {
             }
         }
         for root in roots {
-            if let Some(i) = read_by(objects, *root) {
+            if let Some(i) = pointed_to(objects, *root) {
                 let _ = set(reached.as_mut_slice(), i);
             }
         }

@@ -30,7 +30,7 @@ impl Model for Heap {
 }
 
 impl Heap {
-    /// So many pages with no object. `None` for want of memory, or out of range.
+    /// So many pages with no object. `None` where there is no memory, or out of range.
     pub(crate) fn open(alloc: Global, pages: u32) -> Option<Heap> {
         let Ok(map) = BlockMap::new(alloc, pages) else {
             return None;
@@ -157,7 +157,7 @@ impl Heap {
         self.marker.begin();
     }
 
-    /// Marks what root words read.
+    /// Marks what root words point into.
     pub(crate) fn scan_roots(&mut self, roots: &[u64]) {
         self.marker.scan_roots(&self.map, roots);
     }

@@ -94,7 +94,7 @@ fn a_pointer_free_object_is_not_read(rt: HostRuntime) -> Result<(), Fail> {
 }
 
 // A pointer into the last object, so many bytes from its base: so many objects are reached.
-fn reads_byte(rt: &impl Abort, scene: &mut Scene, distance: u64, count: usize) -> Result<(), Fail> {
+fn finds_byte(rt: &impl Abort, scene: &mut Scene, distance: u64, count: usize) -> Result<(), Fail> {
     let (holder, object) = (scene.object(0)?, scene.object(7)?);
     let word = object.base.wrapping_add(distance);
     scene.store(rt, holder, 5, word)?;
@@ -105,19 +105,19 @@ fn reads_byte(rt: &impl Abort, scene: &mut Scene, distance: u64, count: usize) -
     Ok(())
 }
 
-// Each byte of an object reads it, and no byte before or behind it.
-fn reads_bytes(rt: &impl Abort, scene: &mut Scene) -> Result<(), Fail> {
+// Each byte of an object points into it, and no byte before or behind it.
+fn finds_bytes(rt: &impl Abort, scene: &mut Scene) -> Result<(), Fail> {
     lay_cells(rt, scene)?;
     for (distance, count) in [(0, 2), (1, 2), (8, 2), (47, 2), (48, 1), (4_000_000, 1)] {
-        reads_byte(rt, scene, distance, count)?;
+        finds_byte(rt, scene, distance, count)?;
     }
     Ok(())
 }
 
 #[test]
-fn reads_the_bytes_of_an_object_and_no_other(rt: HostRuntime) -> Result<(), Fail> {
+fn finds_the_bytes_of_an_object_and_no_other(rt: HostRuntime) -> Result<(), Fail> {
     let mut scene = Scene::open(rt.alloc(), 3)?;
-    reads_bytes(&rt, &mut scene)
+    finds_bytes(&rt, &mut scene)
 }
 
 // A chain of a thousand objects, each seventh one the next.

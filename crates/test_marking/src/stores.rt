@@ -6,7 +6,7 @@ use std::process::Abort;
 use std::test::Fail;
 use words::Kind;
 
-// Objects of 4 words: two that roots read, and one that the first of them points to.
+// Objects of 4 words: two that roots point into, and one that the first of them points to.
 fn hide(rt: &impl Abort, scene: &mut Scene) -> Result<(), Fail> {
     scene.lay(rt, &[(0, 4, Kind::Normal, 2), (1, 4, Kind::Normal, 3)])?;
     scene.link(rt, &[(0, 2, 2), (2, 3, 3)])

@@ -52,6 +52,21 @@ fn two_collections_are_counted_by_all(rt: HostRuntime) -> Result<(), Fail> {
     Ok(())
 }
 
+/// Where memory is refused, at whichever request, the answer is that, and the same call made again opens a heap. By itself
+/// this runs with ample memory; `rt try --test --fail-alloc N` refuses the N-th request.
+#[test]
+fn a_refused_open_can_be_made_again(rt: HostRuntime) -> Result<(), Fail> {
+    let opened = match open(rt.alloc(), 4) {
+        Ok(opened) => opened,
+        Err(refused) => {
+            assert_eq!(rt; refused, OpenError::Memory);
+            open(rt.alloc(), 4).ok().ok_or("a heap")?
+        }
+    };
+    count_in_a_row::<Brand, _>(&rt, opened);
+    Ok(())
+}
+
 #[test]
 fn no_page_and_too_many_are_refused(rt: HostRuntime) {
     for pages in [0, 1025] {

@@ -24,11 +24,10 @@ const MUTATORS: usize = 16;
 
 const PAGES: u32 = 8;
 
-// The calls of each actor, and how many a list's node and a cycle take at most.
+/// Each actor makes at least so many calls.
 const CALLS: u64 = 100_000;
 
-const CALLS_A_NODE: u64 = 6;
-
+/// The calls of a cycle.
 const CALLS_A_CYCLE: u64 = 8;
 
 /// The longest list that a mutator keeps.
@@ -41,6 +40,7 @@ const NODES: u64 = 8 * 256;
 #[derive(Drop)]
 struct Player<'a, J: Naming, R: Wait> {
     me: Attached<'a, J, R>,
+    calls: u64,
     kept: ArrayVec<u64, LONGEST>,
     read_back: u64,
     lost: u64,
@@ -63,17 +63,23 @@ impl<T> Law<T> for Plays {
 }
 
 impl<'a, J: Naming, R: Wait> Player<'a, J, R> {
-    // A node in front of the list, with its word and the rest.
+    fn call(&mut self, call: Call) -> Reply {
+        self.calls = self.calls.wrapping_add(1);
+        self.me.call(call)
+    }
+
+    // A node in front of the list, with its word and the rest. Nodes of several classes have pages cut again and again.
     fn push(&mut self, word: u64) {
-        if self.me.call(Call::Alloc(reg(2), 2, Kind::Normal)) != Reply::Done {
+        let words = 2 + 2 * (word % 3);
+        if self.call(Call::Alloc(reg(2), words, Kind::Normal)) != Reply::Done {
             thread::yield_now();
             return;
         }
-        self.me.call(Call::Set(reg(3), word));
-        self.me.call(Call::Store(reg(2), 0, reg(3)));
-        self.me.call(Call::Store(reg(2), 1, reg(1)));
-        self.me.call(Call::Copy(reg(1), reg(2)));
-        self.me.call(Call::Set(reg(2), 0));
+        self.call(Call::Set(reg(3), word));
+        self.call(Call::Store(reg(2), 0, reg(3)));
+        self.call(Call::Store(reg(2), 1, reg(1)));
+        self.call(Call::Copy(reg(1), reg(2)));
+        self.call(Call::Set(reg(2), 0));
         let _room = self.kept.try_push(word);
     }
 
@@ -82,19 +88,22 @@ impl<'a, J: Naming, R: Wait> Player<'a, J, R> {
         let Some(word) = self.kept.pop() else {
             return;
         };
-        if self.me.call(Call::Load(reg(3), reg(1), 0)) == Reply::Word(word) {
+        if self.call(Call::Load(reg(3), reg(1), 0)) == Reply::Word(word) {
             self.read_back = self.read_back.wrapping_add(1);
         } else {
             self.lost = self.lost.wrapping_add(1);
         }
-        self.me.call(Call::Load(reg(1), reg(1), 1));
+        self.call(Call::Load(reg(1), reg(1), 1));
     }
 }
 
 // Pushes and pops, and at last reads the list back whole.
 fn play<'a, J: Naming, R: Wait>(player: Player<'a, J, R>) -> Player<'a, J, R> {
     let mut player = player;
-    for turn in 0..CALLS / CALLS_A_NODE {
+    for turn in 0..CALLS {
+        if player.calls >= CALLS {
+            break;
+        }
         if player.kept.is_full() || turn % 5 == 4 {
             player.pop();
         } else {
@@ -123,9 +132,11 @@ fn cycle<'a, J: Naming, R: Wait>(cycles: Cycles<'a, J, R>) -> Cycles<'a, J, R> {
     cycles
 }
 
-/// What the test looks at: words that were read back, words that were lost, and cycles that ended.
+/// What the test looks at: calls of the mutator that made fewest, words that were read back, words that were lost, and
+/// cycles that ended.
 #[derive(Clone, Copy)]
 struct Found {
+    calls: u64,
     read_back: u64,
     lost: u64,
     ended: u64,
@@ -141,6 +152,7 @@ fn play_all<J: Naming + Send + Sync, R: Threads + Wait + Abort + Sync>(
     for _ in 0..MUTATORS {
         players.push(Player {
             me: attach(rt, heap),
+            calls: 0,
             kept: ArrayVec::new(),
             read_back: 0,
             lost: 0,
@@ -158,11 +170,13 @@ fn play_all<J: Naming + Send + Sync, R: Threads + Wait + Abort + Sync>(
         rt, alloc, &Plays, &work, players, &Plays, &collect, cycles,
     )?;
     let mut found = Found {
+        calls: u64::MAX,
         read_back: 0,
         lost: 0,
         ended: cycles.ended,
     };
     for player in &players {
+        found.calls = found.calls.min(player.calls);
         found.read_back = found.read_back.wrapping_add(player.read_back);
         found.lost = found.lost.wrapping_add(player.lost);
     }
@@ -185,6 +199,7 @@ fn no_list_loses_a_node(rt: HostRuntime) -> Result<(), Fail> {
     let opened = open(rt.alloc(), PAGES).ok().ok_or("a heap")?;
     let found = sixteen_mutators::<Brand, _>(&rt, rt.alloc(), opened)?;
     assert_eq!(rt; found.lost, 0);
+    assert!(rt; found.calls >= CALLS, "{} calls", found.calls);
     assert!(rt; found.read_back > NODES, "{} words", found.read_back);
     assert_eq!(rt; found.ended, CALLS / CALLS_A_CYCLE);
     Ok(())

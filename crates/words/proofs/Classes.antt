@@ -1,6 +1,6 @@
 -- The size classes, and the table that finds them.
-use Rattle.std.proofs.Common.{◌≡◌, ℕ, ◌%◌, ◌<◌, ◌≤◌, Bool, true, get_or, refl, ◌∙◌, subst, arith}
-use Rattle.std.specs.Prelude.{Some, find, nat_le, nat_lt, ◌==◌}
+use Rattle.std.proofs.Common.{◌≡◌, ℕ, ◌%◌, ◌<◌, ◌≤◌, Bool, true, get_or, refl, sym, ap, ◌∙◌, subst, arith}
+use Rattle.std.specs.Prelude.{Some, find, slice_get, nat_le, nat_lt, ◌==◌}
 use Rattle.std.specs.List.{list_all, list_any, position_or_len}
 use Rattle.std.specs.Int.{div_ceil}
 use Rattle.std.proofs.lemmas.Bool.{agree_below_at, eqb-true, ltb-true, leb-true}
@@ -8,7 +8,7 @@ use Rattle.std.proofs.lemmas.Option.{slice_get-get_or}
 use Rattle.std.proofs.lemmas.List.Folds.{find_at, Any-from_list_any}
 use Rattle.std.proofs.lemmas.List.Sums.{AllPass-from_list_all}
 use Rattle.words.specs.declared.class.TheConstants.{CLASSES, INDEX_OF_GRANULES}
-use Rattle.words.specs.Classes.{IsSizeClass}
+use Rattle.words.specs.Classes.{IsSizeClass, number_of}
 
 -- a test that each class passes
 pub class_passes : (p : ℕ → Bool) (n : ℕ) → list_all p CLASSES ≡ true → IsSizeClass n → p n ≡ true
@@ -29,6 +29,19 @@ class_even n is = eqb-true (n % 2) 0 (class_passes (λ c. (c % 2) == 0) n refl i
 -- each class is one
 pub class_at : (i : ℕ) → i < 13 → IsSizeClass (get_or CLASSES i 0)
 class_at i lt = AllPass-from_list_all (λ x. list_any (λ c. c == x) CLASSES) CLASSES refl i 0 lt
+
+-- the number of each class is its place
+pub class_number : (i : ℕ) → i < 13 → i ≡ number_of (get_or CLASSES i 0)
+class_number i lt = sym (eqb-true _ _ (agree_below_at (λ k. number_of (get_or CLASSES k 0) == k) (λ k. true) 13 i refl lt))
+
+pub number_inside : (n : ℕ) → IsSizeClass n → number_of n < 13
+number_inside n is = ltb-true _ _ (class_passes (λ c. nat_lt (number_of c) 13) n refl is)
+
+pub class_numbered : (n : ℕ) → IsSizeClass n → get_or CLASSES (number_of n) 0 ≡ n
+class_numbered n is = eqb-true _ _ (class_passes (λ c. get_or CLASSES (number_of c) 0 == c) n refl is)
+
+pub class_has_number : (n i : ℕ) → IsSizeClass n → i ≡ number_of n → slice_get CLASSES i ≡ Some n
+class_has_number n i is e = rw e (slice_get-get_or CLASSES (number_of n) 0 (number_inside n is) ∙ ap Some (class_numbered n is))
 
 -- the place that the table has for a request, checked for each
 table_inside : (n : ℕ) → n ≤ 256 → get_or INDEX_OF_GRANULES (div_ceil n 2) 0 < 13

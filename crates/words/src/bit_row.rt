@@ -1,8 +1,9 @@
 //! A row of bits, seen as the list of its bits. Its members are the places of the bits that are set.
-ghost use Rattle.std.specs.Prelude.{◌≡◌, ◌≢◌, ◌%◌, ◌==◌, ℕ, ◌+◌, ◌/◌, ◌^◌, ◌<◌, Bool, true, false, List, length, slice_index_or, slice_set, vec_len, IfOk, MatchOption};
+ghost use Rattle.std.specs.Prelude.{◌≡◌, ◌≢◌, ◌%◌, ◌==◌, ℕ, ◌+◌, ◌/◌, ◌^◌, ◌<◌, ◌≤◌, Bool, true, false, List, length, slice_index_or, slice_set, vec_len, IfOk, MatchOption};
 ghost use Rattle.std.specs.Int.{bit_at};
-ghost use Rattle.words.specs.Bits.{bit, bits, IsEmptyFrom, IsFirstFrom, IsClear, IsFullFrom, IsFirstClearFrom};
+ghost use Rattle.words.specs.Bits.{bit, bits, members_between, IsEmptyFrom, IsFirstFrom, IsClear, IsFullFrom, IsFirstClearFrom};
 
+use crate::count::ones_of;
 use crate::scan::first_from;
 use std::alloc::{AllocError, Global};
 use std::marker::Model;
@@ -24,7 +25,7 @@ impl Model for BitRow {
 
 #[tactic(auto, using(crate::proofs::Rows::rows))]
 impl BitRow {
-    /// A clear row of so many bits. The error is want of memory.
+    /// A clear row of so many bits. The error is that there is no memory.
     pub fn new(alloc: Global, len: usize) -> Result<BitRow, AllocError>
         requires { len < 2 ^ 32 }
         ensures { IfOk result (λ row. IsClear row len) }
@@ -89,6 +90,17 @@ impl BitRow {
         ensures others { (k : ℕ) → k / 64 ≢ j → slice_index_or self.new k false ≡ slice_index_or self.old k false }
     {
         self.words[j] = word;
+    }
+
+    /// How many members it has from `low` on and below `high`, counted by whole words; `low` is the first place of a
+    /// word.
+    pub fn count(&self, low: usize, high: usize) -> u32
+        requires whole { low % 64 ≡ 0 }
+        requires order { low ≤ high }
+        requires inside { high ≤ length self.now }
+        ensures { result ≡ members_between self.now low high }
+    {
+        ones_of(self.words.as_slice(), low, high)
     }
 
     /// The lowest member from `low` on, found by whole words.

@@ -1,7 +1,8 @@
 //! A row of at most 256 bits that lies in the value itself, seen as the list of its bits.
 ghost use Rattle.std.specs.Prelude.{◌≡◌, ℕ, ◌/◌, ◌<◌, ◌≤◌, Bool, true, false, List, length, replicate, slice_index_or, slice_set, MatchOption, MatchBool};
-ghost use Rattle.words.specs.Bits.{bits, IsFullRow, IsEmptyFrom, IsFirstFrom, IsFirstClear};
+ghost use Rattle.words.specs.Bits.{bits, members, IsFullRow, IsEmptyFrom, IsFirstFrom, IsFirstClear};
 
+use crate::count::ones_of;
 use crate::scan::first_from;
 use std::marker::Model;
 
@@ -74,6 +75,13 @@ impl CellRow {
         } else {
             None
         }
+    }
+
+    /// How many members it has.
+    pub fn count(&self) -> u32
+        ensures { result ≡ members self.now }
+    {
+        ones_of(&self.words, 0, self.len as usize)
     }
 
     /// Whether no bit is set.

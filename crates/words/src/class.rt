@@ -35,19 +35,23 @@ pub enum Kind {
 #[derive(Clone, Copy, Debug, PartialEq, Eq)]
 pub struct Class {
     words: u16,
+    number: u8,
 }
 
 impl Model for Class {
-    ghost use Rattle.std.specs.Prelude.{ℕ};
-    ghost use Rattle.words.specs.Classes.{IsSizeClass};
+    ghost use Rattle.std.specs.Prelude.{◌≡◌, ℕ};
+    ghost use Rattle.std.proofs.Common.{ap, sym};
+    ghost use Rattle.words.specs.Classes.{IsSizeClass, number_of};
 
     ghost Value = { ℕ };
 
     ghost view = { λ c. c.words };
 
-    ghost invariant = { λ c. IsSizeClass c.words };
+    ghost invariant = { λ c. IsSizeClass c.words × (c.number ≡ number_of c.words) };
 
-    ghost inverse = { λ n. record { words = n } };
+    ghost inverse = { λ n. record { words = n; number = number_of n } };
+
+    ghost inverse_ok = { λ c h. ap (λ n. record { words = c.words; number = n }) (sym h.1) };
 }
 
 impl Class {
@@ -59,11 +63,12 @@ impl Class {
         self.words
     }
 
-    /// Its place among [`CLASSES`].
+    /// Its place among [`CLASSES`]. It is kept, so that no table is looked at.
+    #[inline]
     pub fn index(self) -> usize
         ensures { slice_get CLASSES result ≡ Some self }
     {
-        usize::from(INDEX_OF_GRANULES[(u64::from(self.words) / GRANULE_WORDS) as usize])
+        usize::from(self.number)
     }
 
     /// How many cells a page has that is cut for this class.
@@ -103,8 +108,9 @@ fn class_for(words: u64) -> Class
     requires { words ≤ MAX_SMALL_WORDS }
     ensures { find (λ c. nat_le words c) CLASSES ≡ Some result }
 {
-    let granules = words.div_ceil(GRANULE_WORDS) as usize;
+    let number = INDEX_OF_GRANULES[words.div_ceil(GRANULE_WORDS) as usize];
     Class {
-        words: CLASSES[usize::from(INDEX_OF_GRANULES[granules])],
+        words: CLASSES[usize::from(number)],
+        number,
     }
 }

@@ -5,6 +5,7 @@
 mod bit_row;
 mod cell_row;
 mod class;
+mod count;
 pub mod laws;
 mod layout;
 pub mod limits;

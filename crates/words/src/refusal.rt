@@ -11,7 +11,7 @@ pub enum Refusal {
     /// The address is not divisible by the bytes of a word.
     Misaligned,
 
-    /// The address reads no object.
+    /// The address points into no object.
     NoObject,
 
     /// The address lies inside an object and is not its base.

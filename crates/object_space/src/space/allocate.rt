@@ -165,6 +165,8 @@ impl ObjectSpace {
         ensures some { IfSome result (λ place. IsFreeCell self.new.states class kind place.page place.cell × (Has self.new.pending place.page → ⊥)) }
         ensures none { IfNone result (HasNoFreeCell self.new.states class kind) }
     {
+        // Its clauses tell what is true of the map.
+        let _end = self.end();
         while let Some(page) = self.page_for(class, kind) {
             if !self.pending.is_set(page as usize) {
                 return Some(free_cell_of(&self.map, page, class, kind));
@@ -257,6 +259,8 @@ impl ObjectSpace {
         requires pages { length marker.now.dirty ≡ length self.old.states }
         ensures { MatchOption result (FindsNoPlace self.old marker.now.marks placement.now kind self.new) (λ base. Allocates self.old marker.now.marks placement.now kind base self.new) }
     {
+        // Its clauses tell what is true of the map.
+        let _end = self.end();
         match placement {
             Placement::Small(class) => self.place_small(marker, *class, kind),
             Placement::Large(pages) => self.take_run(*pages, kind),
@@ -274,6 +278,8 @@ impl ObjectSpace {
         if let Some(base) = self.place(marker, &placement, kind) {
             return Some(base);
         }
+        // Its clauses tell what is true of the map.
+        let _end = self.end();
         while self.sweep(marker) {
             if let Some(base) = self.place(marker, &placement, kind) {
                 return Some(base);

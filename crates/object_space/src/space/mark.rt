@@ -15,10 +15,8 @@ ghost use Rattle.marker.specs.Retracing.{Retraces};
 ghost use Rattle.words.specs.Bits.{Has};
 ghost use Rattle.object_space.specs.Store.{IsSwept, IsPendingRow};
 ghost use Rattle.object_space.specs.Kept.{IsPendingAfter};
-ghost use Rattle.object_space.specs.Sweeps.{ForgetsUnmarked, ForgetsUnreached, ForgetsLazily, Passes, Drops, DropsObject, Sweeps, SweepsPage};
 
 use super::ObjectSpace;
-use final_pause::close_marks;
 use marker::{Marked, Marker};
 use pages::Reader;
 use words::PageNo;
@@ -65,17 +63,5 @@ impl ObjectSpace {
         let _pages = self.map.len();
         let mut reader = Reader::new(&self.memory);
         marker.retrace(&self.map, &mut reader)
-    }
-
-    // Marks all that the roots and the marks reach.
-    pub(super) fn close(&self, marker: &mut Marker, roots: &[u64])
-        requires pages { length marker.old.dirty ≡ length self.now.states }
-        requires invariant { DirtyPageInvariant (found_in self.now.states) self.now.words marker.old }
-        ensures closure { (f : Found) → found_in self.now.states f.base ≡ Some f → (IsMarked marker.new f.base ↔ Closure (found_in self.now.states) self.now.words roots.now (IsMarked marker.old) f) }
-        ensures done { IsDone marker.new }
-        ensures traces { Traces (found_in self.now.states) self.now.words roots.now marker.old marker.new }
-    {
-        let mut reader = Reader::new(&self.memory);
-        close_marks(marker, &self.map, &mut reader, roots);
     }
 }

@@ -15,7 +15,7 @@ ghost use Rattle.marker.specs.Retracing.{Retraces};
 ghost use Rattle.words.specs.Bits.{Has};
 ghost use Rattle.object_space.specs.Store.{IsSwept, IsPendingRow};
 ghost use Rattle.object_space.specs.Kept.{IsPendingAfter};
-ghost use Rattle.object_space.specs.Sweeps.{ForgetsUnmarked, ForgetsUnreached, ForgetsLazily, Passes, Drops, DropsObject, Sweeps, SweepsPage};
+ghost use Rattle.object_space.specs.Sweeps.{Passes, Sweeps, SweepsPage};
 
 use super::ObjectSpace;
 use super::allocate::start_of;
@@ -79,28 +79,13 @@ impl ObjectSpace {
         Passed { next, forgotten: 1 }
     }
 
-    // Forgets the objects that aren't marked, and answers how many.
-    pub(super) fn forget_unmarked(&mut self, marker: &Marker) -> u64
-        requires pages { length marker.now.dirty ≡ length self.old.states }
-        ensures { ForgetsUnmarked self.old marker.now result self.new }
-    {
-        let end = self.end();
-        let mut address = FIRST_ADDRESS;
-        let mut count = 0;
-        while address < end {
-            let passed = self.forget_next(marker, address);
-            address = passed.next;
-            count += passed.forgotten;
-        }
-        count
-    }
-
     // Sweeps a page.
     pub(super) fn sweep_page(&mut self, marker: &Marker, page: PageNo)
         requires pages { length marker.now.dirty ≡ length self.old.states }
         requires inside { page < length self.old.states }
         requires was { Has self.old.pending page }
-        ensures { SweepsPage self.old marker.now.marks page self.new }
+        ensures sweeps { SweepsPage self.old marker.now.marks page self.new }
+        ensures lawful { IsLawful self.old.states }
     {
         // Its clauses tell what is true of the map, and that the page is cut.
         let _end = self.end();
@@ -138,6 +123,8 @@ impl ObjectSpace {
         ensures sweeps { Sweeps self.old marker.now.marks self.new }
         ensures swept { IsSwept self.new }
     {
+        // Its clauses tell what is true of the map.
+        let _end = self.end();
         while self.sweep(marker) {}
     }
 }

@@ -18,7 +18,7 @@ loop-i-preserved g c =
     let n = c.loop-i.i in
     let calls = c.args.calls.now in
     let e = event c.args.me.now.slot (get_or calls n Attach) c.call.result in
-    let here : IsPrefix c.loop-i.me.seen c.call.new.me.seen = subst (λ (l : List (Event Call Reply)). IsPrefix c.loop-i.me.seen l) (sym k.seen.1) (prefix_more c.loop-i.me.seen (c.loop-i.me.seen ++ k.seen.0) (event c.loop-i.me.slot (get_or calls n Attach) c.call.result ∷ []) (k.seen.0, refl)) in
+    let here : IsPrefix c.loop-i.me.seen c.call.new.me.seen = subst (λ (l : List (Event Call Reply)). IsPrefix c.loop-i.me.seen l) (sym k.seen) (prefix_more c.loop-i.me.seen (c.loop-i.me.seen ++ k.between) (event c.loop-i.me.slot (get_or calls n Attach) c.call.result ∷ []) (k.between, refl)) in
     let more = events_more c.args.me.now.slot calls c.loop-i.replies n Attach c.call.result c.loop-i-test.true i.room in
     record {
       room = length-set c.loop-i.replies n c.call.result ∙ i.room;

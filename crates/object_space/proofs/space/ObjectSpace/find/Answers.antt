@@ -1,4 +1,4 @@
-use Rattle.std.proofs.Common.{◌≡◌, ◌*◌, length, sym, arith}
+use Rattle.std.proofs.Common.{◌≡◌, length, sym, arith}
 use Rattle.object_space.proofs.space.ObjectSpace.find.Goals as goal
 
 pub is_marked-requires-clause-inside : goal.is_marked-requires-clause-inside

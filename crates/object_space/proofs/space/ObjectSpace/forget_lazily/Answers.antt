@@ -1,16 +1,21 @@
-use Rattle.std.proofs.Common.{arith}
-use Rattle.object_space.proofs.Dropping.{dropped_none, dropped_more, dropped_all, drops_further}
+use Rattle.std.proofs.Common.{◌≡◌, ◌+◌, length, sym, ap, subst, ◌∙◌, arith}
+use Rattle.object_space.specs.Store.{Store}
+use Rattle.object_space.specs.Forgets.{HasForgotten}
+use Rattle.object_space.proofs.Forgets.{forgotten_none, forgotten_more, forgotten_all, objects_left}
 use Rattle.object_space.proofs.space.ObjectSpace.forget_lazily.Goals as goal
 
-pub loop-address-init : goal.loop-address-init
-loop-address-init c = dropped_none _ _ c.end-end.ensures.lawful.map c.requires.swept
+pub loop-page-init : goal.loop-page-init
+loop-page-init c = forgotten_none c.args.self.now c.args.marker.now.marks c.requires.swept
 
-pub loop-address-preserved : goal.loop-address-preserved
-loop-address-preserved c = dropped_more _ _ _ _ _ c.end-end.ensures.lawful.map c.drop_next-passed.ensures.lawful.map c.loop-address.invariant _ _ _ c.drop_next-passed.ensures.drops
-
-pub loop-address-smaller : goal.loop-address-smaller
-loop-address-smaller c =
-    let further = drops_further _ _ _ _ _ _ c.drop_next-passed.ensures.lawful.map c.drop_next-passed.ensures.drops in let test = c.loop-address-test.true in omega arith
+pub loop-page-preserved : goal.loop-page-preserved
+loop-page-preserved c =
+    subst (λ k. HasForgotten c.args.self.now c.args.marker.now.marks (c.loop-page.page + 1) (c.loop-page.count + k) c.forget_on.new.self) (sym c.from-count.ensures)
+    (forgotten_more c.args.self.now c.args.marker.now.marks c.loop-page.page c.loop-page.count c.loop-page.self c.end-end.ensures.lawful.map c.forget_on.ensures.lawful.map c.loop-page.invariant c.forget_on.result c.forget_on.new.self c.forget_on.ensures.forgets)
 
 pub returns : goal.returns
-returns c = dropped_all _ _ c.loop-address.address _ _ c.end-end.ensures.lawful.map (let past = c.loop-address-test.false in let end = c.end-end.ensures.end in omega arith) c.pending_row.ensures c.loop-address.invariant
+returns c =
+    let pages = ap (λ (t : Store). length t.states) c.self.view_is in
+    let past = c.loop-page-test.false in let end = c.loop-page.auto.page-end in let count = c.len-page-end.ensures.len in
+    let all : c.loop-page.page ≡ length c.args.self.now.states = omega arith in
+    forgotten_all c.args.self.now c.args.marker.now.marks c.loop-page.count c.loop-page.self c.end-end.ensures.lawful c.pending_row.ensures
+    (subst (λ p. HasForgotten c.args.self.now c.args.marker.now.marks p c.loop-page.count c.loop-page.self) all c.loop-page.invariant)

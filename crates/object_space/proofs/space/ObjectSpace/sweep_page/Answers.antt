@@ -23,8 +23,8 @@ loop-address-smaller c =
     let test = c.loop-address-test.true in
     omega arith
 
-pub returns : goal.returns
-returns c =
+pub returns-clause-sweeps : goal.returns-clause-sweeps
+returns-clause-sweeps c =
     passed_page _ _ c.args.page c.loop-address.address _ _ _ c.end-end.ensures.laid c.end-end.ensures.lawful c.in-Some.field-0.now (sym (ap (λ (t : Store). state_at t.states c.args.page) c.self.view_is) ∙ c.in-Some.ensures)
     (let end = c.start_of-end.ensures in let test = c.loop-address-test.false in omega arith) c.loop-address.invariant.1
     (ap (λ (t : Store). t.words) c.self-2.view_is) (ap (λ (t : Store). t.states) c.self-2.view_is) (c.clear.ensures ∙ ap (λ (t : Store). slice_set t.pending c.args.page false) c.self-2.view_is)

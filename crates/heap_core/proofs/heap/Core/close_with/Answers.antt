@@ -1,0 +1,25 @@
+use Rattle.std.proofs.Common.{◌≡◌, subst, ◌∙◌}
+use Rattle.std.specs.Prelude.{◌↔◌, Some}
+use Rattle.block_map.specs.declared.found.Found.{Found}
+use Rattle.block_map.specs.FoundIn.{found_in}
+use Rattle.marker.specs.Closure.{Closure}
+use Rattle.marker.specs.Growth.{Traces}
+use Rattle.marker.specs.Marking.{IsMarked}
+use Rattle.roots.specs.Roots.{root_words_of}
+use Rattle.heap_core.proofs.Tracing.{traced_on}
+use Rattle.heap_core.proofs.Cycling.{closes_marks}
+use Rattle.heap_core.proofs.heap.Core.close_with.Goals as goal
+
+pub invariant_of-self : goal.invariant_of-self
+invariant_of-self g c = traced_on _ _ _ _ c.self.invariant c.close_with.ensures.traces
+
+pub returns : goal.returns
+returns g c =
+    let e : c.as_slice.result.now ≡ root_words_of c.self.inside.roots = c.as_slice.ensures.value ∙ c.write_words.ensures in
+    let closes = c.close_with.ensures in
+    rw (← c.self.view_is) (
+      c.if-not-self.false,
+      closes_marks _ _ closes.lawful.map (c.self.invariant.swept c.if-not-self.false)
+          (subst (λ rs. Traces (found_in c.self.inside.objects.states) c.self.inside.objects.words rs c.self.inside.marker c.close_with.new.marker) e closes.traces) closes.done
+          (subst (λ rs. (f : Found) → found_in c.self.inside.objects.states f.base ≡ Some f → IsMarked c.close_with.new.marker f.base ↔ Closure (found_in c.self.inside.objects.states) c.self.inside.objects.words rs (IsMarked c.self.inside.marker) f) e closes.closure),
+    )

@@ -1,0 +1,28 @@
+use Rattle.std.proofs.Common.{◌≡◌, ◌-◌, true, set, sym, ap, subst, ◌∙◌, arith}
+use Rattle.block_map.specs.States.{cut, state_at, IsCut}
+use Rattle.object_space.specs.Store.{Store, IsPendingRow}
+use Rattle.object_space.specs.Forgets.{ForgetsOn}
+use Rattle.object_space.proofs.Forgets.{counted, some_dead, none_dead}
+use Rattle.object_space.proofs.space.ObjectSpace.forget_on.Goals as goal
+
+pub overflow_sub-unmarked : goal.overflow_sub-unmarked
+overflow_sub-unmarked c =
+    let count = (counted c.args.self.now c.args.marker.now c.args.page c.in-Some.block.now _ _ c.end-end.ensures.laid c.end-end.ensures.lawful c.requires.objects c.laws.ensures c.requires.pages c.requires.inside
+    (sym (ap (λ (t : Store). state_at t.states c.args.page) c.self.view_is) ∙ c.in-Some.ensures) c.allocated.ensures.count c.marks_on.ensures).count in
+    omega arith
+
+pub returns-then-unmarked-gt0-clause-forgets : goal.returns-then-unmarked-gt0-clause-forgets
+returns-then-unmarked-gt0-clause-forgets c =
+    let is = sym (ap (λ (t : Store). state_at t.states c.args.page) c.self.view_is) ∙ c.in-Some.ensures in
+    let size = (subst IsPendingRow c.self.view_is c.self.invariant.pending).size in let inside = c.requires.inside in
+    subst (ForgetsOn c.args.self.now c.args.marker.now.marks c.args.page (c.allocated.result - c.marks_on.result)) (ap (λ (t : Store). record t { pending = c.set.new.self }) (sym c.self.view_is))
+    (some_dead c.args.self.now c.args.marker.now.marks c.args.page _ _ c.set.new.self
+    (counted c.args.self.now c.args.marker.now c.args.page c.in-Some.block.now _ _ c.end-end.ensures.laid c.end-end.ensures.lawful c.requires.objects c.laws.ensures c.requires.pages c.requires.inside is c.allocated.ensures.count c.marks_on.ensures)
+    c.if-unmarked-gt0.true (subst IsCut (sym is) tt) (omega arith) (c.set.ensures ∙ ap (λ (t : Store). set t.pending c.args.page true) c.self.view_is))
+
+pub returns-else-unmarked-gt0-clause-forgets : goal.returns-else-unmarked-gt0-clause-forgets
+returns-else-unmarked-gt0-clause-forgets c =
+    none_dead c.args.self.now c.args.marker.now.marks c.args.page _ _
+    (counted c.args.self.now c.args.marker.now c.args.page c.in-Some.block.now _ _ c.end-end.ensures.laid c.end-end.ensures.lawful c.requires.objects c.laws.ensures c.requires.pages c.requires.inside
+    (sym (ap (λ (t : Store). state_at t.states c.args.page) c.self.view_is) ∙ c.in-Some.ensures) c.allocated.ensures.count c.marks_on.ensures)
+    (let none = c.if-unmarked-gt0.false in omega arith)

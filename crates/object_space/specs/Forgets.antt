@@ -1,0 +1,56 @@
+-- What the end of a cycle forgets, page by page.
+use Rattle.std.specs.Prelude.{◌≡◌, ℕ, ◌*◌, ◌<◌, ◌≤◌, ◌⊎◌, true, Bool, slice_set, List, [], ◌∷◌, length, Contains, All, nat_eq, Some}
+use Rattle.std.specs.List.{IsDistinct}
+use Rattle.words.specs.declared.limits.TheConstants.{PAGE_GRANULES}
+use Rattle.words.specs.Bits.{Has}
+use Rattle.mark_bits.specs.Granules.{granule}
+use Rattle.block_map.specs.declared.found.Found.{Found}
+use Rattle.block_map.specs.FoundIn.{found_in}
+use Rattle.block_map.specs.States.{PageState, IsCut, state_at}
+use Rattle.marker.specs.Mutations.{KeepsWords}
+use Rattle.object_space.specs.Store.{Store}
+use Rattle.object_space.specs.Sweeps.{Loses}
+
+-- An unmarked object has the base, and it begins on the page.
+pub record IsUnmarkedOn (states : List PageState) (marks : List Bool) (page base : ℕ) : Type 0 where
+  pub object : Found
+  pub is : found_in states base ≡ Some object
+  pub at : object.base ≡ base
+  pub on : object.page ≡ page
+  pub unmarked : Has marks (granule base) → ⊥
+
+-- These are the bases of all unmarked objects that begin on the page, each once.
+pub record AreUnmarkedOn (states : List PageState) (marks : List Bool) (page : ℕ) (bases : List ℕ) : Type 0 where
+  pub distinct : IsDistinct nat_eq bases
+  pub each : All (IsUnmarkedOn states marks page) bases
+  pub all : (f : Found) → found_in states f.base ≡ Some f → f.page ≡ page → (Has marks (granule f.base) → ⊥) → Contains bases f.base
+
+-- What it is to the page that the objects with these bases are forgotten: nothing where there are none, a block is to be
+-- swept, and a large object is gone.
+pub data ForgetsBases (old : Store) (page : ℕ) (bases : List ℕ) (new : Store) : Type 0 where
+  nothing : bases ≡ [] → new ≡ old → ForgetsBases old page bases new
+  unswept : IsCut (state_at old.states page) → page < length old.pending → (base : ℕ) → Contains bases base → new ≡ record old { pending = slice_set old.pending page true } → ForgetsBases old page bases new
+  gone : (f : Found) → found_in old.states f.base ≡ Some f → bases ≡ f.base ∷ [] → (Has old.pending f.page → ⊥) → Loses old f new → ForgetsBases old page bases new
+
+-- The unmarked objects that begin on a page are forgotten, so many.
+pub record ForgetsOn (old : Store) (marks : List Bool) (page n : ℕ) (new : Store) : Type 0 where
+  pub bases : List ℕ
+  pub number : n ≡ length bases
+  pub few : n ≤ PAGE_GRANULES
+  pub objects : AreUnmarkedOn old.states marks page bases
+  pub change : ForgetsBases old page bases new
+
+-- The unmarked objects that begin on pages below this one are forgotten, so many. The words of the objects of the map stay.
+pub record HasForgotten (old : Store) (marks : List Bool) (page n : ℕ) (now : Store) : Type 0 where
+  pub words : KeepsWords (found_in now.states) old.words now.words
+  pub pages : length now.states ≡ length old.states
+  pub few : n ≤ PAGE_GRANULES * page
+  pub bases : List ℕ
+  pub number : n ≡ length bases
+  pub distinct : IsDistinct nat_eq bases
+  pub each : All (λ b. (p : ℕ) × (p < page) × IsUnmarkedOn old.states marks p b) bases
+  pub all : (f : Found) → found_in old.states f.base ≡ Some f → f.page < page → (Has marks (granule f.base) → ⊥) → Contains bases f.base
+  pub less : (w : ℕ) (f : Found) → found_in now.states w ≡ Some f → found_in old.states w ≡ Some f
+  pub stays : (w : ℕ) (f : Found) → found_in old.states w ≡ Some f → Has marks (granule f.base) ⊎ (page ≤ f.page) → found_in now.states w ≡ Some f
+  pub unswept : (w : ℕ) (f : Found) → found_in now.states w ≡ Some f → f.page < page → (Has marks (granule f.base) → ⊥) → Has now.pending f.page
+  pub only : (p : ℕ) → Has now.pending p → (w : ℕ) × (f : Found) × (found_in now.states w ≡ Some f) × (f.page ≡ p) × (Has marks (granule f.base) → ⊥)

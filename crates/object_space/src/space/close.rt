@@ -1,0 +1,61 @@
+//! Closing the marks, by the calling thread or with helpers.
+ghost use Rattle.std.specs.Prelude.{◌≡◌, ◌↔◌, Some, length};
+ghost use Rattle.block_map.specs.FoundIn.{found_in, IsLawful};
+ghost use Rattle.block_map.specs.declared.found.Found.{Found};
+ghost use Rattle.marker.specs.Closure.{Closure};
+ghost use Rattle.marker.specs.Growth.{Traces};
+ghost use Rattle.marker.specs.Invariant.{DirtyPageInvariant};
+ghost use Rattle.marker.specs.Marking.{IsDone, IsMarked};
+
+use super::ObjectSpace;
+use final_pause::{Gate, Helpers, close_marks, close_marks_with};
+use marker::Marker;
+use pages::Reader;
+use std::alloc::Global;
+use std::sync::Wait;
+use std::thread::Threads;
+
+impl ObjectSpace {
+    // Marks all that the roots and the marks reach.
+    pub(super) fn close(&self, marker: &mut Marker, roots: &[u64])
+        requires pages { length marker.old.dirty ≡ length self.now.states }
+        requires invariant { DirtyPageInvariant (found_in self.now.states) self.now.words marker.old }
+        ensures closure { (f : Found) → found_in self.now.states f.base ≡ Some f → (IsMarked marker.new f.base ↔ Closure (found_in self.now.states) self.now.words roots.now (IsMarked marker.old) f) }
+        ensures done { IsDone marker.new }
+        ensures traces { Traces (found_in self.now.states) self.now.words roots.now marker.old marker.new }
+    {
+        let mut reader = Reader::new(&self.memory);
+        close_marks(marker, &self.map, &mut reader, roots);
+    }
+
+    /// Marks all that the roots and the marks reach, with helpers in threads of their own.
+    pub fn close_with<R: Threads + Wait + Sync, G: Gate>(
+        &self,
+        rt: &R,
+        alloc: Global,
+        marker: &mut Marker,
+        roots: &[u64],
+        helpers: Helpers,
+        gate: &G,
+    )
+        requires pages { length marker.old.dirty ≡ length self.now.states }
+        requires invariant { DirtyPageInvariant (found_in self.now.states) self.now.words marker.old }
+        ensures closure { (f : Found) → found_in self.now.states f.base ≡ Some f → (IsMarked marker.new f.base ↔ Closure (found_in self.now.states) self.now.words roots.now (IsMarked marker.old) f) }
+        ensures done { IsDone marker.new }
+        ensures traces { Traces (found_in self.now.states) self.now.words roots.now marker.old marker.new }
+        ensures lawful { IsLawful self.now.states }
+    {
+        // Its clauses tell what is true of the map.
+        let _pages = self.map.len();
+        close_marks_with(
+            rt,
+            alloc,
+            marker,
+            &self.map,
+            &self.memory,
+            roots,
+            helpers,
+            gate,
+        );
+    }
+}

@@ -1,0 +1,45 @@
+//! A heap with one mutator, and single events with the replies that they have to get.
+use heap_core::Core;
+use heap_spec::{Call, Event, Reply};
+use std::alloc::Global;
+use std::process::Abort;
+use std::test::Fail;
+use words::{Refusal, Reg, Slot};
+
+/// A heap and its mutator.
+#[derive(Drop)]
+pub(crate) struct Scene {
+    pub(crate) core: Core,
+    pub(crate) slot: Slot,
+}
+
+/// What a request is answered where there is no room.
+pub(crate) const FULL: Reply = Reply::Refused(Refusal::Full);
+
+/// What a call on a word that points into no object is answered.
+pub(crate) const NO_OBJECT: Reply = Reply::Refused(Refusal::NoObject);
+
+/// A register by its number.
+pub(crate) fn reg(number: u8) -> Result<Reg, Fail> {
+    Ok(Reg::new(number).ok_or("a register")?)
+}
+
+impl Scene {
+    /// A new heap of so many pages, with a mutator.
+    pub(crate) fn open(alloc: Global, pages: u32) -> Result<Scene, Fail> {
+        let mut core = Core::new(alloc, pages).ok().ok_or("a heap")?;
+        let slot = core.attach().ok().ok_or("a mutator")?;
+        Ok(Scene { core, slot })
+    }
+
+    /// An event gets this reply.
+    pub(crate) fn event(&mut self, rt: &impl Abort, event: Event, reply: Reply) {
+        let answer = self.core.act(event);
+        assert_eq!(rt; answer, reply, "{event:?}");
+    }
+
+    /// A call of the mutator gets this reply.
+    pub(crate) fn call(&mut self, rt: &impl Abort, call: Call, reply: Reply) {
+        self.event(rt, Event::Mutator(self.slot, call), reply);
+    }
+}
