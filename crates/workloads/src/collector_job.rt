@@ -12,7 +12,9 @@ use heap_core::quiet::{Mark, Retrace, Roots, Sweep};
 use heap_spec::{Event, Reply};
 use history::{COLLECTOR, Naming};
 use shared::{Collector, SharedHeap};
+use std::alloc::Global;
 use std::sync::Wait;
+use std::thread::Threads;
 use words::Refusal;
 
 /// The collector with its commands, and room for their replies.
@@ -54,9 +56,12 @@ fn count(answer: Result<u64, Refusal>) -> Reply
 }
 
 /// One command of the collector.
-fn command<J: Naming, R: Wait>(
+fn command<J: Naming, R: Threads + Wait + Sync, G: Gate>(
     rt: &R,
+    alloc: Global,
     heap: &SharedHeap<J>,
+    helpers: Helpers,
+    gate: &G,
     me: &mut Collector<J>,
     command: Event,
 ) -> Reply
@@ -69,7 +74,7 @@ fn command<J: Naming, R: Wait>(
         Event::Roots => done(heap.quiet(rt, me, &mut Roots)),
         Event::Mark(most) => count(heap.quiet(rt, me, &mut Mark(most))),
         Event::Retrace => count(heap.quiet(rt, me, &mut Retrace)),
-        Event::Finish => count(heap.finish(rt, me)),
+        Event::Finish => count(heap.finish_with(rt, alloc, me, helpers, gate)),
         Event::Sweep => count(heap.quiet(rt, me, &mut Sweep)),
         Event::Collect => Reply::Count(heap.collect(rt, me)),
         Event::Number => Reply::Count(heap.gc_no_of(me)),
@@ -78,9 +83,11 @@ fn command<J: Naming, R: Wait>(
 }
 
 /// One command, between two calls of the gate.
-fn give_command<J: Naming, R: Wait, G: Gate>(
+fn give_command<J: Naming, R: Threads + Wait + Sync, G: Gate>(
     rt: &R,
+    alloc: Global,
     heap: &SharedHeap<J>,
+    helpers: Helpers,
     gate: &G,
     number: u32,
     me: &mut Collector<J>,
@@ -91,15 +98,17 @@ fn give_command<J: Naming, R: Wait, G: Gate>(
     ensures { Commanded J.origin me.old given result me.new }
 {
     gate.before(COLLECTOR, number);
-    let reply = command(rt, heap, me, given);
+    let reply = command(rt, alloc, heap, helpers, gate, me, given);
     gate.after(COLLECTOR, number);
     reply
 }
 
 /// Gives the commands in their order, and notes their replies.
-fn give_commands<J: Naming, R: Wait, G: Gate>(
+fn give_commands<J: Naming, R: Threads + Wait + Sync, G: Gate>(
     rt: &R,
+    alloc: Global,
     heap: &SharedHeap<J>,
+    helpers: Helpers,
     gate: &G,
     me: &mut Collector<J>,
     commands: &[Event],
@@ -112,14 +121,25 @@ fn give_commands<J: Naming, R: Wait, G: Gate>(
     ensures commanded { CommandedAll J.origin me.old commands.now replies.new me.new }
 {
     for i in 0..commands.len() {
-        replies[i] = give_command(rt, heap, gate, call_number(i), me, commands[i]);
+        replies[i] = give_command(
+            rt,
+            alloc,
+            heap,
+            helpers,
+            gate,
+            call_number(i),
+            me,
+            commands[i],
+        );
     }
 }
 
 /// Runs the job to its end.
-pub(crate) fn run_collector<'a, J: Naming, R: Wait, G: Gate>(
+pub(crate) fn run_collector<'a, J: Naming, R: Threads + Wait + Sync, G: Gate>(
     rt: &R,
+    alloc: Global,
     heap: &SharedHeap<J>,
+    helpers: Helpers,
     gate: &G,
     job: CollectorJob<'a, J>,
 ) -> CollectorJob<'a, J>
@@ -133,7 +153,9 @@ pub(crate) fn run_collector<'a, J: Naming, R: Wait, G: Gate>(
     } = job;
     give_commands(
         rt,
+        alloc,
         heap,
+        helpers,
         gate,
         &mut collector,
         commands,

@@ -93,6 +93,7 @@ fn run_named<J: Naming + Send + Sync, R: Threads + Wait + Sync, G: Gate>(
     alloc: Global,
     opened: Opened<Core>,
     workload: &Workload,
+    helpers: Helpers,
     gate: &G,
 ) -> Result<Replies, AllocError>
     requires table { opened.table ≡ J.table }
@@ -111,7 +112,7 @@ fn run_named<J: Naming + Send + Sync, R: Threads + Wait + Sync, G: Gate>(
     let collect = |job|
         requires { CanCommand job }
         ensures { HasCommanded J.origin job.entry result }
-    { run_collector(rt, &heap, gate, job) };
+    { run_collector(rt, alloc, &heap, helpers, gate, job) };
     let other = CollectorJob {
         collector,
         commands,
@@ -133,9 +134,11 @@ fn run_named<J: Naming + Send + Sync, R: Threads + Wait + Sync, G: Gate>(
 }
 
 /// Runs a workload on a heap of its own of so many pages: each mutator makes its calls in a thread of its own, and the collector gives
-/// its commands in one more, each in its order, between two calls of the gate. At the end every mutator is detached.
+/// its commands in one more, each in its order, between two calls of the gate. A cycle ends with so many helpers, each in a thread of its
+/// own for as long as that takes. At the end every mutator is detached.
 ///
-/// All memory is taken before the first thread starts. Where a thread can't be started, those that run go to their end. So a gate that
+/// All memory is taken before the first thread starts, but for what the end of a cycle takes, which goes on without helpers where that is
+/// refused. Where a thread can't be started, those that run go to their end. So a gate that
 /// waits for an actor without a bound waits for good where that actor was refused its thread.
 ///
 /// # Errors
@@ -155,5 +158,7 @@ pub fn run_threads<R: Threads + Wait + Sync, G: Gate>(
     let Ok(opened) = open(alloc, pages) else {
         return Err(RunError::Memory);
     };
-    Ok(run_named::<Brand, _, _>(rt, alloc, opened, workload, gate)?)
+    Ok(run_named::<Brand, _, _>(
+        rt, alloc, opened, workload, helpers, gate,
+    )?)
 }

@@ -21,7 +21,7 @@ returns-in-Retrace g c =
     retraces g.J.Naming.origin c.args.me.now c.quiet-in-Retrace.new.me c.args.command c.count-in-Retrace.result c.requires.slot c.quiet-in-Retrace.ensures.looks gives.0 gives.1 gives.3 c.quiet-in-Retrace.result c.in-Retrace.is c.count-in-Retrace.ensures gives.2
 
 pub returns-in-Finish : goal.returns-in-Finish
-returns-in-Finish g c = finishes g.J.Naming.origin c.args.me.now c.finish.new.me c.args.command c.count-in-Finish.result c.requires.slot c.finish.result c.in-Finish.is c.count-in-Finish.ensures c.finish.ensures
+returns-in-Finish g c = finishes g.J.Naming.origin c.args.me.now c.finish_with.new.me c.args.command c.count-in-Finish.result c.requires.slot c.finish_with.result c.in-Finish.is c.count-in-Finish.ensures c.finish_with.ensures
 
 pub returns-in-Sweep : goal.returns-in-Sweep
 returns-in-Sweep g c =
