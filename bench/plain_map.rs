@@ -9,13 +9,14 @@ pub enum Kind {
 }
 
 pub struct Block {
-    words: u16,
-    kind: Kind,
+    pub words: u16,
+    pub kind: Kind,
     reciprocal: u32,
     pub taken: [u64; 4],
-    cells: u16,
+    pub cells: u16,
 }
 
+#[allow(dead_code)]
 pub enum Page {
     Free,
     Cut(Block),
@@ -29,8 +30,8 @@ pub struct Found {
     pub base: u64,
     pub len: u32,
     pub kind: Kind,
-    page: u32,
-    cell: u16,
+    pub page: u32,
+    pub cell: u16,
 }
 
 impl Block {

@@ -1,5 +1,5 @@
 //! Collections of a heap of 10,000 objects of two words: a full one, the pause of a cycle that has marked beside the
-//! mutator, and what an allocation costs after it.
+//! mutator, what an allocation costs after it, and lookups while pages are pending.
 use crate::figures::{report, since};
 use crate::marking::targets;
 use crate::user::User;
@@ -11,6 +11,8 @@ use std::time::Instant;
 const OBJECTS: usize = 10_000;
 
 const ROUNDS: u32 = 10;
+
+const FINDS: u32 = 40;
 
 // A base, and 0 where there is no object with that number.
 fn base_of(bases: &[u64], number: u64) -> u64 {
@@ -91,6 +93,32 @@ fn time_allocs<R: Eprint + Clock>(rt: &R, user: &mut User) -> io::Result<()> {
     report(rt, "alloc_longest", longest, 1, user.sweep_all())
 }
 
+// Lookups of the objects that are left, every second one.
+fn time_finds<R: Eprint + Clock>(
+    rt: &R,
+    name: &str,
+    user: &mut User,
+    bases: &[u64],
+) -> io::Result<()> {
+    let mut sum: u64 = 0;
+    let start = Instant::now(rt)?;
+    for _ in 0..FINDS {
+        sum = sum.wrapping_add(user.sizes(bases));
+    }
+    let calls = u64::from(FINDS) * OBJECTS as u64 / 2;
+    report(rt, name, since(rt, start)?, calls, sum)
+}
+
+// Lookups while each page has dead objects that aren't swept, and when they are.
+fn measure_finds<R: Eprint + Clock>(rt: &R, user: &mut User, bases: &mut [u64]) -> io::Result<()> {
+    build(user, bases, "every_other");
+    user.mark_all();
+    let _gone = user.finish();
+    time_finds(rt, "find_pending", user, bases)?;
+    let _swept = user.sweep_all();
+    time_finds(rt, "find_swept", user, bases)
+}
+
 fn measure_list<R: Eprint + Clock>(rt: &R, user: &mut User, bases: &mut [u64]) -> io::Result<()> {
     build(user, bases, "list");
     time_collect(rt, "collect_list", user)?;
@@ -105,7 +133,7 @@ fn measure_list<R: Eprint + Clock>(rt: &R, user: &mut User, bases: &mut [u64]) -
     time_allocs(rt, user)
 }
 
-/// Full collections, pauses, and allocations after them.
+/// Full collections, pauses, allocations after them, and lookups.
 pub(crate) fn measure<R: Eprint + Clock>(rt: &R, alloc: Global) -> io::Result<()> {
     let mut bases = vec![in alloc; 0u64; OBJECTS]?;
     for (shape, name) in [("tree", "collect_tree"), ("graph", "collect_graph")] {
@@ -116,6 +144,9 @@ pub(crate) fn measure<R: Eprint + Clock>(rt: &R, alloc: Global) -> io::Result<()
     }
     if let Some(mut user) = User::new(alloc) {
         measure_list(rt, &mut user, bases.as_mut_slice())?;
+    }
+    if let Some(mut user) = User::new(alloc) {
+        measure_finds(rt, &mut user, bases.as_mut_slice())?;
     }
     Ok(())
 }

@@ -40,6 +40,7 @@ pub(crate) fn targets(shape: &str, number: u64, count: u64) -> (u64, u64) {
             number.wrapping_mul(2).wrapping_add(1),
             number.wrapping_mul(2).wrapping_add(2),
         ),
+        "every_other" => (number.wrapping_add(2), count),
         _ => (spread, number.wrapping_mul(7_919).wrapping_add(3) % count),
     }
 }

@@ -93,6 +93,18 @@ impl User {
         let _stored = self.core.store(self.slot, self.object, offset, self.word);
     }
 
+    /// Asks for the words of every second object, and answers their sum.
+    pub(crate) fn sizes(&mut self, bases: &[u64]) -> u64 {
+        let mut sum: u64 = 0;
+        for (number, base) in bases.iter().enumerate() {
+            if number % 2 == 0 {
+                let _done = self.core.set(self.slot, self.object, *base);
+                sum = sum.wrapping_add(self.core.size(self.slot, self.object).unwrap_or(0));
+            }
+        }
+        sum
+    }
+
     /// Only the objects that this word reaches stay reached.
     pub(crate) fn keep(&mut self, word: u64) {
         let _kept = self.core.set(self.slot, self.kept, word);

@@ -3,6 +3,7 @@ ghost use Rattle.std.specs.Prelude.{◌≡◌, false};
 ghost use Rattle.heap_spec.specs.Heap.{opening};
 ghost use Rattle.pages.specs.Opening.{IsOpened};
 ghost use Rattle.heap_core.specs.Standing.{StandsFor};
+ghost use Rattle.object_space.specs.Store.{IsSwept};
 
 mod beside;
 mod close_with;
@@ -41,13 +42,14 @@ impl Model for Core {
 }
 
 impl Core {
-    /// A heap of so many pages with no mutator, no object, and globals of 0. All memory that it ever takes is taken here.
+    /// A heap of so many pages with no mutator, no object, globals of 0, and nothing to sweep. All memory that it ever takes
+    /// is taken here.
     ///
     /// # Errors
     /// [`OpenError::BadPages`] exactly for no page or more than the limit, and else [`OpenError::Memory`] where a growth
     /// of memory was refused.
     pub fn new(alloc: Global, pages: u32) -> Result<Core, OpenError>
-        ensures { IsOpened pages result (λ core. StandsFor core (opening pages) × (core.cycle.is_marking ≡ false) × (core.cycle.count ≡ 0)) }
+        ensures { IsOpened pages result (λ core. StandsFor core (opening pages) × (core.cycle.is_marking ≡ false) × (core.cycle.count ≡ 0) × IsSwept core.store) }
     {
         let objects = ObjectSpace::new(alloc, pages)?;
         let marker = Marker::new(alloc, pages)?;

@@ -78,17 +78,22 @@ impl Draw {
         }
     }
 
-    /// A call of a mutator.
-    pub(crate) fn call(&mut self) -> Option<Call> {
-        let (a, b, c) = (self.reg()?, self.reg()?, self.reg()?);
-        let call = match self.random.below(64) {
+    // A call that reaches objects, for a number below 47.
+    fn object_call(&mut self, drawn: u64, a: Reg, b: Reg) -> Call {
+        match drawn {
             0..=17 => Call::Alloc(a, self.request(), self.kind()),
             18..=25 => Call::Free(a),
             26..=29 => Call::Set(a, self.random.below(100)),
             30..=35 => Call::Store(a, self.offset(), b),
             36..=41 => Call::Load(a, b, self.offset()),
             42..=44 => Call::Base(a, b),
-            45..=46 => Call::Size(a),
+            _ => Call::Size(a),
+        }
+    }
+
+    // A call that reaches registers, the stack and globals alone, or the last one of its mutator.
+    fn root_call(&mut self, drawn: u64, a: Reg, b: Reg, c: Reg) -> Option<Call> {
+        let call = match drawn {
             47..=49 => Call::Push(a),
             50..=52 => Call::Pop(a),
             53 => Call::GlobalPut(self.global()?, a),
@@ -102,6 +107,17 @@ impl Draw {
             _ => Call::Detach,
         };
         Some(call)
+    }
+
+    /// A call of a mutator.
+    pub(crate) fn call(&mut self) -> Option<Call> {
+        let (a, b, c) = (self.reg()?, self.reg()?, self.reg()?);
+        let drawn = self.random.below(64);
+        if drawn < 47 {
+            Some(self.object_call(drawn, a, b))
+        } else {
+            self.root_call(drawn, a, b, c)
+        }
     }
 
     /// An event of the collector once in so many calls.

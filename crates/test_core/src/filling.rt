@@ -15,10 +15,14 @@ const CELLS: [usize; 13] = [256, 128, 85, 64, 42, 32, 21, 16, 10, 8, 5, 4, 2];
 // Allocates an object of so many words, and answers its base, or `None` where the heap is full.
 fn next_base(scene: &mut Scene, words: u64, kind: Kind) -> Result<Option<u64>, Fail> {
     let object = reg(1)?;
-    match scene.core.alloc(scene.slot, object, words, kind) {
-        Ok(()) => Ok(scene.core.get(scene.slot, object).ok()),
-        Err(Refusal::Full) => Ok(None),
-        Err(_) => Err("room, or none".into()),
+    let answers = (
+        scene.ask(Call::Alloc(object, words, kind)),
+        scene.ask(Call::Get(object)),
+    );
+    match answers {
+        (Reply::Done, Reply::Word(base)) => Ok(Some(base)),
+        (Reply::Refused(Refusal::Full), _) => Ok(None),
+        _ => Err("room, or none".into()),
     }
 }
 

@@ -9,8 +9,8 @@ use words::{Refusal, Reg, Slot};
 /// A heap and its mutator.
 #[derive(Drop)]
 pub(crate) struct Scene {
-    pub(crate) core: Core,
-    pub(crate) slot: Slot,
+    core: Core,
+    slot: Slot,
 }
 
 /// What a request is answered where there is no room.
@@ -30,6 +30,11 @@ impl Scene {
         let mut core = Core::new(alloc, pages).ok().ok_or("a heap")?;
         let slot = core.attach().ok().ok_or("a mutator")?;
         Ok(Scene { core, slot })
+    }
+
+    /// What a call of the mutator is answered.
+    pub(crate) fn ask(&mut self, call: Call) -> Reply {
+        self.core.act(Event::Mutator(self.slot, call))
     }
 
     /// An event gets this reply.

@@ -38,13 +38,24 @@ fn every_read_fails(rt: HostRuntime) -> Result<(), Fail> {
     Ok(())
 }
 
+/// The script gets this answer from the writer, which has taken so much of the replies.
+fn check_written(
+    rt: &impl Abort,
+    output: &mut Taken,
+    alloc: Global,
+    answer: Result<(), ScriptError>,
+    written: Option<&str>,
+) {
+    let mut input = Script::new(SCRIPT.as_bytes());
+    let answered = run_script(alloc, &mut input, output, 4);
+    assert_eq!(rt; answered, answer);
+    assert_eq!(rt; output.text(), written);
+}
+
 /// What the writer took before stands, and no call of it follows the fault.
 fn check_write_fault(rt: &impl Abort, output: &mut Taken, written: Option<&str>, alloc: Global) {
     let calls = output.fails_at;
-    let mut input = Script::new(SCRIPT.as_bytes());
-    let answer = run_script(alloc, &mut input, output, 4);
-    assert_eq!(rt; answer, Err(ScriptError::Write));
-    assert_eq!(rt; output.text(), written);
+    check_written(rt, output, alloc, Err(ScriptError::Write), written);
     assert_eq!(rt;
         Some(output.calls),
         calls.map(|call| call.saturating_add(1))
@@ -68,19 +79,12 @@ fn every_write_fails(rt: HostRuntime) -> Result<(), Fail> {
 /// A writer that takes one byte a call gets all, and one that takes none is a fault at once.
 #[test]
 fn short_writes(rt: HostRuntime) -> Result<(), Fail> {
-    let mut input = Script::new(SCRIPT.as_bytes());
-    let mut output = Taken::limited(rt.alloc(), 1, None)?;
-    assert_eq!(rt; run_script(rt.alloc(), &mut input, &mut output, 4), Ok(()));
-    assert_eq!(rt; output.text(), Some(REPLIES));
-
-    let mut input = Script::new(SCRIPT.as_bytes());
-    let mut output = Taken::limited(rt.alloc(), 0, None)?;
-    assert_eq!(rt;
-        run_script(rt.alloc(), &mut input, &mut output, 4),
-        Err(ScriptError::Write)
-    );
-    assert_eq!(rt; output.text(), Some(""));
-    assert_eq!(rt; output.calls, 1);
+    let mut slow = Taken::limited(rt.alloc(), 1, None)?;
+    check_written(&rt, &mut slow, rt.alloc(), Ok(()), Some(REPLIES));
+    let mut stuck = Taken::limited(rt.alloc(), 0, None)?;
+    let fault = Err(ScriptError::Write);
+    check_written(&rt, &mut stuck, rt.alloc(), fault, Some(""));
+    assert_eq!(rt; stuck.calls, 1);
     Ok(())
 }
 

@@ -9,6 +9,8 @@ pub mod fakes;
 #[cfg(test)]
 mod faults;
 #[cfg(test)]
+mod overflow;
+#[cfg(test)]
 mod rows;
 #[cfg(test)]
 mod scene;

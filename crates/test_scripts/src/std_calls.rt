@@ -1,7 +1,9 @@
 //! Readers and writers of std: an interrupted call is made again, and a failed one isn't.
 
 use scripts::{ScriptError, Std, run_script};
+use std::alloc::Global;
 use std::io::{self, ErrorKind, Read, Write};
+use std::process::Abort;
 
 /// Fails at its first call, and counts its calls.
 #[derive(Drop)]
@@ -60,17 +62,38 @@ const ROWS: [(
     ),
 ];
 
+/// An empty script from a reader whose first call fails so.
+fn check_reader(
+    rt: &impl Abort,
+    alloc: Global,
+    kind: ErrorKind,
+    calls: usize,
+    answer: Result<(), ScriptError>,
+) {
+    let mut reader = Std::new(Flaky::new(kind));
+    let mut output = Std::new(Vec::<u8>::new(alloc));
+    assert_eq!(rt; run_script(alloc, &mut reader, &mut output, 4), answer);
+    assert_eq!(rt; reader.inner.calls, calls);
+}
+
+/// A script of one line into a writer whose first call fails so.
+fn check_writer(
+    rt: &impl Abort,
+    alloc: Global,
+    kind: ErrorKind,
+    calls: usize,
+    answer: Result<(), ScriptError>,
+) {
+    let mut input = Std::new("attach\n".as_bytes());
+    let mut writer = Std::new(Flaky::new(kind));
+    assert_eq!(rt; run_script(alloc, &mut input, &mut writer, 4), answer);
+    assert_eq!(rt; writer.inner.calls, calls);
+}
+
 #[test]
 fn only_interrupted_calls_are_made_again(rt: HostRuntime) {
     for (kind, calls, read, written) in ROWS {
-        let mut reader = Std::new(Flaky::new(kind));
-        let mut output = Std::new(Vec::<u8>::new(rt.alloc()));
-        assert_eq!(rt; run_script(rt.alloc(), &mut reader, &mut output, 4), read);
-        assert_eq!(rt; reader.inner.calls, calls);
-
-        let mut input = Std::new("attach\n".as_bytes());
-        let mut writer = Std::new(Flaky::new(kind));
-        assert_eq!(rt; run_script(rt.alloc(), &mut input, &mut writer, 4), written);
-        assert_eq!(rt; writer.inner.calls, calls);
+        check_reader(&rt, rt.alloc(), kind, calls, read);
+        check_writer(&rt, rt.alloc(), kind, calls, written);
     }
 }

@@ -14,6 +14,7 @@ returns c = (
     },
     refl,
     refl,
+    c.in_ok-objects.ensures.1.0,
   ),
 )
 

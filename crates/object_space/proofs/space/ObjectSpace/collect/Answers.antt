@@ -5,4 +5,4 @@ pub returns-clause-forgets : goal.returns-clause-forgets
 returns-clause-forgets c = sweeps_unreached _ _ _ _ _ _ _ c.finish-count.ensures.forgets c.sweep_all.ensures.sweeps
 
 pub returns-clause-objects : goal.returns-clause-objects
-returns-clause-objects c = objects_swept _ _ _ c.sweep_all.ensures.sweeps c.finish-count.ensures.objects
+returns-clause-objects c = objects_swept _ _ c.finish-count.new.marker c.sweep_all.ensures.sweeps c.finish-count.ensures.objects

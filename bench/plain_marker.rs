@@ -1,0 +1,153 @@
+//! A marker in plain Rust, as programs of this folder measure it: the same data and calls as the proved one.
+use crate::plain_map::{Found, Kind, Page, START, find, next_on_page};
+
+const ENTRIES: usize = 256;
+
+pub fn is_set(row: &[u64], i: usize) -> bool {
+    (row[i / 64] >> (i % 64)) & 1 == 1
+}
+
+pub fn set(row: &mut [u64], i: usize) {
+    row[i / 64] |= 1 << (i % 64);
+}
+
+pub fn granule(address: u64) -> usize {
+    ((address - START) / 16) as usize
+}
+
+pub struct Marker {
+    pub marks: Vec<u64>,
+    pub dirty: Vec<u64>,
+    current: Option<(u64, u32)>,
+    stack: [(u64, u32); ENTRIES],
+    len: usize,
+}
+
+impl Marker {
+    pub fn new(pages: usize) -> Marker {
+        Marker {
+            marks: vec![0; 4 * pages],
+            dirty: vec![0; pages / 64 + 1],
+            current: None,
+            stack: [(0, 0); ENTRIES],
+            len: 0,
+        }
+    }
+
+    pub fn begin(&mut self) {
+        self.marks.fill(0);
+        self.dirty.fill(0);
+        self.current = None;
+        self.len = 0;
+    }
+
+    #[inline]
+    fn mark_word(&mut self, map: &[Page], heap_bytes: u64, word: u64) {
+        if word.wrapping_sub(START) < heap_bytes {
+            self.mark_target(map, word);
+        }
+    }
+
+    fn mark_target(&mut self, map: &[Page], word: u64) {
+        let Some(found) = find(map, word) else {
+            return;
+        };
+        let granule = granule(found.base);
+        if is_set(&self.marks, granule) {
+            return;
+        }
+        set(&mut self.marks, granule);
+        if found.kind == Kind::PointerFree {
+            return;
+        }
+        if self.len == ENTRIES {
+            let first = (found.base - START) / 4_096;
+            let last = (found.base + 8 * u64::from(found.len) - 1 - START) / 4_096;
+            for page in first..=last {
+                set(&mut self.dirty, page as usize);
+            }
+        } else {
+            self.stack[self.len] = (found.base, 0);
+            self.len += 1;
+        }
+    }
+
+    fn mark_words(&mut self, map: &[Page], heap_bytes: u64, memory: &[u64], base: u64, first: u32, count: u64) {
+        let start = ((base - START) / 8) as usize + first as usize;
+        for word in &memory[start..start + count as usize] {
+            self.mark_word(map, heap_bytes, *word);
+        }
+    }
+
+    fn live(&self, map: &[Page]) -> Option<(Found, u32)> {
+        let (base, next) = self.current?;
+        let found = find(map, base)?;
+        let is_live = found.base == base
+            && found.kind == Kind::Normal
+            && next < found.len
+            && is_set(&self.marks, granule(base));
+        is_live.then_some((found, next))
+    }
+
+    fn settle(&mut self, map: &[Page]) -> Option<(Found, u32)> {
+        loop {
+            if let Some(live) = self.live(map) {
+                return Some(live);
+            }
+            self.current = None;
+            if self.len == 0 {
+                return None;
+            }
+            self.len -= 1;
+            self.current = Some(self.stack[self.len]);
+        }
+    }
+
+    fn step(&mut self, map: &[Page], memory: &[u64], budget: u64) -> u64 {
+        let heap_bytes = 4_096 * map.len() as u64;
+        let mut read = 0;
+        while let Some((found, next)) = self.settle(map) {
+            if read == budget {
+                return read;
+            }
+            let count = u64::from(found.len - next).min(budget - read);
+            self.mark_words(map, heap_bytes, memory, found.base, next, count);
+            self.current = Some((found.base, next + count as u32));
+            read += count;
+        }
+        read
+    }
+
+    fn retrace(&mut self, map: &[Page], memory: &[u64]) -> Option<u32> {
+        let word = self.dirty.iter().position(|word| *word != 0)?;
+        let page = 64 * word as u32 + self.dirty[word].trailing_zeros();
+        self.dirty[word] &= self.dirty[word] - 1;
+        let heap_bytes = 4_096 * map.len() as u64;
+        let mut address = START + 4_096 * u64::from(page);
+        let end = address + 4_096;
+        while let Some(found) = next_on_page(map, page, address) {
+            let stop = (found.base + 8 * u64::from(found.len)).min(end);
+            if found.kind == Kind::Normal && is_set(&self.marks, granule(found.base)) {
+                let first = address.saturating_sub(found.base) / 8;
+                let count = (stop - found.base) / 8 - first;
+                self.mark_words(map, heap_bytes, memory, found.base, first as u32, count);
+            }
+            address = stop;
+        }
+        Some(page)
+    }
+
+    pub fn mark(&mut self, map: &[Page], memory: &[u64], roots: &[u64]) -> u64 {
+        let heap_bytes = 4_096 * map.len() as u64;
+        for word in roots {
+            self.mark_word(map, heap_bytes, *word);
+        }
+        let mut read = 0;
+        loop {
+            read += self.step(map, memory, u64::MAX);
+            if self.retrace(map, memory).is_none() {
+                return read;
+            }
+        }
+    }
+}
