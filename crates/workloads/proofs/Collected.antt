@@ -6,6 +6,7 @@ use Rattle.words.specs.declared.refusal.Refusal.{Refusal}
 use Rattle.words.specs.declared.refusal.Refusal.TheVariants.{WrongPhase}
 use Rattle.history.specs.declared.object.TheConstants.{COLLECTOR}
 use Rattle.history.specs.Histories.{event, own, count}
+use Rattle.history.proofs.Growing.{prefix_of}
 use Rattle.history.proofs.Fronts.{prefix_self, prefix_trans, prefix_more}
 use Rattle.heap_spec.specs.declared.event.Event.{Event}
 use Rattle.heap_spec.specs.declared.event.Event.TheVariants.{Begin, Roots, Mark, Retrace, Finish, Sweep, Collect, Number}
@@ -27,7 +28,7 @@ use Rattle.workloads.proofs.Counted.{count_is}
 
 pub extends_seen : (pages : ℕ) (old new : HeapPass) (asked : Event) (reply : Reply) → Extends pages old asked reply new → IsPrefix old.seen new.seen
 extends_seen pages old new asked reply x =
-    subst (λ (l : List Entry). IsPrefix old.seen l) (sym x.seen.1) (prefix_more old.seen (old.seen ++ x.seen.0) (event old.slot asked reply ∷ []) (x.seen.0, refl))
+    subst (λ (l : List Entry). IsPrefix old.seen l) (sym x.seen) (prefix_more old.seen (old.seen ++ x.between) (event old.slot asked reply ∷ []) (x.between, refl))
 
 -- a command that is an event
 pub made : (pages : ℕ) (old new : HeapPass) (asked : Event) (reply : Reply) → old.slot ≡ COLLECTOR → is_event asked reply ≡ true → Extends pages old asked reply new → Commanded pages old asked reply new
@@ -58,7 +59,7 @@ module _ (pages : ℕ) (old new : HeapPass) (slot : old.slot ≡ COLLECTOR) (loo
   pub looked : (asked : Event) (reply : Reply) → is_event asked reply ≡ false → LineOf Touched (fresh state.pages) state.run asked reply state.run → Commanded pages old asked reply new
   looked asked reply quiet allowed = record {
     slot = looks.slot;
-    seen = looks.seen;
+    seen = prefix_of old.slot old.seen new.seen looks.seen;
     mine = looks.mine ∙ sym (append-nil old.mine) ∙ ap (λ (b : Bool). old.mine ++ (if b then event COLLECTOR asked reply ∷ [] else [])) (sym quiet);
     answered = λ _. record { place = new.seen; within = prefix_self new.seen; between = own_is; state = state; reached = looks.fine.legal.1; allowed = allowed };
   }

@@ -8,6 +8,7 @@ use Rattle.heap_spec.specs.declared.reply.Reply.TheVariants.{Slot}
 use Rattle.heap_history.specs.Ranks.{rank_of}
 use Rattle.heap_history.specs.Passes.{Entry, HeapPass, IsFine}
 use Rattle.heap_history.specs.Headline.{Looks}
+use Rattle.history.proofs.Growing.{prefix_of}
 use Rattle.each_law.specs.Jobs.{HaveRun}
 use Rattle.workloads.specs.Workloads.{ActorLines}
 use Rattle.workloads.specs.Printing.{ActorReplies}
@@ -59,7 +60,7 @@ module _ {J R : Type 0} (pages : ℕ) (lists : ActorLines) (a b c : List (Mutato
       let o : w.mine ≡ own rank_of 16 w.seen = fine.owned.own_is ∙ ap (λ (s : ℕ). own rank_of s w.seen) now in
       let mine : w.mine ≡ left_by_all lists.collector replies.collector = keeps.mine ∙ (looks.mine ∙ (commanded.mine ∙ ap (λ (l : List Entry). l ++ left_by_all lists.collector replies.collector) none)) in record {
         events = sym o ∙ mine;
-        answers = answered_longer pages v.seen w.seen [] lists.collector replies.collector grows (answered_longer pages u.seen v.seen [] lists.collector replies.collector looks.seen (subst (λ (l : List Entry). AreAnswered pages u.seen l lists.collector replies.collector) none commanded.answered));
+        answers = answered_longer pages v.seen w.seen [] lists.collector replies.collector grows (answered_longer pages u.seen v.seen [] lists.collector replies.collector (prefix_of u.slot u.seen v.seen looks.seen) (subst (λ (l : List Entry). AreAnswered pages u.seen l lists.collector replies.collector) none commanded.answered));
       }
 
   pub one_history : HaveOneHistory pages lists replies
