@@ -3,7 +3,6 @@
 use crate::runs::run;
 use final_pause::Open;
 use std::alloc::{AllocError, Global};
-use std::fmt::Write;
 use std::process::Abort;
 use std::sync::Wait;
 use std::test::Fail;
@@ -21,7 +20,7 @@ const PAGES: u32 = 8;
 const CYCLE: &str = "gc begin\ngc roots\ngc mark 8\ngc retrace\ngc finish\n";
 
 /// The lines of a mutator, and its replies behind them.
-fn put_mutator(lines: &mut String, replies: &mut String, slot: u32) -> Result<(), Fail> {
+fn put_mutator(lines: &mut String, replies: &mut String, slot: u32) -> Result<(), AllocError> {
     write!(lines, "{slot} alloc 1 2 normal\n")?;
     write!(replies, "mutator {slot}\nok\n")?;
     for number in 1..NUMBERS + 1 {
@@ -34,7 +33,7 @@ fn put_mutator(lines: &mut String, replies: &mut String, slot: u32) -> Result<()
     Ok(())
 }
 
-fn put_all(lines: &mut String, replies: &mut String) -> Result<(), Fail> {
+fn put_all(lines: &mut String, replies: &mut String) -> Result<(), AllocError> {
     for _ in 0..MUTATORS {
         lines.push_str("attach\n")?;
     }
