@@ -108,6 +108,8 @@ usage_comes_first() {
     call
     is "no words: status" 2 "$status"
     has "no words: run" "mpheap run --pages N [FILE]" "$err"
+    has "no words: threads" "mpheap threads --pages N [--helpers H] FILE" "$err"
+    has "no words: stress" "mpheap stress --seed S --mutators M --steps K" "$err"
     has "no words: build" "mpheap build" "$err"
     has "no words: where the README is" "$tree/README.md" "$err"
     is "no words: nothing is built" "" "$(calls)"
@@ -133,6 +135,14 @@ words_stay_as_they_are() {
     call run --pages 4 -- first.script
     is "FILE behind --" "$(lines run --pages 4 -- /dev/stdin)" "$(words)"
     is "FILE behind --: its text" attach "$(input)"
+    call threads --helpers 4 --pages 4 first.script
+    is "a workload's FILE behind two options" "$(lines threads --helpers 4 --pages 4 /dev/stdin)" "$(words)"
+    is "a workload's text" attach "$(input)"
+    echo "0 get 1" | "$wrapper" threads --pages 4 >"$room/out" 2>"$room/err"
+    is "a workload without FILE stays as it is" "$(lines threads --pages 4)" "$(words)"
+    is "a workload without FILE reads no input" "" "$(input)"
+    call stress --seed 1 --mutators 2 --steps 4
+    is "a random script has no FILE" "$(lines stress --seed 1 --mutators 2 --steps 4)" "$(words)"
     call walk run 4 </dev/null
     is "words of no row are the program's" "$(lines walk run 4)" "$(words)"
     rm run 4 ./--pages

@@ -1,10 +1,12 @@
-//! The program: a script of commands is read, run over a heap, and answered.
+//! The program: scripts are run over a heap in one thread, workloads on threads, and random ones are written.
 #![tactic(auto)]
 
+mod arguments;
 mod fault;
 mod program;
 #[cfg(test)]
 mod tests;
+
 
 use crate::fault::Fault;
 use crate::program::program;

@@ -7,7 +7,11 @@ use scripts::{Failed, Sink, Source, Std};
 use std::fs;
 use std::process::Abort;
 use std::rt::Files;
+use std::sync::Wait;
 use std::test::Fail;
+use std::thread::Threads;
+
+mod commands;
 
 const SCRIPT: &str = "attach\n0 alloc 1 3 normal\n0 set 2 77\n0 store 1 0 2\n0 load 3 1 0\n";
 
@@ -57,7 +61,7 @@ impl Sink for Broken {
 }
 
 /// Runs the program over an input, and compares all that can be seen.
-fn check<R: Abort + Files + AllocGlobal, I: Source>(
+fn check<R: Abort + Files + AllocGlobal + Threads + Wait + Sync, I: Source>(
     rt: &R,
     words: &[&str],
     input: &mut I,
@@ -140,7 +144,7 @@ fn bad_commands(rt: HostRuntime) {
 }
 
 /// A file in the place of the input, a file that isn't there, and a directory.
-fn check_files<R: Abort + Files + AllocGlobal>(rt: &R, path: &str) {
+fn check_files<R: Abort + Files + AllocGlobal + Threads + Wait + Sync>(rt: &R, path: &str) {
     let rows = [
         (path, REPLIES, "", 0u8),
         ("mpheap_no_such.script", "", "read fault\n", 1),

@@ -5,3 +5,8 @@ pub mod Taking
 pub mod ReadLines
 pub mod CommandLines
 pub mod StressLines
+pub mod Counted
+pub mod Collected
+pub mod Called
+pub mod OneHistories
+pub mod Served

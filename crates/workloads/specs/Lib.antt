@@ -5,3 +5,6 @@ pub mod Printing
 pub mod Draws
 pub mod Stress
 pub mod Laws
+pub mod OneHistory
+pub mod Actors
+pub mod Serving

@@ -1,5 +1,5 @@
 //! A list that grows at its end.
-ghost use Rattle.std.specs.Prelude.{◌≡◌, [], ◌∷◌, ◌++◌, length, OnOk};
+ghost use Rattle.std.specs.Prelude.{◌≡◌, [], ◌∷◌, ◌++◌, length, OnOk, OnErr};
 
 use std::alloc::{AllocError, Global};
 use std::marker::Model;
@@ -28,9 +28,17 @@ impl<T: Drop> Lines<T> {
         }
     }
 
-    /// One line more.
+    /// These lines.
+    pub(crate) fn of(items: Vec<T>) -> Lines<T>
+        ensures { result ≡ items.items }
+    {
+        Lines { items }
+    }
+
+    /// One line more, or as before.
     pub fn push(&mut self, item: T) -> Result<(), AllocError>
-        ensures { OnOk result (self.new ≡ self.old ++ item ∷ []) }
+        ensures more { OnOk result (self.new ≡ self.old ++ item ∷ []) }
+        ensures same { OnErr result (self.new ≡ self.old) }
     {
         self.items.push(item)?;
         Ok(())

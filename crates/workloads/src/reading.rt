@@ -1,6 +1,6 @@
 //! The lines of a workload, one after another.
 ghost use Rattle.std.specs.Prelude.{◌≡◌, ℕ, ◌+◌, List, [], Some};
-ghost use Rattle.scripts.specs.Ends.{read_faults};
+ghost use Rattle.scripts.specs.Ends.{read_faults, write_faults};
 ghost use Rattle.workloads.specs.Taking.{no_lines, answered};
 ghost use Rattle.workloads.specs.Reading.{Reads};
 
@@ -21,6 +21,7 @@ pub fn read_lines<R: Source>(
     requires empty { buffer.old ≡ [] }
     ensures reads { (input : List ℕ) → R.remaining reader.old ≡ Some input → Reads input (R.remaining reader.new) (answered result workload.new) }
     ensures faults { R.faults reader.new ≡ R.faults reader.old + read_faults result }
+    ensures writes_nothing { write_faults result ≡ 0 }
 {
     let mut line = ArrayVec::<u8, LINE_BYTES>::new();
     for number in 1..LAST_LINE {

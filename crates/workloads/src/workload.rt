@@ -1,8 +1,8 @@
 //! Workloads, as they are read line by line.
-ghost use Rattle.std.specs.Prelude.{◌≡◌, ℕ, List, ◌-◌, ◌+◌, ◌<◌, ◌≤◌, [], ◌∷◌, ◌++◌, Some, length, slice_set, slice_index_or, OnOk, MatchBool};
+ghost use Rattle.std.specs.Prelude.{◌≡◌, ◌≢◌, ℕ, List, ◌-◌, ◌+◌, ◌<◌, ◌≤◌, true, [], ◌∷◌, ◌++◌, Some, All, length, slice_set, slice_index_or, OnOk, OnErr, MatchBool};
 ghost use Rattle.scripts.specs.declared.limits.TheConstants.{LINE_BYTES};
-ghost use Rattle.scripts.specs.Ends.{read_faults};
-ghost use Rattle.workloads.specs.Workloads.{MayFollow};
+ghost use Rattle.scripts.specs.Ends.{read_faults, write_faults};
+ghost use Rattle.workloads.specs.Workloads.{MayFollow, is_collectors};
 ghost use Rattle.workloads.specs.Reading.{Reads};
 ghost use Rattle.workloads.specs.Taking.{with_command, no_lines, IsTurn};
 
@@ -22,15 +22,13 @@ pub struct Workload {
 }
 
 impl Model for Workload {
-    ghost use Rattle.std.specs.Prelude.{◌≤◌, length};
-    ghost use Rattle.words.specs.declared.limits.TheConstants.{SLOTS};
-    ghost use Rattle.workloads.specs.Workloads.{ActorLines};
+    ghost use Rattle.workloads.specs.Workloads.{ActorLines, CanBeRun};
 
     ghost Value = { ActorLines };
 
     ghost view = { λ w. record { mutators = w.mutators.items; collector = w.collector } };
 
-    ghost invariant = { λ w. length w.mutators.items ≤ SLOTS };
+    ghost invariant = { λ w. CanBeRun (record { mutators = w.mutators.items; collector = w.collector }) };
 }
 
 /// Puts a call behind those of a mutator.
@@ -38,6 +36,7 @@ fn put(lists: &mut Vec<Lines<Call>>, slot: usize, call: Call) -> Result<(), Allo
     requires { slot < length lists.old.items }
     ensures count { length lists.new.items ≡ length lists.old.items }
     ensures put { OnOk result (lists.new.items ≡ slice_set lists.old.items slot (slice_index_or lists.old.items slot [] ++ call ∷ [])) }
+    ensures same { OnErr result (lists.new.items ≡ lists.old.items) }
 {
     lists[slot].push(call)
 }
@@ -65,6 +64,23 @@ impl Workload {
         ensures slots { result ≤ SLOTS }
     {
         self.mutators.len()
+    }
+
+    /// The calls of the mutator of this number, which are no detach.
+    pub fn calls(&self, mutator: usize) -> &[Call]
+        requires { mutator < length self.now.mutators }
+        ensures value { result.now ≡ slice_index_or self.now.mutators mutator [] }
+        ensures plain { All (λ call. call ≢ Call.Detach) result.now }
+    {
+        self.mutators[mutator].as_slice()
+    }
+
+    /// The collector's commands.
+    pub fn commands(&self) -> &[Event]
+        ensures value { result.now ≡ self.now.collector }
+        ensures own { All (λ command. is_collectors command ≡ true) result.now }
+    {
+        self.collector.as_slice()
     }
 
     /// Whether a command breaks no rule behind so many lines.
@@ -101,7 +117,8 @@ impl Workload {
     ) -> Result<(), ScriptError>
         requires number { 1 ≤ number }
         requires short { length line.now ≤ LINE_BYTES }
-        ensures { IsTurn number line.now self.old self.new result }
+        ensures turn { IsTurn number line.now self.old self.new result }
+        ensures writes_nothing { write_faults result ≡ 0 }
     {
         let Some(command) = command(line) else {
             return Err(ScriptError::BadLine(number));
@@ -119,6 +136,7 @@ impl Workload {
     pub fn read<R: Source>(alloc: Global, reader: &mut R) -> Result<Workload, ScriptError>
         ensures reads { (input : List ℕ) → R.remaining reader.old ≡ Some input → Reads input (R.remaining reader.new) result }
         ensures faults { R.faults reader.new ≡ R.faults reader.old + read_faults result }
+        ensures writes_nothing { write_faults result ≡ 0 }
     {
         let Ok(mut buffer) = InputBuffer::new(alloc) else {
             return Err(ScriptError::Memory);

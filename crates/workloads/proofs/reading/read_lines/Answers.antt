@@ -32,21 +32,21 @@ returns-in-Last-clause-reads g c input tells =
     last_reads c.loop-number.number c.loop-number.workload input c.args.buffer.now c.loop-number.buffer c.next_line.new.buffer c.next_line.new.line.items
     (g.R.Source.remaining c.args.reader.now) (g.R.Source.remaining c.loop-number.reader) (g.R.Source.remaining c.next_line.new.source) c.requires.empty tells c.loop-number.invariant.read c.in-Ok.ensures.plain
     c.take_line.new.self c.take_line.result c.loop-number-test.true (found_is _ Last _ _ _ c.in-Last.is c.in-Ok.ensures.ok)
-    (turn_is c.loop-number.number c.as_slice.result.now c.next_line.new.line.items c.loop-number.workload c.take_line.new.self c.take_line.result c.as_slice.ensures.value c.take_line.ensures)
+    (turn_is c.loop-number.number c.as_slice.result.now c.next_line.new.line.items c.loop-number.workload c.take_line.new.self c.take_line.result c.as_slice.ensures.value c.take_line.ensures.turn)
 
 pub returns-in-Err-take_line-clause-reads : goal.returns-in-Err-take_line-clause-reads
 returns-in-Err-take_line-clause-reads g c input tells =
     line_fails c.loop-number.number c.loop-number.workload input c.args.buffer.now c.loop-number.buffer c.next_line.new.buffer c.next_line.new.line.items
     (g.R.Source.remaining c.args.reader.now) (g.R.Source.remaining c.loop-number.reader) (g.R.Source.remaining c.next_line.new.source) c.requires.empty tells c.loop-number.invariant.read c.in-Ok.ensures.plain
     c.take_line-in-loop-number.new.self c.in-Err-take_line.fault c.loop-number-test.true (found_is _ Line _ _ _ c.in-Line.is c.in-Ok.ensures.ok)
-    (turn_is c.loop-number.number c.as_slice-in-loop-number.result.now c.next_line.new.line.items c.loop-number.workload c.take_line-in-loop-number.new.self (Err c.in-Err-take_line.fault) c.as_slice-in-loop-number.ensures.value c.in-Err-take_line.ensures)
+    (turn_is c.loop-number.number c.as_slice-in-loop-number.result.now c.next_line.new.line.items c.loop-number.workload c.take_line-in-loop-number.new.self (Err c.in-Err-take_line.fault) c.as_slice-in-loop-number.ensures.value c.in-Err-take_line.ensures.turn)
 
 pub loop-number-preserved : goal.loop-number-preserved
 loop-number-preserved g c = record {
   read = line_taken c.loop-number.number c.loop-number.workload c.args.buffer.now c.loop-number.buffer c.next_line.new.buffer c.next_line.new.line.items
       (g.R.Source.remaining c.args.reader.now) (g.R.Source.remaining c.loop-number.reader) (g.R.Source.remaining c.next_line.new.source) c.loop-number.invariant.read c.in-Ok.ensures.plain
       c.take_line-in-loop-number.new.self c.in-Ok-take_line.field-0 c.loop-number-test.true (found_is _ Line _ _ _ c.in-Line.is c.in-Ok.ensures.ok)
-      (turn_is c.loop-number.number c.as_slice-in-loop-number.result.now c.next_line.new.line.items c.loop-number.workload c.take_line-in-loop-number.new.self (Ok c.in-Ok-take_line.field-0) c.as_slice-in-loop-number.ensures.value c.in-Ok-take_line.ensures);
+      (turn_is c.loop-number.number c.as_slice-in-loop-number.result.now c.next_line.new.line.items c.loop-number.workload c.take_line-in-loop-number.new.self (Ok c.in-Ok-take_line.field-0) c.as_slice-in-loop-number.ensures.value c.in-Ok-take_line.ensures.turn);
   faults = c.in-Ok.ensures.none ∙ c.loop-number.invariant.faults;
 }
 

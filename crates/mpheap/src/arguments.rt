@@ -1,0 +1,95 @@
+//! The words of the command line: which there may be, and the numbers among them.
+ghost use Rattle.std.specs.Prelude.{◌≤◌, IfOk};
+ghost use Rattle.words.specs.declared.limits.TheConstants.{MAX_PAGES};
+
+use crate::fault::Fault;
+use clap::error::ErrorKind;
+use clap::{Arg, ArgMatches, Command, Error};
+use final_pause::Helpers;
+use scripts::number;
+use std::alloc::{AllocError, Global};
+use words::limits::{MAX_HELPERS, MAX_PAGES};
+
+/// An option with a value.
+fn option<'a>(alloc: Global, name: &'a str) -> Arg<'a> {
+    Arg::new(alloc, name).long(name)
+}
+
+/// What the command line may be: one subcommand for each row, and no help or version form.
+pub fn command_line<'a>(alloc: Global) -> Result<Command<'a>, AllocError> {
+    let run = Command::new(alloc, "run")
+        .disable_help_flag(true)
+        .arg(option(alloc, "pages").required(true))?
+        .arg(Arg::new(alloc, "file"))?;
+    let threads = Command::new(alloc, "threads")
+        .disable_help_flag(true)
+        .arg(option(alloc, "pages").required(true))?
+        .arg(option(alloc, "helpers"))?
+        .arg(Arg::new(alloc, "file").required(true))?;
+    let stress = Command::new(alloc, "stress")
+        .disable_help_flag(true)
+        .arg(option(alloc, "seed").required(true))?
+        .arg(option(alloc, "mutators").required(true))?
+        .arg(option(alloc, "steps").required(true))?;
+    Command::new(alloc, "mpheap")
+        .no_binary_name(true)
+        .disable_help_flag(true)
+        .disable_version_flag(true)
+        .disable_help_subcommand(true)
+        .subcommand_required(true)
+        .subcommand(run)?
+        .subcommand(threads)?
+        .subcommand(stress)
+}
+
+/// A refused parse is no row of the table, except out of memory.
+pub fn refused(error: &Error) -> Fault {
+    if error.kind() == ErrorKind::OutOfMemory {
+        Fault::Memory
+    } else {
+        Fault::BadCommand
+    }
+}
+
+/// The number that an option is given, which has to lie in this range.
+pub fn number_given(
+    given: &ArgMatches<'_>,
+    option: &str,
+    least: u64,
+    most: u64,
+) -> Result<u64, Fault>
+    ensures least { IfOk result (λ n. least ≤ n) }
+    ensures most { IfOk result (λ n. n ≤ most) }
+{
+    let Some(text) = given.get_str(option) else {
+        return Err(Fault::BadCommand);
+    };
+    let Some(n) = number(text.as_bytes()) else {
+        return Err(Fault::BadCommand);
+    };
+    if n < least || n > most {
+        return Err(Fault::BadCommand);
+    }
+    Ok(n)
+}
+
+/// The number of pages that a heap is to have.
+pub fn pages_given(given: &ArgMatches<'_>) -> Result<u32, Fault>
+    ensures some { IfOk result (λ pages. 1 ≤ pages) }
+    ensures most { IfOk result (λ pages. pages ≤ MAX_PAGES) }
+{
+    let pages = number_given(given, "pages", 1, u64::from(MAX_PAGES))?;
+    Ok(pages as u32)
+}
+
+/// The number of helpers of a pause: one where none is given.
+pub fn helpers_given(given: &ArgMatches<'_>) -> Result<Helpers, Fault> {
+    let number = match given.get_str("helpers") {
+        Some(_) => number_given(given, "helpers", 1, u64::from(MAX_HELPERS))?,
+        None => 1,
+    };
+    let Some(helpers) = Helpers::new(number as u8) else {
+        return Err(Fault::BadCommand);
+    };
+    Ok(helpers)
+}

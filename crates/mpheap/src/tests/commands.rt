@@ -1,0 +1,81 @@
+//! Workloads on threads, and random scripts.
+
+use super::{Broken, check};
+use std::fs;
+use std::process::Abort;
+use std::rt::Files;
+use std::sync::Wait;
+use std::test::Fail;
+use std::thread::Threads;
+
+const WORKLOAD: &str = "attach\nattach\n0 set 1 5\n1 get 1\ngc no\n0 get 1\n";
+
+const REPLIES: &str = "mutator 0\nok\n5\nmutator 1\n0\ncollector\n0\n";
+
+/// A workload in a file, with helpers and without, a bad line in its place, and a file that isn't there.
+fn check_workloads<R: Abort + Files + AllocGlobal + Threads + Wait + Sync>(
+    rt: &R,
+    path: &str,
+    bad: &str,
+) {
+    let rows: [(&[&str], &str, &str, u8); 5] = [
+        (&["threads", "--pages", "4", path], REPLIES, "", 0),
+        (
+            &["threads", "--pages", "4", "--helpers", "8", path],
+            REPLIES,
+            "",
+            0,
+        ),
+        (&["threads", "--pages", "4", bad], "", "bad line 3\n", 2),
+        (
+            &["threads", "--pages", "4", "mpheap_no_such.script"],
+            "",
+            "read fault\n",
+            1,
+        ),
+        (
+            &["threads", "--pages", "4", "--helpers", "9", path],
+            "",
+            "bad command\n",
+            2,
+        ),
+    ];
+    for (words, replies, fault, status) in rows {
+        check(rt, words, &mut Broken::new(), (replies, fault, status));
+    }
+}
+
+#[test]
+fn workloads_run_on_threads(rt: HostRuntime) -> Result<(), Fail> {
+    let (path, bad) = ("mpheap_workload.script", "mpheap_bad_workload.script");
+    fs::write(&rt, path, WORKLOAD)?;
+    fs::write(&rt, bad, "attach\ngc no\nattach\n")?;
+    check_workloads(&rt, path, bad);
+    fs::remove_file(&rt, path)?;
+    fs::remove_file(&rt, bad)?;
+    Ok(())
+}
+
+#[test]
+fn a_random_script_is_written(rt: HostRuntime) {
+    let words = ["stress", "--seed", "1", "--mutators", "2", "--steps", "0"];
+    check(&rt, &words, &mut Broken::new(), ("attach\nattach\n", "", 0));
+}
+
+/// Words that are of no row of the table, and no file is read.
+#[test]
+fn bad_commands(rt: HostRuntime) {
+    let commands: [&[&str]; 8] = [
+        &["threads"],
+        &["threads", "--pages", "4"],
+        &["threads", "file"],
+        &["threads", "--pages", "0", "file"],
+        &["threads", "--pages", "4", "--helpers", "0", "file"],
+        &["stress", "--seed", "1", "--mutators", "2"],
+        &["stress", "--seed", "1", "--mutators", "17", "--steps", "0"],
+        &["stress", "--seed", "1", "--mutators", "1", "--steps", "100001"],
+    ];
+    for words in commands {
+        check(&rt, words, &mut Broken::new(), ("", "bad command\n", 2));
+    }
+}

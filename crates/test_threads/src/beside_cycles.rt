@@ -1,0 +1,70 @@
+//! Four mutators beside constant cycles: each stores and loads its own numbers, and every load answers what was stored.
+
+use crate::runs::run;
+use final_pause::Open;
+use std::alloc::{AllocError, Global};
+use std::process::Abort;
+use std::sync::Wait;
+use std::test::Fail;
+use std::thread::Threads;
+use test_scripts::fakes::Taken;
+
+const MUTATORS: u32 = 4;
+
+const NUMBERS: u32 = 1_000;
+
+const CYCLES: u32 = 100;
+
+const PAGES: u32 = 8;
+
+const CYCLE: &str = "gc begin\ngc roots\ngc mark 8\ngc retrace\ngc finish\n";
+
+/// The lines of a mutator, and its replies behind them.
+fn put_mutator(lines: &mut String, replies: &mut String, slot: u32) -> Result<(), AllocError> {
+    write!(lines, "{slot} alloc 1 2 normal\n")?;
+    write!(replies, "mutator {slot}\nok\n")?;
+    for number in 1..NUMBERS + 1 {
+        write!(
+            lines,
+            "{slot} set 2 {number}\n{slot} store 1 0 2\n{slot} load 3 1 0\n"
+        )?;
+        write!(replies, "ok\nok\n{number}\n")?;
+    }
+    Ok(())
+}
+
+fn put_all(lines: &mut String, replies: &mut String) -> Result<(), AllocError> {
+    for _ in 0..MUTATORS {
+        lines.push_str("attach\n")?;
+    }
+    for slot in 0..MUTATORS {
+        put_mutator(lines, replies, slot)?;
+    }
+    for _ in 0..CYCLES {
+        lines.push_str(CYCLE)?;
+    }
+    replies.push_str("collector\n")?;
+    Ok(())
+}
+
+fn check<R: Threads + Wait + Abort + Sync>(
+    rt: &R,
+    alloc: Global,
+    texts: (&str, &str),
+    output: &mut Taken,
+) {
+    let answer = run(rt, alloc, texts.0.as_bytes(), PAGES, &Open, output);
+    assert_eq!(rt; answer, Ok(()));
+    let text = output.text().unwrap_or("");
+    assert!(rt; text.starts_with(texts.1));
+}
+
+#[test]
+fn every_load_answers_its_store(rt: HostRuntime) -> Result<(), Fail> {
+    let mut output = Taken::new(rt.alloc())?;
+    let mut lines = String::new(rt.alloc());
+    let mut replies = String::new(rt.alloc());
+    put_all(&mut lines, &mut replies)?;
+    check(&rt, rt.alloc(), (lines.as_str(), replies.as_str()), &mut output);
+    Ok(())
+}

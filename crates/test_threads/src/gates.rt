@@ -1,0 +1,85 @@
+//! Gates that hold actors back until others have come, for a bounded time.
+
+use final_pause::Gate;
+use std::sync::atomic::{AtomicU64, Ordering};
+use std::thread;
+
+/// How often an actor looks for the others before it gives up.
+const TURNS: u64 = 10_000_000;
+
+/// Waits until as many have come as are awaited, or notes that it gave up.
+fn await_all(there: &AtomicU64, awaited: u64, missed: &AtomicU64) {
+    for _ in 0..TURNS {
+        if there.load(Ordering::SeqCst) >= awaited {
+            return;
+        }
+        thread::yield_now();
+    }
+    missed.fetch_add(1, Ordering::SeqCst);
+}
+
+/// All actors meet before their first call: nobody alone gets past it.
+#[derive(Drop)]
+pub struct Meeting {
+    pub actors: u64,
+    pub there: AtomicU64,
+    pub missed: AtomicU64,
+}
+
+impl Meeting {
+    pub fn new(actors: u64) -> Meeting {
+        Meeting {
+            actors,
+            there: AtomicU64::new(0),
+            missed: AtomicU64::new(0),
+        }
+    }
+}
+
+impl Gate for Meeting {
+    fn before(&self, _actor: u8, call: u32) {
+        if call == 0 {
+            self.there.fetch_add(1, Ordering::SeqCst);
+            await_all(&self.there, self.actors, &self.missed);
+        }
+    }
+
+    fn after(&self, _actor: u8, _call: u32) {}
+}
+
+/// Mutators 0 and 1 meet before their first calls, and mutator 1 makes its second one after that of mutator 0.
+#[derive(Drop)]
+pub struct TwoThreads {
+    pub there: AtomicU64,
+    pub put: AtomicU64,
+    pub missed: AtomicU64,
+}
+
+impl TwoThreads {
+    pub fn new() -> TwoThreads {
+        TwoThreads {
+            there: AtomicU64::new(0),
+            put: AtomicU64::new(0),
+            missed: AtomicU64::new(0),
+        }
+    }
+}
+
+impl Gate for TwoThreads {
+    fn before(&self, actor: u8, call: u32) {
+        match (actor, call) {
+            (_, 0) => {
+                self.there.fetch_add(1, Ordering::SeqCst);
+                await_all(&self.there, 2, &self.missed);
+            }
+            (1, 1) => await_all(&self.put, 1, &self.missed),
+            _ => {}
+        }
+    }
+
+    fn after(&self, actor: u8, call: u32) {
+        if (actor, call) == (0, 1) {
+            self.put.fetch_add(1, Ordering::SeqCst);
+        }
+    }
+}

@@ -1,0 +1,14 @@
+//! Workloads on threads, as their users see them: worked rows under gates that hold actors back, mutators beside constant cycles, and
+//! random workloads.
+#![tactic(auto)]
+
+#[cfg(test)]
+mod beside_cycles;
+#[cfg(test)]
+mod gates;
+#[cfg(test)]
+mod random;
+#[cfg(test)]
+mod rows;
+#[cfg(test)]
+mod runs;

@@ -1,0 +1,92 @@
+-- What a run of a workload on threads is answered: there is one history that explains all replies.
+use Rattle.std.specs.Prelude.{◌≡◌, ℕ, ◌<◌, Bool, true, false, not, if◌then◌else◌, List, [], ◌∷◌, ◌++◌, length, slice_index_or}
+use mathlib.Core.List.{IsPrefix}
+use Rattle.history.specs.declared.object.TheConstants.{COLLECTOR}
+use Rattle.history.specs.Histories.{event, own, Legal, Reaches}
+use Rattle.heap_spec.specs.declared.call.Call.{Call}
+use Rattle.heap_spec.specs.declared.event.Event.{Event}
+use Rattle.heap_spec.specs.declared.event.Event.TheVariants.{Attach, Mutator, Begin, Roots, Mark, Retrace, Finish, Sweep, Collect, Number}
+use Rattle.heap_spec.specs.declared.reply.Reply.{Reply}
+use Rattle.heap_spec.specs.declared.reply.Reply.TheVariants.{Slot, Done, Word, Count, Refused}
+use Rattle.heap_spec.specs.Runs.{Touched, fresh}
+use Rattle.heap_spec.specs.Transcripts.{LineOf}
+use Rattle.heap_spec.specs.SequentialObject.{HeapState, Opens, StateStep}
+use Rattle.heap_history.specs.Ranks.{rank_of}
+use Rattle.heap_history.specs.Passes.{Entry}
+use Rattle.workloads.specs.Workloads.{ActorLines}
+use Rattle.workloads.specs.Printing.{ActorReplies}
+
+-- a mutator's calls with their replies, as events
+abbrev pub events_of : ℕ → List Call → List Reply → List Entry
+events_of slot [] replies = []
+events_of slot (call ∷ calls) [] = []
+events_of slot (call ∷ calls) (reply ∷ replies) = event slot (Mutator slot call) reply ∷ events_of slot calls replies
+
+-- A mutator's part of a history: its events are its attach and then its calls with these replies, in their order.
+pub record IsMutatorsPart (history : List Entry) (slot : ℕ) (calls : List Call) (replies : List Reply) : Type 0 where
+  pub size : length replies ≡ length calls
+  pub events : own rank_of slot history ≡ event slot Attach (Slot slot) ∷ events_of slot calls replies
+
+-- the reply is a refusal
+abbrev pub is_refusal : Reply → Bool
+is_refusal (Slot k) = false
+is_refusal Done = false
+is_refusal (Word w) = false
+is_refusal (Count n) = false
+is_refusal (Refused why) = true
+
+-- Whether a command of the collector that has this reply is an event: a begin, finish or collect that is granted.
+abbrev pub is_event : Event → Reply → Bool
+is_event Attach reply = false
+is_event (Mutator slot call) reply = false
+is_event Begin reply = not (is_refusal reply)
+is_event Roots reply = false
+is_event (Mark n) reply = false
+is_event Retrace reply = false
+is_event Finish reply = not (is_refusal reply)
+is_event Sweep reply = false
+is_event Collect reply = not (is_refusal reply)
+is_event Number reply = false
+
+-- what a command of the collector with this reply leaves in the history
+abbrev pub left_by : Event → Reply → List Entry
+left_by command reply = if is_event command reply then event COLLECTOR command reply ∷ [] else []
+
+-- and what commands with their replies leave, in their order
+abbrev pub left_by_all : List Event → List Reply → List Entry
+left_by_all [] replies = []
+left_by_all (command ∷ commands) [] = []
+left_by_all (command ∷ commands) (reply ∷ replies) = left_by command reply ++ left_by_all commands replies
+
+-- A command that is no event has a reply that a legal transcript allows at a place of the history: at one where the collector's events
+-- so far are these.
+pub record IsAnsweredAmong (pages : ℕ) (history mine : List Entry) (command : Event) (reply : Reply) : Type 0 where
+  pub place : List Entry
+  pub within : IsPrefix place history
+  pub between : own rank_of COLLECTOR place ≡ mine
+  pub state : HeapState
+  pub reached : Reaches (Opens pages) StateStep place state
+  pub allowed : LineOf Touched (fresh state.pages) state.run command reply state.run
+
+-- Commands have these replies, where the collector's events before them are these: each that is no event is answered between the
+-- collector's events before it and those after it.
+abbrev pub AreAnswered : ℕ → List Entry → List Entry → List Event → List Reply → Type 0
+AreAnswered pages history mine [] [] = Unit {0}
+AreAnswered pages history mine [] (reply ∷ replies) = ⊥
+AreAnswered pages history mine (command ∷ commands) [] = ⊥
+AreAnswered pages history mine (command ∷ commands) (reply ∷ replies) =
+    (is_event command reply ≡ false → IsAnsweredAmong pages history mine command reply) × AreAnswered pages history (mine ++ left_by command reply) commands replies
+
+-- The collector's part of a history: its events are its granted begins, finishes and collects with these replies, in their order, and
+-- its other commands are answered between them.
+pub record IsCollectorsPart (pages : ℕ) (history : List Entry) (commands : List Event) (replies : List Reply) : Type 0 where
+  pub events : own rank_of COLLECTOR history ≡ left_by_all commands replies
+  pub answers : AreAnswered pages history [] commands replies
+
+-- There is one legal history of a heap of so many pages, of which each actor's lines with its replies are its part.
+pub record HaveOneHistory (pages : ℕ) (lists : ActorLines) (replies : ActorReplies) : Type 0 where
+  pub history : List Entry
+  pub legal : Legal (Opens pages) StateStep history
+  pub size : length replies.mutators ≡ length lists.mutators
+  pub mutators : (slot : ℕ) → slot < length lists.mutators → IsMutatorsPart history slot (slice_index_or lists.mutators slot []) (slice_index_or replies.mutators slot [])
+  pub collector : IsCollectorsPart pages history lists.collector replies.collector

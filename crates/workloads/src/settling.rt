@@ -1,0 +1,46 @@
+//! How mutators and the collector come to have seen one history.
+ghost use Rattle.std.specs.Prelude.{◌≡◌};
+ghost use mathlib.Core.List.{IsPrefix};
+ghost use Rattle.heap_history.specs.Passes.{IsFine};
+ghost use Rattle.workloads.specs.Actors.{Keeps, AllSettled};
+
+use crate::mutator_job::MutatorJob;
+use history::Naming;
+use shared::Collector;
+use std::sync::Wait;
+
+/// The job's mutator and the collector have then seen one history.
+fn meet_one<'a, J: Naming, R: Wait>(
+    collector: &mut Collector<J>,
+    job: &mut MutatorJob<'a, J, R>,
+)
+    ensures keeps { Keeps job.old.attached job.new.attached × (job.new.calls ≡ job.old.calls) × (job.new.replies ≡ job.old.replies) }
+    ensures both { job.new.attached.seen ≡ collector.new.seen }
+    ensures collector { Keeps collector.old collector.new }
+    ensures grows { IsPrefix collector.old.seen collector.new.seen }
+    ensures stays { IsPrefix job.old.attached.seen collector.old.seen → collector.new.seen ≡ collector.old.seen }
+    ensures fine { IsFine J.origin job.new.attached }
+    ensures collector_fine { IsFine J.origin collector.new }
+{
+    job.attached.meet(collector);
+}
+
+/// After two rounds of meetings all have seen one history: in the first round the collector learns what each mutator has seen, and in
+/// the second each learns what the collector has.
+pub(crate) fn settle<'a, J: Naming, R: Wait>(
+    collector: &mut Collector<J>,
+    jobs: &mut [MutatorJob<'a, J, R>],
+)
+    requires { IsFine J.origin collector.old }
+    ensures collector { Keeps collector.old collector.new }
+    ensures grows { IsPrefix collector.old.seen collector.new.seen }
+    ensures fine { IsFine J.origin collector.new }
+    ensures settled { AllSettled J.origin collector.new.seen jobs.old jobs.new }
+{
+    for i in 0..jobs.len() {
+        meet_one(collector, &mut jobs[i]);
+    }
+    for k in 0..jobs.len() {
+        meet_one(collector, &mut jobs[k]);
+    }
+}

@@ -1,0 +1,164 @@
+//! A workload on threads: each mutator in a thread of its own, and the collector in one more.
+ghost use Rattle.std.specs.Prelude.{◌≡◌, ◌≤◌, ◌<◌, [], All, IfSome, IfOk, length, vec_len, slice_index_or};
+ghost use Rattle.std.specs.Vec.{vec_capacity};
+ghost use Rattle.words.specs.declared.limits.TheConstants.{MAX_PAGES, SLOTS};
+ghost use Rattle.workloads.specs.Actors.{IsPlain, CanCall, HasCalled, IsAttached, AreAttached, AreReplies, CanCommand, HasCommanded};
+ghost use Rattle.workloads.specs.OneHistory.{HaveOneHistory};
+
+use crate::collector_job::{CollectorJob, GivesCommands, run_collector};
+use crate::errors::RunError;
+use crate::lines::Lines;
+use crate::mutator_job::{Attached, MakesCalls, MutatorJob, run_mutator};
+use crate::replies::Replies;
+use crate::settling::settle;
+use crate::workload::Workload;
+use each_law::run_each_beside;
+use final_pause::{Gate, Helpers};
+use heap_core::Core;
+use heap_spec::{Call, Reply};
+use history::{Naming, Opened};
+use shared::{SharedHeap, open};
+use std::alloc::{AllocError, Global};
+use std::marker::Brand;
+use std::sync::Wait;
+use std::thread::Threads;
+
+/// A mutator comes, which has to get this slot.
+fn attach_one<'a, J: Naming, R: Wait>(
+    rt: &'a R,
+    heap: &'a SharedHeap<J>,
+    slot: usize,
+    calls: &'a [Call],
+    replies: Vec<Reply>,
+) -> Option<MutatorJob<'a, J, R>>
+    requires plain { All IsPlain calls.now }
+    requires room { length replies.items ≡ length calls.now }
+    ensures { IfSome result (λ job. IsAttached J.origin calls.now slot job) }
+{
+    let Ok(me) = heap.attach(rt) else {
+        return None;
+    };
+    let attached = Attached { rt, heap, me };
+    if attached.slot().index() != slot {
+        return None;
+    }
+    Some(MutatorJob {
+        attached,
+        calls,
+        replies,
+    })
+}
+
+/// The workload's mutators come in their order, and memory for their replies is taken.
+fn attach_all<'a, J: Naming, R: Wait>(
+    rt: &'a R,
+    alloc: Global,
+    heap: &'a SharedHeap<J>,
+    workload: &'a Workload,
+) -> Result<Vec<MutatorJob<'a, J, R>>, AllocError>
+    ensures attached { IfOk result (λ jobs. AreAttached J.origin workload.now.mutators jobs.items) }
+    ensures can { IfOk result (λ jobs. All (λ job. CanCall job) jobs.items) }
+{
+    let mut jobs = Vec::with_capacity(alloc, workload.mutators())?;
+    for slot in 0..workload.mutators() {
+        let calls = workload.calls(slot);
+        let replies = vec![in alloc; Reply::Done; calls.len()]?;
+        let Some(job) = attach_one(rt, heap, slot, calls, replies) else {
+            return Err(AllocError);
+        };
+        jobs.push(job)?;
+    }
+    Ok(jobs)
+}
+
+/// Takes the replies, and detaches the mutators.
+fn take_replies<'a, J: Naming, R: Wait>(
+    jobs: Vec<MutatorJob<'a, J, R>>,
+    replies: &mut Vec<Lines<Reply>>,
+)
+    requires none { vec_len replies.old ≡ 0 }
+    requires room { vec_len jobs ≤ vec_capacity replies.old }
+    ensures { AreReplies jobs.entry.items replies.new.items }
+{
+    for job in jobs {
+        let Ok(()) = replies.push(Lines::of(job.into_replies())) else {
+            unreachable!()
+        };
+    }
+}
+
+/// Runs the workload on a heap that has a name. All memory is taken before the first thread starts.
+fn run_named<J: Naming + Send + Sync, R: Threads + Wait + Sync, G: Gate>(
+    rt: &R,
+    alloc: Global,
+    opened: Opened<Core>,
+    workload: &Workload,
+    helpers: Helpers,
+    gate: &G,
+) -> Result<Replies, AllocError>
+    requires table { opened.table ≡ J.table }
+    requires pages { opened.origin ≡ J.origin }
+    ensures { IfOk result (λ replies. HaveOneHistory J.origin workload.now replies) }
+{
+    let (heap, collector) = SharedHeap::<J>::named(opened);
+    let commands = workload.commands();
+    let answers = vec![in alloc; Reply::Done; commands.len()]?;
+    let mut replies = Vec::with_capacity(alloc, workload.mutators())?;
+    let jobs = attach_all(rt, alloc, &heap, workload)?;
+    let work = |job|
+        requires { CanCall job }
+        ensures { HasCalled job.entry result }
+    { run_mutator(gate, job) };
+    let collect = |job|
+        requires { CanCommand job }
+        ensures { HasCommanded J.origin job.entry result }
+    { run_collector(rt, alloc, &heap, helpers, gate, job) };
+    let other = CollectorJob {
+        collector,
+        commands,
+        replies: answers,
+    };
+    let (mut jobs, other) = run_each_beside::<_, _, MakesCalls, _, _, GivesCommands, _>(
+        rt, alloc, &MakesCalls, &work, jobs, &GivesCommands, &collect, other,
+    )?;
+    let CollectorJob {
+        mut collector,
+        commands: _,
+        replies: answers,
+    } = other;
+    // A look, by which the collector's pass is known to agree with what it has seen, also where it gave no command.
+    let _collections = heap.gc_no_of(&mut collector);
+    settle(&mut collector, jobs.as_mut_slice());
+    take_replies(jobs, &mut replies);
+    Ok(Replies::new(replies, Lines::of(answers)))
+}
+
+/// Runs a workload on a heap of its own of so many pages: each mutator makes its calls in a thread of its own, and the collector gives
+/// its commands in one more, each in its order, between two calls of the gate. A cycle ends with so many helpers, each in a thread of its
+/// own for as long as that takes. At the end every mutator is detached.
+///
+/// All memory is taken before the first thread starts, but for what the end of a cycle takes, which goes on without helpers where that is
+/// refused. Where a thread can't be started, those that run go to their end. So a gate that
+/// waits for an actor without a bound waits for good where that actor was refused its thread.
+///
+/// # Errors
+/// [`RunError::Memory`]: memory, a mutator's slot or a thread could not be had.
+pub fn run_threads<R: Threads + Wait + Sync, G: Gate>(
+    rt: &R,
+    alloc: Global,
+    workload: &Workload,
+    pages: u32,
+    helpers: Helpers,
+    gate: &G,
+) -> Result<Replies, RunError>
+    requires some { 1 ≤ pages }
+    requires most { pages ≤ MAX_PAGES }
+    ensures { IfOk result (λ replies. HaveOneHistory pages workload.now replies) }
+{
+    let Ok(opened) = open(alloc, pages) else {
+        return Err(RunError::Memory);
+    };
+    Ok(run_named::<Brand, _, _>(
+        rt, alloc, opened, workload, helpers, gate,
+    )?)
+}
