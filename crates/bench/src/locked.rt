@@ -93,14 +93,24 @@ fn cost<J: Naming + Send + Sync, R: Threads + Wait + Sync + Clock>(
     crew: &mut [Caller<J, R>],
 ) -> io::Result<(u128, u128)> {
     let start = Instant::now(rt)?;
-    thread::for_each_mut(rt, crew, CREW, &|_, caller: &mut Caller<J, R>| {
-        caller.store_often();
-    });
+    thread::for_each_mut(
+        rt,
+        crew,
+        CREW,
+        &|_, caller: &mut Caller<J, R>| {
+            caller.store_often();
+        },
+    );
     let stores = since(rt, start)?;
     let start = Instant::now(rt)?;
-    thread::for_each_mut(rt, crew, CREW, &|_, caller: &mut Caller<J, R>| {
-        caller.load_often();
-    });
+    thread::for_each_mut(
+        rt,
+        crew,
+        CREW,
+        &|_, caller: &mut Caller<J, R>| {
+            caller.load_often();
+        },
+    );
     Ok((stores, since(rt, start)?))
 }
 

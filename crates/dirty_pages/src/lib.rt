@@ -2,8 +2,8 @@
 //! The collector takes the pages out from the least one on.
 #![tactic(auto)]
 
-ghost use Rattle.std.specs.Prelude.{◌≡◌, ◌<◌, ◌≤◌, true, false, length, slice_index_or, slice_set, IfOk, IfSome, MatchOption};
-ghost use Rattle.words.specs.Bits.{IsClear, IsEmptyFrom, IsFirstFrom};
+ghost use Rattle.std.specs.Prelude.{◌≡◌, ℕ, ◌<◌, ◌≤◌, ◌⊎◌, true, false, length, slice_index_or, slice_set, IfOk, IfSome, MatchOption};
+ghost use Rattle.words.specs.Bits.{Has, IsClear, IsEmptyFrom, IsFirstFrom};
 ghost use Rattle.words.specs.declared.limits.TheConstants.{MAX_PAGES};
 
 use std::alloc::{AllocError, Global};
@@ -69,6 +69,17 @@ impl DirtyPages {
         self.row.clear_all();
     }
 
+    /// Puts the pages of another set into this one too.
+    pub fn add(&mut self, more: &DirtyPages)
+        requires { length more.now ≡ length self.old }
+        ensures size { length self.new ≡ length self.old }
+        ensures each { (p : ℕ) → Has self.new p → Has self.old p ⊎ Has more.now p }
+        ensures old { (p : ℕ) → Has self.old p → Has self.new p }
+        ensures more { (p : ℕ) → Has more.now p → Has self.new p }
+    {
+        add_row(&mut self.row, &more.row);
+    }
+
     /// The least page of the set, and `None` exactly where it is empty.
     pub fn first(&self) -> Option<PageNo>
         ensures first { MatchOption result (IsEmptyFrom self.now 0) (λ page. IsFirstFrom self.now 0 page) }
@@ -76,6 +87,23 @@ impl DirtyPages {
     {
         let page = self.row.next(0)?;
         Some(page as PageNo)
+    }
+}
+
+// The members of one row become those of both, found by whole words.
+#[tactic(auto, using(crate::proofs::Adding::adding))]
+fn add_row(row: &mut BitRow, more: &BitRow)
+    requires same { length more.now ≡ length row.old }
+    requires small { length more.now ≤ MAX_PAGES }
+    ensures size { length row.new ≡ length row.old }
+    ensures each { (p : ℕ) → Has row.new p → Has row.old p ⊎ Has more.now p }
+    ensures old { (p : ℕ) → Has row.old p → Has row.new p }
+    ensures more { (p : ℕ) → Has more.now p → Has row.new p }
+{
+    let mut from = 0;
+    while let Some(page) = more.next(from) {
+        row.set(page);
+        from = page + 1;
     }
 }
 

@@ -1,2 +1,6 @@
 pub mod Final
 pub mod Closing
+pub mod Knowing
+pub mod Growing
+pub mod Serving
+pub mod Gathering

@@ -1,0 +1,3 @@
+pub mod Helping
+pub mod Serving
+pub mod Gathering

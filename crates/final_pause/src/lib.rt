@@ -1,15 +1,40 @@
-//! The end of the marking, by one thread: what is marked becomes all that can be reached.
+//! The end of the marking: what is marked becomes all that can be reached.
 //!
 //! The pause reads the roots again, and then marks on until no page is dirty and no entry is left. Where the
 //! dirty-page invariant held before, the marks are afterwards the closure of the marks before and the roots, and no
-//! other. It takes no memory, and reads each dirty page, the words that entries have left and the pages of newly
+//! other.
+//!
+//! # By one thread
+//!
+//! [`close_marks`] takes no memory, and reads each dirty page, the words that entries have left and the pages of newly
 //! marked objects once.
+//!
+//! # With helpers
+//!
+//! [`close_marks_with`] first marks with helpers, each in a thread of its own, and then ends as [`close_marks`].
+//!
+//! **Starting.** The marks are copied into a table of bits. Each helper gets a claimer of it, a stack and a row of dirty
+//! pages. All memory is taken before the first helper starts. Where memory or a thread is refused, those that run are
+//! joined, the table is dropped, and the calling thread marks alone.
+//!
+//! **Sharing.** Root words, entries and dirty pages are shared out by their places, root words first. No helper writes
+//! anything that another reads but the table, by claims.
+//!
+//! **Claiming.** An object is read by the helper whose claim marked it. It waits on that helper's stack, or where the stack
+//! is full, its pages become dirty in that helper's row. So each word of an object that a helper won points into what that
+//! helper knows to be marked, or stands on a page of its row.
+//!
+//! **Joining.** What helpers know, won and made dirty is put together: the table's bits become the marks, the rows the dirty
+//! pages, and no entry is left. The invariant holds then, and the calling thread reads what found no room.
 #![tactic(auto)]
 
+mod crew;
 mod gate;
+mod helper;
 mod helpers;
 mod parallel;
 mod pause;
+mod share;
 
 pub use gate::{COLLECTOR, FIRST_HELPER, Gate, Open};
 pub use helpers::Helpers;

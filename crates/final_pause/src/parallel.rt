@@ -1,34 +1,113 @@
 //! Closing the marks with helpers.
-ghost use Rattle.std.specs.Prelude.{◌≡◌, ℕ, ◌*◌, ◌↔◌, Some, length};
+ghost use Rattle.std.specs.Prelude.{◌≡◌, ℕ, ◌*◌, ◌<◌, ◌≤◌, ◌↔◌, All, IfOk, Some, true, false, length, IfErr};
 ghost use Rattle.words.specs.declared.limits.TheConstants.{PAGE_WORDS};
 ghost use Rattle.block_map.specs.declared.found.Found.{Found};
 ghost use Rattle.block_map.specs.FoundIn.{found_in};
 ghost use Rattle.marker.specs.Marking.{IsMarked, IsDone};
-ghost use Rattle.marker.specs.Invariant.{DirtyPageInvariant};
+ghost use Rattle.marker.specs.Invariant.{DirtyPageInvariant, AreRootsMarked};
 ghost use Rattle.marker.specs.Closure.{Closure};
 ghost use Rattle.marker.specs.Growth.{Traces};
+ghost use Rattle.each_law.specs.Jobs.{HaveRun};
+ghost use Rattle.final_pause.specs.Serving.{IsServing, HasServed};
 
+use crate::crew::{gather, hire};
 use crate::gate::Gate;
+use crate::helper::Helper;
 use crate::helpers::Helpers;
 use crate::pause::close_marks;
+use crate::share::Pause;
 use block_map::BlockMap;
+use dirty_pages::DirtyPages;
+use each_law::{Law, run_each};
 use marker::Marker;
 use pages::{Memory, Reader};
-use std::alloc::Global;
+use std::alloc::{AllocError, Global};
 use std::sync::Wait;
 use std::thread::Threads;
 
-/// Marks on until nothing is left to read, with helpers in threads of their own: the marks become the closure of the marks
-/// before and the roots, as [`close_marks`] leaves them. Where memory or a thread is refused, the calling thread does it alone.
-pub fn close_marks_with<R: Threads + Wait + Sync, G: Gate>(
-    _rt: &R,
-    _alloc: Global,
+impl<'a> Law<Helper> for Pause<'a> {
+    ghost use Rattle.final_pause.specs.Serving.{HasServed};
+
+    ghost does = { λ p old new. HasServed p old.share new };
+}
+
+// All helpers do their shares, each in a thread of its own. The error is that memory or a thread could not be had.
+fn help_each<R: Threads + Wait + Sync, G: Gate>(
+    rt: &R,
+    alloc: Global,
+    pause: Pause,
+    gate: &G,
+    crew: Vec<Helper>,
+) -> Result<Vec<Helper>, AllocError>
+    requires { All (λ h. IsServing pause h) crew.items }
+    ensures { IfOk result (λ v. HaveRun (λ old new. HasServed pause.entry old.share new) crew.items v.items) }
+{
+    let work = |helper: Helper| -> Helper
+        requires { IsServing pause helper }
+        ensures { HasServed pause.entry helper.share result }
+    {
+        let mut helper = helper;
+        pause.help(gate, &mut helper);
+        helper
+    };
+    run_each(rt, alloc, &pause, &work, crew)
+}
+
+// Marks with helpers, each in a thread of its own. The answer is whether it did: without memory or a thread nothing
+// changes.
+fn mark_with_helpers<R: Threads + Wait + Sync, G: Gate>(
+    rt: &R,
+    alloc: Global,
     marker: &mut Marker,
     map: &BlockMap,
     memory: &Memory,
     roots: &[u64],
-    _helpers: Helpers,
-    _gate: &G,
+    helpers: Helpers,
+    gate: &G,
+) -> bool
+    requires pages { length marker.old.dirty ≡ length map.now }
+    requires memory { length memory.now ≡ PAGE_WORDS * length map.now }
+    ensures traces { Traces (found_in map.now) memory.now roots.now marker.old marker.new }
+    ensures roots { result ≡ true → AreRootsMarked (found_in map.now) roots.now marker.new }
+    ensures unchanged { result ≡ false → marker.new ≡ marker.old }
+{
+    marker.laws();
+    let Ok((table, mut first)) = marker.open_table(alloc) else {
+        return false;
+    };
+    let Ok(mut dirty) = DirtyPages::new(alloc, map.len()) else {
+        return false;
+    };
+    let Ok(crew) = hire(alloc, &table, map.len(), &mut first, helpers.number()) else {
+        return false;
+    };
+    let pause = Pause {
+        table: &table,
+        marker,
+        map,
+        memory,
+        roots,
+        helpers: crew.len(),
+    };
+    let Ok(crew) = help_each(rt, alloc, pause, gate, crew) else {
+        return false;
+    };
+    gather(&pause, &mut first, &mut dirty, crew);
+    marker.take_back(table, first, dirty);
+    true
+}
+
+/// Marks on until nothing is left to read, with helpers in threads of their own: the marks become the closure of the marks
+/// before and the roots, as [`close_marks`] leaves them. Where memory or a thread is refused, the calling thread does it alone.
+pub fn close_marks_with<R: Threads + Wait + Sync, G: Gate>(
+    rt: &R,
+    alloc: Global,
+    marker: &mut Marker,
+    map: &BlockMap,
+    memory: &Memory,
+    roots: &[u64],
+    helpers: Helpers,
+    gate: &G,
 )
     requires pages { length marker.old.dirty ≡ length map.now }
     requires memory { length memory.now ≡ PAGE_WORDS * length map.now }
@@ -37,6 +116,7 @@ pub fn close_marks_with<R: Threads + Wait + Sync, G: Gate>(
     ensures done { IsDone marker.new }
     ensures traces { Traces (found_in map.now) memory.now roots.now marker.old marker.new }
 {
+    mark_with_helpers(rt, alloc, marker, map, memory, roots, helpers, gate);
     let mut reader = Reader::new(memory);
     close_marks(marker, map, &mut reader, roots);
 }

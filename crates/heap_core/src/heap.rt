@@ -9,6 +9,7 @@ mod beside;
 mod close_with;
 mod cycle;
 mod events;
+mod kept;
 mod objects;
 mod registers;
 

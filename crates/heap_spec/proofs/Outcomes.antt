@@ -10,9 +10,7 @@ use Rattle.heap_spec.specs.declared.reply.Reply.TheVariants.{Word, Count, Refuse
 use Rattle.heap_spec.specs.Heap.{Heap, Object, Mutator, HasObject, ReadsObject}
 use Rattle.heap_spec.specs.Room.{HasRoom}
 use Rattle.heap_spec.specs.Steps.{Acts, Calls, acts, vacant, with_register, with_object, register, address}
-use Rattle.heap_spec.specs.Sound.{IsSound}
-use Rattle.heap_spec.specs.Laws.{IsNoAlloc}
-use Rattle.heap_spec.proofs.Objects.{one_read, object_lies}
+use Rattle.heap_spec.specs.Laws.{IsLegible, IsNoAlloc}
 use Rattle.heap_spec.proofs.Loads.{same_mutator}
 
 -- a refused call of a mutator leaves the heap
@@ -35,11 +33,11 @@ calls_refused s slot call (acts {m = m} at act) = acts_refused s slot m act
 calls_refused s slot call (vacant none) = refl
 
 -- an address reads one object, and one that has it as its base reads itself
-same_read : (s : Heap) → IsSound s → (w a b : ℕ) (o p : Object) → ReadsObject s w a o → ReadsObject s w b p → (a ≡ b) × (o ≡ p)
-same_read s h w a b o p r q = let e = one_read s h w a b o p r q in (e, same_Some o p (sym r.0 ∙ ap s.objects e ∙ q.0))
+same_read : (s : Heap) → IsLegible s → (w a b : ℕ) (o p : Object) → ReadsObject s w a o → ReadsObject s w b p → (a ≡ b) × (o ≡ p)
+same_read s h w a b o p r q = let e = h.one w a b o p r q in (e, same_Some o p (sym r.0 ∙ ap s.objects e ∙ q.0))
 
-reads_itself : (s : Heap) → IsSound s → (base : ℕ) (o : Object) → HasObject s base o → ReadsObject s base base o
-reads_itself s h base o has = let some = (object_lies s h base o has).some in (has, (omega arith, omega arith))
+reads_itself : (s : Heap) → IsLegible s → (base : ℕ) (o : Object) → HasObject s base o → ReadsObject s base base o
+reads_itself s h base o has = let some = h.some base o has in (has, (omega arith, omega arith))
 
 -- a stack that is pushed is not empty, and says what was pushed
 not_empty : (stack rest : List ℕ) (w : ℕ) → stack ≡ rest ++ w ∷ [] → stack ≡ [] → ⊥
@@ -49,7 +47,7 @@ not_empty stack rest w e none = let l : length (rest ++ w ∷ []) ≡ length res
 abbrev Same : Call → Reply → Reply → Heap → Heap → Type 0
 Same call reply reply' t t' = (reply ≡ reply') × (IsNoAlloc call → t ≡ t')
 
-acts_same : (s : Heap) → IsSound s → (slot : ℕ) (m : Mutator) {call : Call} {reply : Reply} {t : Heap} → Acts s slot m call reply t
+acts_same : (s : Heap) → IsLegible s → (slot : ℕ) (m : Mutator) {call : Call} {reply : Reply} {t : Heap} → Acts s slot m call reply t
     → {reply' : Reply} {t' : Heap} → Acts s slot m call reply' t' → Same call reply reply' t t'
 acts_same s h slot m Acts.detached Acts.detached = (refl, λ no. refl)
 acts_same s h slot m Acts.set Acts.set = (refl, λ no. refl)
@@ -106,17 +104,17 @@ acts_same s h slot m (Acts.full {place = p} e none) (Acts.bad_size e') = absurd 
 acts_same s h slot m (Acts.full e none) (Acts.full e' none') = (refl, λ no. refl)
 acts_same s h slot m (Acts.freed has) (Acts.freed has') = (refl, λ no. refl)
 acts_same s h slot m (Acts.freed {r = r} {o = o} has) (Acts.free_inside {base = b} {o = p} reads ne) =
-    absurd (ne (one_read s h (register m r) b (register m r) p o reads (reads_itself s h (register m r) o has)))
+    absurd (ne (h.one (register m r) b (register m r) p o reads (reads_itself s h (register m r) o has)))
 acts_same s h slot m (Acts.freed {r = r} {o = o} has) (Acts.free_nothing none) = absurd (none (register m r) o (reads_itself s h (register m r) o has))
 acts_same s h slot m (Acts.free_inside {base = b} {o = p} reads ne) (Acts.freed {r = r} {o = o} has) =
-    absurd (ne (one_read s h (register m r) b (register m r) p o reads (reads_itself s h (register m r) o has)))
+    absurd (ne (h.one (register m r) b (register m r) p o reads (reads_itself s h (register m r) o has)))
 acts_same s h slot m (Acts.free_inside reads ne) (Acts.free_inside reads' ne') = (refl, λ no. refl)
 acts_same s h slot m (Acts.free_inside {base = b} {o = o} reads ne) (Acts.free_nothing none) = absurd (none b o reads)
 acts_same s h slot m (Acts.free_nothing none) (Acts.freed {r = r} {o = o} has) = absurd (none (register m r) o (reads_itself s h (register m r) o has))
 acts_same s h slot m (Acts.free_nothing none) (Acts.free_inside {base = b} {o = o} reads ne) = absurd (none b o reads)
 acts_same s h slot m (Acts.free_nothing none) (Acts.free_nothing none') = (refl, λ no. refl)
 acts_same s h slot m (Acts.based {d = d} {a = a} {base = b} {o = o} reads) (Acts.based {base = c} {o = p} reads') =
-    let e = one_read s h (register m a) b c o p reads reads' in (ap Word e, λ no. ap (λ x. with_register s slot m d x) e)
+    let e = h.one (register m a) b c o p reads reads' in (ap Word e, λ no. ap (λ x. with_register s slot m d x) e)
 acts_same s h slot m (Acts.based {base = b} {o = o} reads) (Acts.base_nothing none) = absurd (none b o reads)
 acts_same s h slot m (Acts.base_nothing none) (Acts.based {base = b} {o = o} reads) = absurd (none b o reads)
 acts_same s h slot m (Acts.base_nothing none) (Acts.base_nothing none') = (refl, λ no. refl)
@@ -128,7 +126,7 @@ acts_same s h slot m (Acts.size_nothing none) (Acts.size_nothing none') = (refl,
 acts_same s h slot m Acts.global_got Acts.global_got = (refl, λ no. refl)
 acts_same s h slot m Acts.global_put Acts.global_put = (refl, λ no. refl)
 
-pub calls_same : (s : Heap) → IsSound s → (slot : ℕ) (call : Call) (reply reply' : Reply) (t t' : Heap) → Calls s slot call reply t → Calls s slot call reply' t' → Same call reply reply' t t'
+pub calls_same : (s : Heap) → IsLegible s → (slot : ℕ) (call : Call) (reply reply' : Reply) (t t' : Heap) → Calls s slot call reply t → Calls s slot call reply' t' → Same call reply reply' t t'
 calls_same s h slot call reply reply' t t' (acts {m = m} at act) (acts {m = k} at' act') =
     acts_same s h slot m act (subst (λ x. Acts s slot x call reply' t') (sym (same_mutator s slot m k at at')) act')
 calls_same s h slot call reply reply' t t' (acts {m = m} at act) (vacant none) = absurd (none-some m (same_Some None (Some m) (sym none ∙ at)))

@@ -1,5 +1,5 @@
 -- The laws of the sequential heap, each a statement of its own.
-use Rattle.std.specs.Prelude.{◌≡◌, ◌↔◌, ◌⊎◌, ℕ, ◌≤◌, Bool, true, length, Contains, All}
+use Rattle.std.specs.Prelude.{◌≡◌, ◌↔◌, ◌⊎◌, ℕ, ◌<◌, ◌≤◌, Bool, true, length, Contains, All}
 use Rattle.words.specs.declared.limits.TheConstants.{MAX_PAGES}
 use Rattle.words.specs.declared.class.Kind.TheVariants.{Normal}
 use Rattle.words.specs.declared.refusal.Refusal.{Refusal}
@@ -131,7 +131,12 @@ IsNoAlloc (Size r) = Unit {0}
 IsNoAlloc (GlobalGet d g) = Unit {0}
 IsNoAlloc (GlobalPut g r) = Unit {0}
 
+-- No word points into two objects, and each object has words, as in every sound heap.
+pub record IsLegible (s : Heap) : Type 0 where
+  pub one : (w a b : ℕ) (o p : Object) → ReadsObject s w a o → ReadsObject s w b p → a ≡ b
+  pub some : (base : ℕ) (o : Object) → HasObject s base o → 0 < length o.words
+
 -- A call has one reply, and one heap after it too, but for the place that an allocation takes.
 abbrev pub CallsHaveOneOutcome : Type 0
-CallsHaveOneOutcome = (s : Heap) → IsSound s → (slot : ℕ) (call : Call) (reply reply' : Reply) (t t' : Heap)
+CallsHaveOneOutcome = (s : Heap) → IsLegible s → (slot : ℕ) (call : Call) (reply reply' : Reply) (t t' : Heap)
     → Calls s slot call reply t → Calls s slot call reply' t' → (reply ≡ reply') × (IsNoAlloc call → t ≡ t')

@@ -23,11 +23,11 @@ use Rattle.marker.proofs.Growing.{Extends, target_more, pending_more}
 use Rattle.marker.proofs.Words.{words_append, words_extends, words_targets, words_within, word_of, contains_word}
 
 -- the words of an object point into it
-reads_own : (pages : ℕ) (found : ℕ → Option Found) → IsMap pages found → (f : Found) (i : ℕ) → found f.base ≡ Some f → i < f.len → found (word_address f i) ≡ Some f
+pub reads_own : (pages : ℕ) (found : ℕ → Option Found) → IsMap pages found → (f : Found) (i : ℕ) → found f.base ≡ Some f → i < f.len → found (word_address f i) ≡ Some f
 reads_own pages found map f i e lt = map.whole f.base (word_address f i) f e (record { from = omega arith; below = omega arith })
 
 -- a word from the address on and before the end of the next object is that object's
-next_is : (pages : ℕ) (found : ℕ → Option Found) (at high stop a : ℕ) (f g : Found) → IsMap pages found → IsNextObject found at high f → stop ≤ f.base + WORD_BYTES * f.len → at ≤ a → a < stop → found a ≡ Some g → f ≡ g
+pub next_is : (pages : ℕ) (found : ℕ → Option Found) (at high stop a : ℕ) (f g : Found) → IsMap pages found → IsNextObject found at high f → stop ≤ f.base + WORD_BYTES * f.len → at ≤ a → a < stop → found a ≡ Some g → f ≡ g
 next_is pages found at high stop a f g map next le from below e =
     let r = (map.reads next.at f next.reads).from in
     let after : next.at ≤ a = ⊎_elim (λ (lt : a < next.at). let x : None ≡ Some g = sym (next.least a from lt) ∙ e in absurd (cc x)) (λ ge. ge) (cases_lt a next.at) in

@@ -12,6 +12,14 @@ use Rattle.marker.specs.Growth.{MarksWords, words_of}
 abbrev pub IsSpent : (ℕ → Option Found) → Marking → Entry → Type 0
 IsSpent found m e = (f : Found) → found f.base ≡ Some f → f.base ≡ e.base → f.kind ≡ Normal → IsMarked m f.base → f.len ≤ e.next
 
+-- the entry has a word of this object left to read
+pub record IsUnread (found : ℕ → Option Found) (m : Marking) (e : Entry) (f : Found) : Type 0 where
+  pub object : found f.base ≡ Some f
+  pub base : f.base ≡ e.base
+  pub normal : f.kind ≡ Normal
+  pub marked : IsMarked m f.base
+  pub left : e.next < f.len
+
 -- the entry that is being read has a word of this object left to read
 pub record IsLive (found : ℕ → Option Found) (m : Marking) (f : Found) : Type 0 where
   pub entry : Entry

@@ -39,9 +39,11 @@ mod entry;
 mod marker;
 mod mutators;
 mod retrace;
+mod sharing;
 mod spread;
 mod step;
 
 pub use entry::Entry;
 pub use marker::Marker;
+pub use spread::dirty_object;
 pub use step::Marked;

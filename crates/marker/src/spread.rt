@@ -13,7 +13,7 @@ use words::{PageNo, page_of};
 
 /// Makes the pages that an object covers dirty.
 #[tactic(auto, using(crate::proofs::Spreads::spreads))]
-pub(crate) fn dirty_object(dirty: &mut DirtyPages, found: Found)
+pub fn dirty_object(dirty: &mut DirtyPages, found: Found)
     requires placed { IsPlaced (length dirty.old) found }
     requires small { length dirty.old ≤ MAX_PAGES }
     ensures { IsDirtied dirty.old dirty.new (page_of found.base) (last_page found + 1) }

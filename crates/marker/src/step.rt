@@ -71,28 +71,12 @@ impl Marker {
     }
 
     // Whether the entry that is being read has a word left, and of which object.
-    #[tactic(auto, using(crate::proofs::MarkWord::marking))]
     fn live(&self, map: &BlockMap) -> Option<Found>
         requires pages { length self.now.dirty ≡ length map.now }
         ensures live { MatchOption result ((e : Entry) → self.now.current ≡ Some e → IsSpent (found_in map.now) self.now e) (λ f. IsLive (found_in map.now) self.now f) }
         ensures placed { IfSome result (λ f. IsPlaced (length map.now) f × (length map.now ≤ MAX_PAGES)) }
     {
-        let entry = self.current?;
-        let found = map.find(entry.base)?;
-        if found.base != entry.base {
-            return None;
-        }
-        if found.kind == Kind::PointerFree {
-            return None;
-        }
-        if entry.next >= found.len {
-            return None;
-        }
-        if self.is_marked(found.base) {
-            Some(found)
-        } else {
-            None
-        }
+        self.unread(map, self.current?)
     }
 
     // Takes the next entry to be read.

@@ -1,33 +1,35 @@
 -- An allocation, and that the core stays sound.
 use Rattle.std.proofs.Common.{◌≡◌, ℕ, ◌+◌, ◌*◌, ◌/◌, ◌%◌, ◌<◌, ◌≤◌, ◌⊎◌, List, [], ◌∷◌, ◌++◌, length, get_or, drop, replicate, refl, sym, ap, ◌∙◌, subst, arith, inl, inr, ⊎_elim, cond}
-use Rattle.std.specs.Prelude.{Result, Ok, Err, IsOk, is_ok, ◌≢◌, Some, All}
+use Rattle.std.specs.Prelude.{Result, Ok, Err, IsOk, is_ok, ◌≢◌, Some, None, All, slice_get}
 use Rattle.std.proofs.Math.Nat.{mul_assoc, mul-mod_right}
 use Rattle.std.proofs.lemmas.List.{ext_get_or, get_or-take, get_or-drop, get_or-replicate, length-replicate, length_push}
 use Rattle.std.proofs.lemmas.List.Elements.{All-nil, All-contains, All-push, Contains-push_cases, Contains-push, Contains-append_left}
-use Rattle.std.proofs.lemmas.Option.{same_Some}
+use Rattle.std.proofs.lemmas.Option.{same_Some, none-some}
 use Rattle.std.proofs.lemmas.Bool.{cases_lt, cases_eq}
 use Rattle.words.specs.declared.class.Kind.{Kind}
 use Rattle.words.specs.declared.class.Placement.{Placement}
 use Rattle.words.specs.declared.class.Placement.TheVariants.{Small, Large}
-use Rattle.words.specs.declared.limits.TheConstants.{WORD_BYTES, PAGE_WORDS, PAGE_GRANULES, MAX_PAGES}
+use Rattle.words.specs.declared.limits.TheConstants.{WORD_BYTES, PAGE_WORDS, PAGE_GRANULES, FIRST_ADDRESS, MAX_PAGES}
 use Rattle.words.specs.Placing.{placement_of}
 use Rattle.heap_spec.specs.declared.call.Call.TheVariants.{Alloc}
 use Rattle.heap_spec.specs.declared.reply.Reply.TheVariants.{Done}
 use Rattle.heap_spec.specs.Layout.{Reads}
 use Rattle.heap_spec.specs.Heap.{Heap, Object, Mutator, HasObject}
-use Rattle.heap_spec.specs.Room.{length_of}
-use Rattle.heap_spec.specs.Steps.{Acts, acts, with_register, with_object, with_new}
+use Rattle.heap_spec.specs.Room.{HasRoom, length_of}
+use Rattle.heap_spec.specs.Steps.{Acts, Calls, acts, with_register, with_object, with_new}
 use Rattle.heap_spec.proofs.Objects.{with_at-same, with_at-other}
-use Rattle.roots.specs.Roots.{RootSet, HasMutator, SetsWord}
+use Rattle.roots.specs.Roots.{RootSet, HasMutator, HasNoMutator, SetsWord}
 use Rattle.plain_core.specs.declared.extent.Extent.{Extent}
 use Rattle.plain_core.specs.Contents.{Contents, IsSound, IsInHeap, IsPlaced}
+use Rattle.plain_core.specs.Answering.{Fits, IsPut, IsBornAt, IsAllocatedAt, CantAllocateAt}
 use Rattle.plain_core.specs.Places.{IsPlace, IsSized}
-use Rattle.plain_core.specs.Standing.{IsShown, place, words_at}
+use Rattle.plain_core.specs.Standing.{StandsFor, IsShown, place, words_at}
 use Rattle.plain_core.proofs.Stands.{StepsCall, mutator_at, set_is}
 use Rattle.plain_core.proofs.Memory.{length_words}
 use Rattle.plain_core.proofs.Objects.{in_heap}
 use Rattle.plain_core.proofs.Freshness.{IsFresh, fresh_small, fresh_large, distinct_push, distinct_none, few_objects}
-use Rattle.plain_core.proofs.Rooms.{room_of}
+use Rattle.plain_core.proofs.Placing.{sized}
+use Rattle.plain_core.proofs.Rooms.{room_of, place_of}
 
 -- a new core
 pub new_sound : (pages : ℕ) (words : List ℕ) (objects : List Extent) (roots : RootSet) → pages ≤ MAX_PAGES → length words ≡ PAGE_WORDS * pages → objects ≡ []
@@ -98,10 +100,11 @@ other_words old new pages e g l ie ig z apart =
 
 pub allocates : (c : Contents) (roots : RootSet) (k d n : ℕ) (kind : Kind) (m : Mutator) (place : Placement) (e : Extent) (row : List ℕ) → IsSound c → HasMutator c.roots k m → placement_of n ≡ Some place → IsPlace c.objects c.pages place kind e.base → e.kind ≡ kind → e.length ≡ length_of place
     → IsInHeap c.pages e → IsFresh c.objects e → IsZeroed c.words row e → SetsWord c.roots k d e.base roots
-    → StepsCall c k (Alloc d n kind) Done (record c { words = row; objects = c.objects ++ e ∷ []; roots = roots })
+    → IsAllocatedAt c k d n kind e.base (record c { words = row; objects = c.objects ++ e ∷ []; roots = roots })
 allocates c roots k d n kind m place e row sound at is room same_kind same_length new fresh zeroed sets s h = (
   after,
   acts (mutator_at c s h k m at) (Acts.allocated e.base is (room_of c sound s h place kind e.base room)),
+  record { object = o; there = with_at-same s.objects e.base (Some o) e.base refl; newest = omega arith },
   record {
     pages = h.pages;
     mutators = (set_is c s h roots k d e.base m at sets).0;
@@ -182,9 +185,53 @@ module _ (c : Contents) (placement : Placement) (kind : Kind) (e : Extent) (soun
   pub fits_row : place e.base + e.length ≤ length c.words
   fits_row = let i = new in let w = sound.words in omega (arith, i.start, i.aligned, i.ends)
 
-  pub alloc_steps : (roots : RootSet) (k d n : ℕ) (m : Mutator) (row : List ℕ) (objects : List Extent) → HasMutator c.roots k m → placement_of n ≡ Some placement → e.kind ≡ kind → IsZeroed c.words row e → objects ≡ c.objects ++ e ∷ []
-      → SetsWord c.roots k d e.base roots → StepsCall c k (Alloc d n kind) Done (record c { words = row; objects = objects; roots = roots })
-  alloc_steps roots k d n m row objects at is same zeroed pushed sets = rw pushed (allocates c roots k d n kind m placement e row sound at is room same long new fresh zeroed sets)
+  pub puts : (roots : RootSet) (k d : ℕ) (m : Mutator) (row : List ℕ) (objects : List Extent) → HasMutator c.roots k m → e.kind ≡ kind → IsZeroed c.words row e → objects ≡ c.objects ++ e ∷ []
+      → SetsWord c.roots k d e.base roots → (n : ℕ) → placement_of n ≡ Some placement → IsAllocatedAt c k d n kind e.base (record c { words = row; objects = objects; roots = roots })
+  puts roots k d m row objects at same zeroed pushed sets n is = rw pushed (allocates c roots k d n kind m placement e row sound at is room same long new fresh zeroed sets)
 
   pub alloc_sound : (roots : RootSet) (row : List ℕ) (objects : List Extent) → length row ≡ length c.words → objects ≡ c.objects ++ e ∷ [] → IsSound (record c { words = row; objects = objects; roots = roots })
   alloc_sound roots row objects l pushed = rw pushed (sound_after c roots e row sound new (new_placed c.pages c.objects placement kind e sized long room) fresh l)
+
+-- where an object was born there was room for it
+pub born_where : (c : Contents) → IsSound c → (s : Heap) → StandsFor c s → (k d n base : ℕ) (kind : Kind) (place : Placement) → placement_of n ≡ Some place → {s' : Heap} → Calls s k (Alloc d n kind) Done s' → IsBornAt s base s'
+    → IsPlace c.objects c.pages place kind base
+born_where c sound s h k d n base kind place is (acts at (Acts.allocated {place = other} a is' room)) born =
+    ⊎_elim
+    (λ new. subst (IsPlace c.objects c.pages place kind) (sym new.0)
+    (place_of c sound s h place kind a (subst (λ p. HasRoom s p kind a) (same_Some other place (sym is' ∙ is)) room)))
+    (λ old. let b = h.born base born.object old.1 in let newest = born.newest in absurd (omega (arith, b.1)))
+    (after_cases s a _ base born.object born.there)
+
+pub cant_place : (c : Contents) → IsSound c → (k d n base : ℕ) (kind : Kind) (place : Placement) → placement_of n ≡ Some place → (IsPlace c.objects c.pages place kind base → ⊥) → CantAllocateAt c k d n kind base
+cant_place c sound k d n base kind place is none s h s' calls born = none (born_where c sound s h k d n base kind place is calls born)
+
+-- a request of no size, and one of no mutator, are granted nowhere
+pub cant_size : (c : Contents) (k d n base : ℕ) (kind : Kind) → placement_of n ≡ None → CantAllocateAt c k d n kind base
+cant_size c k d n base kind none s h s' (acts at (Acts.allocated {place = place} a is room)) born = absurd (none-some place (sym none ∙ is))
+
+pub cant_call : (c : Contents) (k d n base : ℕ) (kind : Kind) → HasNoMutator c.roots k → CantAllocateAt c k d n kind base
+cant_call c k d n base kind none s h s' (acts {m = m} at act) born =
+    absurd (none-some m (same_Some None (Some m) (sym (ap (λ ms. slice_get ms k) h.mutators ∙ none) ∙ at)))
+
+-- a place is in the heap
+pub place_from : (row : List Extent) (pages : ℕ) (placement : Placement) (kind : Kind) (a : ℕ) → IsPlace row pages placement kind a → FIRST_ADDRESS ≤ a
+place_from row pages (Small class) kind a p = let is = p.on.is_cell in omega arith
+place_from row pages (Large count) kind a p = let is = p.is_start in omega arith
+
+-- what was found for a request fits
+pub found_fits : (c now : Contents) → c ≡ now → (row : List Extent) → row ≡ c.objects → (n : ℕ) (kind : Kind) (placement : Placement) (e : Extent) → placement_of n ≡ Some placement → e.kind ≡ kind → e.length ≡ length_of placement
+    → IsPlace row c.pages placement kind e.base → Fits now placement e
+found_fits c now view row rows n kind placement e is same long room = subst (λ (x : Contents). Fits x placement e) view (record {
+  sized = sized n placement is;
+  size = long;
+  place = subst (λ k. IsPlace c.objects c.pages placement k e.base) (sym same) (subst (λ r. IsPlace r c.pages placement kind e.base) rows room);
+})
+
+-- a request that was granted by an object
+pub put_at : (old new : Contents) (k d n base : ℕ) (kind : Kind) (placement : Placement) (e : Extent) → placement_of n ≡ Some placement → e.kind ≡ kind → e.base ≡ base → IsPut old k d placement e new → IsAllocatedAt old k d n kind base new
+put_at old later k d n base kind placement e is same at put s h =
+    let x = put s h n is in
+    (x.0, subst (λ q. Calls s k (Alloc d n q) Done x.0) same x.1, subst (λ b. IsBornAt s b x.0) at x.2, x.3)
+
+pub put_steps : (old new : Contents) (k d n : ℕ) (kind : Kind) (placement : Placement) (e : Extent) → placement_of n ≡ Some placement → e.kind ≡ kind → IsPut old k d placement e new → StepsCall old k (Alloc d n kind) Done new
+put_steps old later k d n kind placement e is same put s h = let x = put_at old later k d n e.base kind placement e is same refl put s h in (x.0, x.1, x.3)

@@ -4,16 +4,18 @@ use Rattle.std.specs.Prelude.{Some, Contains, slice_get}
 use Rattle.std.proofs.lemmas.Bool.{true≢false}
 use Rattle.std.proofs.lemmas.List.{length-replicate, get_or-replicate}
 use Rattle.std.proofs.lemmas.List.Elements.{All-contains, All-weaker}
-use Rattle.std.proofs.lemmas.Option.{slice_get_within}
+use Rattle.std.proofs.lemmas.Option.{slice_get_within, slice_get-get_or}
+use Rattle.words.specs.declared.class.Kind.TheVariants.{Normal}
 use Rattle.words.specs.declared.limits.TheConstants.{PAGE_GRANULES}
 use Rattle.heap_spec.specs.Layout.{Reads}
-use Rattle.heap_spec.specs.Heap.{Object, HasObject, without}
+use Rattle.heap_spec.specs.Heap.{Heap, Object, HasObject, without}
 use Rattle.heap_spec.specs.Closure.{Reached}
 use Rattle.roots.specs.Roots.{root_words_of}
 use Rattle.plain_core.specs.declared.extent.Extent.{Extent}
 use Rattle.plain_core.specs.Contents.{Contents, IsSound}
-use Rattle.plain_core.specs.Collections.{IsForgotten, CantForget}
-use Rattle.plain_core.specs.Claims.{HasOneEach, IsFreeToGo, AreFreeToGo, AreUnset}
+use Rattle.plain_core.specs.Standing.{StandsFor}
+use Rattle.plain_core.specs.Collections.{HasUnreached, IsTaken, CantTake}
+use Rattle.plain_core.specs.Claims.{HasOneEach, IsFreeToGo, AreFreeToGo, AreUnset, AreAllUnset}
 use Rattle.plain_core.specs.Reached.{MarksReached}
 use Rattle.plain_core.specs.Parting.{Parts}
 use Rattle.plain_core.proofs.Objects.{extent_of, reads_base}
@@ -48,6 +50,16 @@ all_set c sound flags n is room = record {
     set : (i : ℕ) → i < length c.objects → get_or flags i false ≡ false → ⊥
     set i lt flag = let most = few in true≢false (sym (ap (λ l. get_or l i false) is ∙ get_or-replicate n i true false (omega arith)) ∙ flag)
 
+-- there is an object at each place
+get_at : (row : List Extent) (i : ℕ) → i < length row → (e : Extent) × (slice_get row i ≡ Some e)
+get_at row i lt = let e : Extent = get_or row i (record { base = 0; kind = Normal; length = 0 }) in (e, slice_get-get_or row i _ lt)
+
+-- what is not reached is not marked
+unmarked : (c : Contents) (sound : IsSound c) (marks : List Bool) (m : MarksReached (root_words_of c.roots) c.words c.objects marks) (s : Heap) (h : StandsFor c s) (b : Bool) (i : ℕ) (e : Extent)
+    → slice_get c.objects i ≡ Some e → (Reached s e.base → ⊥) → get_or marks i false ≡ b → get_or marks i false ≡ false
+unmarked c sound marks m s h true i e at out is = absurd (out (reached_out c sound s h i e (m.reached i is) at))
+unmarked c sound marks m s h false i e at out is = is
+
 module _ (c : Contents) (sound : IsSound c) (marks : List Bool) (m : MarksReached (root_words_of c.roots) c.words c.objects marks) (bases : List ℕ) where
   module _ (free : AreFreeToGo c.objects marks bases) (flags : List Bool) (unset : AreUnset c.objects bases flags) (stay : List Extent) (n : ℕ) (parts : Parts c.objects flags stay n) where
     are : AreBases parts.gone bases
@@ -61,8 +73,17 @@ module _ (c : Contents) (sound : IsSound c) (marks : List Bool) (m : MarksReache
       all = λ e gone. let u = parts.unset e gone in unset.only u.0 e u.1 u.2;
     }
 
-    pub forgets : IsForgotten c bases (record c { objects = stay })
-    forgets s h = (
+    -- where every flag of what is not marked is unset, every object that is not reached is named
+    has_unreached : AreAllUnset (length c.objects) marks flags → (s : Heap) → StandsFor c s → HasUnreached s bases
+    has_unreached rest s h base o has out =
+        let e = extent_of c sound s h base o has in
+        let i = at_place c.objects e.0 e.1 in
+        let lt : i.0 < length c.objects = slice_get_within c.objects i.0 e.0 i.1 in
+        subst (Contains bases) e.2 (unset.only i.0 e.0 i.1 (rest.unset i.0 lt
+        (unmarked c sound marks m s h (get_or marks i.0 false) i.0 e.0 i.1 (λ r. out (subst (Reached s) e.2 r)) refl)))
+
+    pub takes : (all : Bool) → (all ≡ true → AreAllUnset (length c.objects) marks flags) → IsTaken c bases all (record c { objects = stay })
+    takes all rest s h = (
       without s bases,
       record {
         objects = All-weaker (IsFreeToGo c.objects marks) (λ b. (o : Object) × HasObject s b o)
@@ -73,22 +94,34 @@ module _ (c : Contents) (sound : IsSound c) (marks : List Bool) (m : MarksReache
         number = refl;
         after = refl;
       },
+      λ must. has_unreached (rest must) s h,
       rest_stands c sound parts.gone stay parts.all bases are s h,
     )
 
   -- what may be taken out is free to go
-  pub cant : (AreFreeToGo c.objects marks bases → ⊥) → CantForget c bases
-  cant stuck s h n s' takes = stuck (record {
+  pub cant : (all : Bool) → (AreFreeToGo c.objects marks bases → ⊥) → CantTake c bases all
+  cant all stuck s h n s' takes rest = stuck (record {
     each = All-weaker (λ b. ((o : Object) × HasObject s b o) × (Reached s b → ⊥)) (IsFreeToGo c.objects marks) (λ b x. free b x.0.0 x.0.1 x.1) bases (λ k d lt. (takes.objects k d lt, takes.unreached k d lt));
     distinct = takes.distinct;
   })
     where
-      unmarked : (b : Bool) (i : ℕ) (e : Extent) → slice_get c.objects i ≡ Some e → (Reached s e.base → ⊥) → get_or marks i false ≡ b → get_or marks i false ≡ false
-      unmarked true i e at out is = absurd (out (reached_out c sound s h i e (m.reached i is) at))
-      unmarked false i e at out is = is
-
       free : (b : ℕ) (o : Object) → HasObject s b o → (Reached s b → ⊥) → IsFreeToGo c.objects marks b
       free b o has out =
           let e = extent_of c sound s h b o has in
           let i = at_place c.objects e.0 e.1 in
-          record { place = i.0; object = e.0; there = i.1; is_base = e.2; unmarked = unmarked (get_or marks i.0 false) i.0 e.0 i.1 (λ r. out (subst (Reached s) e.2 r)) refl }
+          record { place = i.0; object = e.0; there = i.1; is_base = e.2; unmarked = unmarked c sound marks m s h (get_or marks i.0 false) i.0 e.0 i.1 (λ r. out (subst (Reached s) e.2 r)) refl }
+
+  -- where one that is not reached is not named, they are not all
+  pub cant_all : (all : Bool) → all ≡ true → (flags : List Bool) → AreUnset c.objects bases flags → (AreAllUnset (length c.objects) marks flags → ⊥) → CantTake c bases all
+  cant_all all must flags unset stuck s h n s' removes rest = stuck (record {
+    unset = λ i lt is.
+        let e = get_at c.objects i lt in
+        let kept = h.kept e.0 (in_row c.objects i e.0 e.1) in
+        unset.unset i e.0 e.1 (rest must e.0.base kept.0 kept.1 (not_reached c sound s h marks m i e.0 e.1 is));
+  })
+
+-- the same of equal rows
+pub all_unset_as : (n k : ℕ) (marks marks' flags flags' : List Bool) → n ≡ k → marks ≡ marks' → flags ≡ flags' → AreAllUnset n marks flags → AreAllUnset k marks' flags'
+all_unset_as n k marks marks' flags flags' size m f all = record {
+  unset = λ i lt is. ap (λ l. get_or l i false) (sym f) ∙ all.unset i (omega arith) (ap (λ l. get_or l i false) m ∙ is);
+}

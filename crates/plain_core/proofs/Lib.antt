@@ -13,3 +13,5 @@ pub mod Stays
 pub mod Collects
 pub mod Claiming
 pub mod Forgets
+pub mod Answering
+pub mod Cells

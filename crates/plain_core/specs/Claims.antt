@@ -1,5 +1,5 @@
 -- Objects that are named by their bases, to be taken out.
-use Rattle.std.specs.Prelude.{◌≡◌, ℕ, ◌≤◌, Bool, false, Some, List, length, All, Contains, nat_eq, slice_get, slice_index_or}
+use Rattle.std.specs.Prelude.{◌≡◌, ℕ, ◌<◌, ◌≤◌, Bool, false, Some, List, length, All, Contains, nat_eq, slice_get, slice_index_or}
 use Rattle.std.specs.List.{IsDistinct}
 use Rattle.plain_core.specs.declared.extent.Extent.{Extent}
 
@@ -25,3 +25,7 @@ pub record AreUnset (row : List Extent) (bases : List ℕ) (flags : List Bool) :
   pub size : length row ≤ length flags
   pub unset : (i : ℕ) (e : Extent) → slice_get row i ≡ Some e → Contains bases e.base → slice_index_or flags i false ≡ false
   pub only : (i : ℕ) (e : Extent) → slice_get row i ≡ Some e → slice_index_or flags i false ≡ false → Contains bases e.base
+
+-- Of the first objects each that is not marked has an unset flag.
+pub record AreAllUnset (count : ℕ) (marks flags : List Bool) : Type 0 where
+  pub unset : (i : ℕ) → i < count → slice_index_or marks i false ≡ false → slice_index_or flags i false ≡ false

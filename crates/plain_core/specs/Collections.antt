@@ -1,7 +1,8 @@
 -- What collections do to a plain core.
-use Rattle.std.specs.Prelude.{ℕ, List, length}
+use Rattle.std.specs.Prelude.{◌≡◌, ℕ, Bool, true, List, length, Contains}
 use Rattle.heap_spec.specs.declared.reply.Reply.TheVariants.{Count}
-use Rattle.heap_spec.specs.Heap.{Heap}
+use Rattle.heap_spec.specs.Heap.{Heap, Object, HasObject}
+use Rattle.heap_spec.specs.Closure.{Reached}
 use Rattle.heap_spec.specs.Cycles.{TakesOut, CollectsFully}
 use Rattle.plain_core.specs.Contents.{Contents}
 use Rattle.plain_core.specs.Standing.{StandsFor}
@@ -10,10 +11,16 @@ use Rattle.plain_core.specs.Standing.{StandsFor}
 abbrev pub IsCollected : Contents → ℕ → Contents → Type 0
 IsCollected old count new = (s : Heap) → StandsFor old s → (s' : Heap) × CollectsFully s (Count count) s' × StandsFor new s'
 
--- Of each heap that the core stood for the objects with these bases are gone, none of which is reached.
-abbrev pub IsForgotten : Contents → List ℕ → Contents → Type 0
-IsForgotten old bases new = (s : Heap) → StandsFor old s → (s' : Heap) × TakesOut s bases (Count (length bases)) s' × StandsFor new s'
+-- every object that is not reached is among these
+abbrev pub HasUnreached : Heap → List ℕ → Type 0
+HasUnreached s bases = (base : ℕ) (o : Object) → HasObject s base o → (Reached s base → ⊥) → Contains bases base
 
--- Of no heap that the core stands for these can be taken out: they are not the bases of distinct objects, or one is reached.
-abbrev pub CantForget : Contents → List ℕ → Type 0
-CantForget c bases = (s : Heap) → StandsFor c s → (n : ℕ) (s' : Heap) → TakesOut s bases (Count n) s' → ⊥
+-- Of each heap that the core stood for the objects with these bases are gone, none of which is reached: if they had to be
+-- all such objects, they are.
+abbrev pub IsTaken : Contents → List ℕ → Bool → Contents → Type 0
+IsTaken old bases all new = (s : Heap) → StandsFor old s → (s' : Heap) × TakesOut s bases (Count (length bases)) s' × (all ≡ true → HasUnreached s bases) × StandsFor new s'
+
+-- Of no heap that the core stands for these can be taken out: they are not the bases of distinct objects, or one is
+-- reached, or they had to be all that are not reached, and are not.
+abbrev pub CantTake : Contents → List ℕ → Bool → Type 0
+CantTake c bases all = (s : Heap) → StandsFor c s → (n : ℕ) (s' : Heap) → TakesOut s bases (Count n) s' → (all ≡ true → HasUnreached s bases) → ⊥

@@ -6,3 +6,4 @@ pub mod Listing
 pub mod Parting
 pub mod Claims
 pub mod Collections
+pub mod Answering

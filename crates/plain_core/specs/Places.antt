@@ -19,6 +19,12 @@ IsCutPage row page length kind = All (λ e. LiesOn e.base e.length page → (e.l
 abbrev pub IsNoBase : List Extent → ℕ → Type 0
 IsNoBase row a = All (λ e. e.base ≡ a → ⊥) row
 
+-- the address of a cell of the page, for so many words
+pub record IsCellAt (page length a : ℕ) : Type 0 where
+  pub cell : ℕ
+  pub in_page : length * (cell + 1) ≤ PAGE_WORDS
+  pub is_cell : a ≡ page_start page + WORD_BYTES * (length * cell)
+
 -- a place on a page for an object of a class
 pub record IsPlaceOn (row : List Extent) (page length : ℕ) (kind : Kind) (a : ℕ) : Type 0 where
   pub cell : ℕ

@@ -1,7 +1,7 @@
 //! Objects are named by their bases, to be taken out.
-ghost use Rattle.std.specs.Prelude.{◌≡◌, ◌≤◌, Some, IfSome, IfNone, IsTrue, false, All, [], length, slice_get};
+ghost use Rattle.std.specs.Prelude.{◌≡◌, ◌≤◌, Some, IfSome, IfNone, IsTrue, true, false, All, [], length, slice_get};
 ghost use Rattle.plain_core.specs.declared.extent.Extent.{Extent};
-ghost use Rattle.plain_core.specs.Claims.{HasOneEach, AreFreeToGo, AreUnset};
+ghost use Rattle.plain_core.specs.Claims.{HasOneEach, AreFreeToGo, AreUnset, AreAllUnset};
 
 use crate::extent::Extent;
 
@@ -40,4 +40,32 @@ pub fn unset_flags(bases: &[u64], objects: &[Extent], marks: &[bool], flags: &mu
         flags[index] = false;
     }
     true
+}
+
+// Whether of the first objects each that is not marked has an unset flag.
+fn are_all_unset(count: usize, marks: &[bool], flags: &[bool]) -> bool
+    requires marks { count ≤ length marks.now }
+    requires flags { count ≤ length flags.now }
+    ensures yes { IsTrue result → AreAllUnset count marks.now flags.now }
+    ensures no { result ≡ false → AreAllUnset count marks.now flags.now → ⊥ }
+{
+    for index in 0..count {
+        if !marks[index] && flags[index] {
+            return false;
+        }
+    }
+    true
+}
+
+/// Whether each of the first objects that is not marked has an unset flag, if all have to.
+pub fn are_all_named(all: bool, count: usize, marks: &[bool], flags: &[bool]) -> bool
+    requires marks { count ≤ length marks.now }
+    requires flags { count ≤ length flags.now }
+    ensures yes { IsTrue result → all ≡ true → AreAllUnset count marks.now flags.now }
+    ensures no { result ≡ false → (all ≡ true) × (AreAllUnset count marks.now flags.now → ⊥) }
+{
+    if !all {
+        return true;
+    }
+    are_all_unset(count, marks, flags)
 }

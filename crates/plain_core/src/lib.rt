@@ -5,6 +5,7 @@
 
 mod claims;
 mod extent;
+mod given_place;
 mod listing;
 mod parting;
 mod places;

@@ -10,14 +10,14 @@ use words::limits::{FIRST_ADDRESS, PAGE_BYTES, PAGE_WORDS, PageNo, WORD_BYTES};
 use words::{Kind, Placement};
 
 /// The address of a page's first byte.
-fn start_of(page: PageNo) -> u64
+pub fn start_of(page: PageNo) -> u64
     ensures { result ≡ page_start page }
 {
     FIRST_ADDRESS + PAGE_BYTES * u64::from(page)
 }
 
 /// Whether no object lies on the page.
-fn is_free(objects: &[Extent], page: PageNo) -> bool
+pub fn is_free(objects: &[Extent], page: PageNo) -> bool
     ensures yes { IsTrue result → IsFreePage objects.now page }
     ensures no { result ≡ false → IsFreePage objects.now page → ⊥ }
 {
@@ -41,7 +41,7 @@ fn agrees(object: &Extent, page: PageNo, length: u64, kind: Kind) -> bool
 }
 
 /// Whether each object on the page has this length and this kind.
-fn is_cut_for(objects: &[Extent], page: PageNo, length: u64, kind: Kind) -> bool
+pub fn is_cut_for(objects: &[Extent], page: PageNo, length: u64, kind: Kind) -> bool
     ensures yes { IsTrue result → IsCutPage objects.now page length kind }
     ensures no { result ≡ false → IsCutPage objects.now page length kind → ⊥ }
 {
@@ -54,7 +54,7 @@ fn is_cut_for(objects: &[Extent], page: PageNo, length: u64, kind: Kind) -> bool
 }
 
 /// Whether an object has this base.
-fn is_base(objects: &[Extent], address: u64) -> bool
+pub fn is_base(objects: &[Extent], address: u64) -> bool
     ensures yes { IsTrue result → IsNoBase objects.now address → ⊥ }
     ensures no { result ≡ false → IsNoBase objects.now address }
 {
@@ -111,7 +111,7 @@ fn small_place(objects: &[Extent], pages: u32, length: u64, kind: Kind) -> Optio
 }
 
 /// Whether no object lies on so many pages from the first on.
-fn is_free_run(objects: &[Extent], first: PageNo, count: u32) -> bool
+pub fn is_free_run(objects: &[Extent], first: PageNo, count: u32) -> bool
     requires { first + count < 2 ^ 32 }
     ensures yes { IsTrue result → (page : ℕ) → first ≤ page → page < first + count → IsFreePage objects.now page }
     ensures no { result ≡ false → ((page : ℕ) → first ≤ page → page < first + count → IsFreePage objects.now page) → ⊥ }

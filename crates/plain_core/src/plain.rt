@@ -4,9 +4,11 @@ ghost use Rattle.words.specs.declared.limits.TheConstants.{MAX_PAGES};
 ghost use Rattle.words.specs.declared.refusal.OpenError.TheVariants.{BadPages};
 ghost use Rattle.heap_spec.specs.Heap.{opening};
 
+mod answers;
 mod collections;
 mod objects;
 mod registers;
+mod replaying;
 
 use crate::extent::Extent;
 use crate::listing::Listing;

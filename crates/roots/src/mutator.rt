@@ -1,5 +1,5 @@
 //! The registers and the stack of an attached mutator. Contracts see them as the heap has them.
-ghost use Rattle.std.specs.Prelude.{◌≡◌, ℕ, ◌+◌, ◌<◌, ◌≤◌, ◌++◌, [], MatchBool, length};
+ghost use Rattle.std.specs.Prelude.{◌≡◌, ℕ, ◌+◌, ◌<◌, ◌≤◌, List, ◌∷◌, ◌++◌, [], MatchBool, MatchOption, length};
 ghost use Rattle.arrayvec.specs.ArrayVec.{array_vec_len};
 ghost use Rattle.words.specs.declared.limits.TheConstants.{REGISTERS};
 ghost use Rattle.words.specs.declared.limits.TheConstants.{STACK_WORDS};
@@ -72,6 +72,13 @@ impl Mutator {
         ensures { MatchBool result (self.now.stack ≡ []) (0 < length self.now.stack) }
     {
         self.stack.is_empty()
+    }
+
+    /// The word on top of the stack.
+    pub fn top(&self) -> Option<u64>
+        ensures { MatchOption result (self.now.stack ≡ []) (λ word. (rest : List ℕ) × (self.now.stack ≡ rest ++ word ∷ [])) }
+    {
+        self.stack.as_slice().last().copied()
     }
 
     // Its words, registers first, behind those that are there.

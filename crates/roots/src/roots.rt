@@ -1,5 +1,5 @@
 //! The roots of a heap: how a slot's mutator is read, and how it changes.
-ghost use Rattle.std.specs.Prelude.{◌≡◌, ◌<◌, Some, IfSome, IfNone, length, slice_get};
+ghost use Rattle.std.specs.Prelude.{◌≡◌, ◌<◌, Some, IfSome, IfNone, length, slice_get, slice_index};
 ghost use Rattle.words.specs.declared.limits.TheConstants.{STACK_WORDS};
 ghost use Rattle.heap_spec.specs.Heap.{Mutator as HeapMutator};
 ghost use Rattle.roots.specs.Roots.{no_roots, HasMutator, HasNoMutator, with_word, with_pushed, PopsWord, ChangesSlot, SetsWord};
@@ -9,7 +9,7 @@ mod calls;
 use crate::mutator::Mutator;
 use std::marker::Model;
 use words::limits::{GLOBALS, SLOTS};
-use words::{Reg, Slot};
+use words::{Global, Reg, Slot};
 
 pub(crate) type Mutators = [Option<Mutator>; SLOTS as usize];
 
@@ -82,6 +82,14 @@ impl Roots {
         ensures none { IfNone result (HasNoMutator self.now slot) }
     {
         self.mutators[slot.index()].as_ref()
+    }
+
+    /// The word of a global.
+    #[inline]
+    pub fn global(&self, global: Global) -> u64
+        ensures { result ≡ slice_index self.now.globals global }
+    {
+        self.globals[global.index()]
     }
 
     /// Puts a word into a register of a mutator that is attached.

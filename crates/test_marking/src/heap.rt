@@ -1,12 +1,14 @@
 //! A heap under a marker. Each call looks first whether its conditions hold, and answers whether they did.
 use crate::coming::{are_free, large_at, object_in, receive};
 use block_map::{BlockMap, Found};
-use final_pause::close_marks;
+use final_pause::{Gate, Helpers, close_marks, close_marks_with};
 use fixtures::map::small_class;
 use marker::{Marked, Marker};
 use pages::{Memory, Reader};
 use std::alloc::Global;
 use std::marker::Model;
+use std::sync::Wait;
+use std::thread::Threads;
 use words::limits::{FIRST_ADDRESS, PAGE_BYTES, WORD_BYTES};
 use words::{Kind, PageNo};
 
@@ -178,5 +180,26 @@ impl Heap {
     pub(crate) fn close(&mut self, roots: &[u64]) {
         let mut reader = Reader::new(&self.memory);
         close_marks(&mut self.marker, &self.map, &mut reader, roots);
+    }
+
+    /// Ends the marking in one pause with helpers.
+    pub(crate) fn close_with<R: Threads + Wait + Sync, G: Gate>(
+        &mut self,
+        rt: &R,
+        alloc: Global,
+        roots: &[u64],
+        helpers: Helpers,
+        gate: &G,
+    ) {
+        close_marks_with(
+            rt,
+            alloc,
+            &mut self.marker,
+            &self.map,
+            &self.memory,
+            roots,
+            helpers,
+            gate,
+        );
     }
 }

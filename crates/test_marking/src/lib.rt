@@ -10,6 +10,8 @@ mod graph;
 #[cfg(test)]
 mod heap;
 #[cfg(test)]
+mod helpers;
+#[cfg(test)]
 mod overflow;
 #[cfg(test)]
 mod scene;

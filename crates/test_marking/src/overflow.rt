@@ -7,9 +7,9 @@ use words::Kind;
 
 const BUDGETS: [u64; 5] = [1, 2, 3, 299, u64::MAX];
 
-// An object of 512 words points to 300 others, and each seventh of these to a child that nothing else points into. The
-// objects after them are pointed into by nothing.
-fn widen(rt: &impl Abort, scene: &mut Scene) -> Result<(), Fail> {
+/// An object of 512 words points to 300 others, and each seventh of these to a child that nothing else points into. The
+/// objects after them are pointed into by nothing.
+pub(crate) fn widen(rt: &impl Abort, scene: &mut Scene) -> Result<(), Fail> {
     let top = scene.allocate_large(0, 1, Kind::Normal)?;
     let blocks = [
         (1, 2, Kind::Normal, 256),

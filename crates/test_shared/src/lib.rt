@@ -4,6 +4,8 @@
 #[cfg(test)]
 mod attached;
 #[cfg(test)]
+mod helped;
+#[cfg(test)]
 mod rows;
 #[cfg(test)]
 mod scenes;

@@ -1,9 +1,9 @@
 //! The calls that take out what is not reached.
-ghost use Rattle.std.specs.Prelude.{◌≡◌, IsTrue, false};
-ghost use Rattle.plain_core.specs.Collections.{IsCollected, IsForgotten, CantForget};
+ghost use Rattle.std.specs.Prelude.{◌≡◌, IsTrue, true, false};
+ghost use Rattle.plain_core.specs.Collections.{IsCollected, IsTaken, CantTake};
 
 use super::Core;
-use crate::claims::unset_flags;
+use crate::claims::{are_all_named, unset_flags};
 use crate::listing::list_reached;
 use crate::parting::keep_flagged;
 
@@ -18,10 +18,11 @@ impl Core {
         keep_flagged(&mut self.objects, &self.listing.marks) as u64
     }
 
-    /// Takes out the objects with these bases, if they are distinct objects none of which is reached. Else nothing changes.
-    pub fn forget(&mut self, bases: &[u64]) -> bool
-        ensures yes { IsTrue result → IsForgotten self.old bases.now self.new }
-        ensures no { result ≡ false → CantForget self.old bases.now }
+    // Takes out the objects with these bases, if they are distinct objects none of which is reached, and with `all` every
+    // such object. Else nothing changes.
+    fn take(&mut self, bases: &[u64], all: bool) -> bool
+        ensures yes { IsTrue result → IsTaken self.old bases.now all self.new }
+        ensures no { result ≡ false → CantTake self.old bases.now all }
         ensures same { result ≡ false → self.new ≡ self.old }
     {
         self.roots.write_words(&mut self.root_words);
@@ -31,7 +32,28 @@ impl Core {
         if !unset_flags(bases, &self.objects, &self.listing.marks, &mut self.stays) {
             return false;
         }
+        if !are_all_named(all, self.objects.len(), &self.listing.marks, &self.stays) {
+            return false;
+        }
         let _gone = keep_flagged(&mut self.objects, &self.stays);
         true
+    }
+
+    /// Takes out the objects with these bases, if they are distinct objects none of which is reached. Else nothing changes.
+    pub fn forget(&mut self, bases: &[u64]) -> bool
+        ensures yes { IsTrue result → IsTaken self.old bases.now false self.new }
+        ensures no { result ≡ false → CantTake self.old bases.now false }
+        ensures same { result ≡ false → self.new ≡ self.old }
+    {
+        self.take(bases, false)
+    }
+
+    /// Takes out all objects that are not reached, if these are their bases, each once. Else nothing changes.
+    pub fn collect_as(&mut self, bases: &[u64]) -> bool
+        ensures yes { IsTrue result → IsTaken self.old bases.now true self.new }
+        ensures no { result ≡ false → CantTake self.old bases.now true }
+        ensures same { result ≡ false → self.new ≡ self.old }
+    {
+        self.take(bases, true)
     }
 }

@@ -1,8 +1,14 @@
 //! The calls that touch objects.
+ghost use Rattle.std.specs.Prelude.{◌≡◌, IsTrue, false};
+ghost use Rattle.words.specs.declared.class.Placement.{Placement};
+ghost use Rattle.heap_spec.specs.Heap.{Mutator as HeapMutator};
 ghost use Rattle.heap_spec.specs.Replies.{IsStep, done_reply, word_reply, count_reply};
+ghost use Rattle.roots.specs.Roots.{HasMutator};
+ghost use Rattle.plain_core.specs.Answering.{Fits, IsPut, IsAllocatedAt, CantAllocateAt};
 
 use super::Core;
-use crate::extent::{index_at, object_at};
+use crate::extent::{Extent, index_at, object_at};
+use crate::given_place::place_at;
 use crate::places::{place_for, zero};
 use heap_spec::{Call, Event};
 use words::limits::{FIRST_ADDRESS, WORD_BYTES};
@@ -49,11 +55,23 @@ impl Core {
         Ok(())
     }
 
+    // Puts a zeroed object where there is room for it, and its base into a register.
+    fn put(&mut self, slot: Slot, into: Reg, object: Extent)
+        requires mutator { (m : HeapMutator) × HasMutator self.old.roots slot m }
+        requires fits { (placement : Placement) × Fits self.old placement object }
+        ensures { (placement : Placement) → Fits self.old placement object → IsPut self.old slot into placement object self.new }
+    {
+        let start = ((object.base - FIRST_ADDRESS) / WORD_BYTES) as usize;
+        zero(&mut self.words, start, object.length as usize);
+        let _pushed = self.objects.push(object);
+        self.roots.set_word(slot, into, object.base);
+    }
+
     /// Allocates a zeroed object of at least so many words, and puts its base into a register.
     pub fn alloc(&mut self, slot: Slot, into: Reg, words: u64, kind: Kind) -> Result<(), Refusal>
         ensures { IsStep (StandsFor self.old) (Event.Mutator slot (Call.Alloc into words kind)) (done_reply result) (StandsFor self.new) }
     {
-        let Some(_) = self.roots.mutator(slot) else {
+        let Some(_) = self.mutator(slot) else {
             return Err(Refusal::NoSlot);
         };
         let Some(placement) = class_of(words) else {
@@ -62,11 +80,27 @@ impl Core {
         let Some(object) = place_for(&self.objects, self.pages, placement, kind) else {
             return Err(Refusal::Full);
         };
-        let start = ((object.base - FIRST_ADDRESS) / WORD_BYTES) as usize;
-        zero(&mut self.words, start, object.length as usize);
-        let _pushed = self.objects.push(object);
-        self.roots.set_word(slot, into, object.base);
+        self.put(slot, into, object);
         Ok(())
+    }
+
+    /// Allocates a zeroed object at this base, if the request is granted there. Else nothing changes.
+    pub fn alloc_at(&mut self, slot: Slot, into: Reg, words: u64, kind: Kind, base: u64) -> bool
+        ensures yes { IsTrue result → IsAllocatedAt self.old slot into words kind base self.new }
+        ensures no { result ≡ false → CantAllocateAt self.old slot into words kind base }
+        ensures same { result ≡ false → self.new ≡ self.old }
+    {
+        let Some(_) = self.mutator(slot) else {
+            return false;
+        };
+        let Some(placement) = class_of(words) else {
+            return false;
+        };
+        let Some(object) = place_at(&self.objects, self.pages, placement, kind, base) else {
+            return false;
+        };
+        self.put(slot, into, object);
+        true
     }
 
     /// Frees the object whose base a register has.

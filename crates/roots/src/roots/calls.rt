@@ -145,7 +145,7 @@ impl Roots {
         let Some(_) = self.mutator(slot) else {
             return Err(Refusal::NoSlot);
         };
-        let word = self.globals[global.index()];
+        let word = self.global(global);
         self.set_word(slot, into, word);
         Ok(word)
     }

@@ -1,0 +1,138 @@
+-- What helpers know, won and made dirty is put together.
+use Rattle.std.proofs.Common.{◌≡◌, ℕ, ◌+◌, ◌%◌, ◌<◌, ◌≤◌, List, ◌++◌, Bool, true, false, Contains, Option, Some, length, get_or, refl, sym, ap, subst, ◌∙◌, inl, inr, ⊎_elim, mod-lt, arith}
+use Rattle.std.specs.Prelude.{◌⊎◌}
+use Rattle.std.proofs.lemmas.Bool.{cases_eq, true≢false}
+use Rattle.std.proofs.lemmas.List.{get_or_default}
+use Rattle.std.proofs.lemmas.List.Elements.{Contains-append_cases, Contains-append_left, Contains-append_right}
+use Rattle.words.specs.declared.class.Kind.TheVariants.{Normal}
+use Rattle.words.specs.Bits.{Has}
+use Rattle.words.proofs.Sets.{has_inside}
+use Rattle.words.specs.Layout.{granule, page_of}
+use Rattle.mark_bits.specs.declared.claimer_view.ClaimerView.{ClaimerView}
+use Rattle.mark_bits.specs.declared.table.Claimer.{Claimer}
+use Rattle.mark_bits.specs.Tables.{view, start_of, IsOf}
+use Rattle.mark_bits.specs.Claims.{knows, joined, Gathers}
+use Rattle.mark_bits.proofs.Words.{shows-left, shows-right}
+use Rattle.mark_bits.proofs.Gathered.{gathered-each, gathered-start, gathered-won}
+use Rattle.block_map.specs.declared.found.Found.{Found}
+use Rattle.block_map.specs.Objects.{IsMap}
+use Rattle.marker.specs.declared.entry.Entry.{Entry}
+use Rattle.marker.specs.Marking.{Marking, IsMarked, IsPending, Covers, word_address}
+use Rattle.marker.specs.Closure.{Closure, held}
+use Rattle.marker.specs.Invariant.{AreRootsMarked, IsTargetMarked}
+use Rattle.marker.specs.Growth.{Traces}
+use Rattle.marker.proofs.Closures.{same_object}
+use Rattle.each_law.specs.Jobs.{HaveRun}
+use Rattle.final_pause.specs.declared.helper.Helper.{Helper}
+use Rattle.final_pause.specs.declared.share.Pause.{Pause}
+use Rattle.final_pause.specs.Helping.{found, word_in, won_of, IsTargetKnown, IsPageOfWon}
+use Rattle.final_pause.specs.Serving.{IsReached, IsReachedAt, IsEntryRead, IsShareRead, HasServed}
+use Rattle.final_pause.specs.Gathering.{AreNumbered, HasGathered}
+use Rattle.final_pause.proofs.Knowing.{none_in}
+use Rattle.final_pause.proofs.Growing.{target_more}
+use Rattle.final_pause.proofs.Serving.{share_more}
+
+-- each helper was run, and each had the share of its place
+pub served_at : {p : Pause} {old new : List Helper} → HaveRun (λ a b. HasServed p a.share b) old new → AreNumbered old → (i : ℕ) (d : Helper) → i < length new → HasServed p i (get_or new i d)
+served_at {p} {old} {new} run numbered i d lt =
+    let size = run.size in
+    let lt' : i < length old = omega (arith, lt, size) in
+    subst (λ (s : ℕ). HasServed p s (get_or new i d)) (numbered i d lt') (run.each i d d lt')
+
+module _ (p : Pause) where
+  -- one more helper is joined
+  pub gathers_next : (low : ℕ) (first first' : Claimer) (dirty dirty' : List Bool) (h : Helper)
+      → HasGathered p (low + 1) first dirty → HasServed p low h
+      → IsOf p.table.now first' → view first' ≡ joined (view first) (view h.claimer) → length dirty' ≡ length dirty
+      → ((q : ℕ) → Has dirty' q → Has dirty q ⊎ Has h.dirty q) → ((q : ℕ) → Has dirty q → Has dirty' q) → ((q : ℕ) → Has h.dirty q → Has dirty' q)
+      → HasGathered p low first' dirty'
+  gathers_next low first first' dirty dirty' h g s of join len each old more =
+      let left : (k : ℕ) → knows (view first) k ≡ true → knows (view first') k ≡ true = λ k e. ap (λ v. knows v k) join ∙ shows-left k (view first).seen (view h.claimer).seen e in
+      let right : (k : ℕ) → knows (view h.claimer) k ≡ true → knows (view first') k ≡ true = λ k e. ap (λ v. knows v k) join ∙ shows-right k (view first).seen (view h.claimer).seen e in
+      let of_either : (k : ℕ) → Contains (view first').won k → Contains (view first).won k ⊎ Contains (view h.claimer).won k =
+      λ k c. Contains-append_cases (view first).won (view h.claimer).won k (subst (λ (v : ClaimerView). Contains v.won k) join c) in
+      let won_left : (k : ℕ) → Contains (view first).won k → Contains (view first').won k =
+      λ k c. subst (λ (v : ClaimerView). Contains v.won k) (sym join) (Contains-append_left (view first).won (view h.claimer).won k c) in
+      let won_right : (k : ℕ) → Contains (view h.claimer).won k → Contains (view first').won k =
+      λ k c. subst (λ (v : ClaimerView). Contains v.won k) (sym join) (Contains-append_right (view first).won (view h.claimer).won k c) in
+      let parts : (view first').parts ≡ (view first).parts + 1 = ap (λ (v : ClaimerView). v.parts) join ∙ ap (λ (m : ℕ). (view first).parts + m) s.serving.one in
+      let were = g.parts in record {
+        of = of;
+        parts = omega (arith, parts, were);
+        size = len ∙ g.size;
+        won = λ f o m c i lt. ⊎_elim
+            (λ a. ⊎_elim (λ k. inl (target_more p (view first) (view first') left _ k)) (λ d. inr (old _ d)) (g.won f o m a i lt))
+            (λ a. ⊎_elim (λ k. inl (target_more p (view h.claimer) (view first') right _ k))
+            (λ w. ⊎_elim (λ d. inr (more _ d)) (λ e. absurd (none_in h.stack.items f.base s.empty e)) w) (s.serving.won f o m a i lt))
+            (of_either (granule f.base) c);
+        dirtied = λ q d. ⊎_elim
+            (λ a. let w = g.dirtied q a in (w.0, w.1, won_left _ w.2, w.3))
+            (λ a. let w = s.serving.dirtied q a in (w.0, w.1, won_right _ w.2, w.3))
+            (each q d);
+        within = λ k c. ⊎_elim (λ a. g.within k a) (λ a. s.serving.within k a) (of_either k c);
+        shares = λ n le lt. ⊎_elim
+            (λ (e : n ≡ low). subst (IsShareRead p (view first')) (sym e) (share_more p (view h.claimer) (view first') right low s.read))
+            (λ ne. share_more p (view first) (view first') left n (g.shares n (omega (arith, le, ne)) lt))
+            (cases_eq n low);
+      }
+
+-- the table's bits are the marks, and the row's pages the dirty ones
+module _ {p : Pause} (first : Claimer) (dirty : List Bool) (new : Marking) (g : HasGathered p 0 first dirty)
+    (map : IsMap (length p.map.now) (found p)) (some : 0 < p.helpers) (start : start_of p.table.now ≡ p.marker.now.marks) (pages : length p.marker.now.dirty ≡ length p.map.now) (gathered : Gathers (start_of p.table.now) (view first).won new.marks)
+    (known : (k : ℕ) → knows (view first) k ≡ true → Has new.marks k) (row : new.dirty ≡ dirty) where
+  abbrev old : Marking
+  old = p.marker.now
+
+  was : (k : ℕ) → Has old.marks k → Has new.marks k
+  was k h = gathered-start (start_of p.table.now) (view first).won new.marks gathered k (subst (λ m. Has m k) (sym start) h)
+
+  either : (k : ℕ) → Has new.marks k → Has old.marks k ⊎ Contains (view first).won k
+  either k h = ⊎_elim (λ e. inl (subst (λ m. Has m k) start e)) (λ c. inr c) (gathered-each (start_of p.table.now) (view first).won new.marks gathered k h)
+
+  is_new : (k : ℕ) → Contains (view first).won k → (Has old.marks k → ⊥) × Has new.marks k
+  is_new k c =
+      let w = gathered-won (start_of p.table.now) (view first).won new.marks gathered k c in
+      ((λ h. true≢false (sym (subst (λ m. Has m k) (sym start) h) ∙ w.1)), w.0)
+
+  target : (w : ℕ) → IsTargetKnown p (view first) w → IsTargetMarked (found p) new w
+  target w k f e = known (granule f.base) (k f e)
+
+  read_pending : (f : Found) → found p f.base ≡ Some f → f.kind ≡ Normal → IsMarked old f.base → (i : ℕ) → i < f.len → IsPending old f.base i → IsTargetKnown p (view first) (word_in p f i)
+  read_pending f o n m i lt q =
+      ⊎_elim
+      (λ (c : old.current ≡ Some q.entry). (g.shares 0 (omega arith) some).current refl q.entry c f o (sym q.same) n m i q.left lt)
+      (λ (c : Contains old.stack q.entry).
+      let read : IsEntryRead p (view first) (get_or old.stack c.0 q.entry) = (g.shares (c.0 % p.helpers) (omega arith) (mod-lt c.0 some)).entries c.0 q.entry c.1 refl in
+      subst (IsEntryRead p (view first)) c.2 read f o (sym q.same) n m i q.left lt)
+      q.one
+
+  read_dirty : (f : Found) → found p f.base ≡ Some f → f.kind ≡ Normal → IsMarked old f.base → (i : ℕ) → i < f.len → Has old.dirty (page_of (word_address f i)) → IsTargetKnown p (view first) (word_in p f i)
+  read_dirty f o n m i lt d =
+      let page : ℕ = page_of (word_address f i) in
+      let inside : page < length p.map.now = (let l = has_inside old.dirty page d in omega (arith, l, pages)) in
+      let above = (map.placed f.base f o).above in
+      (g.shares (page % p.helpers) (omega arith) (mod-lt page some)).pages page inside refl d f o n m i lt (omega (arith, above)) (omega (arith, above))
+
+  pub gathered_traces : Traces (found p) p.memory.now p.roots.now p.marker.now new
+  gathered_traces = record {
+    marks_len = gathered.size ∙ ap length start;
+    dirty_len = ap length row ∙ (g.size ∙ sym pages);
+    marks = λ b h. was (granule b) h;
+    objects = λ k h. ⊎_elim (λ e. inl e) (λ c. let r = g.within k c in inr (record { object = r.object; is = r.is; first = r.first })) (either k h);
+    within = λ f o h. ⊎_elim
+        (λ e. held o e)
+        (λ c. let r = g.within (granule f.base) c in subst (IsReached p) (same_object (length p.map.now) (found p) map r.object f r.is o r.first) r.reached)
+        (either (granule f.base) h);
+    dirtied = λ q h. let w = g.dirtied q (subst (λ d. Has d q) row h) in let n = is_new (granule w.0.base) w.2 in inr (w.0, (w.1, n.0, n.1), w.3);
+    keeps = λ inv f o n h i lt. ⊎_elim
+        (λ e. ⊎_elim (λ k. inl (λ x y. was (granule x.base) (k x y)))
+        (λ a. ⊎_elim (λ d. inl (target _ (read_dirty f o n e i lt d))) (λ q. inl (target _ (read_pending f o n e i lt q))) a)
+        (inv f o n e i lt))
+        (λ c. ⊎_elim (λ k. inl (target _ k)) (λ d. inr (inl (subst (λ d. Has d (page_of (word_address f i))) (sym row) d))) (g.won f o n c i lt))
+        (either (granule f.base) h);
+  }
+
+  pub gathered_roots : AreRootsMarked (found p) p.roots.now new
+  gathered_roots w (i, lt, e) =
+      let k : IsTargetKnown p (view first) (get_or p.roots.now i 0) = (g.shares (i % p.helpers) (omega arith) (mod-lt i some)).roots i lt refl in
+      target w (subst (λ (n : ℕ). IsTargetKnown p (view first) n) (get_or_default p.roots.now i 0 w lt ∙ e) k)

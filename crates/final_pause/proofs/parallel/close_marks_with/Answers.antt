@@ -1,0 +1,26 @@
+use Rattle.std.proofs.Common.{◌≡◌, ℕ, List, Some, subst}
+use Rattle.words.specs.Bits.{Has}
+use Rattle.words.specs.Layout.{granule}
+use Rattle.block_map.specs.declared.found.Found.{Found}
+use Rattle.block_map.specs.FoundIn.{found_in}
+use Rattle.marker.specs.Marking.{IsMarked}
+use Rattle.marker.specs.Closure.{Closure}
+use Rattle.marker.specs.Growth.{Traces}
+use Rattle.marker.proofs.Closures.{closure_same}
+use Rattle.marker.proofs.Growing.{traces_trans}
+use Rattle.final_pause.proofs.parallel.close_marks_with.Goals as goal
+
+pub returns-clause-closure : goal.returns-clause-closure
+returns-clause-closure g c = λ f e.
+    let found = found_in c.args.map.now in let words = c.args.memory.now in let roots = c.args.roots.now in
+    let mid = c.mark_with_helpers.new.marker in let new = c.close_marks.new.marker in
+    let same = closure_same found words roots c.args.marker.now mid c.mark_with_helpers.ensures.traces f in
+    let closed = subst (λ (w : List ℕ). (IsMarked new f.base → Closure found w roots (IsMarked mid) f) × (Closure found w roots (IsMarked mid) f → IsMarked new f.base)) c.new-reader.ensures.words (c.close_marks.ensures.closure f e) in
+    ((λ k. same.0 (closed.0 k)), (λ k. closed.1 (same.1 k)))
+
+pub returns-clause-traces : goal.returns-clause-traces
+returns-clause-traces g c =
+    let found = found_in c.args.map.now in let words = c.args.memory.now in let roots = c.args.roots.now in
+    let mid = c.mark_with_helpers.new.marker in let new = c.close_marks.new.marker in
+    traces_trans found words roots c.args.marker.now mid new c.mark_with_helpers.ensures.traces
+    (subst (λ (w : List ℕ). Traces found w roots mid new) c.new-reader.ensures.words c.close_marks.ensures.traces)

@@ -1,0 +1,42 @@
+use Rattle.std.proofs.Common.{◌≡◌, ◌∙◌, true, length, sym, ap, rules, arith}
+use Rattle.words.specs.declared.class.Kind.TheVariants.{Normal, PointerFree}
+use Rattle.mark_bits.specs.Tables.{view}
+use Rattle.marker.specs.Closure.{held}
+use Rattle.marker.proofs.Closures.{at_base}
+use Rattle.marker.proofs.MarkWord.{markable}
+use Rattle.final_pause.specs.Helping.{found}
+use Rattle.final_pause.proofs.Serving.{serves_words, part_read}
+use Rattle.final_pause.proofs.share.Pause.read_part.Goals as goal
+
+pub is_marked-requires-clause-low : goal.is_marked-requires-clause-low
+is_marked-requires-clause-low g c = (c.requires.serving.fits.ready.map.placed _ _ c.requires.next.reads).above
+
+pub is_marked-requires-clause-inside : goal.is_marked-requires-clause-inside
+is_marked-requires-clause-inside g c =
+    let p = c.args.self.now in let r = c.requires.serving.fits.ready in
+    (markable (length p.map.now) (found p) c.requires.next.at c.args.found p.marker.now.marks r.map c.requires.next.reads (ap length (sym r.start) ∙ r.granules)).1
+
+pub returns-then-eq-clause-read : goal.returns-then-eq-clause-read
+returns-then-eq-clause-read g c =
+    let k : c.args.found.kind ≡ PointerFree = search rules in
+    part_read c.args.self.now c.requires.serving.fits.ready.map (view c.args.helper.now.claimer) c.args.low c.args.high c.part-part.result.stop c.args.found c.requires.next c.part-part.ensures.end
+    (λ n. let x : PointerFree ≡ Normal = sym k ∙ n in absurd (cc x))
+
+pub returns-then-not-is_marked-clause-read : goal.returns-then-not-is_marked-clause-read
+returns-then-not-is_marked-clause-read g c =
+    part_read c.args.self.now c.requires.serving.fits.ready.map (view c.args.helper.now.claimer) c.args.low c.args.high c.part-part.result.stop c.args.found c.requires.next c.part-part.ensures.end
+    (λ n m. let t : c.is_marked.result ≡ true = c.is_marked.ensures ∙ m in grind (arith, t, c.if-not-is_marked.true))
+
+pub returns-clause-serves : goal.returns-clause-serves
+returns-clause-serves g c =
+    let p = c.args.self.now in let map = c.requires.serving.fits.ready.map in
+    let k : c.args.found.kind ≡ Normal = search rules in
+    let t : c.is_marked.result ≡ true = search rules in
+    serves_words p map c.args.found _ _ c.args.helper.now c.read_words.new.helper
+    (held (at_base (length p.map.now) (found p) map c.requires.next.at c.args.found c.requires.next.reads) (sym c.is_marked.ensures ∙ t)) k c.read_words.ensures c.requires.serving
+
+pub returns-clause-read : goal.returns-clause-read
+returns-clause-read g c =
+    let e = c.part-part.ensures in
+    part_read c.args.self.now c.requires.serving.fits.ready.map (view c.read_words.new.helper.claimer) c.args.low c.args.high c.part-part.result.stop c.args.found c.requires.next e.end
+    (λ n m i lt from below. c.read_words.ensures.targets i (e.from i from) (e.below i below))

@@ -1,0 +1,53 @@
+use Rattle.std.proofs.Common.{◌≡◌, ◌<◌, ◌∙◌, ◌∷◌, ℕ, List, Bool, true, false, length, sym, ap, subst, refl}
+use Rattle.std.specs.Prelude.{if◌then◌else◌}
+use Rattle.std.proofs.lemmas.Bool.{true≢false, false_from_ne_true}
+use Rattle.words.specs.Layout.{granule}
+use Rattle.mark_bits.specs.Tables.{view, start_of}
+use Rattle.mark_bits.specs.Claims.{knows}
+use Rattle.block_map.specs.Objects.{IsPlaced}
+use Rattle.marker.proofs.Closures.{at_base}
+use Rattle.final_pause.specs.Helping.{found, won_of}
+use Rattle.final_pause.proofs.Growing.{visit_old, visit_new}
+use Rattle.final_pause.proofs.share.Pause.visit.Goals as goal
+
+pub granule-granule-requires-clause-object : goal.granule-granule-requires-clause-object
+granule-granule-requires-clause-object g c =
+    let p = c.args.self.now in
+    at_base (length p.map.now) (found p) c.requires.ready.map c.args.word c.in-Some.found (sym c.find.ensures.found ∙ c.in-Some.is)
+
+pub keep-requires-clause-placed : goal.keep-requires-clause-placed
+keep-requires-clause-placed g c =
+    subst (λ (n : ℕ). IsPlaced n c.in-Some.found) (sym (ap length c.claim.ensures.dirty ∙ c.requires.dirty))
+    (c.requires.ready.map.placed c.args.word c.in-Some.found (sym c.find.ensures.found ∙ c.in-Some.is))
+
+pub returns-then-is_set : goal.returns-then-is_set
+returns-then-is_set g c =
+    let k = c.is_set.ensures in
+    visit_old c.args.self.now c.args.word c.in-Some.found c.args.helper.now (record c.args.helper.now { claimer = c.is_set.new.me })
+    (sym c.find.ensures.found ∙ c.in-Some.is) k.of refl refl refl k.learns
+    (ap (λ (n : ℕ). knows (view c.is_set.new.me) n) (sym c.granule-granule.ensures.value) ∙ k.set c.if-is_set.true) k.won
+
+pub returns-then-claim : goal.returns-then-claim
+returns-then-claim g c =
+    let s = c.is_set.ensures in let k = c.claim.ensures in
+    let won : List ℕ = (view c.is_set.new.me).won in
+    let n : ℕ = c.granule-granule.result in
+    let is : n ≡ granule c.in-Some.found.base = c.granule-granule.ensures.value in
+    visit_new c.args.self.now c.args.word c.in-Some.found c.args.helper.now c.claim.new.helper c.keep.new.helper
+    c.requires.ready.map c.requires.ready.granules (sym c.find.ensures.found ∙ c.in-Some.is) k.of k.stack k.dirty k.share
+    (record { parts = k.learns.parts ∙ s.learns.parts; known = λ j e. k.learns.known j (s.learns.known j e) })
+    (ap (λ (j : ℕ). knows (view c.claim.new.helper.claimer) j) (sym is) ∙ k.known)
+    (ap (λ (j : ℕ). knows (view c.args.helper.now.claimer) j) (sym is) ∙ false_from_ne_true (knows (view c.args.helper.now.claimer) n) (λ e. true≢false (sym (s.known e) ∙ c.if-is_set.false)))
+    (k.won ∙ (ap (λ (b : Bool). if b then n ∷ won else won) c.if-claim.true ∙ (ap (λ (j : ℕ). j ∷ won) is ∙ ap (λ (l : List ℕ). granule c.in-Some.found.base ∷ l) s.won)))
+    c.keep.ensures
+
+pub returns-else-claim : goal.returns-else-claim
+returns-else-claim g c =
+    let s = c.is_set.ensures in let k = c.claim.ensures in
+    let won : List ℕ = (view c.is_set.new.me).won in
+    let n : ℕ = c.granule-granule.result in
+    visit_old c.args.self.now c.args.word c.in-Some.found c.args.helper.now c.claim.new.helper
+    (sym c.find.ensures.found ∙ c.in-Some.is) k.of k.stack k.dirty k.share
+    (record { parts = k.learns.parts ∙ s.learns.parts; known = λ j e. k.learns.known j (s.learns.known j e) })
+    (ap (λ (j : ℕ). knows (view c.claim.new.helper.claimer) j) (sym c.granule-granule.ensures.value) ∙ k.known)
+    (k.won ∙ (ap (λ (b : Bool). if b then n ∷ won else won) c.if-claim.false ∙ s.won))

@@ -1,0 +1,139 @@
+-- What a helper of a pause does with a word.
+use Rattle.std.specs.Prelude.{◌≡◌, ℕ, zero, suc, ◌+◌, ◌*◌, ◌%◌, ◌<◌, ◌≤◌, Bool, true, false, List, length, Contains, Option, Some, ◌⊎◌, if◌then◌else◌}
+use Rattle.words.specs.declared.class.Kind.TheVariants.{Normal}
+use Rattle.words.specs.declared.limits.TheConstants.{MAX_PAGES, PAGE_GRANULES, PAGE_WORDS, WORD_BYTES}
+use Rattle.words.specs.Bits.{Has}
+use Rattle.words.specs.Layout.{page_of, granule}
+use Rattle.mark_bits.specs.declared.claimer_view.ClaimerView.{ClaimerView}
+use Rattle.mark_bits.specs.Tables.{view, start_of, IsOf}
+use Rattle.mark_bits.specs.Claims.{knows, LearnsMore}
+use Rattle.pages.specs.Memory.{word_at}
+use Rattle.block_map.specs.declared.found.Found.{Found}
+use Rattle.block_map.specs.Objects.{IsMap}
+use Rattle.block_map.specs.FoundIn.{found_in}
+use Rattle.marker.specs.Marking.{Covers, word_address}
+use Rattle.final_pause.specs.declared.helper.Helper.{Helper}
+use Rattle.final_pause.specs.declared.share.Pause.{Pause}
+use Rattle.final_pause.specs.declared.share.Part.{Part}
+
+-- the object that a word points into
+abbrev pub found : Pause → ℕ → Option Found
+found p = found_in p.map.now
+
+-- the word i of an object
+abbrev pub word_in : Pause → Found → ℕ → ℕ
+word_in p f i = word_at p.memory.now (word_address f i)
+
+-- a word points into the object
+pub record IsFound (p : Pause) (f : Found) : Type 0 where
+  pub word : ℕ
+  pub points : found p word ≡ Some f
+
+-- the words of an object that stand between two addresses, up to the object's end or the second address
+pub record IsPartBetween (low high : ℕ) (f : Found) (part : Part) : Type 0 where
+  pub inside : part.first + part.count ≤ f.len
+  pub from : (i : ℕ) → low ≤ word_address f i → part.first ≤ i
+  pub below : (i : ℕ) → word_address f i < part.stop → i < part.first + part.count
+  pub further : low < part.stop
+  pub within : part.stop ≤ high
+  pub end : part.stop ≤ f.base + WORD_BYTES * f.len
+  pub aligned : part.stop % WORD_BYTES ≡ 0
+
+-- the granules that the helper won
+abbrev pub won_of : Helper → List ℕ
+won_of h = (view h.claimer).won
+
+-- What is true of each pause while helpers are at work: the table began with the marker's marks, and marks, dirty pages and
+-- memory are those of the map's pages.
+pub record IsReady (p : Pause) : Type 0 where
+  pub start : start_of p.table.now ≡ p.marker.now.marks
+  pub granules : length (start_of p.table.now) ≡ PAGE_GRANULES * length p.map.now
+  pub pages : length p.marker.now.dirty ≡ length p.map.now
+  pub few : length p.map.now ≤ MAX_PAGES
+  pub memory : length p.memory.now ≡ PAGE_WORDS * length p.map.now
+  pub some : 0 < p.helpers
+  pub map : IsMap (length p.map.now) (found p)
+
+-- the helper is one of this pause
+pub record Fits (p : Pause) (h : Helper) : Type 0 where
+  pub ready : IsReady p
+  pub of : IsOf p.table.now h.claimer
+  pub dirty : length h.dirty ≡ length p.map.now
+
+-- the object that the word points into, if any, is known to be marked
+abbrev pub IsTargetKnown : Pause → ClaimerView → ℕ → Type 0
+IsTargetKnown p v w = (g : Found) → found p w ≡ Some g → knows v (granule g.base) ≡ true
+
+-- the word i of the object will be read: by this helper, or after the join
+abbrev pub IsAwaited : Helper → Found → ℕ → Type 0
+IsAwaited h f i = Has h.dirty (page_of (word_address f i)) ⊎ Contains h.stack.items f.base
+
+-- the page is one of an object that the helper won
+abbrev pub IsPageOfWon : Pause → Helper → ℕ → Type 0
+IsPageOfWon p h q = (f : Found) × (found p f.base ≡ Some f) × Contains (won_of h) (granule f.base) × Covers f q
+
+-- an object waits to be read, and nothing else has changed
+pub record Keeps (f : Found) (old new : Helper) : Type 0 where
+  pub claimer : new.claimer ≡ old.claimer
+  pub share : new.share ≡ old.share
+  pub dirty_len : length new.dirty ≡ length old.dirty
+  pub dirty : (q : ℕ) → Has old.dirty q → Has new.dirty q
+  pub covered : (q : ℕ) → Has new.dirty q → Has old.dirty q ⊎ Covers f q
+  pub stack : (b : ℕ) → Contains old.stack.items b → Contains new.stack.items b
+  pub awaited : f.kind ≡ Normal → (i : ℕ) → i < f.len → IsAwaited new f i
+  pub entries : (b : ℕ) → Contains new.stack.items b → Contains old.stack.items b ⊎ ((b ≡ f.base) × (f.kind ≡ Normal))
+  pub size : length new.stack.items ≤ length old.stack.items + 1
+
+abbrev pub unseen : Bool → ℕ
+unseen b = if b then 0 else 1
+
+-- how many of the first n granules the claimer doesn't know to be marked
+abbrev pub unknown : ℕ → ClaimerView → ℕ
+unknown zero v = 0
+unknown (suc n) v = unseen (knows v n) + unknown n v
+
+-- what bounds the objects that the helper will read yet
+abbrev pub left : Pause → Helper → ℕ
+left p h = 2 * unknown (length (start_of p.table.now)) (view h.claimer) + length h.stack.items
+
+-- What the helper knows, its dirty pages and its entries only grow; each word of a newly won object is awaited, and only
+-- pages of these have become dirty.
+pub record Extends (p : Pause) (old new : Helper) : Type 0 where
+  pub of : IsOf p.table.now new.claimer
+  pub share : new.share ≡ old.share
+  pub learns : LearnsMore (view old.claimer) (view new.claimer)
+  pub won : (k : ℕ) → Contains (won_of old) k → Contains (won_of new) k
+  pub dirty_len : length new.dirty ≡ length old.dirty
+  pub dirty : (q : ℕ) → Has old.dirty q → Has new.dirty q
+  pub dirtied : (q : ℕ) → Has new.dirty q → Has old.dirty q ⊎ IsPageOfWon p new q
+  pub stack : (b : ℕ) → Contains old.stack.items b → Contains new.stack.items b
+  pub fresh : (f : Found) → found p f.base ≡ Some f → Contains (won_of new) (granule f.base)
+      → Contains (won_of old) (granule f.base) ⊎ (f.kind ≡ Normal → (i : ℕ) → i < f.len → IsAwaited new f i)
+  pub left : left p new ≤ left p old
+
+-- one of these words points into an object
+pub record IsPointedInto (p : Pause) (P : ℕ → Type 0) (object : Found) : Type 0 where
+  pub word : ℕ
+  pub one : P word
+  pub points : found p word ≡ Some object
+
+-- only objects that one of these words points into were won and put on the stack
+pub record ClaimsOnly (p : Pause) (P : ℕ → Type 0) (old new : Helper) : Type 0 where
+  pub won : (k : ℕ) → Contains (won_of new) k → Contains (won_of old) k ⊎ ((f : Found) × IsPointedInto p P f × (granule f.base ≡ k))
+  pub entries : (b : ℕ) → Contains new.stack.items b → Contains old.stack.items b ⊎ ((f : Found) × IsPointedInto p P f × (f.base ≡ b) × (f.kind ≡ Normal))
+
+-- what the word points into is known to be marked, and nothing else was won
+pub record Visits (p : Pause) (w : ℕ) (old new : Helper) : Type 0 where
+  pub extends : Extends p old new
+  pub target : IsTargetKnown p (view new.claimer) w
+  pub only : ClaimsOnly p (λ v. v ≡ w) old new
+
+-- the word is one of the object
+abbrev pub IsWordOf : Pause → Found → ℕ → Type 0
+IsWordOf p f w = (i : ℕ) × (i < f.len) × (w ≡ word_in p f i)
+
+-- what n words of an object point into, from its word `first` on, is known to be marked, and nothing else was won
+pub record ReadsWords (p : Pause) (f : Found) (first n : ℕ) (old new : Helper) : Type 0 where
+  pub extends : Extends p old new
+  pub targets : (i : ℕ) → first ≤ i → i < first + n → IsTargetKnown p (view new.claimer) (word_in p f i)
+  pub only : ClaimsOnly p (IsWordOf p f) old new

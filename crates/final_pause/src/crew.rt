@@ -1,0 +1,115 @@
+//! All helpers of a pause: how they are made ready, and how they are joined.
+ghost use Rattle.std.specs.Prelude.{◌≡◌, ℕ, ◌+◌, ◌<◌, ◌≤◌, ◌⊎◌, All, IfOk, length, vec_len, slice_index_or};
+ghost use Rattle.words.specs.Bits.{Has};
+ghost use Rattle.words.specs.declared.limits.TheConstants.{MAX_HELPERS, MAX_PAGES};
+ghost use Rattle.mark_bits.specs.Tables.{view, IsOf};
+ghost use Rattle.mark_bits.specs.Claims.{joined};
+ghost use Rattle.final_pause.specs.declared.helper.Helper.{Helper as HelperValue};
+ghost use Rattle.final_pause.specs.Serving.{IsHired, HasServed};
+ghost use Rattle.final_pause.specs.Gathering.{AreNumbered, HasGathered};
+
+use crate::gate::FIRST_HELPER;
+use crate::helper::Helper;
+use crate::share::Pause;
+use arrayvec::ArrayVec;
+use dirty_pages::DirtyPages;
+use mark_bits::{Claimer, MarkTable};
+use std::alloc::{AllocError, Global};
+use words::PageNo;
+use words::limits::{MAX_HELPERS, MAX_PAGES};
+
+// A helper with nothing to do yet.
+fn new_helper(
+    alloc: Global,
+    table: &MarkTable,
+    pages: PageNo,
+    first: &mut Claimer,
+    share: u8,
+) -> Result<Helper, AllocError>
+    requires of { IsOf table.now first.old }
+    requires parts { 1 < (view first.old).parts }
+    requires pages { pages ≤ MAX_PAGES }
+    requires few { share < MAX_HELPERS }
+    ensures of { IsOf table.now first.new }
+    ensures share { IfOk result (λ h. h.share ≡ share) }
+    ensures parts { IfOk result (λ h. (view first.new).parts + 1 ≡ (view first.old).parts) }
+    ensures won { (view first.new).won ≡ (view first.old).won }
+    ensures hired { IfOk result (λ h. IsHired table.now pages h) }
+{
+    let dirty = DirtyPages::new(alloc, pages)?;
+    let claimer = table.split(first);
+    Ok(Helper {
+        claimer,
+        stack: ArrayVec::new(),
+        dirty,
+        share: share as usize,
+        actor: FIRST_HELPER + share,
+        call: 0,
+    })
+}
+
+/// Cuts off a claimer for each helper, and takes all their memory.
+pub(crate) fn hire(
+    alloc: Global,
+    table: &MarkTable,
+    pages: PageNo,
+    first: &mut Claimer,
+    helpers: u8,
+) -> Result<Vec<Helper>, AllocError>
+    requires of { IsOf table.now first.old }
+    requires parts { helpers < (view first.old).parts }
+    requires pages { pages ≤ MAX_PAGES }
+    requires few { helpers ≤ MAX_HELPERS }
+    ensures of { IfOk result (λ v. IsOf table.now first.new) }
+    ensures won { (view first.new).won ≡ (view first.old).won }
+    ensures size { IfOk result (λ v. (vec_len v ≡ helpers) × ((view first.new).parts + helpers ≡ (view first.old).parts)) }
+    ensures hired { IfOk result (λ v. All (λ h. IsHired table.now pages h) v.items) }
+    ensures numbered { IfOk result (λ v. AreNumbered v.items) }
+{
+    let mut crew = Vec::with_capacity(alloc, helpers as usize)?;
+    for i in 0..helpers {
+        crew.push(new_helper(alloc, table, pages, first, i)?)?;
+    }
+    Ok(crew)
+}
+
+// Joins one helper.
+fn take_in(table: &MarkTable, first: &mut Claimer, dirty: &mut DirtyPages, helper: Helper)
+    requires of { IsOf table.now first.old }
+    requires helper { IsOf table.now helper.claimer }
+    requires size { length helper.dirty ≡ length dirty.old }
+    ensures of { IsOf table.now first.new }
+    ensures joined { view first.new ≡ joined (view first.old) (view helper.claimer) }
+    ensures size { length dirty.new ≡ length dirty.old }
+    ensures each { (q : ℕ) → Has dirty.new q → Has dirty.old q ⊎ Has helper.dirty q }
+    ensures old { (q : ℕ) → Has dirty.old q → Has dirty.new q }
+    ensures more { (q : ℕ) → Has helper.dirty q → Has dirty.new q }
+{
+    let Helper {
+        claimer,
+        stack: _,
+        dirty: more,
+        share: _,
+        actor: _,
+        call: _,
+    } = helper;
+    table.join(first, claimer);
+    dirty.add(&more);
+}
+
+/// Joins all helpers.
+pub(crate) fn gather(
+    pause: &Pause,
+    first: &mut Claimer,
+    dirty: &mut DirtyPages,
+    mut crew: Vec<Helper>,
+)
+    requires all { vec_len crew ≡ pause.now.helpers }
+    requires first { HasGathered pause.now (vec_len crew) first.old dirty.old }
+    requires done { (i : ℕ) (d : HelperValue) → i < vec_len crew → HasServed pause.now i (slice_index_or crew.items i d) }
+    ensures { HasGathered pause.now 0 first.new dirty.new }
+{
+    while let Some(helper) = crew.pop() {
+        take_in(pause.table, first, dirty, helper);
+    }
+}

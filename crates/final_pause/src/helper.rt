@@ -1,0 +1,73 @@
+//! One helper of a pause: what it holds, and what it does with an object.
+ghost use Rattle.std.specs.Prelude.{◌≡◌, ℕ, ◌+◌, ◌<◌, ◌≤◌, [], true, false, ◌∷◌, length, slice_index_or, if◌then◌else◌};
+ghost use Rattle.words.specs.declared.limits.TheConstants.{MAX_PAGES};
+ghost use Rattle.mark_bits.specs.Tables.{view, start_of, IsOf};
+ghost use Rattle.mark_bits.specs.Claims.{knows, LearnsMore};
+ghost use Rattle.block_map.specs.Objects.{IsPlaced};
+ghost use Rattle.final_pause.specs.Helping.{Keeps};
+
+use crate::gate::Gate;
+use arrayvec::ArrayVec;
+use block_map::Found;
+use dirty_pages::DirtyPages;
+use mark_bits::{Claimer, MarkTable};
+use marker::dirty_object;
+use words::Kind;
+use words::limits::MARK_STACK_ENTRIES;
+
+// The entries of a helper's stack.
+const ENTRIES: usize = MARK_STACK_ENTRIES as usize;
+
+/// What one helper marks with: its claimer, the bases of the objects that it still has to read, the pages of those that
+/// found no room, its place among the helpers, its number for the gate, and how many claims it has made.
+#[derive(Drop)]
+pub(crate) struct Helper {
+    pub(crate) claimer: Claimer,
+    pub(crate) stack: ArrayVec<u64, ENTRIES>,
+    pub(crate) dirty: DirtyPages,
+    pub(crate) share: usize,
+    pub(crate) actor: u8,
+    pub(crate) call: u32,
+}
+
+// A claim between two calls of the gate.
+pub(crate) fn claim<G: Gate>(
+    table: &MarkTable,
+    gate: &G,
+    helper: &mut Helper,
+    granule: usize,
+) -> bool
+    requires of { IsOf table.now helper.old.claimer }
+    requires inside { granule < length (start_of table.now) }
+    ensures of { IsOf table.now helper.new.claimer }
+    ensures stack { helper.new.stack ≡ helper.old.stack }
+    ensures dirty { helper.new.dirty ≡ helper.old.dirty }
+    ensures share { helper.new.share ≡ helper.old.share }
+    ensures learns { LearnsMore (view helper.old.claimer) (view helper.new.claimer) }
+    ensures known { knows (view helper.new.claimer) granule ≡ true }
+    ensures won { (view helper.new.claimer).won ≡ (if result then granule ∷ (view helper.old.claimer).won else (view helper.old.claimer).won) }
+    ensures unknown { result ≡ true → knows (view helper.old.claimer) granule ≡ false }
+{
+    gate.before(helper.actor, helper.call);
+    let won = table.claim(&mut helper.claimer, granule);
+    gate.after(helper.actor, helper.call);
+    helper.call = helper.call.wrapping_add(1);
+    won
+}
+
+// Sees to it that the words of an object that the helper won are read: it waits on the stack, or where that is full, the
+// pages that it covers become dirty.
+pub(crate) fn keep(helper: &mut Helper, found: Found)
+    requires placed { IsPlaced (length helper.old.dirty) found }
+    requires small { length helper.old.dirty ≤ MAX_PAGES }
+    ensures { Keeps found helper.old helper.new }
+{
+    if found.kind == Kind::PointerFree {
+        return;
+    }
+    if helper.stack.is_full() {
+        dirty_object(&mut helper.dirty, found);
+    } else {
+        helper.stack.push(found.base);
+    }
+}

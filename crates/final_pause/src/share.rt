@@ -1,0 +1,259 @@
+//! The share of one helper: root words and entries by their places, and what they lead to.
+ghost use Rattle.std.specs.Prelude.{◌≡◌, ℕ, ◌+◌, ◌*◌, ◌%◌, ◌<◌, ◌≤◌, [], true, Some, length};
+ghost use Rattle.mark_bits.specs.Tables.{view, start_of};
+ghost use Rattle.words.specs.Layout.{granule};
+ghost use Rattle.words.specs.declared.limits.TheConstants.{WORD_BYTES};
+ghost use Rattle.block_map.specs.FoundIn.{found_in};
+ghost use Rattle.block_map.specs.Walks.{IsNextObject};
+ghost use Rattle.words.specs.Bits.{Has};
+ghost use Rattle.final_pause.specs.Helping.{IsReady, IsFound, IsPartBetween, Fits, Visits, ReadsWords};
+ghost use Rattle.final_pause.specs.Serving.{IsServing, Serves, IsEntryRead, HasServed, AreRootsRead, AreEntriesRead, IsCurrentRead, AreWordsRead, IsPageRead, ArePagesRead};
+
+use crate::gate::Gate;
+use crate::helper::{Helper, claim, keep};
+use block_map::{BlockMap, Found};
+use mark_bits::{MarkTable, granule_of};
+use marker::{Entry, Marker};
+use pages::Memory;
+use words::limits::{PAGE_BYTES, WORD_BYTES};
+use words::{Kind, PageNo, page_start};
+
+/// What the helpers of a pause share. No helper changes any of it but the table, by claims.
+#[derive(Clone, Copy)]
+pub(crate) struct Pause<'a> {
+    pub(crate) table: &'a MarkTable,
+    pub(crate) marker: &'a Marker,
+    pub(crate) map: &'a BlockMap,
+    pub(crate) memory: &'a Memory,
+    pub(crate) roots: &'a [u64],
+    pub(crate) helpers: usize,
+}
+
+// Some words of an object: so many, from its word `first` on, and the address at which they end.
+#[derive(Clone, Copy)]
+struct Part {
+    first: u32,
+    count: u64,
+    stop: u64,
+}
+
+impl<'a> Pause<'a> {
+    // The granule at which an object begins.
+    #[inline]
+    fn granule(&self, found: Found) -> usize
+        requires ready { IsReady self.now }
+        requires object { found_in self.now.map.now found.base ≡ Some found }
+        ensures value { result ≡ granule found.base }
+        ensures inside { result < length (start_of self.now.table.now) }
+    {
+        granule_of(found.base)
+    }
+
+    // Marks the object that a word points into. Where this helper is the first to, the object is its own to read.
+    fn visit<G: Gate>(&self, gate: &G, helper: &mut Helper, word: u64)
+        requires { Fits self.now helper.old }
+        ensures { Visits self.now word helper.old helper.new }
+    {
+        let Some(found) = self.map.find(word) else {
+            return;
+        };
+        let granule = self.granule(found);
+        // A look is cheaper than a claim, and most words point into marked objects.
+        if self.table.is_set(&mut helper.claimer, granule) {
+            return;
+        }
+        if claim(self.table, gate, helper, granule) {
+            keep(helper, found);
+        }
+    }
+
+    // Marks what words of an object point into: so many, from its word `first` on.
+    fn read_words<G: Gate>(
+        &self,
+        gate: &G,
+        helper: &mut Helper,
+        found: Found,
+        first: u32,
+        count: u64,
+    )
+        requires fits { Fits self.now helper.old }
+        requires object { IsFound self.now found }
+        requires inside { first + count ≤ found.len }
+        ensures { ReadsWords self.now found first count helper.old helper.new }
+    {
+        let start = found.base + WORD_BYTES * u64::from(first);
+        for i in 0..count {
+            let word = self.memory.read(start + WORD_BYTES * i);
+            self.visit(gate, helper, word);
+        }
+    }
+
+    // Reads the objects on the helper's stack, and those that come there, until none is left.
+    fn read_stack<G: Gate>(&self, gate: &G, helper: &mut Helper)
+        requires { IsServing self.now helper.old }
+        ensures serves { Serves self.now helper.old helper.new }
+        ensures empty { helper.new.stack.items ≡ [] }
+    {
+        while let Some(base) = helper.stack.pop() {
+            let Some(found) = self.map.find(base) else {
+                unreachable!();
+            };
+            self.read_words(gate, helper, found, 0, u64::from(found.len));
+        }
+    }
+
+    // Marks what the root words of the helper's share point into.
+    fn read_roots<G: Gate>(&self, gate: &G, helper: &mut Helper)
+        requires { IsServing self.now helper.old }
+        ensures serves { Serves self.now helper.old helper.new }
+        ensures roots { AreRootsRead self.now (view helper.new.claimer) helper.old.share (length self.now.roots.now) }
+    {
+        for i in 0..self.roots.len() {
+            if i % self.helpers == helper.share {
+                self.visit(gate, helper, self.roots[i]);
+            }
+        }
+    }
+
+    // Marks what the words that an entry has left point into.
+    fn read_entry<G: Gate>(&self, gate: &G, helper: &mut Helper, entry: Entry)
+        requires { IsServing self.now helper.old }
+        ensures serves { Serves self.now helper.old helper.new }
+        ensures read { IsEntryRead self.now (view helper.new.claimer) entry }
+    {
+        let Some(found) = self.marker.unread(self.map, entry) else {
+            return;
+        };
+        let count = found.len - entry.next;
+        self.read_words(gate, helper, found, entry.next, u64::from(count));
+    }
+
+    // Reads the entry that was being read, which belongs to the first share.
+    fn read_current<G: Gate>(&self, gate: &G, helper: &mut Helper)
+        requires { IsServing self.now helper.old }
+        ensures serves { Serves self.now helper.old helper.new }
+        ensures read { IsCurrentRead self.now (view helper.new.claimer) helper.old.share }
+    {
+        if helper.share != 0 {
+            return;
+        }
+        let Some(entry) = self.marker.current() else {
+            return;
+        };
+        self.read_entry(gate, helper, entry);
+    }
+
+    // Reads the waiting entries of the helper's share, each with what it leads to.
+    fn read_entries<G: Gate>(&self, gate: &G, helper: &mut Helper)
+        requires { IsServing self.now helper.old }
+        ensures serves { Serves self.now helper.old helper.new }
+        ensures read { AreEntriesRead self.now (view helper.new.claimer) helper.old.share (length self.now.marker.now.stack) }
+    {
+        let waiting = self.marker.waiting();
+        for i in 0..waiting.len() {
+            if i % self.helpers == helper.share {
+                self.read_entry(gate, helper, waiting[i]);
+                self.read_stack(gate, helper);
+            }
+        }
+    }
+
+    // Which words of the next object on a page stand between two addresses.
+    fn part(&self, found: Found, low: u64, high: u64) -> Part
+        requires ready { IsReady self.now }
+        requires next { IsNextObject (found_in self.now.map.now) low high found }
+        requires low { low % WORD_BYTES ≡ 0 }
+        requires high { high % WORD_BYTES ≡ 0 }
+        ensures { IsPartBetween low high found result }
+    {
+        let stop = (found.base + WORD_BYTES * u64::from(found.len)).min(high);
+        let first = low.saturating_sub(found.base) / WORD_BYTES;
+        Part {
+            first: first as u32,
+            count: (stop - found.base) / WORD_BYTES - first,
+            stop,
+        }
+    }
+
+    // Reads the words of the next object on a page that stand between two addresses, if it was a marked Normal one before
+    // the helpers started. Answers the first address past them.
+    fn read_part<G: Gate>(
+        &self,
+        gate: &G,
+        helper: &mut Helper,
+        found: Found,
+        low: u64,
+        high: u64,
+    ) -> u64
+        requires serving { IsServing self.now helper.old }
+        requires next { IsNextObject (found_in self.now.map.now) low high found }
+        requires low { low % WORD_BYTES ≡ 0 }
+        requires high { high % WORD_BYTES ≡ 0 }
+        ensures serves { Serves self.now helper.old helper.new }
+        ensures read { AreWordsRead self.now (view helper.new.claimer) low result }
+        ensures further { low < result }
+        ensures within { result ≤ high }
+        ensures aligned { result % WORD_BYTES ≡ 0 }
+    {
+        let part = self.part(found, low, high);
+        if found.kind == Kind::PointerFree {
+            return part.stop;
+        }
+        if !self.marker.is_marked(found.base) {
+            return part.stop;
+        }
+        self.read_words(gate, helper, found, part.first, part.count);
+        part.stop
+    }
+
+    // Reads the words on a page of all objects that were marked Normal ones before the helpers started.
+    fn read_page<G: Gate>(&self, gate: &G, helper: &mut Helper, page: PageNo)
+        requires serving { IsServing self.now helper.old }
+        requires inside { page < length self.now.map.now }
+        ensures serves { Serves self.now helper.old helper.new }
+        ensures read { IsPageRead self.now (view helper.new.claimer) page }
+    {
+        let mut address = page_start(page);
+        let end = address + PAGE_BYTES;
+        while let Some(found) = self.map.next_on_page(page, address) {
+            address = self.read_part(gate, helper, found, address, end);
+        }
+    }
+
+    // Whether the page is a dirty one of a share.
+    fn has_dirty(&self, share: usize, page: PageNo) -> bool
+        requires ready { IsReady self.now }
+        requires inside { page < length self.now.map.now }
+        ensures { page % self.now.helpers ≡ share → Has self.now.marker.now.dirty page → result ≡ true }
+    {
+        page as usize % self.helpers == share && self.marker.dirty_pages().is_dirty(page)
+    }
+
+    // Reads the dirty pages of the helper's share, each with what it leads to.
+    fn read_pages<G: Gate>(&self, gate: &G, helper: &mut Helper)
+        requires { IsServing self.now helper.old }
+        ensures serves { Serves self.now helper.old helper.new }
+        ensures read { ArePagesRead self.now (view helper.new.claimer) helper.old.share (length self.now.map.now) }
+    {
+        for page in 0..self.map.len() {
+            if self.has_dirty(helper.share, page) {
+                self.read_page(gate, helper, page);
+                self.read_stack(gate, helper);
+            }
+        }
+    }
+
+    /// A helper's whole work: the root words of its share before anything else, the entries and the dirty pages of its
+    /// share, and all that these lead to.
+    pub(crate) fn help<G: Gate>(&self, gate: &G, helper: &mut Helper)
+        requires { IsServing self.now helper.old }
+        ensures { HasServed self.now helper.old.share helper.new }
+    {
+        self.read_roots(gate, helper);
+        self.read_current(gate, helper);
+        self.read_stack(gate, helper);
+        self.read_entries(gate, helper);
+        self.read_pages(gate, helper);
+        self.read_stack(gate, helper);
+    }
+}

@@ -1,0 +1,94 @@
+//! What the marker lends to the helpers of a pause, and takes back from them.
+ghost use Rattle.std.specs.Prelude.{◌≡◌, ℕ, ◌<◌, ◌≤◌, [], None, true, false, length, slice_index_or, IfOk, IfErr, IfSome, MatchOption};
+ghost use Rattle.words.specs.declared.limits.TheConstants.{MAX_PAGES};
+ghost use Rattle.words.specs.declared.refusal.OpenError.TheVariants.{Memory};
+ghost use Rattle.mark_bits.specs.Tables.{view, start_of, IsOf};
+ghost use Rattle.mark_bits.specs.Claims.{all_parts, first_view, knows, Gathers};
+ghost use Rattle.block_map.specs.Objects.{IsPlaced};
+ghost use Rattle.block_map.specs.FoundIn.{found_in};
+ghost use Rattle.marker.specs.Entries.{IsSpent, IsUnread};
+
+use crate::entry::Entry;
+use crate::marker::Marker;
+use block_map::{BlockMap, Found};
+use dirty_pages::DirtyPages;
+use mark_bits::{Claimer, MarkTable};
+use std::alloc::Global;
+use words::{Kind, OpenError};
+
+impl Marker {
+    /// The marks as a table that several threads claim from, and the claimer that has all its parts. The one error is
+    /// [`OpenError::Memory`].
+    pub fn open_table(&self, alloc: Global) -> Result<(MarkTable, Claimer), OpenError>
+        ensures table { IfOk result (λ made. (start_of made.0 ≡ self.now.marks) × IsOf made.0 made.1) }
+        ensures claimer { IfOk result (λ made. view made.1 ≡ first_view self.now.marks) }
+        ensures err { IfErr result (λ error. error ≡ Memory) }
+    {
+        MarkTable::new(alloc, &self.marks)
+    }
+
+    /// The dirty pages.
+    pub fn dirty_pages(&self) -> &DirtyPages
+        ensures { result.now ≡ self.now.dirty }
+    {
+        &self.dirty
+    }
+
+    /// The entry that is being read.
+    pub fn current(&self) -> Option<Entry>
+        ensures { result ≡ self.now.current }
+    {
+        self.current
+    }
+
+    /// The entries that wait, the next one last.
+    pub fn waiting(&self) -> &[Entry]
+        ensures { result.now ≡ self.now.stack }
+    {
+        self.stack.as_slice()
+    }
+
+    /// The object of which an entry has words left to read, and `None` exactly where it has none.
+    #[tactic(auto, using(crate::proofs::MarkWord::marking))]
+    pub fn unread(&self, map: &BlockMap, entry: Entry) -> Option<Found>
+        requires pages { length self.now.dirty ≡ length map.now }
+        ensures object { MatchOption result (IsSpent (found_in map.now) self.now entry) (λ f. IsUnread (found_in map.now) self.now entry f) }
+        ensures placed { IfSome result (λ f. IsPlaced (length map.now) f × (length map.now ≤ MAX_PAGES)) }
+    {
+        self.laws();
+        let found = map.find(entry.base)?;
+        if found.base != entry.base {
+            return None;
+        }
+        if found.kind == Kind::PointerFree {
+            return None;
+        }
+        if entry.next >= found.len {
+            return None;
+        }
+        if self.is_marked(found.base) {
+            Some(found)
+        } else {
+            None
+        }
+    }
+
+    /// Ends the work of helpers: the marks are those of the table, the dirty pages are these, and no entry is left. It takes
+    /// the claimer to which all others were joined.
+    pub fn take_back(&mut self, table: MarkTable, claimer: Claimer, dirty: DirtyPages)
+        requires of { IsOf table claimer }
+        requires all { (view claimer).parts ≡ all_parts }
+        requires size { length (start_of table) ≡ length self.old.marks }
+        requires pages { length dirty ≡ length self.old.dirty }
+        ensures gathered { Gathers (start_of table) (view claimer).won self.new.marks }
+        ensures known { (k : ℕ) → knows (view claimer) k ≡ true → slice_index_or self.new.marks k false ≡ true }
+        ensures dirty { self.new.dirty ≡ dirty }
+        ensures current { self.new.current ≡ None }
+        ensures stack { self.new.stack ≡ [] }
+    {
+        table.finish(claimer, &mut self.marks);
+        self.dirty = dirty;
+        self.current = None;
+        self.stack.clear();
+    }
+}

@@ -1,0 +1,121 @@
+//! Whether a new object may go to a place that is given.
+ghost use Rattle.std.specs.Prelude.{◌≡◌, ℕ, ◌<◌, ◌≤◌, ◌+◌, ◌*◌, IfSome, IfNone, false, IsTrue};
+ghost use Rattle.words.specs.declared.limits.TheConstants.{MAX_PAGES, MAX_SMALL_WORDS, PAGE_BYTES};
+ghost use Rattle.heap_spec.specs.Layout.{page_start};
+ghost use Rattle.heap_spec.specs.Room.{length_of};
+ghost use Rattle.plain_core.specs.Places.{IsCellAt, IsPlace, IsPlaceOn, IsSmallPlace, IsLargePlace, IsSized};
+
+use crate::extent::Extent;
+use crate::places::{is_base, is_cut_for, is_free, is_free_run, start_of};
+use words::limits::{FIRST_ADDRESS, PAGE_BYTES, PAGE_WORDS, PageNo, WORD_BYTES};
+use words::{Kind, Placement};
+
+// The page that an address lies on.
+fn page_at(pages: u32, address: u64) -> Option<PageNo>
+    requires { pages ≤ MAX_PAGES }
+    ensures some { IfSome result (λ page. (page < pages) × (page_start page ≤ address) × (address < page_start page + PAGE_BYTES)) }
+    ensures none { IfNone result ((page : ℕ) → page < pages → page_start page ≤ address → address < page_start page + PAGE_BYTES → ⊥) }
+{
+    if address < FIRST_ADDRESS {
+        return None;
+    }
+    let page = (address - FIRST_ADDRESS) / PAGE_BYTES;
+    if page >= u64::from(pages) {
+        return None;
+    }
+    Some(page as PageNo)
+}
+
+// Whether the address is that of a cell of the page.
+fn is_cell(page: PageNo, length: u64, address: u64) -> bool
+    requires some { (0 < length) × (length ≤ MAX_SMALL_WORDS) }
+    requires on { (page_start page ≤ address) × (address < page_start page + PAGE_BYTES) }
+    ensures yes { IsTrue result → IsCellAt page length address }
+    ensures no { result ≡ false → IsCellAt page length address → ⊥ }
+{
+    let offset = address - start_of(page);
+    let size = WORD_BYTES * length;
+    offset % size == 0 && offset + size <= PAGE_BYTES
+}
+
+// Whether an object of a class may go to the address, which lies on the page.
+fn is_place_on(objects: &[Extent], page: PageNo, length: u64, kind: Kind, address: u64) -> bool
+    requires some { (0 < length) × (length ≤ MAX_SMALL_WORDS) }
+    requires on { (page_start page ≤ address) × (address < page_start page + PAGE_BYTES) }
+    ensures yes { IsTrue result → IsPlaceOn objects.now page length kind address }
+    ensures no { result ≡ false → IsPlaceOn objects.now page length kind address → ⊥ }
+{
+    if !is_cell(page, length, address) {
+        return false;
+    }
+    if is_free(objects, page) {
+        return true;
+    }
+    if !is_cut_for(objects, page, length, kind) {
+        return false;
+    }
+    !is_base(objects, address)
+}
+
+// Whether an object of a class may go to the address.
+fn is_small_place(objects: &[Extent], pages: u32, length: u64, kind: Kind, address: u64) -> bool
+    requires some { (0 < length) × (length ≤ MAX_SMALL_WORDS) }
+    requires pages { pages ≤ MAX_PAGES }
+    ensures yes { IsTrue result → IsSmallPlace objects.now pages length kind address }
+    ensures no { result ≡ false → IsSmallPlace objects.now pages length kind address → ⊥ }
+{
+    let Some(page) = page_at(pages, address) else {
+        return false;
+    };
+    is_place_on(objects, page, length, kind, address)
+}
+
+// Whether a large object may go to the address.
+fn is_large_place(objects: &[Extent], pages: u32, count: u32, address: u64) -> bool
+    requires some { 1 ≤ count }
+    requires pages { pages ≤ MAX_PAGES }
+    ensures yes { IsTrue result → IsLargePlace objects.now pages count address }
+    ensures no { result ≡ false → IsLargePlace objects.now pages count address → ⊥ }
+{
+    let Some(first) = page_at(pages, address) else {
+        return false;
+    };
+    if address != start_of(first) {
+        return false;
+    }
+    if count > pages - first {
+        return false;
+    }
+    is_free_run(objects, first, count)
+}
+
+/// A new object of a placement at this base, as the extent that it has there, if it may go there.
+pub fn place_at(
+    objects: &[Extent],
+    pages: u32,
+    placement: Placement,
+    kind: Kind,
+    base: u64,
+) -> Option<Extent>
+    requires pages { pages ≤ MAX_PAGES }
+    requires sized { IsSized placement }
+    ensures some { IfSome result (λ e. (e.base ≡ base) × (e.kind ≡ kind) × (e.length ≡ length_of placement) × IsPlace objects.now pages placement kind base) }
+    ensures none { IfNone result (IsPlace objects.now pages placement kind base → ⊥) }
+{
+    match placement {
+        Placement::Small(class) => {
+            let length = u64::from(class.words());
+            if !is_small_place(objects, pages, length, kind, base) {
+                return None;
+            }
+            Some(Extent { base, kind, length })
+        }
+        Placement::Large(count) => {
+            let length = PAGE_WORDS * u64::from(count);
+            if !is_large_place(objects, pages, count, base) {
+                return None;
+            }
+            Some(Extent { base, kind, length })
+        }
+    }
+}

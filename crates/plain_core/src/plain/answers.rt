@@ -1,0 +1,191 @@
+//! What a call would be answered, told without making it.
+ghost use Rattle.std.specs.Prelude.{◌≡◌, ℕ, IfSome, IfNone};
+ghost use Rattle.heap_spec.specs.Heap.{Mutator as HeapMutator};
+ghost use Rattle.roots.specs.Roots.{HasMutator, HasNoMutator};
+ghost use Rattle.plain_core.specs.Contents.{Contents, IsSound};
+ghost use Rattle.plain_core.specs.Answering.{IsFound, HoldsWord, FindsNothing, MayAnswer, CanAnswer, CanAttach};
+
+use super::Core;
+use crate::extent::{Extent, object_at};
+use crate::places::place_for;
+use heap_spec::{Call, Reply};
+use roots::Mutator;
+use words::limits::{FIRST_ADDRESS, WORD_BYTES};
+use words::{Global, Kind, Refusal, Reg, Slot, class_of};
+
+fn push_answer(mutator: &Mutator) -> Reply
+    ensures { (c : Contents) (from : ℕ) → MayAnswer c mutator.now (Call.Push from) result }
+{
+    if mutator.is_full() {
+        return Reply::Refused(Refusal::StackFull);
+    }
+    Reply::Done
+}
+
+fn pop_answer(mutator: &Mutator) -> Reply
+    ensures { (c : Contents) (into : ℕ) → MayAnswer c mutator.now (Call.Pop into) result }
+{
+    let Some(word) = mutator.top() else {
+        return Reply::Refused(Refusal::StackEmpty);
+    };
+    Reply::Word(word)
+}
+
+impl Core {
+    // What is true of every core.
+    pub(super) fn laws(&self)
+        ensures { IsSound self.now }
+    {
+        let _pages = &self.pages;
+    }
+
+    // The mutator of a slot.
+    pub(super) fn mutator(&self, slot: Slot) -> Option<&Mutator>
+        ensures some { IfSome result (λ m. HasMutator self.now.roots slot m.now) }
+        ensures none { IfNone result (HasNoMutator self.now.roots slot) }
+    {
+        self.roots.mutator(slot)
+    }
+
+    // The object that an address points into.
+    fn found(&self, address: u64) -> Option<Extent>
+        ensures some { IfSome result (λ e. IsFound self.now address e) }
+        ensures none { IfNone result (FindsNothing self.now address) }
+    {
+        let Some(object) = object_at(&self.objects, address) else {
+            return None;
+        };
+        Some(object)
+    }
+
+    // The word at an address that points into an object.
+    fn word_at(&self, address: u64) -> Option<u64>
+        ensures some { IfSome result (λ w. HoldsWord self.now address w) }
+        ensures none { IfNone result (FindsNothing self.now address) }
+    {
+        let Some(_object) = object_at(&self.objects, address) else {
+            return None;
+        };
+        Some(self.words[((address - FIRST_ADDRESS) / WORD_BYTES) as usize])
+    }
+
+    fn load_answer(&self, mutator: &Mutator, at: Reg, offset: u64) -> Reply
+        ensures { (into : ℕ) → MayAnswer self.now mutator.now (Call.Load into at offset) result }
+    {
+        let address = mutator.address(at, offset);
+        if address % WORD_BYTES != 0 {
+            return Reply::Refused(Refusal::Misaligned);
+        }
+        let Some(word) = self.word_at(address) else {
+            return Reply::Refused(Refusal::NoObject);
+        };
+        Reply::Word(word)
+    }
+
+    fn store_answer(&self, mutator: &Mutator, at: Reg, offset: u64) -> Reply
+        ensures { (from : ℕ) → MayAnswer self.now mutator.now (Call.Store at offset from) result }
+    {
+        let address = mutator.address(at, offset);
+        if address % WORD_BYTES != 0 {
+            return Reply::Refused(Refusal::Misaligned);
+        }
+        let Some(_object) = self.found(address) else {
+            return Reply::Refused(Refusal::NoObject);
+        };
+        Reply::Done
+    }
+
+    fn alloc_answer(&self, words: u64, kind: Kind) -> Reply
+        ensures { (m : HeapMutator) (into : ℕ) → MayAnswer self.now m (Call.Alloc into words kind) result }
+    {
+        let Some(placement) = class_of(words) else {
+            return Reply::Refused(Refusal::BadSize);
+        };
+        let Some(_object) = place_for(&self.objects, self.pages, placement, kind) else {
+            return Reply::Refused(Refusal::Full);
+        };
+        Reply::Done
+    }
+
+    fn free_answer(&self, mutator: &Mutator, at: Reg) -> Reply
+        ensures { MayAnswer self.now mutator.now (Call.Free at) result }
+    {
+        let address = mutator.word(at);
+        let Some(object) = self.found(address) else {
+            return Reply::Refused(Refusal::NoObject);
+        };
+        if object.base != address {
+            return Reply::Refused(Refusal::NotBase);
+        }
+        Reply::Done
+    }
+
+    fn base_answer(&self, mutator: &Mutator, from: Reg) -> Reply
+        ensures { (into : ℕ) → MayAnswer self.now mutator.now (Call.Base into from) result }
+    {
+        let word = mutator.word(from);
+        let Some(object) = self.found(word) else {
+            return Reply::Refused(Refusal::NoObject);
+        };
+        Reply::Word(object.base)
+    }
+
+    fn size_answer(&self, mutator: &Mutator, at: Reg) -> Reply
+        ensures { MayAnswer self.now mutator.now (Call.Size at) result }
+    {
+        let word = mutator.word(at);
+        let Some(object) = self.found(word) else {
+            return Reply::Refused(Refusal::NoObject);
+        };
+        Reply::Count(object.length)
+    }
+
+    fn global_answer(&self, global: Global) -> Reply
+        ensures { (m : HeapMutator) (into : ℕ) → MayAnswer self.now m (Call.GlobalGet into global) result }
+    {
+        Reply::Word(self.roots.global(global))
+    }
+
+    fn mutator_answer(&self, mutator: &Mutator, call: Call) -> Reply
+        ensures { MayAnswer self.now mutator.now call result }
+    {
+        match call {
+            Call::Detach => Reply::Done,
+            Call::Set(_, _) => Reply::Done,
+            Call::Copy(_, _) => Reply::Done,
+            Call::Add(_, _, _) => Reply::Done,
+            Call::Sub(_, _, _) => Reply::Done,
+            Call::Get(register) => Reply::Word(mutator.word(register)),
+            Call::Push(_) => push_answer(mutator),
+            Call::Pop(_) => pop_answer(mutator),
+            Call::Load(_, at, offset) => self.load_answer(mutator, at, offset),
+            Call::Store(at, offset, _) => self.store_answer(mutator, at, offset),
+            Call::Alloc(_, words, kind) => self.alloc_answer(words, kind),
+            Call::Free(at) => self.free_answer(mutator, at),
+            Call::Base(_, from) => self.base_answer(mutator, from),
+            Call::Size(at) => self.size_answer(mutator, at),
+            Call::GlobalGet(_, global) => self.global_answer(global),
+            Call::GlobalPut(_, _) => Reply::Done,
+        }
+    }
+
+    // What the next mutator that comes would be answered.
+    pub(super) fn attach_answer(&self) -> Reply
+        ensures { CanAttach self.now result }
+    {
+        let Some(slot) = self.roots.vacant() else {
+            return Reply::Refused(Refusal::NoSlot);
+        };
+        Reply::Slot(slot)
+    }
+
+    // What a call of a slot would be answered.
+    pub(super) fn answer(&self, slot: Slot, call: Call) -> Reply
+        ensures { CanAnswer self.now slot call result }
+    {
+        let Some(mutator) = self.mutator(slot) else {
+            return Reply::Refused(Refusal::NoSlot);
+        };
+        self.mutator_answer(mutator, call)
+    }
+}

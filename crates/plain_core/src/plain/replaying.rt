@@ -1,0 +1,106 @@
+//! Calls that are made only if they have a reply that is given: a checker replays a run by them.
+ghost use Rattle.std.specs.Prelude.{◌≡◌, IsTrue, false};
+ghost use Rattle.heap_spec.specs.Replies.{IsStep};
+ghost use Rattle.plain_core.specs.Standing.{StandsFor};
+ghost use Rattle.plain_core.specs.Answering.{IsNoStep, MakesCall};
+
+use super::Core;
+use heap_spec::{Call, Event, Reply};
+use words::Slot;
+
+// Whether two replies are the same.
+fn is_same(a: &Reply, b: &Reply) -> bool
+    ensures yes { IsTrue result → a.now ≡ b.now }
+    ensures no { result ≡ false → a.now ≡ b.now → ⊥ }
+{
+    a == b
+}
+
+impl Core {
+    // Makes a call, whatever its reply.
+    fn make(&mut self, slot: Slot, call: Call)
+        ensures { MakesCall self.old slot call self.new }
+    {
+        match call {
+            Call::Detach => {
+                let _ = self.detach(slot);
+            }
+            Call::Set(register, word) => {
+                let _ = self.set(slot, register, word);
+            }
+            Call::Copy(into, from) => {
+                let _ = self.copy(slot, into, from);
+            }
+            Call::Add(into, from, number) => {
+                let _ = self.add(slot, into, from, number);
+            }
+            Call::Sub(into, from, less) => {
+                let _ = self.sub(slot, into, from, less);
+            }
+            Call::Get(register) => {
+                let _ = self.get(slot, register);
+            }
+            Call::Push(from) => {
+                let _ = self.push(slot, from);
+            }
+            Call::Pop(into) => {
+                let _ = self.pop(slot, into);
+            }
+            Call::Load(into, at, offset) => {
+                let _ = self.load(slot, into, at, offset);
+            }
+            Call::Store(at, offset, from) => {
+                let _ = self.store(slot, at, offset, from);
+            }
+            Call::Alloc(into, words, kind) => {
+                let _ = self.alloc(slot, into, words, kind);
+            }
+            Call::Free(register) => {
+                let _ = self.free(slot, register);
+            }
+            Call::Base(into, from) => {
+                let _ = self.base(slot, into, from);
+            }
+            Call::Size(register) => {
+                let _ = self.size(slot, register);
+            }
+            Call::GlobalGet(into, global) => {
+                let _ = self.gget(slot, into, global);
+            }
+            Call::GlobalPut(global, from) => {
+                let _ = self.gput(slot, global, from);
+            }
+        }
+    }
+
+    /// A mutator comes, if this is the reply to it. Else nothing changes.
+    pub fn attach_as(&mut self, reply: &Reply) -> bool
+        ensures yes { IsTrue result → IsStep (StandsFor self.old) Event.Attach reply.now (StandsFor self.new) }
+        ensures no { result ≡ false → IsNoStep self.old Event.Attach reply.now }
+        ensures same { result ≡ false → self.new ≡ self.old }
+    {
+        if !is_same(&self.attach_answer(), reply) {
+            return false;
+        }
+        let _ = self.attach();
+        true
+    }
+
+    /// Makes a call, if this is its reply. Else nothing changes. Where a request is granted the core picks the place.
+    pub fn call_as(&mut self, slot: Slot, call: &Call, reply: &Reply) -> bool
+        ensures yes { IsTrue result → IsStep (StandsFor self.old) (Event.Mutator slot call.now) reply.now (StandsFor self.new) }
+        ensures no { result ≡ false → IsNoStep self.old (Event.Mutator slot call.now) reply.now }
+        ensures same { result ≡ false → self.new ≡ self.old }
+    {
+        self.laws();
+        if !is_same(&self.answer(slot, *call), reply) {
+            return false;
+        }
+        // A refused call changes nothing.
+        let Reply::Refused(_) = reply else {
+            self.make(slot, *call);
+            return true;
+        };
+        true
+    }
+}

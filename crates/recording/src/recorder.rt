@@ -1,0 +1,110 @@
+//! A heap that is asked, and what its replies leave open.
+
+use heap_core::Core;
+use heap_spec::{Call, Event, Reply};
+use replayer::Hint;
+use std::alloc::{AllocError, Global};
+use std::mem::replace;
+use words::{Reg, Slot};
+
+/// A heap, the bases of its objects, and what the last event made of them.
+#[derive(Drop)]
+pub struct Recorder {
+    alloc: Global,
+    core: Core,
+    bases: Vec<u64>,
+    gone: Vec<u64>,
+    place: Option<u64>,
+    has_collected: bool,
+}
+
+impl Recorder {
+    /// A recorder of a new heap.
+    pub fn new(alloc: Global, core: Core) -> Recorder {
+        Recorder {
+            alloc,
+            core,
+            bases: Vec::new(alloc),
+            gone: Vec::new(alloc),
+            place: None,
+            has_collected: false,
+        }
+    }
+
+    // Whether the heap keeps an object with this base.
+    fn keeps(&self, base: u64) -> bool {
+        let Some(found) = self.core.kept_at(base) else {
+            return false;
+        };
+        found.base == base
+    }
+
+    // Notes an object that stayed, or is gone.
+    fn sort(&mut self, base: u64) -> Result<(), AllocError> {
+        if self.keeps(base) {
+            self.bases.push(base)?;
+            return Ok(());
+        }
+        self.gone.push(base)?;
+        Ok(())
+    }
+
+    // Looks which objects are gone.
+    fn sort_out(&mut self) -> Result<(), AllocError> {
+        let bases = replace(&mut self.bases, Vec::new(self.alloc));
+        for base in bases.iter() {
+            self.sort(*base)?;
+        }
+        Ok(())
+    }
+
+    // Notes the object that a request was granted.
+    fn note_place(&mut self, slot: Slot, into: Reg) -> Result<(), AllocError> {
+        let Ok(base) = self.core.get(slot, into) else {
+            return Ok(());
+        };
+        self.place = Some(base);
+        self.bases.push(base)?;
+        Ok(())
+    }
+
+    // Notes what an event left that was not refused.
+    fn note(&mut self, event: Event) -> Result<(), AllocError> {
+        match event {
+            Event::Mutator(slot, Call::Alloc(into, _, _)) => self.note_place(slot, into),
+            Event::Mutator(_, Call::Free(_)) => self.sort_out(),
+            Event::Finish | Event::Collect => {
+                self.has_collected = true;
+                self.sort_out()
+            }
+            _ => Ok(()),
+        }
+    }
+
+    /// Makes the call that an event is, and notes what its reply leaves open.
+    ///
+    /// # Errors
+    /// If memory is refused, in which to note the object; the call was made.
+    pub fn act(&mut self, event: Event) -> Result<Reply, AllocError> {
+        let reply = self.core.act(event);
+        self.place = None;
+        self.gone.clear();
+        self.has_collected = false;
+        if let Reply::Refused(_) = reply {
+            return Ok(reply);
+        }
+        self.note(event)?;
+        Ok(reply)
+    }
+
+    /// What the reply to the last event leaves open.
+    pub fn hint(&self) -> Hint<'_> {
+        if let Some(base) = self.place {
+            return Hint::Place(base);
+        }
+        if self.has_collected {
+            return Hint::Forgot(self.gone.as_slice());
+        }
+        Hint::Nothing
+    }
+}

@@ -1,0 +1,134 @@
+//! A line of a written run: a command, ` => `, its reply, and where the reply leaves something open a hint.
+
+use heap_spec::{Call, Event, Reply};
+use scripts::limits::LINE_BYTES;
+use scripts::{command, number};
+use std::alloc::AllocError;
+use words::{Refusal, Slot};
+
+const REFUSALS: [Refusal; 9] = [
+    Refusal::NoSlot,
+    Refusal::Misaligned,
+    Refusal::NoObject,
+    Refusal::NotBase,
+    Refusal::BadSize,
+    Refusal::Full,
+    Refusal::StackFull,
+    Refusal::StackEmpty,
+    Refusal::WrongPhase,
+];
+
+/// What stands behind a reply.
+#[derive(Clone, Copy, Debug, PartialEq, Eq)]
+pub enum Told {
+    /// Nothing.
+    Nothing,
+
+    /// ` @ ADDRESS`.
+    Place(u64),
+
+    /// ` -` and the bases that were read into a list.
+    Bases,
+}
+
+// Whether a number that the event answers is a word of a register or of the heap, and not a count.
+fn answers_word(event: &Event) -> bool {
+    match event {
+        Event::Mutator(_, Call::Size(_)) => false,
+        Event::Mutator(_, _) => true,
+        _ => false,
+    }
+}
+
+fn refusal_of(text: &str) -> Option<Refusal> {
+    let (code, name) = text.split_once(' ')?;
+    let code = number(code.as_bytes())?;
+    for refusal in REFUSALS {
+        if u64::from(refusal.code()) == code && refusal.name() == name {
+            return Some(refusal);
+        }
+    }
+    None
+}
+
+fn slot_of(text: &str) -> Option<Slot> {
+    let slot = number(text.as_bytes())?;
+    if slot > u64::from(u8::MAX) {
+        return None;
+    }
+    Slot::new(slot as u8)
+}
+
+// The reply that a text is, to this event.
+fn reply_of(event: &Event, text: &str) -> Option<Reply> {
+    if text == "ok" {
+        return Some(Reply::Done);
+    }
+    if let Some(slot) = text.strip_prefix("mutator ") {
+        return Some(Reply::Slot(slot_of(slot)?));
+    }
+    if let Some(refusal) = text.strip_prefix("refused ") {
+        return Some(Reply::Refused(refusal_of(refusal)?));
+    }
+    let value = number(text.as_bytes())?;
+    Some(if answers_word(event) {
+        Reply::Word(value)
+    } else {
+        Reply::Count(value)
+    })
+}
+
+// Reads bases that stand one behind another, each behind a space.
+fn read_bases(text: &str, bases: &mut Vec<u64>) -> Result<bool, AllocError> {
+    bases.clear();
+    for word in text.split(' ').skip(1) {
+        let Some(base) = number(word.as_bytes()) else {
+            return Ok(false);
+        };
+        bases.push(base)?;
+    }
+    Ok(true)
+}
+
+// A reply and what stands behind it, apart.
+fn parted(text: &str) -> (&str, &str, &str) {
+    if let Some((reply, place)) = text.split_once(" @ ") {
+        return (reply, "@", place);
+    }
+    if let Some((reply, _)) = text.split_once(" -") {
+        let (_, bases) = text.split_at(reply.len() + " -".len());
+        return (reply, "-", bases);
+    }
+    (text, "", "")
+}
+
+/// The event, the reply and the hint of a line; the bases of a hint go into the list. `None` if it is no line of a run.
+pub fn read_line(
+    line: &str,
+    bases: &mut Vec<u64>,
+) -> Result<Option<(Event, Reply, Told)>, AllocError> {
+    let Some((text, answer)) = line.split_once(" => ") else {
+        return Ok(None);
+    };
+    if text.len() > LINE_BYTES {
+        return Ok(None);
+    }
+    let Some(event) = command(text.as_bytes()) else {
+        return Ok(None);
+    };
+    let (reply, sign, rest) = parted(answer);
+    let Some(reply) = reply_of(&event, reply) else {
+        return Ok(None);
+    };
+    if sign == "@" {
+        let Some(place) = number(rest.as_bytes()) else {
+            return Ok(None);
+        };
+        return Ok(Some((event, reply, Told::Place(place))));
+    }
+    if sign == "-" {
+        let is_good = read_bases(rest, bases)?;
+        return Ok(is_good.then_some((event, reply, Told::Bases)));
+    }
+    Ok(Some((event, reply, Told::Nothing)))
+}

@@ -1,0 +1,428 @@
+-- How a run goes on, as a replayer follows it.
+use Rattle.std.proofs.Common.{◌≡◌, ◌⊎◌, ℕ, ◌+◌, ◌%◌, ◌<◌, ◌≤◌, Bool, true, false, List, Bor, length, cond, eqb, refl, sym, ap, ◌∙◌, subst, arith, inl, inr, ⊎_elim}
+use Rattle.std.specs.Prelude.{Contains, Some, None}
+use Rattle.std.specs.List.{list_any}
+use Rattle.std.proofs.lemmas.Bool.{eqb-true, eq-eqb, cond-true}
+use Rattle.std.proofs.lemmas.List.Folds.{Any-from_list_any, list_any-from_Any}
+use Rattle.std.proofs.lemmas.Option.{none-some}
+use Rattle.words.specs.declared.class.Kind.{Kind}
+use Rattle.words.specs.declared.refusal.Refusal.TheVariants.{WrongPhase}
+use Rattle.heap_spec.specs.declared.call.Call.{Call}
+use Rattle.heap_spec.specs.declared.call.Call.TheVariants.{Alloc}
+use Rattle.heap_spec.specs.declared.event.Event.{Event}
+use Rattle.heap_spec.specs.declared.event.Event.TheVariants.{Attach, Mutator, Begin, Roots, Mark, Retrace, Finish, Sweep, Collect, Number}
+use Rattle.heap_spec.specs.declared.reply.Reply.{Reply}
+use Rattle.heap_spec.specs.declared.reply.Reply.TheVariants.{Done, Count, Refused}
+use Rattle.heap_spec.specs.Layout.{word_end}
+use Rattle.heap_spec.specs.Heap.{Heap, Object, Mutator as HeapMutator, HasObject, without}
+use Rattle.heap_spec.specs.Cycles.{TakesOut, Forgets, CollectsFully}
+use Rattle.heap_spec.specs.Replies.{IsStep}
+use Rattle.heap_spec.specs.Runs.{Start, Run, heap_after, is_marking, count, goes_on, AllTouched, marking_after, counted}
+use Rattle.heap_spec.specs.Histories.{Happens}
+use Rattle.heap_spec.specs.Steps.{Acts, Calls, acts, vacant, Attaches}
+use Rattle.heap_spec.specs.Transcripts.{LineOf, IsWrongPhase}
+use Rattle.plain_core.specs.Contents.{Contents as PlainContents}
+use Rattle.plain_core.specs.Standing.{StandsFor}
+use Rattle.plain_core.specs.Answering.{IsNoStep, IsBornAt, IsAllocatedAt, CantAllocateAt}
+use Rattle.plain_core.specs.Collections.{IsTaken, CantTake, HasUnreached}
+use Rattle.replayer.specs.declared.hint.Hint.{Hint}
+use Rattle.replayer.specs.declared.hint.Hint.TheVariants.{Nothing, Place, Forgot}
+use Rattle.replayer.specs.Contents.{Contents, Follows}
+use Rattle.replayer.specs.Replays.{NamesPlace, NamesBases, IsReplay, IsReplayed, IsNoReplay}
+
+-- the call is a granted request
+abbrev pub IsGrant : Call → Reply → Type 0
+IsGrant call reply = (into : ℕ) × (words : ℕ) × (kind : Kind) × (call ≡ Alloc into words kind) × (reply ≡ Done)
+
+-- a call of a mutator leaves the count of births, but for a granted request
+acts_births : (s : Heap) (slot : ℕ) (m : HeapMutator) {call : Call} {reply : Reply} {s' : Heap} → Acts s slot m call reply s' → (IsGrant call reply → ⊥) → s'.births ≡ s.births
+acts_births s slot m Acts.detached none = refl
+acts_births s slot m Acts.set none = refl
+acts_births s slot m Acts.copied none = refl
+acts_births s slot m Acts.added none = refl
+acts_births s slot m Acts.subtracted none = refl
+acts_births s slot m Acts.got none = refl
+acts_births s slot m (Acts.push_full e) none = refl
+acts_births s slot m (Acts.pushed lt) none = refl
+acts_births s slot m (Acts.pop_empty e) none = refl
+acts_births s slot m (Acts.popped rest e) none = refl
+acts_births s slot m (Acts.load_misaligned al) none = refl
+acts_births s slot m (Acts.load_nothing al e) none = refl
+acts_births s slot m (Acts.loaded al r) none = refl
+acts_births s slot m (Acts.store_misaligned al) none = refl
+acts_births s slot m (Acts.store_nothing al e) none = refl
+acts_births s slot m (Acts.stored al r) none = refl
+acts_births s slot m (Acts.bad_size e) none = refl
+acts_births s slot m (Acts.full e never) none = refl
+acts_births s slot m (Acts.allocated {d = d} {n = n} {kind = kind} a e room) none = absurd (none (d, n, kind, refl, refl))
+acts_births s slot m (Acts.free_nothing e) none = refl
+acts_births s slot m (Acts.free_inside r ne) none = refl
+acts_births s slot m (Acts.freed has) none = refl
+acts_births s slot m (Acts.base_nothing e) none = refl
+acts_births s slot m (Acts.based r) none = refl
+acts_births s slot m (Acts.size_nothing e) none = refl
+acts_births s slot m (Acts.sized r) none = refl
+acts_births s slot m Acts.global_got none = refl
+acts_births s slot m Acts.global_put none = refl
+
+pub calls_births : (s : Heap) (slot : ℕ) (call : Call) (reply : Reply) (s' : Heap) → Calls s slot call reply s' → (IsGrant call reply → ⊥) → s'.births ≡ s.births
+calls_births s slot call reply s' (acts {m = m} at act) none = acts_births s slot m act none
+calls_births s slot call reply s' (vacant e) none = refl
+
+-- a granted request is one birth
+grants_birth : (s : Heap) (slot : ℕ) (m : HeapMutator) {d n : ℕ} {kind : Kind} {s' : Heap} → Acts s slot m (Alloc d n kind) Done s' → s'.births ≡ s.births + 1
+grants_birth s slot m (Acts.allocated a e room) = refl
+
+pub call_birth : (s : Heap) (slot d n : ℕ) (kind : Kind) {s' : Heap} → Calls s slot (Alloc d n kind) Done s' → s'.births ≡ s.births + 1
+call_birth s slot d n kind (acts {m = m} at act) = grants_birth s slot m act
+
+attach_births : (s : Heap) {reply : Reply} {s' : Heap} → Attaches s reply s' → s'.births ≡ s.births
+attach_births s (Attaches.attached low) = refl
+attach_births s (Attaches.no_slot none) = refl
+
+-- an event that is no collection leaves the count of these
+same_number : (n : ℕ) → n < word_end → (n + 0) % word_end ≡ n
+same_number n small = omega arith
+
+module _ (old : Contents) (small : old.number < word_end) (few : old.births < word_end) where
+  -- a mutator comes
+  pub attaches : (new : PlainContents) (reply : Reply) (hint : Hint) → IsStep (StandsFor old.core) Attach reply (StandsFor new) → IsReplayed old Attach reply hint (record old { core = new })
+  attaches new reply hint steps start run f =
+      let x = steps (heap_after start run) f.stands in
+      let births : x.0.births ≡ (heap_after start run).births = attach_births (heap_after start run) x.1 in
+      let known = f.births in (
+        goes_on run Attach reply x.0,
+        record {
+          line = LineOf.happens x.1;
+          place = λ slot into words kind is done. absurd (cc);
+          bases = λ n which is. ⊎_elim (λ e. absurd (cc)) (λ e. absurd (cc)) which;
+          births = omega arith;
+        },
+        record {
+          stands = x.2;
+          phase = f.phase;
+          number = sym (ap (λ k. (k + 0) % word_end) (sym f.number) ∙ same_number old.number small);
+          births = f.births ∙ sym births;
+        },
+      )
+
+  pub no_attach : (reply : Reply) (hint : Hint) → IsNoStep old.core Attach reply → IsNoReplay old Attach reply hint
+  no_attach reply hint none start run next f r = stuck reply refl r.line
+    where
+      stuck : (q : Reply) → q ≡ reply → {to : Run} → LineOf AllTouched start run Attach q to → ⊥
+      stuck q is (LineOf.happens {s' = s'} happens) = none (heap_after start run) f.stands s' (subst (λ x. Attaches (heap_after start run) x s') is happens)
+      stuck q is (LineOf.refused wrong) = wrong
+
+  -- a call of a mutator that grants no request
+  pub calls : (new : PlainContents) (slot : ℕ) (call : Call) (reply : Reply) (hint : Hint) → (IsGrant call reply → ⊥) → IsStep (StandsFor old.core) (Mutator slot call) reply (StandsFor new)
+      → IsReplayed old (Mutator slot call) reply hint (record old { core = new })
+  calls new slot call reply hint none steps start run f =
+      let x = steps (heap_after start run) f.stands in
+      let births : x.0.births ≡ (heap_after start run).births = calls_births (heap_after start run) slot call reply x.0 x.1 none in
+      let known = f.births in (
+        goes_on run (Mutator slot call) reply x.0,
+        record {
+          line = LineOf.happens x.1;
+          place = λ at into words kind is done. absurd (none (into, words, kind, cc, done));
+          bases = λ n which is. ⊎_elim (λ e. absurd (cc)) (λ e. absurd (cc)) which;
+          births = omega arith;
+        },
+        record {
+          stands = x.2;
+          phase = f.phase;
+          number = sym (ap (λ k. (k + 0) % word_end) (sym f.number) ∙ same_number old.number small);
+          births = f.births ∙ sym births;
+        },
+      )
+
+  pub no_call : (slot : ℕ) (call : Call) (reply : Reply) (hint : Hint) → IsNoStep old.core (Mutator slot call) reply → IsNoReplay old (Mutator slot call) reply hint
+  no_call slot call reply hint none start run next f r = stuck reply refl r.line
+    where
+      stuck : (q : Reply) → q ≡ reply → {to : Run} → LineOf AllTouched start run (Mutator slot call) q to → ⊥
+      stuck q is (LineOf.happens {s' = s'} happens) = none (heap_after start run) f.stands s' (subst (λ x. Calls (heap_after start run) slot call x s') is happens)
+      stuck q is (LineOf.refused wrong) = wrong
+
+  -- a granted request
+  module _ (slot into words base : ℕ) (kind : Kind) where
+    pub grants : (new : PlainContents) → IsAllocatedAt old.core slot into words kind base new → old.births + 1 < word_end
+        → IsReplayed old (Mutator slot (Alloc into words kind)) Done (Place base) (record old { core = new; births = old.births + 1 })
+    grants new steps room start run f =
+        let x = steps (heap_after start run) f.stands in
+        let births : x.0.births ≡ (heap_after start run).births + 1 = call_birth (heap_after start run) slot into words kind x.1 in
+        let known = f.births in (
+          goes_on run (Mutator slot (Alloc into words kind)) Done x.0,
+          record {
+            line = LineOf.happens x.1;
+            place = λ at d n q is done. x.2;
+            bases = λ n which is. absurd (cc);
+            births = omega arith;
+          },
+          record {
+            stands = x.3;
+            phase = f.phase;
+            number = sym (ap (λ k. (k + 0) % word_end) (sym f.number) ∙ same_number old.number small);
+            births = ap (λ k. k + 1) f.births ∙ sym births;
+          },
+        )
+
+    pub no_grant : CantAllocateAt old.core slot into words kind base → IsNoReplay old (Mutator slot (Alloc into words kind)) Done (Place base)
+    no_grant none start run next f r = stuck r.line (r.place slot into words kind refl refl)
+      where
+        stuck : {to : Run} → LineOf AllTouched start run (Mutator slot (Alloc into words kind)) Done to → IsBornAt (heap_after start run) base (heap_after start to) → ⊥
+        stuck (LineOf.happens {s' = s'} happens) born = none (heap_after start run) f.stands s' happens born
+
+  -- no request is granted where no place is named, or where births are at their end
+  no_name : (hint : Hint) → ((base : ℕ) → hint ≡ Place base → ⊥) → (s s' : Heap) → NamesPlace hint s s' → ⊥
+  no_name Nothing ne s s' names = names
+  no_name (Place base) ne s s' names = ne base refl
+  no_name (Forgot bases) ne s s' names = names
+
+  pub no_place : (slot into words : ℕ) (kind : Kind) (hint : Hint) → ((base : ℕ) → hint ≡ Place base → ⊥) → IsNoReplay old (Mutator slot (Alloc into words kind)) Done hint
+  no_place slot into words kind hint ne start run next f r = no_name hint ne (heap_after start run) (heap_after start next) (r.place slot into words kind refl refl)
+
+  pub no_birth : (slot into words : ℕ) (kind : Kind) (hint : Hint) → word_end ≤ old.births + 1 → IsNoReplay old (Mutator slot (Alloc into words kind)) Done hint
+  no_birth slot into words kind hint most start run next f r = stuck r.line r.births
+    where
+      stuck : {to : Run} → LineOf AllTouched start run (Mutator slot (Alloc into words kind)) Done to → (heap_after start to).births < word_end → ⊥
+      stuck (LineOf.happens {s' = s'} happens) small =
+          let births : s'.births ≡ (heap_after start run).births + 1 = call_birth (heap_after start run) slot into words kind happens in
+          let known = f.births in omega arith
+
+  -- a command that is refused by the phase
+  pub refuses : (event : Event) (hint : Hint) → IsWrongPhase old.marking event → IsReplayed old event (Refused WrongPhase) hint old
+  refuses event hint wrong start run f = (
+    run,
+    record {
+      line = LineOf.refused (subst (λ b. IsWrongPhase b event) f.phase wrong);
+      place = λ slot into words kind is done. absurd (cc);
+      bases = λ n which is. absurd (cc);
+      births = let known = f.births in omega arith;
+    },
+    f,
+  )
+
+  -- a command that leaves the run as it is
+  stays : (event : Event) (reply : Reply) (hint : Hint) → ((slot : ℕ) (call : Call) → event ≡ Mutator slot call → ⊥) → ((event ≡ Finish) ⊎ (event ≡ Collect) → ⊥)
+      → ((start : Start) (run : Run) → Follows old start run → LineOf AllTouched start run event reply run) → IsReplayed old event reply hint old
+  stays event reply hint other small_step line start run f = (
+    run,
+    record {
+      line = line start run f;
+      place = λ slot into words kind is done. absurd (other slot (Alloc into words kind) is);
+      bases = λ n which is. absurd (small_step which);
+      births = let known = f.births in omega arith;
+    },
+    f,
+  )
+
+  pub roots_stay : (hint : Hint) → old.marking ≡ true → IsReplayed old Roots Done hint old
+  roots_stay hint m = stays Roots Done hint (λ slot call e. cc) (λ w. ⊎_elim (λ e. cc) (λ e. cc) w) (λ start run f. LineOf.roots (sym f.phase ∙ m))
+
+  pub mark_stays : (most n : ℕ) (hint : Hint) → old.marking ≡ true → n ≤ most → IsReplayed old (Mark most) (Count n) hint old
+  mark_stays most n hint m few_words = stays (Mark most) (Count n) hint (λ slot call e. cc) (λ w. ⊎_elim (λ e. cc) (λ e. cc) w) (λ start run f. LineOf.mark (sym f.phase ∙ m) few_words)
+
+  pub retrace_stays : (n : ℕ) (hint : Hint) → old.marking ≡ true → n ≤ 1 → IsReplayed old Retrace (Count n) hint old
+  retrace_stays n hint m one = stays Retrace (Count n) hint (λ slot call e. cc) (λ w. ⊎_elim (λ e. cc) (λ e. cc) w) (λ start run f. LineOf.retrace (sym f.phase ∙ m) one)
+
+  pub sweep_stays : (n : ℕ) (hint : Hint) → n ≤ 1 → IsReplayed old Sweep (Count n) hint old
+  sweep_stays n hint one = stays Sweep (Count n) hint (λ slot call e. cc) (λ w. ⊎_elim (λ e. cc) (λ e. cc) w) (λ start run f. LineOf.sweep one)
+
+  pub number_stays : (n : ℕ) (hint : Hint) → n ≡ old.number → IsReplayed old Number (Count n) hint old
+  number_stays n hint is = stays Number (Count n) hint (λ slot call e. cc) (λ w. ⊎_elim (λ e. cc) (λ e. cc) w)
+      (λ start run f. subst (λ k. LineOf AllTouched start run Number (Count k) run) (sym (is ∙ f.number)) LineOf.number)
+
+  -- a cycle begins
+  pub begins : (hint : Hint) → old.marking ≡ false → IsReplayed old Begin Done hint (record old { marking = true })
+  begins hint m start run f = (
+    goes_on run Begin Done (heap_after start run),
+    record {
+      line = LineOf.happens (sym f.phase ∙ m, (refl, refl));
+      place = λ slot into words kind is done. absurd (cc);
+      bases = λ n which is. absurd (cc);
+      births = let known = f.births in omega arith;
+    },
+    record {
+      stands = f.stands;
+      phase = refl;
+      number = sym (ap (λ k. (k + 0) % word_end) (sym f.number) ∙ same_number old.number small);
+      births = f.births;
+    },
+  )
+
+  -- what else no reply is
+  module _ (reply : Reply) (hint : Hint) where
+    pub no_begin : (old.marking ≡ false → reply ≡ Done → ⊥) → (old.marking ≡ true → reply ≡ Refused WrongPhase → ⊥) → IsNoReplay old Begin reply hint
+    no_begin done wrong start run next f r = stuck reply refl r.line
+      where
+        stuck : (q : Reply) → q ≡ reply → {to : Run} → LineOf AllTouched start run Begin q to → ⊥
+        stuck q is (LineOf.happens happens) = done (f.phase ∙ happens.0) (sym is ∙ happens.1.0)
+        stuck q is (LineOf.refused phase) = wrong (f.phase ∙ phase) (sym is)
+
+    pub no_roots : (old.marking ≡ true → reply ≡ Done → ⊥) → (old.marking ≡ false → reply ≡ Refused WrongPhase → ⊥) → IsNoReplay old Roots reply hint
+    no_roots done wrong start run next f r = stuck reply refl r.line
+      where
+        stuck : (q : Reply) → q ≡ reply → {to : Run} → LineOf AllTouched start run Roots q to → ⊥
+        stuck q is (LineOf.happens happens) = happens
+        stuck q is (LineOf.refused phase) = wrong (f.phase ∙ phase) (sym is)
+        stuck q is (LineOf.roots m) = done (f.phase ∙ m) (sym is)
+
+    pub no_mark : (most : ℕ) → (old.marking ≡ true → (n : ℕ) → n ≤ most → reply ≡ Count n → ⊥) → (old.marking ≡ false → reply ≡ Refused WrongPhase → ⊥) → IsNoReplay old (Mark most) reply hint
+    no_mark most none wrong start run next f r = stuck reply refl r.line
+      where
+        stuck : (q : Reply) → q ≡ reply → {to : Run} → LineOf AllTouched start run (Mark most) q to → ⊥
+        stuck q is (LineOf.happens happens) = happens
+        stuck q is (LineOf.refused phase) = wrong (f.phase ∙ phase) (sym is)
+        stuck q is (LineOf.mark {n = n} m few_words) = none (f.phase ∙ m) n few_words (sym is)
+
+    pub no_retrace : (old.marking ≡ true → (n : ℕ) → n ≤ 1 → reply ≡ Count n → ⊥) → (old.marking ≡ false → reply ≡ Refused WrongPhase → ⊥) → IsNoReplay old Retrace reply hint
+    no_retrace none wrong start run next f r = stuck reply refl r.line
+      where
+        stuck : (q : Reply) → q ≡ reply → {to : Run} → LineOf AllTouched start run Retrace q to → ⊥
+        stuck q is (LineOf.happens happens) = happens
+        stuck q is (LineOf.refused phase) = wrong (f.phase ∙ phase) (sym is)
+        stuck q is (LineOf.retrace {n = n} m one) = none (f.phase ∙ m) n one (sym is)
+
+    pub no_sweep : ((n : ℕ) → n ≤ 1 → reply ≡ Count n → ⊥) → IsNoReplay old Sweep reply hint
+    no_sweep none start run next f r = stuck reply refl r.line
+      where
+        stuck : (q : Reply) → q ≡ reply → {to : Run} → LineOf AllTouched start run Sweep q to → ⊥
+        stuck q is (LineOf.happens happens) = happens
+        stuck q is (LineOf.refused phase) = phase
+        stuck q is (LineOf.sweep {n = n} one) = none n one (sym is)
+
+    pub no_number : (reply ≡ Count old.number → ⊥) → IsNoReplay old Number reply hint
+    no_number none start run next f r = stuck reply refl r.line
+      where
+        stuck : (q : Reply) → q ≡ reply → {to : Run} → LineOf AllTouched start run Number q to → ⊥
+        stuck q is (LineOf.happens happens) = happens
+        stuck q is (LineOf.refused phase) = phase
+        stuck q is LineOf.number = none (sym is ∙ ap Count (sym f.number))
+
+    pub no_finish : (old.marking ≡ false → reply ≡ Refused WrongPhase → ⊥) → (old.marking ≡ true → (s : Heap) → StandsFor old.core s → (n : ℕ) (s' : Heap) → reply ≡ Count n → NamesBases hint n s s' → ⊥) → IsNoReplay old Finish reply hint
+    no_finish wrong none start run next f r = stuck reply refl r.line r.bases
+      where
+        stuck : (q : Reply) → q ≡ reply → {to : Run} → LineOf AllTouched start run Finish q to
+            → ((n : ℕ) → (Finish ≡ Finish) ⊎ (Finish ≡ Collect) → reply ≡ Count n → NamesBases hint n (heap_after start run) (heap_after start to)) → ⊥
+        stuck q is (LineOf.happens {s' = s'} happens) names =
+            let takes = happens.1.takes in
+            let n : ℕ = length happens.1.bases in
+            none (f.phase ∙ happens.0) (heap_after start run) f.stands n s' (sym is ∙ takes.number) (names n (inl refl) (sym is ∙ takes.number))
+        stuck q is (LineOf.refused phase) names = wrong (f.phase ∙ phase) (sym is)
+
+    pub no_collect : ((s : Heap) → StandsFor old.core s → (n : ℕ) (s' : Heap) → reply ≡ Count n → NamesBases hint n s s' → CollectsFully s reply s' → ⊥) → IsNoReplay old Collect reply hint
+    no_collect none start run next f r = stuck reply refl r.line r.bases
+      where
+        stuck : (q : Reply) → q ≡ reply → {to : Run} → LineOf AllTouched start run Collect q to
+            → ((n : ℕ) → (Collect ≡ Finish) ⊎ (Collect ≡ Collect) → reply ≡ Count n → NamesBases hint n (heap_after start run) (heap_after start to)) → ⊥
+        stuck q is (LineOf.happens {s' = s'} happens) names =
+            let n : ℕ = length happens.bases in
+            let counts : reply ≡ Count n = sym is ∙ happens.takes.number in
+            none (heap_after start run) f.stands n s' counts (names n (inr refl) counts) (subst (λ x. CollectsFully (heap_after start run) x s') is happens)
+        stuck q is (LineOf.refused phase) names = phase
+
+-- the numbers of equal replies
+pub count_same : (a b : ℕ) → Count a ≡ Count b → a ≡ b
+count_same a b e = cc
+
+-- a reply of another number
+pub uncounted : (reply : Reply) (n len : ℕ) → reply ≡ Count n → (n ≡ len → ⊥) → (k : ℕ) → k ≡ len → reply ≡ Count k → ⊥
+uncounted reply n len is ne k same also = ne (count_same n k (sym is ∙ also) ∙ same)
+
+-- no collection is granted where no bases are named
+pub no_bases : (hint : Hint) → ((bases : Bor (List ℕ)) → hint ≡ Forgot bases → ⊥) → (n : ℕ) (s s' : Heap) → NamesBases hint n s s' → ⊥
+no_bases Nothing ne n s s' names = names
+no_bases (Place base) ne n s s' names = names
+no_bases (Forgot bases) ne n s s' names = ne bases refl
+
+-- what one list of bases takes out is what another does
+taken_bases : (s : Heap) (b : Bool) (base : ℕ) (o : Object) → HasObject s base o → cond b None (s.objects base) ≡ None → b ≡ true
+taken_bases s true base o has none = refl
+taken_bases s false base o has none = absurd (none-some o (sym none ∙ has))
+
+pub same_bases : (s s' : Heap) (mine theirs : List ℕ) → s' ≡ without s mine → s' ≡ without s theirs → HasUnreached s theirs → HasUnreached s mine
+same_bases s s' mine theirs is other all base o has out =
+    let gone : (without s theirs).objects base ≡ None = gone_from (all base o has out) in
+    let here : (without s mine).objects base ≡ None = ap (λ (x : Heap). x.objects base) (sym is ∙ other) ∙ gone in
+    let any = Any-from_list_any (λ b. eqb b base) mine (taken_bases s (list_any (λ b. eqb b base) mine) base o has here) in
+    subst (Contains mine) (eqb-true any.1 base any.4) (any.0, any.2, any.3)
+  where
+    gone_from : Contains theirs base → (without s theirs).objects base ≡ None
+    gone_from among = cond-true (list_any (λ b. eqb b base) theirs) None (s.objects base) (list_any-from_Any (λ b. eqb b base) theirs (among.0, base, among.1, among.2, eq-eqb base base refl))
+
+-- collections that are granted
+module _ (old : Contents) (small : old.number < word_end) (few : old.births < word_end) (new : PlainContents) (bases : Bor (List ℕ)) where
+  -- the replayer after one
+  abbrev pub ended : Contents
+  ended = record old { core = new; marking = false; number = (old.number + 1) % word_end }
+
+  follows : (start : Start) (run : Run) (f : Follows old start run) (s' : Heap) (event : Event) (reply : Reply) → counted event ≡ 1 → marking_after event (is_marking start run) ≡ false → s' ≡ without (heap_after start run) bases.now → StandsFor new s'
+      → Follows ended start (goes_on run event reply s')
+  follows start run f s' event reply one ends after stands = record {
+    stands = stands;
+    phase = sym ends;
+    number = ap (λ k. (k + 1) % word_end) f.number ∙ ap (λ k. (count start run + k) % word_end) (sym one);
+    births = f.births ∙ sym (ap (λ (x : Heap). x.births) after);
+  }
+
+  below : (start : Start) (run : Run) (f : Follows old start run) (s' : Heap) → s' ≡ without (heap_after start run) bases.now → s'.births < word_end
+  below start run f s' after =
+      let same : s'.births ≡ (heap_after start run).births = ap (λ (x : Heap). x.births) after in
+      let known = f.births in omega arith
+
+  -- the bases that a hint names are those of the slice
+  named : (n : ℕ) (s s' : Heap) → TakesOut s bases.now (Count (length bases.now)) s' → Count n ≡ Count (length bases.now) → TakesOut s bases.now (Count n) s'
+  named n s s' takes is = subst (λ q. TakesOut s bases.now q s') (sym is) takes
+
+  pub finishes : IsTaken old.core bases.now false new → old.marking ≡ true → (n : ℕ) → n ≡ length bases.now → IsReplayed old Finish (Count n) (Forgot bases) ended
+  finishes takes m n long start run f =
+      let x = takes (heap_after start run) f.stands in
+      let counts : Count n ≡ Count (length bases.now) = ap Count long in (
+        goes_on run Finish (Count n) x.0,
+        record {
+          line = LineOf.happens (sym f.phase ∙ m, record { bases = bases.now; takes = named n (heap_after start run) x.0 x.1 counts; untouched = λ base o has ne. absurd (ne tt) });
+          place = λ slot into words kind is done. absurd (cc);
+          bases = λ k which is. named k (heap_after start run) x.0 x.1 (sym is ∙ counts);
+          births = below start run f x.0 x.1.after;
+        },
+        follows start run f x.0 Finish (Count n) refl refl x.1.after x.3,
+      )
+
+  pub collects : IsTaken old.core bases.now true new → (n : ℕ) → n ≡ length bases.now → IsReplayed old Collect (Count n) (Forgot bases) ended
+  collects takes n long start run f =
+      let x = takes (heap_after start run) f.stands in
+      let counts : Count n ≡ Count (length bases.now) = ap Count long in (
+        goes_on run Collect (Count n) x.0,
+        record {
+          line = LineOf.happens (record { bases = bases.now; takes = named n (heap_after start run) x.0 x.1 counts; all = x.2 refl });
+          place = λ slot into words kind is done. absurd (cc);
+          bases = λ k which is. named k (heap_after start run) x.0 x.1 (sym is ∙ counts);
+          births = below start run f x.0 x.1.after;
+        },
+        follows start run f x.0 Collect (Count n) refl refl x.1.after x.3,
+      )
+
+-- and those that are not
+module _ (old : Contents) (small : old.number < word_end) (few : old.births < word_end) (reply : Reply) where
+  -- what is named has as many bases as the reply says
+  as_many : (bases : Bor (List ℕ)) (s s' : Heap) (n : ℕ) → NamesBases (Forgot bases) n s s' → n ≡ length bases.now
+  as_many bases s s' n takes = count_same n (length bases.now) takes.number
+
+  module _ (wrong : old.marking ≡ false → reply ≡ Refused WrongPhase → ⊥) where
+    pub finish_unnamed : (hint : Hint) → ((bases : Bor (List ℕ)) → hint ≡ Forgot bases → ⊥) → IsNoReplay old Finish reply hint
+    finish_unnamed hint ne = no_finish old small few reply hint wrong (λ m s h n s' is names. no_bases hint ne n s s' names)
+
+    pub finish_uncounted : (bases : Bor (List ℕ)) → ((n : ℕ) → n ≡ length bases.now → reply ≡ Count n → ⊥) → IsNoReplay old Finish reply (Forgot bases)
+    finish_uncounted bases none = no_finish old small few reply (Forgot bases) wrong (λ m s h n s' is names. none n (as_many bases s s' n names) is)
+
+    pub finish_untaken : (bases : Bor (List ℕ)) → CantTake old.core bases.now false → IsNoReplay old Finish reply (Forgot bases)
+    finish_untaken bases cant = no_finish old small few reply (Forgot bases) wrong (λ m s h n s' is names. cant s h n s' names (λ all. absurd (cc)))
+
+  pub collect_unnamed : (hint : Hint) → ((bases : Bor (List ℕ)) → hint ≡ Forgot bases → ⊥) → IsNoReplay old Collect reply hint
+  collect_unnamed hint ne = no_collect old small few reply hint (λ s h n s' is names full. no_bases hint ne n s s' names)
+
+  pub collect_uncounted : (bases : Bor (List ℕ)) → ((n : ℕ) → n ≡ length bases.now → reply ≡ Count n → ⊥) → IsNoReplay old Collect reply (Forgot bases)
+  collect_uncounted bases none = no_collect old small few reply (Forgot bases) (λ s h n s' is names full. none n (as_many bases s s' n names) is)
+
+  pub collect_untaken : (bases : Bor (List ℕ)) → CantTake old.core bases.now true → IsNoReplay old Collect reply (Forgot bases)
+  collect_untaken bases cant = no_collect old small few reply (Forgot bases)
+      (λ s h n s' is names full. cant s h n s' names (λ all. same_bases s s' bases.now full.bases names.after full.takes.after full.all))

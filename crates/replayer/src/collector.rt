@@ -1,0 +1,216 @@
+//! The collector's events. Its small steps leave the heap as it is, and their replies are open within their ranges.
+ghost use Rattle.std.specs.Prelude.{◌≡◌, ◌<◌, ℕ, IsTrue, IfSome, IfNone, false};
+ghost use Rattle.heap_spec.specs.Layout.{word_end};
+ghost use Rattle.replayer.specs.declared.hint.Hint.{Hint as HintValue};
+ghost use Rattle.replayer.specs.Replays.{IsReplayed, IsNoReplay};
+
+use crate::hint::Hint;
+use crate::replayer::Replayer;
+use heap_spec::{Event, Reply};
+use words::Refusal;
+
+// Whether the reply is that the call is done.
+fn is_done(reply: &Reply) -> bool
+    ensures yes { IsTrue result → reply.now ≡ Reply.Done }
+    ensures no { result ≡ false → reply.now ≡ Reply.Done → ⊥ }
+{
+    let Reply::Done = reply else {
+        return false;
+    };
+    true
+}
+
+// Whether the reply is that the phase forbids the call.
+fn is_wrong_phase(reply: &Reply) -> bool
+    ensures yes { IsTrue result → reply.now ≡ Reply.Refused Refusal.WrongPhase }
+    ensures no { result ≡ false → reply.now ≡ Reply.Refused Refusal.WrongPhase → ⊥ }
+{
+    let Reply::Refused(Refusal::WrongPhase) = reply else {
+        return false;
+    };
+    true
+}
+
+// The number of a reply that is one.
+fn count_in(reply: &Reply) -> Option<u64>
+    ensures some { IfSome result (λ n. reply.now ≡ Reply.Count n) }
+    ensures none { IfNone result ((n : ℕ) → reply.now ≡ Reply.Count n → ⊥) }
+{
+    let Reply::Count(n) = reply else {
+        return None;
+    };
+    Some(*n)
+}
+
+impl Replayer {
+    // What is true of every replayer: its counts are words.
+    pub(crate) fn limits(&self)
+        ensures number { self.now.number < word_end }
+        ensures births { self.now.births < word_end }
+    {
+        let _number = self.number;
+        let _births = self.births;
+    }
+
+    // Whether a cycle is marking.
+    fn is_marking(&self) -> bool
+        ensures { result ≡ self.now.marking }
+    {
+        self.marking
+    }
+
+    // The count of collections.
+    fn collections(&self) -> u64
+        ensures { result ≡ self.now.number }
+    {
+        self.number
+    }
+
+    // A cycle begins.
+    pub(crate) fn begin(&mut self, reply: &Reply) -> bool
+        ensures yes { IsTrue result → (hint : HintValue) → IsReplayed self.old Event.Begin reply.now hint self.new }
+        ensures no { result ≡ false → (hint : HintValue) → IsNoReplay self.old Event.Begin reply.now hint }
+        ensures same { result ≡ false → self.new ≡ self.old }
+    {
+        self.limits();
+        if self.is_marking() {
+            return is_wrong_phase(reply);
+        }
+        if !is_done(reply) {
+            return false;
+        }
+        self.marking = true;
+        true
+    }
+
+    // What root words point into is marked.
+    pub(crate) fn roots(&self, reply: &Reply) -> bool
+        ensures yes { IsTrue result → (hint : HintValue) → IsReplayed self.now Event.Roots reply.now hint self.now }
+        ensures no { result ≡ false → (hint : HintValue) → IsNoReplay self.now Event.Roots reply.now hint }
+    {
+        self.limits();
+        if !self.is_marking() {
+            return is_wrong_phase(reply);
+        }
+        is_done(reply)
+    }
+
+    // At most so many words are read.
+    pub(crate) fn mark(&self, most: u64, reply: &Reply) -> bool
+        ensures yes { IsTrue result → (hint : HintValue) → IsReplayed self.now (Event.Mark most) reply.now hint self.now }
+        ensures no { result ≡ false → (hint : HintValue) → IsNoReplay self.now (Event.Mark most) reply.now hint }
+    {
+        self.limits();
+        if !self.is_marking() {
+            return is_wrong_phase(reply);
+        }
+        let Some(n) = count_in(reply) else {
+            return false;
+        };
+        if n > most {
+            return false;
+        }
+        true
+    }
+
+    // A page is read again.
+    pub(crate) fn retrace(&self, reply: &Reply) -> bool
+        ensures yes { IsTrue result → (hint : HintValue) → IsReplayed self.now Event.Retrace reply.now hint self.now }
+        ensures no { result ≡ false → (hint : HintValue) → IsNoReplay self.now Event.Retrace reply.now hint }
+    {
+        self.limits();
+        if !self.is_marking() {
+            return is_wrong_phase(reply);
+        }
+        let Some(n) = count_in(reply) else {
+            return false;
+        };
+        if n > 1 {
+            return false;
+        }
+        true
+    }
+
+    // A page is swept.
+    pub(crate) fn sweep(&self, reply: &Reply) -> bool
+        ensures yes { IsTrue result → (hint : HintValue) → IsReplayed self.now Event.Sweep reply.now hint self.now }
+        ensures no { result ≡ false → (hint : HintValue) → IsNoReplay self.now Event.Sweep reply.now hint }
+    {
+        self.limits();
+        let Some(n) = count_in(reply) else {
+            return false;
+        };
+        if n > 1 {
+            return false;
+        }
+        true
+    }
+
+    // The count of collections.
+    pub(crate) fn count(&self, reply: &Reply) -> bool
+        ensures yes { IsTrue result → (hint : HintValue) → IsReplayed self.now Event.Number reply.now hint self.now }
+        ensures no { result ≡ false → (hint : HintValue) → IsNoReplay self.now Event.Number reply.now hint }
+    {
+        self.limits();
+        let Some(n) = count_in(reply) else {
+            return false;
+        };
+        if n != self.collections() {
+            return false;
+        }
+        true
+    }
+
+    // A cycle ends, and forgets the objects of the hint.
+    pub(crate) fn finish(&mut self, reply: &Reply, hint: Hint) -> bool
+        ensures yes { IsTrue result → IsReplayed self.old Event.Finish reply.now hint.entry self.new }
+        ensures no { result ≡ false → IsNoReplay self.old Event.Finish reply.now hint.entry }
+        ensures same { result ≡ false → self.new ≡ self.old }
+    {
+        self.limits();
+        if !self.is_marking() {
+            return is_wrong_phase(reply);
+        }
+        let Hint::Forgot(bases) = hint else {
+            return false;
+        };
+        let Some(n) = count_in(reply) else {
+            return false;
+        };
+        let count = bases.len() as u64;
+        if n != count {
+            return false;
+        }
+        if !self.core.forget(bases) {
+            return false;
+        }
+        self.marking = false;
+        self.number = self.number.wrapping_add(1);
+        true
+    }
+
+    // All that isn't reached is forgotten: the objects of the hint.
+    pub(crate) fn collect(&mut self, reply: &Reply, hint: Hint) -> bool
+        ensures yes { IsTrue result → IsReplayed self.old Event.Collect reply.now hint.entry self.new }
+        ensures no { result ≡ false → IsNoReplay self.old Event.Collect reply.now hint.entry }
+        ensures same { result ≡ false → self.new ≡ self.old }
+    {
+        self.limits();
+        let Hint::Forgot(bases) = hint else {
+            return false;
+        };
+        let Some(n) = count_in(reply) else {
+            return false;
+        };
+        let count = bases.len() as u64;
+        if n != count {
+            return false;
+        }
+        if !self.core.collect_as(bases) {
+            return false;
+        }
+        self.marking = false;
+        self.number = self.number.wrapping_add(1);
+        true
+    }
+}

@@ -1,0 +1,129 @@
+//! The replayer, how it is made, and its one question.
+ghost use Rattle.std.specs.Prelude.{◌≡◌, ◌+◌, ◌<◌, ◌≤◌, ◌↔◌, ◌⊎◌, IfOk, Err, IsTrue, false, []};
+ghost use Rattle.words.specs.declared.limits.TheConstants.{MAX_PAGES};
+ghost use Rattle.words.specs.declared.refusal.OpenError.TheVariants.{BadPages};
+ghost use Rattle.heap_spec.specs.Layout.{word_end};
+ghost use Rattle.heap_spec.specs.Runs.{fresh};
+ghost use Rattle.replayer.specs.Contents.{Follows};
+ghost use Rattle.replayer.specs.Replays.{IsReplayed, IsNoReplay};
+
+use crate::hint::Hint;
+use heap_spec::{Call, Event, Reply};
+use plain_core::Core;
+use std::alloc::Global;
+use std::marker::Model;
+use words::{Kind, OpenError, Reg, Slot};
+
+/// A checker of the runs of one heap.
+#[derive(Drop)]
+pub struct Replayer {
+    pub(crate) core: Core,
+    pub(crate) marking: bool,
+    pub(crate) number: u64,
+    pub(crate) births: u64,
+}
+
+impl Model for Replayer {
+    ghost use Rattle.replayer.specs.Contents.{Contents};
+
+    ghost Value = { Contents };
+
+    ghost view = { λ r. record { core = r.core; marking = r.marking; number = r.number; births = r.births } };
+}
+
+impl Replayer {
+    /// A checker of a heap of so many pages, of which nothing was told yet. All memory that it ever takes is taken here.
+    ///
+    /// # Errors
+    /// [`OpenError::BadPages`] exactly for no page or more than the limit, and else [`OpenError::Memory`] where a growth
+    /// of memory was refused.
+    pub fn new(alloc: Global, pages: u32) -> Result<Replayer, OpenError>
+        ensures ok { IfOk result (λ replayer. Follows replayer (fresh pages) []) }
+        ensures bad_pages { (result ≡ Err BadPages) ↔ ((pages ≡ 0) ⊎ (MAX_PAGES < pages)) }
+    {
+        match Core::new(alloc, pages) {
+            Ok(core) => Ok(Replayer {
+                core,
+                marking: false,
+                number: 0,
+                births: 0,
+            }),
+            Err(error) => Err(error),
+        }
+    }
+
+    // Whether no birth more can be counted.
+    fn is_full(&self) -> bool
+        ensures yes { IsTrue result → word_end ≤ self.now.births + 1 }
+        ensures no { result ≡ false → self.now.births + 1 < word_end }
+    {
+        self.births == u64::MAX
+    }
+
+    // A request that was granted at the base of the hint.
+    fn alloc(&mut self, slot: Slot, into: Reg, words: u64, kind: Kind, hint: Hint) -> bool
+        ensures yes { IsTrue result → IsReplayed self.old (Event.Mutator slot (Call.Alloc into words kind)) Reply.Done hint.entry self.new }
+        ensures no { result ≡ false → IsNoReplay self.old (Event.Mutator slot (Call.Alloc into words kind)) Reply.Done hint.entry }
+        ensures same { result ≡ false → self.new ≡ self.old }
+    {
+        self.limits();
+        let Hint::Place(base) = hint else {
+            return false;
+        };
+        if self.is_full() {
+            return false;
+        }
+        if !self.core.alloc_at(slot, into, words, kind, base) {
+            return false;
+        }
+        self.births += 1;
+        true
+    }
+
+    // A call of a mutator.
+    fn call(&mut self, slot: Slot, call: &Call, reply: &Reply, hint: Hint) -> bool
+        ensures yes { IsTrue result → IsReplayed self.old (Event.Mutator slot call.now) reply.now hint.entry self.new }
+        ensures no { result ≡ false → IsNoReplay self.old (Event.Mutator slot call.now) reply.now hint.entry }
+        ensures same { result ≡ false → self.new ≡ self.old }
+    {
+        self.limits();
+        let Reply::Done = reply else {
+            return self.core.call_as(slot, call, reply);
+        };
+        let Call::Alloc(into, words, kind) = call else {
+            return self.core.call_as(slot, call, reply);
+        };
+        self.alloc(slot, *into, *words, *kind, hint)
+    }
+
+    // An event, by its kind.
+    fn replay(&mut self, event: Event, reply: &Reply, hint: Hint) -> bool
+        ensures yes { IsTrue result → IsReplayed self.old event reply.now hint.entry self.new }
+        ensures no { result ≡ false → IsNoReplay self.old event reply.now hint.entry }
+        ensures same { result ≡ false → self.new ≡ self.old }
+    {
+        self.limits();
+        match event {
+            Event::Attach => self.core.attach_as(reply),
+            Event::Mutator(slot, call) => self.call(slot, &call, reply, hint),
+            Event::Begin => self.begin(reply),
+            Event::Roots => self.roots(reply),
+            Event::Mark(most) => self.mark(most, reply),
+            Event::Retrace => self.retrace(reply),
+            Event::Finish => self.finish(reply, hint),
+            Event::Sweep => self.sweep(reply),
+            Event::Collect => self.collect(reply, hint),
+            Event::Number => self.count(reply),
+        }
+    }
+
+    /// Whether the event with its reply goes on with what was told so far, by the hint. If so, the replayer goes on to the
+    /// heap after it, and else it stays where it was. It takes no memory.
+    pub fn step(&mut self, event: &Event, reply: &Reply, hint: Hint) -> bool
+        ensures yes { IsTrue result → IsReplayed self.old event.now reply.now hint.entry self.new }
+        ensures no { result ≡ false → IsNoReplay self.old event.now reply.now hint.entry }
+        ensures same { result ≡ false → self.new ≡ self.old }
+    {
+        self.replay(*event, reply, hint)
+    }
+}
