@@ -39,18 +39,24 @@ const ROWS: [(&str, Result<(), ScriptError>, &str); 5] = [
     ),
 ];
 
-fn check_rows<R: Threads + Wait + Abort + Sync>(rt: &R, alloc: Global, output: &mut Taken) {
-    for (text, wanted, printed) in &ROWS {
-        let answer = run(rt, alloc, text.as_bytes(), PAGES, &Open, output);
-        assert_eq!(rt; answer, *wanted, "{text}");
-        assert_eq!(rt; output.text(), Some(*printed), "{text}");
-    }
+fn check_row<R: Threads + Wait + Abort + Sync>(
+    rt: &R,
+    alloc: Global,
+    row: (&str, Result<(), ScriptError>, &str),
+    output: &mut Taken,
+) {
+    let (text, wanted, printed) = row;
+    let answer = run(rt, alloc, text.as_bytes(), PAGES, &Open, output);
+    assert_eq!(rt; answer, wanted, "{text}");
+    assert_eq!(rt; output.text(), Some(printed), "{text}");
 }
 
 #[test]
 fn workloads_are_run(rt: HostRuntime) -> Result<(), Fail> {
     let mut output = Taken::new(rt.alloc())?;
-    check_rows(&rt, rt.alloc(), &mut output);
+    for row in ROWS {
+        check_row(&rt, rt.alloc(), row, &mut output);
+    }
     Ok(())
 }
 
