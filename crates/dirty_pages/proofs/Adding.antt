@@ -1,5 +1,5 @@
 -- The members of one row become those of both.
-use Rattle.std.proofs.Common.{◌≡◌, ℕ, ◌+◌, ◌<◌, ◌≤◌, ◌⊎◌, List, Bool, true, length, set, refl, sym, subst, ap, ◌∙◌, inl, inr, ⊎_elim, length-set, arith}
+use Rattle.std.proofs.Common.{◌≡◌, ℕ, ◌+◌, ◌<◌, ◌⊎◌, List, Bool, true, length, set, refl, sym, subst, ◌∙◌, inl, inr, ⊎_elim, length-set, arith}
 use Rattle.std.proofs.lemmas.Bool.{cases_lt}
 use Rattle.words.specs.Bits.{Has, IsFirstFrom, IsEmptyFrom}
 use Rattle.words.proofs.Sets.{has_set, first_least, none_before}

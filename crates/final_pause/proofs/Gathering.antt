@@ -1,5 +1,5 @@
 -- What helpers know, won and made dirty is put together.
-use Rattle.std.proofs.Common.{◌≡◌, ℕ, ◌+◌, ◌%◌, ◌<◌, ◌≤◌, List, ◌++◌, Bool, true, false, Contains, Option, Some, length, get_or, refl, sym, ap, subst, ◌∙◌, inl, inr, ⊎_elim, mod-lt, arith}
+use Rattle.std.proofs.Common.{◌≡◌, ℕ, ◌+◌, ◌%◌, ◌<◌, List, Bool, true, Contains, Some, length, get_or, refl, sym, ap, subst, ◌∙◌, inl, inr, ⊎_elim, mod-lt, arith}
 use Rattle.std.specs.Prelude.{◌⊎◌}
 use Rattle.std.proofs.lemmas.Bool.{cases_eq, true≢false}
 use Rattle.std.proofs.lemmas.List.{get_or_default}
@@ -16,17 +16,16 @@ use Rattle.mark_bits.proofs.Words.{shows-left, shows-right}
 use Rattle.mark_bits.proofs.Gathered.{gathered-each, gathered-start, gathered-won}
 use Rattle.block_map.specs.declared.found.Found.{Found}
 use Rattle.block_map.specs.Objects.{IsMap}
-use Rattle.marker.specs.declared.entry.Entry.{Entry}
-use Rattle.marker.specs.Marking.{Marking, IsMarked, IsPending, Covers, word_address}
-use Rattle.marker.specs.Closure.{Closure, held}
+use Rattle.marker.specs.Marking.{Marking, IsMarked, IsPending, word_address}
+use Rattle.marker.specs.Closure.{held}
 use Rattle.marker.specs.Invariant.{AreRootsMarked, IsTargetMarked}
 use Rattle.marker.specs.Growth.{Traces}
 use Rattle.marker.proofs.Closures.{same_object}
 use Rattle.each_law.specs.Jobs.{HaveRun}
 use Rattle.final_pause.specs.declared.helper.Helper.{Helper}
 use Rattle.final_pause.specs.declared.share.Pause.{Pause}
-use Rattle.final_pause.specs.Helping.{found, word_in, won_of, IsTargetKnown, IsPageOfWon}
-use Rattle.final_pause.specs.Serving.{IsReached, IsReachedAt, IsEntryRead, IsShareRead, HasServed}
+use Rattle.final_pause.specs.Helping.{found, word_in, IsTargetKnown}
+use Rattle.final_pause.specs.Serving.{IsReached, IsEntryRead, IsShareRead, HasServed}
 use Rattle.final_pause.specs.Gathering.{AreNumbered, HasGathered}
 use Rattle.final_pause.proofs.Knowing.{none_in}
 use Rattle.final_pause.proofs.Growing.{target_more}

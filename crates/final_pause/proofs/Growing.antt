@@ -1,6 +1,5 @@
 -- How what a helper knows, won and awaits grows.
-use Rattle.std.proofs.Common.{◌≡◌, ℕ, ◌+◌, ◌*◌, ◌<◌, ◌≤◌, List, [], ◌∷◌, Bool, true, false, Contains, Option, Some, length, refl, sym, ap, subst, ◌∙◌, inl, inr, ⊎_elim, arith, below_more}
-use Rattle.std.specs.Prelude.{◌⊎◌}
+use Rattle.std.proofs.Common.{◌≡◌, ℕ, ◌+◌, ◌*◌, ◌<◌, ◌∷◌, true, false, Contains, Some, length, refl, sym, ap, subst, ◌∙◌, inl, inr, ⊎_elim, arith}
 use Rattle.std.proofs.lemmas.Option.{same_Some}
 use Rattle.std.proofs.lemmas.Bool.{cases_lt}
 use Rattle.words.specs.declared.class.Kind.TheVariants.{Normal}
@@ -12,12 +11,11 @@ use Rattle.mark_bits.specs.Tables.{view, start_of, IsOf}
 use Rattle.mark_bits.specs.Claims.{knows, LearnsMore}
 use Rattle.block_map.specs.declared.found.Found.{Found}
 use Rattle.block_map.specs.Objects.{IsMap}
-use Rattle.marker.specs.Marking.{Covers}
 use Rattle.marker.proofs.Closures.{at_base, same_object}
 use Rattle.marker.proofs.MarkWord.{markable}
 use Rattle.final_pause.specs.declared.helper.Helper.{Helper}
 use Rattle.final_pause.specs.declared.share.Pause.{Pause}
-use Rattle.final_pause.specs.Helping.{found, word_in, won_of, unknown, left, Fits, Keeps, Extends, IsTargetKnown, IsAwaited, IsPageOfWon, IsPointedInto, ClaimsOnly, Visits, IsWordOf, ReadsWords}
+use Rattle.final_pause.specs.Helping.{found, word_in, won_of, Keeps, Extends, IsTargetKnown, IsAwaited, IsPageOfWon, IsPointedInto, ClaimsOnly, Visits, IsWordOf, ReadsWords}
 use Rattle.final_pause.proofs.Knowing.{unknown_le, unknown_lt, contains_cons, contains_more, contains_here}
 
 module _ (p : Pause) where

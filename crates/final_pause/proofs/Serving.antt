@@ -1,5 +1,5 @@
 -- A helper at work goes on: what it reads is reached, and what it owes is awaited.
-use Rattle.std.proofs.Common.{◌≡◌, ℕ, ◌+◌, ◌*◌, ◌<◌, ◌≤◌, List, [], ◌∷◌, ◌++◌, Bool, true, Contains, Option, Some, None, length, refl, sym, ap, subst, ◌∙◌, inl, inr, ⊎_elim, arith}
+use Rattle.std.proofs.Common.{◌≡◌, ℕ, ◌+◌, ◌*◌, ◌<◌, ◌≤◌, [], ◌∷◌, ◌++◌, true, Contains, Some, None, length, refl, sym, ap, subst, ◌∙◌, inl, inr, ⊎_elim, arith}
 use Rattle.std.specs.Prelude.{◌⊎◌}
 use Rattle.std.proofs.lemmas.Option.{same_Some}
 use Rattle.std.proofs.lemmas.Bool.{cases_lt}
@@ -20,8 +20,8 @@ use Rattle.marker.proofs.Closures.{at_base}
 use Rattle.marker.proofs.Rescanning.{next_is, reads_own}
 use Rattle.final_pause.specs.declared.helper.Helper.{Helper}
 use Rattle.final_pause.specs.declared.share.Pause.{Pause}
-use Rattle.final_pause.specs.Helping.{found, word_in, won_of, Fits, Extends, IsTargetKnown, IsAwaited, IsPageOfWon, IsPointedInto, ClaimsOnly, IsWordOf, ReadsWords}
-use Rattle.final_pause.specs.Serving.{IsReached, IsReachedAt, IsQueuedAt, IsServing, Serves, IsEntryRead, AreRootsRead, AreEntriesRead, IsCurrentRead, AreWordsRead, ArePagesRead, IsShareRead}
+use Rattle.final_pause.specs.Helping.{found, word_in, won_of, Fits, Extends, IsTargetKnown, IsPointedInto, ClaimsOnly, IsWordOf, ReadsWords}
+use Rattle.final_pause.specs.Serving.{IsReached, IsReachedAt, IsQueuedAt, IsServing, Serves, AreRootsRead, AreEntriesRead, IsCurrentRead, AreWordsRead, ArePagesRead, IsShareRead}
 use Rattle.final_pause.proofs.Knowing.{contains_one}
 use Rattle.final_pause.proofs.Growing.{target_more, awaited_more, page_more}
 

@@ -1,5 +1,5 @@
 -- What a helper of a pause does with a word.
-use Rattle.std.specs.Prelude.{◌≡◌, ℕ, zero, suc, ◌+◌, ◌*◌, ◌%◌, ◌<◌, ◌≤◌, Bool, true, false, List, length, Contains, Option, Some, ◌⊎◌, if◌then◌else◌}
+use Rattle.std.specs.Prelude.{◌≡◌, ℕ, zero, suc, ◌+◌, ◌*◌, ◌%◌, ◌<◌, ◌≤◌, Bool, true, List, length, Contains, Option, Some, ◌⊎◌, if◌then◌else◌}
 use Rattle.words.specs.declared.class.Kind.TheVariants.{Normal}
 use Rattle.words.specs.declared.limits.TheConstants.{MAX_PAGES, PAGE_GRANULES, PAGE_WORDS, WORD_BYTES}
 use Rattle.words.specs.Bits.{Has}

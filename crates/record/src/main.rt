@@ -78,7 +78,7 @@ fn answer(
     let Some(event) = command(line.as_bytes()) else {
         return Ok(None);
     };
-    let reply = recorder.act(event)?;
+    let reply = recorder.act(&event)?;
     let text = answer_text(alloc, &reply, recorder.hint())?;
     Ok(Some(text))
 }

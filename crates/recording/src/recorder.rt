@@ -18,6 +18,13 @@ pub struct Recorder {
     has_collected: bool,
 }
 
+fn is_refused(reply: &Reply) -> bool {
+    let Reply::Refused(_) = reply else {
+        return false;
+    };
+    true
+}
+
 impl Recorder {
     /// A recorder of a new heap.
     pub fn new(alloc: Global, core: Core) -> Recorder {
@@ -68,11 +75,19 @@ impl Recorder {
         Ok(())
     }
 
+    // Notes what a call of a mutator left.
+    fn note_call(&mut self, slot: Slot, call: &Call) -> Result<(), AllocError> {
+        match call {
+            Call::Alloc(into, _, _) => self.note_place(slot, *into),
+            Call::Free(_) => self.sort_out(),
+            _ => Ok(()),
+        }
+    }
+
     // Notes what an event left that was not refused.
-    fn note(&mut self, event: Event) -> Result<(), AllocError> {
+    fn note(&mut self, event: &Event) -> Result<(), AllocError> {
         match event {
-            Event::Mutator(slot, Call::Alloc(into, _, _)) => self.note_place(slot, into),
-            Event::Mutator(_, Call::Free(_)) => self.sort_out(),
+            Event::Mutator(slot, call) => self.note_call(*slot, call),
             Event::Finish | Event::Collect => {
                 self.has_collected = true;
                 self.sort_out()
@@ -85,15 +100,14 @@ impl Recorder {
     ///
     /// # Errors
     /// If memory is refused, in which to note the object; the call was made.
-    pub fn act(&mut self, event: Event) -> Result<Reply, AllocError> {
-        let reply = self.core.act(event);
+    pub fn act(&mut self, event: &Event) -> Result<Reply, AllocError> {
+        let reply = self.core.act(*event);
         self.place = None;
         self.gone.clear();
         self.has_collected = false;
-        if let Reply::Refused(_) = reply {
-            return Ok(reply);
+        if !is_refused(&reply) {
+            self.note(event)?;
         }
-        self.note(event)?;
         Ok(reply)
     }
 

@@ -100,7 +100,7 @@ fn deny_ranges(replayer: &mut Replayer, event: &Event) -> Result<(), Fail> {
 }
 
 fn tell_changed(pair: &mut Pair, event: Event) -> Result<(), Fail> {
-    let reply = pair.recorder.act(event)?;
+    let reply = pair.recorder.act(&event)?;
     let hint = pair.recorder.hint();
     deny(&mut pair.replayer, &event, other(&reply), hint)?;
     deny_places(&mut pair.replayer, &event, &reply, hint)?;

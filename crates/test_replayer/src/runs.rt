@@ -28,7 +28,7 @@ impl Pair {
 
     /// Makes a call, and tells the checker, which has to say yes.
     pub(crate) fn tell(&mut self, event: Event) -> Result<Reply, Fail> {
-        let reply = self.recorder.act(event)?;
+        let reply = self.recorder.act(&event)?;
         if !self.replayer.step(&event, &reply, self.recorder.hint()) {
             return Err("a yes".into());
         }

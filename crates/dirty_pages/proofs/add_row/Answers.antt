@@ -1,4 +1,4 @@
-use Rattle.std.proofs.Common.{◌≤◌, arith}
+use Rattle.std.proofs.Common.{arith}
 use Rattle.dirty_pages.proofs.add_row.Goals as goal
 
 pub overflow_add-from : goal.overflow_add-from

@@ -1,7 +1,4 @@
-use Rattle.std.proofs.Common.{◌≡◌, ℕ, List, Some, subst}
-use Rattle.words.specs.Bits.{Has}
-use Rattle.words.specs.Layout.{granule}
-use Rattle.block_map.specs.declared.found.Found.{Found}
+use Rattle.std.proofs.Common.{ℕ, List, subst}
 use Rattle.block_map.specs.FoundIn.{found_in}
 use Rattle.marker.specs.Marking.{IsMarked}
 use Rattle.marker.specs.Closure.{Closure}

@@ -1,4 +1,4 @@
-use Rattle.std.proofs.Common.{◌≡◌, ◌-◌, ◌/◌, refl, arith}
+use Rattle.std.proofs.Common.{◌-◌, ◌/◌, refl, arith}
 use Rattle.words.specs.declared.limits.TheConstants.{WORD_BYTES}
 use Rattle.marker.proofs.Parts.{IsPart, part_is}
 use Rattle.final_pause.proofs.share.Pause.part.Goals as goal

@@ -1,4 +1,4 @@
-use Rattle.std.proofs.Common.{◌+◌, ◌≤◌, ◌∙◌, refl, subst, arith}
+use Rattle.std.proofs.Common.{◌+◌, arith}
 use Rattle.words.specs.Layout.{page_start}
 use Rattle.mark_bits.specs.Tables.{view}
 use Rattle.final_pause.proofs.Serving.{serves_refl, serves_trans, words_more, words_append, words_end}

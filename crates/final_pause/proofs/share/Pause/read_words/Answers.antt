@@ -1,7 +1,7 @@
-use Rattle.std.proofs.Common.{◌≡◌, ◌+◌, ◌*◌, ◌∙◌, ℕ, length, sym, ap, subst, arith}
+use Rattle.std.proofs.Common.{◌≡◌, ◌+◌, ◌*◌, ◌∙◌, ℕ, ap, subst, arith}
 use Rattle.words.specs.declared.limits.TheConstants.{WORD_BYTES}
 use Rattle.pages.specs.Memory.{word_at}
-use Rattle.final_pause.specs.Helping.{Visits, word_in}
+use Rattle.final_pause.specs.Helping.{Visits}
 use Rattle.final_pause.proofs.Growing.{reads_next}
 use Rattle.final_pause.proofs.share.Pause.read_words.Goals as goal
 

@@ -1,12 +1,12 @@
-use Rattle.std.proofs.Common.{◌≡◌, ◌<◌, ◌∙◌, ◌∷◌, ℕ, List, Bool, true, false, length, sym, ap, subst, refl}
+use Rattle.std.proofs.Common.{◌≡◌, ◌∙◌, ◌∷◌, ℕ, List, Bool, length, sym, ap, subst, refl}
 use Rattle.std.specs.Prelude.{if◌then◌else◌}
 use Rattle.std.proofs.lemmas.Bool.{true≢false, false_from_ne_true}
 use Rattle.words.specs.Layout.{granule}
-use Rattle.mark_bits.specs.Tables.{view, start_of}
+use Rattle.mark_bits.specs.Tables.{view}
 use Rattle.mark_bits.specs.Claims.{knows}
 use Rattle.block_map.specs.Objects.{IsPlaced}
 use Rattle.marker.proofs.Closures.{at_base}
-use Rattle.final_pause.specs.Helping.{found, won_of}
+use Rattle.final_pause.specs.Helping.{found}
 use Rattle.final_pause.proofs.Growing.{visit_old, visit_new}
 use Rattle.final_pause.proofs.share.Pause.visit.Goals as goal
 
