@@ -67,7 +67,10 @@ fn check_two<R: Threads + Wait + Abort + Sync>(rt: &R, alloc: Global, output: &m
     let answer = run(rt, alloc, TWO_THREADS.as_bytes(), PAGES, &gate, output);
     assert_eq!(rt; answer, Ok(()));
     assert_eq!(rt; gate.missed.load(Ordering::SeqCst), 0);
-    assert_eq!(rt; output.text(), Some("mutator 0\nok\nok\nmutator 1\nok\n5\ncollector\n"));
+    assert_eq!(rt;
+        output.text(),
+        Some("mutator 0\nok\nok\nmutator 1\nok\n5\ncollector\n")
+    );
 }
 
 /// Two mutators that wait for each other's flag, and the second reads what the first has put.
@@ -78,7 +81,8 @@ fn two_threads(rt: HostRuntime) -> Result<(), Fail> {
     Ok(())
 }
 
-const SIXTEEN: &str = "attach\nattach\nattach\nattach\nattach\nattach\nattach\nattach\nattach\nattach\nattach\nattach\nattach\nattach\nattach\nattach\n0 get 1\n1 get 1\n2 get 1\n3 get 1\n4 get 1\n5 get 1\n6 get 1\n7 get 1\n8 get 1\n9 get 1\n10 get 1\n11 get 1\n12 get 1\n13 get 1\n14 get 1\n15 get 1\ngc no\n";
+const SIXTEEN: &str =
+    "attach\nattach\nattach\nattach\nattach\nattach\nattach\nattach\nattach\nattach\nattach\nattach\nattach\nattach\nattach\nattach\n0 get 1\n1 get 1\n2 get 1\n3 get 1\n4 get 1\n5 get 1\n6 get 1\n7 get 1\n8 get 1\n9 get 1\n10 get 1\n11 get 1\n12 get 1\n13 get 1\n14 get 1\n15 get 1\ngc no\n";
 
 fn check_meeting<R: Threads + Wait + Abort + Sync>(rt: &R, alloc: Global, output: &mut Taken) {
     let gate = Meeting::new(17);
