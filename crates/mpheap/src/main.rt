@@ -7,7 +7,6 @@ mod program;
 #[cfg(test)]
 mod tests;
 
-
 use crate::fault::Fault;
 use crate::program::program;
 use scripts::Std;

@@ -1,8 +1,8 @@
 //! The program: its words, the opening of its file, what each command does, and its status.
 ghost use Rattle.std.specs.Prelude.{◌≤◌, IfOk};
 
-use crate::fault::Fault;
 use crate::arguments::{command_line, helpers_given, number_given, pages_given, refused};
+use crate::fault::Fault;
 use clap::ArgMatches;
 use final_pause::Open;
 use scripts::{Sink, Source, Std, run_script, write_all};

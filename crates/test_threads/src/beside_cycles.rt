@@ -65,6 +65,11 @@ fn every_load_answers_its_store(rt: HostRuntime) -> Result<(), Fail> {
     let mut lines = String::new(rt.alloc());
     let mut replies = String::new(rt.alloc());
     put_all(&mut lines, &mut replies)?;
-    check(&rt, rt.alloc(), (lines.as_str(), replies.as_str()), &mut output);
+    check(
+        &rt,
+        rt.alloc(),
+        (lines.as_str(), replies.as_str()),
+        &mut output,
+    );
     Ok(())
 }

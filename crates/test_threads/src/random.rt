@@ -27,10 +27,15 @@ fn check_seed<R: Threads + Wait + Abort + Sync>(
 ) -> Result<(), Fail> {
     let (seed, mutators, pages) = numbers;
     assert!(rt; 1 <= mutators && mutators <= 16);
-    let text = make_stress(alloc, seed, mutators, STEPS).ok().ok_or("a text")?;
+    let text = make_stress(alloc, seed, mutators, STEPS)
+        .ok()
+        .ok_or("a text")?;
     let answer = run(rt, alloc, text.as_slice(), pages, &Open, output);
     assert_eq!(rt; answer, Ok(()));
-    assert_eq!(rt; lines_of(output.bytes.as_slice()), lines_of(text.as_slice()).saturating_add(1));
+    assert_eq!(rt;
+        lines_of(output.bytes.as_slice()),
+        lines_of(text.as_slice()).saturating_add(1)
+    );
     Ok(())
 }
 

@@ -39,18 +39,24 @@ const ROWS: [(&str, Result<(), ScriptError>, &str); 5] = [
     ),
 ];
 
-fn check_rows<R: Threads + Wait + Abort + Sync>(rt: &R, alloc: Global, output: &mut Taken) {
-    for (text, wanted, printed) in &ROWS {
-        let answer = run(rt, alloc, text.as_bytes(), PAGES, &Open, output);
-        assert_eq!(rt; answer, *wanted, "{text}");
-        assert_eq!(rt; output.text(), Some(*printed), "{text}");
-    }
+fn check_row<R: Threads + Wait + Abort + Sync>(
+    rt: &R,
+    alloc: Global,
+    row: (&str, Result<(), ScriptError>, &str),
+    output: &mut Taken,
+) {
+    let (text, wanted, printed) = row;
+    let answer = run(rt, alloc, text.as_bytes(), PAGES, &Open, output);
+    assert_eq!(rt; answer, wanted, "{text}");
+    assert_eq!(rt; output.text(), Some(printed), "{text}");
 }
 
 #[test]
 fn workloads_are_run(rt: HostRuntime) -> Result<(), Fail> {
     let mut output = Taken::new(rt.alloc())?;
-    check_rows(&rt, rt.alloc(), &mut output);
+    for row in ROWS {
+        check_row(&rt, rt.alloc(), row, &mut output);
+    }
     Ok(())
 }
 
@@ -61,7 +67,10 @@ fn check_two<R: Threads + Wait + Abort + Sync>(rt: &R, alloc: Global, output: &m
     let answer = run(rt, alloc, TWO_THREADS.as_bytes(), PAGES, &gate, output);
     assert_eq!(rt; answer, Ok(()));
     assert_eq!(rt; gate.missed.load(Ordering::SeqCst), 0);
-    assert_eq!(rt; output.text(), Some("mutator 0\nok\nok\nmutator 1\nok\n5\ncollector\n"));
+    assert_eq!(rt;
+        output.text(),
+        Some("mutator 0\nok\nok\nmutator 1\nok\n5\ncollector\n")
+    );
 }
 
 /// Two mutators that wait for each other's flag, and the second reads what the first has put.
@@ -72,7 +81,8 @@ fn two_threads(rt: HostRuntime) -> Result<(), Fail> {
     Ok(())
 }
 
-const SIXTEEN: &str = "attach\nattach\nattach\nattach\nattach\nattach\nattach\nattach\nattach\nattach\nattach\nattach\nattach\nattach\nattach\nattach\n0 get 1\n1 get 1\n2 get 1\n3 get 1\n4 get 1\n5 get 1\n6 get 1\n7 get 1\n8 get 1\n9 get 1\n10 get 1\n11 get 1\n12 get 1\n13 get 1\n14 get 1\n15 get 1\ngc no\n";
+const SIXTEEN: &str =
+    "attach\nattach\nattach\nattach\nattach\nattach\nattach\nattach\nattach\nattach\nattach\nattach\nattach\nattach\nattach\nattach\n0 get 1\n1 get 1\n2 get 1\n3 get 1\n4 get 1\n5 get 1\n6 get 1\n7 get 1\n8 get 1\n9 get 1\n10 get 1\n11 get 1\n12 get 1\n13 get 1\n14 get 1\n15 get 1\ngc no\n";
 
 fn check_meeting<R: Threads + Wait + Abort + Sync>(rt: &R, alloc: Global, output: &mut Taken) {
     let gate = Meeting::new(17);

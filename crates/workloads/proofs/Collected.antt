@@ -164,8 +164,11 @@ answered_more pages history mine (x ∷ xs) [] i c r lt len before one = absurd 
 answered_more pages history mine (x ∷ xs) (y ∷ ys) zero c r lt len before one =
     (λ no. subst (λ (l : List Entry). IsAnsweredAmong pages history l x r) (append-nil mine) (one no), tt)
 answered_more pages history mine (x ∷ xs) (y ∷ ys) (suc i) c r lt len before one =
-    rw add-one ((before.0, rw add-one at (answered_more pages history (mine ++ left_by x y) xs ys i c r (omega (arith, lt)) (omega (arith, len)) before.1
-    (λ no. subst (λ (l : List Entry). IsAnsweredAmong pages history l (get_or xs i c) r) (sym (append_assoc mine (left_by x y) (left_by_all (take i xs) (take i ys)))) (one no)))))
+    rw add-one ((
+      before.0,
+      rw add-one at (answered_more pages history (mine ++ left_by x y) xs ys i c r (omega (arith, lt)) (omega (arith, len)) before.1
+          (λ no. subst (λ (l : List Entry). IsAnsweredAmong pages history l (get_or xs i c) r) (sym (append_assoc mine (left_by x y) (left_by_all (take i xs) (take i ys)))) (one no))),
+    ))
 
 -- one command more
 pub commanded_more : (pages : ℕ) (old mid new : HeapPass) (commands : List Event) (replies : List Reply) (i : ℕ) (x : Event) (r : Reply) → x ≡ get_or commands i x → i < length commands → length replies ≡ length commands

@@ -30,11 +30,21 @@ no_room pages input reader writer lists r = record { read = r.read; left = r.lef
 pub printed : (pages : ℕ) (input : List ℕ) (reader old new : Option (List ℕ)) (lists : ActorLines) (replies : ActorReplies) (result : Result ⊤ ScriptError) → Reads input reader (Ok lists) → HaveOneHistory pages lists replies
     → OnOk result (Appends old new (all_text pages replies)) → OnErr result ((n : ℕ) × Appends old new (take n (all_text pages replies))) → OnErr result (result ≡ Err Write) → ServesWorkload pages input reader old new result
 printed pages input reader old new lists replies (Ok done) r one whole part write = record {
-  read = r.read; left = r.left; written = all_text pages replies; is_input = r.is_input; is_left = r.is_left; is_written = whole;
+  read = r.read;
+  left = r.left;
+  written = all_text pages replies;
+  is_input = r.is_input;
+  is_left = r.is_left;
+  is_written = whole;
   answer = (record { lists = lists; replies = replies; are = r.answer.0; one = one; text_is = refl }, r.answer.1);
 }
 printed pages input reader old new lists replies (Err Write) r one whole part write = record {
-  read = r.read; left = r.left; written = take part.0 (all_text pages replies); is_input = r.is_input; is_left = r.is_left; is_written = part.1;
+  read = r.read;
+  left = r.left;
+  written = take part.0 (all_text pages replies);
+  is_input = r.is_input;
+  is_left = r.is_left;
+  is_written = part.1;
   answer = (all_text pages replies, record { lists = lists; replies = replies; are = r.answer.0; one = one; text_is = refl }, record { bytes = part.0; begins = refl }, r.answer.1);
 }
 printed pages input reader old new lists replies (Err (BadLine n)) r one whole part write = absurd (cc write)

@@ -119,7 +119,14 @@ fn run_named<J: Naming + Send + Sync, R: Threads + Wait + Sync, G: Gate>(
         replies: answers,
     };
     let (mut jobs, other) = run_each_beside::<_, _, MakesCalls, _, _, GivesCommands, _>(
-        rt, alloc, &MakesCalls, &work, jobs, &GivesCommands, &collect, other,
+        rt,
+        alloc,
+        &MakesCalls,
+        &work,
+        jobs,
+        &GivesCommands,
+        &collect,
+        other,
     )?;
     let CollectorJob {
         mut collector,
@@ -158,7 +165,5 @@ pub fn run_threads<R: Threads + Wait + Sync, G: Gate>(
     let Ok(opened) = open(alloc, pages) else {
         return Err(RunError::Memory);
     };
-    Ok(run_named::<Brand, _, _>(
-        rt, alloc, opened, workload, helpers, gate,
-    )?)
+    Ok(run_named::<Brand, _, _>(rt, alloc, opened, workload, helpers, gate)?)
 }

@@ -73,7 +73,15 @@ fn bad_commands(rt: HostRuntime) {
         &["threads", "--pages", "4", "--helpers", "0", "file"],
         &["stress", "--seed", "1", "--mutators", "2"],
         &["stress", "--seed", "1", "--mutators", "17", "--steps", "0"],
-        &["stress", "--seed", "1", "--mutators", "1", "--steps", "100001"],
+        &[
+            "stress",
+            "--seed",
+            "1",
+            "--mutators",
+            "1",
+            "--steps",
+            "100001",
+        ],
     ];
     for words in commands {
         check(&rt, words, &mut Broken::new(), ("", "bad command\n", 2));

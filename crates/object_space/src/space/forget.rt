@@ -1,8 +1,7 @@
 //! The end of a cycle: what is not reached is forgotten, page by page. The marks of a block are those of allocated objects,
 //! so a block with as many marks as allocated cells has nothing to forget, and none of its objects is looked at; any other
 //! is swept later. Large objects go at once.
-ghost use Rattle.std.specs.Prelude.{◌≡◌, ◌<◌, ◌↔◌, true, false, length, Some};
-ghost use Rattle.block_map.specs.declared.found.Found.{Found};
+ghost use Rattle.std.specs.Prelude.{◌≡◌, ◌<◌, length};
 ghost use Rattle.block_map.specs.FoundIn.{found_in, IsLawful};
 ghost use Rattle.block_map.specs.States.{IsCut, state_at};
 ghost use Rattle.marker.specs.Marking.{AreMarksObjects};
