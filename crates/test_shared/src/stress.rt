@@ -27,6 +27,9 @@ const PAGES: u32 = 8;
 /// Each actor makes at least so many calls.
 const CALLS: u64 = 100_000;
 
+/// The most turns of a mutator: one in five may make no call, where the heap has no room and the list is empty.
+const TURNS: u64 = 2 * CALLS;
+
 /// The calls of a cycle.
 const CALLS_A_CYCLE: u64 = 8;
 
@@ -100,7 +103,7 @@ impl<'a, J: Naming, R: Wait> Player<'a, J, R> {
 // Pushes and pops, and at last reads the list back whole.
 fn play<'a, J: Naming, R: Wait>(player: Player<'a, J, R>) -> Player<'a, J, R> {
     let mut player = player;
-    for turn in 0..CALLS {
+    for turn in 0..TURNS {
         if player.calls >= CALLS {
             break;
         }
