@@ -13,35 +13,22 @@ const WORKLOAD: &str = "attach\nattach\n0 set 1 5\n1 get 1\ngc no\n0 get 1\n";
 const REPLIES: &str = "mutator 0\nok\n5\nmutator 1\n0\ncollector\n0\n";
 
 /// A workload in a file, with helpers and without, a bad line in its place, and a file that isn't there.
-fn check_workloads<R: Abort + Files + AllocGlobal + Threads + Wait + Sync>(
+fn check_workloads<'a, R: Abort + Files + AllocGlobal + Threads + Wait + Sync>(
     rt: &R,
-    path: &str,
-    bad: &str,
+    path: &'a str,
+    bad: &'a str,
 ) {
-    let rows: [(&[&str], &str, &str, u8); 5] = [
-        (&["threads", "--pages", "4", path], REPLIES, "", 0),
-        (
-            &["threads", "--pages", "4", "--helpers", "8", path],
-            REPLIES,
-            "",
-            0,
-        ),
-        (&["threads", "--pages", "4", bad], "", "bad line 3\n", 2),
-        (
-            &["threads", "--pages", "4", "mpheap_no_such.script"],
-            "",
-            "read fault\n",
-            1,
-        ),
-        (
-            &["threads", "--pages", "4", "--helpers", "9", path],
-            "",
-            "bad command\n",
-            2,
-        ),
+    let alone = ["threads", "--pages", "4", path];
+    check(rt, &alone, &mut Broken::new(), (REPLIES, "", 0));
+    let rows = [
+        ("8", path, REPLIES, "", 0u8),
+        ("1", bad, "", "bad line 3\n", 2),
+        ("1", "mpheap_no_such.script", "", "read fault\n", 1),
+        ("9", path, "", "bad command\n", 2),
     ];
-    for (words, replies, fault, status) in rows {
-        check(rt, words, &mut Broken::new(), (replies, fault, status));
+    for (helpers, file, replies, fault, status) in rows {
+        let words = ["threads", "--pages", "4", "--helpers", helpers, file];
+        check(rt, &words, &mut Broken::new(), (replies, fault, status));
     }
 }
 
