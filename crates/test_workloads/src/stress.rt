@@ -37,7 +37,7 @@ fn texts_are_those_of_the_rule(rt: HostRuntime) {
     }
 }
 
-fn lines_of(text: &[u8]) -> usize {
+pub fn lines_of(text: &[u8]) -> usize {
     text.iter().filter(|byte| **byte == b'\n').count()
 }
 
