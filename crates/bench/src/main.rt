@@ -10,6 +10,7 @@ mod locked;
 mod maps;
 mod marking;
 mod marks;
+mod pause;
 mod user;
 
 use std::io;
@@ -20,5 +21,6 @@ fn main(rt: HostRuntime) -> io::Result<()> {
     calls::measure(&rt, rt.alloc())?;
     collections::measure(&rt, rt.alloc())?;
     marking::measure(&rt, rt.alloc())?;
+    pause::measure(&rt, rt.alloc())?;
     locked::measure(&rt, rt.alloc())
 }
