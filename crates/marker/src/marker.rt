@@ -125,7 +125,9 @@ impl Marker {
         self.mark_target(map, word);
     }
 
-    // Marks the object that a word points into, if it points into one.
+    // Marks the object that a word points into, if it points into one. Most words point into none, so that the loop over
+    // words is to hold the test of the range and not this.
+    #[inline(never)]
     fn mark_target(&mut self, map: &BlockMap, word: u64)
         requires pages { length self.old.dirty ≡ length map.now }
         ensures marks { MarksWord (found_in map.now) word self.old self.new }
@@ -185,20 +187,9 @@ impl Marker {
     {
         self.laws();
         let start = found.base + WORD_BYTES * u64::from(first);
-        let words = reader.read_words(start, count);
-        self.mark_each(map, heap_bytes, words);
-    }
-
-    // Marks the objects that words point into, in their order.
-    #[inline]
-    fn mark_each(&mut self, map: &BlockMap, heap_bytes: u64, words: &[u64])
-        requires pages { length self.old.dirty ≡ length map.now }
-        requires lawful { IsLawful map.now }
-        requires bytes { heap_bytes ≡ PAGE_BYTES * length map.now }
-        ensures { MarksWords (found_in map.now) self.old words.now self.new }
-    {
-        for word in words {
-            self.mark_word(map, heap_bytes, *word);
+        for i in 0..count {
+            let word = reader.read(start + WORD_BYTES * i);
+            self.mark_word(map, heap_bytes, word);
         }
     }
 
@@ -214,6 +205,8 @@ impl Marker {
     {
         self.laws();
         let heap_bytes = heap_bytes(map);
-        self.mark_each(map, heap_bytes, roots);
+        for word in roots {
+            self.mark_word(map, heap_bytes, *word);
+        }
     }
 }
