@@ -3,6 +3,7 @@ pub mod Filling
 pub mod Finding
 pub mod Laid
 pub mod Lawful
+pub mod Listed
 pub mod Seen
 pub mod Spans
 pub mod Walking
