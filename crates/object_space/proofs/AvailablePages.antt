@@ -130,13 +130,13 @@ available_cell states class kind page cell b inside is has first =
     record { block = b; inside = inside; is_cut = is; of_class = own.of_class; of_kind = own.of_kind; in_row = first.inside; is_free = first.clear }
 
 -- a cell is taken
-module _ (rows rows' : List (List Bool)) (states states' : List PageState) (class : ℕ) (kind : Kind) (page cell : ℕ) (exact : IsExact rows states) (is_class : IsSizeClass class)
-    (at : IsFreeCell states class kind page cell) (became : states' ≡ set states page (with_cell (state_at states page) cell true)) where
+module _ (rows rows' : List (List Bool)) (states states' : List PageState) (class : ℕ) (kind : Kind) (page cell next : ℕ) (exact : IsExact rows states) (is_class : IsSizeClass class)
+    (at : IsFreeCell states class kind page cell) (became : states' ≡ set states page (with_cell (state_at states page) cell true next)) where
   abbrev pub filled : Cells
-  filled = record at.block { taken = set at.block.taken cell true }
+  filled = record at.block { taken = set at.block.taken cell true; first = next }
 
   pub taken_state : state_at states' page ≡ cut filled
-  taken_state = ap (λ x. state_at x page) became ∙ get_or-set_same states page _ free at.inside ∙ ap (λ st. with_cell st cell true) at.is_cut
+  taken_state = ap (λ x. state_at x page) became ∙ get_or-set_same states page _ free at.inside ∙ ap (λ st. with_cell st cell true next) at.is_cut
 
   pub taken_size : length states' ≡ length states
   taken_size = ap length became ∙ length-set states page _
@@ -177,7 +177,7 @@ module _ (rows rows' : List (List Bool)) (states states' : List PageState) (clas
   pub cut_inside : page < length (row_of rows class kind)
   cut_inside = let long = exact.long class kind is_class in omega arith
 
-  first_free : HasFreeCell (record { class = class; kind = kind; taken = replicate (512 / class) false }) class kind
+  first_free : HasFreeCell (record { class = class; kind = kind; taken = replicate (512 / class) false; first = 0 }) class kind
   first_free =
       let b = class_bounds class is_class in
       let some : 0 < 512 / class = cell_below class 0 (omega arith) (omega arith) in
@@ -189,13 +189,13 @@ module _ (rows rows' : List (List Bool)) (states states' : List PageState) (clas
       exact_changed rows rows' states states' class kind page true exact bit_is (ap length became ∙ length-set states page _)
       (λ p ne. ap (λ x. state_at x p) became ∙ get_or-set_other states page p _ free ne)
       (subst (λ st. OffersOnly st class kind) (sym was) (free_offers class kind))
-      (subst (λ st. OffersOnly st class kind) (sym now) (cut_offers (record { class = class; kind = kind; taken = replicate (512 / class) false })))
+      (subst (λ st. OffersOnly st class kind) (sym now) (cut_offers (record { class = class; kind = kind; taken = replicate (512 / class) false; first = 0 })))
       (λ _. subst (λ st. IsAvailable st class kind) (sym now) first_free)
       (λ _. refl)
 
 -- a cell is freed
 module _ (rows rows' : List (List Bool)) (states mid : List PageState) (page cell : ℕ) (b : Cells) (exact : IsExact rows states) (inside : page < length states)
-    (at : HasCell (state_at states page) cell true) (became : mid ≡ set states page (with_cell (state_at states page) cell false)) (is : state_at mid page ≡ cut b) (is_class : IsSizeClass b.class) where
+    (at : HasCell (state_at states page) cell true) (became : mid ≡ set states page (with_cell (state_at states page) cell false cell)) (is : state_at mid page ≡ cut b) (is_class : IsSizeClass b.class) where
   -- the block as it was
   abbrev WasCut : Type 0
   WasCut = (a : Cells) × (state_at states page ≡ cut a) × (a.class ≡ b.class) × (a.kind ≡ b.kind) × (cell < length b.taken) × (get_or b.taken cell false ≡ false)
@@ -203,16 +203,16 @@ module _ (rows rows' : List (List Bool)) (states mid : List PageState) (page cel
   was_cut : WasCut
   was_cut = by (state_at states page) refl at (sym is ∙ ap (λ x. state_at x page) became ∙ get_or-set_same states page _ free inside)
     where
-      by : (st : PageState) → state_at states page ≡ st → HasCell st cell true → cut b ≡ with_cell st cell false → WasCut
+      by : (st : PageState) → state_at states page ≡ st → HasCell st cell true → cut b ≡ with_cell st cell false cell → WasCut
       by free e has same = absurd has
-      by (cut a) e has same = of a (record a { taken = set a.taken cell false }) e has refl (one b (record a { taken = set a.taken cell false }) same)
+      by (cut a) e has same = of a (record a { taken = set a.taken cell false; first = cell }) e has refl (one b (record a { taken = set a.taken cell false; first = cell }) same)
         where
           one : (x y : Cells) → cut x ≡ cut y → x ≡ y
           one x y q = cc
 
-          of : (a d : Cells) → state_at states page ≡ cut a → (cell < length a.taken) × (get_or a.taken cell false ≡ true) → d ≡ record a { taken = set a.taken cell false } → b ≡ d → WasCut
+          of : (a d : Cells) → state_at states page ≡ cut a → (cell < length a.taken) × (get_or a.taken cell false ≡ true) → d ≡ record a { taken = set a.taken cell false; first = cell } → b ≡ d → WasCut
           of a d e has q same =
-              let whole : b ≡ record a { taken = set a.taken cell false } = same ∙ q in (
+              let whole : b ≡ record a { taken = set a.taken cell false; first = cell } = same ∙ q in (
                 a,
                 e,
                 sym (ap (λ (x : Cells). x.class) whole),
