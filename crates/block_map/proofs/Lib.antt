@@ -6,5 +6,6 @@ pub mod Lawful
 pub mod Listed
 pub mod Seen
 pub mod Spans
+pub mod Unread
 pub mod Walking
 pub mod Words
