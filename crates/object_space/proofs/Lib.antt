@@ -10,7 +10,6 @@ pub mod AvailablePages
 pub mod Allocations
 pub mod Opening
 pub mod Frees
-pub mod Listed
 pub mod Pending
 pub mod Swept
 pub mod Searching
