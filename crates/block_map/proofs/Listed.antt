@@ -6,10 +6,10 @@ use Rattle.words.specs.declared.limits.TheConstants.{PAGE_WORDS}
 use Rattle.blocks.specs.Cells.{Cells}
 use Rattle.blocks.specs.Lists.{link_of, ChangesPage, HasPage, IsFree}
 use Rattle.blocks.proofs.Lists.{changes_none, listed_elsewhere, listed_kept}
-use Rattle.block_map.specs.States.{PageState, free, cut, head, body, state_at, with_cell, HasCell, LaidAt, IsLaid, IsSpanSet}
-use Rattle.block_map.specs.Listed.{AreListed, IsListedOn}
+use Rattle.block_map.specs.States.{PageState, free, cut, head, body, state_at, LaidAt, IsLaid, IsSpanSet}
+use Rattle.block_map.specs.Listed.{first_object, first_on, link_on, with_taken, AreListed, HasFirst, IsListedOn}
 use Rattle.block_map.specs.FoundIn.{found_in}
-use Rattle.block_map.specs.Objects.{object_on}
+use Rattle.block_map.specs.declared.found.Taken.{Taken}
 use Rattle.block_map.specs.Changes.{IsAdded}
 use Rattle.block_map.proofs.Spans.{place_of}
 use Rattle.block_map.proofs.Laid.{laid_cell}
@@ -62,19 +62,20 @@ listed_words words words' states size same listed = record {
     by q lt (head n k) is here = tt
     by q lt (body p) is here = tt
 
--- a cell is taken, or none was free
-module _ (words : List ℕ) (states states' : List PageState) (page : ℕ) (next : ℕ → ℕ) (laid : IsLaid states) (inside : page < length states) where
-  pub laid_taken : (r : Option ℕ) → IfNone r (states' ≡ states) → IfSome r (λ i. HasCell (state_at states page) i false) → IfSome r (λ i. states' ≡ set states page (with_cell (state_at states page) i true (next i))) → IsLaid states'
+-- the first free cell is taken, or none was free
+module _ (words : List ℕ) (states states' : List PageState) (page : ℕ) (laid : IsLaid states) (inside : page < length states) where
+  pub laid_taken : (r : Option Taken) → IfNone r (states' ≡ states) → IfSome r (λ _. HasFirst (state_at states page)) → IfSome r (λ _. states' ≡ set states page (with_taken words page (state_at states page))) → IsLaid states'
   laid_taken None same was_free became = subst IsLaid (sym same) laid
-  laid_taken (Some i) same was_free became = subst IsLaid (sym became) (laid_cell states page i false true (next i) laid inside was_free)
+  laid_taken (Some t) same was_free became = subst IsLaid (sym became) (laid_cell states page (first_on (state_at states page)) false true (link_on words page (state_at states page) (first_on (state_at states page))) laid inside was_free)
 
-  pub added_taken : (r : Option ℕ) → IfSome r (λ i. HasCell (state_at states page) i false) → IfSome r (λ i. states' ≡ set states page (with_cell (state_at states page) i true (next i)))
-      → IfSome r (λ i. IsAdded (found_in states) (found_in states') (object_on page (state_at states page) i))
-  added_taken None was_free became = tt
-  added_taken (Some i) was_free became = subst (λ (x : List PageState). IsAdded (found_in states) (found_in x) (object_on page (state_at states page) i)) (sym became) (cell_taken states page i (next i) laid inside was_free)
+  pub added_taken : (r : Option Taken) → IfSome r (λ t. t.object ≡ first_object page (state_at states page)) → IfSome r (λ _. HasFirst (state_at states page))
+      → IfSome r (λ _. states' ≡ set states page (with_taken words page (state_at states page))) → IfSome r (λ t. IsAdded (found_in states) (found_in states') t.object)
+  added_taken None object was_free became = tt
+  added_taken (Some t) object was_free became = subst (IsAdded (found_in states) (found_in states')) (sym object) (subst (λ (x : List PageState). IsAdded (found_in states) (found_in x) (first_object page (state_at states page))) (sym became)
+      (cell_taken states page (first_on (state_at states page)) (link_on words page (state_at states page) (first_on (state_at states page))) laid inside was_free))
 
-  pub listed_taken : (r : Option ℕ) → AreListed words states → IfNone r (states' ≡ states) → IfSome r (λ i. states' ≡ set states page (with_cell (state_at states page) i true (next i))) → IsListedOn words page (state_at states' page) → AreListed words states'
+  pub listed_taken : (r : Option Taken) → AreListed words states → IfNone r (states' ≡ states) → IfSome r (λ _. states' ≡ set states page (with_taken words page (state_at states page))) → IsListedOn words page (state_at states' page) → AreListed words states'
   listed_taken None listed same became here = subst (AreListed words) (sym same) listed
-  listed_taken (Some i) listed same became here = subst (AreListed words) (sym became)
-      (listed_set words words states page (with_cell (state_at states page) i true (next i)) laid inside listed (changes_none words page)
-      (subst (IsListedOn words page) (ap (λ x. state_at x page) became ∙ get_or-set_same states page (with_cell (state_at states page) i true (next i)) free_page inside) here))
+  listed_taken (Some t) listed same became here = subst (AreListed words) (sym became)
+      (listed_set words words states page (with_taken words page (state_at states page)) laid inside listed (changes_none words page)
+      (subst (IsListedOn words page) (ap (λ x. state_at x page) became ∙ get_or-set_same states page (with_taken words page (state_at states page)) free_page inside) here))

@@ -1,15 +1,18 @@
 //! Pages that change their state.
-ghost use Rattle.std.specs.Prelude.{◌≡◌, ◌+◌, ◌<◌, ◌≤◌, true, false, map, slice_set, vec_len, IfNone, IfOk, IfSome};
+ghost use Rattle.std.specs.Prelude.{◌≡◌, ◌+◌, ◌<◌, ◌≤◌, true, false, map, slice_set, vec_len, IfNone, IfOk, IfSome, MatchBool};
 ghost use Rattle.words.specs.declared.limits.TheConstants.{MAX_PAGES};
 ghost use Rattle.pages.specs.Memory.{with_word_at};
-ghost use Rattle.blocks.specs.Lists.{ChangesPage, HasPage};
+ghost use Rattle.words.specs.Bits.{IsFullRow};
+ghost use Rattle.blocks.specs.Lists.{link_of, ChangesPage, HasPage, IsFree, IsListed};
 ghost use Rattle.block_map.specs.States.{free, state_at, large_states, with_cell, HasCell, IsCut, IsSpanSet, AreAllFree};
-ghost use Rattle.block_map.specs.Listed.{first_on, link_on, IsFullOn, IsListedOn};
-ghost use Rattle.block_map.specs.Objects.{object_on};
+ghost use Rattle.block_map.specs.Listed.{first_object, first_on, with_taken, HasFirst, IsFullOn, IsListedOn};
+ghost use Rattle.block_map.specs.Objects.{cell_object, object_on};
 ghost use Rattle.block_map.specs.Shown.{shown};
 
+use crate::found::Taken;
+use crate::look::cell_at;
 use crate::page::Page;
-use blocks::LargeHead;
+use blocks::{Block, LargeHead};
 use pages::Memory;
 use std::alloc::{AllocError, Global};
 use words::{Kind, PageNo};
@@ -68,19 +71,41 @@ pub(crate) fn fill_free(pages: &mut Vec<Page>, first: PageNo, count: u32)
     }
 }
 
-fn take_on(what: &mut Page, memory: &Memory, page: PageNo) -> Option<u16>
+// Takes the first free cell of a block.
+fn take_in(block: &mut Block, memory: &Memory, page: PageNo) -> Option<Taken>
+    requires small { page < MAX_PAGES }
+    requires has { HasPage memory.now page }
+    requires listed { IsListed memory.now page block.old }
+    ensures none { IfNone result (IsFullRow block.old.taken × (block.new ≡ block.old)) }
+    ensures object { IfSome result (λ t. t.object ≡ cell_object page block.old block.old.first) }
+    ensures free { IfSome result (λ _. IsFree block.old.taken block.old.first) }
+    ensures block { IfSome result (λ _. block.new ≡ record block.old { taken = slice_set block.old.taken block.old.first true; first = link_of memory.now page block.old.class block.old.first }) }
+    ensures last { IfSome result (λ t. MatchBool t.was_last (IsFullRow block.new.taken) (IsFree block.new.taken block.new.first)) }
+    ensures listed { IsListed memory.now page block.new }
+{
+    let Some(cell) = block.take(memory, page) else {
+        return None;
+    };
+    Some(Taken {
+        object: cell_at(page, block, cell),
+        was_last: block.is_full(),
+    })
+}
+
+fn take_on(what: &mut Page, memory: &Memory, page: PageNo) -> Option<Taken>
     requires cut { IsCut (shown what.old) }
     requires small { page < MAX_PAGES }
     requires has { HasPage memory.now page }
     requires listed { IsListedOn memory.now page (shown what.old) }
     ensures none { IfNone result (IsFullOn (shown what.old) × (shown what.new ≡ shown what.old)) }
-    ensures first { IfSome result (λ i. i ≡ first_on (shown what.old)) }
-    ensures free { IfSome result (λ i. HasCell (shown what.old) i false) }
-    ensures state { IfSome result (λ i. shown what.new ≡ with_cell (shown what.old) i true (link_on memory.now page (shown what.old) i)) }
+    ensures object { IfSome result (λ t. t.object ≡ first_object page (shown what.old)) }
+    ensures free { IfSome result (λ _. HasFirst (shown what.old)) }
+    ensures state { IfSome result (λ _. shown what.new ≡ with_taken memory.now page (shown what.old)) }
+    ensures last { IfSome result (λ t. MatchBool t.was_last (IsFullOn (shown what.new)) (HasFirst (shown what.new))) }
     ensures listed { IsListedOn memory.now page (shown what.new) }
 {
     match what {
-        Page::Cut(block) => block.take(memory, page),
+        Page::Cut(block) => take_in(block, memory, page),
         _ => unreachable!(),
     }
 }
@@ -104,7 +129,7 @@ fn put_on(what: &mut Page, memory: &mut Memory, page: PageNo, cell: u16)
 // Takes the first free cell of a page that is cut.
 #[inline]
 #[tactic(auto, using(crate::proofs::Filling::put))]
-pub(crate) fn take_cell(pages: &mut Vec<Page>, memory: &Memory, page: PageNo) -> Option<u16>
+pub(crate) fn take_cell(pages: &mut Vec<Page>, memory: &Memory, page: PageNo) -> Option<Taken>
     requires page { page < vec_len pages.old }
     requires small { page < MAX_PAGES }
     requires cut { IsCut (state_at (map shown pages.old.items) page) }
@@ -112,9 +137,10 @@ pub(crate) fn take_cell(pages: &mut Vec<Page>, memory: &Memory, page: PageNo) ->
     requires listed { IsListedOn memory.now page (state_at (map shown pages.old.items) page) }
     ensures none { IfNone result (IsFullOn (state_at (map shown pages.old.items) page)) }
     ensures same { IfNone result (map shown pages.new.items ≡ map shown pages.old.items) }
-    ensures first { IfSome result (λ i. i ≡ first_on (state_at (map shown pages.old.items) page)) }
-    ensures free { IfSome result (λ i. HasCell (state_at (map shown pages.old.items) page) i false) }
-    ensures states { IfSome result (λ i. map shown pages.new.items ≡ slice_set (map shown pages.old.items) page (with_cell (state_at (map shown pages.old.items) page) i true (link_on memory.now page (state_at (map shown pages.old.items) page) i))) }
+    ensures object { IfSome result (λ t. t.object ≡ first_object page (state_at (map shown pages.old.items) page)) }
+    ensures free { IfSome result (λ _. HasFirst (state_at (map shown pages.old.items) page)) }
+    ensures states { IfSome result (λ _. map shown pages.new.items ≡ slice_set (map shown pages.old.items) page (with_taken memory.now page (state_at (map shown pages.old.items) page))) }
+    ensures last { IfSome result (λ t. MatchBool t.was_last (IsFullOn (state_at (map shown pages.new.items) page)) (HasFirst (state_at (map shown pages.new.items) page))) }
     ensures listed { IsListedOn memory.now page (state_at (map shown pages.new.items) page) }
     ensures len { vec_len pages.new ≡ vec_len pages.old }
 {

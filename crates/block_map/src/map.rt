@@ -1,18 +1,19 @@
 //! The map of a heap, seen as the list of what stands on its pages, and through `found_in` as a function from every
 //! word to the object that it reads.
-ghost use Rattle.std.specs.Prelude.{◌≡◌, ℕ, ◌+◌, ◌<◌, ◌≤◌, true, false, length, map, slice_set, IfNone, IfSome};
+ghost use Rattle.std.specs.Prelude.{◌≡◌, ℕ, ◌+◌, ◌<◌, ◌≤◌, true, false, length, map, slice_set, IfNone, IfSome, MatchBool};
 ghost use Rattle.words.specs.declared.limits.TheConstants.{MAX_PAGES};
 ghost use Rattle.pages.specs.Opening.{IsOpened};
 ghost use Rattle.words.specs.Layout.{page_start};
 ghost use Rattle.pages.specs.Memory.{with_word_at};
 ghost use Rattle.blocks.specs.Lists.{ChangesPage};
 ghost use Rattle.block_map.specs.States.{free, state_at, all_free, large_states, with_cell, span_of, HasCell, IsCut, AreAllFree, IsSpanSet};
-ghost use Rattle.block_map.specs.Listed.{first_on, link_on, AreListed, IsFullOn};
+ghost use Rattle.block_map.specs.Listed.{first_object, first_on, with_taken, AreListed, HasFirst, IsFullOn};
 ghost use Rattle.block_map.specs.Objects.{object_on, large_object};
 ghost use Rattle.block_map.specs.FoundIn.{found_in, IsLawful};
 ghost use Rattle.block_map.specs.Changes.{IsSameMap, IsAdded, IsRemoved, IsCleared, IsUncut};
 
 use crate::fills::{fill_free, fill_large, free_pages, put_cell, put_page, take_cell};
+use crate::found::Taken;
 use crate::page::Page;
 use blocks::Block;
 use pages::{Memory, is_page_count};
@@ -124,19 +125,20 @@ impl BlockMap {
         }
     }
 
-    /// Allocates the first free cell of a page that is cut, and answers its number; the next one is then the first. `None`
-    /// exactly if every cell is allocated, and then nothing changes.
+    /// Takes the first free cell of a page that is cut for a new object; the next one is then the first. `None` exactly if
+    /// every cell is allocated, and then nothing changes.
     #[tactic(auto, using(crate::proofs::Laid::laid, crate::proofs::Changing::changing))]
-    pub fn take(&mut self, memory: &Memory, page: PageNo) -> Option<u16>
+    pub fn take(&mut self, memory: &Memory, page: PageNo) -> Option<Taken>
         requires inside { page < length self.old }
         requires cut { IsCut (state_at self.old page) }
         requires listed { AreListed memory.now self.old }
         ensures none { IfNone result (IsFullOn (state_at self.old page)) }
         ensures same { IfNone result (self.new ≡ self.old) }
-        ensures first { IfSome result (λ i. i ≡ first_on (state_at self.old page)) }
-        ensures free { IfSome result (λ i. HasCell (state_at self.old page) i false) }
-        ensures states { IfSome result (λ i. self.new ≡ slice_set self.old page (with_cell (state_at self.old page) i true (link_on memory.now page (state_at self.old page) i))) }
-        ensures added { IfSome result (λ i. IsAdded (found_in self.old) (found_in self.new) (object_on page (state_at self.old page) i)) }
+        ensures object { IfSome result (λ t. t.object ≡ first_object page (state_at self.old page)) }
+        ensures free { IfSome result (λ _. HasFirst (state_at self.old page)) }
+        ensures states { IfSome result (λ _. self.new ≡ slice_set self.old page (with_taken memory.now page (state_at self.old page))) }
+        ensures added { IfSome result (λ t. IsAdded (found_in self.old) (found_in self.new) t.object) }
+        ensures last { IfSome result (λ t. MatchBool t.was_last (IsFullOn (state_at self.new page)) (HasFirst (state_at self.new page))) }
         ensures listed { AreListed memory.now self.new }
     {
         take_cell(&mut self.pages, memory, page)

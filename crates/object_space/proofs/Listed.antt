@@ -14,6 +14,7 @@ use Rattle.block_map.specs.Objects.{cell_object, IsPlaced, Reads}
 use Rattle.block_map.specs.FoundIn.{cell_at, found_in, IsLawful}
 use Rattle.block_map.specs.declared.found.Found.{Found}
 use Rattle.block_map.proofs.Finding.{block_none, on_cut, on_free}
+use Rattle.block_map.proofs.Lawful.{map_laws}
 use Rattle.block_map.proofs.Listed.{listed_words}
 use Rattle.block_map.proofs.Words.{read_cell}
 use Rattle.marker.specs.Marking.{word_address}
@@ -50,11 +51,14 @@ listed_written words states address v f laid is found listed = listed_objects wo
     listed
 
 -- the words of an object become 0
-pub listed_zeroed : (words words' : List ℕ) (states : List PageState) (f : Found) → IsLaid states → IsPlaced (length states) f → ((w : ℕ) → Reads w f → found_in states w ≡ Some f)
+pub listed_zeroed : (words words' : List ℕ) (states : List PageState) (f : Found) → IsLaid states → 0 < f.len → ((w : ℕ) → Reads w f → found_in states w ≡ Some f)
     → IsZeroed words words' (place f.base) f.len → AreListed words states → AreListed words' states
-listed_zeroed words words' states f laid placed found zeroed listed = listed_objects words words' states laid zeroed.size
+listed_zeroed words words' states f laid some found zeroed listed = listed_objects words words' states laid zeroed.size
     (λ w none even low. zeroed.others (place w) (outside w none even low)) listed
   where
+    placed : IsPlaced (length states) f
+    placed = (map_laws states laid).map.placed f.base f (found f.base (record { from = omega arith; below = omega arith }))
+
     outside : (w : ℕ) → found_in states w ≡ None → w % 8 ≡ 0 → FIRST_ADDRESS ≤ w → (place w < place f.base) ⊎ (place f.base + f.len ≤ place w)
     outside w none even low =
         let above = placed.above in let aligned = placed.aligned in

@@ -12,7 +12,7 @@ use Rattle.blocks.specs.Lists.{ChangesPage}
 use Rattle.pages.specs.Runs.{IsFreeRun, IsFilled}
 use Rattle.block_map.specs.Changes.{IsAdded, IsRemoved, IsSameMap}
 use Rattle.block_map.specs.FoundIn.{found_in}
-use Rattle.block_map.specs.Listed.{first_on, link_on}
+use Rattle.block_map.specs.Listed.{link_on}
 use Rattle.block_map.specs.Objects.{object_on}
 use Rattle.block_map.specs.States.{PageState, free, cut, state_at, all_free, with_cell, IsSpanSet}
 use Rattle.object_space.specs.Store.{Store}
@@ -41,9 +41,9 @@ HasRoomAt t place kind base = (keep : Found → Bool) (s : Heap) → Stores keep
 abbrev pub HasNoRoom : Store → Placement → Kind → Type 0
 HasNoRoom t place kind = (s : Heap) → Stores (λ _. true) t s → (a : ℕ) → HasRoom s place kind a → ⊥
 
--- The first free cell of a page is allocated, and its words are 0. Nothing else has changed.
+-- A free cell is allocated, and its words are 0. The cell that its link names is then the first free one of the page. Nothing
+-- else has changed.
 pub record TakesCell (words words' : List ℕ) (states states' : List PageState) (page cell base : ℕ) : Type 0 where
-  pub first : cell ≡ first_on (state_at states page)
   pub became : states' ≡ slice_set states page (with_cell (state_at states page) cell true (link_on words page (state_at states page) cell))
   pub added : IsAdded (found_in states) (found_in states') (object_on page (state_at states page) cell)
   pub at : base ≡ (object_on page (state_at states page) cell).base

@@ -1,15 +1,14 @@
 //! Where a new object goes: into a cell of a page that is cut for its class and kind, onto a page that is cut for it now,
 //! or onto pages of its own.
-ghost use Rattle.std.specs.Prelude.{◌≡◌, ℕ, ◌<◌, ◌⊎◌, false, List, IfNone, IfSome, MatchBool, MatchOption, length};
+ghost use Rattle.std.specs.Prelude.{◌≡◌, ℕ, ◌<◌, ◌⊎◌, false, IfNone, IfSome, MatchOption, length};
 ghost use Rattle.words.specs.Bits.{Has};
 ghost use Rattle.words.specs.Classes.{IsSizeClass};
 ghost use Rattle.heap_spec.specs.Layout.{page_start};
 ghost use Rattle.pages.specs.Runs.{HasNoFreeRun};
-ghost use Rattle.blocks.specs.Cells.{Cells};
-ghost use Rattle.block_map.specs.States.{cut, state_at, IsCut};
+ghost use Rattle.block_map.specs.States.{state_at};
 ghost use Rattle.block_map.specs.Listed.{first_on, AreListed};
 ghost use Rattle.object_space.specs.Store.{Agree};
-ghost use Rattle.object_space.specs.AvailableRows.{HasFreeCell, IsBlockFor, IsExact, IsAvailable};
+ghost use Rattle.object_space.specs.AvailableRows.{IsBlockFor, IsExact, IsAvailable};
 ghost use Rattle.object_space.specs.Rooms.{IsRequest, IsFreeCell, HasNoFreeCell, TakesCell, CutsPage, HasRoomAt, HasNoRoom};
 ghost use Rattle.object_space.specs.Sweeps.{Allocates, FindsNoPlace, FindsNoRoom, Gains, Sweeps};
 
@@ -18,7 +17,7 @@ use super::available_pages::AvailablePages;
 use block_map::BlockMap;
 use marker::Marker;
 use pages::{Memory, PagePool};
-use words::limits::{FIRST_ADDRESS, PAGE_BYTES, PAGE_WORDS, PageNo, WORD_BYTES};
+use words::limits::{FIRST_ADDRESS, PAGE_BYTES, PAGE_WORDS, PageNo};
 use words::{Class, Kind, Placement};
 
 // The address of a page's first byte.
@@ -56,18 +55,6 @@ fn cut_page(
     Some(page)
 }
 
-// Whether all cells of a page that is cut are allocated.
-fn is_full(map: &BlockMap, page: PageNo) -> bool
-    requires inside { page < length map.now }
-    requires cut { IsCut (state_at map.now page) }
-    ensures { (words : List ℕ) (b : Cells) → AreListed words map.now → state_at map.now page ≡ cut b → MatchBool result (HasFreeCell b b.class b.kind → ⊥) (HasFreeCell b b.class b.kind) }
-{
-    let Some(block) = map.block(page) else {
-        unreachable!();
-    };
-    block.is_full()
-}
-
 // Takes the first free cell of a page that has one, and writes 0 into its words.
 fn take_cell(
     memory: &mut Memory,
@@ -87,16 +74,14 @@ fn take_cell(
 {
     // Its clauses tell what is true of the map.
     let _pages = map.len();
-    let words = class.words();
-    let Some(cell) = map.take(memory, page) else {
+    let Some(taken) = map.take(memory, page) else {
         unreachable!();
     };
-    let base = start_of(page) + u64::from(cell) * (WORD_BYTES * u64::from(words));
-    memory.zero(base, u32::from(words));
-    if is_full(map, page) {
+    memory.zero(taken.object.base, taken.object.len);
+    if taken.was_last {
         available.leave(class, kind, page);
     }
-    base
+    taken.object.base
 }
 
 // Whether the page is cut for the class and the kind.

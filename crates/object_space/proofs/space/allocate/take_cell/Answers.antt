@@ -1,9 +1,7 @@
-use Rattle.std.proofs.Common.{subst}
-use Rattle.words.specs.Classes.{IsSizeClass}
-use Rattle.object_space.proofs.AvailablePages.{exact_taken}
+use Rattle.std.proofs.Common.{ap, sym, ◌∙◌, subst}
+use Rattle.block_map.specs.Listed.{first_on, first_object}
+use Rattle.block_map.specs.States.{state_at}
+use Rattle.object_space.specs.Rooms.{TakesCell}
+use Rattle.object_space.proofs.Allocations.{listed_cell}
+use Rattle.object_space.proofs.AvailablePages.{available_cell, available_class, available_cut, available_inside, available_not_full, exact_filled, exact_taken}
 use Rattle.object_space.proofs.space.allocate.take_cell.Goals as goal
-
-pub returns-else-is_full-clause-exact : goal.returns-else-is_full-clause-exact
-returns-else-is_full-clause-exact c =
-    exact_taken _ c.args.available.now _ _ c.args.class c.args.kind c.args.place.page c.args.place.cell c.requires.exact (subst IsSizeClass c.words-words.ensures.value c.words-words.ensures.listed)
-    c.requires.cell c.take.ensures.states c.if-is_full.ensures
