@@ -70,11 +70,11 @@ impl Heap {
         let Some(_) = self.map.block(page) else {
             return None;
         };
-        let Some(found) = self.map.take(&self.memory, page) else {
+        let Some(taken) = self.map.take(&self.memory, page) else {
             return None;
         };
-        receive(&self.map, &mut self.memory, &mut self.marker, found);
-        Some(found)
+        receive(&self.map, &mut self.memory, &mut self.marker, taken.object);
+        Some(taken.object)
     }
 
     /// Makes free pages one large object, whose words become 0.
