@@ -23,12 +23,13 @@ use Rattle.block_map.specs.declared.found.Found.{Found}
 use Rattle.block_map.proofs.Laid.{laid_block, laid_cell, laid_large}
 use Rattle.block_map.proofs.Lawful.{map_laws}
 use Rattle.block_map.proofs.Listed.{listed_span}
+use Rattle.block_map.proofs.Unread.{listed_zeroed}
+use Rattle.marker.proofs.Keeping.{page_kept}
 use Rattle.block_map.proofs.Spans.{place_of}
 use Rattle.object_space.specs.Store.{Store, IsSound, Agree, IsPendingRow}
-use Rattle.object_space.specs.Shown.{Shows}
+use Rattle.heap_view.specs.Shows.{Shows}
 use Rattle.object_space.specs.Rooms.{IsFreeCell, HasNoFreeCell, HasRoomAt, HasNoRoom, TakesCell, CutsPage}
 use Rattle.object_space.specs.Sweeps.{Gains}
-use Rattle.object_space.proofs.Listed.{keeps_objects, listed_zeroed}
 use Rattle.object_space.proofs.Words.{others_kept, zeroed_object}
 use Rattle.object_space.proofs.Rooms.{cell_below, cell_end, room_of_cell, room_of_page, no_small_room, large_room, no_large_room}
 
@@ -258,7 +259,7 @@ module _ (t : Store) (sound : IsSound t) (laid : IsLaid t.states) (lawful : IsLa
           found = g.found;
           added = record { before = λ w r. sym (cuts.same.same w) ∙ g.added.before w r; after = g.added.after; others = λ w n. g.added.others w n ∙ cuts.same.same w };
           zeroed = g.zeroed;
-          words = λ f i there lt. g.words f i (cuts.same.same f.base ∙ there) lt ∙ keeps_objects t.words words t.states page lawful was_free cuts.changes f i there lt;
+          words = λ f i there lt. g.words f i (cuts.same.same f.base ∙ there) lt ∙ page_kept (length t.states) t.states t.words words page lawful.map was_free cuts.changes f i there lt;
         }
 
     pub sound_page : IsSound (record t { words = words'; free = free'; states = states'' })
@@ -300,7 +301,8 @@ module _ (t : Store) (sound : IsSound t) (laid : IsLaid t.states) (lawful : IsLa
       placed = (map_laws states' (laid_large t.states states' first n kind laid some_pages was span)).map.placed (page_start first) (large_object first n kind) (added.after (page_start first) (record { from = omega arith; below = omega arith }))
 
   pub listed_large : ((k : ℕ) → first ≤ k → k < first + n → state_at t.states k ≡ free) → AreListed t.words t.states → AreListed words' states'
-  listed_large was listed = listed_zeroed t.words words' states' (large_object first n kind) (laid_large t.states states' first n kind laid some_pages was span) (omega arith) added.after zeroed
+  listed_large was listed = listed_zeroed t.words states' (laid_large t.states states' first n kind laid some_pages was span) words' (large_object first n kind)
+      (added.after (page_start first) (record { from = omega arith; below = omega arith })) zeroed
       (listed_span t.words t.states states' first n (large_states first n kind) span (λ k. uncut (k == first) k) listed)
     where
       uncut : (b : Bool) (k : ℕ) → IsListedOn t.words k (if b then head n kind else body first)
@@ -341,7 +343,8 @@ no_room_large t n kind sound laid lawful none s stores a = no_large_room (λ _. 
 -- the list of a page stays while the words of the cell that was taken become 0
 pub listed_cell : (words words' : List ℕ) (states states' : List PageState) (class : ℕ) (kind : Kind) (page cell base : ℕ) → IsLaid states → IsFreeCell states class kind page cell → TakesCell words words' states states' page cell base
     → AreListed words states' → AreListed words' states'
-listed_cell words words' states states' class kind page cell base laid at takes listed = listed_zeroed words words' states' (object_on page (state_at states page) cell) after_laid some takes.added.after
+listed_cell words words' states states' class kind page cell base laid at takes listed = listed_zeroed words states' after_laid words' (object_on page (state_at states page) cell)
+    (takes.added.after (object_on page (state_at states page) cell).base (let long = some in record { from = omega arith; below = omega arith }))
     (subst (λ b. IsZeroed words words' (place b) (object_on page (state_at states page) cell).len) takes.at takes.zeroed) listed
   where
     after_laid : IsLaid states'

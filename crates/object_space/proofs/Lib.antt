@@ -1,7 +1,6 @@
 pub mod Tables
 pub mod AvailableRows
 pub mod Kept
-pub mod Shown
 pub mod Words
 pub mod Changes
 pub mod Placing
@@ -10,7 +9,6 @@ pub mod AvailablePages
 pub mod Allocations
 pub mod Opening
 pub mod Frees
-pub mod Listed
 pub mod Pending
 pub mod Swept
 pub mod Searching
