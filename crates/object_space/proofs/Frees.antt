@@ -6,6 +6,7 @@ use Rattle.std.proofs.lemmas.Bool.{cases_lt, cases_eq}
 use Rattle.std.proofs.lemmas.List.{get_or_past}
 use Rattle.words.specs.Bits.{IsEmptyFrom, IsFirstFrom}
 use Rattle.words.specs.declared.class.Kind.{Kind}
+use Rattle.pages.specs.Memory.{with_word_at}
 use Rattle.pages.specs.Runs.{IsFilled}
 use Rattle.blocks.specs.Cells.{Cells}
 use Rattle.block_map.specs.States.{PageState, free, cut, head, body, state_at, span_of, IsCut, IsSpanSet, HasCell, with_cell}
@@ -15,6 +16,7 @@ use Rattle.block_map.specs.FoundIn.{found_in, IsLawful}
 use Rattle.block_map.specs.declared.found.Found.{Found}
 use Rattle.block_map.proofs.Spans.{place_of}
 use Rattle.marker.specs.Mutations.{KeepsWords}
+use Rattle.marker.proofs.Keeping.{written_kept}
 use Rattle.object_space.specs.Store.{Store, IsSound, Agree, KeepsPending, IsPendingRow}
 use Rattle.object_space.specs.Rooms.{FreesCell, EmptiesCell, keeps, gives, without_cell}
 use Rattle.object_space.specs.Sweeps.{Loses}
@@ -147,16 +149,24 @@ module _ (t : Store) (sound : IsSound t) (page cell : ℕ) (b : Cells) (is : sta
   size_freed (gives given span) = span.size ∙ length-set t.states page _
 
 -- and the store has lost its object
-pub loses_cell : (t : Store) (page cell : ℕ) (b : Cells) → state_at t.states page ≡ cut b → page < length t.states → (words' : List ℕ) (row' : List Bool) (states' : List PageState) (pending' : List Bool) (f : Found) → f ≡ cell_object page b cell
-    → KeepsWords (found_in states') t.words words' → FreesCell t.free row' t.states states' page cell → KeepsPending page t.states states' t.pending pending'
+pub loses_cell : (t : Store) (page cell : ℕ) (b : Cells) → state_at t.states page ≡ cut b → page < length t.states → (words' : List ℕ) (v : ℕ) (row' : List Bool) (states' : List PageState) (pending' : List Bool) (f : Found) → f ≡ cell_object page b cell
+    → IsLawful t.states → found_in t.states f.base ≡ Some f → words' ≡ with_word_at t.words (object_on page (state_at t.states page) cell).base v → FreesCell t.free row' t.states states' page cell → KeepsPending page t.states states' t.pending pending'
     → Loses t f (record { words = words'; free = row'; states = states'; pending = pending' })
-loses_cell t page cell b is inside words' row' states' pending' f same keeps_words freed keeps_row =
-    let object : object_on page (state_at t.states page) cell ≡ f = ap (λ st. object_on page st cell) is ∙ sym same in
-    record { words = keeps_words; pages = size freed.pages; removed = subst (IsRemoved (found_in t.states) (found_in states')) object freed.removed; row_size = keeps_row.size; rest = λ p ne. keeps_row.rest p (λ e. ne (e ∙ sym (ap (λ (x : Found). x.page) same))); fewer = keeps_row.less; pending = keeps_row.same }
+loses_cell t page cell b is inside words' v row' states' pending' f same lawful found written freed keeps_row =
+    record { words = subst (KeepsWords (found_in states') t.words) (sym wrote) (written_kept (length t.states) (found_in t.states) (found_in states') t.words v f lawful.map found removed); pages = size freed.pages; removed = removed; row_size = keeps_row.size; rest = λ p ne. keeps_row.rest p (λ e. ne (e ∙ sym (ap (λ (x : Found). x.page) same))); fewer = keeps_row.less; pending = keeps_row.same }
   where
     size : EmptiesCell t.free row' t.states states' page cell → length states' ≡ length t.states
     size (keeps c i at bit row became) = ap length became ∙ length-set t.states page _
     size (gives given span) = span.size ∙ length-set t.states page _
+
+    object : object_on page (state_at t.states page) cell ≡ f
+    object = ap (λ st. object_on page st cell) is ∙ sym same
+
+    removed : IsRemoved (found_in t.states) (found_in states') f
+    removed = subst (IsRemoved (found_in t.states) (found_in states')) object freed.removed
+
+    wrote : words' ≡ with_word_at t.words f.base v
+    wrote = written ∙ ap (λ (x : Found). with_word_at t.words x.base v) object
 
 -- what is on the page of an object that is found
 pub on_page : (t : Store) (f : Found) → IsLawful t.states → found_in t.states f.base ≡ Some f → IsObject t.states f

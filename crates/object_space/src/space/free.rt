@@ -1,13 +1,13 @@
 //! How an object goes: its cell is free again, and its page too once it has no object; of a large object all pages are.
 ghost use Rattle.std.specs.Prelude.{◌≡◌, ◌+◌, ◌<◌, ◌≤◌, true, Some, length};
 ghost use Rattle.words.specs.declared.class.Kind.{Kind};
+ghost use Rattle.pages.specs.Memory.{with_word_at};
 ghost use Rattle.pages.specs.Runs.{IsFilled};
 ghost use Rattle.block_map.specs.Changes.{IsRemoved};
 ghost use Rattle.block_map.specs.FoundIn.{found_in, IsLawful};
-ghost use Rattle.block_map.specs.Listed.{AreListed};
+ghost use Rattle.block_map.specs.Listed.{first_on, AreListed};
 ghost use Rattle.block_map.specs.States.{free, head, state_at, HasCell, IsLaid, IsSpanSet};
-ghost use Rattle.block_map.specs.Objects.{large_object};
-ghost use Rattle.marker.specs.Mutations.{KeepsWords};
+ghost use Rattle.block_map.specs.Objects.{large_object, object_on};
 ghost use Rattle.object_space.specs.AvailableRows.{IsExact};
 ghost use Rattle.object_space.specs.Store.{KeepsPending};
 ghost use Rattle.object_space.specs.Rooms.{FreesCell};
@@ -36,7 +36,7 @@ fn free_cell(
     requires exact { IsExact available.old map.old }
     requires row { length pending.old ≡ length map.old }
     requires listed { AreListed memory.old map.old }
-    ensures words { KeepsWords (found_in map.new) memory.old memory.new }
+    ensures memory { memory.new ≡ with_word_at memory.old (object_on page (state_at map.old page) cell).base (first_on (state_at map.old page)) }
     ensures listed { AreListed memory.new map.new }
     ensures freed { FreesCell pool.old pool.new map.old map.new page cell }
     ensures exact { IsExact available.new map.new }
