@@ -351,7 +351,7 @@ module _ (words : List ℕ) (states states' : List PageState) (page : ℕ) (f : 
     where
       by : (st : PageState) → HasFirst st → LaidAt states page st → 0 < (first_object page st).len
       by free has laid = absurd has
-      by (cut b) has laid = (class_bounds b.class laid.class).0
+      by (cut b) has laid = let low = (class_bounds b.class laid.class).0 in omega arith
       by (head n k) has laid = absurd has
       by (body q) has laid = absurd has
 
