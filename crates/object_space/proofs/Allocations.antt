@@ -1,5 +1,5 @@
 -- What it is to the heap that a cell is taken, that a page is cut, and that a run of pages becomes a large object.
-use Rattle.std.proofs.Common.{◌≡◌, ℕ, ◌+◌, ◌*◌, ◌/◌, ◌<◌, ◌≤◌, ◌⊎◌, Bool, true, false, List, length, get_or, set, replicate, Option, refl, sym, ap, ◌∙◌, subst, arith, inl, inr, ⊎_elim, length-set, get_or-set_same, get_or-set_other}
+use Rattle.std.proofs.Common.{◌≡◌, ℕ, ◌+◌, ◌*◌, ◌/◌, ◌<◌, ◌≤◌, ◌⊎◌, Bool, true, false, List, length, get_or, set, replicate, Option, Some, refl, sym, ap, ◌∙◌, subst, arith, inl, inr, ⊎_elim, length-set, get_or-set_same, get_or-set_other}
 use Rattle.std.specs.Prelude.{◌≢◌, ◌==◌, if◌then◌else◌}
 use Rattle.std.proofs.lemmas.Bool.{cases_lt, cases_eq}
 use Rattle.std.proofs.lemmas.List.{get_or-replicate, length-replicate}
@@ -15,7 +15,7 @@ use Rattle.pages.specs.Runs.{IsFreeRun, HasNoFreeRun, IsFilled}
 use Rattle.blocks.specs.Cells.{Cells, IsCells}
 use Rattle.blocks.proofs.Places.{class_bounds}
 use Rattle.block_map.specs.States.{PageState, free, cut, head, body, state_at, IsCut, LaidAt, IsLaid, IsSpanSet, HasCell, all_free, with_cell, large_states}
-use Rattle.block_map.specs.Listed.{first_on, link_on, AreListed, IsListedOn}
+use Rattle.block_map.specs.Listed.{first_object, first_on, link_on, with_taken, AreListed, HasFirst, IsListedOn}
 use Rattle.block_map.specs.Objects.{cell_object, large_object, object_on, IsMap, IsPlaced}
 use Rattle.block_map.specs.Changes.{IsAdded, IsSameMap}
 use Rattle.block_map.specs.FoundIn.{found_in, IsLawful}
@@ -31,7 +31,7 @@ use Rattle.heap_view.specs.Shows.{Shows}
 use Rattle.object_space.specs.Rooms.{IsFreeCell, HasNoFreeCell, HasRoomAt, HasNoRoom, TakesCell, CutsPage}
 use Rattle.object_space.specs.Sweeps.{Gains}
 use Rattle.object_space.proofs.Words.{others_kept, zeroed_object}
-use Rattle.object_space.proofs.Rooms.{cell_below, cell_end, room_of_cell, room_of_page, no_small_room, large_room, no_large_room}
+use Rattle.object_space.proofs.Rooms.{cell_below, room_of_cell, room_of_page, no_small_room, large_room, no_large_room}
 
 -- the objects of a map that is the same are the same
 pub shows_same : (found after : ℕ → Option Found) (words : List ℕ) (objects : ℕ → Option Object) (births : ℕ) → IsSameMap found after → Shows found words objects births → Shows after words objects births
@@ -340,30 +340,31 @@ module _ (t : Store) (sound : IsSound t) (laid : IsLaid t.states) (lawful : IsLa
 pub no_room_large : (t : Store) (n : ℕ) (kind : Kind) → IsSound t → IsLaid t.states → IsLawful t.states → HasNoFreeRun t.free n → HasNoRoom t (Large n) kind
 no_room_large t n kind sound laid lawful none s stores a = no_large_room (λ _. true) t s sound laid lawful stores (λ g. refl) n none a
 
--- the list of a page stays while the words of the cell that was taken become 0
-pub listed_cell : (words words' : List ℕ) (states states' : List PageState) (class : ℕ) (kind : Kind) (page cell base : ℕ) → IsLaid states → IsFreeCell states class kind page cell → TakesCell words words' states states' page cell base
-    → AreListed words states' → AreListed words' states'
-listed_cell words words' states states' class kind page cell base laid at takes listed = listed_zeroed words states' after_laid words' (object_on page (state_at states page) cell)
-    (takes.added.after (object_on page (state_at states page) cell).base (let long = some in record { from = omega arith; below = omega arith }))
-    (subst (λ b. IsZeroed words words' (place b) (object_on page (state_at states page) cell).len) takes.at takes.zeroed) listed
-  where
-    after_laid : IsLaid states'
-    after_laid = subst IsLaid (sym takes.became) (laid_cell states page cell false true (link_on words page (state_at states page) cell) laid at.inside (subst (λ st. HasCell st cell false) (sym at.is_cut) (at.in_row, at.is_free)))
+-- the first free cell of a page was taken for an object
+module _ (words : List ℕ) (states states' : List PageState) (page : ℕ) (f : Found) (laid : IsLaid states) (inside : page < length states) (first : HasFirst (state_at states page))
+    (became : states' ≡ set states page (with_taken words page (state_at states page))) (added : IsAdded (found_in states) (found_in states') f) (is : f ≡ first_object page (state_at states page)) where
+  first_laid : IsLaid states'
+  first_laid = subst IsLaid (sym became) (laid_cell states page (first_on (state_at states page)) false true (link_on words page (state_at states page) (first_on (state_at states page))) laid inside first)
 
-    some : 0 < (object_on page (state_at states page) cell).len
-    some =
-        let cells : IsCells at.block = subst (LaidAt states page) at.is_cut (laid.each page at.inside) in
-        let low = (class_bounds at.block.class cells.class).0 in
-        let e : (object_on page (state_at states page) cell).len ≡ at.block.class = ap (λ (x : Found). x.len) (cell_is states page cell at.block at.is_cut) in omega arith
+  first_found : found_in states' f.base ≡ Some f
+  first_found = added.after f.base (let long = some in record { from = omega arith; below = omega arith })
+    where
+      by : (st : PageState) → HasFirst st → LaidAt states page st → 0 < (first_object page st).len
+      by free has laid = absurd has
+      by (cut b) has laid = let low = (class_bounds b.class laid.class).0 in omega arith
+      by (head n k) has laid = absurd has
+      by (body q) has laid = absurd has
 
--- where the words of a free cell are
-pub cell_words : (states : List PageState) (class : ℕ) (kind : Kind) (page cell : ℕ) (words : List ℕ) → IsLaid states → IsSizeClass class → IsFreeCell states class kind page cell → length words ≡ 512 * length states
-    → IsWordAddress words (page_start page + cell * (8 * class)) × (place (page_start page + cell * (8 * class)) + class ≤ length words)
-cell_words states class kind page cell words laid is_class at long =
-    let cells : IsCells at.block = subst (LaidAt states page) at.is_cut (laid.each page at.inside) in
-    let low = (class_bounds class is_class).0 in
-    let below : cell < 512 / class = subst (λ c. cell < 512 / c) at.of_class (let size = cells.size in let lt = at.in_row in omega arith) in
-    let ends : cell * (8 * class) + 8 * class ≤ 4096 = cell_end class cell below (omega arith) in
-    let e : cell * (8 * class) ≡ 8 * (cell * class) = omega arith in
-    let inside = at.inside in
-    (record { aligned = omega arith; above = omega arith; below = omega arith }, omega arith)
+      some : 0 < f.len
+      some = subst (λ (x : Found). 0 < x.len) (sym is) (by (state_at states page) first (laid.each page inside))
+
+  -- its words are the memory's
+  pub first_words : AreListed words states' → IsWordAddress words f.base × (place f.base + f.len ≤ length words)
+  first_words listed =
+      let placed = (map_laws states' first_laid).map.placed f.base f first_found in
+      let aligned = placed.aligned in let above = placed.above in let below = placed.below in let some = placed.some in let long = listed.size in
+      (record { aligned = omega arith; above = omega arith; below = omega arith }, omega arith)
+
+  -- and while they become 0 the lists stay
+  pub first_zeroed : (words' : List ℕ) → IsZeroed words words' (place f.base) f.len → AreListed words states' → AreListed words' states'
+  first_zeroed words' zeroed listed = listed_zeroed words states' first_laid words' f first_found zeroed listed
