@@ -2,9 +2,12 @@
 use Rattle.std.proofs.Common.{◌≡◌, ℕ, ◌+◌, ◌<◌, ◌≤◌, List, length, Option, Some, None, sym, ap, ◌∙◌, subst, inl, inr, ⊎_elim, refl, arith}
 use Rattle.std.proofs.lemmas.Bool.{cases_lt}
 use Rattle.pages.specs.Memory.{with_word_at}
-use Rattle.block_map.specs.Listed.{AreListed}
-use Rattle.block_map.specs.States.{PageState}
-use Rattle.block_map.specs.Changes.{IsCleared, IsRemoved}
+use Rattle.blocks.specs.Cells.{Cells, IsCells}
+use Rattle.blocks.proofs.Places.{class_bounds}
+use Rattle.block_map.specs.Listed.{AreListed, first_object}
+use Rattle.block_map.specs.States.{PageState, cut, state_at, IsLaid}
+use Rattle.block_map.specs.Changes.{IsAdded, IsCleared, IsRemoved}
+use Rattle.block_map.proofs.Seen.{laid_at}
 use Rattle.block_map.specs.Objects.{IsMap}
 use Rattle.block_map.specs.FoundIn.{found_in}
 use Rattle.block_map.specs.declared.found.Found.{Found}
@@ -59,3 +62,11 @@ lost states states' words words' v f old new size map some removed written liste
   where
     object : found_in states f.base ≡ Some f
     object = removed.after f.base (record { from = omega arith; below = omega arith })
+
+-- an object that was taken is there
+pub taken_there : (old new : List PageState) (page : ℕ) (b : Cells) (f : Found) → IsLaid old → page < length old → state_at old page ≡ cut b → f ≡ first_object page (state_at old page) → IsAdded (found_in old) (found_in new) f → found_in new f.base ≡ Some f
+taken_there old new page b f laid inside is object added =
+    let cells : IsCells b = laid_at old page (cut b) laid is inside in
+    let some = (class_bounds b.class cells.class).0 in
+    let size : f.len ≡ b.class = ap (λ (g : Found). g.len) (object ∙ ap (first_object page) is) in
+    added.after f.base (record { from = omega arith; below = omega arith })

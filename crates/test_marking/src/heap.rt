@@ -33,6 +33,7 @@ impl Model for Heap {
 
 impl Heap {
     /// So many pages with no object. `None` where there is no memory, or out of range.
+    #[tactic(auto, using(fixtures::proofs::Lists::lists))]
     pub(crate) fn open(alloc: Global, pages: u32) -> Option<Heap> {
         let Ok(map) = BlockMap::new(alloc, pages) else {
             return None;
@@ -55,7 +56,10 @@ impl Heap {
         let Some(class) = small_class(words) else {
             return false;
         };
-        if page >= self.map.len() || !self.map.is_free(page) {
+        if page >= self.map.len() {
+            return false;
+        }
+        if !self.map.is_free(page) {
             return false;
         }
         self.map.cut(&mut self.memory, page, class, kind);
@@ -78,6 +82,7 @@ impl Heap {
     }
 
     /// Makes free pages one large object, whose words become 0.
+    #[tactic(auto, using(fixtures::proofs::Lists::lists))]
     pub(crate) fn allocate_large(
         &mut self,
         first: PageNo,
@@ -126,10 +131,13 @@ impl Heap {
     }
 
     /// Writes a word of an object.
+    #[tactic(auto, using(fixtures::proofs::Lists::lists))]
     pub(crate) fn store(&mut self, address: u64, word: u64) -> bool {
         if address % WORD_BYTES != 0 {
             return false;
         }
+        // Its clauses tell what is true of the map.
+        let _pages = self.map.len();
         let Some(_) = self.map.find(address) else {
             return false;
         };
