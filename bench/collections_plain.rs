@@ -4,7 +4,7 @@ mod plain_map;
 mod plain_marker;
 mod plain_row;
 
-use plain_map::{Block, Found, Kind, Page, START, find, next_on_page};
+use plain_map::{Block, Found, Kind, LIST_END, Page, START, find, next_on_page};
 use plain_marker::{Marker, granule, is_set, set};
 use plain_row::next;
 use std::hint::black_box;
@@ -93,16 +93,18 @@ impl Core {
         }
     }
 
+    // The first free cell of a page; its first word has the number of the next one.
     fn take_cell(&mut self, page: usize) -> Option<u64> {
         let Page::Cut(block) = &mut self.map[page] else {
             return None;
         };
-        let cell = next(&block.taken, 0, false);
-        set(&mut block.taken, cell);
+        let cell = usize::from(block.first);
         let words = usize::from(block.words);
         let place = 512 * page + cell * words;
+        block.first = self.words[place] as u16;
+        set(&mut block.taken, cell);
         self.words[place..place + words].fill(0);
-        if next(&block.taken, 0, false) >= usize::from(block.cells) {
+        if block.first == LIST_END {
             let Page::Cut(block) = &self.map[page] else {
                 return None;
             };
@@ -110,6 +112,15 @@ impl Core {
             clear(&mut self.open[row], page);
         }
         Some(START + 8 * place as u64)
+    }
+
+    // Makes a page's cells a list, from the lowest on.
+    fn link_all(&mut self, page: usize, words: usize) {
+        let mut first = LIST_END;
+        for cell in (0..512 / words).rev() {
+            self.words[512 * page + cell * words] = u64::from(first);
+            first = cell as u16;
+        }
     }
 
     fn allocate(&mut self, class: usize, kind: Kind) -> Option<u64> {
@@ -122,6 +133,7 @@ impl Core {
         let page = next(&self.free, 0, true);
         if page < PAGES {
             clear(&mut self.free, page);
+            self.link_all(page, usize::from(CLASSES[class]));
             self.map[page] = Page::Cut(Block::new(CLASSES[class], kind));
             set(&mut self.open[2 * class], page);
             return self.take_cell(page);
@@ -174,6 +186,8 @@ impl Core {
             }
             return;
         };
+        self.words[((found.base - START) / 8) as usize] = u64::from(block.first);
+        block.first = found.cell;
         clear(&mut block.taken, usize::from(found.cell));
         let is_empty = block.taken == [0; 4];
         let Page::Cut(block) = &self.map[page] else {

@@ -11,7 +11,9 @@ const START: u64 = 268_435_456;
 const PAGES: usize = 1_024;
 const RING: usize = 500;
 const MORE: usize = 15_000;
+const EACH: usize = 2_000;
 const ROUNDS: u128 = 40;
+const LIST_END: u16 = 65_535;
 const CLASSES: [u16; 13] = [2, 4, 6, 8, 12, 16, 24, 32, 48, 64, 96, 128, 256];
 
 #[derive(Clone, Copy, PartialEq)]
@@ -38,6 +40,7 @@ struct Block {
     cells: u16,
     reciprocal: u32,
     taken: [u64; 4],
+    first: u16,
 }
 
 enum Page {
@@ -98,13 +101,6 @@ fn take_run(row: &mut [u64], n: usize) -> Option<usize> {
     None
 }
 
-impl Block {
-    fn free_cell(&self) -> Option<u16> {
-        let cell = next(&self.taken, 0, false);
-        (cell < usize::from(self.cells)).then_some(cell as u16)
-    }
-}
-
 impl Core {
     fn new() -> Core {
         let mut index = [0; 129];
@@ -146,19 +142,34 @@ impl Core {
         2 * class + usize::from(kind == Kind::PointerFree)
     }
 
+    // The first free cell of a page; its first word has the number of the next one.
     fn take_cell(&mut self, page: usize, class: usize, kind: Kind) -> Option<u64> {
         let Page::Cut(block) = &mut self.map[page] else {
             return None;
         };
-        let cell = block.free_cell()?;
-        block.taken[usize::from(cell / 64)] |= 1 << (cell % 64);
+        let cell = block.first;
+        if cell == LIST_END {
+            return None;
+        }
         let words = usize::from(CLASSES[class]);
         let place = 512 * page + usize::from(cell) * words;
+        block.first = self.words[place] as u16;
+        block.taken[usize::from(cell / 64)] |= 1 << (cell % 64);
         self.words[place..place + words].fill(0);
-        if block.free_cell().is_none() {
+        if block.first == LIST_END {
             self.open[Core::row(class, kind)][page / 64] &= !(1 << (page % 64));
         }
         Some(START + 8 * place as u64)
+    }
+
+    // Makes a page's cells a list, from the lowest on.
+    fn link_all(&mut self, page: usize, class: usize) {
+        let words = usize::from(CLASSES[class]);
+        let mut first = LIST_END;
+        for cell in (0..512 / words).rev() {
+            self.words[512 * page + cell * words] = u64::from(first);
+            first = cell as u16;
+        }
     }
 
     fn allocate(&mut self, words: u64, kind: Kind) -> Option<u64> {
@@ -176,12 +187,14 @@ impl Core {
         let mut page = next(&self.open[row], 0, true);
         if page >= PAGES {
             page = take_run(&mut self.free, 1)?;
+            self.link_all(page, class);
             self.map[page] = Page::Cut(Block {
                 class,
                 kind,
                 cells: 512 / CLASSES[class],
                 reciprocal: 65_536_u32.div_ceil(u32::from(CLASSES[class]) / 2),
                 taken: [0; 4],
+                first: 0,
             });
             self.open[row][page / 64] |= 1 << (page % 64);
         }
@@ -198,6 +211,8 @@ impl Core {
             fill(&mut self.free, page, n, true);
             return;
         };
+        self.words[((found.base - START) / 8) as usize] = u64::from(block.first);
+        block.first = found.cell;
         block.taken[usize::from(found.cell / 64)] &= !(1 << (found.cell % 64));
         let row = Core::row(block.class, block.kind);
         if block.taken != [0; 4] {
@@ -348,16 +363,16 @@ fn main() {
     }
     report("load", start.elapsed().as_nanos() / 20, 2 * RING);
     println!("sum {sum}");
-    for (name, most) in [("alloc_mix", 40), ("alloc_two", 2)] {
+    for (name, most, count) in [("alloc_mix", 40, MORE), ("alloc_two", 2, MORE), ("alloc_classes", 256, EACH)] {
         draw(&mut sizes, most);
         let mut spent = 0;
         for _ in 0..ROUNDS {
             let start = Instant::now();
-            allocate_all(&mut core, &sizes, &mut bases);
+            allocate_all(&mut core, &sizes[..count], &mut bases);
             spent += start.elapsed().as_nanos();
-            free_all(&mut core, &bases);
+            free_all(&mut core, &bases[..count]);
         }
-        report(name, spent, sizes.len());
+        report(name, spent, count);
     }
     locked::measure();
     on_threads::measure();

@@ -1,6 +1,9 @@
 //! A map of pages in plain Rust, as programs of this folder measure it: the same data and calls as the proved one.
 pub const START: u64 = 268_435_456;
 
+#[allow(dead_code)]
+pub const LIST_END: u16 = 65_535;
+
 #[derive(Clone, Copy, PartialEq)]
 pub enum Kind {
     Normal,
@@ -14,6 +17,8 @@ pub struct Block {
     reciprocal: u32,
     pub taken: [u64; 4],
     pub cells: u16,
+    #[allow(dead_code)]
+    pub first: u16,
 }
 
 #[allow(dead_code)]
@@ -38,7 +43,7 @@ impl Block {
     /// A page cut into cells of so many words, all free.
     #[inline]
     pub fn new(words: u16, kind: Kind) -> Block {
-        Block { words, kind, reciprocal: 65_536_u32.div_ceil(u32::from(words) / 2), taken: [0; 4], cells: 512 / words }
+        Block { words, kind, reciprocal: 65_536_u32.div_ceil(u32::from(words) / 2), taken: [0; 4], cells: 512 / words, first: 0 }
     }
 
     #[inline]

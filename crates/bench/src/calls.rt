@@ -12,6 +12,9 @@ const RING: usize = 500;
 
 const MORE: usize = 15_000;
 
+// As many objects of all classes fit beside those of the ring.
+const EACH: usize = 2_000;
+
 const ROUNDS: u32 = 40;
 
 // Words are loaded and stored so many times more often than objects come and go.
@@ -72,7 +75,8 @@ fn time_allocs<R: Eprint + Clock>(
         spent = spent.saturating_add(since(rt, start)?);
         user.free_all(bases);
     }
-    report(rt, name, spent, u64::from(ROUNDS) * MORE as u64, 0)
+    let calls = u64::from(ROUNDS).saturating_mul(sizes.len() as u64);
+    report(rt, name, spent, calls, 0)
 }
 
 fn measure_calls<R: Eprint + Clock>(
@@ -91,6 +95,16 @@ fn measure_calls<R: Eprint + Clock>(
     time_allocs(rt, "alloc_two", user, sizes, bases)
 }
 
+fn measure_classes<R: Eprint + Clock>(
+    rt: &R,
+    user: &mut User,
+    sizes: &mut [u64],
+    bases: &mut [u64],
+) -> io::Result<()> {
+    draw(sizes, 256);
+    time_allocs(rt, "alloc_classes", user, sizes, bases)
+}
+
 /// Allocation, freeing, loads and stores.
 pub(crate) fn measure<R: Eprint + Clock>(rt: &R, alloc: Global) -> io::Result<()> {
     let mut sizes = vec![in alloc; 0u64; MORE]?;
@@ -104,6 +118,9 @@ pub(crate) fn measure<R: Eprint + Clock>(rt: &R, alloc: Global) -> io::Result<()
             bases.as_mut_slice(),
             ring.as_mut_slice(),
         )?;
+        let mut sizes = vec![in alloc; 0u64; EACH]?;
+        let mut bases = vec![in alloc; 0u64; EACH]?;
+        measure_classes(rt, &mut user, sizes.as_mut_slice(), bases.as_mut_slice())?;
     }
     Ok(())
 }

@@ -1,8 +1,7 @@
 //! The map and the pool of a heap of the most pages.
 use crate::figures::{report, since};
 use block_map::BlockMap;
-use fixtures::Random;
-use fixtures::map::{cut, cut_large, take};
+use fixtures::{BlockSpace, Random};
 use pages::PagePool;
 use std::alloc::Global;
 use std::io;
@@ -62,14 +61,13 @@ fn take_runs(pool: &mut PagePool) -> u64 {
 }
 
 // The lower half is cut for six words, with three cells of four allocated, and the upper half is one large object.
-fn lay_out(map: &mut BlockMap) {
-    cut_large(map, HALF, HALF, Kind::Normal);
+fn lay_out(space: &mut BlockSpace) {
+    space.cut_large(HALF, HALF, Kind::Normal);
     for page in 0..HALF {
-        cut(map, page, 6, Kind::Normal);
-        for cell in 0..85 {
-            if cell % 4 != 3 {
-                take(map, page, cell);
-            }
+        space.cut(page, 6, Kind::Normal);
+        space.fill(page);
+        for fourth in 0..21 {
+            space.put(page, 4 * fourth + 3);
         }
     }
 }
@@ -124,9 +122,9 @@ fn measure_pool<R: Eprint + Clock>(rt: &R, pool: &mut PagePool) -> io::Result<()
 /// Lookups in a map, a walk over its objects, and runs of a pool.
 pub(crate) fn measure<R: Eprint + Clock>(rt: &R, alloc: Global) -> io::Result<()> {
     let mut words = vec![in alloc; 0u64; WORDS]?;
-    if let Ok(mut map) = BlockMap::new(alloc, MAX_PAGES) {
-        lay_out(&mut map);
-        measure_map(rt, &map, words.as_mut_slice())?;
+    if let Some(mut space) = BlockSpace::open(alloc, MAX_PAGES) {
+        lay_out(&mut space);
+        measure_map(rt, space.map(), words.as_mut_slice())?;
     }
     if let Ok(mut pool) = PagePool::new(alloc, MAX_PAGES) {
         measure_pool(rt, &mut pool)?;

@@ -54,11 +54,10 @@ pub(crate) fn targets(shape: &str, number: u64, count: u64) -> (u64, u64) {
 pub(crate) fn fill(heap: &mut Heap, count: u64) {
     for number in 0..count {
         let page = u32::try_from(number / PAGE_GRANULES).unwrap_or(0);
-        let cell = u16::try_from(number % PAGE_GRANULES).unwrap_or(0);
-        if cell == 0 {
+        if number % PAGE_GRANULES == 0 {
             heap.cut(page);
         }
-        heap.take(page, cell);
+        heap.take(page);
     }
 }
 

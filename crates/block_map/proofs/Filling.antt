@@ -1,5 +1,5 @@
 -- Loops over the pages of a map, seen as their states.
-use Rattle.std.proofs.Common.{◌≡◌, ℕ, ◌+◌, ◌<◌, List, [], ◌∷◌, ◌++◌, zero, suc, length, map, set, get_or, refl, sym, ap, ◌∙◌, arith}
+use Rattle.std.proofs.Common.{◌≡◌, ℕ, ◌+◌, ◌<◌, List, [], ◌∷◌, ◌++◌, zero, suc, length, map, set, get_or, refl, sym, ap, ◌∙◌, arith, get_or-set_same}
 use Rattle.std.proofs.lemmas.List.{map-set, get_or-map, get_or_past, length-map, length-append}
 use Rattle.block_map.specs.declared.page.Page.{Page}
 use Rattle.block_map.specs.declared.page.Page.TheVariants.{Free}
@@ -12,6 +12,9 @@ put_states items p x = map-set shown items p x
 
 pub state_of : (items : List Page) (p : ℕ) (d : Page) → p < length items → state_at (map shown items) p ≡ shown (get_or items p d)
 state_of items p d h = get_or-map shown items p d free h
+
+pub set_state : (items : List Page) (p : ℕ) (x : Page) → p < length items → state_at (map shown (set items p x)) p ≡ shown x
+set_state items p x lt = ap (λ xs. state_at xs p) (put_states items p x) ∙ get_or-set_same (map shown items) p (shown x) free (let size = length-map items shown in omega arith)
 
 pub ruleset put = (put_states, state_of)
 

@@ -3,7 +3,9 @@ pub mod Filling
 pub mod Finding
 pub mod Laid
 pub mod Lawful
+pub mod Listed
 pub mod Seen
 pub mod Spans
+pub mod Unread
 pub mod Walking
 pub mod Words

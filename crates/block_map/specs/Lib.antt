@@ -1,5 +1,6 @@
 pub mod Changes
 pub mod FoundIn
+pub mod Listed
 pub mod Objects
 pub mod Places
 pub mod Shown

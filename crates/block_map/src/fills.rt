@@ -1,11 +1,19 @@
 //! Pages that change their state.
-ghost use Rattle.std.specs.Prelude.{◌≡◌, ◌+◌, ◌<◌, ◌≤◌, Bool, map, slice_set, vec_len, IfOk};
+ghost use Rattle.std.specs.Prelude.{◌≡◌, ◌+◌, ◌<◌, ◌≤◌, true, false, map, slice_set, vec_len, IfNone, IfOk, IfSome, MatchBool};
 ghost use Rattle.words.specs.declared.limits.TheConstants.{MAX_PAGES};
-ghost use Rattle.block_map.specs.States.{free, state_at, large_states, with_cell, HasCell, IsSpanSet, AreAllFree};
+ghost use Rattle.pages.specs.Memory.{with_word_at};
+ghost use Rattle.words.specs.Bits.{IsFullRow};
+ghost use Rattle.blocks.specs.Lists.{link_of, ChangesPage, HasPage, IsFree, IsListed};
+ghost use Rattle.block_map.specs.States.{free, state_at, large_states, with_cell, HasCell, IsCut, IsSpanSet, AreAllFree};
+ghost use Rattle.block_map.specs.Listed.{first_object, first_on, with_taken, HasFirst, IsFullOn, IsListedOn};
+ghost use Rattle.block_map.specs.Objects.{cell_object, object_on};
 ghost use Rattle.block_map.specs.Shown.{shown};
 
+use crate::found::Taken;
+use crate::look::cell_at;
 use crate::page::Page;
-use blocks::LargeHead;
+use blocks::{Block, LargeHead};
+use pages::Memory;
 use std::alloc::{AllocError, Global};
 use words::{Kind, PageNo};
 
@@ -63,29 +71,98 @@ pub(crate) fn fill_free(pages: &mut Vec<Page>, first: PageNo, count: u32)
     }
 }
 
-fn change_cell(page: &mut Page, cell: u16, taken: bool)
-    requires { (b : Bool) × HasCell (shown page.old) cell b }
-    ensures { shown page.new ≡ with_cell (shown page.old) cell taken }
+// Takes the first free cell of a block.
+fn take_in(block: &mut Block, memory: &Memory, page: PageNo) -> Option<Taken>
+    requires small { page < MAX_PAGES }
+    requires has { HasPage memory.now page }
+    requires listed { IsListed memory.now page block.old }
+    ensures none { IfNone result (IsFullRow block.old.taken × (block.new ≡ block.old)) }
+    ensures object { IfSome result (λ t. t.object ≡ cell_object page block.old block.old.first) }
+    ensures free { IfSome result (λ _. IsFree block.old.taken block.old.first) }
+    ensures block { IfSome result (λ _. block.new ≡ record block.old { taken = slice_set block.old.taken block.old.first true; first = link_of memory.now page block.old.class block.old.first }) }
+    ensures last { IfSome result (λ t. MatchBool t.was_last (IsFullRow block.new.taken) (IsFree block.new.taken block.new.first)) }
+    ensures listed { IsListed memory.now page block.new }
 {
-    match page {
-        Page::Cut(block) => {
-            if taken {
-                block.set(cell);
-            } else {
-                block.clear(cell);
-            }
-        }
-        _ => unreachable!(),
+    let Some(cell) = block.take(memory, page) else {
+        return None;
+    };
+    Some(Taken {
+        object: cell_at(page, block, cell),
+        was_last: block.is_full(),
+    })
+}
+
+// Takes the first free cell of what stands on a page, which is cut.
+fn take_on(what: &mut Page, memory: &Memory, page: PageNo) -> Option<Taken>
+    requires cut { IsCut (shown what.old) }
+    requires small { page < MAX_PAGES }
+    requires has { HasPage memory.now page }
+    requires listed { IsListedOn memory.now page (shown what.old) }
+    ensures none { IfNone result (IsFullOn (shown what.old) × (shown what.new ≡ shown what.old)) }
+    ensures object { IfSome result (λ t. t.object ≡ first_object page (shown what.old)) }
+    ensures free { IfSome result (λ _. HasFirst (shown what.old)) }
+    ensures state { IfSome result (λ _. shown what.new ≡ with_taken memory.now page (shown what.old)) }
+    ensures last { IfSome result (λ t. MatchBool t.was_last (IsFullOn (shown what.new)) (HasFirst (shown what.new))) }
+    ensures listed { IsListedOn memory.now page (shown what.new) }
+{
+    match what {
+        Page::Cut(block) => take_in(block, memory, page),
+        Page::Free | Page::Head(_) | Page::Body(_) => unreachable!(),
     }
 }
 
-// Allocates a cell, or makes it free.
+// Makes an allocated cell of what stands on a page free.
+fn put_on(what: &mut Page, memory: &mut Memory, page: PageNo, cell: u16)
+    requires cell { HasCell (shown what.old) cell true }
+    requires small { page < MAX_PAGES }
+    requires has { HasPage memory.old page }
+    requires listed { IsListedOn memory.old page (shown what.old) }
+    ensures state { shown what.new ≡ with_cell (shown what.old) cell false cell }
+    ensures memory { memory.new ≡ with_word_at memory.old (object_on page (shown what.old) cell).base (first_on (shown what.old)) }
+    ensures changes { ChangesPage memory.old memory.new page }
+    ensures listed { IsListedOn memory.new page (shown what.new) }
+{
+    match what {
+        Page::Cut(block) => block.put(memory, page, cell),
+        Page::Free | Page::Head(_) | Page::Body(_) => unreachable!(),
+    }
+}
+
+// Takes the first free cell of a page that is cut.
+#[inline]
 #[tactic(auto, using(crate::proofs::Filling::put))]
-pub(crate) fn set_cell(pages: &mut Vec<Page>, page: usize, cell: u16, taken: bool)
+pub(crate) fn take_cell(pages: &mut Vec<Page>, memory: &Memory, page: PageNo) -> Option<Taken>
     requires page { page < vec_len pages.old }
-    requires cell { (b : Bool) × HasCell (state_at (map shown pages.old.items) page) cell b }
-    ensures states { map shown pages.new.items ≡ slice_set (map shown pages.old.items) page (with_cell (state_at (map shown pages.old.items) page) cell taken) }
+    requires small { page < MAX_PAGES }
+    requires cut { IsCut (state_at (map shown pages.old.items) page) }
+    requires has { HasPage memory.now page }
+    requires listed { IsListedOn memory.now page (state_at (map shown pages.old.items) page) }
+    ensures none { IfNone result (IsFullOn (state_at (map shown pages.old.items) page)) }
+    ensures same { IfNone result (map shown pages.new.items ≡ map shown pages.old.items) }
+    ensures object { IfSome result (λ t. t.object ≡ first_object page (state_at (map shown pages.old.items) page)) }
+    ensures free { IfSome result (λ _. HasFirst (state_at (map shown pages.old.items) page)) }
+    ensures states { IfSome result (λ _. map shown pages.new.items ≡ slice_set (map shown pages.old.items) page (with_taken memory.now page (state_at (map shown pages.old.items) page))) }
+    ensures last { IfSome result (λ t. MatchBool t.was_last (IsFullOn (state_at (map shown pages.new.items) page)) (HasFirst (state_at (map shown pages.new.items) page))) }
+    ensures listed { IsListedOn memory.now page (state_at (map shown pages.new.items) page) }
     ensures len { vec_len pages.new ≡ vec_len pages.old }
 {
-    change_cell(&mut pages[page], cell, taken);
+    take_on(&mut pages[page as usize], memory, page)
+}
+
+// Makes an allocated cell free, and the first free one of its page.
+#[inline]
+#[tactic(auto, using(crate::proofs::Filling::put))]
+pub(crate) fn put_cell(pages: &mut Vec<Page>, memory: &mut Memory, page: PageNo, cell: u16)
+    requires page { page < vec_len pages.old }
+    requires small { page < MAX_PAGES }
+    requires cell { HasCell (state_at (map shown pages.old.items) page) cell true }
+    requires has { HasPage memory.old page }
+    requires listed { IsListedOn memory.old page (state_at (map shown pages.old.items) page) }
+    ensures states { map shown pages.new.items ≡ slice_set (map shown pages.old.items) page (with_cell (state_at (map shown pages.old.items) page) cell false cell) }
+    ensures memory { memory.new ≡ with_word_at memory.old (object_on page (state_at (map shown pages.old.items) page) cell).base (first_on (state_at (map shown pages.old.items) page)) }
+    ensures changes { ChangesPage memory.old memory.new page }
+    ensures listed { IsListedOn memory.new page (with_cell (state_at (map shown pages.old.items) page) cell false cell) }
+    ensures len { vec_len pages.new ≡ vec_len pages.old }
+{
+    put_on(&mut pages[page as usize], memory, page, cell);
 }

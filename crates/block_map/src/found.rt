@@ -1,4 +1,4 @@
-//! An object of the map.
+//! An object of the map, and one that has come.
 use words::{Kind, PageNo};
 
 /// An allocated object.
@@ -18,4 +18,14 @@ pub struct Found {
 
     /// Its cell of the page; 0 for a large object.
     pub cell: u16,
+}
+
+/// An object that a cell was taken for.
+#[derive(Clone, Copy)]
+pub struct Taken {
+    /// The object.
+    pub object: Found,
+
+    /// Whether its cell was the last free one of its page.
+    pub was_last: bool,
 }

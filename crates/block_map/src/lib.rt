@@ -10,5 +10,5 @@ mod map;
 mod page;
 mod walk;
 
-pub use found::Found;
+pub use found::{Found, Taken};
 pub use map::BlockMap;

@@ -1,18 +1,22 @@
 //! The map of a heap, seen as the list of what stands on its pages, and through `found_in` as a function from every
 //! word to the object that it reads.
-ghost use Rattle.std.specs.Prelude.{◌≡◌, ℕ, ◌+◌, ◌<◌, ◌≤◌, true, false, length, map, slice_set};
+ghost use Rattle.std.specs.Prelude.{◌≡◌, ℕ, ◌+◌, ◌<◌, ◌≤◌, true, false, length, map, slice_set, IfNone, IfSome, MatchBool};
 ghost use Rattle.words.specs.declared.limits.TheConstants.{MAX_PAGES};
 ghost use Rattle.pages.specs.Opening.{IsOpened};
 ghost use Rattle.words.specs.Layout.{page_start};
-ghost use Rattle.block_map.specs.States.{free, state_at, all_free, large_states, with_cell, span_of, HasCell, AreAllFree, IsSpanSet};
+ghost use Rattle.pages.specs.Memory.{with_word_at};
+ghost use Rattle.blocks.specs.Lists.{ChangesPage};
+ghost use Rattle.block_map.specs.States.{free, state_at, all_free, large_states, with_cell, span_of, HasCell, IsCut, AreAllFree, IsSpanSet};
+ghost use Rattle.block_map.specs.Listed.{first_object, first_on, with_taken, AreListed, HasFirst, IsFullOn};
 ghost use Rattle.block_map.specs.Objects.{object_on, large_object};
 ghost use Rattle.block_map.specs.FoundIn.{found_in, IsLawful};
 ghost use Rattle.block_map.specs.Changes.{IsSameMap, IsAdded, IsRemoved, IsCleared, IsUncut};
 
-use crate::fills::{fill_free, fill_large, free_pages, put_page, set_cell};
+use crate::fills::{fill_free, fill_large, free_pages, put_cell, put_page, take_cell};
+use crate::found::Taken;
 use crate::page::Page;
 use blocks::Block;
-use pages::is_page_count;
+use pages::{Memory, is_page_count};
 use std::alloc::Global;
 use std::marker::Model;
 use words::{Class, Kind, OpenError, PageNo};
@@ -65,19 +69,21 @@ impl BlockMap {
         self.pages.len() as u32
     }
 
-    /// Cuts a free page into cells of a class. No word reads another object than before.
+    /// Cuts a free page into cells of a class, and makes them a list. No word reads another object than before.
     #[tactic(auto, using(crate::proofs::Laid::laid, crate::proofs::Changing::changing))]
-    pub fn cut(&mut self, page: PageNo, class: Class, kind: Kind)
+    pub fn cut(&mut self, memory: &mut Memory, page: PageNo, class: Class, kind: Kind)
         requires inside { page < length self.old }
         requires free { state_at self.old page ≡ free }
+        requires listed { AreListed memory.old self.old }
         ensures states { self.new ≡ slice_set self.old page (all_free class kind) }
         ensures same { IsSameMap (found_in self.old) (found_in self.new) }
+        ensures memory { ChangesPage memory.old memory.new page }
+        ensures listed { AreListed memory.new self.new }
     {
-        put_page(
-            &mut self.pages,
-            page as usize,
-            Page::Cut(Block::new(class, kind)),
-        );
+        // Its clauses tell that there are few pages.
+        let _pages = self.len();
+        let block = Block::new(memory, page, class, kind);
+        put_page(&mut self.pages, page as usize, Page::Cut(block));
     }
 
     /// Makes free pages one large object, which is allocated from then on.
@@ -119,26 +125,38 @@ impl BlockMap {
         }
     }
 
-    /// Allocates a free cell.
+    /// Takes the first free cell of a page that is cut for a new object; the next one is then the first. `None` exactly if
+    /// every cell is allocated, and then nothing changes.
     #[tactic(auto, using(crate::proofs::Laid::laid, crate::proofs::Changing::changing))]
-    pub fn take(&mut self, page: PageNo, cell: u16)
+    pub fn take(&mut self, memory: &Memory, page: PageNo) -> Option<Taken>
         requires inside { page < length self.old }
-        requires cell { HasCell (state_at self.old page) cell false }
-        ensures states { self.new ≡ slice_set self.old page (with_cell (state_at self.old page) cell true) }
-        ensures added { IsAdded (found_in self.old) (found_in self.new) (object_on page (state_at self.old page) cell) }
+        requires cut { IsCut (state_at self.old page) }
+        requires listed { AreListed memory.now self.old }
+        ensures none { IfNone result (IsFullOn (state_at self.old page)) }
+        ensures same { IfNone result (self.new ≡ self.old) }
+        ensures object { IfSome result (λ t. t.object ≡ first_object page (state_at self.old page)) }
+        ensures free { IfSome result (λ _. HasFirst (state_at self.old page)) }
+        ensures states { IfSome result (λ _. self.new ≡ slice_set self.old page (with_taken memory.now page (state_at self.old page))) }
+        ensures added { IfSome result (λ t. IsAdded (found_in self.old) (found_in self.new) t.object) }
+        ensures last { IfSome result (λ t. MatchBool t.was_last (IsFullOn (state_at self.new page)) (HasFirst (state_at self.new page))) }
+        ensures listed { AreListed memory.now self.new }
     {
-        set_cell(&mut self.pages, page as usize, cell, true);
+        take_cell(&mut self.pages, memory, page)
     }
 
-    /// Makes an allocated cell free.
+    /// Makes an allocated cell free, and the first free one of its page. Its first word gets the number of the one that was
+    /// first, and no other word changes.
     #[tactic(auto, using(crate::proofs::Laid::laid, crate::proofs::Changing::changing))]
-    pub fn put(&mut self, page: PageNo, cell: u16)
+    pub fn put(&mut self, memory: &mut Memory, page: PageNo, cell: u16)
         requires inside { page < length self.old }
         requires cell { HasCell (state_at self.old page) cell true }
-        ensures states { self.new ≡ slice_set self.old page (with_cell (state_at self.old page) cell false) }
+        requires listed { AreListed memory.old self.old }
+        ensures states { self.new ≡ slice_set self.old page (with_cell (state_at self.old page) cell false cell) }
         ensures removed { IsRemoved (found_in self.old) (found_in self.new) (object_on page (state_at self.old page) cell) }
+        ensures memory { memory.new ≡ with_word_at memory.old (object_on page (state_at self.old page) cell).base (first_on (state_at self.old page)) }
+        ensures listed { AreListed memory.new self.new }
     {
-        set_cell(&mut self.pages, page as usize, cell, false);
+        put_cell(&mut self.pages, memory, page, cell);
     }
 
     // What stands on a page.

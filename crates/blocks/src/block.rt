@@ -1,15 +1,20 @@
-//! A page that is cut into cells of one class. Contracts see the class, the kind and the row of its cells, in which
-//! true is an allocated cell.
-ghost use Rattle.std.specs.Prelude.{◌≡◌, ℕ, ◌*◌, ◌/◌, ◌%◌, ◌<◌, true, false, length, replicate, slice_index_or, slice_set, MatchOption, MatchBool};
-ghost use Rattle.words.specs.declared.limits.TheConstants.{PAGE_WORDS, PAGE_BYTES};
-ghost use Rattle.words.specs.Bits.{members, IsFullRow, IsEmptyFrom, IsFirstFrom, IsFirstClear};
+//! A page that is cut into cells of one class. Contracts see the class, the kind, the row of its cells, in which true is
+//! an allocated cell, and the number of its first free cell.
+ghost use Rattle.std.specs.Prelude.{◌≡◌, ℕ, ◌*◌, ◌/◌, ◌%◌, ◌<◌, ◌==◌, true, false, List, length, replicate, slice_index_or, slice_set, MatchOption, MatchBool, IfSome, IfNone};
+ghost use Rattle.words.specs.declared.limits.TheConstants.{PAGE_WORDS, PAGE_BYTES, MAX_PAGES};
+ghost use Rattle.words.specs.Bits.{members, IsFullRow, IsEmptyFrom, IsFirstFrom};
 ghost use Rattle.words.specs.Classes.{IsSizeClass};
+ghost use Rattle.pages.specs.Memory.{with_word_at};
 ghost use Rattle.blocks.specs.Cells.{IsCells, IsInCell, IsLeftOver};
+ghost use Rattle.blocks.specs.Lists.{cell_start, link_of, ChangesPage, HasPage, IsFree, IsListed, IsTaken};
+ghost use Rattle.blocks.specs.declared.list.TheConstants.{LIST_END};
 
+use crate::list::{LIST_END, link_all, start_of};
 use crate::reciprocal::{WHOLE, reciprocal_of};
+use pages::Memory;
 use std::marker::Model;
 use words::limits::{GRANULE_BYTES, PAGE_BYTES};
-use words::{CellRow, Class, Kind};
+use words::{CellRow, Class, Kind, PageNo};
 
 /// A page cut for one class and kind, with the cells that are allocated.
 #[derive(Drop)]
@@ -18,6 +23,7 @@ pub struct Block {
     kind: Kind,
     reciprocal: u32,
     taken: CellRow,
+    first: u16,
 }
 
 impl Model for Block {
@@ -29,23 +35,29 @@ impl Model for Block {
 
     ghost Value = { Cells };
 
-    ghost view = { λ b. record { class = b.class; kind = b.kind; taken = b.taken } };
+    ghost view = { λ b. record { class = b.class; kind = b.kind; taken = b.taken; first = b.first } };
 
     ghost invariant = { λ b. IsSizeClass b.class × (length b.taken ≡ PAGE_WORDS / b.class) × IsReciprocal b.class b.reciprocal };
 }
 
 #[tactic(auto, using(crate::proofs::Places::places))]
 impl Block {
-    /// A page cut for a class and a kind, with all its cells free.
-    pub fn new(class: Class, kind: Kind) -> Block
-        ensures value { result ≡ record { class = class; kind = kind; taken = replicate (PAGE_WORDS / class) false } }
+    /// A page cut for a class and a kind, with all its cells free and in their order.
+    pub fn new(memory: &mut Memory, page: PageNo, class: Class, kind: Kind) -> Block
+        requires page { page < MAX_PAGES }
+        requires has { HasPage memory.old page }
+        ensures value { result ≡ record { class = class; kind = kind; taken = replicate (PAGE_WORDS / class) false; first = 0 } }
         ensures cells { IsCells result }
+        ensures listed { IsListed memory.new page result }
+        ensures memory { ChangesPage memory.old memory.new page }
     {
+        link_all(memory, class, page);
         Block {
             class,
             kind,
             reciprocal: reciprocal_of(class),
             taken: CellRow::new(class.cells()),
+            first: 0,
         }
     }
 
@@ -99,11 +111,13 @@ impl Block {
         self.taken.is_set(cell)
     }
 
-    /// The lowest free cell, and `None` exactly if every cell is allocated.
-    pub fn free_cell(&self) -> Option<u16>
-        ensures { MatchOption result (IsFullRow self.now.taken) (λ i. IsFirstClear self.now.taken i) }
+    /// Whether every cell is allocated.
+    #[inline]
+    pub fn is_full(&self) -> bool
+        ensures first { result ≡ (self.now.first == LIST_END) }
+        ensures full { (words : List ℕ) (page : ℕ) → IsListed words page self.now → MatchBool result (IsFullRow self.now.taken) (IsFree self.now.taken self.now.first) }
     {
-        self.taken.first_clear()
+        self.first == LIST_END
     }
 
     /// The lowest allocated cell from a cell on.
@@ -113,20 +127,40 @@ impl Block {
         self.taken.next(from)
     }
 
-    /// Allocates a cell.
-    pub fn set(&mut self, cell: u16)
-        requires { cell < length self.old.taken }
-        ensures { self.new ≡ record self.old { taken = slice_set self.old.taken cell true } }
+    /// Allocates the first free cell; the next one is then the first. `None` exactly if every cell is allocated.
+    #[inline]
+    pub fn take(&mut self, memory: &Memory, page: PageNo) -> Option<u16>
+        requires page { page < MAX_PAGES }
+        requires has { HasPage memory.now page }
+        requires listed { IsListed memory.now page self.old }
+        ensures none { IfNone result (IsFullRow self.old.taken × (self.new ≡ self.old)) }
+        ensures some { IfSome result (λ i. (i ≡ self.old.first) × IsFree self.old.taken i × (self.new ≡ record self.old { taken = slice_set self.old.taken i true; first = link_of memory.now page self.old.class i })) }
+        ensures listed { IsListed memory.now page self.new }
     {
+        let cell = self.first;
+        if cell == LIST_END {
+            return None;
+        }
+        self.first = memory.read(start_of(self.class, page, cell)) as u16;
         self.taken.set(cell);
+        Some(cell)
     }
 
-    /// Makes a cell free.
-    pub fn clear(&mut self, cell: u16)
-        requires { cell < length self.old.taken }
-        ensures { self.new ≡ record self.old { taken = slice_set self.old.taken cell false } }
+    /// Makes an allocated cell free, and the first of the free ones. Its first word gets the number of the one that was first.
+    #[inline]
+    pub fn put(&mut self, memory: &mut Memory, page: PageNo, cell: u16)
+        requires page { page < MAX_PAGES }
+        requires has { HasPage memory.old page }
+        requires listed { IsListed memory.old page self.old }
+        requires taken { IsTaken self.old.taken cell }
+        ensures block { self.new ≡ record self.old { taken = slice_set self.old.taken cell false; first = cell } }
+        ensures memory { memory.new ≡ with_word_at memory.old (cell_start page self.old.class cell) self.old.first }
+        ensures changes { ChangesPage memory.old memory.new page }
+        ensures listed { IsListed memory.new page self.new }
     {
+        memory.write(start_of(self.class, page, cell), u64::from(self.first));
         self.taken.clear(cell);
+        self.first = cell;
     }
 
     /// How many cells are allocated.

@@ -1,10 +1,13 @@
-//! Pages that are cut into cells, and the heads of large objects. A block knows where its cells lie in a page and which
-//! of them are allocated; it knows neither its own page nor any word of the heap.
+//! Pages that are cut into cells, and the heads of large objects. A block knows where its cells lie in a page, which of
+//! them are allocated, and where the list of its free cells begins; each call that takes or gives back a cell is told its
+//! page, and lent the memory in which the list stands. Of the memory only the first words of free cells are touched.
 #![tactic(auto)]
 
 mod block;
 mod large;
+mod list;
 mod reciprocal;
 
 pub use block::Block;
 pub use large::LargeHead;
+pub use list::LIST_END;

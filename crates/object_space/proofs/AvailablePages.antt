@@ -3,13 +3,15 @@ use Rattle.std.proofs.Common.{◌≡◌, ℕ, ◌+◌, ◌<◌, ◌≤◌, ◌�
 use Rattle.std.specs.Prelude.{◌≢◌, ◌==◌, ◌/◌, if◌then◌else◌}
 use Rattle.std.proofs.lemmas.Bool.{cases_eq, cases_lt, true≢false}
 use Rattle.std.proofs.lemmas.List.{get_or-replicate, length-replicate}
-use Rattle.words.specs.Bits.{IsEmptyFrom, IsFirstFrom, IsFirstClear, IsFullRow}
+use Rattle.words.specs.Bits.{IsEmptyFrom, IsFirstFrom, IsFullRow}
 use Rattle.words.specs.declared.class.Kind.{Kind}
 use Rattle.words.specs.declared.class.Kind.TheVariants.{Normal, PointerFree}
 use Rattle.words.specs.Classes.{IsSizeClass}
 use Rattle.blocks.specs.Cells.{Cells}
 use Rattle.blocks.proofs.Places.{class_bounds}
 use Rattle.block_map.specs.States.{PageState, free, cut, head, body, state_at, HasCell, AreAllFree, IsSpanSet, IsCut, all_free, with_cell, span_of, large_states, LaidAt, IsLaid}
+use Rattle.block_map.specs.Listed.{HasFirst, IsFullOn}
+use Rattle.block_map.proofs.Seen.{within}
 use Rattle.block_map.proofs.Spans.{place_of}
 use Rattle.object_space.specs.AvailableRows.{row_of, HasFreeCell, IsAvailable, IsExact, AreClear, IsBitSet}
 use Rattle.object_space.specs.Rooms.{IsFreeCell, HasNoFreeCell}
@@ -99,7 +101,7 @@ exact_clear rows states pages clear all = record {
 }
 
 -- the search of a free cell
-free_cell_offers : (states : List PageState) (class : ℕ) (kind : Kind) (page cell : ℕ) → IsFreeCell states class kind page cell → IsAvailable (state_at states page) class kind
+pub free_cell_offers : (states : List PageState) (class : ℕ) (kind : Kind) (page cell : ℕ) → IsFreeCell states class kind page cell → IsAvailable (state_at states page) class kind
 free_cell_offers states class kind page cell at =
     subst (λ st. IsAvailable st class kind) (sym at.is_cut) (record { of_class = at.of_class; of_kind = at.of_kind; cell = cell; in_row = at.in_row; is_free = at.is_free })
 
@@ -120,23 +122,47 @@ available_cut (cut b) class kind is = tt
 available_cut (head n k) class kind is = absurd is
 available_cut (body q) class kind is = absurd is
 
-pub available_not_full : (b : Cells) (class : ℕ) (kind : Kind) → HasFreeCell b class kind → IsFullRow b.taken → ⊥
-available_not_full b class kind has full = true≢false (sym (full has.cell has.in_row) ∙ has.is_free)
+pub available_inside : (states : List PageState) (class : ℕ) (kind : Kind) (page : ℕ) → IsAvailable (state_at states page) class kind → page < length states
+available_inside states class kind page has = within states page (λ (none : state_at states page ≡ free). subst (λ st. IsAvailable st class kind) none has)
 
-pub available_cell : (states : List PageState) (class : ℕ) (kind : Kind) (page cell : ℕ) (b : Cells) → page < length states → state_at states page ≡ cut b → IsAvailable (state_at states page) class kind → IsFirstClear b.taken cell
-    → IsFreeCell states class kind page cell
-available_cell states class kind page cell b inside is has first =
-    let own : HasFreeCell b class kind = subst (λ st. IsAvailable st class kind) is has in
-    record { block = b; inside = inside; is_cut = is; of_class = own.of_class; of_kind = own.of_kind; in_row = first.inside; is_free = first.clear }
+-- a row with a free cell is not full
+row_not_full : (b : Cells) (class : ℕ) (kind : Kind) → HasFreeCell b class kind → IsFullRow b.taken → ⊥
+row_not_full b class kind has full = true≢false (sym (full has.cell has.in_row) ∙ has.is_free)
+
+pub available_not_full : (st : PageState) (class : ℕ) (kind : Kind) → IsAvailable st class kind → IsFullOn st → ⊥
+available_not_full free class kind has full = has
+available_not_full (cut b) class kind has full = row_not_full b class kind has full
+available_not_full (head n k) class kind has full = has
+available_not_full (body q) class kind has full = has
+
+-- the class of a page that is cut
+pub available_class : (states : List PageState) (class : ℕ) (kind : Kind) (page : ℕ) → IsLaid states → IsAvailable (state_at states page) class kind → IsSizeClass class
+available_class states class kind page laid has = by (state_at states page) has (laid.each page (available_inside states class kind page has))
+  where
+    by : (st : PageState) → IsAvailable st class kind → LaidAt states page st → IsSizeClass class
+    by free has laid = absurd has
+    by (cut b) has laid = subst IsSizeClass has.of_class laid.class
+    by (head n k) has laid = absurd has
+    by (body q) has laid = absurd has
+
+-- a free cell of a page for the class and the kind
+pub available_cell : (states : List PageState) (class : ℕ) (kind : Kind) (page cell : ℕ) → IsAvailable (state_at states page) class kind → HasCell (state_at states page) cell false → IsFreeCell states class kind page cell
+available_cell states class kind page cell has is_free = by (state_at states page) refl has is_free
+  where
+    by : (st : PageState) → state_at states page ≡ st → IsAvailable st class kind → HasCell st cell false → IsFreeCell states class kind page cell
+    by free is has at = absurd has
+    by (cut b) is has at = record { block = b; inside = available_inside states class kind page (subst (λ st. IsAvailable st class kind) (sym is) has); is_cut = is; of_class = has.of_class; of_kind = has.of_kind; in_row = at.0; is_free = at.1 }
+    by (head n k) is has at = absurd has
+    by (body q) is has at = absurd has
 
 -- a cell is taken
-module _ (rows rows' : List (List Bool)) (states states' : List PageState) (class : ℕ) (kind : Kind) (page cell : ℕ) (exact : IsExact rows states) (is_class : IsSizeClass class)
-    (at : IsFreeCell states class kind page cell) (became : states' ≡ set states page (with_cell (state_at states page) cell true)) where
+module _ (rows rows' : List (List Bool)) (states states' : List PageState) (class : ℕ) (kind : Kind) (page cell next : ℕ) (exact : IsExact rows states) (is_class : IsSizeClass class)
+    (at : IsFreeCell states class kind page cell) (became : states' ≡ set states page (with_cell (state_at states page) cell true next)) where
   abbrev pub filled : Cells
-  filled = record at.block { taken = set at.block.taken cell true }
+  filled = record at.block { taken = set at.block.taken cell true; first = next }
 
   pub taken_state : state_at states' page ≡ cut filled
-  taken_state = ap (λ x. state_at x page) became ∙ get_or-set_same states page _ free at.inside ∙ ap (λ st. with_cell st cell true) at.is_cut
+  taken_state = ap (λ x. state_at x page) became ∙ get_or-set_same states page _ free at.inside ∙ ap (λ st. with_cell st cell true next) at.is_cut
 
   pub taken_size : length states' ≡ length states
   taken_size = ap length became ∙ length-set states page _
@@ -153,23 +179,20 @@ module _ (rows rows' : List (List Bool)) (states states' : List PageState) (clas
   pub taken_inside : page < length (row_of rows class kind)
   taken_inside = let long = exact.long class kind is_class in let inside = at.inside in omega arith
 
-  named : (b : Cells) → b.class ≡ at.block.class → b.kind ≡ at.block.kind → (HasFreeCell b b.class b.kind → HasFreeCell b class kind) × (HasFreeCell b class kind → HasFreeCell b b.class b.kind)
-  named b c k = (
-    λ has. record { of_class = c ∙ at.of_class; of_kind = k ∙ at.of_kind; cell = has.cell; in_row = has.in_row; is_free = has.is_free },
-    λ has. record { of_class = refl; of_kind = refl; cell = has.cell; in_row = has.in_row; is_free = has.is_free },
-  )
-
-  pub exact_filled : IsBitSet rows rows' class kind page false → ((b : Cells) → state_at states' page ≡ cut b → HasFreeCell b b.class b.kind → ⊥) → IsExact rows' states'
+  pub exact_filled : IsBitSet rows rows' class kind page false → IsFullOn (state_at states' page) → IsExact rows' states'
   exact_filled bit_is full = exact_changed rows rows' states states' class kind page false exact bit_is taken_size taken_other opens_before opens_after
       (λ e. absurd (true≢false (sym e)))
-      (λ has. absurd (full filled taken_state ((named filled refl refl).1 (subst (λ st. IsAvailable st class kind) taken_state has))))
+      (λ has. absurd (available_not_full (state_at states' page) class kind has full))
 
-  pub exact_taken : ((b : Cells) → state_at states' page ≡ cut b → HasFreeCell b b.class b.kind) → IsExact rows states'
+  pub exact_taken : HasFirst (state_at states' page) → IsExact rows states'
   exact_taken has = exact_changed rows rows states states' class kind page true exact
       (same_bit rows class kind page true (exact.entered class kind page is_class (free_cell_offers states class kind page cell at)))
       taken_size taken_other opens_before opens_after
-      (λ _. subst (λ st. IsAvailable st class kind) (sym taken_state) ((named filled refl refl).0 (has filled taken_state)))
+      (λ _. subst (λ st. IsAvailable st class kind) (sym taken_state) (first_of (subst HasFirst taken_state has)))
       (λ _. refl)
+    where
+      first_of : HasFirst (cut filled) → HasFreeCell filled class kind
+      first_of first = record { of_class = at.of_class; of_kind = at.of_kind; cell = next; in_row = first.0; is_free = first.1 }
 
 -- a free page is cut
 module _ (rows rows' : List (List Bool)) (states states' : List PageState) (class : ℕ) (kind : Kind) (page : ℕ) (exact : IsExact rows states) (is_class : IsSizeClass class)
@@ -177,7 +200,7 @@ module _ (rows rows' : List (List Bool)) (states states' : List PageState) (clas
   pub cut_inside : page < length (row_of rows class kind)
   cut_inside = let long = exact.long class kind is_class in omega arith
 
-  first_free : HasFreeCell (record { class = class; kind = kind; taken = replicate (512 / class) false }) class kind
+  first_free : HasFreeCell (record { class = class; kind = kind; taken = replicate (512 / class) false; first = 0 }) class kind
   first_free =
       let b = class_bounds class is_class in
       let some : 0 < 512 / class = cell_below class 0 (omega arith) (omega arith) in
@@ -189,13 +212,13 @@ module _ (rows rows' : List (List Bool)) (states states' : List PageState) (clas
       exact_changed rows rows' states states' class kind page true exact bit_is (ap length became ∙ length-set states page _)
       (λ p ne. ap (λ x. state_at x p) became ∙ get_or-set_other states page p _ free ne)
       (subst (λ st. OffersOnly st class kind) (sym was) (free_offers class kind))
-      (subst (λ st. OffersOnly st class kind) (sym now) (cut_offers (record { class = class; kind = kind; taken = replicate (512 / class) false })))
+      (subst (λ st. OffersOnly st class kind) (sym now) (cut_offers (record { class = class; kind = kind; taken = replicate (512 / class) false; first = 0 })))
       (λ _. subst (λ st. IsAvailable st class kind) (sym now) first_free)
       (λ _. refl)
 
 -- a cell is freed
 module _ (rows rows' : List (List Bool)) (states mid : List PageState) (page cell : ℕ) (b : Cells) (exact : IsExact rows states) (inside : page < length states)
-    (at : HasCell (state_at states page) cell true) (became : mid ≡ set states page (with_cell (state_at states page) cell false)) (is : state_at mid page ≡ cut b) (is_class : IsSizeClass b.class) where
+    (at : HasCell (state_at states page) cell true) (became : mid ≡ set states page (with_cell (state_at states page) cell false cell)) (is : state_at mid page ≡ cut b) (is_class : IsSizeClass b.class) where
   -- the block as it was
   abbrev WasCut : Type 0
   WasCut = (a : Cells) × (state_at states page ≡ cut a) × (a.class ≡ b.class) × (a.kind ≡ b.kind) × (cell < length b.taken) × (get_or b.taken cell false ≡ false)
@@ -203,16 +226,16 @@ module _ (rows rows' : List (List Bool)) (states mid : List PageState) (page cel
   was_cut : WasCut
   was_cut = by (state_at states page) refl at (sym is ∙ ap (λ x. state_at x page) became ∙ get_or-set_same states page _ free inside)
     where
-      by : (st : PageState) → state_at states page ≡ st → HasCell st cell true → cut b ≡ with_cell st cell false → WasCut
+      by : (st : PageState) → state_at states page ≡ st → HasCell st cell true → cut b ≡ with_cell st cell false cell → WasCut
       by free e has same = absurd has
-      by (cut a) e has same = of a (record a { taken = set a.taken cell false }) e has refl (one b (record a { taken = set a.taken cell false }) same)
+      by (cut a) e has same = of a (record a { taken = set a.taken cell false; first = cell }) e has refl (one b (record a { taken = set a.taken cell false; first = cell }) same)
         where
           one : (x y : Cells) → cut x ≡ cut y → x ≡ y
           one x y q = cc
 
-          of : (a d : Cells) → state_at states page ≡ cut a → (cell < length a.taken) × (get_or a.taken cell false ≡ true) → d ≡ record a { taken = set a.taken cell false } → b ≡ d → WasCut
+          of : (a d : Cells) → state_at states page ≡ cut a → (cell < length a.taken) × (get_or a.taken cell false ≡ true) → d ≡ record a { taken = set a.taken cell false; first = cell } → b ≡ d → WasCut
           of a d e has q same =
-              let whole : b ≡ record a { taken = set a.taken cell false } = same ∙ q in (
+              let whole : b ≡ record a { taken = set a.taken cell false; first = cell } = same ∙ q in (
                 a,
                 e,
                 sym (ap (λ (x : Cells). x.class) whole),

@@ -1,7 +1,8 @@
 -- A store that opens.
-use Rattle.std.proofs.Common.{◌≡◌, ℕ, ◌≤◌, Some, None, sym, subst}
+use Rattle.std.proofs.Common.{◌≡◌, ℕ, ◌*◌, ◌≤◌, List, length, Some, None, sym, ap, ◌∙◌, subst}
 use Rattle.heap_spec.specs.Heap.{opening}
-use Rattle.block_map.specs.States.{AreAllFree}
+use Rattle.block_map.specs.States.{PageState, AreAllFree}
+use Rattle.block_map.specs.Listed.{AreListed, IsListedOn}
 use Rattle.block_map.specs.Objects.{IsObjectOn}
 use Rattle.block_map.specs.FoundIn.{found_in}
 use Rattle.block_map.specs.declared.found.Found.{Found}
@@ -29,3 +30,10 @@ opens t pages all few keep = record {
   where
     nothing : (f : Found) → found_in t.states f.base ≡ Some f → ⊥
     nothing f is = subst (λ st. IsObjectOn st f) (all.each f.page) ((map_laws t.states (laid_free t.states pages all few)).object f.base f is).on
+
+-- no page is cut, so there is no list
+pub listed_free : (words : List ℕ) (states : List PageState) (pages : ℕ) → AreAllFree states pages → length words ≡ 512 * pages → AreListed words states
+listed_free words states pages all size = record {
+  size = size ∙ ap (λ n. 512 * n) (sym all.size);
+  each = λ page lt. subst (IsListedOn words page) (sym (all.each page)) tt;
+}

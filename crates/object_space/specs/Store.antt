@@ -1,9 +1,9 @@
 -- Where the objects are, and what is true of it.
-use Rattle.std.specs.Prelude.{◌≡◌, ◌≢◌, ℕ, Some, ◌*◌, ◌<◌, true, false, Bool, List, length, slice_index_or}
-use Rattle.words.specs.declared.limits.TheConstants.{PAGE_WORDS}
+use Rattle.std.specs.Prelude.{◌≡◌, ◌≢◌, ℕ, Some, ◌<◌, true, false, Bool, List, length, slice_index_or}
 use Rattle.words.specs.Bits.{Has}
 use Rattle.blocks.specs.Cells.{Cells}
 use Rattle.block_map.specs.States.{PageState, free, cut, state_at, IsCut}
+use Rattle.block_map.specs.Listed.{AreListed}
 use Rattle.block_map.specs.FoundIn.{found_in}
 use Rattle.block_map.specs.declared.found.Found.{Found}
 use Rattle.object_space.specs.AvailableRows.{IsExact}
@@ -30,9 +30,8 @@ pub record Agree (row : List Bool) (states : List PageState) : Type 0 where
 abbrev pub HasObjects : List PageState → Type 0
 HasObjects states = (page : ℕ) (b : Cells) → state_at states page ≡ cut b → (i : ℕ) × (slice_index_or b.taken i false ≡ true)
 
--- What is true of each store.
+-- What is true of the pages of each store.
 pub record IsSound (t : Store) : Type 0 where
-  pub words : length t.words ≡ PAGE_WORDS * length t.states
   pub agree : Agree t.free t.states
   pub used : HasObjects t.states
 
@@ -54,9 +53,10 @@ pub record KeepsPending (page : ℕ) (states states' : List PageState) (row row'
 abbrev pub IsSwept : Store → Type 0
 IsSwept t = (page : ℕ) → Has t.pending page → ⊥
 
--- What is true of the objects of each heap: their store is sound, the rows of pages with a free cell are exact, and the
--- pages that are still to be swept are cut.
+-- What is true of the objects of each heap: their store is sound, the lists of free cells stand in its words, the rows of
+-- pages with a free cell are exact, and the pages that are still to be swept are cut.
 pub record IsKept (t : Store) (rows : List (List Bool)) : Type 0 where
   pub sound : IsSound t
+  pub listed : AreListed t.words t.states
   pub exact : IsExact rows t.states
   pub pending : IsPendingRow t

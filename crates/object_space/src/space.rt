@@ -1,6 +1,6 @@
 //! The objects of a heap: their words, the pages that they lie on, and which pages are free. That the pool and the map
 //! agree on the free pages is kept here, and no other module touches either.
-ghost use Rattle.std.specs.Prelude.{◌≡◌, ◌*◌, Bool, length};
+ghost use Rattle.std.specs.Prelude.{◌≡◌, ◌*◌, Bool, Some, length};
 ghost use Rattle.words.specs.declared.limits.TheConstants.{PAGE_WORDS};
 ghost use Rattle.heap_spec.specs.Heap.{opening};
 ghost use Rattle.pages.specs.Memory.{IsWordAddress, word_at, with_word_at};
@@ -98,12 +98,15 @@ impl ObjectSpace {
         self.memory.read(address)
     }
 
-    /// Writes a word at an address.
+    /// Writes a word at an address of an object.
     #[inline]
     pub fn write(&mut self, address: u64, word: u64)
-        requires { IsWordAddress self.old.words address }
+        requires address { IsWordAddress self.old.words address }
+        requires object { (f : Found) × (found_in self.old.states address ≡ Some f) }
         ensures { self.new ≡ record self.old { words = with_word_at self.old.words address word } }
     {
+        // Its clauses tell what is true of the map.
+        let _pages = self.map.len();
         self.memory.write(address, word);
     }
 }

@@ -1,6 +1,8 @@
-//! The cells of a page, against a plain loop over them.
+//! The cells of a page, against a plain loop over them, and the order in which free ones come.
 use blocks::Block;
-use fixtures::map::small_class;
+use fixtures::{BlockSpace, small_class};
+use pages::Memory;
+use std::alloc::Global;
 use std::process::Abort;
 use std::test::Fail;
 use words::limits::FIRST_ADDRESS;
@@ -28,38 +30,62 @@ fn assert_cells(rt: &impl Abort, block: &Block, words: u16) {
     }
 }
 
+// The cells of a page that is cut for so many words.
+fn cells_of(rt: &impl Abort, alloc: Global, words: u16) -> Result<(), Fail> {
+    let class = small_class(u64::from(words)).ok_or("a class")?;
+    let Ok(mut memory) = Memory::new(alloc, 1) else {
+        return Err("a page".into());
+    };
+    let block = Block::new(&mut memory, 0, class, Kind::Normal);
+    assert!(rt; block.is_empty() && block.kind() == Kind::Normal && block.class().words() == words);
+    assert_cells(rt, &block, words);
+    Ok(())
+}
+
 #[test]
 fn each_byte_has_its_cell(rt: HostRuntime) -> Result<(), Fail> {
     for words in CLASSES {
-        let class = small_class(u64::from(words)).ok_or("a class")?;
-        assert_cells(&rt, &Block::new(class, Kind::Normal), words);
+        cells_of(&rt, rt.alloc(), words)?;
     }
     Ok(())
 }
 
-// A page of 96 words a cell, which has 5 cells.
-fn filled_from_below(rt: &impl Abort, block: &mut Block) {
-    for cell in 0..5 {
-        assert_eq!(rt; block.free_cell(), Some(cell));
-        if cell < block.cells() {
-            block.set(cell);
-        }
+// The free cells of the first page come in this order, and there is no other.
+fn assert_taken(rt: &impl Abort, space: &mut BlockSpace, cells: &[u16]) {
+    for cell in cells {
+        assert_eq!(rt; space.take(0).map(|found| found.cell), Some(*cell));
     }
-    assert_eq!(rt; block.free_cell(), None);
-    if block.cells() == 5 {
-        block.clear(3);
+    assert_eq!(rt; space.take(0), None);
+}
+
+// The allocated cells of the first page from a cell on begin with this one.
+fn assert_next(rt: &impl Abort, space: &BlockSpace, from: u16, wanted: Option<u16>) {
+    let map = space.map();
+    if map.len() > 0 {
+        let next = map.block(0).and_then(|block| block.next_taken(from));
+        assert_eq!(rt; next, wanted);
     }
-    assert_eq!(rt; block.free_cell(), Some(3));
-    assert_eq!(rt; block.next_taken(3), Some(4));
-    assert_eq!(rt; block.next_taken(5), None);
+}
+
+// A page of 96 words a cell, which has 5 cells: they come in their order, and from then on the last one that was put back
+// comes first.
+fn come_and_go(rt: &impl Abort, space: &mut BlockSpace) {
+    assert!(rt; space.cut(0, 96, Kind::PointerFree));
+    assert_taken(rt, space, &[0, 1, 2, 3, 4]);
+    assert!(rt; space.put(0, 3) && space.put(0, 0) && space.put(0, 4) && !space.put(0, 0));
+    assert_next(rt, space, 0, Some(1));
+    assert_next(rt, space, 3, None);
+    assert_taken(rt, space, &[4, 0, 3]);
+    assert!(rt; space.put(0, 1) && space.put(0, 2));
+    assert_eq!(rt; space.take(0).map(|found| found.cell), Some(2));
+    assert!(rt; space.put(0, 4));
+    assert_taken(rt, space, &[4, 1]);
+    assert_next(rt, space, 4, Some(4));
 }
 
 #[test]
-fn fills_from_below(rt: HostRuntime) -> Result<(), Fail> {
-    let mut block = Block::new(small_class(96).ok_or("a class")?, Kind::PointerFree);
-    assert!(rt;
-        block.is_empty() && block.kind() == Kind::PointerFree && block.class().words() == 96
-    );
-    filled_from_below(&rt, &mut block);
+fn the_last_one_put_back_comes_first(rt: HostRuntime) -> Result<(), Fail> {
+    let mut space = BlockSpace::open(rt.alloc(), 1).ok_or("a page")?;
+    come_and_go(&rt, &mut space);
     Ok(())
 }

@@ -1,5 +1,5 @@
 //! Requests, classes, refusals and the numbers of slots: worked values.
-use fixtures::map::small_class;
+use fixtures::small_class;
 use words::{Placement, Refusal, Slot, class_of};
 
 #[test]

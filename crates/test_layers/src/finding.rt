@@ -1,6 +1,6 @@
 //! What words read, against the objects that were put into the map.
 use block_map::{BlockMap, Found};
-use fixtures::map::{cut, cut_large, put, take, uncut};
+use fixtures::BlockSpace;
 use std::alloc::Global;
 use std::process::Abort;
 use std::test::Fail;
@@ -100,32 +100,40 @@ fn assert_walks(rt: &impl Abort, map: &BlockMap, objects: &[Found]) {
     }
 }
 
-// A map, and the objects that were put into it, in the order of their addresses.
+// Blocks, and the objects that were put into them, in the order of their addresses.
 #[derive(Drop)]
 struct Scene {
-    map: BlockMap,
+    space: BlockSpace,
     objects: Vec<Found>,
 }
 
 impl Scene {
     fn open(alloc: Global, pages: u32) -> Result<Scene, Fail> {
         Ok(Scene {
-            map: BlockMap::new(alloc, pages).ok().ok_or("a map")?,
+            space: BlockSpace::open(alloc, pages).ok_or("pages")?,
             objects: Vec::new(alloc),
         })
     }
 
-    // Allocates a cell of a page that is cut for so many words.
-    fn add_small(&mut self, page: PageNo, cell: u16, words: u32, kind: Kind) -> Result<(), Fail> {
-        if !take(&mut self.map, page, cell) {
-            return Err("a free cell".into());
+    // Cuts a page for so many words, and allocates these of its cells alone.
+    fn add_small(
+        &mut self,
+        page: PageNo,
+        words: u32,
+        kind: Kind,
+        cells: &[u16],
+    ) -> Result<(), Fail> {
+        if !cut_with(&mut self.space, page, u64::from(words), kind, cells) {
+            return Err("a free page".into());
         }
-        self.objects.push(small(page, cell, words, kind))?;
+        for cell in cells {
+            self.objects.push(small(page, *cell, words, kind))?;
+        }
         Ok(())
     }
 
     fn add_large(&mut self, first: PageNo, pages: u16, kind: Kind) -> Result<(), Fail> {
-        if !cut_large(&mut self.map, first, u32::from(pages), kind) {
+        if !self.space.cut_large(first, u32::from(pages), kind) {
             return Err("free pages".into());
         }
         self.objects.push(large(first, pages, kind))?;
@@ -133,9 +141,23 @@ impl Scene {
     }
 
     fn assert_found(&self, rt: &impl Abort) {
-        assert_finds(rt, &self.map, self.objects.as_slice());
-        assert_walks(rt, &self.map, self.objects.as_slice());
+        assert_finds(rt, self.space.map(), self.objects.as_slice());
+        assert_walks(rt, self.space.map(), self.objects.as_slice());
     }
+}
+
+// Cuts a page for so many words, and allocates these of its cells alone: all are taken, and the others put back.
+fn cut_with(space: &mut BlockSpace, page: PageNo, words: u64, kind: Kind, cells: &[u16]) -> bool {
+    if !space.cut(page, words, kind) {
+        return false;
+    }
+    space.fill(page);
+    for cell in 0..256 {
+        if !cells.contains(&cell) {
+            space.put(page, cell);
+        }
+    }
+    true
 }
 
 fn assert_rows(rt: &impl Abort, map: &BlockMap, table: &[(u64, Option<Found>)]) {
@@ -144,10 +166,10 @@ fn assert_rows(rt: &impl Abort, map: &BlockMap, table: &[(u64, Option<Found>)]) 
     }
 }
 
-fn table_of_addresses(rt: &impl Abort, map: &mut BlockMap) {
+fn table_of_addresses(rt: &impl Abort, space: &mut BlockSpace) {
     assert_rows(
         rt,
-        map,
+        space.map(),
         &[
             (0, None),
             (268_435_455, None),
@@ -155,7 +177,7 @@ fn table_of_addresses(rt: &impl Abort, map: &mut BlockMap) {
             (u64::MAX, None),
         ],
     );
-    assert!(rt; cut(map, 0, 6, Kind::Normal) && take(map, 0, 84));
+    assert!(rt; cut_with(space, 0, 6, Kind::Normal, &[84]));
     let cell = Some(Found {
         base: 268_439_488,
         len: 6,
@@ -163,7 +185,7 @@ fn table_of_addresses(rt: &impl Abort, map: &mut BlockMap) {
         page: 0,
         cell: 84,
     });
-    assert!(rt; cut_large(map, 1, 2, Kind::PointerFree));
+    assert!(rt; space.cut_large(1, 2, Kind::PointerFree));
     let object = Some(Found {
         base: 268_439_552,
         len: 1_024,
@@ -173,7 +195,7 @@ fn table_of_addresses(rt: &impl Abort, map: &mut BlockMap) {
     });
     assert_rows(
         rt,
-        map,
+        space.map(),
         &[
             (268_439_487, None),
             (268_439_488, cell),
@@ -190,33 +212,16 @@ fn table_of_addresses(rt: &impl Abort, map: &mut BlockMap) {
 
 #[test]
 fn finds_by_the_table(rt: HostRuntime) -> Result<(), Fail> {
-    let mut map = BlockMap::new(rt.alloc(), 4).ok().ok_or("a map")?;
-    table_of_addresses(&rt, &mut map);
+    let mut space = BlockSpace::open(rt.alloc(), 4).ok_or("pages")?;
+    table_of_addresses(&rt, &mut space);
     assert_eq!(rt; granule_of(268_439_552), 256);
     Ok(())
 }
 
 fn small_cells(rt: &impl Abort, scene: &mut Scene) -> Result<(), Fail> {
-    for (page, words, kind) in [
-        (0, 6, Kind::Normal),
-        (1, 1, Kind::PointerFree),
-        (2, 256, Kind::Normal),
-    ] {
-        assert!(rt; cut(&mut scene.map, page, words, kind));
-    }
-    for (page, cell, words, kind) in [
-        (0, 0, 6, Kind::Normal),
-        (0, 1, 6, Kind::Normal),
-        (0, 40, 6, Kind::Normal),
-        (0, 84, 6, Kind::Normal),
-        (1, 0, 2, Kind::PointerFree),
-        (1, 63, 2, Kind::PointerFree),
-        (1, 64, 2, Kind::PointerFree),
-        (1, 255, 2, Kind::PointerFree),
-        (2, 1, 256, Kind::Normal),
-    ] {
-        scene.add_small(page, cell, words, kind)?;
-    }
+    scene.add_small(0, 6, Kind::Normal, &[0, 1, 40, 84])?;
+    scene.add_small(1, 2, Kind::PointerFree, &[0, 63, 64, 255])?;
+    scene.add_small(2, 256, Kind::Normal, &[1])?;
     scene.assert_found(rt);
     Ok(())
 }
@@ -228,17 +233,10 @@ fn finds_in_small_cells(rt: HostRuntime) -> Result<(), Fail> {
 }
 
 fn large_pages(rt: &impl Abort, scene: &mut Scene) -> Result<(), Fail> {
-    assert!(rt;
-        cut(&mut scene.map, 2, 48, Kind::Normal) && cut(&mut scene.map, 39, 96, Kind::PointerFree)
-    );
     scene.add_large(0, 1, Kind::PointerFree)?;
-    for cell in [0, 4, 9] {
-        scene.add_small(2, cell, 48, Kind::Normal)?;
-    }
+    scene.add_small(2, 48, Kind::Normal, &[0, 4, 9])?;
     scene.add_large(3, 32, Kind::Normal)?;
-    for cell in [0, 4] {
-        scene.add_small(39, cell, 96, Kind::PointerFree)?;
-    }
+    scene.add_small(39, 96, Kind::PointerFree, &[0, 4])?;
     scene.assert_found(rt);
     Ok(())
 }
@@ -249,16 +247,17 @@ fn finds_on_large_pages(rt: HostRuntime) -> Result<(), Fail> {
     large_pages(&rt, &mut scene)
 }
 
-fn given_back(rt: &impl Abort, map: &mut BlockMap) {
-    assert!(rt; cut_large(map, 1, 3, Kind::Normal) && cut(map, 0, 12, Kind::Normal));
-    assert!(rt; take(map, 0, 7) && take(map, 0, 8) && put(map, 0, 7));
+fn given_back(rt: &impl Abort, space: &mut BlockSpace) {
+    assert!(rt; space.cut_large(1, 3, Kind::Normal));
+    assert!(rt; cut_with(space, 0, 12, Kind::Normal, &[7, 8]) && space.put(0, 7));
     let kept = small(0, 8, 12, Kind::Normal);
-    assert_finds(rt, map, &[kept, large(1, 3, Kind::Normal)]);
-    assert!(rt; !uncut(map, 2) && uncut(map, 1));
-    assert_finds(rt, map, &[kept]);
-    assert_walks(rt, map, &[kept]);
-    assert!(rt; put(map, 0, 8) && uncut(map, 0) && !uncut(map, 0));
-    assert_finds(rt, map, &[]);
+    assert_finds(rt, space.map(), &[kept, large(1, 3, Kind::Normal)]);
+    assert!(rt; !space.uncut(2) && space.uncut(1));
+    assert_finds(rt, space.map(), &[kept]);
+    assert_walks(rt, space.map(), &[kept]);
+    assert!(rt; space.put(0, 8) && space.uncut(0) && !space.uncut(0));
+    assert_finds(rt, space.map(), &[]);
+    let map = space.map();
     for page in 0..map.len() {
         assert!(rt; map.is_free(page));
     }
@@ -266,7 +265,7 @@ fn given_back(rt: &impl Abort, map: &mut BlockMap) {
 
 #[test]
 fn forgets_what_is_given_back(rt: HostRuntime) -> Result<(), Fail> {
-    let mut map = BlockMap::new(rt.alloc(), 5).ok().ok_or("a map")?;
-    given_back(&rt, &mut map);
+    let mut space = BlockSpace::open(rt.alloc(), 5).ok_or("pages")?;
+    given_back(&rt, &mut space);
     Ok(())
 }

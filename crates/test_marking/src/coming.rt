@@ -1,11 +1,11 @@
 //! What the collector owes to an object that comes while it marks.
-ghost use Rattle.std.specs.Prelude.{◌≡◌, ℕ, ◌*◌, ◌<◌, ◌≤◌, true, Option, Some, length};
-ghost use Rattle.words.specs.declared.limits.TheConstants.{PAGE_WORDS, MAX_PAGES};
+ghost use Rattle.std.specs.Prelude.{◌≡◌, ℕ, ◌<◌, ◌≤◌, Option, Some, length};
+ghost use Rattle.words.specs.declared.limits.TheConstants.{MAX_PAGES};
 ghost use Rattle.block_map.specs.declared.found.Found.{Found};
 ghost use Rattle.block_map.specs.Changes.{IsAdded};
 ghost use Rattle.block_map.specs.Objects.{cell_object, large_object};
 ghost use Rattle.block_map.specs.FoundIn.{found_in};
-ghost use Rattle.fixtures.specs.Spans.{IsFreeSpan};
+ghost use Rattle.block_map.specs.Listed.{AreListed};
 ghost use Rattle.marker.specs.Invariant.{DirtyPageInvariant};
 
 use block_map::{BlockMap, Found};
@@ -52,29 +52,14 @@ pub(crate) fn large_at(page: PageNo, pages: u32, kind: Kind) -> Found
     }
 }
 
-/// Whether the pages from `first` on and below `end` are free.
-#[tactic(auto, using(fixtures::proofs::Spans::spans))]
-pub(crate) fn are_free(map: &BlockMap, first: PageNo, end: PageNo) -> bool
-    requires first { first ≤ end }
-    requires end { end ≤ length map.now }
-    ensures { result ≡ true → IsFreeSpan map.now first end }
-{
-    for page in first..end {
-        if !map.is_free(page) {
-            return false;
-        }
-    }
-    true
-}
-
 /// Writes 0 into the words of an object that has come into the map, and marks it.
 pub(crate) fn receive(map: &BlockMap, memory: &mut Memory, marker: &mut Marker, found: Found)
     requires object { found_in map.now found.base ≡ Some found }
     requires pages { length marker.old.dirty ≡ length map.now }
-    requires memory { length memory.old ≡ PAGE_WORDS * length map.now }
+    requires listed { AreListed memory.old map.now }
     ensures keeps { (before : ℕ → Option Found) → IsAdded before (found_in map.now) found → DirtyPageInvariant before memory.old marker.old → DirtyPageInvariant (found_in map.now) memory.new marker.new }
     ensures pages { length marker.new.dirty ≡ length map.now }
-    ensures memory { length memory.new ≡ PAGE_WORDS * length map.now }
+    ensures listed { AreListed memory.new map.now }
 {
     // The laws of the map and of the marker say that the object's words are the memory's, and that it has a mark.
     let _ = map.len();

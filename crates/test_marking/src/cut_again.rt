@@ -74,7 +74,7 @@ fn is_read_on(
     begin(rt, scene, read)?;
     let kept = scene.object(2)?;
     cut_again(rt, scene, words, kind)?;
-    let new = scene.allocate(0, 0)?;
+    let new = scene.allocate(0)?;
     scene.store(rt, new, 1, kept.base)?;
     let marked = scene.heap.step(1_000);
     assert!(rt;

@@ -1,8 +1,8 @@
 //! A heap under a marker. Each call looks first whether its conditions hold, and answers whether they did.
-use crate::coming::{are_free, large_at, object_in, receive};
+use crate::coming::{large_at, object_in, receive};
 use block_map::{BlockMap, Found};
 use final_pause::{Gate, Helpers, close_marks, close_marks_with};
-use fixtures::map::small_class;
+use fixtures::{are_free, small_class};
 use marker::{Marked, Marker};
 use pages::{Memory, Reader};
 use std::alloc::Global;
@@ -33,6 +33,7 @@ impl Model for Heap {
 
 impl Heap {
     /// So many pages with no object. `None` where there is no memory, or out of range.
+    #[tactic(auto, using(fixtures::proofs::Lists::lists))]
     pub(crate) fn open(alloc: Global, pages: u32) -> Option<Heap> {
         let Ok(map) = BlockMap::new(alloc, pages) else {
             return None;
@@ -55,32 +56,33 @@ impl Heap {
         let Some(class) = small_class(words) else {
             return false;
         };
-        if page >= self.map.len() || !self.map.is_free(page) {
+        if page >= self.map.len() {
             return false;
         }
-        self.map.cut(page, class, kind);
+        if !self.map.is_free(page) {
+            return false;
+        }
+        self.map.cut(&mut self.memory, page, class, kind);
         true
     }
 
-    /// Allocates a free cell: its words become 0.
-    #[tactic(auto, using(block_map::proofs::Seen::has_cell))]
-    pub(crate) fn allocate(&mut self, page: PageNo, cell: u16) -> Option<Found> {
+    /// Allocates the first free cell of a block: its words become 0.
+    pub(crate) fn allocate(&mut self, page: PageNo) -> Option<Found> {
         if page >= self.map.len() {
             return None;
         }
-        let Some(block) = self.map.block(page) else {
+        let Some(_) = self.map.block(page) else {
             return None;
         };
-        if cell >= block.cells() || block.is_taken(cell) {
+        let Some(taken) = self.map.take(&self.memory, page) else {
             return None;
-        }
-        let found = object_in(page, block, cell);
-        self.map.take(page, cell);
-        receive(&self.map, &mut self.memory, &mut self.marker, found);
-        Some(found)
+        };
+        receive(&self.map, &mut self.memory, &mut self.marker, taken.object);
+        Some(taken.object)
     }
 
     /// Makes free pages one large object, whose words become 0.
+    #[tactic(auto, using(fixtures::proofs::Lists::lists))]
     pub(crate) fn allocate_large(
         &mut self,
         first: PageNo,
@@ -114,7 +116,7 @@ impl Heap {
             return false;
         }
         let found = object_in(page, block, cell);
-        self.map.put(page, cell);
+        self.map.put(&mut self.memory, page, cell);
         self.marker.freed(found.base);
         true
     }
@@ -128,14 +130,17 @@ impl Heap {
         true
     }
 
-    /// Writes a word of the heap.
+    /// Writes a word of an object.
+    #[tactic(auto, using(fixtures::proofs::Lists::lists))]
     pub(crate) fn store(&mut self, address: u64, word: u64) -> bool {
-        if address < FIRST_ADDRESS || address % WORD_BYTES != 0 {
+        if address % WORD_BYTES != 0 {
             return false;
         }
-        if (address - FIRST_ADDRESS) / PAGE_BYTES >= u64::from(self.map.len()) {
+        // Its clauses tell what is true of the map.
+        let _pages = self.map.len();
+        let Some(_) = self.map.find(address) else {
             return false;
-        }
+        };
         self.memory.write(address, word);
         self.marker.written(address);
         true

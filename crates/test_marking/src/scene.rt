@@ -29,9 +29,9 @@ impl Scene {
         Ok(Scene { alloc, heap, graph })
     }
 
-    /// Allocates a cell.
-    pub(crate) fn allocate(&mut self, page: PageNo, cell: u16) -> Result<Found, Fail> {
-        let found = self.heap.allocate(page, cell).ok_or("a free cell")?;
+    /// Allocates the first free cell of a page that is cut.
+    pub(crate) fn allocate(&mut self, page: PageNo) -> Result<Found, Fail> {
+        let found = self.heap.allocate(page).ok_or("a free cell")?;
         self.graph.add(found)?;
         Ok(found)
     }
@@ -46,8 +46,8 @@ impl Scene {
         cells: u16,
     ) -> Result<(), Fail> {
         assert!(rt; self.heap.cut(page, words, kind), "page {page} is free");
-        for cell in 0..cells {
-            let _ = self.allocate(page, cell)?;
+        for _ in 0..cells {
+            let _ = self.allocate(page)?;
         }
         Ok(())
     }

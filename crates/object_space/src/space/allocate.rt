@@ -1,15 +1,14 @@
 //! Where a new object goes: into a cell of a page that is cut for its class and kind, onto a page that is cut for it now,
 //! or onto pages of its own.
-ghost use Rattle.std.specs.Prelude.{◌≡◌, ℕ, ◌*◌, ◌<◌, ◌⊎◌, false, IfNone, IfSome, MatchBool, MatchOption, length};
-ghost use Rattle.words.specs.declared.limits.TheConstants.{PAGE_WORDS};
+ghost use Rattle.std.specs.Prelude.{◌≡◌, ℕ, ◌<◌, ◌⊎◌, false, IfNone, IfSome, MatchOption, length};
 ghost use Rattle.words.specs.Bits.{Has};
 ghost use Rattle.words.specs.Classes.{IsSizeClass};
 ghost use Rattle.heap_spec.specs.Layout.{page_start};
 ghost use Rattle.pages.specs.Runs.{HasNoFreeRun};
-ghost use Rattle.blocks.specs.Cells.{Cells};
-ghost use Rattle.block_map.specs.States.{cut, state_at, IsCut, IsLaid};
+ghost use Rattle.block_map.specs.States.{state_at};
+ghost use Rattle.block_map.specs.Listed.{first_on, AreListed};
 ghost use Rattle.object_space.specs.Store.{Agree};
-ghost use Rattle.object_space.specs.AvailableRows.{HasFreeCell, IsBlockFor, IsExact, IsAvailable};
+ghost use Rattle.object_space.specs.AvailableRows.{IsBlockFor, IsExact, IsAvailable};
 ghost use Rattle.object_space.specs.Rooms.{IsRequest, IsFreeCell, HasNoFreeCell, TakesCell, CutsPage, HasRoomAt, HasNoRoom};
 ghost use Rattle.object_space.specs.Sweeps.{Allocates, FindsNoPlace, FindsNoRoom, Gains, Sweeps};
 
@@ -18,15 +17,8 @@ use super::available_pages::AvailablePages;
 use block_map::BlockMap;
 use marker::Marker;
 use pages::{Memory, PagePool};
-use words::limits::{FIRST_ADDRESS, PAGE_BYTES, PAGE_WORDS, PageNo, WORD_BYTES};
+use words::limits::{FIRST_ADDRESS, PAGE_BYTES, PAGE_WORDS, PageNo};
 use words::{Class, Kind, Placement};
-
-// A cell of a page.
-#[derive(Clone, Copy)]
-struct Place {
-    page: PageNo,
-    cell: u16,
-}
 
 // The address of a page's first byte.
 pub(crate) fn start_of(page: PageNo) -> u64
@@ -37,16 +29,19 @@ pub(crate) fn start_of(page: PageNo) -> u64
 
 // Takes a free page, and cuts it.
 fn cut_page(
+    memory: &mut Memory,
     pool: &mut PagePool,
     map: &mut BlockMap,
     available: &mut AvailablePages,
     class: Class,
     kind: Kind,
-) -> Option<Place>
+) -> Option<PageNo>
     requires agree { Agree pool.old map.old }
+    requires listed { AreListed memory.old map.old }
     requires exact { IsExact available.old map.old }
-    ensures some { IfSome result (λ place. (place.cell ≡ 0) × CutsPage pool.old pool.new map.old map.new class kind place.page) }
-    ensures none { IfNone result (HasNoFreeRun pool.old 1 × (pool.new ≡ pool.old) × (map.new ≡ map.old)) }
+    ensures some { IfSome result (λ page. CutsPage memory.old memory.new pool.old pool.new map.old map.new class kind page) }
+    ensures none { IfNone result (HasNoFreeRun pool.old 1 × (memory.new ≡ memory.old) × (pool.new ≡ pool.old) × (map.new ≡ map.old)) }
+    ensures listed { AreListed memory.new map.new }
     ensures exact { IsExact available.new map.new }
     ensures class { IsSizeClass class }
 {
@@ -55,47 +50,38 @@ fn cut_page(
     let Some(page) = pool.take_run(1) else {
         return None;
     };
-    map.cut(page, class, kind);
+    map.cut(memory, page, class, kind);
     available.enter(class, kind, page);
-    Some(Place { page, cell: 0 })
+    Some(page)
 }
 
-// Whether all cells of a page that is cut are allocated.
-fn is_full(map: &BlockMap, page: PageNo) -> bool
-    requires inside { page < length map.now }
-    requires cut { IsCut (state_at map.now page) }
-    ensures { (b : Cells) → state_at map.now page ≡ cut b → MatchBool result (HasFreeCell b b.class b.kind → ⊥) (HasFreeCell b b.class b.kind) }
-{
-    let Some(block) = map.block(page) else {
-        unreachable!();
-    };
-    block.free_cell().is_none()
-}
-
-// Takes a free cell, and writes 0 into its words.
+// Takes the first free cell of a page that has one, and writes 0 into its words.
 fn take_cell(
     memory: &mut Memory,
     map: &mut BlockMap,
     available: &mut AvailablePages,
-    place: Place,
+    page: PageNo,
     class: Class,
     kind: Kind,
 ) -> u64
-    requires cell { IsFreeCell map.old class kind place.page place.cell }
-    requires long { length memory.old ≡ PAGE_WORDS * length map.old }
-    requires laid { IsLaid map.old }
+    requires cell { IsAvailable (state_at map.old page) class kind }
+    requires listed { AreListed memory.old map.old }
     requires exact { IsExact available.old map.old }
-    ensures takes { TakesCell memory.old memory.new map.old map.new place.page place.cell result }
+    ensures cell { IsFreeCell map.old class kind page (first_on (state_at map.old page)) }
+    ensures takes { TakesCell memory.old memory.new map.old map.new page (first_on (state_at map.old page)) result }
+    ensures listed { AreListed memory.new map.new }
     ensures exact { IsExact available.new map.new }
 {
-    let words = class.words();
-    let base = start_of(place.page) + u64::from(place.cell) * (WORD_BYTES * u64::from(words));
-    map.take(place.page, place.cell);
-    memory.zero(base, u32::from(words));
-    if is_full(map, place.page) {
-        available.leave(class, kind, place.page);
+    // Its clauses tell what is true of the map.
+    let _pages = map.len();
+    let Some(taken) = map.take(memory, page) else {
+        unreachable!();
+    };
+    memory.zero(taken.object.base, taken.object.len);
+    if taken.was_last {
+        available.leave(class, kind, page);
     }
-    base
+    taken.object.base
 }
 
 // Whether the page is cut for the class and the kind.
@@ -107,22 +93,6 @@ fn is_cut_for(map: &BlockMap, page: PageNo, class: Class, kind: Kind) -> bool
         return false;
     };
     block.class() == class && block.kind() == kind
-}
-
-// A free cell of a page that has one.
-fn free_cell_of(map: &BlockMap, page: PageNo, class: Class, kind: Kind) -> Place
-    requires inside { page < length map.now }
-    requires open { IsAvailable (state_at map.now page) class kind }
-    ensures page { result.page ≡ page }
-    ensures cell { IsFreeCell map.now class kind page result.cell }
-{
-    let Some(block) = map.block(page) else {
-        unreachable!();
-    };
-    let Some(cell) = block.free_cell() else {
-        unreachable!();
-    };
-    Place { page, cell }
 }
 
 impl ObjectSpace {
@@ -157,29 +127,29 @@ impl ObjectSpace {
         Some(page as PageNo)
     }
 
-    // A free cell for the class and the kind on a page that is not to be swept any more. Pages for them that are still to be
-    // swept are swept first, one by one.
-    fn swept_cell(&mut self, marker: &Marker, class: Class, kind: Kind) -> Option<Place>
+    // A page with a free cell for the class and the kind that is not to be swept any more. Pages for them that are still to
+    // be swept are swept first, one by one.
+    fn swept_page(&mut self, marker: &Marker, class: Class, kind: Kind) -> Option<PageNo>
         requires pages { length marker.now.dirty ≡ length self.old.states }
         ensures sweeps { Sweeps self.old marker.now.marks self.new }
-        ensures some { IfSome result (λ place. IsFreeCell self.new.states class kind place.page place.cell × (Has self.new.pending place.page → ⊥)) }
+        ensures some { IfSome result (λ page. IsAvailable (state_at self.new.states page) class kind × (Has self.new.pending page → ⊥)) }
         ensures none { IfNone result (HasNoFreeCell self.new.states class kind) }
     {
         // Its clauses tell what is true of the map.
         let _end = self.end();
         while let Some(page) = self.page_for(class, kind) {
             if !self.pending.is_set(page as usize) {
-                return Some(free_cell_of(&self.map, page, class, kind));
+                return Some(page);
             }
             self.sweep_page(marker, page);
         }
         None
     }
 
-    // Takes a free cell.
-    fn take_cell(&mut self, place: Place, class: Class, kind: Kind) -> u64
-        requires cell { IsFreeCell self.old.states class kind place.page place.cell }
-        requires swept { Has self.old.pending place.page → ⊥ }
+    // Takes the first free cell of a page that has one.
+    fn take_cell(&mut self, page: PageNo, class: Class, kind: Kind) -> u64
+        requires cell { IsAvailable (state_at self.old.states page) class kind }
+        requires swept { Has self.old.pending page → ⊥ }
         ensures room { HasRoomAt self.old (Placement.Small class) kind result }
         ensures gains { Gains self.old (Placement.Small class) kind result self.new }
     {
@@ -189,7 +159,7 @@ impl ObjectSpace {
             &mut self.memory,
             &mut self.map,
             &mut self.available,
-            place,
+            page,
             class,
             kind,
         )
@@ -204,7 +174,8 @@ impl ObjectSpace {
     {
         // Its clauses tell what is true of the map.
         let _pages = self.map.len();
-        let Some(place) = cut_page(
+        let Some(page) = cut_page(
+            &mut self.memory,
             &mut self.pool,
             &mut self.map,
             &mut self.available,
@@ -217,7 +188,7 @@ impl ObjectSpace {
             &mut self.memory,
             &mut self.map,
             &mut self.available,
-            place,
+            page,
             class,
             kind,
         ))
@@ -247,10 +218,10 @@ impl ObjectSpace {
         requires pages { length marker.now.dirty ≡ length self.old.states }
         ensures { MatchOption result (FindsNoPlace self.old marker.now.marks (Placement.Small class) kind self.new) (λ base. Allocates self.old marker.now.marks (Placement.Small class) kind base self.new) }
     {
-        let Some(place) = self.swept_cell(marker, class, kind) else {
+        let Some(page) = self.swept_page(marker, class, kind) else {
             return self.take_page(class, kind);
         };
-        Some(self.take_cell(place, class, kind))
+        Some(self.take_cell(page, class, kind))
     }
 
     // A place for an object: of the pages that are still to be swept, only those that are cut for it are.

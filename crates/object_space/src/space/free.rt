@@ -1,11 +1,13 @@
 //! How an object goes: its cell is free again, and its page too once it has no object; of a large object all pages are.
 ghost use Rattle.std.specs.Prelude.{◌≡◌, ◌+◌, ◌<◌, ◌≤◌, true, Some, length};
 ghost use Rattle.words.specs.declared.class.Kind.{Kind};
+ghost use Rattle.pages.specs.Memory.{with_word_at};
 ghost use Rattle.pages.specs.Runs.{IsFilled};
 ghost use Rattle.block_map.specs.Changes.{IsRemoved};
 ghost use Rattle.block_map.specs.FoundIn.{found_in, IsLawful};
+ghost use Rattle.block_map.specs.Listed.{first_on, AreListed};
 ghost use Rattle.block_map.specs.States.{free, head, state_at, HasCell, IsLaid, IsSpanSet};
-ghost use Rattle.block_map.specs.Objects.{large_object};
+ghost use Rattle.block_map.specs.Objects.{large_object, object_on};
 ghost use Rattle.object_space.specs.AvailableRows.{IsExact};
 ghost use Rattle.object_space.specs.Store.{KeepsPending};
 ghost use Rattle.object_space.specs.Rooms.{FreesCell};
@@ -14,12 +16,13 @@ ghost use Rattle.object_space.specs.Sweeps.{Loses};
 use super::ObjectSpace;
 use super::available_pages::AvailablePages;
 use block_map::{BlockMap, Found};
-use pages::PagePool;
+use pages::{Memory, PagePool};
 use words::limits::PAGE_WORDS;
 use words::{BitRow, PageNo};
 
 // Frees a cell, and its page with the last one.
 fn free_cell(
+    memory: &mut Memory,
     pool: &mut PagePool,
     map: &mut BlockMap,
     available: &mut AvailablePages,
@@ -32,11 +35,14 @@ fn free_cell(
     requires size { length pool.old ≡ length map.old }
     requires exact { IsExact available.old map.old }
     requires row { length pending.old ≡ length map.old }
+    requires listed { AreListed memory.old map.old }
+    ensures memory { memory.new ≡ with_word_at memory.old (object_on page (state_at map.old page) cell).base (first_on (state_at map.old page)) }
+    ensures listed { AreListed memory.new map.new }
     ensures freed { FreesCell pool.old pool.new map.old map.new page cell }
     ensures exact { IsExact available.new map.new }
     ensures pending { KeepsPending page map.old map.new pending.old pending.new }
 {
-    map.put(page, cell);
+    map.put(memory, page, cell);
     let Some(block) = map.block(page) else {
         unreachable!();
     };
@@ -79,6 +85,7 @@ impl ObjectSpace {
         let page = found.page;
         match self.map.block(page) {
             Some(_) => free_cell(
+                &mut self.memory,
                 &mut self.pool,
                 &mut self.map,
                 &mut self.available,

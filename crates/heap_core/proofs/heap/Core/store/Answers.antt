@@ -1,7 +1,9 @@
 use Rattle.std.proofs.Common.{refl, sym, arith}
+use Rattle.block_map.specs.FoundIn.{found_in}
+use Rattle.object_space.specs.Kept.{is_kept}
 use Rattle.heap_core.proofs.Tracing.{traced_write}
 use Rattle.heap_spec.specs.Steps.{Acts}
-use Rattle.object_space.proofs.Kept.{kept_map}
+use Rattle.object_space.proofs.Kept.{kept_cases, kept_map}
 use Rattle.heap_core.proofs.Roots.{refused, refused_vacant}
 use Rattle.heap_view.proofs.Shows.{is_word}
 use Rattle.heap_core.proofs.Lookups.{finds_nothing, stores}
@@ -19,8 +21,15 @@ returns-in_default-find c = rw (← c.self.view_is)
     (refused _ _ _ _ c.in-Some.mutator.now _ _ c.in-Some.ensures.some
     (λ s h. Acts.store_nothing (rw c.address-target.ensures at c.if-target-ne0.false) (finds_nothing _ _ s _ c.in_default-find.ensures.lawful h (rw c.address-target.ensures at (sym c.in_default-find.ensures.found)))))
 
-pub write-requires : goal.write-requires
-write-requires c = is_word _ _ (kept_map _ _ _ c.in-Some-find.ensures.lawful.map) _ c.in-Some-find.ensures.long _ c.in-Some-find.field-0 (sym c.in-Some-find.ensures.found) c.if-target-ne0.false
+pub write-requires-clause-address : goal.write-requires-clause-address
+write-requires-clause-address c = is_word _ _ (kept_map _ _ _ c.in-Some-find.ensures.lawful.map) _ c.in-Some-find.ensures.long _ c.in-Some-find.field-0 (sym c.in-Some-find.ensures.found) c.if-target-ne0.false
+
+pub write-requires-clause-object : goal.write-requires-clause-object
+write-requires-clause-object c = (
+  c.in-Some-find.field-0,
+  (kept_cases (is_kept c.self.inside.objects.pending c.self.inside.marker.marks) (found_in c.self.inside.objects.states) c.address-target.result c.in-Some-find.field-0
+      (sym c.in-Some-find.ensures.found)).0,
+)
 
 pub note_write-requires-clause-inside : goal.note_write-requires-clause-inside
 note_write-requires-clause-inside c =

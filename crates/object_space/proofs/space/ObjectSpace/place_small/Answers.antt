@@ -2,4 +2,4 @@ use Rattle.object_space.proofs.Searching.{finds_place}
 use Rattle.object_space.proofs.space.ObjectSpace.place_small.Goals as goal
 
 pub returns-in_default : goal.returns-in_default
-returns-in_default c = finds_place _ _ _ _ _ _ _ c.swept_cell.ensures.sweeps c.take_page.ensures.some c.take_page.ensures.gains c.take_page.ensures.none
+returns-in_default c = finds_place _ _ _ _ _ _ _ c.swept_page.ensures.sweeps c.take_page.ensures.some c.take_page.ensures.gains c.take_page.ensures.none

@@ -6,19 +6,20 @@ use Rattle.object_space.proofs.space.ObjectSpace.take_cell.Goals as goal
 
 pub invariant_of-self : goal.invariant_of-self
 invariant_of-self c =
-    let cell = rw (← c.self.view_is) at c.requires.cell in
+    let cell = c.take_cell.ensures.cell in
     let swept = rw (← c.self.view_is) at c.requires.swept in
     record {
-      sound = sound_cell _ _ _ c.args.place.page c.args.place.cell _ _ _ c.self.invariant.sound c.len-pages.ensures.laid c.len-pages.ensures.lawful cell c.take_cell.ensures.takes swept;
+      sound = sound_cell _ _ _ c.args.page _ _ _ _ c.self.invariant.sound c.len-pages.ensures.laid c.len-pages.ensures.lawful cell c.take_cell.ensures.takes swept;
+      listed = c.take_cell.ensures.listed;
       pending = pending_cut _ _ c.self.invariant.pending refl (ap length c.take_cell.ensures.takes.became ∙ length-set _ _ _)
-          (λ p is. subst (λ (x : List PageState). IsCut (state_at x p)) (sym c.take_cell.ensures.takes.became) (cut_cell _ c.args.place.page c.args.place.cell true cell.inside p is));
+          (λ p is. subst (λ (x : List PageState). IsCut (state_at x p)) (sym c.take_cell.ensures.takes.became) (cut_cell _ c.args.page _ true _ cell.inside p is));
       exact = c.take_cell.ensures.exact;
     }
 
 pub returns-clause-room : goal.returns-clause-room
 returns-clause-room c = rw (← c.self.view_is)
-    (allocates_cell _ _ _ c.args.place.page c.args.place.cell _ _ _ c.self.invariant.sound c.len-pages.ensures.laid c.len-pages.ensures.lawful (rw (← c.self.view_is) at c.requires.cell) c.take_cell.ensures.takes)
+    (allocates_cell _ _ _ c.args.page _ _ _ _ c.self.invariant.sound c.len-pages.ensures.laid c.len-pages.ensures.lawful c.take_cell.ensures.cell c.take_cell.ensures.takes)
 
 pub returns-clause-gains : goal.returns-clause-gains
 returns-clause-gains c = rw (← c.self.view_is)
-    (gains_cell _ _ _ c.args.place.page c.args.place.cell _ _ _ c.len-pages.ensures.laid c.len-pages.ensures.lawful (rw (← c.self.view_is) at c.requires.cell) c.take_cell.ensures.takes (rw (← c.self.view_is) at c.requires.swept))
+    (gains_cell _ _ _ c.args.page _ _ _ _ c.len-pages.ensures.laid c.len-pages.ensures.lawful c.take_cell.ensures.cell c.take_cell.ensures.takes (rw (← c.self.view_is) at c.requires.swept))

@@ -1,51 +1,54 @@
 use Rattle.std.proofs.Common.{refl, true, sym, ap, ◌∙◌, subst, List, length, length-set, arith}
 use Rattle.block_map.specs.States.{PageState, IsCut, state_at, all_free}
 use Rattle.object_space.specs.Store.{store_of}
-use Rattle.object_space.specs.Rooms.{IsFreeCell, TakesCell}
+use Rattle.object_space.specs.Rooms.{TakesCell}
 use Rattle.object_space.proofs.Pending.{pending_cut, cut_cell, cut_page}
-use Rattle.object_space.proofs.Allocations.{allocates_page, cut_laid, first_cell, gains_page, no_room_small, sound_page}
+use Rattle.object_space.proofs.Allocations.{allocates_page, first_cell, first_is, gains_page, no_room_small, sound_page}
+use Rattle.object_space.proofs.AvailablePages.{free_cell_offers}
 use Rattle.object_space.proofs.space.ObjectSpace.take_page.Goals as goal
 
 pub returns-in_default-clause-none : goal.returns-in_default-clause-none
-returns-in_default-clause-none c = rw (← c.self.view_is) (
-  no_room_small _ _ _ c.self.invariant.sound c.len-pages.ensures.laid c.len-pages.ensures.lawful c.cut_page.ensures.class
-      (rw (← c.self.view_is) at c.requires) c.in_default.ensures.none.0,
-  ap (λ p. store_of c.self.inside.memory p c.cut_page.new.map c.self.inside.pending) c.in_default.ensures.none.1
-      ∙ ap (λ m. store_of c.self.inside.memory c.self.inside.pool m c.self.inside.pending) c.in_default.ensures.none.2,
-)
+returns-in_default-clause-none c =
+    let none = c.in_default.ensures.none in
+    rw (← c.self.view_is) (
+      no_room_small _ _ _ c.self.invariant.sound c.len-pages.ensures.laid c.len-pages.ensures.lawful c.cut_page.ensures.class
+          (rw (← c.self.view_is) at c.requires) none.0,
+      ap (λ w. store_of w c.cut_page.new.pool c.cut_page.new.map c.self.inside.pending) none.1
+          ∙ ap (λ p. store_of c.self.inside.memory p c.cut_page.new.map c.self.inside.pending) none.2
+          ∙ ap (λ m. store_of c.self.inside.memory c.self.inside.pool m c.self.inside.pending) none.3,
+    )
 
 pub take_cell-requires-clause-cell : goal.take_cell-requires-clause-cell
 take_cell-requires-clause-cell c =
     let cuts = c.in-Some.ensures.some in
-    subst (λ i. IsFreeCell c.cut_page.new.map c.args.class c.args.kind c.in-Some.place.page i) (sym cuts.0)
-    (first_cell _ c.self.invariant.sound c.len-pages.ensures.laid c.len-pages.ensures.lawful _ _ c.cut_page.ensures.class _ _ _ cuts.1)
-
-pub take_cell-requires-clause-laid : goal.take_cell-requires-clause-laid
-take_cell-requires-clause-laid c = cut_laid _ c.self.invariant.sound c.len-pages.ensures.laid c.len-pages.ensures.lawful _ _ c.cut_page.ensures.class _ _ _ c.in-Some.ensures.some.1
+    free_cell_offers _ _ _ _ 0 (first_cell _ c.self.invariant.sound c.len-pages.ensures.laid c.len-pages.ensures.lawful _ _ c.cut_page.ensures.class _ _ _ _ cuts)
 
 pub invariant_of-self-2 : goal.invariant_of-self-2
 invariant_of-self-2 c =
     let cuts = c.in-Some.ensures.some in
-    let page = c.in-Some.place.page in
-    let takes = subst (λ i. TakesCell c.self.inside.memory c.take_cell.new.memory c.cut_page.new.map c.take_cell.new.map page i c.take_cell.result) cuts.0 c.take_cell.ensures.takes in
-    let first = first_cell _ c.self.invariant.sound c.len-pages.ensures.laid c.len-pages.ensures.lawful _ _ c.cut_page.ensures.class _ _ _ cuts.1 in
-    let was = c.self.invariant.sound.agree.free_in_map page (cuts.1.run.free page (omega arith) (omega arith)) in
+    let page = c.in-Some.page in
+    let is = first_is _ c.self.invariant.sound c.len-pages.ensures.laid c.len-pages.ensures.lawful _ _ c.cut_page.ensures.class _ _ _ _ cuts in
+    let takes = subst (λ i. TakesCell c.cut_page.new.memory c.take_cell.new.memory c.cut_page.new.map c.take_cell.new.map page i c.take_cell.result) is c.take_cell.ensures.takes in
+    let was = c.self.invariant.sound.agree.free_in_map page (cuts.run.free page (omega arith) (omega arith)) in
     record {
-      sound = sound_page _ c.self.invariant.sound c.len-pages.ensures.laid c.len-pages.ensures.lawful _ _ c.cut_page.ensures.class _ _ _ cuts.1 _ _ _ takes c.self.invariant.pending;
-      pending = pending_cut _ _ c.self.invariant.pending refl (ap length takes.became ∙ length-set _ _ _ ∙ ap length cuts.1.became ∙ length-set _ _ _)
-          (λ p is. subst (λ (x : List PageState). IsCut (state_at x p)) (sym takes.became) (cut_cell _ page 0 true first.inside p
-          (subst (λ (x : List PageState). IsCut (state_at x p)) (sym cuts.1.became) (cut_page _ page (all_free c.args.class c.args.kind) was p is))));
+      sound = sound_page _ c.self.invariant.sound c.len-pages.ensures.laid c.len-pages.ensures.lawful _ _ c.cut_page.ensures.class _ _ _ _ cuts _ _ _ takes c.self.invariant.pending;
+      listed = c.take_cell.ensures.listed;
+      pending = pending_cut _ _ c.self.invariant.pending refl (ap length takes.became ∙ length-set _ _ _ ∙ ap length cuts.became ∙ length-set _ _ _)
+          (λ p is. subst (λ (x : List PageState). IsCut (state_at x p)) (sym takes.became) (cut_cell _ page 0 true _ c.take_cell.ensures.cell.inside p
+          (subst (λ (x : List PageState). IsCut (state_at x p)) (sym cuts.became) (cut_page _ page (all_free c.args.class c.args.kind) was p is))));
       exact = c.take_cell.ensures.exact;
     }
 
 pub returns-clause-some : goal.returns-clause-some
 returns-clause-some c =
     let cuts = c.in-Some.ensures.some in
-    let takes = subst (λ i. TakesCell c.self.inside.memory c.take_cell.new.memory c.cut_page.new.map c.take_cell.new.map c.in-Some.place.page i c.take_cell.result) cuts.0 c.take_cell.ensures.takes in
-    rw (← c.self.view_is) (allocates_page _ c.self.invariant.sound c.len-pages.ensures.laid c.len-pages.ensures.lawful _ _ c.cut_page.ensures.class _ _ _ cuts.1 _ _ _ takes c.self.invariant.pending)
+    let is = first_is _ c.self.invariant.sound c.len-pages.ensures.laid c.len-pages.ensures.lawful _ _ c.cut_page.ensures.class _ _ _ _ cuts in
+    let takes = subst (λ i. TakesCell c.cut_page.new.memory c.take_cell.new.memory c.cut_page.new.map c.take_cell.new.map c.in-Some.page i c.take_cell.result) is c.take_cell.ensures.takes in
+    rw (← c.self.view_is) (allocates_page _ c.self.invariant.sound c.len-pages.ensures.laid c.len-pages.ensures.lawful _ _ c.cut_page.ensures.class _ _ _ _ cuts _ _ _ takes c.self.invariant.pending)
 
 pub returns-clause-gains : goal.returns-clause-gains
 returns-clause-gains c =
     let cuts = c.in-Some.ensures.some in
-    let takes = subst (λ i. TakesCell c.self.inside.memory c.take_cell.new.memory c.cut_page.new.map c.take_cell.new.map c.in-Some.place.page i c.take_cell.result) cuts.0 c.take_cell.ensures.takes in
-    rw (← c.self.view_is) (gains_page _ c.self.invariant.sound c.len-pages.ensures.laid c.len-pages.ensures.lawful _ _ c.cut_page.ensures.class _ _ _ cuts.1 _ _ _ takes c.self.invariant.pending)
+    let is = first_is _ c.self.invariant.sound c.len-pages.ensures.laid c.len-pages.ensures.lawful _ _ c.cut_page.ensures.class _ _ _ _ cuts in
+    let takes = subst (λ i. TakesCell c.cut_page.new.memory c.take_cell.new.memory c.cut_page.new.map c.take_cell.new.map c.in-Some.page i c.take_cell.result) is c.take_cell.ensures.takes in
+    rw (← c.self.view_is) (gains_page _ c.self.invariant.sound c.len-pages.ensures.laid c.len-pages.ensures.lawful _ _ c.cut_page.ensures.class _ _ _ _ cuts _ _ _ takes c.self.invariant.pending)

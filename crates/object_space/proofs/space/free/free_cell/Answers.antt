@@ -1,6 +1,7 @@
 use Rattle.std.proofs.Common.{arith, ap, subst}
 use Rattle.object_space.proofs.Frees.{frees_kept, frees_last}
 use Rattle.object_space.proofs.Pending.{pending_put, pending_gone}
+use Rattle.block_map.proofs.Listed.{listed_span}
 use Rattle.block_map.specs.States.{IsSpanSet, free, span_of}
 use Rattle.object_space.proofs.AvailablePages.{exact_entered, exact_uncut}
 use Rattle.object_space.proofs.space.free.free_cell.Goals as goal
@@ -31,3 +32,6 @@ pub returns-clause-pending : goal.returns-clause-pending
 returns-clause-pending c =
     rw c.clear.ensures (pending_gone _ c.put.new.self _ c.args.page c.args.cell _ c.requires.inside (let size = c.requires.row in let lt = c.requires.inside in omega arith) c.put.ensures.states
     (subst (λ n. IsSpanSet c.put.new.self c.uncut.new.self c.args.page n (λ _. free)) (ap span_of c.in-Some.ensures) c.uncut.ensures.states) c.len-pages.ensures.lawful)
+
+pub returns-clause-listed : goal.returns-clause-listed
+returns-clause-listed c = listed_span c.put.new.memory c.put.new.self c.uncut.new.self c.args.page _ (λ _. free) c.uncut.ensures.states (λ k. tt) c.put.ensures.listed

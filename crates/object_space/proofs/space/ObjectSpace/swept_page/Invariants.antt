@@ -1,6 +1,6 @@
 use Rattle.std.specs.Prelude.{count_by}
 use Rattle.object_space.specs.Sweeps.{Sweeps}
-use Rattle.object_space.proofs.space.ObjectSpace.swept_cell.Given as goal
+use Rattle.object_space.proofs.space.ObjectSpace.swept_page.Given as goal
 
 abbrev pub invariant-loop-page : goal.invariant-loop-page
 invariant-loop-page l = Sweeps l.initial.self l.marker.marks l.self

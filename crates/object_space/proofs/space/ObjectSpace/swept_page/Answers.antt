@@ -1,6 +1,6 @@
 use Rattle.std.proofs.Common.{sym, ◌∙◌}
 use Rattle.object_space.proofs.Swept.{sweeps_none, sweeps_page, sweeps_more}
-use Rattle.object_space.proofs.space.ObjectSpace.swept_cell.Goals as goal
+use Rattle.object_space.proofs.space.ObjectSpace.swept_page.Goals as goal
 
 pub loop-page-init : goal.loop-page-init
 loop-page-init c = sweeps_none _ _ c.end-end.ensures.lawful.map
