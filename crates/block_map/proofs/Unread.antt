@@ -1,8 +1,8 @@
 -- Words that no object reads: the lists of free cells stay where these do.
-use Rattle.std.proofs.Common.{◌≡◌, ℕ, ◌+◌, ◌*◌, ◌/◌, ◌%◌, ◌<◌, ◌≤◌, ◌⊎◌, false, List, length, get_or, None, Some, inl, inr, sym, ap, ◌∙◌, ⊎_elim, arith, length-set, get_or-set_other}
+use Rattle.std.proofs.Common.{◌≡◌, ℕ, ◌+◌, ◌*◌, ◌<◌, ◌≤◌, ◌⊎◌, false, List, length, get_or, None, Some, inl, inr, sym, ap, ◌∙◌, ⊎_elim, arith, length-set, get_or-set_other}
 use Rattle.std.specs.Prelude.{◌≢◌}
 use Rattle.std.proofs.lemmas.Bool.{cases_lt}
-use Rattle.words.specs.declared.limits.TheConstants.{FIRST_ADDRESS, PAGE_WORDS, WORD_BYTES}
+use Rattle.words.specs.declared.limits.TheConstants.{WORD_BYTES}
 use Rattle.pages.specs.Memory.{IsWordAddress, IsZeroed, place, word_at, with_word_at}
 use Rattle.blocks.specs.Cells.{Cells, IsCells}
 use Rattle.blocks.specs.Lists.{cell_start, IsFree}
@@ -11,7 +11,6 @@ use Rattle.blocks.proofs.Places.{class_bounds}
 use Rattle.block_map.specs.States.{PageState, cut, state_at, IsLaid}
 use Rattle.block_map.specs.Listed.{AreListed}
 use Rattle.block_map.specs.FoundIn.{found_in}
-use Rattle.block_map.specs.Objects.{Reads}
 use Rattle.block_map.specs.declared.found.Found.{Found}
 use Rattle.block_map.proofs.Seen.{laid_at}
 use Rattle.block_map.proofs.Words.{read_cell}

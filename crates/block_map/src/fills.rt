@@ -92,6 +92,7 @@ fn take_in(block: &mut Block, memory: &Memory, page: PageNo) -> Option<Taken>
     })
 }
 
+// Takes the first free cell of what stands on a page, which is cut.
 fn take_on(what: &mut Page, memory: &Memory, page: PageNo) -> Option<Taken>
     requires cut { IsCut (shown what.old) }
     requires small { page < MAX_PAGES }
@@ -106,10 +107,11 @@ fn take_on(what: &mut Page, memory: &Memory, page: PageNo) -> Option<Taken>
 {
     match what {
         Page::Cut(block) => take_in(block, memory, page),
-        _ => unreachable!(),
+        Page::Free | Page::Head(_) | Page::Body(_) => unreachable!(),
     }
 }
 
+// Makes an allocated cell of what stands on a page free.
 fn put_on(what: &mut Page, memory: &mut Memory, page: PageNo, cell: u16)
     requires cell { HasCell (shown what.old) cell true }
     requires small { page < MAX_PAGES }
@@ -122,7 +124,7 @@ fn put_on(what: &mut Page, memory: &mut Memory, page: PageNo, cell: u16)
 {
     match what {
         Page::Cut(block) => block.put(memory, page, cell),
-        _ => unreachable!(),
+        Page::Free | Page::Head(_) | Page::Body(_) => unreachable!(),
     }
 }
 

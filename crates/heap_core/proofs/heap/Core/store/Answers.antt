@@ -1,4 +1,6 @@
 use Rattle.std.proofs.Common.{refl, sym, arith}
+use Rattle.block_map.specs.FoundIn.{found_in}
+use Rattle.object_space.specs.Kept.{is_kept}
 use Rattle.heap_core.proofs.Tracing.{traced_write}
 use Rattle.heap_spec.specs.Steps.{Acts}
 use Rattle.object_space.proofs.Kept.{kept_cases, kept_map}
@@ -23,7 +25,11 @@ pub write-requires-clause-address : goal.write-requires-clause-address
 write-requires-clause-address c = is_word _ _ (kept_map _ _ _ c.in-Some-find.ensures.lawful.map) _ c.in-Some-find.ensures.long _ c.in-Some-find.field-0 (sym c.in-Some-find.ensures.found) c.if-target-ne0.false
 
 pub write-requires-clause-object : goal.write-requires-clause-object
-write-requires-clause-object c = (c.in-Some-find.field-0, (kept_cases _ _ _ _ (sym c.in-Some-find.ensures.found)).0)
+write-requires-clause-object c = (
+  c.in-Some-find.field-0,
+  (kept_cases (is_kept c.self.inside.objects.pending c.self.inside.marker.marks) (found_in c.self.inside.objects.states) c.address-target.result c.in-Some-find.field-0
+      (sym c.in-Some-find.ensures.found)).0,
+)
 
 pub note_write-requires-clause-inside : goal.note_write-requires-clause-inside
 note_write-requires-clause-inside c =
