@@ -9,64 +9,30 @@ fn call_in_range(call: &Call)
 {
     match call {
         Call::Detach => {}
-        Call::Set(a, w) => {
+        Call::Get(a) | Call::Push(a) | Call::Pop(a) | Call::Free(a) | Call::Size(a) => {
             a.number();
-            let _word = *w;
         }
-        Call::Copy(a, b) => {
+        Call::Copy(a, b) | Call::Base(a, b) => {
             a.number();
             b.number();
-        }
-        Call::Add(a, b, w) => {
-            a.number();
-            b.number();
-            let _word = *w;
         }
         Call::Sub(a, b, d) => {
             a.number();
             b.number();
             d.number();
         }
-        Call::Get(a) => {
+        Call::Set(a, w) | Call::Alloc(a, w, _) => {
             a.number();
+            let _word = *w;
         }
-        Call::Push(a) => {
-            a.number();
-        }
-        Call::Pop(a) => {
-            a.number();
-        }
-        Call::Load(a, b, w) => {
+        Call::Add(a, b, w) | Call::Load(a, b, w) | Call::Store(a, w, b) => {
             a.number();
             b.number();
             let _word = *w;
         }
-        Call::Store(a, w, b) => {
-            a.number();
-            b.number();
-            let _word = *w;
-        }
-        Call::Alloc(a, w, _) => {
-            a.number();
-            let _word = *w;
-        }
-        Call::Free(a) => {
-            a.number();
-        }
-        Call::Base(a, b) => {
-            a.number();
-            b.number();
-        }
-        Call::Size(a) => {
-            a.number();
-        }
-        Call::GlobalGet(a, g) => {
+        Call::GlobalGet(a, g) | Call::GlobalPut(g, a) => {
             a.number();
             g.number();
-        }
-        Call::GlobalPut(g, a) => {
-            g.number();
-            a.number();
         }
     }
 }

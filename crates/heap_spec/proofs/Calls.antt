@@ -5,6 +5,7 @@ use Rattle.std.proofs.lemmas.Bool.{cases_lt}
 use Rattle.std.proofs.lemmas.Option.{get_or_from_slice_get, slice_get_within, none-some}
 use Rattle.std.proofs.lemmas.List.{length-set, length-replicate, length_push, get_or_past}
 use Rattle.std.proofs.lemmas.List.Elements.{All-set, All-replicate, All-push, All-pop, All-get_or, All-nil}
+use Rattle.words.specs.declared.limits.TheConstants.{MAX_PAGES}
 use Rattle.words.specs.declared.class.Kind.{Kind}
 use Rattle.words.specs.declared.class.Placement.{Placement}
 use Rattle.words.specs.Placing.{placement_of}
@@ -152,7 +153,7 @@ pub takes_out_kept : (s : Heap) (bases : List ℕ) (reply : Reply) (s' : Heap) �
 takes_out_kept s bases reply s' h takes = subst IsSound (sym takes.after) (objects_in s _ h (objects_without s.pages s.births s.objects bases h.objects))
 
 -- a new heap is sound
-pub opening_is : (pages : ℕ) → 1 ≤ pages → pages ≤ 1024 → IsSound (opening pages)
+pub opening_is : (pages : ℕ) → 1 ≤ pages → pages ≤ MAX_PAGES → IsSound (opening pages)
 opening_is pages some few = record {
   some_page = some;
   few_pages = few;

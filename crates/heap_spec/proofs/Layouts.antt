@@ -8,6 +8,7 @@ use Rattle.std.proofs.Math.Nat.{mul-le-mul_left}
 use Rattle.std.proofs.lemmas.Bool.{cases_lt, cases_order, leb-false}
 use Rattle.std.proofs.lemmas.Option.{same_Some, none-some}
 use Rattle.std.proofs.lemmas.List.Sums.{AllPass-from_list_all}
+use Rattle.words.specs.declared.limits.TheConstants.{PAGE_BYTES, PAGE_WORDS}
 use Rattle.words.specs.declared.class.TheConstants.{CLASSES}
 use Rattle.words.specs.declared.class.Placement.{Placement}
 use Rattle.words.specs.declared.class.Placement.TheVariants.{Small, Large}
@@ -41,11 +42,11 @@ placed n place e = outer _ e
     classes : All IsSizeClass CLASSES
     classes = AllPass-from_list_all (λ x. list_any (λ c. c == x) CLASSES) CLASSES refl
 
-    inner : (b : Bool) → nat_le n 256 ≡ b → cond b (option_map Small (find (λ c. nat_le n c) CLASSES)) (Some (Large (div_ceil n 512))) ≡ Some place → IsPlacement place
+    inner : (b : Bool) → nat_le n 256 ≡ b → cond b (option_map Small (find (λ c. nat_le n c) CLASSES)) (Some (Large (div_ceil n PAGE_WORDS))) ≡ Some place → IsPlacement place
     inner true t e = small_place _ place (λ c f. find_holds IsSizeClass (λ c. nat_le n c) CLASSES c classes f) e
-    inner false t e = let more : 256 < n = leb-false n 256 t in subst IsPlacement (same_Some _ _ e) (let some : 0 < div_ceil n 512 = omega arith in some)
+    inner false t e = let more : 256 < n = leb-false n 256 t in subst IsPlacement (same_Some _ _ e) (let some : 0 < div_ceil n PAGE_WORDS = omega arith in some)
 
-    outer : (b : Bool) → cond b None (cond (nat_le n 256) (option_map Small (find (λ c. nat_le n c) CLASSES)) (Some (Large (div_ceil n 512)))) ≡ Some place → IsPlacement place
+    outer : (b : Bool) → cond b None (cond (nat_le n 256) (option_map Small (find (λ c. nat_le n c) CLASSES)) (Some (Large (div_ceil n PAGE_WORDS)))) ≡ Some place → IsPlacement place
     outer true e = absurd (none-some place e)
     outer false e = inner (nat_le n 256) refl e
 
@@ -55,7 +56,7 @@ cell_lies pages base len c =
     let page : ℕ = c.page in
     let cell : ℕ = c.cell in
     let lt : page < pages = c.in_heap in
-    let fits : len * (cell + 1) ≤ 512 = c.in_page in
+    let fits : len * (cell + 1) ≤ PAGE_WORDS = c.in_page in
     let is : base ≡ page_start page + 8 * (len * cell) = c.is_cell in
     let some : 2 ≤ len = class_some len c.class in
     record { some = omega arith; from = omega arith; to = omega arith; aligned = even (len / 2) (let even : len % 2 ≡ 0 = class_even len c.class in omega arith) }
@@ -88,18 +89,18 @@ off_page page a n b m from to off =
 
 -- what lies on none of some pages in a row is apart from them
 pub off_pages : (first count b m : ℕ) → 0 < count → 0 < m → ((page : ℕ) → first ≤ page → page < first + count → LiesOn b m page → ⊥)
-    → AreApart (page_start first) (512 * count) b m
+    → AreApart (page_start first) (PAGE_WORDS * count) b m
 off_pages first count b m some words off =
     ⊎_elim
     (λ below. ⊎_elim
     (λ over. absurd (⊎_elim
     (λ before. off first (omega arith) (omega arith) (omega arith, omega arith))
-    (λ after. let page : ℕ = (b - page_start 0) / 4096 in off page (omega arith) (omega arith) (omega arith, omega arith))
+    (λ after. let page : ℕ = (b - page_start 0) / PAGE_BYTES in off page (omega arith) (omega arith) (omega arith, omega arith))
     (cases_lt b (page_start first))))
     (λ under. inr (omega arith))
     (cases_lt (page_start first) (b + 8 * m)))
     (λ above. inl (omega arith))
-    (cases_lt b (page_start first + 8 * (512 * count)))
+    (cases_lt b (page_start first + 8 * (PAGE_WORDS * count)))
 
 -- two cells of a page that is cut for one class
 cells_apart : (page n i j : ℕ) → i ≢ j → AreApart (page_start page + 8 * (n * i)) n (page_start page + 8 * (n * j)) n
@@ -112,7 +113,7 @@ cells_apart page n i j ne =
 
 -- a cell is apart from what lies off its page, and from another cell of its class
 pub cell_off : (pages a n b m : ℕ) (c : IsCell pages a n) → (LiesOn b m c.page → ⊥) → AreApart a n b m
-cell_off pages a n b m c off = let fits : n * (c.cell + 1) ≤ 512 = c.in_page in let is = c.is_cell in off_page c.page a n b m (omega arith) (omega arith) off
+cell_off pages a n b m c off = let fits : n * (c.cell + 1) ≤ PAGE_WORDS = c.in_page in let is = c.is_cell in off_page c.page a n b m (omega arith) (omega arith) off
 
 pub cell_apart : (pages a n b : ℕ) (c : IsCell pages a n) → b ≢ a → LiesOn b n c.page → IsCell pages b n → AreApart a n b n
 cell_apart pages a n b c ne on d =
@@ -120,9 +121,9 @@ cell_apart pages a n b c ne on d =
     let other : ℕ = d.page in
     let i : ℕ = c.cell in
     let j : ℕ = d.cell in
-    let fits : n * (i + 1) ≤ 512 = c.in_page in
+    let fits : n * (i + 1) ≤ PAGE_WORDS = c.in_page in
     let is : a ≡ page_start page + 8 * (n * i) = c.is_cell in
-    let fits' : n * (j + 1) ≤ 512 = d.in_page in
+    let fits' : n * (j + 1) ≤ PAGE_WORDS = d.in_page in
     let is' : b ≡ page_start other + 8 * (n * j) = d.is_cell in
     let lo = on.0 in
     let hi = on.1 in

@@ -7,6 +7,7 @@ use Rattle.std.proofs.lemmas.Option.{same_Some, none-some}
 use Rattle.std.proofs.lemmas.List.{length-set}
 use Rattle.std.proofs.lemmas.List.Elements.{All-set, Contains-get_or}
 use Rattle.std.proofs.lemmas.List.Folds.{list_any_none, list_any-from_Any}
+use Rattle.words.specs.declared.limits.TheConstants.{PAGE_WORDS}
 use Rattle.words.specs.declared.class.Kind.{Kind}
 use Rattle.words.specs.declared.class.Placement.{Placement}
 use Rattle.words.specs.declared.class.Placement.TheVariants.{Small, Large}
@@ -138,7 +139,7 @@ pub room_apart : (s : Heap) → IsSound s → (place : Placement) (kind : Kind) 
     → (b : ℕ) (p : Object) → HasObject s b p → b ≢ a → AreApart a (length_of place) b (length p.words)
 room_apart s h (Large count) kind a some room b p is ne =
     let lies = object_lies s h b p is in
-    subst (λ x. AreApart x (512 * count) b (length p.words)) (sym room.is_start)
+    subst (λ x. AreApart x (PAGE_WORDS * count) b (length p.words)) (sym room.is_start)
     (off_pages room.first count b (length p.words) some lies.some (λ page from below. room.free page from below b p is))
 room_apart s h (Small n) kind a class room b p is ne =
     ⊎_elim

@@ -6,6 +6,7 @@
 //! `Laws` say what holds of it all.
 #![tactic(auto)]
 
+pub mod answers;
 mod call;
 mod event;
 pub mod laws;

@@ -2,6 +2,7 @@
 use Rattle.std.proofs.Common.{◌≡◌, ℕ, ◌+◌, ◌-◌, ◌*◌, ◌/◌, ◌%◌, ◌<◌, ◌≤◌, List, length, get_or, Option, Some, None, sym, ap, ◌∙◌, subst, arith}
 use Rattle.std.specs.Prelude.{slice_index}
 use Rattle.std.proofs.lemmas.Option.{same_Some}
+use Rattle.words.specs.declared.limits.TheConstants.{FIRST_ADDRESS, PAGE_WORDS}
 use Rattle.heap_spec.specs.Layout.{Reads as IsRead}
 use Rattle.heap_spec.specs.Heap.{Object}
 use Rattle.pages.specs.Memory.{IsWordAddress, place, word_at}
@@ -22,7 +23,7 @@ module _ (found : ℕ → Option Found) (pages : ℕ) (map : IsMap pages found) 
   one_at_base f g a b same = same_Some _ _ (sym b ∙ ap found same ∙ a)
 
   -- the address of a word of an object is one of the memory's
-  pub is_word : (words : List ℕ) → length words ≡ 512 * pages → (w : ℕ) (f : Found) → found w ≡ Some f → w % 8 ≡ 0 → IsWordAddress words w
+  pub is_word : (words : List ℕ) → length words ≡ PAGE_WORDS * pages → (w : ℕ) (f : Found) → found w ≡ Some f → w % 8 ≡ 0 → IsWordAddress words w
   is_word words long w f is aligned =
       let above = (map.placed w f is).above in let ends = (map.placed w f is).below in
       let from = (map.reads w f is).from in let below = (map.reads w f is).below in
@@ -36,7 +37,7 @@ module _ (found : ℕ → Option Found) (pages : ℕ) (map : IsMap pages found) 
       (omega arith, omega arith)
 
   -- the word of an object that has the place of an address is read by it
-  pub reads_place : (w i : ℕ) (g : Found) → found g.base ≡ Some g → i < g.len → 268435456 ≤ w → w % 8 ≡ 0 → place g.base + i ≡ place w → found w ≡ Some g
+  pub reads_place : (w i : ℕ) (g : Found) → found g.base ≡ Some g → i < g.len → FIRST_ADDRESS ≤ w → w % 8 ≡ 0 → place g.base + i ≡ place w → found w ≡ Some g
   reads_place w i g is inside low aligned same =
       let even = (map.placed g.base g is).aligned in let above = (map.placed g.base g is).above in
       map.whole g.base w g is (record { from = omega arith; below = omega arith })

@@ -22,6 +22,27 @@ impl Scene {
         })
     }
 
+    // Runs a script on so many pages. There is no answer where no heap has as many.
+    fn answer(&mut self, pages: u32, input: &mut Script<'_>) -> Option<Result<(), ScriptError>> {
+        if pages < 1 || MAX_PAGES < pages {
+            return None;
+        }
+        self.output.clear();
+        Some(run_script(self.alloc, input, &mut self.output, pages))
+    }
+
+    // The answer and what was written are these.
+    fn expect(
+        &self,
+        rt: &impl Abort,
+        name: &str,
+        answer: Option<Result<(), ScriptError>>,
+        wanted: (&str, Result<(), ScriptError>),
+    ) {
+        let is_written = self.output.bytes.as_slice() == wanted.0.as_bytes();
+        assert!(rt; is_written && answer == Some(wanted.1), "{name}");
+    }
+
     /// Runs a script on so many pages, and compares what it answers and what was written.
     pub fn check(
         &mut self,
@@ -31,11 +52,8 @@ impl Scene {
         input: &mut Script<'_>,
         wanted: (&str, Result<(), ScriptError>),
     ) {
-        self.output.clear();
-        assert!(rt; 1 <= pages && pages <= MAX_PAGES, "{name}");
-        let answer = run_script(self.alloc, input, &mut self.output, pages);
-        assert_eq!(rt; answer, wanted.1, "{name}");
-        assert_eq!(rt; self.output.text(), Some(wanted.0), "{name}");
+        let answer = self.answer(pages, input);
+        self.expect(rt, name, answer, wanted);
     }
 
     /// The same of a script of good lines.
@@ -48,6 +66,7 @@ impl Scene {
         replies: &str,
     ) {
         let mut input = Script::new(script.as_bytes());
-        self.check(rt, name, pages, &mut input, (replies, Ok(())));
+        let answer = self.answer(pages, &mut input);
+        self.expect(rt, name, answer, (replies, Ok(())));
     }
 }

@@ -1,48 +1,12 @@
 //! Events: each call of the core as one event with its reply, and lists of them.
 ghost use Rattle.std.specs.Prelude.{◌≡◌, length};
-ghost use Rattle.heap_spec.specs.Replies.{count_reply, done_reply, slot_reply, word_reply};
 ghost use Rattle.heap_core.specs.Calls.{IsCall};
 ghost use Rattle.heap_core.specs.Following.{IsLine, AreLines, told_of};
 
 use super::Core;
+use heap_spec::answers::{count, done, slot_of, word};
 use heap_spec::{Call, Event, Reply};
-use words::{Refusal, Slot};
-
-fn done(answer: Result<(), Refusal>) -> Reply
-    ensures { result ≡ done_reply answer }
-{
-    match answer {
-        Ok(()) => Reply::Done,
-        Err(refusal) => Reply::Refused(refusal),
-    }
-}
-
-fn word(answer: Result<u64, Refusal>) -> Reply
-    ensures { result ≡ word_reply answer }
-{
-    match answer {
-        Ok(word) => Reply::Word(word),
-        Err(refusal) => Reply::Refused(refusal),
-    }
-}
-
-fn count(answer: Result<u64, Refusal>) -> Reply
-    ensures { result ≡ count_reply answer }
-{
-    match answer {
-        Ok(count) => Reply::Count(count),
-        Err(refusal) => Reply::Refused(refusal),
-    }
-}
-
-fn slot_of(answer: Result<Slot, Refusal>) -> Reply
-    ensures { result ≡ slot_reply answer }
-{
-    match answer {
-        Ok(slot) => Reply::Slot(slot),
-        Err(refusal) => Reply::Refused(refusal),
-    }
-}
+use words::Slot;
 
 impl Core {
     // Makes a call of a slot.
