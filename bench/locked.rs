@@ -1,5 +1,6 @@
 //! The plain core behind a `Mutex`, called by threads, and a count beside it that takes no lock. It prints a line for each
-//! call: its name, and picoseconds a call.
+//! call: its name, and picoseconds a call. `counted_` lines are the same calls with one `fetch_add` under the lock, which is
+//! what a history costs each call.
 use super::{Core, Kind, Mutator, Refusal};
 use std::hint::black_box;
 use std::sync::atomic::{AtomicU64, Ordering::SeqCst};
@@ -23,25 +24,47 @@ impl Core {
     }
 }
 
-fn store_often(core: &Mutex<Core>, slot: usize) {
+/// A core behind its lock, and a word beside it that counts its history.
+struct Shared {
+    core: Mutex<Core>,
+    count: AtomicU64,
+}
+
+fn store_often(shared: &Shared, slot: usize) {
     for _ in 0..CALLS {
-        let _stored = core.lock().unwrap().store(slot, 1, 0, 2);
+        let _stored = shared.core.lock().unwrap().store(slot, 1, 0, 2);
     }
 }
 
-fn load_often(core: &Mutex<Core>, slot: usize) {
+fn load_often(shared: &Shared, slot: usize) {
     for _ in 0..CALLS {
-        let _word = black_box(core.lock().unwrap().load(slot, 2, 1, 0));
+        let _word = black_box(shared.core.lock().unwrap().load(slot, 2, 1, 0));
     }
 }
 
-fn side_by_side(core: &Mutex<Core>, callers: usize, call: fn(&Mutex<Core>, usize)) -> u128 {
+fn store_and_count(shared: &Shared, slot: usize) {
+    for _ in 0..CALLS {
+        let mut core = shared.core.lock().unwrap();
+        let _stored = core.store(slot, 1, 0, 2);
+        shared.count.fetch_add(black_box(0), SeqCst);
+    }
+}
+
+fn load_and_count(shared: &Shared, slot: usize) {
+    for _ in 0..CALLS {
+        let mut core = shared.core.lock().unwrap();
+        let _word = black_box(core.load(slot, 2, 1, 0));
+        shared.count.fetch_add(black_box(0), SeqCst);
+    }
+}
+
+fn side_by_side(shared: &Shared, callers: usize, call: fn(&Shared, usize)) -> u128 {
     let start = Instant::now();
     thread::scope(|scope| {
         for slot in 1..callers {
-            scope.spawn(move || call(core, slot));
+            scope.spawn(move || call(shared, slot));
         }
-        call(core, 0);
+        call(shared, 0);
     });
     start.elapsed().as_nanos()
 }
@@ -50,37 +73,39 @@ fn report(name: &str, nanoseconds: u128, calls: usize) {
     println!("{name} {}", nanoseconds * 1_000 / calls as u128);
 }
 
-fn time_words(core: &Mutex<Core>) {
+fn time_words(shared: &Shared) {
+    let calls: [(&str, fn(&Shared, usize)); 4] = [
+        ("locked_store", store_often),
+        ("locked_load", load_often),
+        ("counted_store", store_and_count),
+        ("counted_load", load_and_count),
+    ];
     for callers in [4, 2, 1] {
-        let mut least = [u128::MAX; 2];
-        for _ in 0..ROUNDS {
-            least[0] = least[0].min(side_by_side(core, callers, store_often));
-            least[1] = least[1].min(side_by_side(core, callers, load_often));
+        for (name, call) in calls {
+            let least = (0..ROUNDS).map(|_| side_by_side(shared, callers, call)).min().unwrap_or(0);
+            report(&format!("{name}_by_{callers}"), least, CALLS * callers);
         }
-        report(&format!("locked_store_by_{callers}"), least[0], CALLS * callers);
-        report(&format!("locked_load_by_{callers}"), least[1], CALLS * callers);
     }
 }
 
 pub fn measure() {
-    let core = black_box(Mutex::new(Core::new()));
+    let shared = black_box(Shared { core: Mutex::new(Core::new()), count: AtomicU64::new(0) });
     for _ in 0..CREW {
-        let mut core = core.lock().unwrap();
+        let mut core = shared.core.lock().unwrap();
         let slot = core.attach().ok().unwrap();
         let _made = core.alloc(slot, 1, 2, Kind::Normal);
     }
-    time_words(&core);
+    time_words(&shared);
     let start = Instant::now();
     for _ in 0..CALLS {
-        let slot = core.lock().unwrap().attach().ok().unwrap();
-        core.lock().unwrap().detach(black_box(slot));
+        let slot = shared.core.lock().unwrap().attach().ok().unwrap();
+        shared.core.lock().unwrap().detach(black_box(slot));
     }
     report("attach_and_detach", start.elapsed().as_nanos(), CALLS);
-    let collections = black_box(AtomicU64::new(0));
     let start = Instant::now();
     let mut sum: u64 = 0;
     for _ in 0..CALLS {
-        sum = sum.wrapping_add(collections.load(SeqCst));
+        sum = sum.wrapping_add(shared.count.load(SeqCst));
     }
     report("gc_no", start.elapsed().as_nanos(), CALLS);
     println!("sum {sum}");

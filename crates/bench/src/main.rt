@@ -10,6 +10,7 @@ mod locked;
 mod maps;
 mod marking;
 mod marks;
+mod on_threads;
 mod pause;
 mod user;
 
@@ -22,5 +23,6 @@ fn main(rt: HostRuntime) -> io::Result<()> {
     collections::measure(&rt, rt.alloc())?;
     marking::measure(&rt, rt.alloc())?;
     pause::measure(&rt, rt.alloc())?;
-    locked::measure(&rt, rt.alloc())
+    locked::measure(&rt, rt.alloc())?;
+    on_threads::measure(&rt, rt.alloc())
 }

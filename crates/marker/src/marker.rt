@@ -125,7 +125,9 @@ impl Marker {
         self.mark_target(map, word);
     }
 
-    // Marks the object that a word points into, if it points into one.
+    // Marks the object that a word points into, if it points into one. Most words point into none, so that the loop over
+    // words is to hold the test of the range and not this.
+    #[inline(never)]
     fn mark_target(&mut self, map: &BlockMap, word: u64)
         requires pages { length self.old.dirty ≡ length map.now }
         ensures marks { MarksWord (found_in map.now) word self.old self.new }

@@ -4,7 +4,7 @@
 //!
 //! A call takes the lock, learns the history so far, and acts; what it learnt is how it knows that its slot is attached, and in which
 //! phase the heap is. `gc_no`, `gc_no_of`, `meet` and `meet_collector` take no lock and wait for nobody. After `open` no call takes
-//! memory, but for what the caller's own work in `quiet` takes.
+//! memory, but for the helpers of `finish_with` and for what the caller's own work in `quiet` takes.
 #![tactic(auto)]
 
 mod calls;
