@@ -12,6 +12,8 @@ mod heap;
 #[cfg(test)]
 mod helpers;
 #[cfg(test)]
+mod offers;
+#[cfg(test)]
 mod overflow;
 #[cfg(test)]
 mod scene;
