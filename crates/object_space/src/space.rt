@@ -1,5 +1,6 @@
 //! The objects of a heap: their words, the pages that they lie on, and which pages are free. That the pool and the map
-//! agree on the free pages is kept here, and no other module touches either.
+//! agree on the free pages, and that the lists of free cells stand in the memory, is kept here, and no other module touches
+//! any of the three.
 ghost use Rattle.std.specs.Prelude.{◌≡◌, ◌*◌, Bool, Some, length};
 ghost use Rattle.words.specs.declared.limits.TheConstants.{PAGE_WORDS};
 ghost use Rattle.heap_spec.specs.Heap.{opening};
