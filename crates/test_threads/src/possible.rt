@@ -115,7 +115,7 @@ impl Told {
     }
 
     /// Whether a command is refused in this phase.
-    fn is_refused(&self, command: Event) -> bool {
+    fn is_refused(&self, command: &Event) -> bool {
         match command {
             Event::Begin => self.is_marking,
             Event::Roots | Event::Mark(_) | Event::Retrace | Event::Finish => !self.is_marking,
@@ -126,7 +126,7 @@ impl Told {
 
     /// Whether the collector's command may be answered this line.
     fn may_be_told(&mut self, command: Event, line: &str) -> bool {
-        if self.is_refused(command) {
+        if self.is_refused(&command) {
             return line == "refused 9 WrongPhase";
         }
         match command {
