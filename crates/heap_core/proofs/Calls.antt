@@ -34,14 +34,15 @@ use Rattle.heap_core.specs.Contents.{Cycle}
 use Rattle.heap_core.specs.Calls.{IsCall}
 use Rattle.heap_core.specs.Beside.{NotesObject}
 use Rattle.object_space.specs.Sweeps.{Gains, Loses, Sweeps}
-use Rattle.object_space.specs.Shown.{Stores, Shows}
+use Rattle.heap_view.specs.Shows.{Shows}
+use Rattle.object_space.specs.Stores.{Stores}
 use Rattle.heap_core.specs.Standing.{StandsFor}
 use Rattle.object_space.specs.Kept.{restrict, is_kept, kept_in}
 use Rattle.object_space.proofs.Kept.{kept_cases, kept_map, kept_added, kept_removed, kept_none, kept_same, kept_is, nothing_pending}
 use Rattle.object_space.proofs.Changes.{shows_added, shows_removed}
 use Rattle.object_space.proofs.Allocations.{shows_same}
 use Rattle.object_space.proofs.Words.{shows_kept}
-use Rattle.object_space.proofs.Shown.{at_base}
+use Rattle.heap_view.proofs.Shows.{at_base}
 use Rattle.object_space.proofs.Sweeping.{read_or_not}
 use Rattle.object_space.specs.Rooms.{HasRoomAt, HasNoRoom}
 use Rattle.heap_core.proofs.Lookups.{finds}

@@ -1,7 +1,6 @@
 -- What the collector's view of the objects is to the heap: its closure is the heap's, and what it forgets is what goes.
-use Rattle.std.proofs.Common.{Bool, ◌≡◌, ℕ, ◌+◌, ◌*◌, List, length, get_or, Contains, Some, refl, sym, ap, ◌∙◌, subst, arith, flat_map, ◌++◌}
+use Rattle.std.proofs.Common.{Bool, ◌≡◌, ℕ, List, length, Contains, Some, refl, sym, ap, ◌∙◌, subst, flat_map, ◌++◌}
 use Rattle.std.specs.Prelude.{◌↔◌}
-use Rattle.std.proofs.lemmas.Option.{same_Some}
 use Rattle.std.proofs.lemmas.Bool.{false≢true}
 use Rattle.std.proofs.lemmas.List.Elements.{All-contains, All-contains_itself, All-weaker}
 use Rattle.mark_bits.specs.Granules.{granule}
@@ -12,7 +11,6 @@ use Rattle.heap_spec.specs.Closure.{Reached}
 use Rattle.heap_spec.specs.Cycles.{TakesOut, CollectsFully}
 use Rattle.heap_spec.specs.Heap.{without}
 use Rattle.heap_spec.proofs.Closures.{closure_mono, reached_in}
-use Rattle.pages.specs.Memory.{place}
 use Rattle.block_map.specs.declared.found.Found.{Found}
 use Rattle.block_map.specs.FoundIn.{found_in}
 use Rattle.block_map.specs.Objects.{IsMap}
@@ -20,12 +18,11 @@ use Rattle.marker.specs.Marking.{Marking, IsMarked, IsFresh}
 use Rattle.marker.specs.Closure.{Closure}
 use Rattle.marker.specs.Growth.{Traces}
 use Rattle.marker.proofs.Closures.{closure_more}
-use Rattle.reachability.specs.Shows.{IsFor, Shows as Sees, IsMarkedBirth}
-use Rattle.reachability.proofs.Closures.{marks_agree}
+use Rattle.heap_view.specs.Shows.{ShowsHeap, IsMarkedBirth}
+use Rattle.heap_view.proofs.Closures.{marks_agree}
 use Rattle.roots.specs.Roots.{root_words_of}
 use Rattle.object_space.specs.Store.{Store, IsSwept}
 use Rattle.heap_core.specs.Contents.{Contents, Cycle}
-use Rattle.object_space.specs.Shown.{Shows, IsShown}
 use Rattle.heap_core.specs.Standing.{StandsFor, keeps}
 use Rattle.object_space.specs.Kept.{restrict, kept_in}
 use Rattle.object_space.proofs.Kept.{kept_all, nothing_pending}
@@ -37,35 +34,13 @@ use Rattle.object_space.proofs.Sweeping.{shows_without}
 
 module _ (c : Contents) (map : IsMap (length c.store.states) (found_in c.store.states)) (swept : IsSwept c.store) (s : Heap) (h : StandsFor c s) where
   -- where nothing is to be swept, the objects of the map are the heap's
-  pub all_shown : Shows (found_in c.store.states) c.store.words s.objects s.births
+  pub all_shown : ShowsHeap (found_in c.store.states) c.store.words s
   all_shown = shows_same (restrict (keeps c) (found_in c.store.states)) (found_in c.store.states) c.store.words s.objects s.births
       (record { same = λ w. sym ((kept_all (keeps c) (found_in c.store.states) (λ w f there. nothing_pending c.store.pending c.cycle.marking.marks f (swept f.page))).same w) }) h.store.shows
 
   -- the heap's root words are the core's
   pub roots_are : root_words s ≡ root_words_of c.roots
   roots_are = ap (λ ms. flat_map words_of ms ++ s.globals) h.mutators ∙ ap (λ gs. flat_map words_of c.roots.mutators ++ gs) h.globals
-
-  is_for : (f : Found) (o : Object) → IsShown c.store.words f o → found_in c.store.states f.base ≡ Some f → IsFor c.store.words o f
-  is_for f o shown there = record {
-    kind = shown.kind;
-    len = shown.size;
-    words_are = λ i lt. shown.word i lt ∙ ap (λ k. get_or c.store.words k 0) (where_is i);
-  }
-    where
-      where_is : (i : ℕ) → place f.base + i ≡ place (f.base + 8 * i)
-      where_is i = let above = (map.placed f.base f there).above in omega arith
-
-  -- the collector sees the heap
-  pub sees : Sees s (found_in c.store.states) c.store.words
-  sees = record {
-    seen = λ b o has.
-        let f = all_shown.only b o has in
-        let there = ap (found_in c.store.states) f.2 ∙ f.1 in
-        let kept = all_shown.kept f.0 there in
-        let same : kept.0 ≡ o = same_Some _ _ (sym kept.1 ∙ ap s.objects f.2 ∙ has) in
-        (f.0, f.1, f.2, is_for f.0 o (subst (IsShown c.store.words f.0) same kept.2) there);
-    real = λ f there. let kept = all_shown.kept f there in (kept.0, kept.1, is_for f kept.0 kept.2 there);
-  }
 
   -- an object of the heap is one that the collector finds
   pub found_at : (base : ℕ) (o : Object) → HasObject s base o → (f : Found) × (found_in c.store.states base ≡ Some f) × (f.base ≡ base)
@@ -74,7 +49,7 @@ module _ (c : Contents) (map : IsMap (length c.store.states) (found_in c.store.s
   -- the collector's closure of the marks is the heap's
   pub closures : (f : Found) → found_in c.store.states f.base ≡ Some f → Closure (found_in c.store.states) c.store.words (root_words_of c.roots) (IsMarked c.cycle.marking) f ↔ heap.Closure s (IsMarkedBirth s c.cycle.marking) f.base
   closures f there = subst (λ rs. Closure (found_in c.store.states) c.store.words rs (IsMarked c.cycle.marking) f ↔ heap.Closure s (IsMarkedBirth s c.cycle.marking) f.base) roots_are
-      (marks_agree (length c.store.states) s (found_in c.store.states) c.store.words c.cycle.marking map sees all_shown.distinct f there)
+      (marks_agree (length c.store.states) s (found_in c.store.states) c.store.words c.cycle.marking map all_shown f there)
 
   -- marks that grow by the marker's closure grow within the heap's
   pub grows_within : (roots : List ℕ) (m : Marking) → ((w : ℕ) → Contains roots w → Contains (root_words_of c.roots) w) → Traces (found_in c.store.states) c.store.words roots c.cycle.marking m

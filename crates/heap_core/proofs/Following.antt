@@ -23,7 +23,7 @@ use Rattle.heap_spec.proofs.Births.{step_births}
 use Rattle.heap_spec.proofs.Closures.{closure_mono}
 use Rattle.heap_spec.proofs.Runs.{touched_closed}
 use Rattle.marker.specs.Marking.{IsMarked}
-use Rattle.reachability.specs.Shows.{IsMarkedBirth}
+use Rattle.heap_view.specs.Shows.{IsMarkedBirth}
 use Rattle.heap_core.specs.Contents.{Contents, Cycle}
 use Rattle.heap_core.specs.Standing.{StandsFor, objects_of}
 use Rattle.heap_core.specs.Calls.{IsCall}

@@ -18,10 +18,11 @@ use Rattle.heap_core.specs.Calls.{IsCall}
 use Rattle.heap_core.specs.Beside.{NotesWrite}
 use Rattle.std.specs.Prelude.{Bool}
 use Rattle.object_space.specs.Kept.{restrict, is_kept}
-use Rattle.object_space.specs.Shown.{Stores, Shows, IsShown}
+use Rattle.heap_view.specs.Shows.{Shows, IsShown}
+use Rattle.object_space.specs.Stores.{Stores}
 use Rattle.heap_core.specs.Standing.{StandsFor}
 use Rattle.object_space.proofs.Kept.{kept_map}
-use Rattle.object_space.proofs.Shown.{reads_object, reads_nothing, word_read, is_word}
+use Rattle.heap_view.proofs.Shows.{reads_object, reads_nothing, word_read, is_word}
 use Rattle.object_space.proofs.Changes.{shows_stored}
 use Rattle.heap_core.proofs.Roots.{core_of, attached, stands_set, quiet, none_some}
 

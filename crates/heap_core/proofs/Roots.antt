@@ -18,7 +18,7 @@ use Rattle.object_space.specs.Store.{Store}
 use Rattle.heap_core.specs.Contents.{Contents, Cycle}
 use Rattle.heap_core.specs.Calls.{IsCall}
 use Rattle.object_space.specs.Kept.{is_kept}
-use Rattle.object_space.specs.Shown.{Stores}
+use Rattle.object_space.specs.Stores.{Stores}
 use Rattle.heap_core.specs.Standing.{StandsFor}
 
 -- the core of these

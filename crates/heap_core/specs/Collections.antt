@@ -13,7 +13,7 @@ use Rattle.marker.specs.Invariant.{AreRootsMarked}
 use Rattle.marker.specs.Growth.{MarksWords, Traces}
 use Rattle.marker.specs.Entries.{Takes, TakesOff}
 use Rattle.marker.specs.Retracing.{Retraces}
-use Rattle.reachability.specs.Shows.{IsMarkedBirth}
+use Rattle.heap_view.specs.Shows.{IsMarkedBirth}
 use Rattle.roots.specs.Roots.{root_words_of}
 use Rattle.object_space.specs.Store.{IsSwept}
 use Rattle.heap_core.specs.Contents.{Contents}

@@ -4,7 +4,7 @@ use Rattle.heap_spec.specs.Heap.{Heap}
 use Rattle.block_map.specs.FoundIn.{found_in}
 use Rattle.block_map.specs.declared.found.Found.{Found}
 use Rattle.object_space.specs.Kept.{restrict, is_kept}
-use Rattle.object_space.specs.Shown.{Stores}
+use Rattle.object_space.specs.Stores.{Stores}
 use Rattle.heap_core.specs.Contents.{Contents}
 
 -- whether the object is kept

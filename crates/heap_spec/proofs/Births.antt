@@ -1,10 +1,10 @@
 -- The objects after a step: old ones, and one that was born in it.
-use Rattle.std.proofs.Common.{◌≡◌, ℕ, ◌+◌, length, refl, sym, ap, ◌∙◌, arith, inl, inr, ⊎_elim}
+use Rattle.std.proofs.Common.{◌≡◌, ℕ, ◌+◌, length, sym, ap, ◌∙◌, arith, inl, inr, ⊎_elim}
 use Rattle.std.proofs.lemmas.Option.{same_Some}
 use Rattle.std.proofs.lemmas.List.{length-set}
 use Rattle.heap_spec.specs.declared.call.Call.{Call}
 use Rattle.heap_spec.specs.declared.event.Event.{Event}
-use Rattle.heap_spec.specs.declared.event.Event.TheVariants.{Attach, Mutator, Begin, Roots, Mark, Retrace, Finish, Sweep, Collect, Number}
+use Rattle.heap_spec.specs.declared.event.Event.TheVariants.{Attach, Mutator}
 use Rattle.heap_spec.specs.declared.reply.Reply.{Reply}
 use Rattle.heap_spec.specs.Heap.{Heap, Object, Mutator as HeapMutator, HasObject}
 use Rattle.heap_spec.specs.Steps.{Acts, Attaches, Calls, Step}

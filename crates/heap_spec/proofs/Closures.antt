@@ -2,7 +2,8 @@
 use Rattle.std.proofs.Common.{ℕ, refl, subst}
 use Rattle.heap_spec.specs.Heap.{Heap}
 use Rattle.heap_spec.specs.Closure.{Closure, given, root, word, Reached, IsInClosure}
-use Rattle.heap_spec.specs.Laws.{KeepsRules, HasDistinctBirths}
+use Rattle.heap_spec.specs.Sound.{HaveDistinctBirths}
+use Rattle.heap_spec.specs.Laws.{KeepsRules}
 
 -- the closure keeps its rules, and lies in each set that does
 pub closure_keeps : (s : Heap) (births : ℕ → Type 0) → KeepsRules s births (Closure s births)
@@ -28,12 +29,12 @@ pub reached_in : (s : Heap) (births : ℕ → Type 0) → {base : ℕ} → Reach
 reached_in s births r = closure_mono s (λ _. ⊥) births (λ b h. absurd h) r
 
 -- the closure of a closure is that closure
-pub closure_idem : (s : Heap) (births : ℕ → Type 0) → HasDistinctBirths s → {base : ℕ} → Closure s (IsInClosure s births) base → Closure s births base
+pub closure_idem : (s : Heap) (births : ℕ → Type 0) → HaveDistinctBirths s.objects → {base : ℕ} → Closure s (IsInClosure s births) base → Closure s births base
 closure_idem s births d (given {base = b} {o = o} has m) = subst (Closure s births) (d m.0 b m.1 o m.2 has m.3) m.4
 closure_idem s births d (root r reads) = root r reads
 closure_idem s births d (word from has normal w reads) = word (closure_idem s births d from) has normal w reads
 
-pub in_idem : (s : Heap) (births : ℕ → Type 0) → HasDistinctBirths s → (birth : ℕ) → IsInClosure s (IsInClosure s births) birth → IsInClosure s births birth
+pub in_idem : (s : Heap) (births : ℕ → Type 0) → HaveDistinctBirths s.objects → (birth : ℕ) → IsInClosure s (IsInClosure s births) birth → IsInClosure s births birth
 in_idem s births d birth x = (x.0, x.1, x.2, x.3, closure_idem s births d x.4)
 
 pub in_closure : (s : Heap) (births : ℕ → Type 0) (birth : ℕ) → IsInClosure s births birth → IsInClosure s (IsInClosure s births) birth

@@ -1,5 +1,5 @@
 -- What holds in every run of a new heap.
-use Rattle.std.proofs.Common.{◌≡◌, ℕ, false, List, [], ◌∷◌, refl, sym, ap, ◌∙◌, subst}
+use Rattle.std.proofs.Common.{ℕ, List, [], ◌∷◌, refl, sym, ap, ◌∙◌, subst}
 use Rattle.std.specs.Prelude.{All}
 use Rattle.std.proofs.lemmas.Option.{none-some, same_Some}
 use Rattle.std.proofs.lemmas.List.Elements.{All-head, All-tail, All-contains}
@@ -12,8 +12,8 @@ use Rattle.heap_spec.specs.Runs.{Start, Run, Moment, fresh, heap_after, Touched,
 use Rattle.heap_spec.specs.Cycles.{TakesOut, CollectsFully}
 use Rattle.heap_spec.specs.Histories.{Happens, IsRun}
 use Rattle.heap_spec.specs.Ranges.{InRange}
-use Rattle.heap_spec.specs.Sound.{IsSound}
-use Rattle.heap_spec.specs.Laws.{IsFreshRun, HasDistinctBirths, KeepsReached, HasOnlyReached}
+use Rattle.heap_spec.specs.Sound.{IsSound, HaveDistinctBirths}
+use Rattle.heap_spec.specs.Laws.{IsFreshRun, KeepsReached, HasOnlyReached}
 use Rattle.heap_spec.proofs.Closures.{in_idem, reached_in}
 use Rattle.heap_spec.proofs.Objects.{without_some, without_other, same_object}
 use Rattle.heap_spec.proofs.Calls.{calls_kept, attaches_kept, takes_out_kept, opening_is}
@@ -40,11 +40,11 @@ pub fresh_sound : (pages : ℕ) (run : Run) → IsFreshRun pages run → IsSound
 fresh_sound pages run h = run_kept (fresh pages) run (opening_is pages h.some_page h.few_pages) h.in_range h.is_run
 
 -- after any event the touched births are closed
-after_closed : (event : Event) (before : ℕ → Type 0) (old new : Heap) → HasDistinctBirths new → (birth : ℕ) → IsInClosure new (touched_after event before old new) birth → touched_after event before old new birth
+after_closed : (event : Event) (before : ℕ → Type 0) (old new : Heap) → HaveDistinctBirths new.objects → (birth : ℕ) → IsInClosure new (touched_after event before old new) birth → touched_after event before old new birth
 after_closed Begin before old new d birth x = in_idem new _ d birth x
 after_closed _ before old new d birth x = in_idem new _ d birth x
 
-pub touched_closed : (start : Start) (m : Moment) (run : Run) → HasDistinctBirths m.heap → (birth : ℕ) → IsInClosure m.heap (Touched start (m ∷ run)) birth → Touched start (m ∷ run) birth
+pub touched_closed : (start : Start) (m : Moment) (run : Run) → HaveDistinctBirths m.heap.objects → (birth : ℕ) → IsInClosure m.heap (Touched start (m ∷ run)) birth → Touched start (m ∷ run) birth
 touched_closed start m run d birth x = after_closed m.told.event (Touched start run) (heap_after start run) m.heap d birth x
 
 pub fresh_touched_closed : (pages : ℕ) (run : Run) → IsFreshRun pages run → (birth : ℕ) → IsInClosure (heap_after (fresh pages) run) (Touched (fresh pages) run) birth → Touched (fresh pages) run birth

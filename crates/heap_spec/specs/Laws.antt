@@ -15,7 +15,7 @@ use Rattle.heap_spec.specs.Steps.{Calls, Step, register}
 use Rattle.heap_spec.specs.Runs.{Start, Run, fresh, heap_after, IsBornSince, Touched}
 use Rattle.heap_spec.specs.Histories.{Happens, IsRun}
 use Rattle.heap_spec.specs.Ranges.{InRange}
-use Rattle.heap_spec.specs.Sound.{IsSound, LieInHeap}
+use Rattle.heap_spec.specs.Sound.{IsSound, HaveDistinctBirths, LieInHeap}
 
 -- a number is in a set
 abbrev pub IsIn : (ℕ → Bool) → ℕ → Type 0
@@ -38,13 +38,9 @@ abbrev pub ClosureIsMonotone : Type 0
 ClosureIsMonotone = (s : Heap) (births more : ℕ → Bool) → ((birth : ℕ) → IsIn births birth → IsIn more birth)
     → (base : ℕ) → Closure s (IsIn births) base → Closure s (IsIn more) base
 
--- no two objects have one birth
-abbrev pub HasDistinctBirths : Heap → Type 0
-HasDistinctBirths s = (a b : ℕ) (o p : Object) → HasObject s a o → HasObject s b p → o.birth ≡ p.birth → a ≡ b
-
 -- the closure of a closure is that closure
 abbrev pub ClosureIsIdempotent : Type 0
-ClosureIsIdempotent = (s : Heap) (births : ℕ → Bool) → HasDistinctBirths s
+ClosureIsIdempotent = (s : Heap) (births : ℕ → Bool) → HaveDistinctBirths s.objects
     → (birth : ℕ) → IsInClosure s (IsInClosure s (IsIn births)) birth ↔ IsInClosure s (IsIn births) birth
 
 -- A run of a new heap of so many pages, all of whose events are in range.

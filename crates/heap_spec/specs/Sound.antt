@@ -40,13 +40,17 @@ pub record ArePages (pages base len : ℕ) : Type 0 where
   pub is_start : base ≡ page_start first
   pub whole : len ≡ PAGE_WORDS * count
 
+-- no two objects have one birth
+abbrev pub HaveDistinctBirths : (ℕ → Option Object) → Type 0
+HaveDistinctBirths objects = (a b : ℕ) (o p : Object) → objects a ≡ Some o → objects b ≡ Some p → o.birth ≡ p.birth → a ≡ b
+
 -- The objects of a heap of so many pages, after so many births: each is a cell or pages of its own, its words are below
 -- 2 ^ 64, its birth is at least 1, no greater than the count, and no other's, and it ends before the next one begins.
 pub record AreObjects (pages births : ℕ) (objects : ℕ → Option Object) : Type 0 where
   pub laid : (base : ℕ) (o : Object) → objects base ≡ Some o → IsCell pages base (length o.words) ⊎ ArePages pages base (length o.words)
   pub words : (base : ℕ) (o : Object) → objects base ≡ Some o → All IsWord o.words
   pub born : (base : ℕ) (o : Object) → objects base ≡ Some o → (1 ≤ o.birth) × (o.birth ≤ births)
-  pub distinct : (a b : ℕ) (o p : Object) → objects a ≡ Some o → objects b ≡ Some p → o.birth ≡ p.birth → a ≡ b
+  pub distinct : HaveDistinctBirths objects
   pub apart : (a b : ℕ) (o p : Object) → objects a ≡ Some o → objects b ≡ Some p → a < b → a + WORD_BYTES * length o.words ≤ b
 
 -- What holds of a heap in every run.

@@ -23,7 +23,7 @@ use Rattle.block_map.proofs.Laid.{laid_block, laid_cell, laid_large}
 use Rattle.block_map.proofs.Lawful.{map_laws}
 use Rattle.block_map.proofs.Spans.{place_of}
 use Rattle.object_space.specs.Store.{Store, IsSound, Agree, IsPendingRow}
-use Rattle.object_space.specs.Shown.{Shows}
+use Rattle.heap_view.specs.Shows.{Shows}
 use Rattle.object_space.specs.Rooms.{IsFreeCell, HasNoFreeCell, HasRoomAt, HasNoRoom, TakesCell, CutsPage}
 use Rattle.object_space.specs.Sweeps.{Gains}
 use Rattle.object_space.proofs.Words.{others_kept, zeroed_object}

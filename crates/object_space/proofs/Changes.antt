@@ -11,10 +11,10 @@ use Rattle.marker.specs.Mutations.{KeepsWords, HasZeroWords}
 use Rattle.block_map.specs.Objects.{IsMap, Reads}
 use Rattle.block_map.specs.Changes.{IsAdded, IsRemoved}
 use Rattle.block_map.specs.declared.found.Found.{Found}
-use Rattle.object_space.specs.Shown.{IsShown, Shows}
+use Rattle.heap_view.specs.Shows.{IsShown, Shows}
 use Rattle.heap_spec.proofs.Objects.{without_one, without_one-other}
 use Rattle.object_space.proofs.Tables.{with_at-same, with_at-other, with_at-cases}
-use Rattle.object_space.proofs.Shown.{at_base, one_at_base, word_index, reads_place}
+use Rattle.heap_view.proofs.Shows.{at_base, one_at_base, word_index, reads_place}
 use Rattle.object_space.proofs.Words.{shown_kept, word_is}
 
 -- a word is stored

@@ -24,7 +24,7 @@ use Rattle.object_space.specs.Kept.{kept_in}
 use Rattle.object_space.specs.Forgets.{IsUnmarkedOn, AreUnmarkedOn, nothing, unswept, gone, ForgetsBases, ForgetsOn, HasForgotten}
 use Rattle.object_space.proofs.Counting.{dead_cells, cells_few}
 use Rattle.object_space.proofs.Kept.{ended_lazily}
-use Rattle.object_space.proofs.Shown.{at_base, one_at_base}
+use Rattle.heap_view.proofs.Shows.{at_base, one_at_base}
 use Rattle.object_space.proofs.Sweeping.{distinct_none, not_any, read_or_not}
 
 none_some : (f : Found) → None ≡ Some f → ⊥

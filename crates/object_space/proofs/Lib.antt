@@ -1,7 +1,6 @@
 pub mod Tables
 pub mod AvailableRows
 pub mod Kept
-pub mod Shown
 pub mod Words
 pub mod Changes
 pub mod Placing

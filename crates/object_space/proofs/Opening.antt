@@ -10,7 +10,7 @@ use Rattle.block_map.proofs.Lawful.{map_laws}
 use Rattle.object_space.specs.Store.{Store}
 use Rattle.std.specs.Prelude.{Bool}
 use Rattle.object_space.proofs.Kept.{kept_cases}
-use Rattle.object_space.specs.Shown.{Stores}
+use Rattle.object_space.specs.Stores.{Stores}
 
 none_some : {A : Type 0} (x : A) → None ≡ Some x → ⊥
 none_some x e = cc

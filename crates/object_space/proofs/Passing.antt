@@ -15,7 +15,7 @@ use Rattle.pages.specs.Memory.{word_at}
 use Rattle.marker.specs.Marking.{Marking, IsMarked, word_address}
 use Rattle.object_space.specs.Store.{Store}
 use Rattle.object_space.specs.Sweeps.{Passes, none, marked, forgot, HasPassed, SweepsPage}
-use Rattle.object_space.proofs.Shown.{at_base, one_at_base}
+use Rattle.heap_view.proofs.Shows.{at_base, one_at_base}
 use Rattle.object_space.proofs.Rooms.{Lies, in_cell, in_large, lies_cases, large_page, cell_end}
 use Rattle.block_map.specs.States.{PageState, cut, head, body, state_at, LaidAt, IsLaid}
 use Rattle.block_map.specs.FoundIn.{IsLawful}

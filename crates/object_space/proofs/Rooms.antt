@@ -17,7 +17,7 @@ use Rattle.block_map.specs.Objects.{cell_object, large_object, IsObjectOn, IsObj
 use Rattle.block_map.specs.FoundIn.{found_in, IsLawful}
 use Rattle.block_map.specs.declared.found.Found.{Found}
 use Rattle.object_space.specs.Store.{Store, IsSound}
-use Rattle.object_space.specs.Shown.{Stores}
+use Rattle.object_space.specs.Stores.{Stores}
 use Rattle.object_space.specs.Kept.{restrict}
 use Rattle.object_space.proofs.Kept.{kept_cases, kept_is}
 use Rattle.object_space.specs.Rooms.{IsFreeCell, HasNoFreeCell}

@@ -15,9 +15,9 @@ use Rattle.heap_spec.specs.Heap.{Object}
 use Rattle.block_map.specs.declared.found.Found.{Found}
 use Rattle.block_map.specs.Objects.{IsMap, Reads}
 use Rattle.block_map.specs.Changes.{IsRemoved}
-use Rattle.object_space.specs.Shown.{Shows}
+use Rattle.heap_view.specs.Shows.{Shows}
 use Rattle.object_space.specs.Sweeps.{IsWithout}
-use Rattle.object_space.proofs.Shown.{at_base, one_at_base}
+use Rattle.heap_view.proofs.Shows.{at_base, one_at_base}
 
 none_in : (b : ℕ) → Contains [] b → ⊥
 none_in b h = let l = h.1 in omega arith

@@ -9,7 +9,7 @@ use Rattle.block_map.specs.Changes.{IsAdded}
 use Rattle.block_map.specs.declared.found.Found.{Found}
 use Rattle.marker.specs.Marking.{word_address}
 use Rattle.marker.specs.Mutations.{KeepsWords, HasZeroWords}
-use Rattle.object_space.specs.Shown.{IsShown, Shows}
+use Rattle.heap_view.specs.Shows.{IsShown, Shows}
 
 -- where the word of an object stands in the memory
 pub word_place : (f : Found) (i : ℕ) → FIRST_ADDRESS ≤ f.base → place (word_address f i) ≡ place f.base + i

@@ -1,7 +1,7 @@
 pub mod AvailableRows
 pub mod Store
 pub mod Kept
-pub mod Shown
+pub mod Stores
 pub mod Rooms
 pub mod Sweeps
 pub mod Forgets

@@ -15,7 +15,7 @@ use Rattle.block_map.specs.Objects.{object_on}
 use Rattle.block_map.specs.States.{PageState, free, cut, state_at, all_free, with_cell, IsSpanSet}
 use Rattle.object_space.specs.Store.{Store}
 use Rattle.block_map.specs.declared.found.Found.{Found}
-use Rattle.object_space.specs.Shown.{Stores}
+use Rattle.object_space.specs.Stores.{Stores}
 
 -- the page is cut for the class and the kind, and its cell is free
 pub record IsFreeCell (states : List PageState) (class : ℕ) (kind : Kind) (page cell : ℕ) : Type 0 where

@@ -9,7 +9,7 @@ ghost use Rattle.block_map.specs.FoundIn.{found_in, IsLawful};
 ghost use Rattle.block_map.specs.declared.found.Found.{Found};
 ghost use Rattle.object_space.specs.Store.{IsSwept};
 ghost use Rattle.object_space.specs.Kept.{kept_in};
-ghost use Rattle.object_space.specs.Shown.{Stores};
+ghost use Rattle.object_space.specs.Stores.{Stores};
 
 mod allocate;
 mod available_pages;

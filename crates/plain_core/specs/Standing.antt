@@ -2,6 +2,7 @@
 use Rattle.std.specs.Prelude.{◌≡◌, ℕ, ◌+◌, ◌-◌, ◌/◌, ◌≤◌, List, length, take, drop, Contains}
 use Rattle.words.specs.declared.limits.TheConstants.{WORD_BYTES, FIRST_ADDRESS}
 use Rattle.heap_spec.specs.Heap.{Heap, Object, HasObject}
+use Rattle.heap_spec.specs.Sound.{HaveDistinctBirths}
 use Rattle.plain_core.specs.declared.extent.Extent.{Extent}
 use Rattle.plain_core.specs.Contents.{Contents}
 
@@ -32,4 +33,4 @@ pub record StandsFor (c : Contents) (s : Heap) : Type 0 where
   pub kept : (e : Extent) → Contains c.objects e → (o : Object) × HasObject s e.base o × IsShown c.words e o
   pub only : (base : ℕ) (o : Object) → HasObject s base o → (e : Extent) × Contains c.objects e × (e.base ≡ base)
   pub born : (base : ℕ) (o : Object) → HasObject s base o → (1 ≤ o.birth) × (o.birth ≤ s.births)
-  pub distinct : (a b : ℕ) (o p : Object) → HasObject s a o → HasObject s b p → o.birth ≡ p.birth → a ≡ b
+  pub distinct : HaveDistinctBirths s.objects

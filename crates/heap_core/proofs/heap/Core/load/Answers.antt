@@ -2,7 +2,7 @@ use Rattle.std.proofs.Common.{sym}
 use Rattle.heap_spec.specs.Steps.{Acts}
 use Rattle.object_space.proofs.Kept.{kept_map}
 use Rattle.heap_core.proofs.Roots.{refused, refused_vacant}
-use Rattle.object_space.proofs.Shown.{is_word}
+use Rattle.heap_view.proofs.Shows.{is_word}
 use Rattle.heap_core.proofs.Lookups.{finds_nothing, loads}
 use Rattle.heap_core.proofs.heap.Core.load.Goals as goal
 

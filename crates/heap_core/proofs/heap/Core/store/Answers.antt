@@ -3,7 +3,7 @@ use Rattle.heap_core.proofs.Tracing.{traced_write}
 use Rattle.heap_spec.specs.Steps.{Acts}
 use Rattle.object_space.proofs.Kept.{kept_map}
 use Rattle.heap_core.proofs.Roots.{refused, refused_vacant}
-use Rattle.object_space.proofs.Shown.{is_word}
+use Rattle.heap_view.proofs.Shows.{is_word}
 use Rattle.heap_core.proofs.Lookups.{finds_nothing, stores}
 use Rattle.heap_core.proofs.heap.Core.store.Goals as goal
 

@@ -1,11 +1,10 @@
--- Which objects of a heap a store has.
-use Rattle.std.specs.Prelude.{Bool, ◌≡◌, ℕ, ◌+◌, ◌<◌, ◌≤◌, Option, Some, List, length, slice_index}
-use Rattle.heap_spec.specs.Heap.{Heap, Object}
+-- What a map and a memory show of a heap.
+use Rattle.std.specs.Prelude.{◌≡◌, ℕ, ◌+◌, ◌<◌, ◌≤◌, List, length, slice_index, Option, Some}
 use Rattle.pages.specs.Memory.{place}
-use Rattle.block_map.specs.FoundIn.{found_in}
 use Rattle.block_map.specs.declared.found.Found.{Found}
-use Rattle.object_space.specs.Kept.{restrict}
-use Rattle.object_space.specs.Store.{Store}
+use Rattle.heap_spec.specs.Heap.{Heap, Object, HasObject}
+use Rattle.heap_spec.specs.Sound.{HaveDistinctBirths}
+use Rattle.marker.specs.Marking.{Marking, IsMarked}
 
 -- The object of the heap is the one that the map finds, and has the words that the memory has there.
 pub record IsShown (words : List ℕ) (f : Found) (o : Object) : Type 0 where
@@ -18,9 +17,20 @@ pub record Shows (found : ℕ → Option Found) (words : List ℕ) (objects : �
   pub kept : (f : Found) → found f.base ≡ Some f → (o : Object) × (objects f.base ≡ Some o) × IsShown words f o
   pub only : (base : ℕ) (o : Object) → objects base ≡ Some o → (f : Found) × (found base ≡ Some f) × (f.base ≡ base)
   pub born : (base : ℕ) (o : Object) → objects base ≡ Some o → (1 ≤ o.birth) × (o.birth ≤ births)
-  pub distinct : (a b : ℕ) (o p : Object) → objects a ≡ Some o → objects b ≡ Some p → o.birth ≡ p.birth → a ≡ b
+  pub distinct : HaveDistinctBirths objects
 
--- The store has the pages of the heap, and those of its objects that are kept are the heap's.
-pub record Stores (keep : Found → Bool) (t : Store) (s : Heap) : Type 0 where
-  pub pages : s.pages ≡ length t.states
-  pub shows : Shows (restrict keep (found_in t.states)) t.words s.objects s.births
+-- the map and the memory show the objects of the heap
+abbrev pub ShowsHeap : (ℕ → Option Found) → List ℕ → Heap → Type 0
+ShowsHeap found words s = Shows found words s.objects s.births
+
+-- the object with this base has one of the births
+abbrev pub HasBirth : Heap → (ℕ → Type 0) → ℕ → Type 0
+HasBirth s births b = (o : Object) × HasObject s b o × births o.birth
+
+-- the birth is that of a marked object
+pub record IsMarkedBirth (s : Heap) (m : Marking) (birth : ℕ) : Type 0 where
+  pub base : ℕ
+  pub object : Object
+  pub has : HasObject s base object
+  pub same : object.birth ≡ birth
+  pub marked : IsMarked m base

@@ -1,5 +1,5 @@
 -- What the objects that a map finds are to a heap that has the same.
-use Rattle.std.proofs.Common.{◌≡◌, ℕ, ◌+◌, ◌-◌, ◌*◌, ◌/◌, ◌%◌, ◌<◌, ◌≤◌, List, length, get_or, Option, Some, None, sym, ap, ◌∙◌, arith}
+use Rattle.std.proofs.Common.{◌≡◌, ℕ, ◌+◌, ◌-◌, ◌*◌, ◌/◌, ◌%◌, ◌<◌, ◌≤◌, List, length, get_or, Option, Some, None, sym, ap, ◌∙◌, subst, arith}
 use Rattle.std.specs.Prelude.{slice_index}
 use Rattle.std.proofs.lemmas.Option.{same_Some}
 use Rattle.heap_spec.specs.Layout.{Reads as IsRead}
@@ -7,7 +7,8 @@ use Rattle.heap_spec.specs.Heap.{Object}
 use Rattle.pages.specs.Memory.{IsWordAddress, place, word_at}
 use Rattle.block_map.specs.Objects.{IsMap}
 use Rattle.block_map.specs.declared.found.Found.{Found}
-use Rattle.object_space.specs.Shown.{IsShown, Shows}
+use Rattle.marker.specs.Marking.{word_address}
+use Rattle.heap_view.specs.Shows.{IsShown, Shows}
 
 module _ (found : ℕ → Option Found) (pages : ℕ) (map : IsMap pages found) where
   -- an object that is found is found at its base
@@ -48,13 +49,19 @@ module _ (found : ℕ → Option Found) (pages : ℕ) (map : IsMap pages found) 
         let from = (map.reads w f is).from in let below = (map.reads w f is).below in let size = kept.2.size in
         (kept.0, kept.1, kept.2, (from, omega arith))
 
-    -- an address that finds nothing reads nothing
-    pub reads_nothing : (w : ℕ) → found w ≡ None → (base : ℕ) (o : Object) → objects base ≡ Some o → IsRead w base (length o.words) → ⊥
-    reads_nothing w none base o is reads =
+    -- an object of the heap is the one that is found at its base
+    pub seen : (base : ℕ) (o : Object) → objects base ≡ Some o → (f : Found) × (found base ≡ Some f) × (f.base ≡ base) × IsShown words f o
+    seen base o is =
         let only = shows.only base o is in
         let kept = shows.kept only.0 (ap found only.2 ∙ only.1) in
         let same : kept.0 ≡ o = same_Some _ _ (sym kept.1 ∙ ap objects only.2 ∙ is) in
-        let size : length o.words ≡ only.0.len = ap (λ (p : Object). length p.words) (sym same) ∙ kept.2.size in
+        (only.0, only.1, only.2, subst (IsShown words only.0) same kept.2)
+
+    -- an address that finds nothing reads nothing
+    pub reads_nothing : (w : ℕ) → found w ≡ None → (base : ℕ) (o : Object) → objects base ≡ Some o → IsRead w base (length o.words) → ⊥
+    reads_nothing w none base o is reads =
+        let only = seen base o is in
+        let size = only.3.size in
         let at = only.2 in let from = reads.0 in let below = reads.1 in
         let again : found w ≡ Some only.0 = map.whole base w only.0 only.1 (record { from = omega arith; below = omega arith }) in
         cc
@@ -64,3 +71,10 @@ module _ (found : ℕ → Option Found) (pages : ℕ) (map : IsMap pages found) 
     word_read w f o is shown aligned =
         let at = word_index w f is aligned in
         shown.word ((w - f.base) / 8) at.0 ∙ ap (λ i. get_or words i 0) at.1
+
+  -- a word of an object is the one that the memory has at its address
+  pub word_shown : (words : List ℕ) (f : Found) (o : Object) → found f.base ≡ Some f → IsShown words f o → (i : ℕ) → i < f.len → slice_index o.words i ≡ word_at words (word_address f i)
+  word_shown words f o is shown i lt = shown.word i lt ∙ ap (λ k. get_or words k 0) where_is
+    where
+      where_is : place f.base + i ≡ place (f.base + 8 * i)
+      where_is = let above = (map.placed f.base f is).above in omega arith

@@ -6,13 +6,13 @@ ghost use Rattle.heap_spec.specs.Heap.{Heap, root_words};
 ghost use Rattle.heap_spec.specs.Closure as heap;
 ghost use Rattle.marker.specs.Marking.{Marking, IsMarked};
 ghost use Rattle.marker.specs.Closure.{Closure};
-ghost use Rattle.reachability.specs.Shows.{Shows, HasBirth, AreBirthsDistinct, IsMarkedBirth};
+ghost use Rattle.heap_view.specs.Shows.{ShowsHeap, HasBirth, IsMarkedBirth};
 
 /// An object is in the marker's closure of the objects of some births exactly if it is in the heap's closure of these
 /// births.
 #[tactic(auto, using(crate::proofs::Closures::agreeing))]
 pub fn closures_agree()
-    ensures { (pages : ℕ) (s : Heap) (found : ℕ → Option Found) (words : List ℕ) (births : ℕ → Bool) → IsMap pages found → Shows s found words → (f : Found) → found f.base ≡ Some f
+    ensures { (pages : ℕ) (s : Heap) (found : ℕ → Option Found) (words : List ℕ) (births : ℕ → Bool) → IsMap pages found → ShowsHeap found words s → (f : Found) → found f.base ≡ Some f
         → (Closure found words (root_words s) (HasBirth s (λ b. births b ≡ true)) f ↔ heap.Closure s (λ b. births b ≡ true) f.base) }
 {}
 
@@ -20,6 +20,6 @@ pub fn closures_agree()
 /// objects.
 #[tactic(auto, using(crate::proofs::Closures::agreeing))]
 pub fn marked_closures_agree()
-    ensures { (pages : ℕ) (s : Heap) (found : ℕ → Option Found) (words : List ℕ) (m : Marking) → IsMap pages found → Shows s found words → AreBirthsDistinct s → (f : Found) → found f.base ≡ Some f
+    ensures { (pages : ℕ) (s : Heap) (found : ℕ → Option Found) (words : List ℕ) (m : Marking) → IsMap pages found → ShowsHeap found words s → (f : Found) → found f.base ≡ Some f
         → (Closure found words (root_words s) (IsMarked m) f ↔ heap.Closure s (IsMarkedBirth s m) f.base) }
 {}

@@ -1,0 +1,10 @@
+//! What a map and a memory show of the sequential heap.
+//!
+//! The marker sees objects as what the block map finds, and words as the memory's. The sequential heap has objects
+//! with births and words of their own. Over any heap that map and memory show, the closure that the marker computes is
+//! the heap's own: the two hold the same objects. Only definitions and laws live here.
+#![tactic(auto)]
+
+mod laws;
+
+pub use laws::{closures_agree, marked_closures_agree};
