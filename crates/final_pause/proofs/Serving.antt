@@ -9,7 +9,7 @@ use Rattle.words.specs.declared.limits.TheConstants.{WORD_BYTES}
 use Rattle.words.specs.Bits.{Has}
 use Rattle.words.specs.Layout.{granule, page_of, page_start}
 use Rattle.mark_bits.specs.declared.claimer_view.ClaimerView.{ClaimerView}
-use Rattle.mark_bits.specs.Tables.{view}
+use Rattle.mark_bits.specs.Tables.{view, IsOf}
 use Rattle.mark_bits.specs.Claims.{knows}
 use Rattle.block_map.specs.declared.found.Found.{Found}
 use Rattle.block_map.specs.Objects.{IsMap}
@@ -20,7 +20,7 @@ use Rattle.marker.proofs.Closures.{at_base}
 use Rattle.marker.proofs.Rescanning.{next_is, reads_own}
 use Rattle.final_pause.specs.declared.helper.Helper.{Helper}
 use Rattle.final_pause.specs.declared.share.Pause.{Pause}
-use Rattle.final_pause.specs.Helping.{found, word_in, won_of, Fits, Extends, IsTargetKnown, IsPointedInto, ClaimsOnly, IsWordOf, ReadsWords}
+use Rattle.final_pause.specs.Helping.{found, word_in, won_of, Fits, Extends, IsTargetKnown, IsAwaited, IsPointedInto, ClaimsOnly, IsWordOf, ReadsWords}
 use Rattle.final_pause.specs.Serving.{IsReached, IsReachedAt, IsQueuedAt, IsServing, Serves, AreRootsRead, AreEntriesRead, IsCurrentRead, AreWordsRead, ArePagesRead, IsShareRead}
 use Rattle.final_pause.proofs.Knowing.{contains_one}
 use Rattle.final_pause.proofs.Growing.{target_more, awaited_more, page_more}
@@ -144,6 +144,35 @@ module _ (p : Pause) where
       serving = serving_pop;
       share = x.share ∙ share;
       learns = record { parts = x.learns.parts ∙ ap (λ c. (view c).parts) claimer; known = known };
+    }
+
+  -- a reached Normal object comes to the stack
+  module _ (a m : Helper) (base : ℕ) (claimer : m.claimer ≡ a.claimer) (dirty : m.dirty ≡ a.dirty) (stack : m.stack.items ≡ a.stack.items ++ base ∷ []) where
+    won_back : (k : ℕ) → Contains (won_of m) k → Contains (won_of a) k
+    won_back k c = subst (λ h. Contains (view h).won k) claimer c
+
+    won_on : (k : ℕ) → Contains (won_of a) k → Contains (won_of m) k
+    won_on k c = subst (λ h. Contains (view h).won k) (sym claimer) c
+
+    awaited_on : (f : Found) (i : ℕ) → IsAwaited a f i → IsAwaited m f i
+    awaited_on f i w = ⊎_elim
+        (λ d. inl (subst (λ d. Has d (page_of (word_address f i))) (sym dirty) d))
+        (λ c. inr (subst (λ l. Contains l f.base) (sym stack) (Contains-append_left a.stack.items (base ∷ []) f.base c))) w
+
+    pub serving_push : IsQueuedAt p base → IsServing p a → IsServing p m
+    serving_push q s = record {
+      fits = record { ready = s.fits.ready; of = subst (λ h. IsOf p.table.now h) (sym claimer) s.fits.of; dirty = ap length dirty ∙ s.fits.dirty };
+      one = ap (λ h. (view h).parts) claimer ∙ s.one;
+      won = λ f o n c i lt. ⊎_elim
+          (λ k. inl (subst (λ h. IsTargetKnown p (view h) (word_in p f i)) (sym claimer) k))
+          (λ w. inr (awaited_on f i w))
+          (s.won f o n (won_back (granule f.base) c) i lt);
+      dirtied = λ k h. page_more p a m won_on k (s.dirtied k (subst (λ d. Has d k) dirty h));
+      queued = λ k c. ⊎_elim
+          (λ h. s.queued k h)
+          (λ h. subst (IsQueuedAt p) (contains_one base k h) q)
+          (Contains-append_cases a.stack.items (base ∷ []) k (subst (λ l. Contains l k) stack c));
+      within = λ k c. s.within k (won_back k c);
     }
 
   module _ (v w : ClaimerView) (more : (k : ℕ) → knows v k ≡ true → knows w k ≡ true) where

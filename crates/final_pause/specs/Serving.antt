@@ -34,6 +34,11 @@ pub record IsQueuedAt (p : Pause) (base : ℕ) : Type 0 where
   pub normal : object.kind ≡ Normal
   pub reached : IsReached p object
 
+-- the objects that helpers may offer to each other are the reached Normal ones
+pub record AreOffered (p : Pause) (offered : ℕ → Type 0) : Type 0 where
+  pub queued : (b : ℕ) → IsQueuedAt p b → offered b
+  pub only : (b : ℕ) → offered b → IsQueuedAt p b
+
 -- A helper at work, between two objects. Each word of a Normal object that it won: what it points into is known to be
 -- marked, or the helper will come to it, or its page is in the helper's row.
 pub record IsServing (p : Pause) (h : Helper) : Type 0 where

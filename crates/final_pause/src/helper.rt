@@ -15,8 +15,8 @@ use marker::dirty_object;
 use words::Kind;
 use words::limits::MARK_STACK_ENTRIES;
 
-// The entries of a helper's stack.
-const ENTRIES: usize = MARK_STACK_ENTRIES as usize;
+/// The entries of a helper's stack.
+pub(crate) const ENTRIES: usize = MARK_STACK_ENTRIES as usize;
 
 /// What one helper marks with: its claimer, the bases of the objects that it still has to read, the pages of those that
 /// found no room, its place among the helpers, its number for the gate, and how many claims it has made.

@@ -28,10 +28,12 @@
 //! pages, and no entry is left. The invariant holds then, and the calling thread reads what found no room.
 #![tactic(auto)]
 
+mod balance;
 mod crew;
 mod gate;
 mod helper;
 mod helpers;
+mod offer;
 mod parallel;
 mod pause;
 mod share;

@@ -8,12 +8,13 @@ ghost use Rattle.marker.specs.Invariant.{DirtyPageInvariant, AreRootsMarked};
 ghost use Rattle.marker.specs.Closure.{Closure};
 ghost use Rattle.marker.specs.Growth.{Traces};
 ghost use Rattle.each_law.specs.Jobs.{HaveRun};
-ghost use Rattle.final_pause.specs.Serving.{IsServing, HasServed};
+ghost use Rattle.final_pause.specs.Serving.{IsServing, AreOffered, HasServed};
 
 use crate::crew::{gather, hire};
 use crate::gate::Gate;
 use crate::helper::Helper;
 use crate::helpers::Helpers;
+use crate::offer::{Offer, Offering};
 use crate::pause::close_marks;
 use crate::share::Pause;
 use block_map::BlockMap;
@@ -22,6 +23,7 @@ use each_law::{Law, run_each};
 use marker::Marker;
 use pages::{Memory, Reader};
 use std::alloc::{AllocError, Global};
+use std::marker::{Brand, Sync};
 use std::sync::Wait;
 use std::thread::Threads;
 
@@ -32,22 +34,24 @@ impl<'a> Law<Helper> for Pause<'a> {
 }
 
 // All helpers do their shares, each in a thread of its own. The error is that memory or a thread could not be had.
-fn help_each<R: Threads + Wait + Sync, G: Gate>(
+fn help_each<R: Threads + Wait + Sync, G: Gate, J: Offering + Sync>(
     rt: &R,
     alloc: Global,
     pause: Pause,
     gate: &G,
     crew: Vec<Helper>,
 ) -> Result<Vec<Helper>, AllocError>
-    requires { All (λ h. IsServing pause h) crew.items }
+    requires crew { All (λ h. IsServing pause h) crew.items }
+    requires offered { AreOffered pause J.offered }
     ensures { IfOk result (λ v. HaveRun (λ old new. HasServed pause.entry old.share new) crew.items v.items) }
 {
+    let offer = Offer::<J>::new(crew.len());
     let work = |helper: Helper| -> Helper
-        requires { IsServing pause helper }
+        requires { IsServing pause helper × AreOffered pause J.offered }
         ensures { HasServed pause.entry helper.share result }
     {
         let mut helper = helper;
-        pause.help(gate, &mut helper);
+        pause.help(gate, &offer, &mut helper);
         helper
     };
     run_each(rt, alloc, &pause, &work, crew)
@@ -89,7 +93,7 @@ fn mark_with_helpers<R: Threads + Wait + Sync, G: Gate>(
         roots,
         helpers: crew.len(),
     };
-    let Ok(crew) = help_each(rt, alloc, pause, gate, crew) else {
+    let Ok(crew) = help_each::<_, _, Brand>(rt, alloc, pause, gate, crew) else {
         return false;
     };
     gather(&pause, &mut first, &mut dirty, crew);

@@ -7,10 +7,11 @@ ghost use Rattle.block_map.specs.FoundIn.{found_in};
 ghost use Rattle.block_map.specs.Walks.{IsNextObject};
 ghost use Rattle.words.specs.Bits.{Has};
 ghost use Rattle.final_pause.specs.Helping.{IsReady, IsFound, IsPartBetween, Fits, Visits, ReadsWords};
-ghost use Rattle.final_pause.specs.Serving.{IsServing, Serves, IsEntryRead, HasServed, AreRootsRead, AreEntriesRead, IsCurrentRead, AreWordsRead, IsPageRead, ArePagesRead};
+ghost use Rattle.final_pause.specs.Serving.{IsServing, Serves, AreOffered, IsEntryRead, HasServed, AreRootsRead, AreEntriesRead, IsCurrentRead, AreWordsRead, IsPageRead, ArePagesRead};
 
 use crate::gate::Gate;
 use crate::helper::{Helper, claim, keep};
+use crate::offer::{Offer, Offering};
 use block_map::{BlockMap, Found};
 use mark_bits::{MarkTable, granule_of};
 use marker::{Entry, Marker};
@@ -68,7 +69,7 @@ impl<'a> Pause<'a> {
     }
 
     // Marks what words of an object point into: so many, from its word `first` on.
-    fn read_words<G: Gate>(
+    pub(crate) fn read_words<G: Gate>(
         &self,
         gate: &G,
         helper: &mut Helper,
@@ -85,20 +86,6 @@ impl<'a> Pause<'a> {
         for i in 0..count {
             let word = self.memory.read(start + WORD_BYTES * i);
             self.visit(gate, helper, word);
-        }
-    }
-
-    // Reads the objects on the helper's stack, and those that come there, until none is left.
-    fn read_stack<G: Gate>(&self, gate: &G, helper: &mut Helper)
-        requires { IsServing self.now helper.old }
-        ensures serves { Serves self.now helper.old helper.new }
-        ensures empty { helper.new.stack.items ≡ [] }
-    {
-        while let Some(base) = helper.stack.pop() {
-            let Some(found) = self.map.find(base) else {
-                unreachable!();
-            };
-            self.read_words(gate, helper, found, 0, u64::from(found.len));
         }
     }
 
@@ -144,8 +131,9 @@ impl<'a> Pause<'a> {
     }
 
     // Reads the waiting entries of the helper's share, each with what it leads to.
-    fn read_entries<G: Gate>(&self, gate: &G, helper: &mut Helper)
-        requires { IsServing self.now helper.old }
+    fn read_entries<G: Gate, J: Offering>(&self, gate: &G, offer: &Offer<J>, helper: &mut Helper)
+        requires serving { IsServing self.now helper.old }
+        requires offered { AreOffered self.now J.offered }
         ensures serves { Serves self.now helper.old helper.new }
         ensures read { AreEntriesRead self.now (view helper.new.claimer) helper.old.share (length self.now.marker.now.stack) }
     {
@@ -153,7 +141,7 @@ impl<'a> Pause<'a> {
         for i in 0..waiting.len() {
             if i % self.helpers == helper.share {
                 self.read_entry(gate, helper, waiting[i]);
-                self.read_stack(gate, helper);
+                self.read_stack(gate, offer, helper);
             }
         }
     }
@@ -230,30 +218,33 @@ impl<'a> Pause<'a> {
     }
 
     // Reads the dirty pages of the helper's share, each with what it leads to.
-    fn read_pages<G: Gate>(&self, gate: &G, helper: &mut Helper)
-        requires { IsServing self.now helper.old }
+    fn read_pages<G: Gate, J: Offering>(&self, gate: &G, offer: &Offer<J>, helper: &mut Helper)
+        requires serving { IsServing self.now helper.old }
+        requires offered { AreOffered self.now J.offered }
         ensures serves { Serves self.now helper.old helper.new }
         ensures read { ArePagesRead self.now (view helper.new.claimer) helper.old.share (length self.now.map.now) }
     {
         for page in 0..self.map.len() {
             if self.has_dirty(helper.share, page) {
                 self.read_page(gate, helper, page);
-                self.read_stack(gate, helper);
+                self.read_stack(gate, offer, helper);
             }
         }
     }
 
     /// A helper's whole work: the root words of its share before anything else, the entries and the dirty pages of its
-    /// share, and all that these lead to.
-    pub(crate) fn help<G: Gate>(&self, gate: &G, helper: &mut Helper)
-        requires { IsServing self.now helper.old }
+    /// share, and all that these lead to. Then it reads what others offer.
+    pub(crate) fn help<G: Gate, J: Offering>(&self, gate: &G, offer: &Offer<J>, helper: &mut Helper)
+        requires serving { IsServing self.now helper.old }
+        requires offered { AreOffered self.now J.offered }
         ensures { HasServed self.now helper.old.share helper.new }
     {
         self.read_roots(gate, helper);
         self.read_current(gate, helper);
-        self.read_stack(gate, helper);
-        self.read_entries(gate, helper);
-        self.read_pages(gate, helper);
-        self.read_stack(gate, helper);
+        self.read_stack(gate, offer, helper);
+        self.read_entries(gate, offer, helper);
+        self.read_pages(gate, offer, helper);
+        self.read_stack(gate, offer, helper);
+        self.help_others(gate, offer, helper);
     }
 }

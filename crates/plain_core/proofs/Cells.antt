@@ -1,5 +1,5 @@
 -- Addresses of cells and of pages.
-use Rattle.std.proofs.Common.{◌≡◌, ℕ, ◌+◌, ◌*◌, ◌%◌, ◌<◌, ◌≤◌, List, ap, ◌∙◌, subst, sym, arith}
+use Rattle.std.proofs.Common.{◌≡◌, ℕ, ◌+◌, ◌*◌, ◌%◌, ◌<◌, ◌≤◌, List, ap, ◌∙◌, arith}
 use Rattle.std.proofs.Math.Nat.{mul_assoc, mul-mod_right}
 use Rattle.words.specs.declared.limits.TheConstants.{WORD_BYTES}
 use Rattle.heap_spec.specs.Layout.{page_start}

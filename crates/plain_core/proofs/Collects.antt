@@ -10,7 +10,7 @@ use Rattle.std.proofs.lemmas.Bool.{true≢false, ne_eqb}
 use Rattle.std.proofs.lemmas.List.{length-map}
 use Rattle.std.proofs.lemmas.List.Elements.{All-contains, All-map, Contains-get_or}
 use Rattle.std.proofs.lemmas.Option.{same_Some, none-some, slice_get_within, slice_get-get_or, slice_get-map, get_or_from_slice_get}
-use Rattle.words.specs.declared.limits.TheConstants.{FIRST_ADDRESS, GRANULE_BYTES, PAGE_GRANULES}
+use Rattle.words.specs.declared.limits.TheConstants.{FIRST_ADDRESS, GRANULE_BYTES, PAGE_GRANULES, PAGE_WORDS}
 use Rattle.words.specs.declared.class.Kind.{Kind}
 use Rattle.words.specs.declared.class.Kind.TheVariants.{Normal, PointerFree}
 use Rattle.heap_spec.specs.declared.reply.Reply.TheVariants.{Count}
@@ -164,13 +164,15 @@ module _ (c : Contents) (sound : IsSound c) (s : Heap) (h : StandsFor c s) where
 pub collects : (c : Contents) → IsSound c → (marks : List Bool) → MarksReached (root_words_of c.roots) c.words c.objects marks → (stay : List Extent) (n : ℕ) → Parts c.objects marks stay n → IsCollected c n (record c { objects = stay })
 collects c sound marks m stay n parts s h = collected c sound s h marks m stay n parts
 
--- each object's words are in the row of words
-pub all_lie : (c : Contents) → IsSound c → All (LiesIn c.words) c.objects
-all_lie c sound k d lt =
+-- each object's words are in a row of all words
+pub lie_in : (c : Contents) → IsSound c → (row : List ℕ) → length row ≡ PAGE_WORDS * c.pages → All (LiesIn row) c.objects
+lie_in c sound row long k d lt =
     let e : Extent = get_or c.objects k d in
     let i : IsInHeap c.pages e = sound.in_heap k d lt in
-    let w = sound.words in
-    record { start = i.start; ends = omega (arith, i.start, i.aligned, i.ends) }
+    record { start = i.start; aligned = let whole = i.aligned in omega arith; some = i.some; ends = omega (arith, i.start, i.aligned, i.ends) }
+
+pub all_lie : (c : Contents) → IsSound c → All (LiesIn c.words) c.objects
+all_lie c sound = lie_in c sound c.words sound.words
 
 -- the same marks, by equations
 pub marks_are : (roots roots' words words' : List ℕ) (row row' : List Extent) (marks marks' : List Bool) → roots ≡ roots' → words ≡ words' → row ≡ row' → marks' ≡ marks → MarksReached roots words row marks → MarksReached roots' words' row' marks'

@@ -11,6 +11,7 @@ pub mod Lists
 pub mod Reaching
 pub mod Stays
 pub mod Collects
+pub mod Owning
 pub mod Claiming
 pub mod Forgets
 pub mod Answering

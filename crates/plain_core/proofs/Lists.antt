@@ -1,17 +1,18 @@
 -- A list of objects that grows: each object once, and all that some words point into.
 use Rattle.std.proofs.Common.{◌≡◌, ℕ, ◌+◌, ◌<◌, ◌≤◌, Bool, true, false, List, [], ◌∷◌, ◌++◌, length, get_or, set, take, replicate, eqb, refl, sym, ap, ◌∙◌, subst, arith, append_assoc, ⊎_elim, get_or-set_same, get_or-set_other, length-set}
-use Rattle.std.specs.Prelude.{Contains, ◌≢◌}
+use Rattle.std.specs.Prelude.{All, Contains, ◌≢◌}
 use Rattle.std.specs.List.{IsDistinct}
 use Rattle.std.specs.Cmp.{nat_eq_equiv}
 use Rattle.std.specs.Vec.{vec_capacity}
 use Rattle.std.proofs.lemmas.Bool.{cases_eq, cases_lt, eqb-true, ne_eqb, true≢false}
-use Rattle.std.proofs.lemmas.Option.{slice_get_within}
+use Rattle.std.proofs.lemmas.Option.{slice_get_within, get_or_from_slice_get}
 use Rattle.std.proofs.lemmas.List.{append-nil, length_push, length-replicate, take_more, get_or-replicate, get_or_past}
 use Rattle.std.proofs.lemmas.List.Elements.{Contains-get_or, Contains-push, Contains-push_cases, Contains-append_left, Contains-append_right, Contains-append_cases}
 use Rattle.std.proofs.lemmas.List.Folds.{list_any_none, Any-from_list_any}
 use Rattle.std.proofs.lemmas.Map.Keys.{IsDistinct-push}
 use Rattle.std.proofs.lemmas.Map.Made.{IsDistinct-from_count}
 use Rattle.std.proofs.lemmas.Map.Steps.{length-le_from_distinct_below}
+use Rattle.heap_spec.specs.Layout.{Reads}
 use Rattle.plain_core.specs.declared.extent.Extent.{Extent}
 use Rattle.plain_core.specs.declared.listing.Listing.{Listing}
 use Rattle.plain_core.specs.Reached.{PointsInto, AreApart}
@@ -99,6 +100,11 @@ module _ (row : List Extent) where
 
   pub lists_listed : (w index : ℕ) (l : Listing) → IsReady row l → PointsInto row w index → get_or l.marks.items index false ≡ true → ListsAll row (w ∷ []) l l
   lists_listed w index l ready here is = lists_same w l ready (λ i p. ready.listed.only i (ap (λ k. get_or l.marks.items k false) (ready.apart.one w i index p here) ∙ is))
+
+  -- a word that points into nothing
+  pub lists_nothing : (w : ℕ) (l : Listing) → IsReady row l → All (λ (e : Extent). Reads w e.base e.length → ⊥) row → ListsAll row (w ∷ []) l l
+  lists_nothing w l ready none = lists_same w l ready
+      (λ i p. absurd (none i p.0 (slice_get_within row i p.0 p.1) (subst (λ (x : Extent). Reads w x.base x.length) (sym (get_or_from_slice_get row i p.0 p.0 p.1)) p.2)))
 
   -- a word that points into what is not listed
   pub lists_new : (w index : ℕ) (l l' : Listing) → IsReady row l → PointsInto row w index → get_or l.marks.items index false ≡ false → l'.marks.items ≡ set l.marks.items index true → l'.order.items ≡ l.order.items ++ index ∷ []

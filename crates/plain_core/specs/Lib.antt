@@ -2,6 +2,7 @@ pub mod Contents
 pub mod Places
 pub mod Standing
 pub mod Reached
+pub mod Owners
 pub mod Listing
 pub mod Parting
 pub mod Claims

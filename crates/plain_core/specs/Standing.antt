@@ -1,5 +1,5 @@
 -- The heap that a plain core stands for.
-use Rattle.std.specs.Prelude.{◌≡◌, ℕ, ◌+◌, ◌-◌, ◌/◌, ◌≤◌, List, length, take, drop, Contains}
+use Rattle.std.specs.Prelude.{◌≡◌, ℕ, ◌+◌, ◌-◌, ◌/◌, ◌%◌, ◌<◌, ◌≤◌, List, length, take, drop, Contains}
 use Rattle.words.specs.declared.limits.TheConstants.{WORD_BYTES, FIRST_ADDRESS}
 use Rattle.heap_spec.specs.Heap.{Heap, Object, HasObject}
 use Rattle.heap_spec.specs.Sound.{HaveDistinctBirths}
@@ -10,9 +10,11 @@ use Rattle.plain_core.specs.Contents.{Contents}
 abbrev pub place : ℕ → ℕ
 place a = (a - FIRST_ADDRESS) / WORD_BYTES
 
--- The words of an object are in the row.
+-- The object has words, and they are in the row.
 pub record LiesIn (row : List ℕ) (e : Extent) : Type 0 where
   pub start : FIRST_ADDRESS ≤ e.base
+  pub aligned : e.base % WORD_BYTES ≡ 0
+  pub some : 0 < e.length
   pub ends : place e.base + e.length ≤ length row
 
 -- the words of an object in the row

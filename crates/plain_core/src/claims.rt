@@ -1,25 +1,20 @@
 //! Objects are named by their bases, to be taken out.
-ghost use Rattle.std.specs.Prelude.{◌≡◌, ◌≤◌, Some, IfSome, IfNone, IsTrue, true, false, All, [], length, slice_get};
-ghost use Rattle.plain_core.specs.declared.extent.Extent.{Extent};
+ghost use Rattle.std.specs.Prelude.{◌≡◌, ◌≤◌, IsTrue, true, false, [], length};
 ghost use Rattle.plain_core.specs.Claims.{HasOneEach, AreFreeToGo, AreUnset, AreAllUnset};
+ghost use Rattle.plain_core.specs.Owners.{AreOwners};
 
 use crate::extent::Extent;
-
-// Where the object with this base stands.
-fn place_of(objects: &[Extent], base: u64) -> Option<usize>
-    ensures some { IfSome result (λ i. (e : Extent) × (slice_get objects.now i ≡ Some e) × (e.base ≡ base)) }
-    ensures none { IfNone result (All (λ e. e.base ≡ base → ⊥) objects.now) }
-{
-    for index in 0..objects.len() {
-        if objects[index].base == base {
-            return Some(index);
-        }
-    }
-    None
-}
+use crate::owners::owner_of;
 
 /// Unsets the flags of the objects with these bases, if they are distinct objects that are not marked.
-pub fn unset_flags(bases: &[u64], objects: &[Extent], marks: &[bool], flags: &mut Vec<bool>) -> bool
+pub fn unset_flags(
+    bases: &[u64],
+    objects: &[Extent],
+    owners: &[u64],
+    marks: &[bool],
+    flags: &mut Vec<bool>,
+) -> bool
+    requires owners { AreOwners objects.now owners.now }
     requires one { HasOneEach objects.now }
     requires marks { length objects.now ≤ length marks.now }
     requires flags { AreUnset objects.now [] flags.old.items }
@@ -28,7 +23,7 @@ pub fn unset_flags(bases: &[u64], objects: &[Extent], marks: &[bool], flags: &mu
     ensures size { length flags.new.items ≡ length flags.old.items }
 {
     for base in bases {
-        let Some(index) = place_of(objects, *base) else {
+        let Some(index) = owner_of(objects, owners, *base) else {
             return false;
         };
         if marks[index] {

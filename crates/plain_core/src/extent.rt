@@ -15,7 +15,7 @@ pub struct Extent {
 
 impl Extent {
     /// Whether the address is that of one of its bytes.
-    fn is_read_by(&self, address: u64) -> bool
+    pub fn is_read_by(&self, address: u64) -> bool
         ensures yes { IsTrue result → Reads address self.now.base self.now.length }
         ensures no { result ≡ false → Reads address self.now.base self.now.length → ⊥ }
     {

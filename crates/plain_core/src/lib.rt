@@ -7,6 +7,7 @@ mod claims;
 mod extent;
 mod given_place;
 mod listing;
+mod owners;
 mod parting;
 mod places;
 mod plain;

@@ -1,10 +1,12 @@
 //! The objects that are reached: a list that grows while it is gone along, and a row that marks what is listed.
 ghost use Rattle.std.specs.Prelude.{◌≡◌, ◌<◌, [], ◌∷◌, Some, IfOk, All, length, slice_get};
 ghost use Rattle.plain_core.specs.Reached.{AreApart, MarksReached, links_of};
+ghost use Rattle.plain_core.specs.Owners.{AreOwners};
 ghost use Rattle.plain_core.specs.Standing.{LiesIn};
 ghost use Rattle.plain_core.specs.Listing.{HasRoom, IsReady, ListsAll, KeepsRoom};
 
-use crate::extent::{Extent, index_at};
+use crate::extent::Extent;
+use crate::owners::owner_at;
 use std::alloc::{AllocError, Global};
 use words::Kind;
 use words::limits::{FIRST_ADDRESS, WORD_BYTES};
@@ -40,11 +42,12 @@ fn clear(objects: &[Extent], listing: &mut Listing)
 }
 
 // Lists the object that a word points into, unless it is listed.
-fn list_one(word: u64, objects: &[Extent], listing: &mut Listing)
-    requires { IsReady objects.now listing.old }
+fn list_one(word: u64, objects: &[Extent], owners: &[u64], listing: &mut Listing)
+    requires ready { IsReady objects.now listing.old }
+    requires owners { AreOwners objects.now owners.now }
     ensures { ListsAll objects.now (word ∷ []) listing.old listing.new }
 {
-    let Some(index) = index_at(objects, word) else {
+    let Some(index) = owner_at(objects, owners, word) else {
         return;
     };
     if listing.marks[index] {
@@ -55,12 +58,13 @@ fn list_one(word: u64, objects: &[Extent], listing: &mut Listing)
 }
 
 // Lists the objects that some words point into.
-fn list_all(words: &[u64], objects: &[Extent], listing: &mut Listing)
-    requires { IsReady objects.now listing.old }
+fn list_all(words: &[u64], objects: &[Extent], owners: &[u64], listing: &mut Listing)
+    requires ready { IsReady objects.now listing.old }
+    requires owners { AreOwners objects.now owners.now }
     ensures { ListsAll objects.now words.now listing.old listing.new }
 {
     for word in words {
-        list_one(*word, objects, listing);
+        list_one(*word, objects, owners, listing);
     }
 }
 
@@ -73,8 +77,15 @@ fn at(objects: &[Extent], index: usize) -> Extent
 }
 
 // Lists the objects that the words of one point into.
-fn list_links(object: Extent, words: &[u64], objects: &[Extent], listing: &mut Listing)
+fn list_links(
+    object: Extent,
+    words: &[u64],
+    objects: &[Extent],
+    owners: &[u64],
+    listing: &mut Listing,
+)
     requires ready { IsReady objects.now listing.old }
+    requires owners { AreOwners objects.now owners.now }
     requires within { LiesIn words.now object }
     ensures { ListsAll objects.now (links_of words.now object) listing.old listing.new }
 {
@@ -83,23 +94,30 @@ fn list_links(object: Extent, words: &[u64], objects: &[Extent], listing: &mut L
     }
     let start = ((object.base - FIRST_ADDRESS) / WORD_BYTES) as usize;
     let end = start + object.length as usize;
-    list_all(&words[start..end], objects, listing);
+    list_all(&words[start..end], objects, owners, listing);
 }
 
 /// Lists the objects that are reached from these roots.
-pub fn list_reached(roots: &[u64], words: &[u64], objects: &[Extent], listing: &mut Listing)
+pub fn list_reached(
+    roots: &[u64],
+    words: &[u64],
+    objects: &[Extent],
+    owners: &[u64],
+    listing: &mut Listing,
+)
     requires apart { AreApart objects.now }
+    requires owners { AreOwners objects.now owners.now }
     requires room { HasRoom (length objects.now) listing.old }
     requires within { All (LiesIn words.now) objects.now }
     ensures marks { MarksReached roots.now words.now objects.now listing.new.marks.items }
     ensures room { KeepsRoom listing.old listing.new }
 {
     clear(objects, listing);
-    list_all(roots, objects, listing);
+    list_all(roots, objects, owners, listing);
     for next in 0..objects.len() {
         if next < listing.order.len() {
             let object = at(objects, listing.order[next]);
-            list_links(object, words, objects, listing);
+            list_links(object, words, objects, owners, listing);
         }
     }
 }

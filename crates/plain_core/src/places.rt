@@ -1,5 +1,5 @@
 //! Where a new object may go, found by trying each place against each object.
-ghost use Rattle.std.specs.Prelude.{◌≡◌, ℕ, ◌<◌, ◌≤◌, ◌*◌, ◌/◌, ◌+◌, ◌^◌, IfSome, IfNone, false, IsTrue, slice_index, length, ◌⊎◌};
+ghost use Rattle.std.specs.Prelude.{◌≡◌, ℕ, ◌<◌, ◌≤◌, ◌*◌, ◌/◌, ◌+◌, ◌^◌, IfSome, IfNone, false, IsTrue};
 ghost use Rattle.words.specs.declared.limits.TheConstants.{WORD_BYTES, PAGE_WORDS, MAX_PAGES, MAX_SMALL_WORDS};
 ghost use Rattle.heap_spec.specs.Layout.{LiesOn, page_start};
 ghost use Rattle.heap_spec.specs.Room.{length_of};
@@ -156,16 +156,5 @@ pub fn place_for(objects: &[Extent], pages: u32, placement: Placement, kind: Kin
             let base = large_place(objects, pages, count)?;
             Some(Extent { base, kind, length })
         }
-    }
-}
-
-/// Puts 0 into so many words.
-pub fn zero(words: &mut [u64], start: usize, count: usize)
-    requires { start + count ≤ length words.old }
-    ensures zeroed { (k : ℕ) → start ≤ k → k < start + count → slice_index words.new k ≡ 0 }
-    ensures others { (k : ℕ) → (k < start) ⊎ (start + count ≤ k) → slice_index words.new k ≡ slice_index words.old k }
-{
-    for i in start..start + count {
-        words[i] = 0;
     }
 }

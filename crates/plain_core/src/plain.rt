@@ -27,14 +27,15 @@ pub struct Core {
     objects: Vec<Extent>,
     roots: Roots,
     root_words: ArrayVec<u64, ROOT_WORDS>,
+    owners: Vec<u64>,
     listing: Listing,
     stays: Vec<bool>,
 }
 
 impl Model for Core {
-    ghost use Rattle.std.specs.Prelude.{◌≤◌, ◌*◌};
+    ghost use Rattle.std.specs.Prelude.{◌≡◌, ◌≤◌, ◌*◌};
     ghost use Rattle.std.specs.Vec.{vec_capacity, vec_len};
-    ghost use Rattle.words.specs.declared.limits.TheConstants.{PAGE_GRANULES};
+    ghost use Rattle.words.specs.declared.limits.TheConstants.{PAGE_GRANULES, PAGE_WORDS};
     ghost use Rattle.plain_core.specs.Contents.{Contents, IsSound};
     ghost use Rattle.plain_core.specs.Listing.{HasRoom};
 
@@ -42,7 +43,7 @@ impl Model for Core {
 
     ghost view = { λ c. record { pages = c.pages; words = c.words.items; objects = c.objects.items; roots = c.roots } };
 
-    ghost invariant = { λ c. IsSound (record { pages = c.pages; words = c.words.items; objects = c.objects.items; roots = c.roots }) × (PAGE_GRANULES * c.pages ≤ vec_capacity c.objects) × HasRoom (PAGE_GRANULES * c.pages) c.listing × (PAGE_GRANULES * c.pages ≤ vec_len c.stays) };
+    ghost invariant = { λ c. IsSound (record { pages = c.pages; words = c.words.items; objects = c.objects.items; roots = c.roots }) × (PAGE_GRANULES * c.pages ≤ vec_capacity c.objects) × HasRoom (PAGE_GRANULES * c.pages) c.listing × (PAGE_GRANULES * c.pages ≤ vec_len c.stays) × (vec_len c.owners ≡ PAGE_WORDS * c.pages) };
 }
 
 impl Core {
@@ -62,6 +63,9 @@ impl Core {
         let Ok(objects) = Vec::with_capacity(alloc, PAGE_GRANULES as usize * pages as usize) else {
             return Err(OpenError::Memory);
         };
+        let Ok(owners) = vec![in alloc; 0u64; PAGE_WORDS as usize * pages as usize] else {
+            return Err(OpenError::Memory);
+        };
         let Ok(listing) = Listing::new(alloc, PAGE_GRANULES as usize * pages as usize) else {
             return Err(OpenError::Memory);
         };
@@ -74,6 +78,7 @@ impl Core {
             objects,
             roots: Roots::new(),
             root_words: ArrayVec::new(),
+            owners,
             listing,
             stays,
         })

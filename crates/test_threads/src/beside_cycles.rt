@@ -1,6 +1,6 @@
-//! Four mutators beside constant cycles: each stores and loads its own numbers, and every load answers what was stored.
+//! Four mutators beside constant cycles, ended with helpers and without: each stores and loads its own numbers, and every load answers what was stored.
 
-use crate::runs::run;
+use crate::runs::{Setting, run};
 use final_pause::Open;
 use std::alloc::{AllocError, Global};
 use std::process::Abort;
@@ -51,12 +51,17 @@ fn check<R: Threads + Wait + Abort + Sync>(
     rt: &R,
     alloc: Global,
     texts: (&str, &str),
+    helpers: u8,
     output: &mut Taken,
 ) {
-    let answer = run(rt, alloc, texts.0.as_bytes(), PAGES, &Open, output);
+    let setting = Setting {
+        pages: PAGES,
+        helpers,
+    };
+    let answer = run(rt, alloc, texts.0.as_bytes(), setting, &Open, output);
     assert_eq!(rt; answer, Ok(()));
     let text = output.text().unwrap_or("");
-    assert!(rt; text.starts_with(texts.1));
+    assert!(rt; text.starts_with(texts.1), "{helpers} helpers");
 }
 
 #[test]
@@ -65,11 +70,9 @@ fn every_load_answers_its_store(rt: HostRuntime) -> Result<(), Fail> {
     let mut lines = String::new(rt.alloc());
     let mut replies = String::new(rt.alloc());
     put_all(&mut lines, &mut replies)?;
-    check(
-        &rt,
-        rt.alloc(),
-        (lines.as_str(), replies.as_str()),
-        &mut output,
-    );
+    let texts = (lines.as_str(), replies.as_str());
+    for helpers in [1u8, 4] {
+        check(&rt, rt.alloc(), texts, helpers, &mut output);
+    }
     Ok(())
 }

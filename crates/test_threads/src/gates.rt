@@ -1,6 +1,6 @@
 //! Gates that hold actors back until others have come, for a bounded time.
 
-use final_pause::Gate;
+use final_pause::{COLLECTOR, FIRST_HELPER, Gate};
 use std::sync::atomic::{AtomicU64, Ordering};
 use std::thread;
 
@@ -80,6 +80,55 @@ impl Gate for TwoThreads {
     fn after(&self, actor: u8, call: u32) {
         if (actor, call) == (0, 1) {
             self.put.fetch_add(1, Ordering::SeqCst);
+        }
+    }
+}
+
+/// A cycle between two calls of mutator 0: it begins after the fourth call and has ended before the fifth. Helpers that claim meet before
+/// their first claims.
+#[derive(Drop)]
+pub struct HeldPause {
+    pub claimers: u64,
+    pub claiming: AtomicU64,
+    pub made: AtomicU64,
+    pub ended: AtomicU64,
+    pub missed: AtomicU64,
+}
+
+impl HeldPause {
+    pub fn new(claimers: u64) -> HeldPause {
+        HeldPause {
+            claimers,
+            claiming: AtomicU64::new(0),
+            made: AtomicU64::new(0),
+            ended: AtomicU64::new(0),
+            missed: AtomicU64::new(0),
+        }
+    }
+}
+
+impl Gate for HeldPause {
+    fn before(&self, actor: u8, call: u32) {
+        match (actor, call) {
+            (0, 4) => await_all(&self.ended, 1, &self.missed),
+            (COLLECTOR, 0) => await_all(&self.made, 1, &self.missed),
+            (FIRST_HELPER.., 0) => {
+                self.claiming.fetch_add(1, Ordering::SeqCst);
+                await_all(&self.claiming, self.claimers, &self.missed);
+            }
+            _ => {}
+        }
+    }
+
+    fn after(&self, actor: u8, call: u32) {
+        match (actor, call) {
+            (0, 3) => {
+                self.made.fetch_add(1, Ordering::SeqCst);
+            }
+            (COLLECTOR, 1) => {
+                self.ended.fetch_add(1, Ordering::SeqCst);
+            }
+            _ => {}
         }
     }
 }

@@ -7,6 +7,10 @@ mod beside_cycles;
 #[cfg(test)]
 mod gates;
 #[cfg(test)]
+mod pause;
+#[cfg(test)]
+mod possible;
+#[cfg(test)]
 mod random;
 #[cfg(test)]
 mod rows;

@@ -1,6 +1,7 @@
 //! Random workloads.
 
-use crate::runs::run;
+use crate::possible::may_print;
+use crate::runs::{Setting, run};
 use final_pause::Open;
 use scripts::run_bytes;
 use std::alloc::{AllocError, Global};
@@ -8,52 +9,70 @@ use std::process::Abort;
 use std::sync::Wait;
 use std::test::Fail;
 use std::thread::Threads;
-use test_scripts::fakes::Taken;
-use workloads::make_stress;
+use test_scripts::fakes::{Script, Taken};
+use workloads::{Workload, make_stress};
 
 /// So many random lines behind the attaches.
 const STEPS: u32 = 300;
 
-fn lines_of(text: &[u8]) -> usize {
-    text.iter().filter(|byte| **byte == b'\n').count()
+/// The lines, and behind each of the collector's a question for its number.
+fn with_numbers(alloc: Global, text: &[u8]) -> Result<Vec<u8>, AllocError> {
+    let mut lines = Vec::new(alloc);
+    for line in text.split_inclusive(|byte| *byte == b'\n') {
+        lines.extend_from_slice(line)?;
+        if line.starts_with(b"gc") {
+            lines.extend_from_slice(b"gc no\n")?;
+        }
+    }
+    Ok(lines)
 }
 
-/// One line is printed for each line of the workload, and one before the collector's.
+/// What is printed is possible.
 fn check_seed<R: Threads + Wait + Abort + Sync>(
     rt: &R,
     alloc: Global,
-    numbers: (u64, u8, u32),
+    numbers: (u64, u8),
+    setting: Setting,
     output: &mut Taken,
 ) -> Result<(), Fail> {
-    let (seed, mutators, pages) = numbers;
+    let (seed, mutators) = numbers;
     assert!(rt; 1 <= mutators && mutators <= 16);
-    let text = make_stress(alloc, seed, mutators, STEPS)
+    let drawn = make_stress(alloc, seed, mutators, STEPS)
         .ok()
         .ok_or("a text")?;
-    let answer = run(rt, alloc, text.as_slice(), pages, &Open, output);
+    let text = with_numbers(alloc, drawn.as_slice())?;
+    let answer = run(rt, alloc, text.as_slice(), setting, &Open, output);
     assert_eq!(rt; answer, Ok(()));
-    assert_eq!(rt;
-        lines_of(output.bytes.as_slice()),
-        lines_of(text.as_slice()).saturating_add(1)
+    let workload = Workload::read(alloc, &mut Script::new(text.as_slice()))
+        .ok()
+        .ok_or("a workload")?;
+    let printed = output.text().unwrap_or("");
+    let pages = setting.pages;
+    assert!(rt;
+        may_print(&workload, pages, printed),
+        "seed {seed}, {mutators} mutators, {pages} pages"
     );
     Ok(())
 }
 
+/// Each seed with its pages, mutators and helpers; twelve seeds on end have all pairs of the first two.
 fn check_seeds<R: Threads + Wait + Abort + Sync>(
     rt: &R,
     alloc: Global,
     output: &mut Taken,
 ) -> Result<(), Fail> {
-    for seed in 1..25u64 {
+    for seed in 1..201u64 {
         let pages = [1u32, 2, 8, 64][(seed % 4) as usize];
         let mutators = [1u8, 4, 16][(seed % 3) as usize];
-        check_seed(rt, alloc, (seed, mutators, pages), output)?;
+        let helpers = [1u8, 2][(seed % 2) as usize];
+        let setting = Setting { pages, helpers };
+        check_seed(rt, alloc, (seed, mutators), setting, output)?;
     }
     Ok(())
 }
 
 #[test]
-fn every_line_is_answered(rt: HostRuntime) -> Result<(), Fail> {
+fn replies_are_possible(rt: HostRuntime) -> Result<(), Fail> {
     let mut output = Taken::new(rt.alloc())?;
     check_seeds(&rt, rt.alloc(), &mut output)
 }
@@ -61,10 +80,9 @@ fn every_line_is_answered(rt: HostRuntime) -> Result<(), Fail> {
 /// The lines that are no command of the collector.
 fn without_collector(alloc: Global, text: &[u8]) -> Result<Vec<u8>, AllocError> {
     let mut kept = Vec::new(alloc);
-    for line in text.split(|byte| *byte == b'\n') {
-        if !line.is_empty() && !line.starts_with(b"gc") {
+    for line in text.split_inclusive(|byte| *byte == b'\n') {
+        if !line.starts_with(b"gc") {
             kept.extend_from_slice(line)?;
-            kept.push(b'\n')?;
         }
     }
     Ok(kept)
@@ -75,24 +93,37 @@ fn check_alone<R: Threads + Wait + Abort + Sync>(
     rt: &R,
     alloc: Global,
     seed: u64,
+    setting: Setting,
     output: &mut Taken,
 ) -> Result<(), Fail> {
     let text = make_stress(alloc, seed, 1, STEPS).ok().ok_or("a text")?;
     let script = without_collector(alloc, text.as_slice())?;
-    let (mut replies, answer) = run_bytes(alloc, script.as_slice(), 2);
+    let pages = setting.pages;
+    assert!(rt; 1 <= pages && pages <= 64);
+    let (mut replies, answer) = run_bytes(alloc, script.as_slice(), pages);
     assert_eq!(rt; answer, Ok(()));
     replies.extend_from_slice(b"collector\n")?;
-    let answer = run(rt, alloc, script.as_slice(), 2, &Open, output);
+    let answer = run(rt, alloc, script.as_slice(), setting, &Open, output);
     assert_eq!(rt; answer, Ok(()));
-    assert!(rt; output.bytes.as_slice() == replies.as_slice());
+    assert!(rt;
+        output.bytes.as_slice() == replies.as_slice(),
+        "seed {seed}, {pages} pages"
+    );
     Ok(())
 }
 
 #[test]
 fn one_mutator_is_answered_as_a_script(rt: HostRuntime) -> Result<(), Fail> {
     let mut output = Taken::new(rt.alloc())?;
-    for seed in 1..21u64 {
-        check_alone(&rt, rt.alloc(), seed, &mut output)?;
+    for seed in 1..201u64 {
+        let pages = [1u32, 2, 8, 64][(seed % 4) as usize];
+        check_alone(
+            &rt,
+            rt.alloc(),
+            seed,
+            Setting { pages, helpers: 1 },
+            &mut output,
+        )?;
     }
     Ok(())
 }

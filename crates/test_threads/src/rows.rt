@@ -1,7 +1,7 @@
 //! Worked rows.
 
 use crate::gates::{Meeting, TwoThreads};
-use crate::runs::run;
+use crate::runs::{Setting, run};
 use final_pause::Open;
 use scripts::ScriptError;
 use std::alloc::Global;
@@ -12,7 +12,10 @@ use std::test::Fail;
 use std::thread::Threads;
 use test_scripts::fakes::Taken;
 
-const PAGES: u32 = 4;
+const SETTING: Setting = Setting {
+    pages: 4,
+    helpers: 1,
+};
 
 /// Workloads, what they answer, and what they print.
 const ROWS: [(&str, Result<(), ScriptError>, &str); 5] = [
@@ -46,7 +49,7 @@ fn check_row<R: Threads + Wait + Abort + Sync>(
     output: &mut Taken,
 ) {
     let (text, wanted, printed) = row;
-    let answer = run(rt, alloc, text.as_bytes(), PAGES, &Open, output);
+    let answer = run(rt, alloc, text.as_bytes(), SETTING, &Open, output);
     assert_eq!(rt; answer, wanted, "{text}");
     assert_eq!(rt; output.text(), Some(printed), "{text}");
 }
@@ -64,7 +67,7 @@ const TWO_THREADS: &str = "attach\nattach\n0 set 1 5\n0 gput 0 1\n1 set 2 7\n1 g
 
 fn check_two<R: Threads + Wait + Abort + Sync>(rt: &R, alloc: Global, output: &mut Taken) {
     let gate = TwoThreads::new();
-    let answer = run(rt, alloc, TWO_THREADS.as_bytes(), PAGES, &gate, output);
+    let answer = run(rt, alloc, TWO_THREADS.as_bytes(), SETTING, &gate, output);
     assert_eq!(rt; answer, Ok(()));
     assert_eq!(rt; gate.missed.load(Ordering::SeqCst), 0);
     assert_eq!(rt;
@@ -86,7 +89,7 @@ const SIXTEEN: &str =
 
 fn check_meeting<R: Threads + Wait + Abort + Sync>(rt: &R, alloc: Global, output: &mut Taken) {
     let gate = Meeting::new(17);
-    let answer = run(rt, alloc, SIXTEEN.as_bytes(), PAGES, &gate, output);
+    let answer = run(rt, alloc, SIXTEEN.as_bytes(), SETTING, &gate, output);
     assert_eq!(rt; answer, Ok(()));
     assert_eq!(rt; gate.missed.load(Ordering::SeqCst), 0);
 }
@@ -96,21 +99,5 @@ fn check_meeting<R: Threads + Wait + Abort + Sync>(rt: &R, alloc: Global, output
 fn seventeen_actors_meet(rt: HostRuntime) -> Result<(), Fail> {
     let mut output = Taken::new(rt.alloc())?;
     check_meeting(&rt, rt.alloc(), &mut output);
-    Ok(())
-}
-
-fn check_memory<R: Threads + Wait + Abort + Sync>(rt: &R, alloc: Global, output: &mut Taken) {
-    let answer = run(rt, alloc, TWO_THREADS.as_bytes(), PAGES, &Open, output);
-    let text = output.text().unwrap_or("");
-    let granted = answer == Ok(()) && text.len() > 30;
-    assert!(rt; granted || (answer == Err(ScriptError::Memory) && text.is_empty()));
-}
-
-/// Where memory or a thread is refused, the answer is that, and nothing is printed. By itself this runs with ample memory;
-/// `rt try --test --fail-alloc N` refuses the N-th request.
-#[test]
-fn refused_memory(rt: HostRuntime) -> Result<(), Fail> {
-    let mut output = Taken::new(rt.alloc())?;
-    check_memory(&rt, rt.alloc(), &mut output);
     Ok(())
 }

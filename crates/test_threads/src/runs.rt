@@ -10,17 +10,25 @@ use test_scripts::fakes::{Script, Taken};
 use words::limits::MAX_PAGES;
 use workloads::run_workload;
 
-/// Runs a workload on so many pages, with one helper, and keeps what was printed.
+/// The pages of a run's heap, and the helpers that end its cycles.
+#[derive(Clone, Copy)]
+pub struct Setting {
+    pub pages: u32,
+    pub helpers: u8,
+}
+
+/// Runs a workload, and keeps what was printed.
 pub fn run<R: Threads + Wait + Abort + Sync, G: Gate>(
     rt: &R,
     alloc: Global,
     text: &[u8],
-    pages: u32,
+    setting: Setting,
     gate: &G,
     output: &mut Taken,
 ) -> Result<(), ScriptError> {
+    let Setting { pages, helpers } = setting;
     assert!(rt; 1 <= pages && pages <= MAX_PAGES);
-    let helpers = Helpers::new(1).expect(rt, "one helper");
+    let helpers = Helpers::new(helpers).expect(rt, "helpers");
     let mut input = Script::new(text);
     output.clear();
     run_workload(rt, alloc, &mut input, output, pages, helpers, gate)

@@ -1,7 +1,7 @@
 //! Random scripts. The texts were made by a program of its own in another language, over the generator's published rule.
 
 use crate::rules::mutators_of;
-use scripts::ScriptError;
+use scripts::{ScriptError, run_bytes};
 use std::alloc::Global;
 use std::process::Abort;
 use test_scripts::fakes::Script;
@@ -37,18 +37,24 @@ fn texts_are_those_of_the_rule(rt: HostRuntime) {
     }
 }
 
-/// A script of 2,003 lines is a workload of three mutators.
+fn lines_of(text: &[u8]) -> usize {
+    text.iter().filter(|byte| **byte == b'\n').count()
+}
+
+/// A text of 2,003 lines, all of which are answered as a script's, and which is a workload of three mutators.
 fn check_seed(rt: &impl Abort, alloc: Global, seed: u64) -> Result<(), RunError> {
     let text = make_stress(alloc, seed, 3, 2_000)?;
-    let lines = text.iter().filter(|b| **b == b'\n').count();
-    assert_eq!(rt; lines, 2_003);
+    assert_eq!(rt; lines_of(text.as_slice()), 2_003);
+    let (replies, answer) = run_bytes(alloc, text.as_slice(), 8);
+    assert_eq!(rt; answer, Ok(()));
+    assert_eq!(rt; lines_of(replies.as_slice()), 2_003);
     let mut input = Script::new(text.as_slice());
     assert_eq!(rt; mutators_of(alloc, &mut input), Ok::<usize, ScriptError>(3));
     Ok(())
 }
 
 #[test]
-fn seeds_make_workloads(rt: HostRuntime) {
+fn seeds_make_scripts_and_workloads(rt: HostRuntime) {
     for seed in 1..21u64 {
         assert_eq!(rt; check_seed(&rt, rt.alloc(), seed), Ok(()));
     }

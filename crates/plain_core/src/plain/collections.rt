@@ -5,6 +5,7 @@ ghost use Rattle.plain_core.specs.Collections.{IsCollected, IsTaken, CantTake};
 use super::Core;
 use crate::claims::{are_all_named, unset_flags};
 use crate::listing::list_reached;
+use crate::owners::write_owners;
 use crate::parting::keep_flagged;
 
 impl Core {
@@ -14,7 +15,14 @@ impl Core {
     {
         self.roots.write_words(&mut self.root_words);
         let roots = self.root_words.as_slice();
-        list_reached(roots, &self.words, &self.objects, &mut self.listing);
+        write_owners(&self.objects, &mut self.owners);
+        list_reached(
+            roots,
+            &self.words,
+            &self.objects,
+            &self.owners,
+            &mut self.listing,
+        );
         keep_flagged(&mut self.objects, &self.listing.marks) as u64
     }
 
@@ -27,9 +35,22 @@ impl Core {
     {
         self.roots.write_words(&mut self.root_words);
         let roots = self.root_words.as_slice();
-        list_reached(roots, &self.words, &self.objects, &mut self.listing);
+        write_owners(&self.objects, &mut self.owners);
+        list_reached(
+            roots,
+            &self.words,
+            &self.objects,
+            &self.owners,
+            &mut self.listing,
+        );
         self.stays.fill(true);
-        if !unset_flags(bases, &self.objects, &self.listing.marks, &mut self.stays) {
+        if !unset_flags(
+            bases,
+            &self.objects,
+            &self.owners,
+            &self.listing.marks,
+            &mut self.stays,
+        ) {
             return false;
         }
         if !are_all_named(all, self.objects.len(), &self.listing.marks, &self.stays) {

@@ -9,7 +9,8 @@ ghost use Rattle.plain_core.specs.Answering.{Fits, IsPut, IsAllocatedAt, CantAll
 use super::Core;
 use crate::extent::{Extent, index_at, object_at};
 use crate::given_place::place_at;
-use crate::places::{place_for, zero};
+use crate::owners::fill;
+use crate::places::place_for;
 use heap_spec::{Call, Event};
 use words::limits::{FIRST_ADDRESS, WORD_BYTES};
 use words::{Kind, Refusal, Reg, Slot, class_of};
@@ -62,7 +63,7 @@ impl Core {
         ensures { (placement : Placement) → Fits self.old placement object → IsPut self.old slot into placement object self.new }
     {
         let start = ((object.base - FIRST_ADDRESS) / WORD_BYTES) as usize;
-        zero(&mut self.words, start, object.length as usize);
+        fill(&mut self.words, start, object.length as usize, 0);
         let _pushed = self.objects.push(object);
         self.roots.set_word(slot, into, object.base);
     }

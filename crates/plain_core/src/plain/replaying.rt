@@ -6,7 +6,7 @@ ghost use Rattle.plain_core.specs.Answering.{IsNoStep, MakesCall};
 
 use super::Core;
 use heap_spec::{Call, Event, Reply};
-use words::Slot;
+use words::{Refusal, Slot};
 
 // Whether two replies are the same.
 fn is_same(a: &Reply, b: &Reply) -> bool
@@ -16,60 +16,31 @@ fn is_same(a: &Reply, b: &Reply) -> bool
     a == b
 }
 
+// What a call answers is known where it is made to be replayed.
+fn ignore<T: Drop>(_reply: Result<T, Refusal>) {}
+
 impl Core {
     // Makes a call, whatever its reply.
     fn make(&mut self, slot: Slot, call: Call)
         ensures { MakesCall self.old slot call self.new }
     {
         match call {
-            Call::Detach => {
-                let _ = self.detach(slot);
-            }
-            Call::Set(register, word) => {
-                let _ = self.set(slot, register, word);
-            }
-            Call::Copy(into, from) => {
-                let _ = self.copy(slot, into, from);
-            }
-            Call::Add(into, from, number) => {
-                let _ = self.add(slot, into, from, number);
-            }
-            Call::Sub(into, from, less) => {
-                let _ = self.sub(slot, into, from, less);
-            }
-            Call::Get(register) => {
-                let _ = self.get(slot, register);
-            }
-            Call::Push(from) => {
-                let _ = self.push(slot, from);
-            }
-            Call::Pop(into) => {
-                let _ = self.pop(slot, into);
-            }
-            Call::Load(into, at, offset) => {
-                let _ = self.load(slot, into, at, offset);
-            }
-            Call::Store(at, offset, from) => {
-                let _ = self.store(slot, at, offset, from);
-            }
-            Call::Alloc(into, words, kind) => {
-                let _ = self.alloc(slot, into, words, kind);
-            }
-            Call::Free(register) => {
-                let _ = self.free(slot, register);
-            }
-            Call::Base(into, from) => {
-                let _ = self.base(slot, into, from);
-            }
-            Call::Size(register) => {
-                let _ = self.size(slot, register);
-            }
-            Call::GlobalGet(into, global) => {
-                let _ = self.gget(slot, into, global);
-            }
-            Call::GlobalPut(global, from) => {
-                let _ = self.gput(slot, global, from);
-            }
+            Call::Detach => ignore(self.detach(slot)),
+            Call::Set(register, word) => ignore(self.set(slot, register, word)),
+            Call::Copy(into, from) => ignore(self.copy(slot, into, from)),
+            Call::Add(into, from, number) => ignore(self.add(slot, into, from, number)),
+            Call::Sub(into, from, less) => ignore(self.sub(slot, into, from, less)),
+            Call::Get(register) => ignore(self.get(slot, register)),
+            Call::Push(from) => ignore(self.push(slot, from)),
+            Call::Pop(into) => ignore(self.pop(slot, into)),
+            Call::Load(into, at, offset) => ignore(self.load(slot, into, at, offset)),
+            Call::Store(at, offset, from) => ignore(self.store(slot, at, offset, from)),
+            Call::Alloc(into, words, kind) => ignore(self.alloc(slot, into, words, kind)),
+            Call::Free(register) => ignore(self.free(slot, register)),
+            Call::Base(into, from) => ignore(self.base(slot, into, from)),
+            Call::Size(register) => ignore(self.size(slot, register)),
+            Call::GlobalGet(into, global) => ignore(self.gget(slot, into, global)),
+            Call::GlobalPut(global, from) => ignore(self.gput(slot, global, from)),
         }
     }
 

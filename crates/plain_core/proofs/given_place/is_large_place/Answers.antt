@@ -1,5 +1,4 @@
-use Rattle.std.proofs.Common.{◌≡◌, ◌∙◌, arith}
-use Rattle.heap_spec.specs.Layout.{page_start}
+use Rattle.std.proofs.Common.{◌∙◌, arith}
 use Rattle.plain_core.proofs.Cells.{free_from}
 use Rattle.plain_core.proofs.given_place.is_large_place.Goals as goal
 

@@ -1,7 +1,6 @@
 use Rattle.std.proofs.Common.{sym, ◌∙◌}
 use Rattle.heap_spec.specs.Steps.{Acts}
 use Rattle.plain_core.proofs.Rooms.{room_of, place_of}
-use Rattle.plain_core.proofs.Placing.{sized}
 use Rattle.plain_core.proofs.plain.Core.alloc_answer.Goals as goal
 
 pub returns-in_default : goal.returns-in_default

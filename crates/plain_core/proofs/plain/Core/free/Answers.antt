@@ -42,6 +42,7 @@ invariant_of-self c =
       omega (arith, c.swap_remove-freed.ensures.capacity),
       c.self.invariant.2,
       c.self.invariant.3,
+      c.self.invariant.4,
     )
 
 pub returns : goal.returns

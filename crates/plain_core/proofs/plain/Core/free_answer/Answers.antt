@@ -1,4 +1,4 @@
-use Rattle.std.proofs.Common.{sym, ◌∙◌}
+use Rattle.std.proofs.Common.{◌∙◌}
 use Rattle.heap_spec.specs.Steps.{Acts}
 use Rattle.plain_core.proofs.Answering.{may_free}
 use Rattle.plain_core.proofs.plain.Core.free_answer.Goals as goal

@@ -1,4 +1,4 @@
-use Rattle.heap_spec.specs.Steps.{Acts, address}
+use Rattle.heap_spec.specs.Steps.{Acts}
 use Rattle.plain_core.proofs.Answering.{may_load}
 use Rattle.plain_core.proofs.plain.Core.load_answer.Goals as goal
 

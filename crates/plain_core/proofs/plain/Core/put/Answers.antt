@@ -11,8 +11,8 @@ use Rattle.plain_core.proofs.plain.Core.put.Goals as goal
 pub overflow_sub-start : goal.overflow_sub-start
 overflow_sub-start c = place_from _ _ c.requires.fits.0 _ _ c.requires.fits.1.place
 
-pub zero-requires : goal.zero-requires
-zero-requires c =
+pub fill-requires : goal.fill-requires
+fill-requires c =
     let fits = subst (λ (x : Contents). Fits x c.requires.fits.0 c.args.object) (sym c.self.view_is) c.requires.fits.1 in
     rw c.deref_mut.ensures.value (fits_row _ c.requires.fits.0 c.args.object.kind c.args.object c.self.invariant.0 fits.sized fits.size fits.place)
 
@@ -21,13 +21,14 @@ invariant_of-self c =
     let fits = subst (λ (x : Contents). Fits x c.requires.fits.0 c.args.object) (sym c.self.view_is) c.requires.fits.1 in
     let left : length c.self.inside.objects.items < PAGE_GRANULES * c.self.inside.pages = room_left _ c.requires.fits.0 c.args.object.kind c.args.object c.self.invariant.0 fits.sized fits.size fits.place in
     let spare : PAGE_GRANULES * c.self.inside.pages ≤ vec_capacity c.self.inside.objects = c.self.invariant.1 in
-    let long : length c.zero.new.words ≡ length c.self.inside.words.items = c.zero.auto.words ∙ ap length c.deref_mut.ensures.value in (
+    let long : length c.fill.new.row ≡ length c.self.inside.words.items = c.fill.auto.row ∙ ap length c.deref_mut.ensures.value in (
       alloc_sound _ c.requires.fits.0 c.args.object.kind c.args.object c.self.invariant.0 fits.sized fits.size fits.place _ _ _
-          (ap length (with_items_is c.self.inside.words c.zero.new.words (long ∙ sym c.self.inside.words.ok.0)) ∙ long)
+          (ap length (with_items_is c.self.inside.words c.fill.new.row (long ∙ sym c.self.inside.words.ok.0)) ∙ long)
           (pushed_items _ _ _ _ (c.push-pushed.ensures.succeeds (let ok = c.self.inside.objects.ok in omega (arith, ok.0))) c.push-pushed.ensures.items),
       omega (arith, c.push-pushed.ensures.capacity),
       c.self.invariant.2,
       c.self.invariant.3,
+      c.self.invariant.4,
     )
 
 pub returns : goal.returns
@@ -36,9 +37,9 @@ returns c =
     rw (← c.self.view_is) (λ placement fits.
     let left : length c.self.inside.objects.items < PAGE_GRANULES * c.self.inside.pages = room_left _ placement c.args.object.kind c.args.object c.self.invariant.0 fits.sized fits.size fits.place in
     let spare : PAGE_GRANULES * c.self.inside.pages ≤ vec_capacity c.self.inside.objects = c.self.invariant.1 in
-    let long : length c.zero.new.words ≡ length c.self.inside.words.items = c.zero.auto.words ∙ ap length c.deref_mut.ensures.value in
-    let zeroed : IsZeroed c.self.inside.words.items c.zero.new.words c.args.object = record { long = long; zeroed = c.zero.ensures.zeroed; others = λ k h. c.zero.ensures.others k h ∙ ap (λ xs. get_or xs k 0) c.deref_mut.ensures.value } in
+    let long : length c.fill.new.row ≡ length c.self.inside.words.items = c.fill.auto.row ∙ ap length c.deref_mut.ensures.value in
+    let zeroed : IsZeroed c.self.inside.words.items c.fill.new.row c.args.object = record { long = long; zeroed = c.fill.ensures.filled; others = λ k h. c.fill.ensures.others k h ∙ ap (λ xs. get_or xs k 0) c.deref_mut.ensures.value } in
     λ s h words is.
     puts _ placement c.args.object.kind c.args.object c.self.invariant.0 fits.sized fits.size fits.place _ _ _ c.requires.mutator.0 _ _ at refl
-    (subst (λ r. IsZeroed c.self.inside.words.items r c.args.object) (sym (with_items_is c.self.inside.words c.zero.new.words (long ∙ sym c.self.inside.words.ok.0))) zeroed)
+    (subst (λ r. IsZeroed c.self.inside.words.items r c.args.object) (sym (with_items_is c.self.inside.words c.fill.new.row (long ∙ sym c.self.inside.words.ok.0))) zeroed)
     (pushed_items _ _ _ _ (c.push-pushed.ensures.succeeds (let ok = c.self.inside.objects.ok in omega (arith, ok.0))) c.push-pushed.ensures.items) c.set_word.ensures words is s h)

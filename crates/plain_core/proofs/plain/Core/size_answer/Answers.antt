@@ -1,5 +1,3 @@
-use Rattle.std.proofs.Common.{subst}
-use Rattle.heap_spec.specs.declared.reply.Reply.TheVariants.{Count}
 use Rattle.heap_spec.specs.Steps.{Acts}
 use Rattle.plain_core.proofs.Answering.{may_size}
 use Rattle.plain_core.proofs.plain.Core.size_answer.Goals as goal

@@ -1,4 +1,4 @@
-use Rattle.heap_spec.specs.Steps.{Acts, address}
+use Rattle.heap_spec.specs.Steps.{Acts}
 use Rattle.plain_core.proofs.plain.Core.store_answer.Goals as goal
 
 pub returns-then-address-ne0 : goal.returns-then-address-ne0

@@ -1,6 +1,4 @@
-use Rattle.heap_spec.specs.Heap.{Heap, Mutator}
-use Rattle.heap_spec.specs.Steps.{Acts, with_mutator, register}
-use Rattle.roots.specs.Roots.{with_pushed}
+use Rattle.heap_spec.specs.Steps.{Acts}
 use Rattle.plain_core.proofs.plain.answers.push_answer.Goals as goal
 
 pub returns-then-is_full : goal.returns-then-is_full

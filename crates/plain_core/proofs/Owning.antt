@@ -1,0 +1,107 @@
+-- Each word of an object has the place of that object, written down one object after another.
+use Rattle.std.proofs.Common.{◌≡◌, ℕ, ◌+◌, ◌<◌, ◌≤◌, ◌⊎◌, List, length, get_or, sym, ap, ◌∙◌, subst, arith, inl, inr, ⊎_elim}
+use Rattle.std.specs.Prelude.{Some, All, slice_get}
+use Rattle.std.proofs.lemmas.Bool.{cases_eq, cases_lt}
+use Rattle.std.proofs.lemmas.Option.{same_Some, slice_get_within, get_or_from_slice_get, slice_get-get_or}
+use Rattle.words.specs.declared.limits.TheConstants.{FIRST_ADDRESS}
+use Rattle.heap_spec.specs.Layout.{Reads}
+use Rattle.plain_core.specs.declared.extent.Extent.{Extent}
+use Rattle.plain_core.specs.Standing.{LiesIn, place}
+use Rattle.plain_core.specs.Reached.{PointsInto, AreApart}
+use Rattle.plain_core.specs.Owners.{AreOwners}
+
+-- the object at a place of the row lies in it
+pub lies_at : (row : List Extent) (words : List ℕ) → All (LiesIn words) row → (i : ℕ) (e : Extent) → slice_get row i ≡ Some e → LiesIn words e
+lies_at row words all i e at = subst (LiesIn words) (get_or_from_slice_get row i e e at) (all i e (slice_get_within row i e at))
+
+-- an address of an object, by its place
+placed_in : (words : List ℕ) (e : Extent) (w : ℕ) → LiesIn words e → Reads w e.base e.length → (FIRST_ADDRESS ≤ w) × (place e.base ≤ place w) × (place w < place e.base + e.length)
+placed_in words e w lies reads =
+    let s = lies.start in let a = lies.aligned in (omega (arith, reads.0), omega (arith, reads.0), omega (arith, reads.0, reads.1))
+
+reads_in : (words : List ℕ) (e : Extent) (w : ℕ) → LiesIn words e → FIRST_ADDRESS ≤ w → place e.base ≤ place w → place w < place e.base + e.length → Reads w e.base e.length
+reads_in words e w lies low from until = let s = lies.start in let a = lies.aligned in (omega arith, omega arith)
+
+-- So far each word of one of the first objects has that object's place.
+pub record OwnSoFar (row : List Extent) (count : ℕ) (owners : List ℕ) : Type 0 where
+  pub owned : (w i : ℕ) → i < count → PointsInto row w i → get_or owners (place w) 0 ≡ i
+
+module _ (row : List Extent) (apart : AreApart row) (words : List ℕ) (lie : All (LiesIn words) row) where
+  pub own_none : (owners : List ℕ) → OwnSoFar row 0 owners
+  own_none owners = record { owned = λ w i few p. absurd (omega (arith, few)) }
+
+  -- one object more
+  pub own_more : (n : ℕ) (e : Extent) (start : ℕ) (old new : List ℕ) → slice_get row n ≡ Some e → start ≡ place e.base → OwnSoFar row n old
+      → ((k : ℕ) → start ≤ k → k < start + e.length → get_or new k 0 ≡ n)
+      → ((k : ℕ) → (k < start) ⊎ (start + e.length ≤ k) → get_or new k 0 ≡ get_or old k 0)
+      → OwnSoFar row (n + 1) new
+  own_more n e start old new at begins before filled others = record {
+    owned = λ w i few p. ⊎_elim
+        (λ same. let is : p.0 ≡ e = same_Some p.0 e (sym p.1 ∙ ap (slice_get row) same ∙ at) in here w i same (subst (λ (x : Extent). Reads w x.base x.length) is p.2))
+        (λ ne. others (place w) (outside w i ne p) ∙ before.owned w i (omega arith) p)
+        (cases_eq i n);
+  }
+    where
+      lies : LiesIn words e
+      lies = lies_at row words lie n e at
+
+      here : (w i : ℕ) → i ≡ n → Reads w e.base e.length → get_or new (place w) 0 ≡ i
+      here w i same reads = let in_it = placed_in words e w lies reads in filled (place w) (let b = begins in omega (arith, in_it.1)) (let b = begins in omega (arith, in_it.2)) ∙ sym same
+
+      outside : (w i : ℕ) → (i ≡ n → ⊥) → PointsInto row w i → (place w < start) ⊎ (start + e.length ≤ place w)
+      outside w i ne p =
+          let low = (placed_in words p.0 w (lies_at row words lie i p.0 p.1) p.2).0 in
+          ⊎_elim (λ under. inl under)
+          (λ from. ⊎_elim
+          (λ inside. absurd (ne (apart.one w i n p (e, at, reads_in words e w lies low (let b = begins in omega (arith, from)) (let b = begins in omega (arith, inside))))))
+          (λ past. inr past)
+          (cases_lt (place w) (start + e.length)))
+          (cases_lt (place w) start)
+
+  -- all have theirs
+  pub own_all : (n : ℕ) (owners : List ℕ) → length row ≤ n → length owners ≡ length words → OwnSoFar row n owners → AreOwners row owners
+  own_all n owners past long so_far = record {
+    some = λ k d lt. (lie k d lt).some;
+    start = λ w i p. (placed_in words p.0 w (lies_at row words lie i p.0 p.1) p.2).0;
+    within = λ w i p. let lies = lies_at row words lie i p.0 p.1 in let in_it = placed_in words p.0 w lies p.2 in let ends = lies.ends in omega (arith, in_it.2);
+    owned = λ w i p. so_far.owned w i (let lt = slice_get_within row i p.0 p.1 in omega arith) p;
+  }
+
+-- the same of equal rows
+pub owners_as : (row row' : List Extent) (owners owners' : List ℕ) → row ≡ row' → owners ≡ owners' → AreOwners row owners → AreOwners row' owners'
+owners_as row row' owners owners' er eo own = subst (λ r. AreOwners r owners') er (subst (AreOwners row) eo own)
+
+module _ (row : List Extent) (owners : List ℕ) (own : AreOwners row owners) (w : ℕ) where
+  abbrev points : (k : ℕ) (d : Extent) → k < length row → Reads w (get_or row k d).base (get_or row k d).length → PointsInto row w k
+  points k d lt reads = (get_or row k d, slice_get-get_or row k d lt, reads)
+
+  -- no object has a word before the first, or past the last
+  pub none_low : w < FIRST_ADDRESS → All (λ (e : Extent). Reads w e.base e.length → ⊥) row
+  none_low low k d lt reads = let from = own.start w k (points k d lt reads) in omega arith
+
+  pub none_past : length owners ≤ place w → All (λ (e : Extent). Reads w e.base e.length → ⊥) row
+  none_past past k d lt reads = let until = own.within w k (points k d lt reads) in omega arith
+
+  -- none but the owner
+  pub none_at : length row ≤ get_or owners (place w) 0 → All (λ (e : Extent). Reads w e.base e.length → ⊥) row
+  none_at past k d lt reads = let is = own.owned w k (points k d lt reads) in omega arith
+
+  pub none_other : (e : Extent) → slice_get row (get_or owners (place w) 0) ≡ Some e → (Reads w e.base e.length → ⊥) → All (λ (e : Extent). Reads w e.base e.length → ⊥) row
+  none_other e at out k d lt reads =
+      let p = points k d lt reads in
+      let is : p.0 ≡ e = same_Some p.0 e (sym p.1 ∙ ap (slice_get row) (sym (own.owned w k p)) ∙ at) in
+      out (subst (λ (x : Extent). Reads w x.base x.length) is p.2)
+
+  abbrev reads_base : (k : ℕ) (d : Extent) → k < length row → (get_or row k d).base ≡ w → Reads w (get_or row k d).base (get_or row k d).length
+  reads_base k d lt is = let more = own.some k d lt in (omega arith, omega arith)
+
+  -- an object whose base it is has that word
+  pub no_base : All (λ (e : Extent). Reads w e.base e.length → ⊥) row → All (λ (e : Extent). e.base ≡ w → ⊥) row
+  no_base none k d lt is = none k d lt (reads_base k d lt is)
+
+  pub other_base : (i : ℕ) (e : Extent) → slice_get row i ≡ Some e → Reads w e.base e.length → (e.base ≡ w → ⊥) → All (λ (e : Extent). e.base ≡ w → ⊥) row
+  other_base i e at reads ne k d lt is =
+      let p = points k d lt (reads_base k d lt is) in
+      let same : k ≡ i = sym (own.owned w k p) ∙ own.owned w i (e, at, reads) in
+      let one : p.0 ≡ e = same_Some p.0 e (sym p.1 ∙ ap (slice_get row) same ∙ at) in
+      ne (ap (λ (x : Extent). x.base) (sym one) ∙ is)

@@ -1,0 +1,14 @@
+use Rattle.std.proofs.lemmas.Option.{slice_get-get_or}
+use Rattle.plain_core.proofs.Owning.{own_none, own_more, own_all}
+use Rattle.plain_core.proofs.owners.write_owners.Goals as goal
+
+pub loop-index-init : goal.loop-index-init
+loop-index-init c = own_none _ c.requires.apart _ c.requires.within _
+
+pub loop-index-preserved : goal.loop-index-preserved
+loop-index-preserved c =
+    own_more _ c.requires.apart _ c.requires.within _ _ c.place_of-start.result _ _ (slice_get-get_or c.args.objects.now c.loop-index.index _ c.loop-index-test.true) c.place_of-start.ensures c.loop-index.invariant
+    c.fill.ensures.filled c.fill.ensures.others
+
+pub returns : goal.returns
+returns c = own_all _ c.requires.apart _ c.requires.within _ _ c.loop-index-test.false c.loop-index.auto.owners c.loop-index.invariant

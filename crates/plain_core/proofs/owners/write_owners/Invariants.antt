@@ -1,0 +1,6 @@
+use Rattle.plain_core.proofs.Owning.{OwnSoFar}
+use Rattle.plain_core.proofs.owners.write_owners.Given as goal
+
+-- so far
+abbrev pub invariant-loop-index : goal.invariant-loop-index
+invariant-loop-index l = OwnSoFar l.objects l.index l.owners

@@ -1,0 +1,81 @@
+//! Which object each word of the heap belongs to, written down so that an object is found without a search.
+ghost use Rattle.std.specs.Prelude.{◌≡◌, ◌≤◌, ◌<◌, ◌+◌, ◌⊎◌, ℕ, IfSome, IfNone, All, Some, length, slice_get, slice_index};
+ghost use Rattle.words.specs.declared.limits.TheConstants.{FIRST_ADDRESS};
+ghost use Rattle.heap_spec.specs.Layout.{Reads};
+ghost use Rattle.plain_core.specs.Standing.{LiesIn, place};
+ghost use Rattle.plain_core.specs.Reached.{AreApart};
+ghost use Rattle.plain_core.specs.Owners.{AreOwners};
+
+use crate::extent::Extent;
+use words::limits::{FIRST_ADDRESS, WORD_BYTES};
+
+/// Puts a word into so many places of a row.
+pub fn fill(row: &mut [u64], start: usize, count: usize, word: u64)
+    requires { start + count ≤ length row.old }
+    ensures filled { (k : ℕ) → start ≤ k → k < start + count → slice_index row.new k ≡ word }
+    ensures others { (k : ℕ) → (k < start) ⊎ (start + count ≤ k) → slice_index row.new k ≡ slice_index row.old k }
+{
+    for i in start..start + count {
+        row[i] = word;
+    }
+}
+
+// Where the word at an address stands in a row of all words.
+fn place_of(address: u64) -> usize
+    requires { FIRST_ADDRESS ≤ address }
+    ensures { result ≡ place address }
+{
+    ((address - FIRST_ADDRESS) / WORD_BYTES) as usize
+}
+
+/// Writes down of each word of an object where that object stands.
+pub fn write_owners(objects: &[Extent], owners: &mut [u64])
+    requires apart { AreApart objects.now }
+    requires within { All (LiesIn owners.old) objects.now }
+    ensures { AreOwners objects.now owners.new }
+{
+    for index in 0..objects.len() {
+        let object = objects[index];
+        let start = place_of(object.base);
+        fill(owners, start, object.length as usize, index as u64);
+    }
+}
+
+/// Where the object stands that the address reads.
+pub fn owner_at(objects: &[Extent], owners: &[u64], address: u64) -> Option<usize>
+    requires { AreOwners objects.now owners.now }
+    ensures some { IfSome result (λ i. (e : Extent) × (slice_get objects.now i ≡ Some e) × Reads address e.base e.length) }
+    ensures none { IfNone result (All (λ e. Reads address e.base e.length → ⊥) objects.now) }
+{
+    if address < FIRST_ADDRESS {
+        return None;
+    }
+    let place = place_of(address);
+    if place >= owners.len() {
+        return None;
+    }
+    let index = owners[place] as usize;
+    if index >= objects.len() {
+        return None;
+    }
+    // A word of no object may have an owner that was there before.
+    if !objects[index].is_read_by(address) {
+        return None;
+    }
+    Some(index)
+}
+
+/// Where the object with this base stands.
+pub fn owner_of(objects: &[Extent], owners: &[u64], base: u64) -> Option<usize>
+    requires { AreOwners objects.now owners.now }
+    ensures some { IfSome result (λ i. (e : Extent) × (slice_get objects.now i ≡ Some e) × (e.base ≡ base)) }
+    ensures none { IfNone result (All (λ e. e.base ≡ base → ⊥) objects.now) }
+{
+    let Some(index) = owner_at(objects, owners, base) else {
+        return None;
+    };
+    if objects[index].base != base {
+        return None;
+    }
+    Some(index)
+}

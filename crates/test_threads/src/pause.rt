@@ -1,0 +1,83 @@
+//! A cycle that runs while a mutator is held back, ended with helpers that meet, and memory that is refused then.
+
+use crate::gates::HeldPause;
+use crate::possible::may_print;
+use crate::runs::{Setting, run};
+use final_pause::Open;
+use scripts::ScriptError;
+use std::alloc::Global;
+use std::process::Abort;
+use std::sync::Wait;
+use std::sync::atomic::Ordering;
+use std::test::Fail;
+use std::thread::Threads;
+use test_scripts::fakes::{Script, Taken};
+use workloads::Workload;
+
+const PAGES: u32 = 4;
+
+/// Two of the three objects stay in registers, so a pause has two claims.
+const LINES: &str =
+    "attach\n0 alloc 1 2 normal\n0 alloc 2 2 normal\n0 alloc 3 2 normal\n0 set 3 0\n0 load 4 1 0\ngc begin\ngc finish\n";
+
+const REPLIES: &str = "mutator 0\nok\nok\nok\nok\n0\ncollector\nok\n1\n";
+
+fn check_pause<R: Threads + Wait + Abort + Sync>(
+    rt: &R,
+    alloc: Global,
+    numbers: (u8, u64),
+    output: &mut Taken,
+) {
+    let (helpers, claimers) = numbers;
+    let gate = HeldPause::new(claimers);
+    let setting = Setting {
+        pages: PAGES,
+        helpers,
+    };
+    let answer = run(rt, alloc, LINES.as_bytes(), setting, &gate, output);
+    assert_eq!(rt; answer, Ok(()));
+    assert_eq!(rt; gate.missed.load(Ordering::SeqCst), 0);
+    assert_eq!(rt; output.text(), Some(REPLIES), "{helpers} helpers");
+}
+
+/// The registers that hold objects are read by two helpers, where there are two or more.
+#[test]
+fn parallel_pause(rt: HostRuntime) -> Result<(), Fail> {
+    let mut output = Taken::new(rt.alloc())?;
+    for numbers in [(1u8, 1u64), (2, 2), (8, 2)] {
+        check_pause(&rt, rt.alloc(), numbers, &mut output);
+    }
+    Ok(())
+}
+
+/// Whether what was printed is possible; no memory, no line.
+fn may_be(alloc: Global, printed: &str) -> Result<bool, ScriptError> {
+    let workload = Workload::read(alloc, &mut Script::new(LINES.as_bytes()))?;
+    Ok(may_print(&workload, PAGES, printed))
+}
+
+fn check_memory<R: Threads + Wait + Abort + Sync>(rt: &R, alloc: Global, output: &mut Taken) {
+    let setting = Setting {
+        pages: PAGES,
+        helpers: 2,
+    };
+    match run(rt, alloc, LINES.as_bytes(), setting, &Open, output) {
+        Ok(()) => {
+            let answer = may_be(alloc, output.text().unwrap_or(""));
+            assert!(rt; answer == Ok(true) || answer == Err(ScriptError::Memory));
+        }
+        Err(fault) => {
+            assert_eq!(rt; fault, ScriptError::Memory);
+            assert!(rt; output.bytes.is_empty());
+        }
+    }
+}
+
+/// Where memory or a thread is refused, the answer is that, and nothing is printed; where only the helpers' is, the pause goes on without
+/// them. By itself this runs with ample memory; `rt try --test --fail-alloc N` refuses the N-th request.
+#[test]
+fn refused_memory(rt: HostRuntime) -> Result<(), Fail> {
+    let mut output = Taken::new(rt.alloc())?;
+    check_memory(&rt, rt.alloc(), &mut output);
+    Ok(())
+}
