@@ -1,15 +1,16 @@
 -- What words that are done with come to.
-use Rattle.std.proofs.Common.{◌≡◌, ℕ, ◌+◌, ◌-◌, ◌*◌, ◌<◌, ◌≤◌, List, [], ◌∷◌, ◌++◌, length, get_or, take, Contains, Option, Some, refl, sym, ap, ◌∙◌, subst, inl, inr, ⊎_elim, append_assoc, append-nil, arith}
-use Rattle.std.specs.Prelude.{◌⊎◌}
+use Rattle.std.proofs.Common.{◌≡◌, ℕ, ◌+◌, ◌-◌, ◌*◌, ◌<◌, ◌≤◌, List, [], ◌∷◌, ◌++◌, length, get_or, take, drop, Contains, Option, Some, refl, sym, ap, ◌∙◌, subst, inl, inr, ⊎_elim, append_assoc, append-nil, arith}
+use Rattle.std.specs.Prelude.{◌⊎◌, slice_index, slice_range}
 use Rattle.std.proofs.lemmas.Option.{same_Some}
-use Rattle.std.proofs.lemmas.List.{take_all, take_more}
-use Rattle.std.proofs.lemmas.List.FromFn.{map-range_with_len_more, length-map-range_with_len, get_or-map-range_with_len}
+use Rattle.std.proofs.lemmas.List.{take_all, take_more, length-take-le, length-drop, get_or-take, get_or-drop}
+use Rattle.std.proofs.lemmas.Grind.{same_number_lists}
+use Rattle.std.proofs.lemmas.List.FromFn.{length-map-range_with_len, get_or-map-range_with_len}
 use Rattle.std.proofs.lemmas.List.Elements.{Contains-append_left, Contains-append_right, Contains-append_cases}
 use Rattle.words.specs.declared.class.Kind.TheVariants.{Normal}
-use Rattle.words.specs.declared.limits.TheConstants.{PAGE_GRANULES}
+use Rattle.words.specs.declared.limits.TheConstants.{FIRST_ADDRESS, PAGE_GRANULES}
 use Rattle.words.specs.Bits.{Has}
 use Rattle.mark_bits.specs.Granules.{granule}
-use Rattle.pages.specs.Memory.{word_at}
+use Rattle.pages.specs.Memory.{place, word_at}
 use Rattle.block_map.specs.declared.found.Found.{Found}
 use Rattle.block_map.specs.Objects.{IsMap}
 use Rattle.marker.specs.Marking.{Marking, IsConsistent, IsMarked, StaysDirty, word_address}
@@ -41,15 +42,25 @@ words_append found a ws b x begun = subst (λ l. MarksWords found a l b) (sym (a
 words_append found a ws b x (and_word {ws = vs} {w = v} {new = c} y z) =
     subst (λ l. MarksWords found a l c) (append_assoc ws vs (v ∷ [])) (and_word (words_append found a ws b x y) z)
 
--- one root more
+-- one word more
 pub words_taken : (found : ℕ → Option Found) (old m new : Marking) (roots : List ℕ) (i : ℕ) → i < length roots → MarksWords found old (take i roots) m → MarksWord found (get_or roots i 0) m new → MarksWords found old (take (i + 1) roots) new
 words_taken found old m new roots i lt x y = subst (λ l. MarksWords found old l new) (sym (take_more roots i 0 lt)) (and_word x y)
 
--- one word of an object more
-pub words_more : (found : ℕ → Option Found) (words : List ℕ) (f : Found) (first n : ℕ) (old m new : Marking) → MarksWords found old (words_of words f first n) m
-    → MarksWord found (word_at words (word_address f (first + n))) m new → MarksWords found old (words_of words f first (n + 1)) new
-words_more found words f first n old m new x y =
-    subst (λ l. MarksWords found old l new) (sym (map-range_with_len_more (λ i. word_at words (word_address f i)) first n (first + n) refl)) (and_word x y)
+place_more : (f : Found) (first k : ℕ) → FIRST_ADDRESS ≤ f.base → place (word_address f first) + k ≡ place (word_address f (first + k))
+place_more f first k low = omega arith
+
+-- the words of an object stand side by side
+pub words_apart : (words : List ℕ) (f : Found) (first n : ℕ) → FIRST_ADDRESS ≤ f.base → place (word_address f first) + n ≤ length words
+    → slice_range words (place (word_address f first)) (place (word_address f first) + n) ≡ words_of words f first n
+words_apart words f first n low fits =
+    let at : ℕ = place (word_address f first) in
+    let rest = length-drop at words in
+    let len : length (slice_range words at (at + n)) ≡ n = length-take-le (at + n - at) (drop at words) (omega (arith, rest)) ∙ omega arith in
+    same_number_lists _ _ (len ∙ sym (length-map-range_with_len (λ i. word_at words (word_address f i)) first n))
+    (λ k lt.
+    let k_lt : k < n = omega (arith, len, lt) in
+    get_or-take (at + n - at) (drop at words) k 0 (omega (arith, k_lt)) ∙ get_or-drop at words k 0 ∙ ap (λ i. slice_index words i) (place_more f first k low)
+    ∙ sym (get_or-map-range_with_len (λ i. word_at words (word_address f i)) first n k (first + k) 0 k_lt refl))
 
 -- which words are some of an object's
 pub contains_word : (words : List ℕ) (f : Found) (first n i : ℕ) → first ≤ i → i < first + n → Contains (words_of words f first n) (word_at words (word_address f i))
@@ -156,10 +167,9 @@ pub record Scans (found : ℕ → Option Found) (roots : List ℕ) (old new : Ma
   pub dirty : StaysDirty old new
   pub cost : cost found new ≤ cost found old
 
-pub scanned : {pages : ℕ} {found : ℕ → Option Found} {old new : Marking} {roots : List ℕ} {i : ℕ} → IsMap pages found → IsConsistent old → length old.dirty ≡ pages → length roots ≤ i
-    → MarksWords found old (take i roots) new → Scans found roots old new
-scanned {pages = pages} {found = found} {old = old} {new = new} {roots = roots} {i = i} map consistent size all x =
-    let y = subst (λ ws. MarksWords found old ws new) (take_all i roots all) x in
+pub scanned : {pages : ℕ} {found : ℕ → Option Found} {old new : Marking} {roots : List ℕ} → IsMap pages found → IsConsistent old → length old.dirty ≡ pages → MarksWords found old roots new
+    → Scans found roots old new
+scanned {pages = pages} {found = found} {old = old} {new = new} {roots = roots} map consistent size y =
     let marks = marks_of pages old consistent size in
     let e = words_extends pages found map old marks y in
     record {

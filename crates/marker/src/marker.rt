@@ -185,9 +185,20 @@ impl Marker {
     {
         self.laws();
         let start = found.base + WORD_BYTES * u64::from(first);
-        for i in 0..count {
-            let word = reader.read(start + WORD_BYTES * i);
-            self.mark_word(map, heap_bytes, word);
+        let words = reader.read_words(start, count);
+        self.mark_each(map, heap_bytes, words);
+    }
+
+    // Marks the objects that words point into, in their order.
+    #[inline]
+    fn mark_each(&mut self, map: &BlockMap, heap_bytes: u64, words: &[u64])
+        requires pages { length self.old.dirty ≡ length map.now }
+        requires lawful { IsLawful map.now }
+        requires bytes { heap_bytes ≡ PAGE_BYTES * length map.now }
+        ensures { MarksWords (found_in map.now) self.old words.now self.new }
+    {
+        for word in words {
+            self.mark_word(map, heap_bytes, *word);
         }
     }
 
@@ -203,8 +214,6 @@ impl Marker {
     {
         self.laws();
         let heap_bytes = heap_bytes(map);
-        for word in roots {
-            self.mark_word(map, heap_bytes, *word);
-        }
+        self.mark_each(map, heap_bytes, roots);
     }
 }

@@ -31,4 +31,15 @@ impl Count {
     {
         Count {}
     }
+
+    /// Counts so many times.
+    #[inline]
+    pub fn add(&mut self, times: u64)
+        ensures { self.new.n ≡ self.old.n + times }
+    {
+        // A count has no bytes, so that nothing is left of this loop when it runs.
+        for _ in 0..times {
+            *self = self.next();
+        }
+    }
 }

@@ -1,6 +1,7 @@
 //! Reads of the heap that contracts count. A reader lends no memory, and costs nothing when it runs.
-ghost use Rattle.std.specs.Prelude.{◌≡◌, ◌+◌};
-ghost use Rattle.pages.specs.Memory.{IsWordAddress, word_at};
+ghost use Rattle.std.specs.Prelude.{◌≡◌, ◌+◌, ◌%◌, ◌≤◌, length, slice_range};
+ghost use Rattle.words.specs.declared.limits.TheConstants.{FIRST_ADDRESS, WORD_BYTES};
+ghost use Rattle.pages.specs.Memory.{IsWordAddress, place, word_at};
 
 use crate::count::Count;
 use crate::memory::Memory;
@@ -43,5 +44,19 @@ impl<'a> Reader<'a> {
     {
         self.count = self.count.next();
         self.memory.read(address)
+    }
+
+    /// So many words from an address on.
+    #[inline]
+    pub fn read_words(&mut self, address: u64, count: u64) -> &'a [u64]
+        requires aligned { address % WORD_BYTES ≡ 0 }
+        requires above { FIRST_ADDRESS ≤ address }
+        requires inside { place address + count ≤ length self.old.words }
+        ensures read { result.now ≡ slice_range self.old.words (place address) (place address + count) }
+        ensures words { self.new.words ≡ self.old.words }
+        ensures counted { self.new.reads ≡ self.old.reads + count }
+    {
+        self.count.add(count);
+        self.memory.words(address, count)
     }
 }
