@@ -1,6 +1,7 @@
 //! A core over pages in plain Rust, with the same data and the same calls as the proved one. It prints the same lines: a
 //! name, and picoseconds a call.
 mod locked;
+mod on_threads;
 mod plain_row;
 
 use plain_row::next;
@@ -359,4 +360,5 @@ fn main() {
         report(name, spent, sizes.len());
     }
     locked::measure();
+    on_threads::measure();
 }

@@ -1,12 +1,16 @@
 //! A heap that is laid out and marked.
-ghost use Rattle.std.specs.Prelude.{◌≡◌, length};
+ghost use Rattle.std.specs.Prelude.{◌≡◌, ◌*◌, length};
+ghost use Rattle.words.specs.declared.limits.TheConstants.{PAGE_WORDS};
 
 use block_map::BlockMap;
+use final_pause::{Helpers, Open, close_marks, close_marks_with};
 use fixtures::map;
 use marker::Marker;
 use pages::{Memory, Reader};
 use std::alloc::Global;
-use std::marker::Model;
+use std::marker::{Model, Sync};
+use std::sync::Wait;
+use std::thread::Threads;
 use words::limits::{FIRST_ADDRESS, WORD_BYTES};
 use words::{Kind, PageNo, page_of};
 
@@ -28,6 +32,29 @@ impl Model for Heap {
     ghost view = { λ h. h.map };
 
     ghost invariant = { λ h. (length h.marker.dirty ≡ length h.map) × (length h.memory ≡ PAGE_WORDS * length h.map) };
+}
+
+// Marks all that roots reach in one pause, with so many helpers, or alone.
+fn mark_in_pause<R: Threads + Wait + Sync>(
+    rt: &R,
+    alloc: Global,
+    marker: &mut Marker,
+    map: &BlockMap,
+    memory: &Memory,
+    roots: &[u64],
+    helpers: Option<Helpers>,
+)
+    requires pages { length marker.old.dirty ≡ length map.now }
+    requires memory { length memory.now ≡ PAGE_WORDS * length map.now }
+    ensures { length marker.new.dirty ≡ length marker.old.dirty }
+{
+    marker.begin();
+    if let Some(helpers) = helpers {
+        close_marks_with(rt, alloc, marker, map, memory, roots, helpers, &Open);
+        return;
+    }
+    let mut reader = Reader::new(memory);
+    close_marks(marker, map, &mut reader, roots);
 }
 
 impl Heap {
@@ -86,6 +113,25 @@ impl Heap {
             read = read.wrapping_add(words);
         }
         read
+    }
+
+    /// Marks all that roots reach in one pause, with so many helpers, or alone.
+    pub(crate) fn pause<R: Threads + Wait + Sync>(
+        &mut self,
+        rt: &R,
+        alloc: Global,
+        roots: &[u64],
+        helpers: Option<Helpers>,
+    ) {
+        mark_in_pause(
+            rt,
+            alloc,
+            &mut self.marker,
+            &self.map,
+            &self.memory,
+            roots,
+            helpers,
+        );
     }
 
     // Reads all entries and then the lowest dirty page. `None` where nothing was left to read.

@@ -10,6 +10,8 @@ mod locked;
 mod maps;
 mod marking;
 mod marks;
+mod on_threads;
+mod pause;
 mod user;
 
 use std::io;
@@ -20,5 +22,7 @@ fn main(rt: HostRuntime) -> io::Result<()> {
     calls::measure(&rt, rt.alloc())?;
     collections::measure(&rt, rt.alloc())?;
     marking::measure(&rt, rt.alloc())?;
-    locked::measure(&rt, rt.alloc())
+    pause::measure(&rt, rt.alloc())?;
+    locked::measure(&rt, rt.alloc())?;
+    on_threads::measure(&rt, rt.alloc())
 }

@@ -14,6 +14,9 @@ const WORD_PAGES: u32 = 512;
 
 const ROUNDS: u32 = 30;
 
+/// How many lists there are where the shape has many.
+pub(crate) const LISTS: u64 = 64;
+
 // Words below the heap, drawn anew for each place.
 fn draw(heap: &mut Heap) {
     let mut random = Random::new(1);
@@ -25,8 +28,8 @@ fn draw(heap: &mut Heap) {
     }
 }
 
-// The base of an object of two words. Those of a page leave no word over.
-fn object(number: u64) -> u64 {
+/// The base of an object of two words. Those of a page leave no word over.
+pub(crate) fn object(number: u64) -> u64 {
     FIRST_ADDRESS.wrapping_add(number.wrapping_mul(GRANULE_BYTES))
 }
 
@@ -35,6 +38,8 @@ pub(crate) fn targets(shape: &str, number: u64, count: u64) -> (u64, u64) {
     let count = count.max(1);
     let spread = number.wrapping_mul(1_741).wrapping_add(54_321) % count;
     match shape {
+        "lists" if number.wrapping_add(1) % (count / LISTS).max(1) == 0 => (count, count),
+        "lists" => (number.wrapping_add(1), count),
         "list" => (number.wrapping_add(1), count),
         "tree" => (
             number.wrapping_mul(2).wrapping_add(1),
@@ -45,8 +50,8 @@ pub(crate) fn targets(shape: &str, number: u64, count: u64) -> (u64, u64) {
     }
 }
 
-// Allocates objects of two words.
-fn fill(heap: &mut Heap, count: u64) {
+/// Allocates objects of two words.
+pub(crate) fn fill(heap: &mut Heap, count: u64) {
     for number in 0..count {
         let page = u32::try_from(number / PAGE_GRANULES).unwrap_or(0);
         let cell = u16::try_from(number % PAGE_GRANULES).unwrap_or(0);
@@ -62,8 +67,8 @@ fn pointer(number: u64, count: u64) -> u64 {
     if number < count { object(number) } else { 0 }
 }
 
-// Writes the words of all objects.
-fn link(heap: &mut Heap, shape: &str, count: u64) {
+/// Writes the words of all objects.
+pub(crate) fn link(heap: &mut Heap, shape: &str, count: u64) {
     for number in 0..count {
         let (first, second) = targets(shape, number, count);
         let base = object(number);

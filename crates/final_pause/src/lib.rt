@@ -18,11 +18,15 @@
 //! joined, the table is dropped, and the calling thread marks alone.
 //!
 //! **Sharing.** Root words, entries and dirty pages are shared out by their places, root words first. No helper writes
-//! anything that another reads but the table, by claims.
+//! anything that another reads but the table, by claims, and what is on offer.
 //!
 //! **Claiming.** An object is read by the helper whose claim marked it. It waits on that helper's stack, or where the stack
 //! is full, its pages become dirty in that helper's row. So each word of an object that a helper won points into what that
 //! helper knows to be marked, or stands on a page of its row.
+//!
+//! **Offering.** A helper with entries offers the lowest of them, one at a time, to helpers that have none, and keeps it all
+//! the same: it comes to that entry last. What is on offer is always a reached Normal object. So a heap that hangs from one
+//! root is marked by all, while each helper still answers for what it won.
 //!
 //! **Joining.** What helpers know, won and made dirty is put together: the table's bits become the marks, the rows the dirty
 //! pages, and no entry is left. The invariant holds then, and the calling thread reads what found no room.

@@ -3,14 +3,15 @@
 use crate::possible::may_print;
 use crate::runs::{Setting, run};
 use final_pause::Open;
-use scripts::run_bytes;
+use scripts::{ScriptError, run_bytes};
 use std::alloc::{AllocError, Global};
 use std::process::Abort;
 use std::sync::Wait;
 use std::test::Fail;
 use std::thread::Threads;
 use test_scripts::fakes::{Script, Taken};
-use workloads::{Workload, make_stress};
+use words::limits::MAX_PAGES;
+use workloads::{RunError, Workload, make_stress};
 
 /// So many random lines behind the attaches.
 const STEPS: u32 = 300;
@@ -27,58 +28,51 @@ fn with_numbers(alloc: Global, text: &[u8]) -> Result<Vec<u8>, AllocError> {
     Ok(lines)
 }
 
-/// What is printed is possible.
-fn check_seed<R: Threads + Wait + Abort + Sync>(
+/// The lines of a seed, with questions for the collector's number.
+fn drawn(rt: &impl Abort, alloc: Global, seed: u64, mutators: u8) -> Result<Vec<u8>, RunError> {
+    assert!(rt; 1 <= mutators && mutators <= 16);
+    let text = make_stress(alloc, seed, mutators, STEPS)?;
+    Ok(with_numbers(alloc, text.as_slice())?)
+}
+
+/// What a workload of drawn calls prints is possible.
+fn check_text<R: Threads + Wait + Abort + Sync>(
     rt: &R,
     alloc: Global,
-    numbers: (u64, u8),
+    text: &[u8],
     setting: Setting,
     output: &mut Taken,
-) -> Result<(), Fail> {
-    let (seed, mutators) = numbers;
-    assert!(rt; 1 <= mutators && mutators <= 16);
-    let drawn = make_stress(alloc, seed, mutators, STEPS)
-        .ok()
-        .ok_or("a text")?;
-    let text = with_numbers(alloc, drawn.as_slice())?;
-    let answer = run(rt, alloc, text.as_slice(), setting, &Open, output);
-    assert_eq!(rt; answer, Ok(()));
-    let workload = Workload::read(alloc, &mut Script::new(text.as_slice()))
-        .ok()
-        .ok_or("a workload")?;
+) -> Result<(), ScriptError> {
+    run(rt, alloc, text, setting, &Open, output)?;
+    let workload = Workload::read(alloc, &mut Script::new(text))?;
     let printed = output.text().unwrap_or("");
-    let pages = setting.pages;
-    assert!(rt;
-        may_print(&workload, pages, printed),
-        "seed {seed}, {mutators} mutators, {pages} pages"
-    );
+    assert!(rt; may_print(&workload, setting.pages, printed));
     Ok(())
 }
 
 /// Each seed with its pages, mutators and helpers; twelve seeds on end have all pairs of the first two.
-fn check_seeds<R: Threads + Wait + Abort + Sync>(
-    rt: &R,
-    alloc: Global,
-    output: &mut Taken,
-) -> Result<(), Fail> {
+fn check_seeds<R: Threads + Wait + Abort + Sync>(rt: &R, alloc: Global, output: &mut Taken) {
     for seed in 1..201u64 {
         let pages = [1u32, 2, 8, 64][(seed % 4) as usize];
         let mutators = [1u8, 4, 16][(seed % 3) as usize];
         let helpers = [1u8, 2][(seed % 2) as usize];
+        let text = drawn(rt, alloc, seed, mutators).ok().expect(rt, "a text");
         let setting = Setting { pages, helpers };
-        check_seed(rt, alloc, (seed, mutators), setting, output)?;
+        let answer = check_text(rt, alloc, text.as_slice(), setting, output);
+        assert_eq!(rt; answer, Ok(()), "seed {seed}");
     }
-    Ok(())
 }
 
 #[test]
 fn replies_are_possible(rt: HostRuntime) -> Result<(), Fail> {
     let mut output = Taken::new(rt.alloc())?;
-    check_seeds(&rt, rt.alloc(), &mut output)
+    check_seeds(&rt, rt.alloc(), &mut output);
+    Ok(())
 }
 
-/// The lines that are no command of the collector.
-fn without_collector(alloc: Global, text: &[u8]) -> Result<Vec<u8>, AllocError> {
+/// The lines of a seed's only mutator.
+fn alone(alloc: Global, seed: u64) -> Result<Vec<u8>, RunError> {
+    let text = make_stress(alloc, seed, 1, STEPS)?;
     let mut kept = Vec::new(alloc);
     for line in text.split_inclusive(|byte| *byte == b'\n') {
         if !line.starts_with(b"gc") {
@@ -92,24 +86,18 @@ fn without_collector(alloc: Global, text: &[u8]) -> Result<Vec<u8>, AllocError> 
 fn check_alone<R: Threads + Wait + Abort + Sync>(
     rt: &R,
     alloc: Global,
-    seed: u64,
-    setting: Setting,
+    script: &[u8],
+    pages: u32,
     output: &mut Taken,
-) -> Result<(), Fail> {
-    let text = make_stress(alloc, seed, 1, STEPS).ok().ok_or("a text")?;
-    let script = without_collector(alloc, text.as_slice())?;
-    let pages = setting.pages;
-    assert!(rt; 1 <= pages && pages <= 64);
-    let (mut replies, answer) = run_bytes(alloc, script.as_slice(), pages);
+) {
+    assert!(rt; 1 <= pages && pages <= MAX_PAGES);
+    let (replies, answer) = run_bytes(alloc, script, pages);
     assert_eq!(rt; answer, Ok(()));
-    replies.extend_from_slice(b"collector\n")?;
-    let answer = run(rt, alloc, script.as_slice(), setting, &Open, output);
+    let setting = Setting { pages, helpers: 1 };
+    let answer = run(rt, alloc, script, setting, &Open, output);
     assert_eq!(rt; answer, Ok(()));
-    assert!(rt;
-        output.bytes.as_slice() == replies.as_slice(),
-        "seed {seed}, {pages} pages"
-    );
-    Ok(())
+    let printed = output.bytes.as_slice().strip_suffix(b"collector\n");
+    assert!(rt; printed == Some(replies.as_slice()));
 }
 
 #[test]
@@ -117,13 +105,8 @@ fn one_mutator_is_answered_as_a_script(rt: HostRuntime) -> Result<(), Fail> {
     let mut output = Taken::new(rt.alloc())?;
     for seed in 1..201u64 {
         let pages = [1u32, 2, 8, 64][(seed % 4) as usize];
-        check_alone(
-            &rt,
-            rt.alloc(),
-            seed,
-            Setting { pages, helpers: 1 },
-            &mut output,
-        )?;
+        let script = alone(rt.alloc(), seed).ok().ok_or("a script")?;
+        check_alone(&rt, rt.alloc(), script.as_slice(), pages, &mut output);
     }
     Ok(())
 }

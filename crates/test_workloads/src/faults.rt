@@ -1,6 +1,7 @@
 //! Reads and allocations that fail.
 
 use crate::rules::mutators_of;
+use crate::stress::lines_of;
 use scripts::ScriptError;
 use std::alloc::Global;
 use std::process::Abort;
@@ -39,8 +40,8 @@ fn refused_memory(rt: HostRuntime) {
     let mut input = Script::new(WORKLOAD.as_bytes());
     let answer = mutators_of(rt.alloc(), &mut input);
     assert!(rt; answer == Ok(2) || answer == Err(ScriptError::Memory));
-    match make_stress(rt.alloc(), 1, 2, 10) {
-        Ok(text) => assert!(rt; text.len() > 100),
+    match make_stress(rt.alloc(), 1, 2, 100) {
+        Ok(text) => assert_eq!(rt; lines_of(text.as_slice()), 102),
         Err(fault) => assert_eq!(rt; fault, RunError::Memory),
     }
 }

@@ -37,19 +37,23 @@ fn texts_are_those_of_the_rule(rt: HostRuntime) {
     }
 }
 
-fn lines_of(text: &[u8]) -> usize {
+pub fn lines_of(text: &[u8]) -> usize {
     text.iter().filter(|byte| **byte == b'\n').count()
 }
 
-/// A text of 2,003 lines, all of which are answered as a script's, and which is a workload of three mutators.
-fn check_seed(rt: &impl Abort, alloc: Global, seed: u64) -> Result<(), RunError> {
-    let text = make_stress(alloc, seed, 3, 2_000)?;
-    assert_eq!(rt; lines_of(text.as_slice()), 2_003);
-    let (replies, answer) = run_bytes(alloc, text.as_slice(), 8);
+/// All lines of a script of 2,003 are answered, and it is a workload of three mutators.
+fn check_lines(rt: &impl Abort, alloc: Global, text: &[u8]) {
+    assert_eq!(rt; lines_of(text), 2_003);
+    let (replies, answer) = run_bytes(alloc, text, 8);
     assert_eq!(rt; answer, Ok(()));
     assert_eq!(rt; lines_of(replies.as_slice()), 2_003);
-    let mut input = Script::new(text.as_slice());
-    assert_eq!(rt; mutators_of(alloc, &mut input), Ok::<usize, ScriptError>(3));
+    let mutators = mutators_of(alloc, &mut Script::new(text));
+    assert_eq!(rt; mutators, Ok::<usize, ScriptError>(3));
+}
+
+fn check_seed(rt: &impl Abort, alloc: Global, seed: u64) -> Result<(), RunError> {
+    let text = make_stress(alloc, seed, 3, 2_000)?;
+    check_lines(rt, alloc, text.as_slice());
     Ok(())
 }
 

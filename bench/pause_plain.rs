@@ -1,0 +1,186 @@
+//! The pause alone and with helpers in plain Rust, with the same data and the same scheme as the proved one. It prints the
+//! same lines: a name, picoseconds an object, and how many helpers there were.
+mod plain_map;
+mod plain_marker;
+
+use plain_map::{Block, Found, Kind, Page, START, find};
+use plain_marker::{Marker, granule, set};
+use std::hint::black_box;
+use std::sync::atomic::{AtomicU64, Ordering::SeqCst};
+use std::thread;
+use std::time::Instant;
+
+const PAGES: usize = 1_024;
+const ENTRIES: usize = 256;
+const LOOKS: u32 = 100_000;
+const LISTS: u64 = 64;
+const ROUNDS: u32 = 30;
+
+struct Helper {
+    stack: [u64; ENTRIES],
+    len: usize,
+    dirty: Vec<u64>,
+}
+
+struct Pause<'a> {
+    table: &'a [AtomicU64],
+    map: &'a [Page],
+    memory: &'a [u64],
+    roots: &'a [u64],
+    helpers: usize,
+    offer: &'a AtomicU64,
+    busy: &'a AtomicU64,
+}
+
+impl Pause<'_> {
+    fn keep(&self, helper: &mut Helper, found: Found) {
+        if found.kind == Kind::PointerFree {
+            return;
+        }
+        if helper.len < ENTRIES {
+            helper.stack[helper.len] = found.base;
+            helper.len += 1;
+            return;
+        }
+        let first = (found.base - START) / 4_096;
+        let last = (found.base + 8 * u64::from(found.len) - 1 - START) / 4_096;
+        for page in first..=last {
+            set(&mut helper.dirty, page as usize);
+        }
+    }
+
+    fn visit(&self, helper: &mut Helper, word: u64) {
+        let Some(found) = find(self.map, word) else {
+            return;
+        };
+        let granule = granule(found.base);
+        let (cell, bit) = (&self.table[granule / 64], 1 << (granule % 64));
+        if cell.load(SeqCst) & bit == 0 && cell.fetch_or(bit, SeqCst) & bit == 0 {
+            self.keep(helper, found);
+        }
+    }
+
+    fn offer_lowest(&self, helper: &Helper, offered: usize) -> usize {
+        if offered >= helper.len {
+            return helper.len;
+        }
+        if helper.len - offered < 2 || self.offer.load(SeqCst) != 0 {
+            return offered;
+        }
+        self.offer.store(helper.stack[offered], SeqCst);
+        offered + 1
+    }
+
+    fn read_stack(&self, helper: &mut Helper) {
+        let mut offered = 0;
+        while helper.len > 0 {
+            helper.len -= 1;
+            let found = find(self.map, helper.stack[helper.len]).unwrap();
+            let start = ((found.base - START) / 8) as usize;
+            for word in &self.memory[start..start + found.len as usize] {
+                self.visit(helper, *word);
+            }
+            offered = self.offer_lowest(helper, offered);
+        }
+    }
+
+    fn read_offered(&self, helper: &mut Helper) {
+        let base = if self.offer.load(SeqCst) == 0 { 0 } else { self.offer.swap(0, SeqCst) };
+        if base == 0 {
+            thread::yield_now();
+            return;
+        }
+        helper.stack[0] = base;
+        helper.len = 1;
+        self.busy.fetch_add(1, SeqCst);
+        self.read_stack(helper);
+        self.busy.fetch_sub(1, SeqCst);
+    }
+
+    fn help(&self, share: usize) -> Helper {
+        let mut helper = Helper { stack: [0; ENTRIES], len: 0, dirty: vec![0; PAGES / 64] };
+        for word in self.roots.iter().skip(share).step_by(self.helpers) {
+            self.visit(&mut helper, *word);
+        }
+        self.read_stack(&mut helper);
+        self.busy.fetch_sub(1, SeqCst);
+        for _ in 0..LOOKS {
+            if self.busy.load(SeqCst) == 0 {
+                break;
+            }
+            self.read_offered(&mut helper);
+        }
+        helper
+    }
+}
+
+fn close_with(marker: &mut Marker, map: &[Page], memory: &[u64], roots: &[u64], helpers: usize) {
+    let table: Vec<AtomicU64> = marker.marks.iter().map(|word| AtomicU64::new(*word)).collect();
+    let (offer, busy) = (AtomicU64::new(0), AtomicU64::new(helpers as u64));
+    let pause = &Pause { table: &table, map, memory, roots, helpers, offer: &offer, busy: &busy };
+    thread::scope(|scope| {
+        let crew: Vec<_> = (0..helpers).map(|share| scope.spawn(move || pause.help(share))).collect();
+        for job in crew {
+            for (word, more) in marker.dirty.iter_mut().zip(job.join().unwrap().dirty) {
+                *word |= more;
+            }
+        }
+    });
+    for (word, bits) in marker.marks.iter_mut().zip(&table) {
+        *word = bits.load(SeqCst);
+    }
+    marker.mark(map, memory, roots);
+}
+
+fn targets(shape: &str, number: u64, count: u64) -> (u64, u64) {
+    match shape {
+        "lists" if (number + 1) % (count / LISTS) == 0 => (count, count),
+        "tree" => (2 * number + 1, 2 * number + 2),
+        _ => (number + 1, count),
+    }
+}
+
+fn measure(shape: &str, count: u64) {
+    let mut map: Vec<Page> = (0..PAGES).map(|_| Page::Free).collect();
+    let mut memory = vec![0; 512 * PAGES];
+    let pointer = |number: u64| if number < count { START + 16 * number } else { 0 };
+    for number in 0..count {
+        let page = number as usize / 256;
+        if number % 256 == 0 {
+            map[page] = Page::Cut(Block::new(2, Kind::Normal));
+        }
+        if let Page::Cut(block) = &mut map[page] {
+            set(&mut block.taken, number as usize % 256);
+        }
+        let (first, second) = targets(shape, number, count);
+        memory[2 * number as usize] = pointer(first);
+        memory[2 * number as usize + 1] = pointer(second);
+    }
+    let lists = if shape == "lists" { LISTS } else { 1 };
+    let roots: Vec<u64> = (0..LISTS).map(|i| if i < lists { START + 16 * (count / lists * i) } else { 0 }).collect();
+    let mut marker = Marker::new(map.len());
+    for helpers in [0, 1, 2, 4] {
+        let mut least = u128::MAX;
+        for _ in 0..ROUNDS {
+            let start = Instant::now();
+            marker.begin();
+            if helpers == 0 {
+                marker.mark(black_box(&map), black_box(&memory), black_box(&roots));
+            } else {
+                close_with(&mut marker, black_box(&map), black_box(&memory), black_box(&roots), helpers);
+            }
+            least = least.min(start.elapsed().as_nanos());
+        }
+        println!("pause_{shape}_{count}_by_{helpers} {} {helpers}", least * 1_000 / u128::from(count));
+    }
+}
+
+fn main() {
+    // Both kinds may stand in a map, also in these.
+    black_box(Kind::PointerFree);
+    for shape in ["lists", "tree", "list"] {
+        measure(shape, 100_000);
+    }
+    measure("lists", 640);
+    measure("lists", 6_400);
+}
