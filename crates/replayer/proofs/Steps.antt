@@ -328,12 +328,6 @@ count_same a b e = cc
 pub uncounted : (reply : Reply) (n len : ℕ) → reply ≡ Count n → (n ≡ len → ⊥) → (k : ℕ) → k ≡ len → reply ≡ Count k → ⊥
 uncounted reply n len is ne k same also = ne (count_same n k (sym is ∙ also) ∙ same)
 
--- no collection is granted where no bases are named
-pub no_bases : (hint : Hint) → ((bases : Bor (List ℕ)) → hint ≡ Forgot bases → ⊥) → (n : ℕ) (s s' : Heap) → NamesBases hint n s s' → ⊥
-no_bases Nothing ne n s s' names = names
-no_bases (Place base) ne n s s' names = names
-no_bases (Forgot bases) ne n s s' names = ne bases refl
-
 -- what one list of bases takes out is what another does
 taken_bases : (s : Heap) (b : Bool) (base : ℕ) (o : Object) → HasObject s base o → cond b None (s.objects base) ≡ None → b ≡ true
 taken_bases s true base o has none = refl
@@ -407,21 +401,21 @@ module _ (old : Contents) (small : old.number < word_end) (few : old.births < wo
   as_many : (bases : Bor (List ℕ)) (s s' : Heap) (n : ℕ) → NamesBases (Forgot bases) n s s' → n ≡ length bases.now
   as_many bases s s' n takes = count_same n (length bases.now) takes.number
 
-  module _ (wrong : old.marking ≡ false → reply ≡ Refused WrongPhase → ⊥) where
-    pub finish_unnamed : (hint : Hint) → ((bases : Bor (List ℕ)) → hint ≡ Forgot bases → ⊥) → IsNoReplay old Finish reply hint
-    finish_unnamed hint ne = no_finish old small few reply hint wrong (λ m s h n s' is names. no_bases hint ne n s s' names)
+  -- no collection is granted where not so many bases are named
+  unnamed : (hint : Hint) → ((bases : Bor (List ℕ)) → hint ≡ Forgot bases → reply ≡ Count (length bases.now) → ⊥) → (n : ℕ) (s s' : Heap) → reply ≡ Count n → NamesBases hint n s s' → ⊥
+  unnamed Nothing none n s s' is names = names
+  unnamed (Place base) none n s s' is names = names
+  unnamed (Forgot bases) none n s s' is names = none bases refl (is ∙ ap Count (as_many bases s s' n names))
 
-    pub finish_uncounted : (bases : Bor (List ℕ)) → ((n : ℕ) → n ≡ length bases.now → reply ≡ Count n → ⊥) → IsNoReplay old Finish reply (Forgot bases)
-    finish_uncounted bases none = no_finish old small few reply (Forgot bases) wrong (λ m s h n s' is names. none n (as_many bases s s' n names) is)
+  module _ (wrong : old.marking ≡ false → reply ≡ Refused WrongPhase → ⊥) where
+    pub finish_unnamed : (hint : Hint) → ((bases : Bor (List ℕ)) → hint ≡ Forgot bases → reply ≡ Count (length bases.now) → ⊥) → IsNoReplay old Finish reply hint
+    finish_unnamed hint none = no_finish old small few reply hint wrong (λ m s h n s' is names. unnamed hint none n s s' is names)
 
     pub finish_untaken : (bases : Bor (List ℕ)) → CantTake old.core bases.now false → IsNoReplay old Finish reply (Forgot bases)
     finish_untaken bases cant = no_finish old small few reply (Forgot bases) wrong (λ m s h n s' is names. cant s h n s' names (λ all. absurd (cc)))
 
-  pub collect_unnamed : (hint : Hint) → ((bases : Bor (List ℕ)) → hint ≡ Forgot bases → ⊥) → IsNoReplay old Collect reply hint
-  collect_unnamed hint ne = no_collect old small few reply hint (λ s h n s' is names full. no_bases hint ne n s s' names)
-
-  pub collect_uncounted : (bases : Bor (List ℕ)) → ((n : ℕ) → n ≡ length bases.now → reply ≡ Count n → ⊥) → IsNoReplay old Collect reply (Forgot bases)
-  collect_uncounted bases none = no_collect old small few reply (Forgot bases) (λ s h n s' is names full. none n (as_many bases s s' n names) is)
+  pub collect_unnamed : (hint : Hint) → ((bases : Bor (List ℕ)) → hint ≡ Forgot bases → reply ≡ Count (length bases.now) → ⊥) → IsNoReplay old Collect reply hint
+  collect_unnamed hint none = no_collect old small few reply hint (λ s h n s' is names full. unnamed hint none n s s' is names)
 
   pub collect_untaken : (bases : Bor (List ℕ)) → CantTake old.core bases.now true → IsNoReplay old Collect reply (Forgot bases)
   collect_untaken bases cant = no_collect old small few reply (Forgot bases)

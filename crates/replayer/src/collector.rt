@@ -1,5 +1,6 @@
 //! The collector's events. Its small steps leave the heap as it is, and their replies are open within their ranges.
-ghost use Rattle.std.specs.Prelude.{◌≡◌, ◌<◌, ℕ, IsTrue, IfSome, IfNone, false};
+ghost use Rattle.std.specs.Prelude.{◌≡◌, ◌<◌, ℕ, List, IsTrue, IfSome, IfNone, false, length};
+ghost use Rattle.std.specs.Borrow.{Bor};
 ghost use Rattle.heap_spec.specs.Layout.{word_end};
 ghost use Rattle.replayer.specs.declared.hint.Hint.{Hint as HintValue};
 ghost use Rattle.replayer.specs.Replays.{IsReplayed, IsNoReplay};
@@ -40,6 +41,23 @@ fn count_in(reply: &Reply) -> Option<u64>
         return None;
     };
     Some(*n)
+}
+
+// The bases that a collection is said to have forgotten, if the reply is how many they are.
+fn forgotten<'a>(reply: &Reply, hint: Hint<'a>) -> Option<&'a [u64]>
+    ensures some { IfSome result (λ bases. (hint.entry ≡ HintValue.Forgot bases) × (reply.now ≡ Reply.Count (length bases.now))) }
+    ensures none { IfNone result ((bases : Bor (List ℕ)) → hint.entry ≡ HintValue.Forgot bases → reply.now ≡ Reply.Count (length bases.now) → ⊥) }
+{
+    let Hint::Forgot(bases) = hint else {
+        return None;
+    };
+    let Some(n) = count_in(reply) else {
+        return None;
+    };
+    if n != bases.len() as u64 {
+        return None;
+    }
+    Some(bases)
 }
 
 impl Replayer {
@@ -171,16 +189,9 @@ impl Replayer {
         if !self.is_marking() {
             return is_wrong_phase(reply);
         }
-        let Hint::Forgot(bases) = hint else {
+        let Some(bases) = forgotten(reply, hint) else {
             return false;
         };
-        let Some(n) = count_in(reply) else {
-            return false;
-        };
-        let count = bases.len() as u64;
-        if n != count {
-            return false;
-        }
         if !self.core.forget(bases) {
             return false;
         }
@@ -196,16 +207,9 @@ impl Replayer {
         ensures same { result ≡ false → self.new ≡ self.old }
     {
         self.limits();
-        let Hint::Forgot(bases) = hint else {
+        let Some(bases) = forgotten(reply, hint) else {
             return false;
         };
-        let Some(n) = count_in(reply) else {
-            return false;
-        };
-        let count = bases.len() as u64;
-        if n != count {
-            return false;
-        }
         if !self.core.collect_as(bases) {
             return false;
         }

@@ -1,9 +1,9 @@
-use Rattle.std.proofs.Common.{◌≡◌, ◌<◌, ◌+◌, ℕ, subst, sym, ap, ◌∙◌}
+use Rattle.std.proofs.Common.{◌≡◌, ◌<◌, ◌+◌, ℕ, refl, subst, sym, ap, ◌∙◌}
 use Rattle.std.proofs.lemmas.Bool.{true≢false}
 use Rattle.heap_spec.specs.Layout.{word_end}
 use Rattle.replayer.specs.Contents.{Contents}
 use Rattle.heap_spec.specs.declared.event.Event.TheVariants.{Finish}
-use Rattle.replayer.proofs.Steps.{refuses, uncounted, finishes, finish_unnamed, finish_uncounted, finish_untaken}
+use Rattle.replayer.proofs.Steps.{refuses, finishes, finish_unnamed, finish_untaken}
 use Rattle.replayer.proofs.replayer.Replayer.finish.Goals as goal
 
 pub returns-then-not-is_marking-clause-yes : goal.returns-then-not-is_marking-clause-yes
@@ -11,26 +11,19 @@ returns-then-not-is_marking-clause-yes c done = rw (c.is_wrong_phase.ensures.yes
     (refuses c.args.self.now c.limits.ensures.number c.limits.ensures.births Finish c.args.hint (sym c.is_marking.ensures ∙ c.if-not-is_marking.true))
 
 pub returns-in_default-clause-no : goal.returns-in_default-clause-no
-returns-in_default-clause-no c refused = finish_unnamed _ c.limits.ensures.number c.limits.ensures.births _ (λ idle. absurd (true≢false (sym (sym c.is_marking.ensures ∙ c.if-not-is_marking.false) ∙ idle))) _ c.in_default.not-Forgot
-
-pub returns-in_default-count_in-clause-no : goal.returns-in_default-count_in-clause-no
-returns-in_default-count_in-clause-no c refused = rw c.in-Forgot.is (finish_uncounted _ c.limits.ensures.number c.limits.ensures.births _ (λ idle. absurd (true≢false (sym (sym c.is_marking.ensures ∙ c.if-not-is_marking.false) ∙ idle))) _ (λ k long is. c.in_default-count_in.ensures.none k is))
-
-pub returns-then-n-count-clause-no : goal.returns-then-n-count-clause-no
-returns-then-n-count-clause-no c refused = rw c.in-Forgot.is (finish_uncounted _ c.limits.ensures.number c.limits.ensures.births _ (λ idle. absurd (true≢false (sym (sym c.is_marking.ensures ∙ c.if-not-is_marking.false) ∙ idle))) _
-    (uncounted _ c.in-Some.n _ c.in-Some.ensures.some c.if-n-count.true))
+returns-in_default-clause-no c refused = finish_unnamed _ c.limits.ensures.number c.limits.ensures.births _ (λ idle. absurd (true≢false (sym (sym c.is_marking.ensures ∙ c.if-not-is_marking.false) ∙ idle))) _ c.in_default.ensures.none
 
 pub returns-then-not-forget-clause-no : goal.returns-then-not-forget-clause-no
 returns-then-not-forget-clause-no c refused =
     let small = subst (λ (r : Contents). r.number < word_end) (sym c.self.view_is) c.limits.ensures.number in
     let few = subst (λ (r : Contents). r.births < word_end) (sym c.self.view_is) c.limits.ensures.births in
     let m = subst (λ (r : Contents). c.is_marking.result ≡ r.marking) (sym c.self.view_is) c.is_marking.ensures in
-    rw (← c.self.view_is, c.in-Forgot.is) (finish_untaken _ small few _ (λ idle. absurd (true≢false (sym (sym m ∙ c.if-not-is_marking.false) ∙ idle))) _ (c.forget.ensures.no c.if-not-forget.true))
+    rw (← c.self.view_is, c.in-Some.ensures.some.0) (finish_untaken _ small few _ (λ idle. absurd (true≢false (sym (sym m ∙ c.if-not-is_marking.false) ∙ idle))) _ (c.forget.ensures.no c.if-not-forget.true))
 
 pub returns-clause-yes : goal.returns-clause-yes
 returns-clause-yes c done =
     let small = subst (λ (r : Contents). r.number < word_end) (sym c.self.view_is) c.limits.ensures.number in
     let few = subst (λ (r : Contents). r.births < word_end) (sym c.self.view_is) c.limits.ensures.births in
     let m = subst (λ (r : Contents). c.is_marking.result ≡ r.marking) (sym c.self.view_is) c.is_marking.ensures in
-    rw (← c.self.view_is, c.in-Forgot.is, c.in-Some.ensures.some)
-    (finishes _ small few _ _ (c.forget.ensures.yes c.if-not-forget.false) (sym m ∙ c.if-not-is_marking.false) c.in-Some.n c.if-n-count.false)
+    rw (← c.self.view_is, c.in-Some.ensures.some.0, c.in-Some.ensures.some.1)
+    (finishes _ small few _ _ (c.forget.ensures.yes c.if-not-forget.false) (sym m ∙ c.if-not-is_marking.false) _ refl)

@@ -1,0 +1,128 @@
+//! Cores that are marking: by each number of helpers the pause keeps what the pause alone keeps, and leaves nothing to mark.
+use final_pause::{Helpers, Open};
+use heap_core::Core;
+use heap_spec::{Event, Reply};
+use scripts::command;
+use scripts::limits::LINE_BYTES;
+use std::alloc::Global;
+use std::process::Abort;
+use std::sync::Wait;
+use std::test::Fail;
+use std::thread::Threads;
+use words::limits::{FIRST_ADDRESS, GRANULE_BYTES, MAX_HELPERS, PAGE_GRANULES};
+use workloads::make_stress;
+
+const PAGES: u32 = 8;
+
+const SEEDS: u64 = 20;
+
+const MUTATORS: u8 = 3;
+
+const STEPS: u32 = 500;
+
+// A cycle that has read a little when the pause comes.
+const MARKING: &str = "gc collect\ngc begin\ngc roots\ngc mark 10\n";
+
+// Makes the calls of some lines.
+pub(crate) fn run(core: &mut Core, text: &[u8]) -> Result<(), Fail> {
+    for line in text.split(|byte| *byte == b'\n') {
+        if !line.is_empty() && line.len() <= LINE_BYTES {
+            let event = command(line).ok_or("a command")?;
+            let _reply = core.act(event);
+        }
+    }
+    Ok(())
+}
+
+// The helped core has nothing left to mark, and then both forget as many objects and keep the same.
+fn compare(rt: &impl Abort, helped: &mut Core, alone: &mut Core) {
+    assert_eq!(rt; helped.act(Event::Roots), Reply::Done);
+    assert_eq!(rt; helped.act(Event::Mark(u64::MAX)), Reply::Count(0));
+    assert_eq!(rt; helped.act(Event::Retrace), Reply::Count(0));
+    assert_eq!(rt; helped.act(Event::Finish), alone.act(Event::Finish));
+    for granule in 0..PAGE_GRANULES * u64::from(PAGES) {
+        let address = FIRST_ADDRESS + GRANULE_BYTES * granule;
+        assert!(rt;
+            helped.kept_at(address) == alone.kept_at(address),
+            "at {address}"
+        );
+    }
+}
+
+// Two cores to which the same calls were made, one of them with so many helpers.
+fn check(
+    rt: &(impl Abort + Threads + Wait + Sync),
+    alloc: Global,
+    helped: &mut Core,
+    alone: &mut Core,
+    text: &[u8],
+    number: u8,
+) -> Result<(), Fail> {
+    run(helped, text)?;
+    run(alone, text)?;
+    let helpers = Helpers::new(number).ok_or("a number of helpers")?;
+    assert_eq!(rt; helped.close_with(rt, alloc, helpers, &Open), Ok(()));
+    compare(rt, helped, alone);
+    Ok(())
+}
+
+// The same on new cores, by each number of helpers.
+fn check_all(
+    rt: &(impl Abort + Threads + Wait + Sync),
+    alloc: Global,
+    text: &[u8],
+) -> Result<(), Fail> {
+    for number in 1..=MAX_HELPERS {
+        let mut helped = Core::new(alloc, PAGES).ok().ok_or("a core")?;
+        let mut alone = Core::new(alloc, PAGES).ok().ok_or("a core")?;
+        check(rt, alloc, &mut helped, &mut alone, text, number)?;
+    }
+    Ok(())
+}
+
+// The lines of a random script, and a cycle that is marking.
+fn draw(alloc: Global, seed: u64) -> Result<Vec<u8>, Fail> {
+    let mut text = make_stress(alloc, seed, MUTATORS, STEPS)
+        .ok()
+        .ok_or("a script")?;
+    text.extend_from_slice(MARKING.as_bytes())?;
+    Ok(text)
+}
+
+#[test]
+fn random_cores_keep_the_same(rt: HostRuntime) -> Result<(), Fail> {
+    for seed in 1..=SEEDS {
+        let text = draw(rt.alloc(), seed)?;
+        check_all(&rt, rt.alloc(), text.as_slice())?;
+    }
+    Ok(())
+}
+
+// An object of 300 words, each of which points to an object of its own.
+fn widen(alloc: Global, text: &mut Vec<u8>) -> Result<(), Fail> {
+    text.extend_from_slice(b"attach\n0 alloc 1 300 normal\n")?;
+    for child in 0..300u32 {
+        let lines = format!(in alloc;
+            "0 alloc 2 2 normal\n0 set 3 {child}\n0 store 2 0 3\n0 store 1 {child} 2\n"
+        )?;
+        text.extend_from_slice(lines.as_bytes())?;
+    }
+    text.extend_from_slice(b"0 set 2 0\ngc begin\ngc roots\n")?;
+    Ok(())
+}
+
+#[test]
+fn more_objects_than_entries_are_kept(rt: HostRuntime) -> Result<(), Fail> {
+    let mut text = Vec::new(rt.alloc());
+    widen(rt.alloc(), &mut text)?;
+    check_all(&rt, rt.alloc(), text.as_slice())
+}
+
+#[test]
+fn helpers_wait_for_a_cycle(rt: HostRuntime) -> Result<(), Fail> {
+    let mut core = Core::new(rt.alloc(), 1).ok().ok_or("a core")?;
+    let helpers = Helpers::new(2).ok_or("two helpers")?;
+    let answer = core.close_with(&rt, rt.alloc(), helpers, &Open);
+    assert_eq!(&rt; answer, Err(words::Refusal::WrongPhase));
+    Ok(())
+}

@@ -1,0 +1,44 @@
+//! A pause with helpers where memory or a thread is refused. By itself this runs with ample memory; `rt try --test
+//! --fail-alloc N` refuses the N-th request.
+use crate::cores::run;
+use final_pause::{Helpers, Open};
+use heap_core::Core;
+use heap_spec::{Event, Reply};
+use std::alloc::Global;
+use std::process::Abort;
+use std::sync::Wait;
+use std::test::Fail;
+use std::thread::Threads;
+use words::limits::FIRST_ADDRESS;
+
+const PAGES: u32 = 4;
+
+// Two of three objects are reached when the pause comes.
+const MARKING: &str =
+    "attach\n0 alloc 1 2 normal\n0 alloc 2 2 normal\n0 alloc 3 2 normal\n0 set 3 0\ngc begin\n";
+
+fn close(
+    rt: &(impl Abort + Threads + Wait + Sync),
+    alloc: Global,
+    core: &mut Core,
+) -> Result<(), Fail> {
+    run(core, MARKING.as_bytes())?;
+    let helpers = Helpers::new(2).ok_or("two helpers")?;
+    assert_eq!(rt; core.close_with(rt, alloc, helpers, &Open), Ok(()));
+    assert_eq!(rt; core.act(Event::Roots), Reply::Done);
+    assert_eq!(rt; core.act(Event::Mark(1)), Reply::Count(0));
+    assert_eq!(rt; core.act(Event::Finish), Reply::Count(1));
+    assert!(rt; core.kept_at(FIRST_ADDRESS).is_some());
+    assert!(rt; core.kept_at(FIRST_ADDRESS + 16).is_some());
+    assert!(rt; core.kept_at(FIRST_ADDRESS + 32).is_none());
+    Ok(())
+}
+
+/// What is refused once the core is there changes no reply.
+#[test]
+fn a_core_ends_its_cycle_all_the_same(rt: HostRuntime) -> Result<(), Fail> {
+    let Ok(mut core) = Core::new(rt.alloc(), PAGES) else {
+        return Ok(());
+    };
+    close(&rt, rt.alloc(), &mut core)
+}
