@@ -44,7 +44,7 @@ impl Model for Core {
 
 impl Core {
     /// A heap of so many pages with no mutator, no object, globals of 0, and nothing to sweep. All memory that it ever takes
-    /// is taken here.
+    /// is taken here, but for the helpers of `close_with`.
     ///
     /// # Errors
     /// [`OpenError::BadPages`] exactly for no page or more than the limit, and else [`OpenError::Memory`] where a growth
