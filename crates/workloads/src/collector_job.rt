@@ -1,7 +1,6 @@
 //! The collector with its commands, as a job for a thread of its own.
 ghost use Rattle.std.specs.Prelude.{◌≡◌, true, All, length};
 ghost use Rattle.history.specs.declared.object.TheConstants.{COLLECTOR as collector};
-ghost use Rattle.heap_spec.specs.Replies.{count_reply, done_reply};
 ghost use Rattle.workloads.specs.Workloads.{is_collectors};
 ghost use Rattle.workloads.specs.Actors.{Commanded, CommandedAll, CanCommand, HasCommanded};
 
@@ -9,13 +8,13 @@ use crate::mutator_job::call_number;
 use each_law::Law;
 use final_pause::{Gate, Helpers};
 use heap_core::quiet::{Mark, Retrace, Roots, Sweep};
+use heap_spec::answers::{count, done};
 use heap_spec::{Event, Reply};
 use history::{COLLECTOR, Naming};
 use shared::{Collector, SharedHeap};
 use std::alloc::Global;
 use std::sync::Wait;
 use std::thread::Threads;
-use words::Refusal;
 
 /// The collector with its commands, and room for their replies.
 #[derive(Drop)]
@@ -33,26 +32,6 @@ impl<'a, J: Naming> Law<CollectorJob<'a, J>> for GivesCommands {
     ghost use Rattle.workloads.specs.Actors.{HasCommanded};
 
     ghost does = { λ law job done. HasCommanded J.origin job done };
-}
-
-/// The reply to a command that answers nothing more than that it is done.
-fn done(answer: Result<(), Refusal>) -> Reply
-    ensures { result ≡ done_reply answer }
-{
-    match answer {
-        Ok(()) => Reply::Done,
-        Err(refusal) => Reply::Refused(refusal),
-    }
-}
-
-/// The reply to a command that answers a number of things.
-fn count(answer: Result<u64, Refusal>) -> Reply
-    ensures { result ≡ count_reply answer }
-{
-    match answer {
-        Ok(count) => Reply::Count(count),
-        Err(refusal) => Reply::Refused(refusal),
-    }
 }
 
 /// One command of the collector.
