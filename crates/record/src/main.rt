@@ -5,66 +5,13 @@
 #![tactic(auto)]
 
 use heap_core::Core;
-use heap_spec::Reply;
 use recording::Recorder;
-use replayer::Hint;
+use scripts::command;
 use scripts::limits::LINE_BYTES;
-use scripts::{command, number};
 use std::alloc::{AllocError, Global};
 use std::process::ExitCode;
 use std::{env, fs};
-
-fn words_given(words: &[String]) -> Option<(u32, &str)> {
-    let [option, count, file] = words else {
-        return None;
-    };
-    if option.as_str() != "--pages" {
-        return None;
-    }
-    let pages = number(count.as_bytes())?;
-    if pages > u64::from(u32::MAX) {
-        return None;
-    }
-    Some((pages as u32, file.as_str()))
-}
-
-// A reply, with each word as its number.
-fn reply_text(alloc: Global, reply: &Reply) -> Result<String, AllocError> {
-    match reply {
-        Reply::Slot(slot) => format!(in alloc; "mutator {}", slot.number()),
-        Reply::Done => format!(in alloc; "ok"),
-        Reply::Word(word) => format!(in alloc; "{word}"),
-        Reply::Count(count) => format!(in alloc; "{count}"),
-        Reply::Refused(refusal) => format!(in alloc;
-            "refused {} {}",
-            refusal.code(),
-            refusal.name()
-        ),
-    }
-}
-
-fn put_bases(text: &mut String, alloc: Global, bases: &[u64]) -> Result<(), AllocError> {
-    text.push_str(" -")?;
-    for base in bases {
-        let word = format!(in alloc; " {base}")?;
-        text.push_str(word.as_str())?;
-    }
-    Ok(())
-}
-
-// A reply and what it leaves open.
-fn answer_text(alloc: Global, reply: &Reply, hint: Hint) -> Result<String, AllocError> {
-    let mut text = reply_text(alloc, reply)?;
-    match hint {
-        Hint::Nothing => {}
-        Hint::Place(base) => {
-            let place = format!(in alloc; " @ {base}")?;
-            text.push_str(place.as_str())?;
-        }
-        Hint::Forgot(bases) => put_bases(&mut text, alloc, bases)?,
-    }
-    Ok(text)
-}
+use written_runs::{answer_text, words_given};
 
 // The answer to a line, if it is one.
 fn answer(

@@ -3,30 +3,10 @@
 //! The lines of FILE are those of docs/REPLAY.md.
 #![tactic(auto)]
 
-mod line;
-mod rules;
-mod verdict;
-
-use crate::verdict::{Verdict, judge};
-use scripts::number;
+use faults::RunError;
 use std::process::ExitCode;
 use std::{env, fs};
-use words::limits::MAX_PAGES;
-
-// The words of the command line: the pages, and the file.
-fn words_given(words: &[String]) -> Option<(u32, &str)> {
-    let [option, count, file] = words else {
-        return None;
-    };
-    if option.as_str() != "--pages" {
-        return None;
-    }
-    let pages = number(count.as_bytes())?;
-    if pages == 0 || pages > u64::from(MAX_PAGES) {
-        return None;
-    }
-    Some((pages as u32, file.as_str()))
-}
+use written_runs::{Verdict, judge, words_given};
 
 fn main(rt: HostRuntime) -> ExitCode {
     let Ok(words) = env::args(&rt) else {
@@ -44,19 +24,19 @@ fn main(rt: HostRuntime) -> ExitCode {
         return ExitCode::from(1);
     };
     match judge(rt.alloc(), pages, text.as_str()) {
-        Verdict::Legal => {
+        Ok(Verdict::Legal) => {
             let _ = println!(rt; "legal");
             ExitCode::from(0)
         }
-        Verdict::Bad(line) => {
+        Ok(Verdict::Bad(line)) => {
             let _ = println!(rt; "line {line}: not a line of a run");
             ExitCode::from(2)
         }
-        Verdict::Breaks(line, rule) => {
+        Ok(Verdict::Breaks(line, rule)) => {
             let _ = println!(rt; "line {line}: {rule}");
             ExitCode::from(1)
         }
-        Verdict::Memory => {
+        Err(RunError::Memory) => {
             let _ = eprintln!(rt; "no memory");
             ExitCode::from(1)
         }

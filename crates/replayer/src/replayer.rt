@@ -1,18 +1,18 @@
 //! The replayer, how it is made, and its one question.
-ghost use Rattle.std.specs.Prelude.{◌≡◌, ◌+◌, ◌<◌, ◌≤◌, ◌↔◌, ◌⊎◌, IfOk, Err, IsTrue, false, []};
+ghost use Rattle.std.specs.Prelude.{◌≡◌, ◌+◌, ◌<◌, ◌≤◌, IfOk, IsTrue, false, []};
 ghost use Rattle.words.specs.declared.limits.TheConstants.{MAX_PAGES};
-ghost use Rattle.words.specs.declared.refusal.OpenError.TheVariants.{BadPages};
 ghost use Rattle.heap_spec.specs.Layout.{word_end};
 ghost use Rattle.heap_spec.specs.Runs.{fresh};
 ghost use Rattle.replayer.specs.Contents.{Follows};
 ghost use Rattle.replayer.specs.Replays.{IsReplayed, IsNoReplay};
 
 use crate::hint::Hint;
+use faults::RunError;
 use heap_spec::{Call, Event, Reply};
 use plain_core::Core;
 use std::alloc::Global;
 use std::marker::Model;
-use words::{Kind, OpenError, Reg, Slot};
+use words::{Kind, Reg, Slot};
 
 /// A checker of the runs of one heap.
 #[derive(Drop)]
@@ -35,21 +35,20 @@ impl Replayer {
     /// A checker of a heap of so many pages, of which nothing was told yet. All memory that it ever takes is taken here.
     ///
     /// # Errors
-    /// [`OpenError::BadPages`] exactly for no page or more than the limit, and else [`OpenError::Memory`] where a growth
-    /// of memory was refused.
-    pub fn new(alloc: Global, pages: u32) -> Result<Replayer, OpenError>
-        ensures ok { IfOk result (λ replayer. Follows replayer (fresh pages) []) }
-        ensures bad_pages { (result ≡ Err BadPages) ↔ ((pages ≡ 0) ⊎ (MAX_PAGES < pages)) }
+    /// [`RunError::Memory`] where a growth of memory was refused.
+    pub fn new(alloc: Global, pages: u32) -> Result<Replayer, RunError>
+        requires { (1 ≤ pages) × (pages ≤ MAX_PAGES) }
+        ensures { IfOk result (λ replayer. Follows replayer (fresh pages) []) }
     {
-        match Core::new(alloc, pages) {
-            Ok(core) => Ok(Replayer {
-                core,
-                marking: false,
-                number: 0,
-                births: 0,
-            }),
-            Err(error) => Err(error),
-        }
+        let Ok(core) = Core::new(alloc, pages) else {
+            return Err(RunError::Memory);
+        };
+        Ok(Replayer {
+            core,
+            marking: false,
+            number: 0,
+            births: 0,
+        })
     }
 
     // Whether no birth more can be counted.

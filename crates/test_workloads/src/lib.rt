@@ -2,7 +2,7 @@
 #![tactic(auto)]
 
 #[cfg(test)]
-mod faults;
+mod failures;
 #[cfg(test)]
 mod printed;
 #[cfg(test)]

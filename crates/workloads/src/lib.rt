@@ -5,7 +5,6 @@
 mod collector_job;
 mod command_line;
 mod draw;
-mod errors;
 pub mod laws;
 pub mod limits;
 mod lines;
@@ -18,7 +17,7 @@ mod stress;
 mod threads;
 mod workload;
 
-pub use errors::RunError;
+pub use faults::RunError;
 pub use lines::Lines;
 pub use replies::{Replies, print_replies};
 pub use serving::run_workload;

@@ -8,8 +8,8 @@ ghost use Rattle.workloads.specs.Stress.{command_line, drawn_text, stress_text};
 
 use crate::command_line::put_command;
 use crate::draw::draw;
-use crate::errors::RunError;
 use arrayvec::ArrayString;
+use faults::RunError;
 use heap_spec::Event;
 use rand_core::SeedableRng;
 use rand_core::utils::NextWord;

@@ -6,13 +6,13 @@ ghost use Rattle.workloads.specs.Actors.{IsPlain, CanCall, HasCalled, IsAttached
 ghost use Rattle.workloads.specs.OneHistory.{HaveOneHistory};
 
 use crate::collector_job::{CollectorJob, GivesCommands, run_collector};
-use crate::errors::RunError;
 use crate::lines::Lines;
 use crate::mutator_job::{Attached, MakesCalls, MutatorJob, run_mutator};
 use crate::replies::Replies;
 use crate::settling::settle;
 use crate::workload::Workload;
 use each_law::run_each_beside;
+use faults::RunError;
 use final_pause::{Gate, Helpers};
 use heap_core::Core;
 use heap_spec::{Call, Reply};

@@ -1,9 +1,10 @@
 //! A line of a written run: a command, ` => `, its reply, and where the reply leaves something open a hint.
 
 use heap_spec::{Call, Event, Reply};
+use replayer::Hint;
 use scripts::limits::LINE_BYTES;
 use scripts::{command, number};
-use std::alloc::AllocError;
+use std::alloc::{AllocError, Global};
 use words::{Refusal, Slot};
 
 const REFUSALS: [Refusal; 9] = [
@@ -19,16 +20,35 @@ const REFUSALS: [Refusal; 9] = [
 ];
 
 /// What stands behind a reply.
-#[derive(Clone, Copy, Debug, PartialEq, Eq)]
-pub enum Told {
+#[derive(Debug, Drop)]
+enum Told {
     /// Nothing.
     Nothing,
 
     /// ` @ ADDRESS`.
     Place(u64),
 
-    /// ` -` and the bases that were read into a list.
-    Bases,
+    /// ` -` and these bases.
+    Bases(Vec<u64>),
+}
+
+/// A line that was read.
+#[derive(Debug, Drop)]
+pub struct Line {
+    pub event: Event,
+    pub reply: Reply,
+    told: Told,
+}
+
+impl Line {
+    /// What the reply leaves open.
+    pub fn hint(&self) -> Hint<'_> {
+        match &self.told {
+            Told::Nothing => Hint::Nothing,
+            Told::Place(base) => Hint::Place(*base),
+            Told::Bases(bases) => Hint::Forgot(bases.as_slice()),
+        }
+    }
 }
 
 // Whether a number that the event answers is a word of a register or of the heap, and not a count.
@@ -36,7 +56,15 @@ fn answers_word(event: &Event) -> bool {
     match event {
         Event::Mutator(_, Call::Size(_)) => false,
         Event::Mutator(_, _) => true,
-        _ => false,
+        Event::Attach
+        | Event::Begin
+        | Event::Roots
+        | Event::Mark(_)
+        | Event::Retrace
+        | Event::Finish
+        | Event::Sweep
+        | Event::Collect
+        | Event::Number => false,
     }
 }
 
@@ -78,16 +106,16 @@ fn reply_of(event: &Event, text: &str) -> Option<Reply> {
     })
 }
 
-// Reads bases that stand one behind another, each behind a space.
-fn read_bases(text: &str, bases: &mut Vec<u64>) -> Result<bool, AllocError> {
-    bases.clear();
+// The bases that stand one behind another, each behind a space.
+fn bases_of(alloc: Global, text: &str) -> Result<Option<Told>, AllocError> {
+    let mut bases = Vec::new(alloc);
     for word in text.split(' ').skip(1) {
         let Some(base) = number(word.as_bytes()) else {
-            return Ok(false);
+            return Ok(None);
         };
         bases.push(base)?;
     }
-    Ok(true)
+    Ok(Some(Told::Bases(bases)))
 }
 
 // A reply and what stands behind it, apart.
@@ -102,11 +130,19 @@ fn parted(text: &str) -> (&str, &str, &str) {
     (text, "", "")
 }
 
-/// The event, the reply and the hint of a line; the bases of a hint go into the list. `None` if it is no line of a run.
-pub fn read_line(
-    line: &str,
-    bases: &mut Vec<u64>,
-) -> Result<Option<(Event, Reply, Told)>, AllocError> {
+// What stands behind a reply, from its sign and the rest.
+fn told_of(alloc: Global, sign: &str, rest: &str) -> Result<Option<Told>, AllocError> {
+    if sign == "@" {
+        return Ok(number(rest.as_bytes()).map(Told::Place));
+    }
+    if sign == "-" {
+        return bases_of(alloc, rest);
+    }
+    Ok(Some(Told::Nothing))
+}
+
+/// Reads a line: `None` if it is no line of a run.
+pub fn read_line(alloc: Global, line: &str) -> Result<Option<Line>, AllocError> {
     let Some((text, answer)) = line.split_once(" => ") else {
         return Ok(None);
     };
@@ -120,15 +156,8 @@ pub fn read_line(
     let Some(reply) = reply_of(&event, reply) else {
         return Ok(None);
     };
-    if sign == "@" {
-        let Some(place) = number(rest.as_bytes()) else {
-            return Ok(None);
-        };
-        return Ok(Some((event, reply, Told::Place(place))));
-    }
-    if sign == "-" {
-        let is_good = read_bases(rest, bases)?;
-        return Ok(is_good.then_some((event, reply, Told::Bases)));
-    }
-    Ok(Some((event, reply, Told::Nothing)))
+    let Some(told) = told_of(alloc, sign, rest)? else {
+        return Ok(None);
+    };
+    Ok(Some(Line { event, reply, told }))
 }

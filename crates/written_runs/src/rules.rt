@@ -8,8 +8,11 @@ fn of_alloc(reply: &Reply, hint: Hint) -> &'static str {
         (Reply::Done, Hint::Place(_)) => {
             "no object of this size and kind may be placed there, or the slot has no mutator"
         }
-        (Reply::Done, _) => "a granted request needs the place of its object",
-        _ => "a request is refused exactly for its slot, its size, or if no place has room",
+        (Reply::Done, Hint::Nothing | Hint::Forgot(_)) => {
+            "a granted request needs the place of its object"
+        }
+        (Reply::Slot(_) | Reply::Word(_) | Reply::Count(_) | Reply::Refused(_), _) =>
+            "a request is refused exactly for its slot, its size, or if no place has room",
     }
 }
 
@@ -21,7 +24,16 @@ fn of_call(call: &Call, reply: &Reply, hint: Hint) -> &'static str {
         Call::Free(_) => "only the base of an object can be freed",
         Call::Base(_, _) => "the base is that of the object that the word points into",
         Call::Size(_) => "the size is that of the object that the word points into",
-        _ => "registers, stacks and globals have what was put there last",
+        Call::Detach
+        | Call::Set(_, _)
+        | Call::Copy(_, _)
+        | Call::Add(_, _, _)
+        | Call::Sub(_, _, _)
+        | Call::Get(_)
+        | Call::Push(_)
+        | Call::Pop(_)
+        | Call::GlobalGet(_, _)
+        | Call::GlobalPut(_, _) => "registers, stacks and globals have what was put there last",
     }
 }
 
@@ -30,7 +42,8 @@ fn of_collection(hint: Hint) -> &'static str {
         Hint::Forgot(_) => {
             "what is forgotten are so many distinct objects that nothing reaches, by their bases, and a full collection forgets all of them"
         }
-        _ => "a collection needs the bases of what it forgot, or the phase forbids it",
+        Hint::Nothing | Hint::Place(_) =>
+            "a collection needs the bases of what it forgot, or the phase forbids it",
     }
 }
 

@@ -1,8 +1,11 @@
 //! A written run is replayed, line by line.
+ghost use Rattle.std.specs.Prelude.{◌≤◌};
+ghost use Rattle.words.specs.declared.limits.TheConstants.{MAX_PAGES};
 
-use crate::line::{Told, read_line};
+use crate::line::read_line;
 use crate::rules::rule_of;
-use replayer::{Hint, Replayer};
+use faults::RunError;
+use replayer::Replayer;
 use std::alloc::{AllocError, Global};
 
 /// What is said of a written run.
@@ -16,38 +19,31 @@ pub enum Verdict {
 
     /// The line of this number, from 1, is the first that isn't legal, and breaks this rule.
     Breaks(u64, &'static str),
-
-    /// Memory was refused.
-    Memory,
 }
 
 // What is wrong with the next line, if anything is.
 fn judge_line(
     replayer: &mut Replayer,
+    alloc: Global,
     number: u64,
-    line: &str,
-    bases: &mut Vec<u64>,
+    text: &str,
 ) -> Result<Option<Verdict>, AllocError> {
-    let Some((event, reply, told)) = read_line(line, bases)? else {
+    let Some(line) = read_line(alloc, text)? else {
         return Ok(Some(Verdict::Bad(number)));
     };
-    let hint = match told {
-        Told::Nothing => Hint::Nothing,
-        Told::Place(base) => Hint::Place(base),
-        Told::Bases => Hint::Forgot(bases.as_slice()),
-    };
-    if replayer.step(&event, &reply, hint) {
+    let hint = line.hint();
+    if replayer.step(&line.event, &line.reply, hint) {
         return Ok(None);
     }
-    Ok(Some(Verdict::Breaks(number, rule_of(&event, &reply, hint))))
+    let rule = rule_of(&line.event, &line.reply, hint);
+    Ok(Some(Verdict::Breaks(number, rule)))
 }
 
 fn judge_lines(replayer: &mut Replayer, alloc: Global, text: &str) -> Result<Verdict, AllocError> {
-    let mut bases = Vec::new(alloc);
     let mut number = 0u64;
     for line in text.lines() {
         number = number.wrapping_add(1);
-        if let Some(verdict) = judge_line(replayer, number, line, &mut bases)? {
+        if let Some(verdict) = judge_line(replayer, alloc, number, line)? {
             return Ok(verdict);
         }
     }
@@ -55,9 +51,13 @@ fn judge_lines(replayer: &mut Replayer, alloc: Global, text: &str) -> Result<Ver
 }
 
 /// Replays a written run on a heap of so many pages.
-pub fn judge(alloc: Global, pages: u32, text: &str) -> Verdict {
-    let Ok(mut replayer) = Replayer::new(alloc, pages) else {
-        return Verdict::Memory;
-    };
-    judge_lines(&mut replayer, alloc, text).unwrap_or(Verdict::Memory)
+///
+/// # Errors
+/// [`RunError::Memory`] if memory was refused.
+pub fn judge(alloc: Global, pages: u32, text: &str) -> Result<Verdict, RunError>
+    requires { (1 ≤ pages) × (pages ≤ MAX_PAGES) }
+{
+    let mut replayer = Replayer::new(alloc, pages)?;
+    let verdict = judge_lines(&mut replayer, alloc, text)?;
+    Ok(verdict)
 }

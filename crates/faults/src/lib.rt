@@ -1,9 +1,9 @@
-//! Why a script isn't made.
-ghost use Rattle.std.specs.Prelude.{◌≡◌};
+//! Why a run isn't made, in all crates that make one.
+#![tactic(auto)]
 
 use std::alloc::AllocError;
 
-/// Why a script isn't made, or a workload not run.
+/// Why a run isn't made: of a workload, of a random script, or of the checker.
 #[derive(Clone, Copy, Debug, PartialEq, Eq)]
 pub enum RunError {
     /// Memory was refused.

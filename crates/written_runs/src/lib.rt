@@ -1,0 +1,13 @@
+//! Runs that are written down, in the lines of docs/REPLAY.md: how a line is read, how it is written, and what the checker
+//! says of a run.
+#![tactic(auto)]
+
+mod command;
+mod line;
+mod rules;
+mod verdict;
+mod writing;
+
+pub use command::words_given;
+pub use verdict::{Verdict, judge};
+pub use writing::answer_text;
