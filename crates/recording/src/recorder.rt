@@ -1,9 +1,12 @@
 //! A heap that is asked, and what its replies leave open.
+ghost use Rattle.std.specs.Prelude.{◌≡◌, IfOk, IfErr};
+ghost use Rattle.heap_core.specs.Following.{IsLine};
 
 use heap_core::Core;
 use heap_spec::{Call, Event, Reply};
 use replayer::Hint;
 use std::alloc::{AllocError, Global};
+use std::marker::Model;
 use std::mem::replace;
 use words::{Reg, Slot};
 
@@ -18,6 +21,14 @@ pub struct Recorder {
     has_collected: bool,
 }
 
+impl Model for Recorder {
+    ghost use Rattle.heap_core.specs.Contents.{Contents};
+
+    ghost Value = { Contents };
+
+    ghost view = { λ r. r.core };
+}
+
 fn is_refused(reply: &Reply) -> bool {
     let Reply::Refused(_) = reply else {
         return false;
@@ -27,7 +38,9 @@ fn is_refused(reply: &Reply) -> bool {
 
 impl Recorder {
     /// A recorder of a new heap.
-    pub fn new(alloc: Global, core: Core) -> Recorder {
+    pub fn new(alloc: Global, core: Core) -> Recorder
+        ensures { result ≡ core }
+    {
         Recorder {
             alloc,
             core,
@@ -47,7 +60,9 @@ impl Recorder {
     }
 
     // Notes an object that stayed, or is gone.
-    fn sort(&mut self, base: u64) -> Result<(), AllocError> {
+    fn sort(&mut self, base: u64) -> Result<(), AllocError>
+        ensures { self.new ≡ self.old }
+    {
         if self.keeps(base) {
             self.bases.push(base)?;
             return Ok(());
@@ -57,7 +72,9 @@ impl Recorder {
     }
 
     // Looks which objects are gone.
-    fn sort_out(&mut self) -> Result<(), AllocError> {
+    fn sort_out(&mut self) -> Result<(), AllocError>
+        ensures { self.new ≡ self.old }
+    {
         let bases = replace(&mut self.bases, Vec::new(self.alloc));
         for base in bases.iter() {
             self.sort(*base)?;
@@ -66,7 +83,9 @@ impl Recorder {
     }
 
     // Notes the object that a request was granted.
-    fn note_place(&mut self, slot: Slot, into: Reg) -> Result<(), AllocError> {
+    fn note_place(&mut self, slot: Slot, into: Reg) -> Result<(), AllocError>
+        ensures { self.new ≡ self.old }
+    {
         let Ok(base) = self.core.get(slot, into) else {
             return Ok(());
         };
@@ -76,31 +95,57 @@ impl Recorder {
     }
 
     // Notes what a call of a mutator left.
-    fn note_call(&mut self, slot: Slot, call: &Call) -> Result<(), AllocError> {
+    fn note_call(&mut self, slot: Slot, call: &Call) -> Result<(), AllocError>
+        ensures { self.new ≡ self.old }
+    {
         match call {
             Call::Alloc(into, _, _) => self.note_place(slot, *into),
             Call::Free(_) => self.sort_out(),
-            _ => Ok(()),
+            Call::Detach
+            | Call::Set(_, _)
+            | Call::Copy(_, _)
+            | Call::Add(_, _, _)
+            | Call::Sub(_, _, _)
+            | Call::Get(_)
+            | Call::Push(_)
+            | Call::Pop(_)
+            | Call::Load(_, _, _)
+            | Call::Store(_, _, _)
+            | Call::Base(_, _)
+            | Call::Size(_)
+            | Call::GlobalGet(_, _)
+            | Call::GlobalPut(_, _) => Ok(()),
         }
     }
 
     // Notes what an event left that was not refused.
-    fn note(&mut self, event: &Event) -> Result<(), AllocError> {
+    fn note(&mut self, event: &Event) -> Result<(), AllocError>
+        ensures { self.new ≡ self.old }
+    {
         match event {
             Event::Mutator(slot, call) => self.note_call(*slot, call),
             Event::Finish | Event::Collect => {
                 self.has_collected = true;
                 self.sort_out()
             }
-            _ => Ok(()),
+            Event::Attach
+            | Event::Begin
+            | Event::Roots
+            | Event::Mark(_)
+            | Event::Retrace
+            | Event::Sweep
+            | Event::Number => Ok(()),
         }
     }
 
     /// Makes the call that an event is, and notes what its reply leaves open.
     ///
     /// # Errors
-    /// If memory is refused, in which to note the object; the call was made.
-    pub fn act(&mut self, event: &Event) -> Result<Reply, AllocError> {
+    /// If memory is refused, in which to note objects; the call was made, and what is noted from then on may lack some.
+    pub fn act(&mut self, event: &Event) -> Result<Reply, AllocError>
+        ensures line { IfOk result (λ reply. IsLine self.old event.now reply self.new) }
+        ensures made { IfErr result (λ error. (reply : Reply) × IsLine self.old event.now reply self.new) }
+    {
         let reply = self.core.act(*event);
         self.place = None;
         self.gone.clear();

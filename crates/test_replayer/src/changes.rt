@@ -1,13 +1,13 @@
 //! Runs with one line changed: the checker says no there, stays where it was, and says yes to the line as it was answered.
 use crate::runs::Pair;
-use heap_spec::{Event, Reply};
+use heap_spec::{Call, Event, Reply};
 use replayer::{Hint, Replayer};
 use scripts::command;
 use scripts::limits::LINE_BYTES;
 use std::alloc::Global;
 use std::test::Fail;
-use words::Refusal;
-use words::limits::WORD_BYTES;
+use words::limits::{PAGE_BYTES, WORD_BYTES};
+use words::{Refusal, Reg, Slot};
 use workloads::make_stress;
 
 const SEEDS: u64 = 10;
@@ -49,6 +49,8 @@ fn deny_places(
     let inside = Hint::Place(base.wrapping_add(WORD_BYTES));
     deny(replayer, event, *reply, inside)?;
     deny(replayer, event, *reply, Hint::Place(0))?;
+    let past = Hint::Place(base.wrapping_add(PAGE_BYTES * u64::from(PAGES)));
+    deny(replayer, event, *reply, past)?;
     deny(replayer, event, *reply, Hint::Nothing)?;
     deny(
         replayer,
@@ -58,14 +60,42 @@ fn deny_places(
     )
 }
 
-// What a collection forgot is neither one more, nor one twice, nor of a full one anything less.
+// Where an object was born none is born again.
+fn deny_taken(
+    replayer: &mut Replayer,
+    event: &Event,
+    reply: &Reply,
+    hint: Hint,
+) -> Result<(), Fail> {
+    let Hint::Place(_) = hint else {
+        return Ok(());
+    };
+    deny(replayer, event, *reply, hint)
+}
+
+// What a collection forgot is not one less than it says, and of a full one not one less whatever it says.
+fn deny_fewer(
+    replayer: &mut Replayer,
+    event: &Event,
+    reply: &Reply,
+    fewer: &[u64],
+) -> Result<(), Fail> {
+    deny(replayer, event, *reply, Hint::Forgot(fewer))?;
+    if *event == Event::Collect {
+        let count = Reply::Count(fewer.len() as u64);
+        deny(replayer, event, count, Hint::Forgot(fewer))?;
+    }
+    Ok(())
+}
+
+// What a collection forgot is neither one more, nor one twice, nor an address inside an object.
 fn deny_bases(
     replayer: &mut Replayer,
     event: &Event,
     reply: &Reply,
     gone: &[u64],
 ) -> Result<(), Fail> {
-    let (Reply::Count(count), Some(last)) = (reply, gone.last()) else {
+    let (Reply::Count(count), Some((last, fewer))) = (reply, gone.split_last()) else {
         return Ok(());
     };
     let twice = [*last, *last];
@@ -79,10 +109,7 @@ fn deny_bases(
         Hint::Forgot(gone),
     )?;
     deny(replayer, event, *reply, Hint::Nothing)?;
-    if *event == Event::Collect {
-        deny(replayer, event, Reply::Count(0), Hint::Forgot(&[]))?;
-    }
-    Ok(())
+    deny_fewer(replayer, event, reply, fewer)
 }
 
 // More than the range of an open reply.
@@ -95,11 +122,52 @@ fn deny_ranges(replayer: &mut Replayer, event: &Event) -> Result<(), Fail> {
             Hint::Nothing,
         ),
         Event::Retrace | Event::Sweep => deny(replayer, event, Reply::Count(2), Hint::Nothing),
-        _ => Ok(()),
+        Event::Attach
+        | Event::Mutator(_, _)
+        | Event::Begin
+        | Event::Roots
+        | Event::Finish
+        | Event::Collect
+        | Event::Number => Ok(()),
     }
 }
 
+// A word that is put into a register isn't there before, unless it was.
+fn deny_early_word(pair: &mut Pair, slot: Slot, register: Reg, word: u64) -> Result<(), Fail> {
+    let get = Event::Mutator(slot, Call::Get(register));
+    if pair.recorder.act(&get)? == Reply::Word(word) {
+        return Ok(());
+    }
+    deny(&mut pair.replayer, &get, Reply::Word(word), Hint::Nothing)
+}
+
+// A cycle that hasn't begun doesn't end.
+fn deny_early_end(pair: &mut Pair) -> Result<(), Fail> {
+    if pair.recorder.act(&Event::Roots)? != Reply::Refused(Refusal::WrongPhase) {
+        return Ok(());
+    }
+    let none: [u64; 0] = [];
+    deny(
+        &mut pair.replayer,
+        &Event::Finish,
+        Reply::Count(0),
+        Hint::Forgot(&none),
+    )
+}
+
+// Of two lines the second doesn't come first: the word before it is put, the end of a cycle before its begin.
+fn deny_early(pair: &mut Pair, event: &Event) -> Result<(), Fail> {
+    if let Event::Mutator(slot, Call::Set(register, word)) = event {
+        return deny_early_word(pair, *slot, *register, *word);
+    }
+    if *event == Event::Begin {
+        return deny_early_end(pair);
+    }
+    Ok(())
+}
+
 fn tell_changed(pair: &mut Pair, event: Event) -> Result<(), Fail> {
+    deny_early(pair, &event)?;
     let reply = pair.recorder.act(&event)?;
     let hint = pair.recorder.hint();
     deny(&mut pair.replayer, &event, other(&reply), hint)?;
@@ -111,7 +179,7 @@ fn tell_changed(pair: &mut Pair, event: Event) -> Result<(), Fail> {
     if !pair.replayer.step(&event, &reply, hint) {
         return Err("a yes".into());
     }
-    Ok(())
+    deny_taken(&mut pair.replayer, &event, &reply, hint)
 }
 
 fn replay_changed(pair: &mut Pair, text: &[u8]) -> Result<(), Fail> {
