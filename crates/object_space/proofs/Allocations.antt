@@ -36,8 +36,10 @@ use Rattle.object_space.proofs.Rooms.{cell_below, room_of_cell, room_of_page, no
 -- the objects of a map that is the same are the same
 pub shows_same : (found after : ℕ → Option Found) (words : List ℕ) (objects : ℕ → Option Object) (births : ℕ) → IsSameMap found after → Shows found words objects births → Shows after words objects births
 shows_same found after words objects births same shows = record {
-  kept = λ f is. shows.kept f (sym (same.same f.base) ∙ is);
-  only = λ base o is. let f = shows.only base o is in (f.0, same.same base ∙ f.1, f.2);
+  shown = record {
+    kept = λ f is. shows.shown.kept f (sym (same.same f.base) ∙ is);
+    only = λ base o is. let f = shows.shown.only base o is in (f.0, same.same base ∙ f.1, f.2);
+  };
   born = shows.born;
   distinct = shows.distinct;
 }

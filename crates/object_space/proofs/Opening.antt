@@ -21,8 +21,10 @@ pub opens : (t : Store) (pages : ℕ) → AreAllFree t.states pages → pages �
 opens t pages all few keep = record {
   pages = sym all.size;
   shows = record {
-    kept = λ f is. absurd (nothing f (kept_cases keep (found_in t.states) f.base f is).0);
-    only = λ base o is. absurd (none_some o is);
+    shown = record {
+      kept = λ f is. absurd (nothing f (kept_cases keep (found_in t.states) f.base f is).0);
+      only = λ base o is. absurd (none_some o is);
+    };
     born = λ base o is. absurd (none_some o is);
     distinct = λ a b o p x y same. absurd (none_some o x);
   };

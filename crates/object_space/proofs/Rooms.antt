@@ -134,8 +134,8 @@ module _ (keep : Found → Bool) (t : Store) (s : Heap) (sound : IsSound t) (lai
   -- the heap's object is one of the store's
   pub heap_object : (base : ℕ) (o : Object) → s.objects base ≡ Some o → (f : Found) × IsObject t.states f × (f.base ≡ base) × (f.len ≡ length o.words) × (f.kind ≡ o.kind) × (0 < f.len)
   heap_object base o is =
-      let only = stores.shows.only base o is in
-      let kept = stores.shows.kept only.0 (ap (restrict keep (found_in t.states)) only.2 ∙ only.1) in
+      let only = stores.shows.shown.only base o is in
+      let kept = stores.shows.shown.kept only.0 (ap (restrict keep (found_in t.states)) only.2 ∙ only.1) in
       let there = (kept_cases keep (found_in t.states) base only.0 only.1).0 in
       let same : kept.0 ≡ o = same_Some _ _ (sym kept.1 ∙ ap s.objects only.2 ∙ is) in
       (only.0, lawful.object base only.0 there, only.2, sym kept.2.size ∙ ap (λ (x : Object). length x.words) same, sym kept.2.kind ∙ ap (λ (x : Object). x.kind) same, (lawful.map.placed base only.0 there).some)
@@ -143,7 +143,7 @@ module _ (keep : Found → Bool) (t : Store) (s : Heap) (sound : IsSound t) (lai
   -- if all are kept, the store's object is one of the heap's
   pub store_object : ((g : Found) → keep g ≡ true) → (f : Found) → IsObject t.states f → 0 < f.len → (o : Object) × (s.objects f.base ≡ Some o) × (length o.words ≡ f.len) × (o.kind ≡ f.kind)
   store_object all f is some =
-      let kept = stores.shows.kept f (kept_is keep (found_in t.states) f.base f (lawful.found f.base f is (record { from = omega arith; below = omega arith })) (all f)) in
+      let kept = stores.shows.shown.kept f (kept_is keep (found_in t.states) f.base f (lawful.found f.base f is (record { from = omega arith; below = omega arith })) (all f)) in
       (kept.0, kept.1, kept.2.size, kept.2.kind)
 
   pub free_page : (page : ℕ) → state_at t.states page ≡ free → IsFree s page
