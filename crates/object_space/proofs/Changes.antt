@@ -4,6 +4,7 @@ use Rattle.std.specs.Prelude.{◌≢◌, slice_index}
 use Rattle.std.proofs.lemmas.Bool.{cases_eq}
 use Rattle.std.proofs.lemmas.List.{get_or-replicate, length-replicate}
 use Rattle.std.proofs.lemmas.Option.{same_Some}
+use Rattle.words.specs.declared.limits.TheConstants.{FIRST_ADDRESS}
 use Rattle.words.specs.declared.class.Kind.{Kind}
 use Rattle.heap_spec.specs.Heap.{Object, with_at, without_at}
 use Rattle.pages.specs.Memory.{place, with_word_at}
@@ -23,7 +24,7 @@ module _ (found : ℕ → Option Found) (pages : ℕ) (map : IsMap pages found) 
   abbrev pub written : Object
   written = record o { words = set o.words ((w - f.base) / 8) v }
 
-  low : 268435456 ≤ w
+  low : FIRST_ADDRESS ≤ w
   low = let above = (map.placed w f is).above in let from = (map.reads w f is).from in omega arith
 
   written_shown : IsShown (set words (place w) v) f written
@@ -113,7 +114,7 @@ module _ (found after : ℕ → Option Found) (pages : ℕ) (map : IsMap pages f
 -- an object comes, all its words 0
 module _ (found after : ℕ → Option Found) (pages : ℕ) (map : IsMap pages found) (words zeroed : List ℕ) (objects : ℕ → Option Object) (births : ℕ) (shows : Shows found words objects births)
     (f : Found) (len : ℕ) (kind : Kind) (came : IsAdded found after f) (keeps : KeepsWords found words zeroed) (zero : HasZeroWords zeroed f) (same_len : f.len ≡ len) (same_kind : f.kind ≡ kind)
-    (some : 0 < f.len) (low : 268435456 ≤ f.base) (even : f.base % 16 ≡ 0) where
+    (some : 0 < f.len) (low : FIRST_ADDRESS ≤ f.base) (even : f.base % 16 ≡ 0) where
   abbrev pub fresh : Object
   fresh = record { birth = births + 1; kind = kind; words = replicate len 0 }
 

@@ -12,10 +12,10 @@ use Rattle.std.proofs.Math.Nat.{mul-le-mul_right, mul-le-mul_left}
 use Rattle.std.proofs.Math.Seq.{take-length}
 use Rattle.words.specs.declared.limits.TheConstants.{PAGE_WORDS, PAGE_GRANULES}
 use Rattle.words.specs.Bits.{Has, members, members_between}
-use Rattle.words.specs.Layout.{page_of, page_start}
+use Rattle.words.specs.Layout.{page_of, page_start, granule}
 use Rattle.words.proofs.Classes.{class_even, class_some}
 use Rattle.words.proofs.Counts.{member_more, members_same}
-use Rattle.mark_bits.specs.Granules.{granule, marks_on}
+use Rattle.mark_bits.specs.Granules.{marks_on}
 use Rattle.blocks.specs.Cells.{Cells, IsCells}
 use Rattle.block_map.specs.declared.found.Found.{Found}
 use Rattle.block_map.specs.FoundIn.{found_in, IsLawful}

@@ -6,12 +6,11 @@ use Rattle.words.specs.declared.class.Kind.{Kind}
 use Rattle.words.specs.declared.class.Placement.{Placement}
 use Rattle.heap_spec.specs.Room.{length_of}
 use Rattle.words.specs.Bits.{Has}
-use Rattle.mark_bits.specs.Granules.{granule}
+use Rattle.words.specs.Layout.{granule, page_start, page_of}
 use Rattle.object_space.specs.Store.{IsSwept}
 use Rattle.object_space.specs.Rooms.{HasRoomAt, HasNoRoom}
 use Rattle.object_space.specs.Kept.{kept_in, IsPendingAfter}
 use Rattle.block_map.specs.Changes.{IsSameMap}
-use Rattle.block_map.specs.Places.{page_start, page_of}
 use Rattle.block_map.specs.States.{IsCut, state_at}
 use Rattle.block_map.specs.Walks.{IsNextObject, IsNoObject}
 use Rattle.block_map.specs.declared.found.Found.{Found}
