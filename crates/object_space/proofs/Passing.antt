@@ -1,11 +1,11 @@
 -- The walk that forgets the unmarked objects.
-use Rattle.std.proofs.Common.{inl, inr, ◌≡◌, ℕ, ◌+◌, ◌*◌, ◌<◌, ◌≤◌, ◌⊎◌, Bool, true, false, List, [], ◌++◌, ◌∷◌, length, set, get_or, length-set, get_or-set_same, get_or-set_other, Contains, Some, None, refl, sym, ap, ◌∙◌, subst, ⊎_elim, arith, length-append}
+use Rattle.std.proofs.Common.{inl, inr, ◌≡◌, ℕ, ◌+◌, ◌*◌, ◌<◌, ◌≤◌, ◌⊎◌, false, List, [], ◌++◌, ◌∷◌, length, set, get_or, length-set, get_or-set_same, get_or-set_other, Contains, Some, None, refl, sym, ap, ◌∙◌, subst, ⊎_elim, arith, length-append}
 use Rattle.std.proofs.lemmas.Bool.{cases_lt, cases_eq}
 use Rattle.std.proofs.lemmas.List.{ext_get_or}
 use Rattle.blocks.proofs.Places.{class_bounds}
 use Rattle.std.proofs.lemmas.List.Elements.{All-push, All-contains}
 use Rattle.std.proofs.lemmas.Option.{same_Some}
-use Rattle.words.specs.declared.limits.TheConstants.{FIRST_ADDRESS, PAGE_BYTES}
+use Rattle.words.specs.declared.limits.TheConstants.{PAGE_BYTES}
 use Rattle.block_map.specs.declared.found.Found.{Found}
 use Rattle.block_map.specs.FoundIn.{found_in}
 use Rattle.block_map.specs.Objects.{IsMap, Reads}
@@ -23,7 +23,7 @@ use Rattle.block_map.proofs.Words.{cells_end}
 use Rattle.blocks.specs.Cells.{Cells, IsCells}
 use Rattle.words.specs.declared.class.Kind.{Kind}
 use Rattle.words.specs.Layout.{page_start, page_of}
-use Rattle.object_space.proofs.Sweeping.{without_none, without_more, has, true_has, false_has}
+use Rattle.object_space.proofs.Sweeping.{without_none, without_more, has}
 
 -- nothing was looked at
 pub passed_none : (old : Store) (m : Marking) (from limit : ℕ) → HasPassed old m from limit from 0 old
