@@ -12,9 +12,9 @@ use Rattle.heap_spec.specs.Heap.{Heap, Mutator as HeapMutator}
 use Rattle.heap_spec.specs.Replies.{IsStep}
 use Rattle.heap_spec.specs.Steps.{Acts, Calls, register, with_new, with_register}
 use Rattle.words.specs.Bits.{Has}
-use Rattle.mark_bits.specs.Granules.{granule}
 use Rattle.block_map.specs.Objects.{Reads, IsPlaced}
 use Rattle.words.specs.declared.limits.TheConstants.{FIRST_ADDRESS}
+use Rattle.words.specs.Layout.{granule}
 use Rattle.heap_spec.specs.Heap.{with_at, without, without_at}
 use Rattle.heap_spec.specs.Room.{length_of}
 use Rattle.std.specs.Prelude.{Bool}

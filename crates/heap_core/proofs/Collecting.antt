@@ -3,7 +3,7 @@ use Rattle.std.proofs.Common.{Bool, ◌≡◌, ℕ, List, length, Contains, Some
 use Rattle.std.specs.Prelude.{◌↔◌}
 use Rattle.std.proofs.lemmas.Bool.{false≢true}
 use Rattle.std.proofs.lemmas.List.Elements.{All-contains, All-contains_itself, All-weaker}
-use Rattle.mark_bits.specs.Granules.{granule}
+use Rattle.words.specs.Layout.{granule}
 use Rattle.heap_spec.specs.declared.reply.Reply.TheVariants.{Count}
 use Rattle.heap_spec.specs.Heap.{Heap, Object, HasObject, root_words, words_of}
 use Rattle.heap_spec.specs.Closure as heap
@@ -44,12 +44,12 @@ module _ (c : Contents) (map : IsMap (length c.store.states) (found_in c.store.s
 
   -- an object of the heap is one that the collector finds
   pub found_at : (base : ℕ) (o : Object) → HasObject s base o → (f : Found) × (found_in c.store.states base ≡ Some f) × (f.base ≡ base)
-  found_at base o has = all_shown.only base o has
+  found_at base o has = all_shown.shown.only base o has
 
   -- the collector's closure of the marks is the heap's
   pub closures : (f : Found) → found_in c.store.states f.base ≡ Some f → Closure (found_in c.store.states) c.store.words (root_words_of c.roots) (IsMarked c.cycle.marking) f ↔ heap.Closure s (IsMarkedBirth s c.cycle.marking) f.base
   closures f there = subst (λ rs. Closure (found_in c.store.states) c.store.words rs (IsMarked c.cycle.marking) f ↔ heap.Closure s (IsMarkedBirth s c.cycle.marking) f.base) roots_are
-      (marks_agree (length c.store.states) s (found_in c.store.states) c.store.words c.cycle.marking map all_shown f there)
+      (marks_agree (length c.store.states) s (found_in c.store.states) c.store.words c.cycle.marking map all_shown.shown all_shown.distinct f there)
 
   -- marks that grow by the marker's closure grow within the heap's
   pub grows_within : (roots : List ℕ) (m : Marking) → ((w : ℕ) → Contains roots w → Contains (root_words_of c.roots) w) → Traces (found_in c.store.states) c.store.words roots c.cycle.marking m
@@ -75,7 +75,7 @@ module _ (c : Contents) (map : IsMap (length c.store.states) (found_in c.store.s
   forgotten t' n marks x base is =
       let f = All-contains (λ b. (g : Found) × (found_in c.store.states b ≡ Some g) × (g.base ≡ b)) x.bases base x.without.gone is in
       let there : found_in c.store.states f.0.base ≡ Some f.0 = ap (found_in c.store.states) f.2 ∙ f.1 in
-      let kept = all_shown.kept f.0 there in
+      let kept = all_shown.shown.kept f.0 there in
       (kept.0, ap s.objects (sym f.2) ∙ kept.1, λ inside. (x.outside f.0 there).0 (subst (Contains x.bases) (sym f.2) is) ((closures f.0 there).1 (subst (heap.Closure s (IsMarkedBirth s c.cycle.marking)) (sym f.2) inside)))
 
   -- and goes

@@ -4,10 +4,10 @@ use Rattle.std.specs.Prelude.{⊤}
 use Rattle.std.proofs.lemmas.List.{take_more, take_more_set, take_all, length-take-le}
 use Rattle.words.specs.declared.refusal.Refusal.{Refusal}
 use Rattle.words.specs.declared.refusal.Refusal.TheVariants.{WrongPhase}
+use Rattle.words.specs.Layout.{granule}
 use Rattle.heap_spec.specs.Replies.{done_reply, count_reply}
 use Rattle.roots.specs.Roots.{root_words_of}
 use Rattle.std.proofs.lemmas.Bool.{false≢true}
-use Rattle.mark_bits.specs.Granules.{granule}
 use Rattle.heap_spec.specs.declared.event.Event.{Event}
 use Rattle.heap_spec.specs.declared.event.Event.TheVariants.{Attach, Mutator, Begin, Roots, Mark, Retrace, Finish, Sweep, Collect, Number}
 use Rattle.heap_spec.specs.declared.reply.Reply.{Reply}
@@ -57,12 +57,12 @@ module _ (old : Contents) (event : Event) (reply : Reply) (new : Contents) (call
     (after : Heap) (step : Step (heap_after start run) event reply after) (stands : StandsFor new after) where
   touches : old.cycle.is_marking ≡ true → (base : ℕ) (o : Object) → HasObject after base o → IsMarked new.cycle.marking base → Touched start run o.birth ⊎ ((heap_after start run).births < o.birth)
   touches is base o has marked =
-      let f = stands.store.shows.only base o has in
+      let f = stands.store.shows.shown.only base o has in
       let there = ap (objects_of new) f.2 ∙ f.1 in
       ⊎_elim
       (λ old_one. ⊎_elim
       (λ was. inl (subst (Touched start run) (sym old_one.2.birth) (follows.touched is base old_one.0 old_one.1 (subst (IsMarked old.cycle.marking) f.2 was))))
-      (λ none. let g = follows.stands.store.shows.only base old_one.0 old_one.1 in absurd (none_some g.0 (sym (ap (objects_of old) (sym f.2) ∙ none) ∙ g.1)))
+      (λ none. let g = follows.stands.store.shows.shown.only base old_one.0 old_one.1 in absurd (none_some g.0 (sym (ap (objects_of old) (sym f.2) ∙ none) ∙ g.1)))
       (call.marks f.0 there (subst (IsMarked new.cycle.marking) (sym f.2) marked)))
       (λ born. inr born)
       (step_births (heap_after start run) event reply after step base o has)

@@ -6,8 +6,9 @@ use Rattle.heap_spec.specs.declared.reply.Reply.TheVariants.{Done, Word, Count}
 use Rattle.heap_spec.specs.Heap.{Heap, Object, Mutator as HeapMutator, ReadsObject, ReadsNothing}
 use Rattle.heap_spec.specs.Replies.{IsStep}
 use Rattle.heap_spec.specs.Steps.{Acts, Calls, address, register, with_register, with_object}
+use Rattle.words.specs.declared.limits.TheConstants.{PAGE_WORDS}
 use Rattle.words.specs.Bits.{Has}
-use Rattle.mark_bits.specs.Granules.{granule}
+use Rattle.words.specs.Layout.{granule}
 use Rattle.pages.specs.Memory.{IsWordAddress, place, word_at, with_word_at}
 use Rattle.block_map.specs.FoundIn.{found_in, IsLawful}
 use Rattle.block_map.specs.declared.found.Found.{Found}
@@ -29,25 +30,25 @@ use Rattle.heap_core.proofs.Roots.{core_of, attached, stands_set, quiet, none_so
 -- an address that finds a kept object reads it in the heap
 pub finds : (keep : Found → Bool) (t : Store) (s : Heap) (w : ℕ) (f : Found) → IsLawful t.states → Stores keep t s → restrict keep (found_in t.states) w ≡ Some f → (o : Object) × ReadsObject s w f.base o × IsShown t.words f o
 finds keep t s w f lawful stores is =
-    let read = reads_object (restrict keep (found_in t.states)) (length t.states) (kept_map (length t.states) keep (found_in t.states) lawful.map) t.words s.objects s.births stores.shows w f is in
+    let read = reads_object (restrict keep (found_in t.states)) (length t.states) (kept_map (length t.states) keep (found_in t.states) lawful.map) t.words s.objects stores.shows.shown w f is in
     (read.0, (read.1, read.3), read.2)
 
 -- an address that finds nothing reads nothing in the heap
 pub finds_nothing : (keep : Found → Bool) (t : Store) (s : Heap) (w : ℕ) → IsLawful t.states → Stores keep t s → restrict keep (found_in t.states) w ≡ None → ReadsNothing s w
 finds_nothing keep t s w lawful stores none base o r =
-    reads_nothing (restrict keep (found_in t.states)) (length t.states) (kept_map (length t.states) keep (found_in t.states) lawful.map) t.words s.objects s.births stores.shows w none base o r.0 r.1
+    reads_nothing (restrict keep (found_in t.states)) (length t.states) (kept_map (length t.states) keep (found_in t.states) lawful.map) t.words s.objects stores.shows.shown w none base o r.0 r.1
 
 pub loads : (roots roots' : RootSet) (t : Store) (y : Cycle) (slot d a n w : ℕ) (m : HeapMutator) (f : Found) → IsLawful t.states → HasMutator roots slot m → address m a n % 8 ≡ 0 → restrict (is_kept t.pending y.marking.marks) (found_in t.states) (address m a n) ≡ Some f
     → w ≡ word_at t.words (address m a n) → SetsWord roots slot d w roots' → IsCall (core_of roots t y) (Mutator slot (Load d a n)) (Word w) (core_of roots' t y)
 loads roots roots' t y slot d a n w m f lawful at aligned is read sets = quiet (core_of roots t y) roots' (Mutator slot (Load d a n)) (Word w) (λ s h.
     let found = finds (is_kept t.pending y.marking.marks) t s (address m a n) f lawful h.store is in
-    let word = word_read (restrict (is_kept t.pending y.marking.marks) (found_in t.states)) (length t.states) (kept_map (length t.states) (is_kept t.pending y.marking.marks) (found_in t.states) lawful.map) t.words s.objects s.births h.store.shows (address m a n) f found.0 is found.2 aligned ∙ sym read in (
+    let word = word_read (restrict (is_kept t.pending y.marking.marks) (found_in t.states)) (length t.states) (kept_map (length t.states) (is_kept t.pending y.marking.marks) (found_in t.states) lawful.map) t.words s.objects h.store.shows.shown (address m a n) f found.0 is found.2 aligned ∙ sym read in (
       with_register s slot m d w,
       Calls.acts (attached roots t y s slot m h at) (subst (λ v. Acts s slot m (Load d a n) (Word v) (with_register s slot m d v)) word (Acts.loaded aligned found.1)),
       stands_set roots roots' t t y y s (with_register s slot m d w) slot d w m h at sets refl refl (record { pages = h.store.pages; shows = h.store.shows }),
     ))
 
-stores_step : (roots : RootSet) (t t' : Store) (y y' : Cycle) (slot a n r : ℕ) (m : HeapMutator) (f : Found) → IsLawful t.states → length t.words ≡ 512 * length t.states → HasMutator roots slot m → address m a n % 8 ≡ 0 → restrict (is_kept t.pending y.marking.marks) (found_in t.states) (address m a n) ≡ Some f
+stores_step : (roots : RootSet) (t t' : Store) (y y' : Cycle) (slot a n r : ℕ) (m : HeapMutator) (f : Found) → IsLawful t.states → length t.words ≡ PAGE_WORDS * length t.states → HasMutator roots slot m → address m a n % 8 ≡ 0 → restrict (is_kept t.pending y.marking.marks) (found_in t.states) (address m a n) ≡ Some f
     → t' ≡ record t { words = with_word_at t.words (address m a n) (register m r) } → y'.marking.marks ≡ y.marking.marks → IsStep (StandsFor (core_of roots t y)) (Mutator slot (StoreCall a n r)) Done (StandsFor (core_of roots t' y'))
 stores_step roots t t' y y' slot a n r m f lawful long at aligned is writes marks_same s h =
     let found = finds (is_kept t.pending y.marking.marks) t s (address m a n) f lawful h.store is in
@@ -69,7 +70,7 @@ stores_step roots t t' y y' slot a n r m f lawful long at aligned is writes mark
     in_row : IsWordAddress t.words (address m a n) → place (address m a n) < length t.words
     in_row here = let above = here.above in let below = here.below in let even = here.aligned in omega arith
 
-pub stores : (roots : RootSet) (t t' : Store) (y y' : Cycle) (slot a n r : ℕ) (m : HeapMutator) (f : Found) → IsLawful t.states → length t.words ≡ 512 * length t.states → HasMutator roots slot m → address m a n % 8 ≡ 0 → restrict (is_kept t.pending y.marking.marks) (found_in t.states) (address m a n) ≡ Some f
+pub stores : (roots : RootSet) (t t' : Store) (y y' : Cycle) (slot a n r : ℕ) (m : HeapMutator) (f : Found) → IsLawful t.states → length t.words ≡ PAGE_WORDS * length t.states → HasMutator roots slot m → address m a n % 8 ≡ 0 → restrict (is_kept t.pending y.marking.marks) (found_in t.states) (address m a n) ≡ Some f
     → t' ≡ record t { words = with_word_at t.words (address m a n) (register m r) }
     → NotesWrite y.is_marking (address m a n) y.marking y'.marking → y'.is_marking ≡ y.is_marking → y'.count ≡ y.count → IsCall (core_of roots t y) (Mutator slot (StoreCall a n r)) Done (core_of roots t' y')
 stores roots t t' y y' slot a n r m f lawful long at aligned is writes notes phase count = record {

@@ -10,7 +10,7 @@ use Rattle.block_map.specs.Changes.{IsRemoved}
 use Rattle.words.specs.Bits.{Has}
 use Rattle.words.specs.declared.class.Kind.{Kind}
 use Rattle.words.specs.declared.class.Placement.{Placement}
-use Rattle.mark_bits.specs.Granules.{granule}
+use Rattle.words.specs.Layout.{granule}
 use Rattle.marker.specs.Marking.{Marking, IsFresh, IsObjectGranule, AreMarksObjects}
 use Rattle.marker.specs.Growth.{Traces}
 use Rattle.marker.specs.Invariant.{DirtyPageInvariant}

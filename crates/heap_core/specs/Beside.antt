@@ -1,12 +1,11 @@
 -- What calls of mutators tell the marker, while a cycle is marking.
 use Rattle.std.specs.Prelude.{◌≡◌, ◌≢◌, ℕ, ◌⊎◌, Bool, true, false, slice_index_or, List, length, Option, Some}
 use Rattle.words.specs.Bits.{Has}
-use Rattle.mark_bits.specs.Granules.{granule}
+use Rattle.words.specs.Layout.{granule, page_of}
 use Rattle.pages.specs.Memory.{with_word_at}
 use Rattle.block_map.specs.declared.found.Found.{Found}
 use Rattle.block_map.specs.Changes.{IsAdded}
 use Rattle.block_map.specs.Objects.{IsMap}
-use Rattle.block_map.specs.Places.{page_of}
 use Rattle.marker.specs.Marking.{Marking, IsMarked}
 use Rattle.marker.specs.Invariant.{DirtyPageInvariant}
 use Rattle.marker.specs.Mutations.{KeepsWords, HasZeroWords}

@@ -1,6 +1,7 @@
 -- What calls of mutators do to a core.
 use Rattle.std.specs.Prelude.{◌≡◌, ℕ, ◌⊎◌, Some, None, true}
 use Rattle.words.specs.Bits.{Has}
+use Rattle.words.specs.Layout.{page_of}
 use Rattle.heap_spec.specs.declared.call.Call.{Call}
 use Rattle.heap_spec.specs.declared.call.Call.TheVariants.{Store}
 use Rattle.heap_spec.specs.declared.event.Event.{Event}
@@ -10,7 +11,6 @@ use Rattle.heap_spec.specs.Heap.{Mutator as HeapMutator}
 use Rattle.heap_spec.specs.Replies.{IsStep}
 use Rattle.heap_spec.specs.Steps.{address}
 use Rattle.block_map.specs.declared.found.Found.{Found}
-use Rattle.block_map.specs.Places.{page_of}
 use Rattle.marker.specs.Marking.{IsMarked}
 use Rattle.roots.specs.Roots.{HasMutator}
 use Rattle.heap_core.specs.Contents.{Contents}

@@ -29,9 +29,14 @@ impl Object for Core {
         match call {
             Event::Attach => Rank::First,
             Event::Mutator(_, Call::Detach) => Rank::Last,
-            Event::Finish => Rank::Counted,
-            Event::Collect => Rank::Counted,
-            _ => Rank::Plain,
+            Event::Finish | Event::Collect => Rank::Counted,
+            Event::Mutator(_, _)
+            | Event::Begin
+            | Event::Roots
+            | Event::Mark(_)
+            | Event::Retrace
+            | Event::Sweep
+            | Event::Number => Rank::Plain,
         }
     }
 

@@ -7,22 +7,23 @@ use Rattle.pages.specs.Memory.{word_at}
 use Rattle.block_map.specs.declared.found.Found.{Found}
 use Rattle.block_map.specs.Objects.{IsMap}
 use Rattle.heap_spec.specs.Heap.{Heap, Object, HasObject, ReadsObject, root_words}
+use Rattle.heap_spec.specs.Sound.{HaveDistinctBirths}
 use Rattle.heap_spec.specs.Closure as heap
 use Rattle.marker.specs.Marking.{Marking, IsMarked, word_address}
 use Rattle.marker.specs.Closure.{Closure, held, root, word}
 use Rattle.marker.proofs.Closures.{at_base, is_object, closure_more}
-use Rattle.heap_view.specs.Shows.{IsShown, ShowsHeap, HasBirth, IsMarkedBirth}
+use Rattle.heap_view.specs.Shows.{IsShown, ShowsObjects, HasBirth, IsMarkedBirth}
 use Rattle.heap_view.proofs.Shows.{reads_object, seen, word_shown}
 
-module _ (pages : ℕ) (s : Heap) (found : ℕ → Option Found) (words : List ℕ) (map : IsMap pages found) (shows : ShowsHeap found words s) (births : ℕ → Type 0) where
+module _ (pages : ℕ) (s : Heap) (found : ℕ → Option Found) (words : List ℕ) (map : IsMap pages found) (shows : ShowsObjects found words s.objects) (births : ℕ → Type 0) where
   -- a word that reads an object of the collector reads one of the heap
   reads_real : (w : ℕ) (f : Found) → found w ≡ Some f → (o : Object) × ReadsObject s w f.base o
   reads_real w f e =
-      let r = reads_object found pages map words s.objects s.births shows w f e in
+      let r = reads_object found pages map words s.objects shows w f e in
       (r.0, (r.1, r.3))
 
   seen_at : (base : ℕ) (o : Object) → HasObject s base o → (f : Found) × (found base ≡ Some f) × (f.base ≡ base) × IsShown words f o
-  seen_at = seen found pages map words s.objects s.births shows
+  seen_at = seen found pages map words s.objects shows
 
   reads_seen : (w base : ℕ) (o : Object) → ReadsObject s w base o → (f : Found) × (found w ≡ Some f) × (f.base ≡ base)
   reads_seen w base o r =
@@ -71,17 +72,17 @@ module _ (pages : ℕ) (s : Heap) (found : ℕ → Option Found) (words : List �
     (λ c. let q = from_heap c in subst (Closure found words (root_words s) (HasBirth s births)) (same_Some q.0 f (sym q.1 ∙ e)) q.3),
   )
 
-pub births_agree : (pages : ℕ) (s : Heap) (found : ℕ → Option Found) (words : List ℕ) (births : ℕ → Bool) → IsMap pages found → ShowsHeap found words s → (f : Found) → found f.base ≡ Some f
+pub births_agree : (pages : ℕ) (s : Heap) (found : ℕ → Option Found) (words : List ℕ) (births : ℕ → Bool) → IsMap pages found → ShowsObjects found words s.objects → (f : Found) → found f.base ≡ Some f
     → Closure found words (root_words s) (HasBirth s (λ b. births b ≡ true)) f ↔ heap.Closure s (λ b. births b ≡ true) f.base
 births_agree pages s found words births map shows f e = agree pages s found words map shows (λ b. births b ≡ true) f e
 
 -- marked objects are those of marked births
-module _ (pages : ℕ) (s : Heap) (found : ℕ → Option Found) (words : List ℕ) (m : Marking) (map : IsMap pages found) (shows : ShowsHeap found words s) where
+module _ (pages : ℕ) (s : Heap) (found : ℕ → Option Found) (words : List ℕ) (m : Marking) (map : IsMap pages found) (shows : ShowsObjects found words s.objects) (distinct : HaveDistinctBirths s.objects) where
   marked_birth : (g : Found) → found g.base ≡ Some g → IsMarked m g.base → HasBirth s (IsMarkedBirth s m) g.base
   marked_birth g e k = let r = shows.kept g e in (r.0, r.1, record { base = g.base; object = r.0; has = r.1; same = refl; marked = k })
 
   birth_marked : (b : ℕ) → HasBirth s (IsMarkedBirth s m) b → IsMarked m b
-  birth_marked b h = let x = h.2 in subst (IsMarked m) (shows.distinct x.base b x.object h.0 x.has h.1 x.same) x.marked
+  birth_marked b h = let x = h.2 in subst (IsMarked m) (distinct x.base b x.object h.0 x.has h.1 x.same) x.marked
 
   pub marks_agree : (f : Found) → found f.base ≡ Some f → Closure found words (root_words s) (IsMarked m) f ↔ heap.Closure s (IsMarkedBirth s m) f.base
   marks_agree f e =

@@ -9,7 +9,7 @@ use Rattle.pages.specs.Memory.{IsWordAddress, place, word_at}
 use Rattle.block_map.specs.Objects.{IsMap}
 use Rattle.block_map.specs.declared.found.Found.{Found}
 use Rattle.marker.specs.Marking.{word_address}
-use Rattle.heap_view.specs.Shows.{IsShown, Shows}
+use Rattle.heap_view.specs.Shows.{IsShown, ShowsObjects}
 
 module _ (found : ℕ → Option Found) (pages : ℕ) (map : IsMap pages found) where
   -- an object that is found is found at its base
@@ -42,7 +42,7 @@ module _ (found : ℕ → Option Found) (pages : ℕ) (map : IsMap pages found) 
       let even = (map.placed g.base g is).aligned in let above = (map.placed g.base g is).above in
       map.whole g.base w g is (record { from = omega arith; below = omega arith })
 
-  module _ (words : List ℕ) (objects : ℕ → Option Object) (births : ℕ) (shows : Shows found words objects births) where
+  module _ (words : List ℕ) (objects : ℕ → Option Object) (shows : ShowsObjects found words objects) where
     -- an address that finds an object reads the heap's
     pub reads_object : (w : ℕ) (f : Found) → found w ≡ Some f → (o : Object) × (objects f.base ≡ Some o) × IsShown words f o × IsRead w f.base (length o.words)
     reads_object w f is =

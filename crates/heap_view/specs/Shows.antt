@@ -12,10 +12,14 @@ pub record IsShown (words : List ℕ) (f : Found) (o : Object) : Type 0 where
   pub size : length o.words ≡ f.len
   pub word : (i : ℕ) → i < f.len → slice_index o.words i ≡ slice_index words (place f.base + i)
 
--- The objects are those that the map finds. Their births aren't kept: they are distinct, and from 1 up to the count.
-pub record Shows (found : ℕ → Option Found) (words : List ℕ) (objects : ℕ → Option Object) (births : ℕ) : Type 0 where
+-- The objects are those that the map finds.
+pub record ShowsObjects (found : ℕ → Option Found) (words : List ℕ) (objects : ℕ → Option Object) : Type 0 where
   pub kept : (f : Found) → found f.base ≡ Some f → (o : Object) × (objects f.base ≡ Some o) × IsShown words f o
   pub only : (base : ℕ) (o : Object) → objects base ≡ Some o → (f : Found) × (found base ≡ Some f) × (f.base ≡ base)
+
+-- They are, and their births, which neither map nor memory keeps, are distinct and from 1 up to the count.
+pub record Shows (found : ℕ → Option Found) (words : List ℕ) (objects : ℕ → Option Object) (births : ℕ) : Type 0 where
+  pub shown : ShowsObjects found words objects
   pub born : (base : ℕ) (o : Object) → objects base ≡ Some o → (1 ≤ o.birth) × (o.birth ≤ births)
   pub distinct : HaveDistinctBirths objects
 

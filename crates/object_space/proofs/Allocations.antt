@@ -3,11 +3,12 @@ use Rattle.std.proofs.Common.{◌≡◌, ℕ, ◌+◌, ◌*◌, ◌/◌, ◌<◌
 use Rattle.std.specs.Prelude.{◌≢◌, ◌==◌, if◌then◌else◌}
 use Rattle.std.proofs.lemmas.Bool.{cases_lt, cases_eq}
 use Rattle.std.proofs.lemmas.List.{get_or-replicate, length-replicate}
+use Rattle.words.specs.declared.limits.TheConstants.{PAGE_WORDS}
 use Rattle.words.specs.declared.class.Kind.{Kind}
 use Rattle.words.specs.declared.class.Placement.TheVariants.{Small, Large}
 use Rattle.words.specs.Bits.{Has}
 use Rattle.words.specs.Classes.{IsSizeClass}
-use Rattle.heap_spec.specs.Layout.{page_start}
+use Rattle.words.specs.Layout.{page_start}
 use Rattle.heap_spec.specs.Heap.{Object}
 use Rattle.heap_spec.specs.Room.{HasSmallRoom}
 use Rattle.pages.specs.Memory.{IsWordAddress, IsZeroed, place}
@@ -36,8 +37,10 @@ use Rattle.object_space.proofs.Rooms.{cell_below, room_of_cell, room_of_page, no
 -- the objects of a map that is the same are the same
 pub shows_same : (found after : ℕ → Option Found) (words : List ℕ) (objects : ℕ → Option Object) (births : ℕ) → IsSameMap found after → Shows found words objects births → Shows after words objects births
 shows_same found after words objects births same shows = record {
-  kept = λ f is. shows.kept f (sym (same.same f.base) ∙ is);
-  only = λ base o is. let f = shows.only base o is in (f.0, same.same base ∙ f.1, f.2);
+  shown = record {
+    kept = λ f is. shows.shown.kept f (sym (same.same f.base) ∙ is);
+    only = λ base o is. let f = shows.shown.only base o is in (f.0, same.same base ∙ f.1, f.2);
+  };
   born = shows.born;
   distinct = shows.distinct;
 }
@@ -189,7 +192,7 @@ module _ (t : Store) (sound : IsSound t) (laid : IsLaid t.states) (lawful : IsLa
   with_cut = record t { words = words; free = free'; states = states' }
 
   pub cut_laid : IsLaid states'
-  cut_laid = subst IsLaid (sym cuts.became) (laid_block t.states page class kind laid inside was_free (record { class = is_class; size = length-replicate (512 / class) false }))
+  cut_laid = subst IsLaid (sym cuts.became) (laid_block t.states page class kind laid inside was_free (record { class = is_class; size = length-replicate (PAGE_WORDS / class) false }))
 
   here : state_at states' page ≡ all_free class kind
   here = ap (λ x. state_at x page) cuts.became ∙ get_or-set_same t.states page _ free inside
@@ -202,13 +205,13 @@ module _ (t : Store) (sound : IsSound t) (laid : IsLaid t.states) (lawful : IsLa
 
   pub first_cell : IsFreeCell states' class kind page 0
   first_cell = record {
-    block = record { class = class; kind = kind; taken = replicate (512 / class) false; first = 0 };
+    block = record { class = class; kind = kind; taken = replicate (PAGE_WORDS / class) false; first = 0 };
     inside = let z = size in let lt = inside in omega arith;
     is_cut = here;
     of_class = refl;
     of_kind = refl;
     in_row = rw length-replicate (let b = class_bounds class is_class in cell_below class 0 (omega arith) (omega arith));
-    is_free = get_or-replicate (512 / class) 0 false false (let b = class_bounds class is_class in cell_below class 0 (omega arith) (omega arith));
+    is_free = get_or-replicate (PAGE_WORDS / class) 0 false false (let b = class_bounds class is_class in cell_below class 0 (omega arith) (omega arith));
   }
 
   pub first_is : first_on (state_at states' page) ≡ 0
@@ -273,7 +276,7 @@ no_room_small t class kind sound laid lawful is_class no_cell no_page s stores a
 -- a run of free pages becomes a large object
 module _ (t : Store) (sound : IsSound t) (laid : IsLaid t.states) (lawful : IsLawful t.states) (n : ℕ) (kind : Kind) (first : ℕ) (words' : List ℕ) (free' : List Bool) (states' : List PageState) (some_pages : 0 < n)
     (run : IsFreeRun t.free first n) (taken_run : IsFilled t.free free' first n false) (span : IsSpanSet t.states states' first n (large_states first n kind))
-    (added : IsAdded (found_in t.states) (found_in states') (large_object first n kind)) (zeroed : IsZeroed t.words words' (place (page_start first)) (512 * n)) where
+    (added : IsAdded (found_in t.states) (found_in states') (large_object first n kind)) (zeroed : IsZeroed t.words words' (place (page_start first)) (PAGE_WORDS * n)) where
   abbrev pub with_large : Store
   with_large = record t { words = words'; free = free'; states = states' }
 

@@ -3,6 +3,7 @@ use Rattle.std.proofs.Common.{◌≡◌, ℕ, ◌+◌, ◌<◌, ◌≤◌, ◌�
 use Rattle.std.specs.Prelude.{◌≢◌, ◌==◌, ◌/◌, if◌then◌else◌}
 use Rattle.std.proofs.lemmas.Bool.{cases_eq, cases_lt, true≢false}
 use Rattle.std.proofs.lemmas.List.{get_or-replicate, length-replicate}
+use Rattle.words.specs.declared.limits.TheConstants.{PAGE_WORDS}
 use Rattle.words.specs.Bits.{IsEmptyFrom, IsFirstFrom, IsFullRow}
 use Rattle.words.specs.declared.class.Kind.{Kind}
 use Rattle.words.specs.declared.class.Kind.TheVariants.{Normal, PointerFree}
@@ -200,11 +201,11 @@ module _ (rows rows' : List (List Bool)) (states states' : List PageState) (clas
   pub cut_inside : page < length (row_of rows class kind)
   cut_inside = let long = exact.long class kind is_class in omega arith
 
-  first_free : HasFreeCell (record { class = class; kind = kind; taken = replicate (512 / class) false; first = 0 }) class kind
+  first_free : HasFreeCell (record { class = class; kind = kind; taken = replicate (PAGE_WORDS / class) false; first = 0 }) class kind
   first_free =
       let b = class_bounds class is_class in
-      let some : 0 < 512 / class = cell_below class 0 (omega arith) (omega arith) in
-      record { of_class = refl; of_kind = refl; cell = 0; in_row = rw length-replicate some; is_free = get_or-replicate (512 / class) 0 false false some }
+      let some : 0 < PAGE_WORDS / class = cell_below class 0 (omega arith) (omega arith) in
+      record { of_class = refl; of_kind = refl; cell = 0; in_row = rw length-replicate some; is_free = get_or-replicate (PAGE_WORDS / class) 0 false false some }
 
   pub exact_cut : states' ≡ set states page (all_free class kind) → IsBitSet rows rows' class kind page true → IsExact rows' states'
   exact_cut became bit_is =
@@ -212,7 +213,7 @@ module _ (rows rows' : List (List Bool)) (states states' : List PageState) (clas
       exact_changed rows rows' states states' class kind page true exact bit_is (ap length became ∙ length-set states page _)
       (λ p ne. ap (λ x. state_at x p) became ∙ get_or-set_other states page p _ free ne)
       (subst (λ st. OffersOnly st class kind) (sym was) (free_offers class kind))
-      (subst (λ st. OffersOnly st class kind) (sym now) (cut_offers (record { class = class; kind = kind; taken = replicate (512 / class) false; first = 0 })))
+      (subst (λ st. OffersOnly st class kind) (sym now) (cut_offers (record { class = class; kind = kind; taken = replicate (PAGE_WORDS / class) false; first = 0 })))
       (λ _. subst (λ st. IsAvailable st class kind) (sym now) first_free)
       (λ _. refl)
 

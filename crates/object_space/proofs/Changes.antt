@@ -4,6 +4,7 @@ use Rattle.std.specs.Prelude.{◌≢◌, slice_index}
 use Rattle.std.proofs.lemmas.Bool.{cases_eq}
 use Rattle.std.proofs.lemmas.List.{get_or-replicate, length-replicate}
 use Rattle.std.proofs.lemmas.Option.{same_Some}
+use Rattle.words.specs.declared.limits.TheConstants.{FIRST_ADDRESS}
 use Rattle.words.specs.declared.class.Kind.{Kind}
 use Rattle.heap_spec.specs.Heap.{Object, with_at, without_at}
 use Rattle.pages.specs.Memory.{place, with_word_at}
@@ -23,7 +24,7 @@ module _ (found : ℕ → Option Found) (pages : ℕ) (map : IsMap pages found) 
   abbrev pub written : Object
   written = record o { words = set o.words ((w - f.base) / 8) v }
 
-  low : 268435456 ≤ w
+  low : FIRST_ADDRESS ≤ w
   low = let above = (map.placed w f is).above in let from = (map.reads w f is).from in omega arith
 
   written_shown : IsShown (set words (place w) v) f written
@@ -63,13 +64,15 @@ module _ (found : ℕ → Option Found) (pages : ℕ) (map : IsMap pages found) 
 
   pub shows_stored : Shows found (with_word_at words w v) (with_at objects f.base (Some written)) births
   shows_stored = record {
-    kept = λ g there. ⊎_elim
-        (λ same. subst (λ (x : Found). (p : Object) × (with_at objects f.base (Some written) x.base ≡ Some p) × IsShown (set words (place w) v) x p)
-        (sym (one_at_base found pages map f g (at_base found pages map w f is) there same))
-        (written, with_at-same objects f.base (Some written) f.base refl, written_shown))
-        (λ ne. let old = shows.kept g there in (old.0, with_at-other objects f.base (Some written) g.base ne ∙ old.1, others_shown g old.0 there ne old.2))
-        (cases_eq g.base f.base);
-    only = λ b p e. let was = was_there b p e in shows.only b was.0 was.1;
+    shown = record {
+      kept = λ g there. ⊎_elim
+          (λ same. subst (λ (x : Found). (p : Object) × (with_at objects f.base (Some written) x.base ≡ Some p) × IsShown (set words (place w) v) x p)
+          (sym (one_at_base found pages map f g (at_base found pages map w f is) there same))
+          (written, with_at-same objects f.base (Some written) f.base refl, written_shown))
+          (λ ne. let old = shows.shown.kept g there in (old.0, with_at-other objects f.base (Some written) g.base ne ∙ old.1, others_shown g old.0 there ne old.2))
+          (cases_eq g.base f.base);
+      only = λ b p e. let was = was_there b p e in shows.shown.only b was.0 was.1;
+    };
     born = λ b p e. let was = was_there b p e in subst (λ n. (1 ≤ n) × (n ≤ births)) was.2 (shows.born b was.0 was.1);
     distinct = λ a b p q x y same. let p' = was_there a p x in let q' = was_there b q y in shows.distinct a b p'.0 q'.0 p'.1 q'.1 (p'.2 ∙ same ∙ sym q'.2);
   }
@@ -88,11 +91,13 @@ module _ (found after : ℕ → Option Found) (pages : ℕ) (map : IsMap pages f
 
   pub shows_removed : Shows after words (without_at objects (f.base ∷ [])) births
   shows_removed = record {
-    kept = λ g there. let ne = other g there in let old = shows.kept g (was g there ne) in (old.0, without_one-other objects f.base g.base ne ∙ old.1, old.2);
-    only = λ b p e.
-        let h = without_one objects f.base b p e in
-        let old = shows.only b p h.1 in
-        (old.0, sym (gone.others b (λ r. h.0 (sym old.2 ∙ ap (λ (x : Found). x.base) (one b old.0 old.1 r)))) ∙ old.1, old.2);
+    shown = record {
+      kept = λ g there. let ne = other g there in let old = shows.shown.kept g (was g there ne) in (old.0, without_one-other objects f.base g.base ne ∙ old.1, old.2);
+      only = λ b p e.
+          let h = without_one objects f.base b p e in
+          let old = shows.shown.only b p h.1 in
+          (old.0, sym (gone.others b (λ r. h.0 (sym old.2 ∙ ap (λ (x : Found). x.base) (one b old.0 old.1 r)))) ∙ old.1, old.2);
+    };
     born = λ b p e. shows.born b p (without_one objects f.base b p e).1;
     distinct = λ a b p q x y same. shows.distinct a b p q (without_one objects f.base a p x).1 (without_one objects f.base b q y).1 same;
   }
@@ -109,7 +114,7 @@ module _ (found after : ℕ → Option Found) (pages : ℕ) (map : IsMap pages f
 -- an object comes, all its words 0
 module _ (found after : ℕ → Option Found) (pages : ℕ) (map : IsMap pages found) (words zeroed : List ℕ) (objects : ℕ → Option Object) (births : ℕ) (shows : Shows found words objects births)
     (f : Found) (len : ℕ) (kind : Kind) (came : IsAdded found after f) (keeps : KeepsWords found words zeroed) (zero : HasZeroWords zeroed f) (same_len : f.len ≡ len) (same_kind : f.kind ≡ kind)
-    (some : 0 < f.len) (low : 268435456 ≤ f.base) (even : f.base % 16 ≡ 0) where
+    (some : 0 < f.len) (low : FIRST_ADDRESS ≤ f.base) (even : f.base % 16 ≡ 0) where
   abbrev pub fresh : Object
   fresh = record { birth = births + 1; kind = kind; words = replicate len 0 }
 
@@ -125,16 +130,18 @@ module _ (found after : ℕ → Option Found) (pages : ℕ) (map : IsMap pages f
 
   pub shows_added : Shows after zeroed (with_at objects f.base (Some fresh)) (births + 1)
   shows_added = record {
-    kept = λ g there. ⊎_elim
-        (λ same. subst (λ (x : Found). (p : Object) × (with_at objects f.base (Some fresh) x.base ≡ Some p) × IsShown zeroed x p)
-        (sym (new_one g there same))
-        (fresh, with_at-same objects f.base (Some fresh) f.base refl, fresh_shown))
-        (λ ne. let was = was_found g there ne in let old = shows.kept g was in (old.0, with_at-other objects f.base (Some fresh) g.base ne ∙ old.1, shown_kept words zeroed g old.0 (map.placed g.base g was).above (λ i lt. keeps g i was lt) old.2))
-        (cases_eq g.base f.base);
-    only = λ b p e. ⊎_elim
-        (λ h. (f, ap after h.0 ∙ came.after f.base new_base_read, sym h.0))
-        (λ h. let old = shows.only b p h.1 in (old.0, came.others b (λ r. let none : found b ≡ None = came.before b r in let some = old.1 in cc) ∙ old.1, old.2))
-        (with_at-cases objects f.base fresh b p e);
+    shown = record {
+      kept = λ g there. ⊎_elim
+          (λ same. subst (λ (x : Found). (p : Object) × (with_at objects f.base (Some fresh) x.base ≡ Some p) × IsShown zeroed x p)
+          (sym (new_one g there same))
+          (fresh, with_at-same objects f.base (Some fresh) f.base refl, fresh_shown))
+          (λ ne. let was = was_found g there ne in let old = shows.shown.kept g was in (old.0, with_at-other objects f.base (Some fresh) g.base ne ∙ old.1, shown_kept words zeroed g old.0 (map.placed g.base g was).above (λ i lt. keeps g i was lt) old.2))
+          (cases_eq g.base f.base);
+      only = λ b p e. ⊎_elim
+          (λ h. (f, ap after h.0 ∙ came.after f.base new_base_read, sym h.0))
+          (λ h. let old = shows.shown.only b p h.1 in (old.0, came.others b (λ r. let none : found b ≡ None = came.before b r in let some = old.1 in cc) ∙ old.1, old.2))
+          (with_at-cases objects f.base fresh b p e);
+    };
     born = λ b p e. ⊎_elim
         (λ h. subst (λ (x : Object). (1 ≤ x.birth) × (x.birth ≤ births + 1)) h.1 (omega arith, omega arith))
         (λ h. let born = shows.born b p h.1 in (born.0, omega (arith, born.1)))

@@ -1,6 +1,6 @@
 -- How many objects of a block are unmarked: as many as it has allocated cells beyond its marks, since each mark is that of
 -- an allocated object.
-use Rattle.std.proofs.Common.{◌≡◌, ℕ, zero, suc, ◌-◌, ◌+◌, ◌*◌, ◌/◌, ◌%◌, ◌<◌, ◌≤◌, ◌⊎◌, Bool, true, false, ◌==◌, List, [], ◌∷◌, ◌++◌, length, get_or, take, drop, Contains, All, Some, refl, sym, ap, ◌∙◌, subst, ⊎_elim, arith, nat_eq, length-append}
+use Rattle.std.proofs.Common.{◌≡◌, ℕ, zero, suc, ◌-◌, ◌+◌, ◌*◌, ◌/◌, ◌%◌, ◌<◌, ◌≤◌, Bool, true, false, ◌==◌, List, [], ◌∷◌, ◌++◌, length, get_or, take, drop, Contains, All, Some, refl, sym, ap, ◌∙◌, subst, ⊎_elim, arith, nat_eq, length-append}
 use Rattle.std.specs.List.{IsDistinct}
 use Rattle.std.proofs.lemmas.Bool.{cases_lt, false≢true}
 use Rattle.std.proofs.lemmas.Cmp.{nat_eq_equiv}
@@ -12,10 +12,10 @@ use Rattle.std.proofs.Math.Nat.{mul-le-mul_right, mul-le-mul_left}
 use Rattle.std.proofs.Math.Seq.{take-length}
 use Rattle.words.specs.declared.limits.TheConstants.{PAGE_WORDS, PAGE_GRANULES}
 use Rattle.words.specs.Bits.{Has, members, members_between}
-use Rattle.words.specs.Layout.{page_of, page_start}
+use Rattle.words.specs.Layout.{page_of, page_start, granule}
 use Rattle.words.proofs.Classes.{class_even, class_some}
 use Rattle.words.proofs.Counts.{member_more, members_same}
-use Rattle.mark_bits.specs.Granules.{granule, marks_on}
+use Rattle.mark_bits.specs.Granules.{marks_on}
 use Rattle.blocks.specs.Cells.{Cells, IsCells}
 use Rattle.block_map.specs.declared.found.Found.{Found}
 use Rattle.block_map.specs.FoundIn.{found_in, IsLawful}

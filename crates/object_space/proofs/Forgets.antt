@@ -1,16 +1,17 @@
 -- What is forgotten, page by page.
-use Rattle.std.proofs.Common.{inl, inr, ◌≡◌, ℕ, zero, suc, ◌-◌, ◌+◌, ◌*◌, ◌<◌, ◌≤◌, ◌⊎◌, Bool, true, false, List, [], ◌++◌, ◌∷◌, length, set, get_or, get_or-set_same, get_or-set_other, Contains, All, Option, Some, None, refl, sym, ap, ◌∙◌, subst, ⊎_elim, arith, length-append, append_assoc, append-nil, nat_eq}
+use Rattle.std.proofs.Common.{inl, inr, ◌≡◌, ℕ, suc, ◌-◌, ◌+◌, ◌*◌, ◌<◌, ◌≤◌, ◌⊎◌, Bool, true, false, List, [], ◌++◌, ◌∷◌, length, set, get_or, get_or-set_same, get_or-set_other, Contains, Some, None, refl, sym, ap, ◌∙◌, subst, ⊎_elim, arith, length-append, append_assoc, append-nil, nat_eq}
 use Rattle.std.specs.List.{IsDistinct}
 use Rattle.std.proofs.lemmas.Bool.{cases_lt, cases_eq, false≢true, eq-eqb}
 use Rattle.std.proofs.lemmas.Cmp.{nat_eq_equiv}
-use Rattle.std.proofs.lemmas.List.Elements.{All-push, All-append, All-weaker, All-contains, Contains-push, Contains-push_cases, Contains-append_left, Contains-append_right, Contains-append_cases}
+use Rattle.std.proofs.lemmas.List.Elements.{All-push, All-append, All-weaker, All-contains, Contains-push, Contains-push_cases, Contains-append_left, Contains-append_right}
 use Rattle.std.proofs.lemmas.Map.Keys.{IsDistinct-push, IsDistinct-tail, apart_from_distinct}
 use Rattle.std.proofs.lemmas.Option.{same_Some}
 use Rattle.std.proofs.lemmas.List.{get_or_default, nil_from_length}
 use Rattle.words.specs.declared.class.Kind.{Kind}
-use Rattle.words.specs.declared.limits.TheConstants.{PAGE_GRANULES}
+use Rattle.words.specs.declared.limits.TheConstants.{PAGE_GRANULES, PAGE_WORDS}
 use Rattle.words.specs.Bits.{Has, members}
-use Rattle.mark_bits.specs.Granules.{granule, marks_on}
+use Rattle.words.specs.Layout.{granule}
+use Rattle.mark_bits.specs.Granules.{marks_on}
 use Rattle.blocks.specs.Cells.{Cells}
 use Rattle.marker.specs.Marking.{Marking, IsConsistent, AreMarksObjects}
 use Rattle.block_map.specs.declared.found.Found.{Found}
@@ -69,7 +70,7 @@ module _ (t : Store) (marks : List Bool) (page : ℕ) (lawful : IsLawful t.state
   large_found =
       let large : LaidAt t.states page (head at_head.0 at_head.1) = subst (LaidAt t.states page) at_head.2 (laid.each page inside) in
       let some = large.0 in
-      let len : f.len ≡ 512 * at_head.0 = ap (λ (x : Found). x.len) at_head.3 in
+      let len : f.len ≡ PAGE_WORDS * at_head.0 = ap (λ (x : Found). x.len) at_head.3 in
       lawful.found f.base f (record { page = subst (λ p. p < length t.states) (sym f_page) inside; on = subst (λ st. IsObjectOn st f) (sym (ap (state_at t.states) f_page ∙ at_head.2)) (at_head.3 ∙ ap (λ p. large_object p at_head.0 at_head.1) (sym f_page)) })
       (record { from = omega arith; below = omega arith })
 

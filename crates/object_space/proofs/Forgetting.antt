@@ -6,7 +6,7 @@ use Rattle.block_map.specs.declared.found.Found.{Found}
 use Rattle.block_map.specs.FoundIn.{found_in}
 use Rattle.marker.specs.Marking.{Marking, IsMarked, IsObjectGranule, AreMarksObjects}
 use Rattle.marker.specs.Closure.{Closure}
-use Rattle.object_space.specs.Store.{Store, IsSwept}
+use Rattle.object_space.specs.Store.{Store}
 use Rattle.object_space.specs.Kept.{is_kept}
 use Rattle.object_space.specs.Sweeps.{ForgetsUnreached, ForgetsLazily, Sweeps}
 use Rattle.object_space.proofs.Kept.{kept_cases, kept_is, marked_kept}

@@ -4,6 +4,7 @@ use Rattle.std.proofs.Common.{◌≡◌, ℕ, ◌+◌, ◌*◌, ◌/◌, ◌<◌
 use Rattle.std.specs.Prelude.{◌≢◌}
 use Rattle.std.proofs.lemmas.Bool.{cases_lt, cases_eq}
 use Rattle.std.proofs.lemmas.List.{get_or_past}
+use Rattle.words.specs.declared.limits.TheConstants.{FIRST_ADDRESS, PAGE_BYTES, PAGE_WORDS}
 use Rattle.words.specs.Bits.{IsEmptyFrom, IsFirstFrom}
 use Rattle.words.specs.declared.class.Kind.{Kind}
 use Rattle.pages.specs.Memory.{with_word_at}
@@ -189,15 +190,15 @@ in_large t f o uncut = by (state_at t.states f.page) refl o.on uncut
 
 -- where the large object lies
 pub large_here : (t : Store) (f : Found) → IsLawful t.states → found_in t.states f.base ≡ Some f → (IsCut (state_at t.states f.page) → ⊥)
-    → (k : Kind) × (state_at t.states f.page ≡ head (f.len / 512) k) × (0 < f.len / 512) × (f.page + f.len / 512 ≤ length t.states) × (f ≡ large_object f.page (f.len / 512) k)
+    → (k : Kind) × (state_at t.states f.page ≡ head (f.len / PAGE_WORDS) k) × (0 < f.len / PAGE_WORDS) × (f.page + f.len / PAGE_WORDS ≤ length t.states) × (f ≡ large_object f.page (f.len / PAGE_WORDS) k)
 large_here t f lawful is uncut = by (in_large t f (on_page t f lawful is) uncut)
   where
     by : (n : ℕ) × (k : Kind) × (state_at t.states f.page ≡ head n k) × (f ≡ large_object f.page n k)
-        → (k : Kind) × (state_at t.states f.page ≡ head (f.len / 512) k) × (0 < f.len / 512) × (f.page + f.len / 512 ≤ length t.states) × (f ≡ large_object f.page (f.len / 512) k)
+        → (k : Kind) × (state_at t.states f.page ≡ head (f.len / PAGE_WORDS) k) × (0 < f.len / PAGE_WORDS) × (f.page + f.len / PAGE_WORDS ≤ length t.states) × (f ≡ large_object f.page (f.len / PAGE_WORDS) k)
     by l =
-        let base : f.base ≡ 268435456 + 4096 * f.page = ap (λ (x : Found). x.base) l.3 in
-        let len : f.len ≡ 512 * l.0 = ap (λ (x : Found). x.len) l.3 in
-        let n : l.0 ≡ f.len / 512 = omega arith in
+        let base : f.base ≡ FIRST_ADDRESS + PAGE_BYTES * f.page = ap (λ (x : Found). x.base) l.3 in
+        let len : f.len ≡ PAGE_WORDS * l.0 = ap (λ (x : Found). x.len) l.3 in
+        let n : l.0 ≡ f.len / PAGE_WORDS = omega arith in
         let some = (lawful.map.placed f.base f is).some in
         let ends = (lawful.map.placed f.base f is).below in
         (l.1, l.2 ∙ ap (λ m. head m l.1) n, omega arith, omega arith, l.3 ∙ ap (λ m. large_object f.page m l.1) n)

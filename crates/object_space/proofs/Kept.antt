@@ -6,7 +6,7 @@ use Rattle.std.proofs.lemmas.Bool.{cond-true, cond-false, false≢true, cases_eq
 use Rattle.std.proofs.lemmas.Option.{same_Some}
 use Rattle.std.proofs.lemmas.List.{get_or_past}
 use Rattle.words.specs.Bits.{Has}
-use Rattle.mark_bits.specs.Granules.{granule}
+use Rattle.words.specs.Layout.{granule}
 use Rattle.block_map.specs.declared.found.Found.{Found}
 use Rattle.block_map.specs.Objects.{IsMap, Reads}
 use Rattle.block_map.specs.Changes.{IsAdded, IsRemoved, IsSameMap}

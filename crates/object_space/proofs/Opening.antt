@@ -10,6 +10,7 @@ use Rattle.block_map.proofs.Laid.{laid_free}
 use Rattle.block_map.proofs.Lawful.{map_laws}
 use Rattle.object_space.specs.Store.{Store}
 use Rattle.std.specs.Prelude.{Bool}
+use Rattle.words.specs.declared.limits.TheConstants.{MAX_PAGES, PAGE_WORDS}
 use Rattle.object_space.proofs.Kept.{kept_cases}
 use Rattle.object_space.specs.Stores.{Stores}
 
@@ -17,12 +18,14 @@ none_some : {A : Type 0} (x : A) → None ≡ Some x → ⊥
 none_some x e = cc
 
 -- all pages are free, so there is no object
-pub opens : (t : Store) (pages : ℕ) → AreAllFree t.states pages → pages ≤ 1024 → (keep : Found → Bool) → Stores keep t (opening pages)
+pub opens : (t : Store) (pages : ℕ) → AreAllFree t.states pages → pages ≤ MAX_PAGES → (keep : Found → Bool) → Stores keep t (opening pages)
 opens t pages all few keep = record {
   pages = sym all.size;
   shows = record {
-    kept = λ f is. absurd (nothing f (kept_cases keep (found_in t.states) f.base f is).0);
-    only = λ base o is. absurd (none_some o is);
+    shown = record {
+      kept = λ f is. absurd (nothing f (kept_cases keep (found_in t.states) f.base f is).0);
+      only = λ base o is. absurd (none_some o is);
+    };
     born = λ base o is. absurd (none_some o is);
     distinct = λ a b o p x y same. absurd (none_some o x);
   };
@@ -32,8 +35,8 @@ opens t pages all few keep = record {
     nothing f is = subst (λ st. IsObjectOn st f) (all.each f.page) ((map_laws t.states (laid_free t.states pages all few)).object f.base f is).on
 
 -- no page is cut, so there is no list
-pub listed_free : (words : List ℕ) (states : List PageState) (pages : ℕ) → AreAllFree states pages → length words ≡ 512 * pages → AreListed words states
+pub listed_free : (words : List ℕ) (states : List PageState) (pages : ℕ) → AreAllFree states pages → length words ≡ PAGE_WORDS * pages → AreListed words states
 listed_free words states pages all size = record {
-  size = size ∙ ap (λ n. 512 * n) (sym all.size);
+  size = size ∙ ap (λ n. PAGE_WORDS * n) (sym all.size);
   each = λ page lt. subst (IsListedOn words page) (sym (all.each page)) tt;
 }

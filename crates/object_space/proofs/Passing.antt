@@ -1,13 +1,12 @@
 -- The walk that forgets the unmarked objects.
-use Rattle.std.proofs.Common.{inl, inr, ◌≡◌, ℕ, ◌+◌, ◌*◌, ◌<◌, ◌≤◌, ◌⊎◌, Bool, true, false, List, [], ◌++◌, ◌∷◌, length, set, get_or, length-set, get_or-set_same, get_or-set_other, Contains, Some, None, refl, sym, ap, ◌∙◌, subst, ⊎_elim, arith, length-append}
+use Rattle.std.proofs.Common.{inl, inr, ◌≡◌, ℕ, ◌+◌, ◌*◌, ◌<◌, ◌≤◌, ◌⊎◌, false, List, [], ◌++◌, ◌∷◌, length, set, get_or, length-set, get_or-set_same, get_or-set_other, Contains, Some, None, refl, sym, ap, ◌∙◌, subst, ⊎_elim, arith, length-append}
 use Rattle.std.proofs.lemmas.Bool.{cases_lt, cases_eq}
 use Rattle.std.proofs.lemmas.List.{ext_get_or}
 use Rattle.blocks.proofs.Places.{class_bounds}
 use Rattle.std.proofs.lemmas.List.Elements.{All-push, All-contains}
 use Rattle.std.proofs.lemmas.Option.{same_Some}
-use Rattle.words.specs.declared.limits.TheConstants.{FIRST_ADDRESS}
+use Rattle.words.specs.declared.limits.TheConstants.{PAGE_BYTES}
 use Rattle.block_map.specs.declared.found.Found.{Found}
-use Rattle.block_map.specs.Places.{page_start, page_of}
 use Rattle.block_map.specs.FoundIn.{found_in}
 use Rattle.block_map.specs.Objects.{IsMap, Reads}
 use Rattle.block_map.specs.Walks.{IsNextObject}
@@ -16,13 +15,15 @@ use Rattle.marker.specs.Marking.{Marking, IsMarked, word_address}
 use Rattle.object_space.specs.Store.{Store}
 use Rattle.object_space.specs.Sweeps.{Passes, none, marked, forgot, HasPassed, SweepsPage}
 use Rattle.heap_view.proofs.Shows.{at_base, one_at_base}
-use Rattle.object_space.proofs.Rooms.{Lies, in_cell, in_large, lies_cases, large_page, cell_end}
+use Rattle.object_space.proofs.Rooms.{Lies, in_cell, in_large, lies_cases, large_page}
 use Rattle.block_map.specs.States.{PageState, cut, head, body, state_at, LaidAt, IsLaid}
 use Rattle.block_map.specs.FoundIn.{IsLawful}
 use Rattle.block_map.specs.Objects.{cell_object, IsObjectOn}
+use Rattle.block_map.proofs.Words.{cells_end}
 use Rattle.blocks.specs.Cells.{Cells, IsCells}
 use Rattle.words.specs.declared.class.Kind.{Kind}
-use Rattle.object_space.proofs.Sweeping.{without_none, without_more, has, true_has, false_has}
+use Rattle.words.specs.Layout.{page_start, page_of}
+use Rattle.object_space.proofs.Sweeping.{without_none, without_more, has}
 
 -- nothing was looked at
 pub passed_none : (old : Store) (m : Marking) (from limit : ℕ) → HasPassed old m from limit from 0 old
@@ -184,7 +185,7 @@ passed_page old m page address n now new laid lawful b is past h words states pe
         let cells : IsCells b = subst (LaidAt old.states page) is (laid.each page (omega arith)) in
         let size = cells.size in let lt = on.1 in
         let some = (class_bounds b.class cells.class).0 in
-        let fits : f.cell * (8 * b.class) + 8 * b.class ≤ 4096 = cell_end b.class f.cell (omega arith) (omega arith) in
+        let fits : f.cell * (8 * b.class) + 8 * b.class ≤ PAGE_BYTES = cells_end b.class f.cell (omega arith) in
         let base : f.base ≡ page_start page + f.cell * (8 * b.class) = ap (λ (x : Found). x.base) (cell f there same) in
         omega arith
 

@@ -20,12 +20,12 @@ in_class None place e = absurd (none_some place e)
 in_class (Some c) place e = subst IsRequest (same_Some _ _ e) tt
 
 some_pages : (n : ℕ) → nat_le n MAX_SMALL_WORDS ≡ false → 0 < div_ceil n PAGE_WORDS
-some_pages n large = let more : 256 < n = grind (arith, nat_tests) in omega arith
+some_pages n large = let more : MAX_SMALL_WORDS < n = grind (arith, nat_tests) in omega arith
 
 few_pages : (n : ℕ) → ((n == 0) || nat_lt MAX_REQUEST_WORDS n) ≡ false → PAGE_WORDS * div_ceil n PAGE_WORDS ≤ MAX_REQUEST_WORDS
-few_pages n small = let few : n ≤ 16384 = at_most n small in omega arith
+few_pages n small = let few : n ≤ MAX_REQUEST_WORDS = at_most n small in omega arith
   where
-    at_most : (n : ℕ) → ((n == 0) || nat_lt 16384 n) ≡ false → n ≤ 16384
+    at_most : (n : ℕ) → ((n == 0) || nat_lt MAX_REQUEST_WORDS n) ≡ false → n ≤ MAX_REQUEST_WORDS
     at_most n small = grind (arith, nat_tests)
 
 -- where a request goes is of a fit size

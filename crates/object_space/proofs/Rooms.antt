@@ -4,9 +4,11 @@ use Rattle.std.proofs.lemmas.Bool.{cases_lt, cases_eq}
 use Rattle.std.proofs.lemmas.List.{get_or_past}
 use Rattle.std.proofs.lemmas.Option.{same_Some}
 use Rattle.std.proofs.Math.Nat.{le-div_iff_mul-le, mul-le-mul_right}
+use Rattle.words.specs.declared.limits.TheConstants.{MAX_SMALL_WORDS, PAGE_BYTES, PAGE_WORDS}
 use Rattle.words.specs.declared.class.Kind.{Kind}
 use Rattle.words.specs.Classes.{IsSizeClass}
-use Rattle.heap_spec.specs.Layout.{LiesOn, page_start}
+use Rattle.words.specs.Layout.{page_start}
+use Rattle.heap_spec.specs.Layout.{LiesOn}
 use Rattle.heap_spec.specs.Heap.{Heap, Object}
 use Rattle.heap_spec.specs.Room.{IsFree, IsCutFor, HasSmallRoom, HasLargeRoom}
 use Rattle.pages.specs.Runs.{IsFreeRun, HasNoFreeRun}
@@ -16,6 +18,7 @@ use Rattle.block_map.specs.States.{PageState, free, cut, head, body, state_at, L
 use Rattle.block_map.specs.Objects.{cell_object, large_object, IsObjectOn, IsObject}
 use Rattle.block_map.specs.FoundIn.{found_in, IsLawful}
 use Rattle.block_map.specs.declared.found.Found.{Found}
+use Rattle.block_map.proofs.Words.{cells_end}
 use Rattle.object_space.specs.Store.{Store, IsSound}
 use Rattle.object_space.specs.Stores.{Stores}
 use Rattle.object_space.specs.Kept.{restrict}
@@ -40,18 +43,10 @@ cut_body b q e = cc
 pub same_block : (a b : Cells) → cut a ≡ cut b → a ≡ b
 same_block a b e = cc
 
--- the cells of a page end on it
-pub cell_end : (c i : ℕ) → i < 512 / c → 0 < c → i * (8 * c) + 8 * c ≤ 4096
-cell_end c i lt some =
-    let h : (i + 1) * c ≤ 512 = (le-div_iff_mul-le {k = c} {x = i + 1} {y = 512} some).0 (omega arith) in
-    let e : (i + 1) * c ≡ i * c + c = omega arith in
-    let f : i * (8 * c) ≡ 8 * (i * c) = omega arith in
-    omega arith
-
 -- a cell that fits on a page is one of its cells
-pub cell_below : (c i : ℕ) → 0 < c → c * (i + 1) ≤ 512 → i < 512 / c
+pub cell_below : (c i : ℕ) → 0 < c → c * (i + 1) ≤ PAGE_WORDS → i < PAGE_WORDS / c
 cell_below c i some fits =
-    let h : i + 1 ≤ 512 / c = (le-div_iff_mul-le {k = c} {x = i + 1} {y = 512} some).1 (let e : (i + 1) * c ≡ c * (i + 1) = omega arith in omega arith) in omega arith
+    let h : i + 1 ≤ PAGE_WORDS / c = (le-div_iff_mul-le {k = c} {x = i + 1} {y = PAGE_WORDS} some).1 (let e : (i + 1) * c ≡ c * (i + 1) = omega arith in omega arith) in omega arith
 
 -- cells of one class that begin at one place are one
 pub same_cell : (c i j : ℕ) → 0 < c → i * (8 * c) ≡ 8 * (c * j) → i ≡ j
@@ -79,7 +74,7 @@ in_row row i is = ⊎_elim (λ lt. lt) (λ past. absurd (let none : get_or row i
 -- Where an object lies that has a byte on a page: in a cell of that page, or over consecutive pages with it among them.
 pub data Lies (states : List PageState) (f : Found) (page : ℕ) : Type 0 where
   in_cell : (b : Cells) → state_at states page ≡ cut b → f ≡ cell_object page b f.cell → get_or b.taken f.cell false ≡ true → Lies states f page
-  in_large : (n : ℕ) (k : Kind) → state_at states f.page ≡ head n k → f.page ≤ page → page < f.page + n → f.len ≡ 512 * n → Lies states f page
+  in_large : (n : ℕ) (k : Kind) → state_at states f.page ≡ head n k → f.page ≤ page → page < f.page + n → f.len ≡ PAGE_WORDS * n → Lies states f page
 
 module _ (states : List PageState) (laid : IsLaid states) where
   lies_by : (f : Found) (page : ℕ) (st : PageState) → state_at states f.page ≡ st → LaidAt states f.page st → IsObjectOn st f → LiesOn f.base f.len page → Lies states f page
@@ -89,13 +84,13 @@ module _ (states : List PageState) (laid : IsLaid states) where
       let base : f.base ≡ page_start f.page + f.cell * (8 * b.class) = ap (λ (x : Found). x.base) on.0 in
       let len : f.len ≡ b.class = ap (λ (x : Found). x.len) on.0 in
       let size = here.size in let inside = on.1 in
-      let ends : f.cell * (8 * b.class) + 8 * b.class ≤ 4096 = cell_end b.class f.cell (omega arith) (omega arith) in
+      let ends : f.cell * (8 * b.class) + 8 * b.class ≤ PAGE_BYTES = cells_end b.class f.cell (omega arith) in
       let low = lies.0 in let high = lies.1 in
       let same : f.page ≡ page = omega arith in
       in_cell b (ap (state_at states) (sym same) ∙ is) (on.0 ∙ ap (λ p. cell_object p b f.cell) same) on.2
   lies_by f page (head n k) is here on lies =
       let base : f.base ≡ page_start f.page = ap (λ (x : Found). x.base) on in
-      let len : f.len ≡ 512 * n = ap (λ (x : Found). x.len) on in
+      let len : f.len ≡ PAGE_WORDS * n = ap (λ (x : Found). x.len) on in
       let low = lies.0 in let high = lies.1 in
       in_large n k is (omega arith) (omega arith) len
   lies_by f page (body q) is here on lies = absurd on
@@ -113,7 +108,7 @@ module _ (states : List PageState) (laid : IsLaid states) where
   pub data Used (page : ℕ) (st : PageState) : Type 0 where
     by_none : st ≡ free → Used page st
     by_cell : (b : Cells) (i : ℕ) → st ≡ cut b → IsCells b → IsObject states (cell_object page b i) → LiesOn (cell_object page b i).base b.class page → Used page st
-    by_large : (first n : ℕ) (k : Kind) → 0 < n → IsObject states (large_object first n k) → LiesOn (page_start first) (512 * n) page → Used page st
+    by_large : (first n : ℕ) (k : Kind) → 0 < n → IsObject states (large_object first n k) → LiesOn (page_start first) (PAGE_WORDS * n) page → Used page st
 
   pub used_by : (page : ℕ) (st : PageState) → page < length states → state_at states page ≡ st → LaidAt states page st → ((b : Cells) → st ≡ cut b → (i : ℕ) × (get_or b.taken i false ≡ true)) → Used page st
   used_by page free lt is here has = by_none refl
@@ -121,7 +116,7 @@ module _ (states : List PageState) (laid : IsLaid states) where
       let bit = has b refl in
       let inside : bit.0 < length b.taken = in_row b.taken bit.0 bit.1 in
       let bounds = class_bounds b.class here.class in let some = bounds.0 in let size = here.size in
-      let ends : bit.0 * (8 * b.class) + 8 * b.class ≤ 4096 = cell_end b.class bit.0 (omega arith) (omega arith) in
+      let ends : bit.0 * (8 * b.class) + 8 * b.class ≤ PAGE_BYTES = cells_end b.class bit.0 (omega arith) in
       by_cell b bit.0 refl here (record { page = lt; on = subst (λ x. IsObjectOn x (cell_object page b bit.0)) (sym is) (refl, inside, bit.1) }) (omega arith, omega arith)
   used_by page (head n k) lt is here has =
       let some = here.0 in
@@ -134,8 +129,8 @@ module _ (keep : Found → Bool) (t : Store) (s : Heap) (sound : IsSound t) (lai
   -- the heap's object is one of the store's
   pub heap_object : (base : ℕ) (o : Object) → s.objects base ≡ Some o → (f : Found) × IsObject t.states f × (f.base ≡ base) × (f.len ≡ length o.words) × (f.kind ≡ o.kind) × (0 < f.len)
   heap_object base o is =
-      let only = stores.shows.only base o is in
-      let kept = stores.shows.kept only.0 (ap (restrict keep (found_in t.states)) only.2 ∙ only.1) in
+      let only = stores.shows.shown.only base o is in
+      let kept = stores.shows.shown.kept only.0 (ap (restrict keep (found_in t.states)) only.2 ∙ only.1) in
       let there = (kept_cases keep (found_in t.states) base only.0 only.1).0 in
       let same : kept.0 ≡ o = same_Some _ _ (sym kept.1 ∙ ap s.objects only.2 ∙ is) in
       (only.0, lawful.object base only.0 there, only.2, sym kept.2.size ∙ ap (λ (x : Object). length x.words) same, sym kept.2.kind ∙ ap (λ (x : Object). x.kind) same, (lawful.map.placed base only.0 there).some)
@@ -143,7 +138,7 @@ module _ (keep : Found → Bool) (t : Store) (s : Heap) (sound : IsSound t) (lai
   -- if all are kept, the store's object is one of the heap's
   pub store_object : ((g : Found) → keep g ≡ true) → (f : Found) → IsObject t.states f → 0 < f.len → (o : Object) × (s.objects f.base ≡ Some o) × (length o.words ≡ f.len) × (o.kind ≡ f.kind)
   store_object all f is some =
-      let kept = stores.shows.kept f (kept_is keep (found_in t.states) f.base f (lawful.found f.base f is (record { from = omega arith; below = omega arith })) (all f)) in
+      let kept = stores.shows.shown.kept f (kept_is keep (found_in t.states) f.base f (lawful.found f.base f is (record { from = omega arith; below = omega arith })) (all f)) in
       (kept.0, kept.1, kept.2.size, kept.2.kind)
 
   pub free_page : (page : ℕ) → state_at t.states page ≡ free → IsFree s page
@@ -200,10 +195,10 @@ module _ (keep : Found → Bool) (t : Store) (s : Heap) (sound : IsSound t) (lai
       some : 0 < class
       some = let c = (class_bounds r.block.class cells.class).0 in let e = r.of_class in omega arith
 
-      ends : cell * (8 * class) + 8 * class ≤ 4096
-      ends = cell_end class cell (subst (λ c. cell < 512 / c) r.of_class (let size = cells.size in let lt = r.in_row in omega arith)) some
+      ends : cell * (8 * class) + 8 * class ≤ PAGE_BYTES
+      ends = cells_end class cell (subst (λ c. cell < PAGE_WORDS / c) r.of_class (let size = cells.size in let lt = r.in_row in omega arith))
 
-      fits : class * (cell + 1) ≤ 512
+      fits : class * (cell + 1) ≤ PAGE_WORDS
       fits = let e : cell * (8 * class) ≡ 8 * (cell * class) = omega arith in let f : class * (cell + 1) ≡ cell * class + class = omega arith in let g = ends in omega arith
 
       none : (o : Object) → s.objects (page_start page + 8 * (class * cell)) ≡ Some o → ⊥
@@ -226,7 +221,7 @@ module _ (keep : Found → Bool) (t : Store) (s : Heap) (sound : IsSound t) (lai
           lies f base long = let e : cell * (8 * class) ≡ 8 * (class * cell) = omega arith in let g = ends in let h = some in (omega arith, omega arith)
 
   -- a free page is room for each class and kind
-  pub room_of_page : (class : ℕ) (kind : Kind) (page : ℕ) → class ≤ 512 → page < length t.states → state_at t.states page ≡ free → HasSmallRoom s class kind (page_start page)
+  pub room_of_page : (class : ℕ) (kind : Kind) (page : ℕ) → class ≤ PAGE_WORDS → page < length t.states → state_at t.states page ≡ free → HasSmallRoom s class kind (page_start page)
   room_of_page class kind page few lt is = record {
     page = page;
     cell = 0;
@@ -244,7 +239,7 @@ module _ (keep : Found → Bool) (t : Store) (s : Heap) (sound : IsSound t) (lai
       inside : r.page < length t.states
       inside = let pages = stores.pages in let lt = r.in_heap in omega arith
 
-      bounds : (2 ≤ class) × (class ≤ 256)
+      bounds : (2 ≤ class) × (class ≤ MAX_SMALL_WORDS)
       bounds = class_bounds class is_class
 
       none : state_at t.states r.page ≡ free → ⊥
@@ -265,7 +260,7 @@ module _ (keep : Found → Bool) (t : Store) (s : Heap) (sound : IsSound t) (lai
           let c = cut_is (cell_object r.page b i).base h.0 h.1 (subst (λ l. LiesOn (cell_object r.page b i).base l r.page) (sym h.2) lies) in
           let class_is : b.class ≡ class = sym h.2 ∙ c.0 in
           let kind_is : b.kind ≡ kind = sym h.3 ∙ c.1 in
-          let in_cells : r.cell < length b.taken = (let lt : r.cell < 512 / class = cell_below class r.cell (let z = bounds in omega arith) r.in_page in subst (λ n. r.cell < n) (ap (λ x. 512 / x) (sym class_is) ∙ sym cells.size) lt) in
+          let in_cells : r.cell < length b.taken = (let lt : r.cell < PAGE_WORDS / class = cell_below class r.cell (let z = bounds in omega arith) r.in_page in subst (λ n. r.cell < n) (ap (λ x. PAGE_WORDS / x) (sym class_is) ∙ sym cells.size) lt) in
           bit b is class_is kind_is in_cells (get_or b.taken r.cell false) refl
         where
           turned : page_start r.page + r.cell * (8 * class) ≡ page_start r.page + 8 * (class * r.cell)

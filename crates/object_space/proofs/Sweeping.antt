@@ -100,14 +100,16 @@ without_more pages found mid after bases f map so is gone = record {
 pub shows_without : (pages : ℕ) (found after : ℕ → Option Found) (words : List ℕ) (objects : ℕ → Option Object) (births : ℕ) (bases : List ℕ) → Shows found words objects births → IsWithout found after bases
     → Shows after words (λ b. cond (has bases b) None (objects b)) births
 shows_without pages found after words objects births bases shows so = record {
-  kept = λ f e.
-      let l = so.left f.base f e in
-      let old = shows.kept f l.0 in
-      (old.0, cond-false (has bases f.base) None (objects f.base) (has_false bases f.base l.1) ∙ old.1, old.2);
-  only = λ b o e.
-      let h = was b o e in
-      let old = shows.only b o h.1 in
-      (old.0, so.kept b old.0 old.1 (λ c. false_has bases b h.0 (subst (Contains bases) old.2 c)), old.2);
+  shown = record {
+    kept = λ f e.
+        let l = so.left f.base f e in
+        let old = shows.shown.kept f l.0 in
+        (old.0, cond-false (has bases f.base) None (objects f.base) (has_false bases f.base l.1) ∙ old.1, old.2);
+    only = λ b o e.
+        let h = was b o e in
+        let old = shows.shown.only b o h.1 in
+        (old.0, so.kept b old.0 old.1 (λ c. false_has bases b h.0 (subst (Contains bases) old.2 c)), old.2);
+  };
   born = λ b o e. shows.born b o (was b o e).1;
   distinct = λ a b o p x y same. shows.distinct a b o p (was a o x).1 (was b p y).1 same;
 }

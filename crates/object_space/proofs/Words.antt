@@ -29,8 +29,10 @@ shown_kept words words' f o low same shown = record {
 -- and so are all
 pub shows_kept : (found : ℕ → Option Found) (words words' : List ℕ) (objects : ℕ → Option Object) (births : ℕ) → ((f : Found) → found f.base ≡ Some f → FIRST_ADDRESS ≤ f.base) → KeepsWords found words words' → Shows found words objects births → Shows found words' objects births
 shows_kept found words words' objects births low keeps shows = record {
-  kept = λ f is. let old = shows.kept f is in (old.0, old.1, shown_kept words words' f old.0 (low f is) (λ i lt. keeps f i is lt) old.2);
-  only = shows.only;
+  shown = record {
+    kept = λ f is. let old = shows.shown.kept f is in (old.0, old.1, shown_kept words words' f old.0 (low f is) (λ i lt. keeps f i is lt) old.2);
+    only = shows.shown.only;
+  };
   born = shows.born;
   distinct = shows.distinct;
 }

@@ -1,18 +1,16 @@
 -- Objects that go, and objects that come, as changes of the store.
-use Rattle.std.specs.Prelude.{◌≡◌, ◌↔◌, ℕ, ◌+◌, ◌*◌, ◌<◌, ◌≤◌, ◌≢◌, ◌⊎◌, count_by, Bool, true, false, slice_index_or, slice_set, List, length, Contains, All, nat_eq, Option, Some}
+use Rattle.std.specs.Prelude.{◌≡◌, ◌↔◌, ℕ, ◌+◌, ◌*◌, ◌<◌, ◌≤◌, ◌≢◌, count_by, Bool, false, slice_index_or, slice_set, List, length, Contains, All, nat_eq, Option, Some}
 use Rattle.std.specs.List.{IsDistinct}
-use Rattle.words.specs.declared.limits.TheConstants.{FIRST_ADDRESS, WORD_BYTES}
+use Rattle.words.specs.declared.limits.TheConstants.{WORD_BYTES}
 use Rattle.words.specs.declared.class.Kind.{Kind}
 use Rattle.words.specs.declared.class.Placement.{Placement}
 use Rattle.heap_spec.specs.Room.{length_of}
 use Rattle.words.specs.Bits.{Has}
-use Rattle.mark_bits.specs.Granules.{granule}
+use Rattle.words.specs.Layout.{granule, page_start, page_of}
 use Rattle.object_space.specs.Store.{IsSwept}
 use Rattle.object_space.specs.Rooms.{HasRoomAt, HasNoRoom}
 use Rattle.object_space.specs.Kept.{kept_in, IsPendingAfter}
 use Rattle.block_map.specs.Changes.{IsSameMap}
-use Rattle.block_map.specs.Places.{page_start, page_of}
-use Rattle.block_map.specs.States.{IsCut, state_at}
 use Rattle.block_map.specs.Walks.{IsNextObject, IsNoObject}
 use Rattle.block_map.specs.declared.found.Found.{Found}
 use Rattle.block_map.specs.Changes.{IsAdded, IsRemoved}

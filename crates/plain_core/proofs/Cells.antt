@@ -2,7 +2,7 @@
 use Rattle.std.proofs.Common.{◌≡◌, ℕ, ◌+◌, ◌*◌, ◌%◌, ◌<◌, ◌≤◌, List, ap, ◌∙◌, arith}
 use Rattle.std.proofs.Math.Nat.{mul_assoc, mul-mod_right}
 use Rattle.words.specs.declared.limits.TheConstants.{WORD_BYTES}
-use Rattle.heap_spec.specs.Layout.{page_start}
+use Rattle.words.specs.Layout.{page_start}
 use Rattle.plain_core.specs.declared.extent.Extent.{Extent}
 use Rattle.plain_core.specs.Places.{IsCellAt, IsLargePlace, IsFreePage}
 

@@ -12,7 +12,8 @@ use Rattle.std.proofs.lemmas.Bool.{cases_lt, eqb-true, ne_eqb}
 use Rattle.std.specs.Cmp.{nat_eq_equiv}
 use Rattle.words.specs.declared.class.Kind.{Kind}
 use Rattle.words.specs.declared.limits.TheConstants.{WORD_BYTES, PAGE_BYTES, PAGE_WORDS, PAGE_GRANULES, FIRST_ADDRESS, MAX_SMALL_WORDS}
-use Rattle.heap_spec.specs.Layout.{Reads, LiesOn, page_start}
+use Rattle.words.specs.Layout.{page_start}
+use Rattle.heap_spec.specs.Layout.{Reads, LiesOn}
 use Rattle.plain_core.specs.declared.extent.Extent.{Extent}
 use Rattle.plain_core.specs.Contents.{IsInHeap, IsCell, HasPages, IsPlaced, granule}
 use Rattle.plain_core.specs.Places.{IsPlaceOn, IsLargePlace, IsCutPage, IsNoBase}

@@ -2,7 +2,8 @@
 use Rattle.std.specs.Prelude.{◌≡◌, ℕ, ◌+◌, ◌-◌, ◌*◌, ◌/◌, ◌%◌, ◌<◌, ◌≤◌, ◌⊎◌, nat_eq, List, length, map, All, Contains}
 use Rattle.std.specs.List.{IsDistinct}
 use Rattle.words.specs.declared.limits.TheConstants.{WORD_BYTES, GRANULE_BYTES, PAGE_WORDS, FIRST_ADDRESS, MAX_PAGES, MAX_SMALL_WORDS}
-use Rattle.heap_spec.specs.Layout.{page_start, heap_end, Reads}
+use Rattle.words.specs.Layout.{page_start}
+use Rattle.heap_spec.specs.Layout.{heap_end, Reads}
 use Rattle.roots.specs.Roots.{RootSet}
 use Rattle.plain_core.specs.declared.extent.Extent.{Extent}
 

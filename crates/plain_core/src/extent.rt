@@ -1,5 +1,5 @@
 //! Where an object lies.
-ghost use Rattle.std.specs.Prelude.{◌≡◌, ℕ, ◌+◌, ◌*◌, ◌<◌, ◌≤◌, IfSome, IfNone, IsTrue, false, Contains, All, Some, slice_get};
+ghost use Rattle.std.specs.Prelude.{◌≡◌, ◌+◌, ◌*◌, ◌<◌, IfSome, IfNone, IsTrue, false, Contains, All, Some, slice_get};
 ghost use Rattle.heap_spec.specs.Layout.{Reads, LiesOn};
 
 use words::Kind;

@@ -1,14 +1,14 @@
 //! Whether a new object may go to a place that is given.
 ghost use Rattle.std.specs.Prelude.{◌≡◌, ℕ, ◌<◌, ◌≤◌, ◌+◌, ◌*◌, IfSome, IfNone, false, IsTrue};
 ghost use Rattle.words.specs.declared.limits.TheConstants.{MAX_PAGES, MAX_SMALL_WORDS, PAGE_BYTES};
-ghost use Rattle.heap_spec.specs.Layout.{page_start};
+ghost use Rattle.words.specs.Layout.{page_start};
 ghost use Rattle.heap_spec.specs.Room.{length_of};
 ghost use Rattle.plain_core.specs.Places.{IsCellAt, IsPlace, IsPlaceOn, IsSmallPlace, IsLargePlace, IsSized};
 
 use crate::extent::Extent;
-use crate::places::{is_base, is_cut_for, is_free, is_free_run, start_of};
-use words::limits::{FIRST_ADDRESS, PAGE_BYTES, PAGE_WORDS, PageNo, WORD_BYTES};
-use words::{Kind, Placement};
+use crate::places::{is_base, is_cut_for, is_free, is_free_run};
+use words::limits::{FIRST_ADDRESS, PAGE_BYTES, PAGE_WORDS, WORD_BYTES};
+use words::{Kind, PageNo, Placement, page_of, page_start};
 
 // The page that an address lies on.
 fn page_at(pages: u32, address: u64) -> Option<PageNo>
@@ -19,7 +19,7 @@ fn page_at(pages: u32, address: u64) -> Option<PageNo>
     if address < FIRST_ADDRESS {
         return None;
     }
-    let page = (address - FIRST_ADDRESS) / PAGE_BYTES;
+    let page = page_of(address);
     if page >= u64::from(pages) {
         return None;
     }
@@ -33,7 +33,7 @@ fn is_cell(page: PageNo, length: u64, address: u64) -> bool
     ensures yes { IsTrue result → IsCellAt page length address }
     ensures no { result ≡ false → IsCellAt page length address → ⊥ }
 {
-    let offset = address - start_of(page);
+    let offset = address - page_start(page);
     let size = WORD_BYTES * length;
     offset % size == 0 && offset + size <= PAGE_BYTES
 }
@@ -80,7 +80,7 @@ fn is_large_place(objects: &[Extent], pages: u32, count: u32, address: u64) -> b
     let Some(first) = page_at(pages, address) else {
         return false;
     };
-    if address != start_of(first) {
+    if address != page_start(first) {
         return false;
     }
     if count > pages - first {

@@ -1,20 +1,14 @@
 //! Where a new object may go, found by trying each place against each object.
 ghost use Rattle.std.specs.Prelude.{◌≡◌, ℕ, ◌<◌, ◌≤◌, ◌*◌, ◌/◌, ◌+◌, ◌^◌, IfSome, IfNone, false, IsTrue};
 ghost use Rattle.words.specs.declared.limits.TheConstants.{WORD_BYTES, PAGE_WORDS, MAX_PAGES, MAX_SMALL_WORDS};
-ghost use Rattle.heap_spec.specs.Layout.{LiesOn, page_start};
+ghost use Rattle.words.specs.Layout.{page_start};
+ghost use Rattle.heap_spec.specs.Layout.{LiesOn};
 ghost use Rattle.heap_spec.specs.Room.{length_of};
 ghost use Rattle.plain_core.specs.Places.{IsPlace, IsPlaceOn, IsSmallPlace, IsLargePlace, IsFreePage, IsCutPage, IsNoBase, IsSized};
 
 use crate::extent::Extent;
-use words::limits::{FIRST_ADDRESS, PAGE_BYTES, PAGE_WORDS, PageNo, WORD_BYTES};
-use words::{Kind, Placement};
-
-/// The address of a page's first byte.
-pub fn start_of(page: PageNo) -> u64
-    ensures { result ≡ page_start page }
-{
-    FIRST_ADDRESS + PAGE_BYTES * u64::from(page)
-}
+use words::limits::{PAGE_WORDS, WORD_BYTES};
+use words::{Kind, PageNo, Placement, page_start};
 
 /// Whether no object lies on the page.
 pub fn is_free(objects: &[Extent], page: PageNo) -> bool
@@ -73,7 +67,7 @@ fn free_cell(objects: &[Extent], page: PageNo, length: u64) -> Option<u64>
     ensures none { IfNone result ((cell : ℕ) → length * (cell + 1) ≤ PAGE_WORDS → IsNoBase objects.now (page_start page + WORD_BYTES * (length * cell)) → ⊥) }
 {
     for cell in 0..PAGE_WORDS / length {
-        let address = start_of(page) + WORD_BYTES * (length * cell);
+        let address = page_start(page) + WORD_BYTES * (length * cell);
         if !is_base(objects, address) {
             return Some(address);
         }
@@ -88,7 +82,7 @@ fn place_on(objects: &[Extent], page: PageNo, length: u64, kind: Kind) -> Option
     ensures none { IfNone result ((a : ℕ) → IsPlaceOn objects.now page length kind a → ⊥) }
 {
     if is_free(objects, page) {
-        return Some(start_of(page));
+        return Some(page_start(page));
     }
     if !is_cut_for(objects, page, length, kind) {
         return None;
@@ -132,7 +126,7 @@ fn large_place(objects: &[Extent], pages: u32, count: u32) -> Option<u64>
 {
     for first in 0..(pages + 1).saturating_sub(count) {
         if is_free_run(objects, first, count) {
-            return Some(start_of(first));
+            return Some(page_start(first));
         }
     }
     None

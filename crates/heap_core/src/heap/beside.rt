@@ -1,8 +1,7 @@
 //! What calls of mutators tell the marker, while a cycle is marking.
-ghost use Rattle.std.specs.Prelude.{◌≡◌, ◌*◌, ◌<◌, ◌≤◌, length};
+ghost use Rattle.std.specs.Prelude.{◌*◌, ◌<◌, ◌≤◌, length};
 ghost use Rattle.words.specs.declared.limits.TheConstants.{FIRST_ADDRESS, PAGE_GRANULES};
-ghost use Rattle.mark_bits.specs.Granules.{granule};
-ghost use Rattle.block_map.specs.Places.{page_of};
+ghost use Rattle.words.specs.Layout.{granule, page_of};
 ghost use Rattle.heap_core.specs.Beside.{NotesWrite, NotesObject};
 
 use marker::Marker;

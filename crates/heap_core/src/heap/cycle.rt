@@ -1,6 +1,6 @@
 //! The calls of the collector. Each is refused with [`Refusal::WrongPhase`] exactly in the wrong phase, and then changes
 //! nothing.
-ghost use Rattle.std.specs.Prelude.{◌≡◌, true, false, MatchResult, ⊤};
+ghost use Rattle.std.specs.Prelude.{◌≡◌, true, false};
 ghost use Rattle.block_map.specs.FoundIn.{found_in};
 ghost use Rattle.marker.specs.Invariant.{DirtyPageInvariant};
 ghost use Rattle.heap_core.specs.Collections.{IsGrantedIn, IsAlwaysGranted, BeginsCycle, ReadsRoots, TakesWords, RetracesPage, EndsCycle, CollectsAll, SweepsOne};

@@ -3,7 +3,6 @@
 ghost use Rattle.std.specs.Prelude.{◌≡◌, ℕ, ◌<◌, ◌⊎◌, false, IfNone, IfSome, MatchOption, length};
 ghost use Rattle.words.specs.Bits.{Has};
 ghost use Rattle.words.specs.Classes.{IsSizeClass};
-ghost use Rattle.heap_spec.specs.Layout.{page_start};
 ghost use Rattle.pages.specs.Runs.{HasNoFreeRun};
 ghost use Rattle.block_map.specs.States.{state_at};
 ghost use Rattle.block_map.specs.Listed.{first_on, AreListed};
@@ -17,15 +16,8 @@ use super::available_pages::AvailablePages;
 use block_map::BlockMap;
 use marker::Marker;
 use pages::{Memory, PagePool};
-use words::limits::{FIRST_ADDRESS, PAGE_BYTES, PAGE_WORDS, PageNo};
-use words::{Class, Kind, Placement};
-
-// The address of a page's first byte.
-pub(crate) fn start_of(page: PageNo) -> u64
-    ensures { result ≡ page_start page }
-{
-    FIRST_ADDRESS + PAGE_BYTES * u64::from(page)
-}
+use words::limits::PAGE_WORDS;
+use words::{Class, Kind, PageNo, Placement, page_start};
 
 // Takes a free page, and cuts it.
 fn cut_page(
@@ -208,7 +200,7 @@ impl ObjectSpace {
             return None;
         };
         self.map.cut_large(first, pages, kind);
-        let base = start_of(first);
+        let base = page_start(first);
         self.memory.zero(base, PAGE_WORDS as u32 * pages);
         Some(base)
     }

@@ -1,20 +1,11 @@
 //! What the marker does with the objects: it reads them by the map and the memory.
-ghost use Rattle.std.specs.Prelude.{◌≡◌, ◌+◌, ◌<◌, ◌≤◌, ◌↔◌, [], true, false, count_by, length, Some, MatchOption};
-ghost use Rattle.words.specs.declared.limits.TheConstants.{FIRST_ADDRESS, MAX_PAGES};
-ghost use Rattle.block_map.specs.declared.found.Found.{Found};
+ghost use Rattle.std.specs.Prelude.{◌≡◌, ◌<◌, ◌≤◌, ◌↔◌, [], true, length, MatchOption};
 ghost use Rattle.block_map.specs.FoundIn.{found_in, IsLawful};
-ghost use Rattle.block_map.specs.Walks.{IsNextObject, IsNoObject};
-ghost use Rattle.block_map.specs.States.{IsLaid, IsCut, state_at};
-ghost use Rattle.block_map.specs.Places.{page_start};
-ghost use Rattle.marker.specs.Marking.{IsMarked, IsEmpty, IsClean, IsDone, StaysDirty};
-ghost use Rattle.marker.specs.Invariant.{AreRootsMarked, DirtyPageInvariant};
-ghost use Rattle.marker.specs.Closure.{Closure};
+ghost use Rattle.marker.specs.Marking.{IsEmpty, IsClean, StaysDirty};
+ghost use Rattle.marker.specs.Invariant.{AreRootsMarked};
 ghost use Rattle.marker.specs.Growth.{MarksWords, Traces};
 ghost use Rattle.marker.specs.Entries.{Takes, TakesOff};
 ghost use Rattle.marker.specs.Retracing.{Retraces};
-ghost use Rattle.words.specs.Bits.{Has};
-ghost use Rattle.object_space.specs.Store.{IsSwept, IsPendingRow};
-ghost use Rattle.object_space.specs.Kept.{IsPendingAfter};
 
 use super::ObjectSpace;
 use marker::{Marked, Marker};

@@ -1,28 +1,20 @@
 //! Sweeping: the unmarked objects of a page go, and what is kept stays.
-ghost use Rattle.std.specs.Prelude.{◌≡◌, ◌+◌, ◌<◌, ◌≤◌, ◌↔◌, [], true, false, count_by, length, Some, MatchOption};
+ghost use Rattle.std.specs.Prelude.{◌≡◌, ◌+◌, ◌<◌, ◌≤◌, true, false, count_by, length, Some, MatchOption};
 ghost use Rattle.words.specs.declared.limits.TheConstants.{FIRST_ADDRESS, MAX_PAGES};
 ghost use Rattle.block_map.specs.declared.found.Found.{Found};
 ghost use Rattle.block_map.specs.FoundIn.{found_in, IsLawful};
 ghost use Rattle.block_map.specs.Walks.{IsNextObject, IsNoObject};
-ghost use Rattle.block_map.specs.States.{IsLaid, IsCut, state_at};
-ghost use Rattle.block_map.specs.Places.{page_start};
-ghost use Rattle.marker.specs.Marking.{IsMarked, IsEmpty, IsClean, IsDone};
-ghost use Rattle.marker.specs.Invariant.{AreRootsMarked, DirtyPageInvariant};
-ghost use Rattle.marker.specs.Closure.{Closure};
-ghost use Rattle.marker.specs.Growth.{Traces};
-ghost use Rattle.marker.specs.Entries.{Takes, TakesOff};
-ghost use Rattle.marker.specs.Retracing.{Retraces};
+ghost use Rattle.block_map.specs.States.{IsLaid};
 ghost use Rattle.words.specs.Bits.{Has};
-ghost use Rattle.object_space.specs.Store.{IsSwept, IsPendingRow};
-ghost use Rattle.object_space.specs.Kept.{IsPendingAfter};
+ghost use Rattle.words.specs.Layout.{page_start};
+ghost use Rattle.object_space.specs.Store.{IsSwept};
 ghost use Rattle.object_space.specs.Sweeps.{Passes, Sweeps, SweepsPage};
 
 use super::ObjectSpace;
-use super::allocate::start_of;
 use block_map::Found;
 use marker::Marker;
-use words::PageNo;
-use words::limits::{FIRST_ADDRESS, PAGE_BYTES, WORD_BYTES};
+use words::limits::WORD_BYTES;
+use words::{PageNo, page_of, page_start};
 
 // How far a look at one object came, and how many objects it forgot.
 #[derive(Clone, Copy)]
@@ -51,7 +43,7 @@ impl ObjectSpace {
         ensures few { length self.now.states ≤ MAX_PAGES }
         ensures laid { IsLaid self.now.states }
     {
-        FIRST_ADDRESS + PAGE_BYTES * u64::from(self.map.len())
+        page_start(self.map.len())
     }
 
     // Looks at the first object of a page from an address on, and forgets it if it isn't marked.
@@ -64,10 +56,10 @@ impl ObjectSpace {
     {
         // Its clauses tell how many marks there are.
         marker.laws();
-        let page = ((address - FIRST_ADDRESS) / PAGE_BYTES) as PageNo;
+        let page = page_of(address) as PageNo;
         let Some(found) = self.next_on_page(page, address) else {
             return Passed {
-                next: FIRST_ADDRESS + PAGE_BYTES * (u64::from(page) + 1),
+                next: page_start(page + 1),
                 forgotten: 0,
             };
         };
@@ -92,8 +84,8 @@ impl ObjectSpace {
         let Some(_) = self.map.block(page) else {
             unreachable!();
         };
-        let end = start_of(page) + PAGE_BYTES;
-        let mut address = start_of(page);
+        let end = page_start(page + 1);
+        let mut address = page_start(page);
         while address < end {
             let passed = self.forget_next(marker, address);
             address = passed.next;

@@ -1,5 +1,5 @@
 //! What a call would be answered, told without making it.
-ghost use Rattle.std.specs.Prelude.{◌≡◌, ℕ, IfSome, IfNone};
+ghost use Rattle.std.specs.Prelude.{ℕ, IfSome, IfNone};
 ghost use Rattle.heap_spec.specs.Heap.{Mutator as HeapMutator};
 ghost use Rattle.roots.specs.Roots.{HasMutator, HasNoMutator};
 ghost use Rattle.plain_core.specs.Contents.{Contents, IsSound};

@@ -9,9 +9,9 @@ pub returns-clause-yes : goal.returns-clause-yes
 returns-clause-yes c done = record {
   first = c.in-Some.first;
   in_heap = let low = c.in-Some.ensures.some.0 in let few = c.if-count-pages.false in omega arith;
-  is_start = c.if-address-start_of.false ∙ c.start_of.ensures;
+  is_start = c.if-address-page_start.false ∙ c.page_start.ensures;
   free = c.is_free_run.ensures.yes done;
 }
 
 pub returns-clause-no : goal.returns-clause-no
-returns-clause-no c refused p = c.is_free_run.ensures.no refused (free_from _ _ _ c.in-Some.first _ (c.if-address-start_of.false ∙ c.start_of.ensures) p)
+returns-clause-no c refused p = c.is_free_run.ensures.no refused (free_from _ _ _ c.in-Some.first _ (c.if-address-page_start.false ∙ c.page_start.ensures) p)

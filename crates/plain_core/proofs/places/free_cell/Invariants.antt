@@ -1,6 +1,6 @@
 use Rattle.std.proofs.Common.{ℕ, ◌<◌, ◌+◌, ◌*◌}
 use Rattle.words.specs.declared.limits.TheConstants.{WORD_BYTES}
-use Rattle.heap_spec.specs.Layout.{page_start}
+use Rattle.words.specs.Layout.{page_start}
 use Rattle.plain_core.specs.Places.{IsNoBase}
 use Rattle.plain_core.proofs.places.free_cell.Given as goal
 

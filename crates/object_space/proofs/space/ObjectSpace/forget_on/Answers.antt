@@ -1,5 +1,5 @@
-use Rattle.std.proofs.Common.{◌≡◌, ◌-◌, true, set, sym, ap, subst, ◌∙◌, arith}
-use Rattle.block_map.specs.States.{cut, state_at, IsCut}
+use Rattle.std.proofs.Common.{◌-◌, true, set, sym, ap, subst, ◌∙◌, arith}
+use Rattle.block_map.specs.States.{state_at, IsCut}
 use Rattle.object_space.specs.Store.{Store, IsPendingRow}
 use Rattle.object_space.specs.Forgets.{ForgetsOn}
 use Rattle.object_space.proofs.Forgets.{counted, some_dead, none_dead}

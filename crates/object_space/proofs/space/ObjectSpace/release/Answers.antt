@@ -1,4 +1,5 @@
 use Rattle.std.proofs.Common.{◌/◌, arith}
+use Rattle.words.specs.declared.limits.TheConstants.{PAGE_WORDS}
 use Rattle.block_map.proofs.Listed.{listed_span}
 use Rattle.block_map.specs.Listed.{first_on}
 use Rattle.block_map.specs.States.{free, state_at}
@@ -43,10 +44,10 @@ invariant_of-self-in-None c =
     let l = large_here t c.args.found (rw (← c.self.view_is) at c.requires.lawful) (rw (← c.self.view_is) at c.requires.found) c.in-None.ensures in
     let ends = l.3 in let some = l.2 in
     record {
-      listed = listed_span _ t.states c.free_large.new.map c.args.found.page (c.args.found.len / 512) (λ _. free) c.free_large.ensures.map (λ k. tt) c.self.invariant.listed;
-      sound = sound_large_gone t c.free_large.new.pool c.free_large.new.map c.args.found.page (c.args.found.len / 512) c.self.invariant.sound c.free_large.ensures.pool c.free_large.ensures.map;
-      pending = pending_row t _ _ c.self.invariant.pending c.free_large.ensures.map.size (pending_large _ _ c.args.found.page (c.args.found.len / 512) _ c.free_large.ensures.map (large_uncut t.states c.free_large.ensures.laid c.args.found.page (c.args.found.len / 512) l.0 (omega arith) l.1));
-      exact = exact_large_gone _ t.states c.free_large.new.map c.args.found.page (c.args.found.len / 512) l.0 c.self.invariant.exact c.free_large.ensures.laid (omega arith) l.1 c.free_large.ensures.map;
+      listed = listed_span _ t.states c.free_large.new.map c.args.found.page (c.args.found.len / PAGE_WORDS) (λ _. free) c.free_large.ensures.map (λ k. tt) c.self.invariant.listed;
+      sound = sound_large_gone t c.free_large.new.pool c.free_large.new.map c.args.found.page (c.args.found.len / PAGE_WORDS) c.self.invariant.sound c.free_large.ensures.pool c.free_large.ensures.map;
+      pending = pending_row t _ _ c.self.invariant.pending c.free_large.ensures.map.size (pending_large _ _ c.args.found.page (c.args.found.len / PAGE_WORDS) _ c.free_large.ensures.map (large_uncut t.states c.free_large.ensures.laid c.args.found.page (c.args.found.len / PAGE_WORDS) l.0 (omega arith) l.1));
+      exact = exact_large_gone _ t.states c.free_large.new.map c.args.found.page (c.args.found.len / PAGE_WORDS) l.0 c.self.invariant.exact c.free_large.ensures.laid (omega arith) l.1 c.free_large.ensures.map;
     }
 
 pub returns-in-Some : goal.returns-in-Some
@@ -62,4 +63,4 @@ returns-in-None c =
     let t : Store = store_of c.self.inside.memory c.self.inside.pool c.self.inside.map c.self.inside.pending in
     let l = large_here t c.args.found (rw (← c.self.view_is) at c.requires.lawful) (rw (← c.self.view_is) at c.requires.found) c.in-None.ensures in
     rw (← c.self.view_is)
-    (loses_large t c.args.found c.free_large.new.pool c.free_large.new.map l.0 (c.args.found.len / 512) l.4 c.free_large.ensures.map (c.free_large.ensures.removed l.0 l.1))
+    (loses_large t c.args.found c.free_large.new.pool c.free_large.new.map l.0 (c.args.found.len / PAGE_WORDS) l.4 c.free_large.ensures.map (c.free_large.ensures.removed l.0 l.1))

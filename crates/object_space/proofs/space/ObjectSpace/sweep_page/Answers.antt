@@ -2,19 +2,19 @@ use Rattle.std.proofs.Common.{sym, ap, ◌∙◌, subst, ◌+◌, false, arith}
 use Rattle.std.specs.Prelude.{slice_set}
 use Rattle.block_map.specs.States.{state_at}
 use Rattle.object_space.specs.Store.{Store}
-use Rattle.block_map.specs.Places.{page_start}
+use Rattle.words.specs.Layout.{page_start}
 use Rattle.object_space.specs.Sweeps.{HasPassed}
 use Rattle.object_space.proofs.Passing.{passed_none, passed_more, passed_page, passes_further}
 use Rattle.object_space.proofs.space.ObjectSpace.sweep_page.Goals as goal
 
 pub loop-address-init : goal.loop-address-init
-loop-address-init c = (0, subst (λ a. HasPassed c.args.self.now c.args.marker.now (page_start c.args.page) (page_start (c.args.page + 1)) a 0 c.args.self.now) (sym c.start_of-address.ensures) (passed_none _ _ _ _))
+loop-address-init c = (0, subst (λ a. HasPassed c.args.self.now c.args.marker.now (page_start c.args.page) (page_start (c.args.page + 1)) a 0 c.args.self.now) (sym c.page_start-address.ensures) (passed_none _ _ _ _))
 
 pub loop-address-preserved : goal.loop-address-preserved
 loop-address-preserved c = (
   _,
   passed_more _ _ _ _ _ _ _ c.end-end.ensures.lawful.map c.forget_next-passed.ensures.lawful.map c.loop-address.invariant.1
-      (let end = c.start_of-end.ensures in let test = c.loop-address-test.true in let low = c.loop-address.invariant.1.low in omega arith) _ _ _ c.forget_next-passed.ensures.passes,
+      (let end = c.page_start-end.ensures in let test = c.loop-address-test.true in let low = c.loop-address.invariant.1.low in omega arith) _ _ _ c.forget_next-passed.ensures.passes,
 )
 
 pub loop-address-smaller : goal.loop-address-smaller
@@ -26,5 +26,5 @@ loop-address-smaller c =
 pub returns-clause-sweeps : goal.returns-clause-sweeps
 returns-clause-sweeps c =
     passed_page _ _ c.args.page c.loop-address.address _ _ _ c.end-end.ensures.laid c.end-end.ensures.lawful c.in-Some.field-0.now (sym (ap (λ (t : Store). state_at t.states c.args.page) c.self.view_is) ∙ c.in-Some.ensures)
-    (let end = c.start_of-end.ensures in let test = c.loop-address-test.false in omega arith) c.loop-address.invariant.1
+    (let end = c.page_start-end.ensures in let test = c.loop-address-test.false in omega arith) c.loop-address.invariant.1
     (ap (λ (t : Store). t.words) c.self-2.view_is) (ap (λ (t : Store). t.states) c.self-2.view_is) (c.clear.ensures ∙ ap (λ (t : Store). slice_set t.pending c.args.page false) c.self-2.view_is)

@@ -1,5 +1,5 @@
 use Rattle.std.proofs.Common.{◌-◌, ◌+◌, ℕ}
-use Rattle.block_map.specs.Places.{page_start}
+use Rattle.words.specs.Layout.{page_start}
 use Rattle.object_space.specs.Sweeps.{HasPassed}
 use Rattle.object_space.proofs.space.ObjectSpace.sweep_page.Given as goal
 
