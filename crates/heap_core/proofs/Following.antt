@@ -1,7 +1,6 @@
 -- How a core follows a run.
 use Rattle.std.proofs.Common.{Result, Ok, Err, ◌++◌, length, take, get_or, set, ◌≡◌, ℕ, ◌+◌, ◌%◌, ◌<◌, ◌≤◌, ◌⊎◌, true, false, List, [], ◌∷◌, Some, None, refl, sym, ap, ◌∙◌, subst, inl, inr, ⊎_elim, arith}
 use Rattle.std.specs.Prelude.{⊤}
-use Rattle.std.proofs.lemmas.List.{take_more, take_more_set, take_all, length-take-le}
 use Rattle.words.specs.declared.refusal.Refusal.{Refusal}
 use Rattle.words.specs.declared.refusal.Refusal.TheVariants.{WrongPhase}
 use Rattle.words.specs.Layout.{granule}
@@ -231,28 +230,6 @@ pub lines_more : (old mid new : Contents) (lines : List Told) (event : Event) (r
 lines_more old mid new lines event reply so line start run follows =
     let a = so start run follows in let b = line start a.0 a.2 in
     (b.0, transcript_more start a.1 event reply b.1, b.2)
-
--- one event and reply more
-told_more : (events : List Event) (replies : List Reply) (event : Event) (reply : Reply) → length events ≡ length replies → told_of (events ++ event ∷ []) (replies ++ reply ∷ []) ≡ told_of events replies ++ record { event = event; reply = reply } ∷ []
-told_more [] [] event reply same = refl
-told_more [] (r ∷ replies) event reply same = absurd (omega arith)
-told_more (e ∷ events) [] event reply same = absurd (omega arith)
-told_more (e ∷ events) (r ∷ replies) event reply same = ap (λ xs. record { event = e; reply = r } ∷ xs) (told_more events replies event reply (omega arith))
-
-pub run_more : (old mid new : Contents) (events : List Event) (replies : List Reply) (i : ℕ) (event : Event) (reply : Reply) → i < length events → length events ≡ length replies → event ≡ get_or events i event
-    → AreLines old (told_of (take i events) (take i replies)) mid → IsLine mid event reply new → AreLines old (told_of (take (i + 1) events) (take (i + 1) (set replies i reply))) new
-run_more old mid new events replies i event reply lt same is so next =
-    subst (λ lines. AreLines old lines new) (sym lists) (lines_more old mid new (told_of (take i events) (take i replies)) event reply so next)
-  where
-    lists : told_of (take (i + 1) events) (take (i + 1) (set replies i reply)) ≡ told_of (take i events) (take i replies) ++ record { event = event; reply = reply } ∷ []
-    lists =
-        ap (λ es. told_of es (take (i + 1) (set replies i reply))) (take_more events i event lt ∙ ap (λ e. take i events ++ e ∷ []) (sym is))
-        ∙ ap (λ rs. told_of (take i events ++ event ∷ []) rs) (take_more_set replies i reply (omega arith))
-        ∙ told_more (take i events) (take i replies) event reply (length-take-le i events (omega arith) ∙ sym (length-take-le i replies (omega arith)))
-
-pub run_all : (old new : Contents) (events : List Event) (replies : List Reply) (i : ℕ) → length events ≤ i → length events ≡ length replies → AreLines old (told_of (take i events) (take i replies)) new → AreLines old (told_of events replies) new
-run_all old new events replies i all same lines =
-    subst (λ rs. AreLines old (told_of events rs) new) (take_all i replies (omega arith)) (subst (λ es. AreLines old (told_of es (take i replies)) new) (take_all i events all) lines)
 
 -- From any heap that the core stands for, with its phase and its count.
 pub follows_start : (c : Contents) (s : Heap) → StandsFor c s → c.cycle.count < word_end → Follows c (record { heap = s; marking = c.cycle.is_marking; count = c.cycle.count }) []

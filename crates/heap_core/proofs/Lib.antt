@@ -4,5 +4,6 @@ pub mod Calls
 pub mod Tracing
 pub mod Collecting
 pub mod Following
+pub mod Acting
 pub mod Cycling
 pub mod AsObject

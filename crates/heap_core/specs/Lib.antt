@@ -4,5 +4,6 @@ pub mod Beside
 pub mod KeptAt
 pub mod Calls
 pub mod Collections
+pub mod Acts
 pub mod Following
 pub mod AsObject

@@ -1,5 +1,6 @@
 //! Events: each call of the core as one event with its reply, and lists of them.
 ghost use Rattle.std.specs.Prelude.{◌≡◌, length};
+ghost use Rattle.heap_core.specs.Acts.{IsAct, AreActs};
 ghost use Rattle.heap_core.specs.Calls.{IsCall};
 ghost use Rattle.heap_core.specs.Following.{IsLine, AreLines, told_of};
 
@@ -33,9 +34,9 @@ impl Core {
         }
     }
 
-    /// Makes the call that an event is.
-    pub fn act(&mut self, event: Event) -> Reply
-        ensures { IsLine self.old event result self.new }
+    // Makes the call that an event is.
+    fn serve(&mut self, event: Event) -> Reply
+        ensures { IsAct self.old event result self.new }
     {
         match event {
             Event::Attach => slot_of(self.attach()),
@@ -51,10 +52,19 @@ impl Core {
         }
     }
 
+    /// Makes the call that an event is.
+    pub fn act(&mut self, event: Event) -> Reply
+        ensures acts { IsAct self.old event result self.new }
+        ensures line { IsLine self.old event result self.new }
+    {
+        self.serve(event)
+    }
+
     /// Makes the calls that these events are, and writes their replies.
     pub fn run(&mut self, events: &[Event], out: &mut [Reply])
         requires { length events.now ≡ length out.old }
-        ensures { AreLines self.old (told_of events.now out.new) self.new }
+        ensures acts { AreActs self.old (told_of events.now out.new) self.new }
+        ensures lines { AreLines self.old (told_of events.now out.new) self.new }
     {
         for i in 0..events.len() {
             out[i] = self.act(events[i]);

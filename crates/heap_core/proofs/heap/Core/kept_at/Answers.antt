@@ -2,6 +2,12 @@ use Rattle.std.proofs.Common.{sym}
 use Rattle.heap_core.proofs.Lookups.{finds, finds_nothing}
 use Rattle.heap_core.proofs.heap.Core.kept_at.Goals as goal
 
+pub returns-in_default-clause-found : goal.returns-in_default-clause-found
+returns-in_default-clause-found c = rw (← c.self.view_is) c.in_default.ensures.found
+
+pub returns-clause-found : goal.returns-clause-found
+returns-clause-found c = rw (← c.self.view_is) c.in-Some.ensures.found
+
 pub returns-in_default-clause-none : goal.returns-in_default-clause-none
 returns-in_default-clause-none c = rw (← c.self.view_is) (λ s h. finds_nothing _ _ s _ c.in_default.ensures.lawful h.store (sym c.in_default.ensures.found))
 

@@ -1,0 +1,34 @@
+-- What an event does to a core: it is the call of its name, and the reply is what that call answered.
+use Rattle.std.specs.Prelude.{◌≡◌, true, false, List, [], ◌∷◌, ◌++◌, Result}
+use Rattle.words.specs.declared.refusal.Refusal.{Refusal}
+use Rattle.heap_spec.specs.declared.event.Event.{Event}
+use Rattle.heap_spec.specs.declared.event.Event.TheVariants.{Attach, Mutator, Begin, Roots, Mark, Retrace, Finish, Sweep, Collect, Number}
+use Rattle.heap_spec.specs.declared.reply.Reply.{Reply}
+use Rattle.heap_spec.specs.declared.reply.Reply.TheVariants.{Count}
+use Rattle.heap_spec.specs.Replies.{count_reply, done_reply}
+use Rattle.heap_spec.specs.Runs.{Told}
+use Rattle.heap_core.specs.Contents.{Contents}
+use Rattle.heap_core.specs.Calls.{IsCall}
+use Rattle.heap_core.specs.Collections.{IsGrantedIn, IsAlwaysGranted, BeginsCycle, ReadsRoots, TakesWords, RetracesPage, EndsCycle, CollectsAll, SweepsOne}
+
+-- the reply is that of a result of which this is true
+abbrev pub Tells : {A : Type 0} → (Result A Refusal → Reply) → Reply → (Result A Refusal → Type 0) → Type 0
+Tells {A = A} told reply P = (r : Result A Refusal) × (reply ≡ told r) × P r
+
+-- the event is this call of the core
+abbrev pub IsAct : Contents → Event → Reply → Contents → Type 0
+IsAct old Attach reply new = IsCall old Attach reply new
+IsAct old (Mutator slot call) reply new = IsCall old (Mutator slot call) reply new
+IsAct old Begin reply new = Tells done_reply reply (λ r. IsGrantedIn false old r new (λ _. BeginsCycle old new))
+IsAct old Roots reply new = Tells done_reply reply (λ r. IsGrantedIn true old r new (λ _. ReadsRoots old new))
+IsAct old (Mark most) reply new = Tells count_reply reply (λ r. IsGrantedIn true old r new (λ n. TakesWords most old n new))
+IsAct old Retrace reply new = Tells count_reply reply (λ r. IsGrantedIn true old r new (λ n. RetracesPage old n new))
+IsAct old Finish reply new = Tells count_reply reply (λ r. IsGrantedIn true old r new (λ n. EndsCycle old n new))
+IsAct old Sweep reply new = Tells count_reply reply (λ r. IsAlwaysGranted r (λ n. SweepsOne old n new))
+IsAct old Collect reply new = Tells count_reply reply (λ r. IsAlwaysGranted r (λ n. CollectsAll old n new))
+IsAct old Number reply new = (reply ≡ Count old.cycle.count) × (new ≡ old)
+
+-- The events with their replies are calls of the core, one after another.
+pub data AreActs (old : Contents) : List Told → Contents → Type 0 where
+  none : AreActs old [] old
+  more : {lines : List Told} {mid new : Contents} (told : Told) → AreActs old lines mid → IsAct mid told.event told.reply new → AreActs old (lines ++ told ∷ []) new
