@@ -2,7 +2,6 @@ pub mod Changes
 pub mod FoundIn
 pub mod Listed
 pub mod Objects
-pub mod Places
 pub mod Shown
 pub mod States
 pub mod Walks

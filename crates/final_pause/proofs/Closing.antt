@@ -3,8 +3,8 @@ use Rattle.std.proofs.Common.{◌≡◌, ℕ, ◌+◌, ◌*◌, ◌≤◌, List,
 use Rattle.block_map.specs.declared.found.Found.{Found}
 use Rattle.block_map.specs.Objects.{IsMap}
 use Rattle.words.specs.Bits.{Has}
-use Rattle.mark_bits.specs.Granules.{granule}
 use Rattle.words.specs.declared.limits.TheConstants.{FIRST_ADDRESS, GRANULE_BYTES, PAGE_WORDS}
+use Rattle.words.specs.Layout.{granule}
 use Rattle.marker.specs.Marking.{Marking, IsMarked, IsDone}
 use Rattle.marker.specs.Work.{cost, dirty_pages, newly_pages, entry_words}
 use Rattle.marker.specs.Closure.{Closure}

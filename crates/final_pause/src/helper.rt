@@ -1,5 +1,5 @@
 //! One helper of a pause: what it holds, and what it does with an object.
-ghost use Rattle.std.specs.Prelude.{◌≡◌, ℕ, ◌+◌, ◌<◌, ◌≤◌, [], true, false, ◌∷◌, length, slice_index_or, if◌then◌else◌};
+ghost use Rattle.std.specs.Prelude.{◌≡◌, ◌<◌, ◌≤◌, true, false, ◌∷◌, length, if◌then◌else◌};
 ghost use Rattle.words.specs.declared.limits.TheConstants.{MAX_PAGES};
 ghost use Rattle.mark_bits.specs.Tables.{view, start_of, IsOf};
 ghost use Rattle.mark_bits.specs.Claims.{knows, LearnsMore};

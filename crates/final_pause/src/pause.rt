@@ -1,5 +1,5 @@
 //! Closing the marks.
-ghost use Rattle.std.specs.Prelude.{◌≡◌, ℕ, ◌+◌, ◌*◌, ◌<◌, ◌≤◌, ◌↔◌, [], Some, true, false, length};
+ghost use Rattle.std.specs.Prelude.{◌≡◌, ◌+◌, ◌*◌, ◌<◌, ◌≤◌, ◌↔◌, [], Some, true, false, length};
 ghost use Rattle.words.specs.declared.limits.TheConstants.{PAGE_WORDS};
 ghost use Rattle.block_map.specs.declared.found.Found.{Found};
 ghost use Rattle.block_map.specs.FoundIn.{found_in};

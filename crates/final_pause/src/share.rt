@@ -1,5 +1,5 @@
 //! The share of one helper: root words and entries by their places, and what they lead to.
-ghost use Rattle.std.specs.Prelude.{◌≡◌, ℕ, ◌+◌, ◌*◌, ◌%◌, ◌<◌, ◌≤◌, [], true, Some, length};
+ghost use Rattle.std.specs.Prelude.{◌≡◌, ◌+◌, ◌*◌, ◌%◌, ◌<◌, ◌≤◌, true, Some, length};
 ghost use Rattle.mark_bits.specs.Tables.{view, start_of};
 ghost use Rattle.words.specs.Layout.{granule};
 ghost use Rattle.words.specs.declared.limits.TheConstants.{WORD_BYTES};

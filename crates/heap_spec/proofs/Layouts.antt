@@ -15,7 +15,8 @@ use Rattle.words.specs.declared.class.Placement.TheVariants.{Small, Large}
 use Rattle.words.specs.Classes.{IsSizeClass}
 use Rattle.words.specs.Placing.{placement_of}
 use Rattle.words.proofs.Classes.{class_even, class_some}
-use Rattle.heap_spec.specs.Layout.{page_start, LiesOn}
+use Rattle.words.specs.Layout.{page_start}
+use Rattle.heap_spec.specs.Layout.{LiesOn}
 use Rattle.heap_spec.specs.Sound.{IsCell, ArePages, LieInHeap}
 
 -- what a search finds in a list is in it, so what holds of each holds of it

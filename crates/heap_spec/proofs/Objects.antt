@@ -12,7 +12,8 @@ use Rattle.words.specs.declared.class.Kind.{Kind}
 use Rattle.words.specs.declared.class.Placement.{Placement}
 use Rattle.words.specs.declared.class.Placement.TheVariants.{Small, Large}
 use Rattle.words.proofs.Classes.{class_few}
-use Rattle.heap_spec.specs.Layout.{page_start, LiesOn}
+use Rattle.words.specs.Layout.{page_start}
+use Rattle.heap_spec.specs.Layout.{LiesOn}
 use Rattle.heap_spec.specs.Heap.{Heap, Object, IsSameObject, HasObject, ReadsObject, with_at, without_at}
 use Rattle.heap_spec.specs.Room.{HasRoom, length_of}
 use Rattle.heap_spec.specs.Ranges.{IsWord}

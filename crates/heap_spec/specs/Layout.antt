@@ -1,7 +1,7 @@
 -- Where the heap's bytes lie.
 use Rattle.std.specs.Prelude.{ℕ, ◌+◌, ◌-◌, ◌*◌, ◌/◌, ◌<◌, ◌≤◌, ◌^◌}
 use Rattle.words.specs.declared.limits.TheConstants.{WORD_BYTES}
-pub use Rattle.words.specs.Layout.{page_start}
+use Rattle.words.specs.Layout.{page_start}
 
 -- words count up to here, and then begin again at 0
 abbrev pub word_end : ℕ

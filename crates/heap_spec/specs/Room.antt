@@ -4,7 +4,8 @@ use Rattle.words.specs.declared.limits.TheConstants.{WORD_BYTES, PAGE_WORDS}
 use Rattle.words.specs.declared.class.Kind.{Kind}
 use Rattle.words.specs.declared.class.Placement.{Placement}
 use Rattle.words.specs.declared.class.Placement.TheVariants.{Small, Large}
-use Rattle.heap_spec.specs.Layout.{page_start, LiesOn}
+use Rattle.words.specs.Layout.{page_start}
+use Rattle.heap_spec.specs.Layout.{LiesOn}
 use Rattle.heap_spec.specs.Heap.{Heap, Object, HasObject}
 
 -- no object lies on the page

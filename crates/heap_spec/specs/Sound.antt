@@ -2,7 +2,8 @@
 use Rattle.std.specs.Prelude.{◌≡◌, ℕ, ◌+◌, ◌*◌, ◌%◌, ◌<◌, ◌≤◌, Option, Some, None, List, length, All, ◌⊎◌}
 use Rattle.words.specs.declared.limits.TheConstants.{WORD_BYTES, GRANULE_BYTES, PAGE_WORDS, FIRST_ADDRESS, MAX_PAGES, SLOTS, REGISTERS, STACK_WORDS, GLOBALS}
 use Rattle.words.specs.Classes.{IsSizeClass}
-use Rattle.heap_spec.specs.Layout.{page_start, heap_end}
+use Rattle.words.specs.Layout.{page_start}
+use Rattle.heap_spec.specs.Layout.{heap_end}
 use Rattle.heap_spec.specs.Heap.{Heap, Object, Mutator}
 use Rattle.heap_spec.specs.Ranges.{IsWord}
 

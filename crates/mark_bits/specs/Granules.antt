@@ -2,7 +2,6 @@
 use Rattle.std.specs.Prelude.{◌≡◌, ℕ, ◌+◌, ◌*◌, ◌/◌, ◌<◌, ◌≤◌, Bool, List, length}
 use Rattle.words.specs.Bits.{members_between}
 use Rattle.words.specs.declared.limits.TheConstants.{MAX_PAGES, PAGE_GRANULES}
-pub use Rattle.words.specs.Layout.{granule}
 
 -- the row has all granules of some pages, as many as a heap may have
 pub record IsOfPages (row : List Bool) : Type 0 where

@@ -5,8 +5,8 @@ use Rattle.std.proofs.lemmas.Bool.{false≢true, cond-true, eq-eqb}
 use Rattle.block_map.specs.declared.found.Found.{Found}
 use Rattle.block_map.specs.Objects.{IsPlaced}
 use Rattle.words.specs.declared.limits.TheConstants.{FIRST_ADDRESS, GRANULE_BYTES, PAGE_WORDS}
-use Rattle.mark_bits.specs.Granules.{granule}
 use Rattle.words.specs.Bits.{Has}
+use Rattle.words.specs.Layout.{granule}
 use Rattle.marker.specs.declared.entry.Entry.{Entry}
 use Rattle.marker.specs.Marking.{pages_of}
 use Rattle.marker.specs.Work.{left, left_in, span, span_in, unmarked_from, newly_from, page_words}

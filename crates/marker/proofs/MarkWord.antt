@@ -9,10 +9,9 @@ use Rattle.std.proofs.lemmas.List.{length_push}
 use Rattle.words.specs.declared.class.Kind.TheVariants.{Normal, PointerFree}
 use Rattle.words.specs.declared.limits.TheConstants.{FIRST_ADDRESS, MARK_STACK_ENTRIES, PAGE_BYTES, PAGE_GRANULES, PAGE_WORDS}
 use Rattle.words.specs.Bits.{Has}
-use Rattle.mark_bits.specs.Granules.{granule}
+use Rattle.words.specs.Layout.{granule, page_of}
 use Rattle.block_map.specs.declared.found.Found.{Found}
 use Rattle.block_map.specs.Objects.{IsMap}
-use Rattle.block_map.specs.Places.{page_of}
 use Rattle.block_map.specs.States.{PageState}
 use Rattle.block_map.specs.FoundIn.{found_in, IsLawful}
 use Rattle.marker.specs.declared.entry.Entry.{Entry}

@@ -8,8 +8,7 @@ use Rattle.block_map.specs.declared.found.Found.{Found}
 use Rattle.block_map.specs.Objects.{Reads, IsMap}
 use Rattle.words.specs.declared.limits.TheConstants.{WORD_BYTES}
 use Rattle.words.specs.Bits.{Has}
-use Rattle.block_map.specs.Places.{page_of}
-use Rattle.mark_bits.specs.Granules.{granule}
+use Rattle.words.specs.Layout.{page_of, granule}
 use Rattle.pages.specs.Memory.{place, word_at, with_word_at}
 use Rattle.marker.specs.Marking.{Marking, IsFresh, IsMarked, IsPending, AreMarksObjects, word_address}
 use Rattle.marker.specs.Invariant.{DirtyPageInvariant}

@@ -7,10 +7,10 @@ use Rattle.std.proofs.lemmas.List.Elements.{Contains-append_cases, Contains-appe
 use Rattle.words.specs.declared.class.Kind.TheVariants.{Normal}
 use Rattle.words.specs.declared.limits.TheConstants.{PAGE_GRANULES, PAGE_WORDS, WORD_BYTES}
 use Rattle.words.specs.Bits.{Has, IsFirstFrom}
+use Rattle.words.specs.Layout.{page_of, page_start}
 use Rattle.pages.specs.Memory.{word_at}
 use Rattle.block_map.specs.declared.found.Found.{Found}
 use Rattle.block_map.specs.Objects.{IsMap}
-use Rattle.block_map.specs.Places.{page_of, page_start}
 use Rattle.block_map.specs.Walks.{IsNextObject, IsNoObject}
 use Rattle.marker.specs.Marking.{Marking, IsMarked, IsPending, with_dirty, word_address}
 use Rattle.marker.specs.Work.{page_words, cost}

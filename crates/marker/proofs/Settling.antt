@@ -8,9 +8,8 @@ use Rattle.std.proofs.lemmas.List.Elements.{Contains-append_cases, Contains-appe
 use Rattle.std.proofs.lemmas.List.{same_from_push, length_push, get_or_push}
 use Rattle.std.proofs.lemmas.List.{get_or-append-add}
 use Rattle.words.specs.Bits.{Has}
-use Rattle.mark_bits.specs.Granules.{granule}
+use Rattle.words.specs.Layout.{granule, page_of}
 use Rattle.block_map.specs.declared.found.Found.{Found}
-use Rattle.block_map.specs.Places.{page_of}
 use Rattle.marker.specs.declared.entry.Entry.{Entry}
 use Rattle.marker.specs.Marking.{Marking, IsEntry, IsPending, entries, word_address}
 use Rattle.marker.specs.Work.{left, left_of, page_words, unmarked_from, cost}

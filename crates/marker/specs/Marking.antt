@@ -2,8 +2,7 @@
 use Rattle.std.specs.Prelude.{◌≡◌, ℕ, ◌+◌, ◌-◌, ◌*◌, ◌≤◌, ◌++◌, Bool, List, [], length, Contains, Option, Some, None, option_to_list, ◌⊎◌}
 use Rattle.words.specs.Bits.{Has, IsClear}
 use Rattle.words.specs.declared.limits.TheConstants.{MARK_STACK_ENTRIES, MAX_PAGES, PAGE_GRANULES, WORD_BYTES}
-use Rattle.mark_bits.specs.Granules.{granule}
-use Rattle.block_map.specs.Places.{page_of}
+use Rattle.words.specs.Layout.{granule, page_of}
 use Rattle.block_map.specs.declared.found.Found.{Found}
 use Rattle.marker.specs.declared.entry.Entry.{Entry}
 

@@ -1,9 +1,8 @@
 -- What mutators do to a heap that is being marked.
 use Rattle.std.specs.Prelude.{◌≡◌, ℕ, ◌<◌, true, false, List, slice_set, Option, Some}
-use Rattle.mark_bits.specs.Granules.{granule}
+use Rattle.words.specs.Layout.{granule, page_of}
 use Rattle.pages.specs.Memory.{word_at}
 use Rattle.block_map.specs.declared.found.Found.{Found}
-use Rattle.block_map.specs.Places.{page_of}
 use Rattle.marker.specs.Marking.{Marking, word_address}
 
 -- the page of the address has become dirty

@@ -3,8 +3,8 @@ use Rattle.std.specs.Prelude.{◌≡◌, ◌≢◌, ℕ, ◌+◌, ◌<◌, ◌�
 use Rattle.words.specs.declared.class.Kind.TheVariants.{Normal}
 use Rattle.words.specs.declared.limits.TheConstants.{PAGE_WORDS}
 use Rattle.words.specs.Bits.{Has, IsFirstFrom}
+use Rattle.words.specs.Layout.{page_start}
 use Rattle.pages.specs.Memory.{word_at}
-use Rattle.block_map.specs.Places.{page_start}
 use Rattle.block_map.specs.declared.found.Found.{Found}
 use Rattle.marker.specs.Marking.{Marking, IsMarked, IsNewlyMarked, Covers, with_dirty, word_address}
 use Rattle.marker.specs.Closure.{Closure}

@@ -1,9 +1,8 @@
 //! The marker's state, the marking of one object, and the roots.
-ghost use Rattle.std.specs.Prelude.{◌≡◌, ℕ, Option, ◌+◌, ◌*◌, ◌<◌, ◌≤◌, List, [], None, length, slice_index_or, false, MatchResult, IfOk, ◌⊎◌, ◌↔◌, Err};
+ghost use Rattle.std.specs.Prelude.{◌≡◌, ℕ, Option, ◌+◌, ◌*◌, ◌<◌, ◌≤◌, List, None, length, slice_index_or, false, Err};
 ghost use Rattle.words.specs.declared.limits.TheConstants.{FIRST_ADDRESS, PAGE_BYTES, PAGE_WORDS};
-ghost use Rattle.words.specs.Bits.{IsClear};
+ghost use Rattle.words.specs.Layout.{granule};
 ghost use Rattle.pages.specs.Opening.{IsOpened};
-ghost use Rattle.mark_bits.specs.Granules.{granule};
 ghost use Rattle.block_map.specs.declared.found.Found.{Found};
 ghost use Rattle.block_map.specs.Objects.{IsPlaced};
 ghost use Rattle.block_map.specs.FoundIn.{found_in, IsLawful};

@@ -1,12 +1,11 @@
 //! What mutators owe to a marker that runs beside them.
 ghost use Rattle.std.specs.Prelude.{◌≡◌, ℕ, Option, Some, ◌<◌, ◌≤◌, List, length};
 ghost use Rattle.words.specs.declared.limits.TheConstants.{FIRST_ADDRESS};
-ghost use Rattle.mark_bits.specs.Granules.{granule};
+ghost use Rattle.words.specs.Layout.{granule, page_of};
 ghost use Rattle.block_map.specs.declared.found.Found.{Found};
 ghost use Rattle.block_map.specs.Objects.{IsMap};
 ghost use Rattle.block_map.specs.Changes.{IsAdded, IsRemoved};
 ghost use Rattle.pages.specs.Memory.{with_word_at};
-ghost use Rattle.block_map.specs.Places.{page_of};
 ghost use Rattle.marker.specs.Marking.{AreMarksObjects};
 ghost use Rattle.marker.specs.Invariant.{DirtyPageInvariant};
 ghost use Rattle.marker.specs.Mutations.{IsWritten, IsAllocated, IsFreed, KeepsWords, HasZeroWords};

@@ -1,5 +1,5 @@
 //! The reading again of dirty pages.
-ghost use Rattle.std.specs.Prelude.{◌≡◌, ℕ, ◌+◌, ◌*◌, ◌%◌, ◌<◌, ◌≤◌, [], false, length, slice_set, MatchOption, IfSome, IfNone};
+ghost use Rattle.std.specs.Prelude.{◌≡◌, ◌+◌, ◌*◌, ◌%◌, ◌<◌, ◌≤◌, [], false, length, slice_set, MatchOption, IfSome, IfNone};
 ghost use Rattle.words.specs.declared.limits.TheConstants.{MAX_PAGES, PAGE_BYTES, PAGE_WORDS, WORD_BYTES};
 ghost use Rattle.words.specs.Bits.{IsFirstFrom};
 ghost use Rattle.block_map.specs.Walks.{IsNextObject};

@@ -1,9 +1,9 @@
 //! The pages that an object covers.
-ghost use Rattle.std.specs.Prelude.{◌≡◌, ℕ, ◌+◌, ◌*◌, ◌<◌, ◌≤◌, length};
+ghost use Rattle.std.specs.Prelude.{◌+◌, ◌*◌, ◌≤◌, length};
 ghost use Rattle.words.specs.declared.limits.TheConstants.{MAX_PAGES};
+ghost use Rattle.words.specs.Layout.{page_of};
 ghost use Rattle.block_map.specs.Objects.{IsPlaced};
 ghost use Rattle.marker.specs.Marking.{last_page};
-ghost use Rattle.block_map.specs.Places.{page_of};
 ghost use Rattle.marker.specs.Growth.{IsDirtied};
 
 use block_map::Found;

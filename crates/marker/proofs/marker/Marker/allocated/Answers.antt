@@ -1,5 +1,5 @@
 use Rattle.std.proofs.Common.{set, true, ap, ◌∙◌}
-use Rattle.mark_bits.specs.Granules.{granule}
+use Rattle.words.specs.Layout.{granule}
 use Rattle.marker.specs.Marking.{Marking}
 use Rattle.marker.proofs.Mutating.{alloc_keeps}
 use Rattle.marker.proofs.marker.Marker.allocated.Goals as goal

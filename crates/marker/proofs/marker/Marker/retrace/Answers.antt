@@ -1,5 +1,5 @@
 use Rattle.std.proofs.Common.{◌+◌, ◌∙◌, refl, sym, ap, length-set, set, false, subst, List, [], ℕ, length, arith}
-use Rattle.block_map.specs.Places.{page_start}
+use Rattle.words.specs.Layout.{page_start}
 use Rattle.block_map.specs.FoundIn.{found_in}
 use Rattle.marker.specs.Marking.{Marking, with_dirty}
 use Rattle.marker.specs.Growth.{Traces}

@@ -1,6 +1,6 @@
 use Rattle.std.proofs.Common.{◌≡◌, ◌+◌, ◌-◌, ◌*◌, ◌%◌, ◌≤◌}
 use Rattle.words.specs.declared.limits.TheConstants.{WORD_BYTES}
-use Rattle.block_map.specs.Places.{page_start}
+use Rattle.words.specs.Layout.{page_start}
 use Rattle.block_map.specs.FoundIn.{found_in}
 use Rattle.marker.specs.Retracing.{Rereads}
 use Rattle.marker.proofs.marker.Marker.retrace.Given as goal
