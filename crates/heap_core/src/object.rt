@@ -40,6 +40,7 @@ impl Object for Core {
         }
     }
 
+    #[inline(always)]
     fn act(&mut self, who: u8, call: &Event) -> Reply {
         in_range(call);
         Core::act(self, *call)

@@ -50,6 +50,7 @@ impl<O: Object, J: Naming> Log<O, J> {
     }
 
     /// A call of a pass that is neither its first nor its last.
+    #[inline(always)]
     pub fn act(&self, logged: &mut Logged<O, J>, pass: &mut Pass<O, J>, call: &O::Call) -> O::Reply
         requires can { O.can logged.old.object pass.old.slot call.now }
         requires rank { (is_first (O.rank_of call.now) ≡ false) × (is_last (O.rank_of call.now) ≡ false) }

@@ -49,6 +49,14 @@ pub record PopsWord (old : Mutator) (r w : ℕ) (new : Mutator) : Type 0 where
   pub top : old.stack ≡ new.stack ++ w ∷ []
   pub into : new.registers ≡ slice_set old.registers r w
 
+-- A mutator has changed in this way.
+pub record Changes (old : Option Mutator) (Change : Mutator → Mutator → Type 0) (new : Option Mutator) : Type 0 where
+  pub before : Mutator
+  pub after : Mutator
+  pub at : old ≡ Some before
+  pub change : Change before after
+  pub now : new ≡ Some after
+
 -- The mutator of one slot has changed in this way, and nothing else has.
 pub record ChangesSlot (old : List (Option Mutator)) (slot : ℕ) (Change : Mutator → Mutator → Type 0) (new : List (Option Mutator)) : Type 0 where
   pub before : Mutator

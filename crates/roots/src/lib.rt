@@ -3,6 +3,7 @@
 #![tactic(auto)]
 
 mod mutator;
+mod mutator_slot;
 mod root_words;
 mod roots;
 

@@ -44,6 +44,14 @@ impl Mutator {
         }
     }
 
+    // It is as a mutator that comes. Of the stack only the words that it had are written.
+    pub(crate) fn renew(&mut self)
+        ensures { self.new ≡ newcomer }
+    {
+        self.registers = [0; REGISTERS as usize];
+        self.stack.clear();
+    }
+
     /// The word of a register.
     #[inline]
     pub fn word(&self, reg: Reg) -> u64

@@ -5,7 +5,7 @@ ghost use Rattle.words.specs.declared.limits.TheConstants.{GLOBALS, REGISTERS, S
 ghost use Rattle.heap_spec.specs.Heap.{words_of};
 ghost use Rattle.roots.specs.Roots.{root_words_of};
 
-use crate::mutator::Mutator;
+use crate::mutator_slot::MutatorSlot;
 use crate::roots::{Mutators, Roots};
 use arrayvec::ArrayVec;
 use words::limits::{GLOBALS, REGISTERS, SLOTS, STACK_WORDS};
@@ -15,12 +15,12 @@ pub const ROOT_WORDS: usize = SLOTS as usize * (REGISTERS as usize + STACK_WORDS
     + GLOBALS as usize;
 
 // The words of a slot, behind those that are there.
-fn write_slot(slot: &Option<Mutator>, into: &mut ArrayVec<u64, ROOT_WORDS>)
+fn write_slot(slot: &MutatorSlot, into: &mut ArrayVec<u64, ROOT_WORDS>)
     requires { array_vec_len into.old + (REGISTERS + STACK_WORDS) ≤ ROOT_WORDS }
     ensures items { into.new.items ≡ into.old.items ++ words_of slot.now }
     ensures len { array_vec_len into.new ≤ array_vec_len into.old + (REGISTERS + STACK_WORDS) }
 {
-    if let Some(mutator) = slot {
+    if let Some(mutator) = slot.mutator() {
         mutator.write_words(into);
     }
 }

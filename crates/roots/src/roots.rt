@@ -7,11 +7,12 @@ ghost use Rattle.roots.specs.Roots.{no_roots, HasMutator, HasNoMutator, with_wor
 mod calls;
 
 use crate::mutator::Mutator;
+use crate::mutator_slot::MutatorSlot;
 use std::marker::Model;
 use words::limits::{GLOBALS, SLOTS};
 use words::{Global, Reg, Slot};
 
-pub(crate) type Mutators = [Option<Mutator>; SLOTS as usize];
+pub(crate) type Mutators = [MutatorSlot; SLOTS as usize];
 
 /// The mutators of a heap by their slots, and its globals.
 #[derive(Drop)]
@@ -33,10 +34,7 @@ fn set_word_of(mutators: &mut Mutators, slot: Slot, reg: Reg, word: u64)
     requires { (m : HeapMutator) × (slice_get mutators.old slot ≡ Some (Some m)) }
     ensures { ChangesSlot mutators.old slot (λ before after. after ≡ with_word before reg word) mutators.new }
 {
-    match &mut mutators[slot.index()] {
-        Some(mutator) => mutator.set_word(reg, word),
-        None => unreachable!(),
-    }
+    mutators[slot.index()].set_word(reg, word);
 }
 
 // Puts the word of a register on the stack of a mutator that is attached.
@@ -44,10 +42,7 @@ fn push_of(mutators: &mut Mutators, slot: Slot, from: Reg)
     requires { (m : HeapMutator) × (slice_get mutators.old slot ≡ Some (Some m)) × (length m.stack < STACK_WORDS) }
     ensures { ChangesSlot mutators.old slot (λ before after. after ≡ with_pushed before from) mutators.new }
 {
-    match &mut mutators[slot.index()] {
-        Some(mutator) => mutator.push(from),
-        None => unreachable!(),
-    }
+    mutators[slot.index()].push(from);
 }
 
 // Takes the top word off the stack of a mutator that is attached, into a register.
@@ -55,10 +50,7 @@ fn pop_of(mutators: &mut Mutators, slot: Slot, into: Reg) -> u64
     requires { (m : HeapMutator) × (slice_get mutators.old slot ≡ Some (Some m)) × (0 < length m.stack) }
     ensures { ChangesSlot mutators.old slot (λ before after. PopsWord before into result after) mutators.new }
 {
-    match &mut mutators[slot.index()] {
-        Some(mutator) => mutator.pop(into),
-        None => unreachable!(),
-    }
+    mutators[slot.index()].pop(into)
 }
 
 impl Roots {
@@ -67,10 +59,7 @@ impl Roots {
         ensures { result ≡ no_roots }
     {
         Roots {
-            mutators: [
-                None, None, None, None, None, None, None, None, None, None, None, None, None, None,
-                None, None,
-            ],
+            mutators: Default::default(),
             globals: [0; GLOBALS as usize],
         }
     }
@@ -81,7 +70,7 @@ impl Roots {
         ensures some { IfSome result (λ m. HasMutator self.now slot m.now) }
         ensures none { IfNone result (HasNoMutator self.now slot) }
     {
-        self.mutators[slot.index()].as_ref()
+        self.mutators[slot.index()].mutator()
     }
 
     /// The word of a global.

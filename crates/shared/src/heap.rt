@@ -61,6 +61,7 @@ impl<J: Naming> SharedHeap<J> {
     }
 
     /// A mutator's call, as a value.
+    #[inline(always)]
     pub fn call(&self, rt: &impl Wait, me: &mut Mutator<J>, call: Call) -> Reply
         requires { IsNoDetach call }
         ensures makes { Makes J.origin me.old call result me.new }

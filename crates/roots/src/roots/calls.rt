@@ -4,7 +4,6 @@ ghost use Rattle.heap_spec.specs.Replies.{done_reply, slot_reply, word_reply};
 ghost use Rattle.roots.specs.Roots.{StepsRoots, HasNoSlot, IsNextSlot};
 
 use super::{Mutators, Roots, pop_of, push_of};
-use crate::mutator::Mutator;
 use heap_spec::{Call, Event};
 use words::limits::SLOTS;
 use words::{Global, Refusal, Reg, Slot};
@@ -16,7 +15,7 @@ fn lowest_vacant(mutators: &Mutators) -> Option<Slot>
 {
     for number in 0..SLOTS {
         if let Some(slot) = Slot::new(number) {
-            if mutators[slot.index()].is_none() {
+            if mutators[slot.index()].mutator().is_none() {
                 return Some(slot);
             }
         }
@@ -39,7 +38,7 @@ impl Roots {
         let Some(slot) = lowest_vacant(&self.mutators) else {
             return Err(Refusal::NoSlot);
         };
-        self.mutators[slot.index()] = Some(Mutator::new());
+        self.mutators[slot.index()].attach();
         Ok(slot)
     }
 
@@ -50,7 +49,7 @@ impl Roots {
         let Some(_) = self.mutator(slot) else {
             return Err(Refusal::NoSlot);
         };
-        self.mutators[slot.index()] = None;
+        self.mutators[slot.index()].detach();
         Ok(())
     }
 
