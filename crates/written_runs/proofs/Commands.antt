@@ -1,7 +1,7 @@
 -- No command's line has a `=`.
-use Rattle.std.proofs.Common.{◌≡◌, ◌≢◌, ℕ, ◌<◌, ◌≤◌, ◌^◌, eqb, List, [], ◌∷◌, ◌++◌, refl, sym, ap, ◌∙◌, subst, arith}
-use Rattle.std.specs.Prelude.{All, codes, decimal}
-use Rattle.std.specs.List.{AllByRecursion, join_with_byte, slice_split}
+use Rattle.std.proofs.Common.{◌≡◌, ◌≢◌, ℕ, ◌<◌, ◌^◌, List, [], ◌∷◌, refl, sym, ap, ◌∙◌, subst, arith}
+use Rattle.std.specs.Prelude.{codes, decimal}
+use Rattle.std.specs.List.{AllByRecursion, join_with_byte}
 use Rattle.std.proofs.lemmas.List.Splits.{join_with_byte-slice_split}
 use Rattle.std.proofs.lemmas.List.Elements.{All-nil, All-cons, All-append}
 use Rattle.words.specs.declared.class.Kind.{Kind}
@@ -11,7 +11,7 @@ use Rattle.heap_spec.specs.declared.call.Call.TheVariants.{Detach, Set, Copy, Ad
 use Rattle.heap_spec.specs.declared.event.Event.{Event}
 use Rattle.heap_spec.specs.declared.event.Event.TheVariants.{Attach, Mutator, Begin, Roots, Mark, Retrace, Finish, Sweep, Collect, Number}
 use Rattle.heap_spec.specs.Ranges.{InRange, CallInRange}
-use Rattle.scripts.specs.Grammar.{kind_word, call_words, command_words, words_of, IsLineOf}
+use Rattle.scripts.specs.Grammar.{kind_word, call_words, command_words, IsLineOf}
 use Rattle.written_runs.specs.Cuts.{Lacks}
 use Rattle.written_runs.proofs.Digits.{decimal_lacks}
 use Rattle.written_runs.proofs.Parts.{lacks_by}

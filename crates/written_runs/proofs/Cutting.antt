@@ -1,9 +1,8 @@
 -- Where texts are cut.
-use Rattle.std.proofs.Common.{◌≡◌, ◌≢◌, ℕ, ◌+◌, ◌-◌, ◌<◌, ◌≤◌, List, [], ◌∷◌, ◌++◌, length, get_or, take, drop, refl, sym, ap, ◌∙◌, subst, arith}
-use Rattle.std.specs.Prelude.{All}
-use Rattle.std.proofs.lemmas.List.{take-append-drop, drop_more, get_or-take, length-take, length-drop}
+use Rattle.std.proofs.Common.{◌≡◌, ◌≢◌, ℕ, ◌<◌, ◌≤◌, List, [], ◌∷◌, ◌++◌, length, get_or, take, drop, refl, sym, ap, ◌∙◌, subst, arith}
+use Rattle.std.proofs.lemmas.List.{drop_more, get_or-take, length-take, length-drop}
 use Rattle.std.proofs.lemmas.List.Elements.{All-from_get_or, All-head, All-tail}
-use Rattle.written_runs.specs.Cuts.{Lacks, IsEmptyOrFrom, IsCut}
+use Rattle.written_runs.specs.Cuts.{Lacks, IsEmptyOrFrom}
 
 -- a text that was searched up to an index
 pub lacks_front : (at i : ℕ) (text : List ℕ) → ((k : ℕ) → k < i → get_or text k 0 ≡ at → ⊥) → Lacks at (take i text)
@@ -28,7 +27,6 @@ from_end at i text le = none (drop i text) (omega (arith, length-drop i text))
 pub record IsSameCut (f r g s : List ℕ) : Type 0 where
   pub front : f ≡ g
   pub rest : r ≡ s
-
 
 pub same_cut : (at : ℕ) (f r g s : List ℕ) → f ++ r ≡ g ++ s → Lacks at f → IsEmptyOrFrom at r → Lacks at g → IsEmptyOrFrom at s → IsSameCut f r g s
 same_cut at [] r [] s e lf fr lg fs = record { front = refl; rest = e }

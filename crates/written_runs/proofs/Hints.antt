@@ -1,13 +1,13 @@
 -- What stands behind a reply, read base by base.
-use Rattle.std.proofs.Common.{◌≡◌, ◌≢◌, ℕ, ◌<◌, ◌≤◌, List, [], ◌∷◌, ◌++◌, length, refl, sym, ap, ◌∙◌, subst, arith, append_assoc}
-use Rattle.std.specs.Prelude.{All, codes, decimal, flat_map}
+use Rattle.std.proofs.Common.{◌≡◌, ℕ, ◌<◌, List, [], ◌∷◌, ◌++◌, length, refl, sym, ap, ◌∙◌, arith, append_assoc}
+use Rattle.std.specs.Prelude.{All, codes, decimal}
 use Rattle.std.proofs.lemmas.List.{append-nil, append_cancel_left}
 use Rattle.std.proofs.lemmas.List.Concat.{flat_map-append}
 use Rattle.std.proofs.lemmas.List.Elements.{All-nil, All-head, All-tail, All-push}
 use Rattle.heap_spec.specs.Ranges.{IsWord}
 use Rattle.replayer.specs.declared.hint.Hint.{Hint}
 use Rattle.replayer.specs.declared.hint.Hint.TheVariants.{Nothing, Place, Forgot}
-use Rattle.written_runs.specs.Written.{bases_text, hint_text}
+use Rattle.written_runs.specs.Written.{bases_text}
 use Rattle.written_runs.specs.Reading.{IsNumberAt, AreBases, IsHint}
 use Rattle.written_runs.proofs.Digits.{bases_from}
 use Rattle.written_runs.proofs.Parts.{lead, second, same_number}
@@ -43,12 +43,12 @@ pub read_more : (text bases rest after : List ℕ) (n : ℕ) → IsReadTo text b
 read_more text bases rest after n read some at =
     record {
       whole = read.whole ∙ ap (λ r. bases_text bases ++ r) at.whole ∙ sym (append_assoc (bases_text bases) (codes " " ++ decimal n) after)
-        ∙ ap (λ t. t ++ after) (ap (λ t. bases_text bases ++ t) (sym (append-nil (codes " " ++ decimal n))) ∙ sym (flat_map-append (λ base. codes " " ++ decimal base) bases (n ∷ [])));
+          ∙ ap (λ t. t ++ after) (ap (λ t. bases_text bases ++ t) (sym (append-nil (codes " " ++ decimal n))) ∙ sym (flat_map-append (λ base. codes " " ++ decimal base) bases (n ∷ [])));
       words = All-push IsWord bases n read.words at.word;
       only = λ all are.
-        let more = read.only all are in
-        let next = next_of rest more.0 some more.1 in
-        (next.more, record { whole = (same_number rest n next.base after (bases_text next.more) at next.here).rest; words = next.words });
+          let more = read.only all are in
+          let next = next_of rest more.0 some more.1 in
+          (next.more, record { whole = (same_number rest n next.base after (bases_text next.more) at next.here).rest; words = next.words });
     }
 
 pub read_all : (text bases rest : List ℕ) → IsReadTo text bases rest → length rest ≡ 0 → AreBases text bases

@@ -1,6 +1,6 @@
 -- Runs that lines lead to.
 use Rattle.std.proofs.Common.{◌≡◌, ℕ, ◌+◌, ◌<◌, ◌≤◌, List, [], ◌∷◌, ◌++◌, length, refl, sym, ap, ◌∙◌, subst, arith, append_assoc, length-append}
-use Rattle.std.specs.Prelude.{Option, Some, None}
+use Rattle.std.specs.Prelude.{Some}
 use Rattle.std.proofs.lemmas.List.{append-nil}
 use Rattle.heap_spec.specs.declared.event.Event.{Event}
 use Rattle.heap_spec.specs.declared.reply.Reply.{Reply}
@@ -14,7 +14,7 @@ use Rattle.written_runs.specs.declared.verdict.Verdict.{Verdict}
 use Rattle.written_runs.specs.declared.verdict.Verdict.TheVariants.{Legal, Bad, Breaks}
 use Rattle.written_runs.specs.Cuts.{IsEmptyOrFrom, IsCut}
 use Rattle.written_runs.specs.Written.{IsWritten}
-use Rattle.written_runs.specs.Judging.{Leads, ends, on, IsUnwritten, IsBroken, HasFault, IsJudged, LeadsOn, Stops, IsFound}
+use Rattle.written_runs.specs.Judging.{Leads, ends, on, IsUnwritten, IsBroken, HasFault, IsJudged, LeadsOn, IsFound}
 
 -- one line more
 leads_more : (start : Start) {run mid last : Run} {lines : List (List ℕ)} → Leads start run lines mid → (line : List ℕ) (event : Event) (reply : Reply) (hint : Hint)

@@ -1,6 +1,6 @@
 -- The parts of a line stand apart in one way.
 use Rattle.std.proofs.Common.{◌≡◌, ◌≢◌, ℕ, ◌<◌, ◌≤◌, ◌^◌, Bool, true, false, eqb, List, [], ◌∷◌, ◌++◌, refl, sym, ap, ◌∙◌, subst, arith, append_assoc, length, length-append}
-use Rattle.std.specs.Prelude.{All, not, ◌&&◌, nat_le, nat_lt, cond, codes, decimal}
+use Rattle.std.specs.Prelude.{not, ◌&&◌, nat_le, nat_lt, cond, codes, decimal}
 use Rattle.std.proofs.lemmas.Bool.{eq-eqb, leb-true, ltb-true}
 use Rattle.std.proofs.lemmas.Fmt.{decimal_injective}
 use Rattle.std.proofs.lemmas.List.{append_cancel_left}
@@ -31,6 +31,7 @@ lacks_by at (b ∷ text) holds = All-cons (λ x. x ≢ at) b text (λ e. apart (
     apart : (v : Bool) → v ≡ true → not v && lacks_test at text ≡ true → ⊥
     apart true e h = let f : ⊥ = cc in f
     apart false e h = let f : ⊥ = cc in f
+
     later : (v : Bool) → not v && lacks_test at text ≡ true → lacks_test at text ≡ true
     later true h = let f : ⊥ = cc in absurd f
     later false h = h

@@ -1,5 +1,5 @@
 -- Lines that are written of nothing.
-use Rattle.std.proofs.Common.{◌≡◌, ◌≢◌, ℕ, ◌+◌, ◌<◌, ◌≤◌, List, [], ◌∷◌, ◌++◌, length, refl, sym, ap, ◌∙◌, subst, arith}
+use Rattle.std.proofs.Common.{◌≡◌, ℕ, ◌<◌, List, ◌++◌, length, refl, sym, ap, ◌∙◌, subst, arith}
 use Rattle.std.specs.Prelude.{codes}
 use Rattle.heap_spec.specs.declared.event.Event.{Event}
 use Rattle.heap_spec.specs.declared.reply.Reply.{Reply}
@@ -11,7 +11,6 @@ use Rattle.written_runs.specs.Cuts.{IsEmptyOrFrom}
 use Rattle.written_runs.specs.Written.{answer_of, hint_text, IsLineWith, IsWritten}
 use Rattle.written_runs.specs.Reading.{IsParted, IsReplyAt, IsHint}
 use Rattle.written_runs.specs.Judging.{IsUnwritten}
-use Rattle.written_runs.proofs.Digits.{bases_from}
 use Rattle.written_runs.proofs.Parts.{same_parts, same_rest}
 use Rattle.written_runs.proofs.Commands.{line_lacks}
 

@@ -1,4 +1,4 @@
-use Rattle.std.proofs.Common.{ℕ, length}
+use Rattle.std.proofs.Common.{length}
 use Rattle.written_runs.proofs.Hints.{IsReadTo}
 use Rattle.written_runs.proofs.behind.bases_of.Given as goal
 

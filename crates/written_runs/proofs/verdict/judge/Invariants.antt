@@ -1,4 +1,4 @@
-use Rattle.std.proofs.Common.{ℕ, length}
+use Rattle.std.proofs.Common.{length}
 use Rattle.written_runs.proofs.Judged.{IsUpTo}
 use Rattle.written_runs.proofs.verdict.judge.Given as goal
 
