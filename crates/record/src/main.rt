@@ -11,10 +11,10 @@ use scripts::limits::LINE_BYTES;
 use std::alloc::{AllocError, Global};
 use std::process::ExitCode;
 use std::{env, fs};
-use written_runs::{answer_text, words_given};
+use written_runs::{line_text, words_given};
 
-// The answer to a line, if it is one.
-fn answer(
+// The line that is written of a command, if it is one.
+fn written(
     alloc: Global,
     recorder: &mut Recorder,
     line: &str,
@@ -26,7 +26,7 @@ fn answer(
         return Ok(None);
     };
     let reply = recorder.act(&event)?;
-    let text = answer_text(alloc, &reply, recorder.hint())?;
+    let text = line_text(alloc, line, &reply, recorder.hint())?;
     Ok(Some(text))
 }
 
@@ -48,10 +48,10 @@ fn main(rt: HostRuntime) -> ExitCode {
     };
     let mut recorder = Recorder::new(rt.alloc(), core);
     for line in text.lines() {
-        let Ok(Some(answer)) = answer(rt.alloc(), &mut recorder, line) else {
+        let Ok(Some(text)) = written(rt.alloc(), &mut recorder, line) else {
             return ExitCode::from(2);
         };
-        let Ok(()) = println!(rt; "{line} => {answer}") else {
+        let Ok(()) = println!(rt; "{text}") else {
             return ExitCode::from(1);
         };
     }

@@ -2,12 +2,15 @@
 //! says of a run.
 #![tactic(auto)]
 
+mod behind;
 mod command;
+mod cut;
 mod line;
+mod reply;
 mod rules;
 mod verdict;
 mod writing;
 
 pub use command::words_given;
 pub use verdict::{Verdict, judge};
-pub use writing::answer_text;
+pub use writing::line_text;

@@ -1,11 +1,17 @@
-//! How the answer to an event is written down: the reply, and what it leaves open.
+//! How a line is written down: a command, its reply, and what the reply leaves open.
+ghost use Rattle.std.specs.Prelude.{◌≡◌, ◌++◌, codes, IfOk, OnOk, string_bytes};
+ghost use Rattle.heap_spec.specs.declared.event.Event.{Event};
+ghost use Rattle.scripts.specs.Grammar.{IsLineOf};
+ghost use Rattle.written_runs.specs.Written.{answer_of, bases_text, hint_text, IsAnswer, NamesWords, IsWritten};
 
 use heap_spec::Reply;
 use replayer::Hint;
 use std::alloc::{AllocError, Global};
 
 // A reply, with each word as its number.
-fn reply_text(alloc: Global, reply: &Reply) -> Result<String, AllocError> {
+fn reply_text(alloc: Global, reply: &Reply) -> Result<String, AllocError>
+    ensures { IfOk result (λ text. string_bytes text ≡ answer_of reply.now) }
+{
     match reply {
         Reply::Slot(slot) => format!(in alloc; "mutator {}", slot.number()),
         Reply::Done => format!(in alloc; "ok"),
@@ -19,8 +25,10 @@ fn reply_text(alloc: Global, reply: &Reply) -> Result<String, AllocError> {
     }
 }
 
-fn put_bases(text: &mut String, alloc: Global, bases: &[u64]) -> Result<(), AllocError> {
-    text.push_str(" -")?;
+// Puts bases behind a text, each behind a space.
+fn put_bases(text: &mut String, alloc: Global, bases: &[u64]) -> Result<(), AllocError>
+    ensures { OnOk result (string_bytes text.new ≡ string_bytes text.old ++ bases_text bases.now) }
+{
     for base in bases {
         let word = format!(in alloc; " {base}")?;
         text.push_str(word.as_str())?;
@@ -28,16 +36,35 @@ fn put_bases(text: &mut String, alloc: Global, bases: &[u64]) -> Result<(), Allo
     Ok(())
 }
 
-/// A reply and what it leaves open.
-pub fn answer_text(alloc: Global, reply: &Reply, hint: Hint) -> Result<String, AllocError> {
-    let mut text = reply_text(alloc, reply)?;
+// Puts what a reply leaves open behind a text.
+fn put_hint(text: &mut String, alloc: Global, hint: Hint) -> Result<(), AllocError>
+    ensures { OnOk result (string_bytes text.new ≡ string_bytes text.old ++ hint_text hint.entry) }
+{
     match hint {
-        Hint::Nothing => {}
+        Hint::Nothing => Ok(()),
         Hint::Place(base) => {
             let place = format!(in alloc; " @ {base}")?;
-            text.push_str(place.as_str())?;
+            text.push_str(place.as_str())
         }
-        Hint::Forgot(bases) => put_bases(&mut text, alloc, bases)?,
+        Hint::Forgot(bases) => {
+            text.push_str(" -")?;
+            put_bases(text, alloc, bases)
+        }
     }
-    Ok(text)
+}
+
+/// The line of a command that a script has on this line, of its reply, and of what that leaves open.
+pub fn line_text(
+    alloc: Global,
+    command: &str,
+    reply: &Reply,
+    hint: Hint,
+) -> Result<String, AllocError>
+    ensures { IfOk result (λ line. (event : Event) → IsLineOf command.now event → IsAnswer event reply.now → NamesWords hint.entry
+        → IsWritten (string_bytes line) event reply.now hint.entry) }
+{
+    let answer = reply_text(alloc, reply)?;
+    let mut line = format!(in alloc; "{command} => {answer}")?;
+    put_hint(&mut line, alloc, hint)?;
+    Ok(line)
 }

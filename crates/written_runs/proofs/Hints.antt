@@ -1,0 +1,72 @@
+-- What stands behind a reply, read base by base.
+use Rattle.std.proofs.Common.{◌≡◌, ℕ, ◌<◌, List, [], ◌∷◌, ◌++◌, length, refl, sym, ap, ◌∙◌, arith, append_assoc}
+use Rattle.std.specs.Prelude.{All, codes, decimal}
+use Rattle.std.proofs.lemmas.List.{append-nil, append_cancel_left}
+use Rattle.std.proofs.lemmas.List.Concat.{flat_map-append}
+use Rattle.std.proofs.lemmas.List.Elements.{All-nil, All-head, All-tail, All-push}
+use Rattle.heap_spec.specs.Ranges.{IsWord}
+use Rattle.replayer.specs.declared.hint.Hint.{Hint}
+use Rattle.replayer.specs.declared.hint.Hint.TheVariants.{Nothing, Place, Forgot}
+use Rattle.written_runs.specs.Written.{bases_text}
+use Rattle.written_runs.specs.Reading.{IsNumberAt, AreBases, IsHint}
+use Rattle.written_runs.proofs.Digits.{bases_from}
+use Rattle.written_runs.proofs.Parts.{lead, second, same_number}
+
+-- Some bases were read of a text, and what the text is besides is what the rest is.
+pub record IsReadTo (text bases rest : List ℕ) : Type 0 where
+  pub whole : text ≡ bases_text bases ++ rest
+  pub words : All IsWord bases
+  pub only : (all : List ℕ) → AreBases text all → (more : List ℕ) × AreBases rest more
+
+pub read_none : (text : List ℕ) → IsReadTo text [] text
+read_none text = record { whole = refl; words = All-nil IsWord; only = λ all are. (all, are) }
+
+-- a text of bases that isn't empty begins with a number
+pub record IsNext (rest : List ℕ) : Type 0 where
+  pub base : ℕ
+  pub more : List ℕ
+  pub here : IsNumberAt rest base (bases_text more)
+  pub words : All IsWord more
+
+next_of : (rest bases : List ℕ) → 0 < length rest → AreBases rest bases → IsNext rest
+next_of rest [] some are = let h : length rest ≡ 0 = ap length are.whole in absurd (omega (arith, h))
+next_of rest (b ∷ bases) some are =
+    record { base = b; more = bases; here = record { whole = are.whole; word = All-head IsWord b bases are.words; from = bases_from bases }; words = All-tail IsWord b bases are.words }
+
+pub no_number : (text bases rest : List ℕ) → IsReadTo text bases rest → 0 < length rest → ((n : ℕ) (after : List ℕ) → IsNumberAt rest n after → ⊥) → (all : List ℕ) → AreBases text all → ⊥
+no_number text bases rest read some none all are =
+    let more = read.only all are in
+    let next = next_of rest more.0 some more.1 in
+    none next.base (bases_text next.more) next.here
+
+pub read_more : (text bases rest after : List ℕ) (n : ℕ) → IsReadTo text bases rest → 0 < length rest → IsNumberAt rest n after → IsReadTo text (bases ++ n ∷ []) after
+read_more text bases rest after n read some at =
+    record {
+      whole = read.whole ∙ ap (λ r. bases_text bases ++ r) at.whole ∙ sym (append_assoc (bases_text bases) (codes " " ++ decimal n) after)
+          ∙ ap (λ t. t ++ after) (ap (λ t. bases_text bases ++ t) (sym (append-nil (codes " " ++ decimal n))) ∙ sym (flat_map-append (λ base. codes " " ++ decimal base) bases (n ∷ [])));
+      words = All-push IsWord bases n read.words at.word;
+      only = λ all are.
+          let more = read.only all are in
+          let next = next_of rest more.0 some more.1 in
+          (next.more, record { whole = (same_number rest n next.base after (bases_text next.more) at next.here).rest; words = next.words });
+    }
+
+pub read_all : (text bases rest : List ℕ) → IsReadTo text bases rest → length rest ≡ 0 → AreBases text bases
+read_all text bases [] read none = record { whole = read.whole ∙ append-nil (bases_text bases); words = read.words }
+read_all text bases (b ∷ rest) read none = absurd (omega arith)
+
+-- where a text that isn't empty is the text of a hint
+pub no_place : (text place : List ℕ) → text ≡ codes " @ " ++ place → ((n : ℕ) → IsWord n → place ≡ decimal n → ⊥) → (hint : Hint) → IsHint text hint → ⊥
+no_place text place e none Nothing is = let h : 32 ≡ 0 = ap lead (sym e ∙ is.whole) in omega (arith, h)
+no_place text place e none (Place base) is = none base is.words (append_cancel_left (codes " @ ") place (decimal base) (sym e ∙ is.whole))
+no_place text place e none (Forgot bases) is = let h : 64 ≡ 45 = ap second (sym e ∙ is.whole) in omega (arith, h)
+
+pub no_bases : (text rest : List ℕ) → text ≡ codes " -" ++ rest → ((bases : List ℕ) → AreBases rest bases → ⊥) → (hint : Hint) → IsHint text hint → ⊥
+no_bases text rest e none Nothing is = let h : 32 ≡ 0 = ap lead (sym e ∙ is.whole) in omega (arith, h)
+no_bases text rest e none (Place base) is = let h : 45 ≡ 64 = ap second (sym e ∙ is.whole) in omega (arith, h)
+no_bases text rest e none (Forgot bases) is = none bases.now (record { whole = append_cancel_left (codes " -") rest (bases_text bases.now) (sym e ∙ is.whole); words = is.words })
+
+pub neither : (text : List ℕ) → 0 < length text → ((rest : List ℕ) → text ≡ codes " @ " ++ rest → ⊥) → ((rest : List ℕ) → text ≡ codes " -" ++ rest → ⊥) → (hint : Hint) → IsHint text hint → ⊥
+neither text some place bases Nothing is = let h : length text ≡ 0 = ap length is.whole in omega (arith, h)
+neither text some place bases (Place base) is = place (decimal base) is.whole
+neither text some place bases (Forgot forgotten) is = bases (bases_text forgotten.now) is.whole

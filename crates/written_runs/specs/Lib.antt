@@ -1,0 +1,4 @@
+pub mod Cuts
+pub mod Written
+pub mod Reading
+pub mod Judging
