@@ -1,5 +1,5 @@
-//! A pause with helpers where memory or a thread is refused. By itself this runs with ample memory; `rt try --test
-//! --fail-alloc N` refuses the N-th request.
+//! A pause with helpers where memory or a thread is refused. By itself this runs with ample memory and threads enough; `rt try
+//! --test --fail-alloc N` refuses the N-th request, and `tests/refused_threads.sh` refuses each thread in turn.
 use crate::cores::run;
 use final_pause::{Helpers, Open};
 use heap_core::Core;
@@ -9,7 +9,7 @@ use std::process::Abort;
 use std::sync::Wait;
 use std::test::Fail;
 use std::thread::Threads;
-use words::limits::FIRST_ADDRESS;
+use words::limits::{FIRST_ADDRESS, MAX_HELPERS};
 
 const PAGES: u32 = 4;
 
@@ -23,7 +23,7 @@ fn close(
     core: &mut Core,
 ) -> Result<(), Fail> {
     run(core, MARKING.as_bytes())?;
-    let helpers = Helpers::new(2).ok_or("two helpers")?;
+    let helpers = Helpers::new(MAX_HELPERS).ok_or("eight helpers")?;
     assert_eq!(rt; core.close_with(rt, alloc, helpers, &Open), Ok(()));
     assert_eq!(rt; core.act(Event::Roots), Reply::Done);
     assert_eq!(rt; core.act(Event::Mark(1)), Reply::Count(0));
@@ -34,9 +34,9 @@ fn close(
     Ok(())
 }
 
-/// What is refused once the core is there changes no reply.
+/// What is refused once the core is there, memory or a thread, changes no reply.
 #[test]
-fn a_core_ends_its_cycle_all_the_same(rt: HostRuntime) -> Result<(), Fail> {
+fn refused_thread(rt: HostRuntime) -> Result<(), Fail> {
     let Ok(mut core) = Core::new(rt.alloc(), PAGES) else {
         return Ok(());
     };

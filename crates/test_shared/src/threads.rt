@@ -1,4 +1,4 @@
-//! Two mutators in two threads.
+//! Mutators in threads of their own.
 ghost use Rattle.std.specs.Prelude.{◌≡◌};
 
 use crate::attached::{Attached, attach};
@@ -16,6 +16,7 @@ use std::sync::atomic::{AtomicU64, Ordering};
 use std::test::Fail;
 use std::thread::Threads;
 use words::Kind;
+use words::limits::SLOTS;
 
 // How often a mutator looks for the other's flag before it gives up.
 const TURNS: u64 = 1_000_000_000;
@@ -100,5 +101,48 @@ fn each_mutator_loads_its_own_word(rt: HostRuntime) -> Result<(), Fail> {
     let opened = open(rt.alloc(), 4).ok().ok_or("a heap")?;
     let found = two_mutators::<Brand, _>(&rt, rt.alloc(), opened)?;
     assert_eq!(rt; found, [(Reply::Word(7), true), (Reply::Word(8), true)]);
+    Ok(())
+}
+
+// A mutator in a thread allocates.
+fn allocate<'a, J: Naming, R: Wait>(job: Job<'a, J, R>) -> Job<'a, J, R> {
+    let Job { mut me, seen, .. } = job;
+    let word = me.call(Call::Alloc(reg(1), 2, Kind::Normal));
+    Job { me, word, seen }
+}
+
+// Sixteen mutators come, each gets a thread of its own or one is refused it, and all go.
+fn run_sixteen<J: Naming + Send + Sync, R: Threads + Wait + Abort + Sync>(
+    rt: &R,
+    alloc: Global,
+    heap: &SharedHeap<J>,
+) -> Result<(), AllocError> {
+    let mut jobs = Vec::with_capacity(alloc, usize::from(SLOTS))?;
+    for _ in 0..SLOTS {
+        jobs.push(make_job(rt, heap))?;
+    }
+    let work = |job| { allocate(job) };
+    let _answer = run_each::<_, _, Runs, _>(rt, alloc, &Runs, &work, jobs);
+    Ok(())
+}
+
+fn run_twice<J: Naming + Send + Sync, R: Threads + Wait + Abort + Sync>(
+    rt: &R,
+    alloc: Global,
+    opened: Opened<Core>,
+) -> Result<(), AllocError>
+    requires { (opened.table ≡ J.table) × (opened.origin ≡ J.origin) }
+{
+    let (heap, _collector) = SharedHeap::<J>::named(opened);
+    run_sixteen(rt, alloc, &heap)?;
+    run_sixteen(rt, alloc, &heap)
+}
+
+// Whether or not a thread is refused, every slot is vacant afterwards: sixteen come again. By itself this runs with threads
+// enough; `tests/refused_threads.sh` refuses each thread in turn.
+#[test]
+fn refused_thread(rt: HostRuntime) -> Result<(), Fail> {
+    let opened = open(rt.alloc(), 4).ok().ok_or("a heap")?;
+    run_twice::<Brand, _>(&rt, rt.alloc(), opened)?;
     Ok(())
 }

@@ -91,7 +91,14 @@ impl Workload {
         match command {
             Event::Attach => lines == mutators as u64 && mutators < usize::from(SLOTS),
             Event::Mutator(slot, call) => slot.index() < mutators && !is_detach(*call),
-            _ => true,
+            Event::Begin
+            | Event::Roots
+            | Event::Mark(_)
+            | Event::Retrace
+            | Event::Finish
+            | Event::Sweep
+            | Event::Collect
+            | Event::Number => true,
         }
     }
 
@@ -103,7 +110,14 @@ impl Workload {
         match command {
             Event::Attach => self.mutators.push(Lines::new(alloc))?,
             Event::Mutator(slot, call) => put(&mut self.mutators, slot.index(), call)?,
-            _ => self.collector.push(command)?,
+            Event::Begin
+            | Event::Roots
+            | Event::Mark(_)
+            | Event::Retrace
+            | Event::Finish
+            | Event::Sweep
+            | Event::Collect
+            | Event::Number => self.collector.push(command)?,
         }
         Ok(())
     }

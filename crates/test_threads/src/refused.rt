@@ -1,0 +1,84 @@
+//! Threads that are refused. By itself this runs with threads enough; `tests/refused_threads.sh` refuses each thread in turn.
+
+use crate::runs::{Setting, run};
+use final_pause::Gate;
+use scripts::ScriptError;
+use std::alloc::{AllocError, Global};
+use std::process::Abort;
+use std::sync::Wait;
+use std::sync::atomic::{AtomicU64, Ordering};
+use std::test::Fail;
+use std::thread::Threads;
+use test_scripts::fakes::Taken;
+use words::limits::{MAX_HELPERS, SLOTS};
+
+const SETTING: Setting = Setting {
+    pages: 4,
+    helpers: MAX_HELPERS,
+};
+
+/// Counts the calls that began and those that ended.
+#[derive(Drop)]
+struct Counts {
+    began: AtomicU64,
+    ended: AtomicU64,
+}
+
+impl Gate for Counts {
+    fn before(&self, _actor: u8, _call: u32) {
+        self.began.fetch_add(1, Ordering::SeqCst);
+    }
+
+    fn after(&self, _actor: u8, _call: u32) {
+        self.ended.fetch_add(1, Ordering::SeqCst);
+    }
+}
+
+/// Each mutator allocates what its register keeps, and a cycle ends: so each reply is the same in every order.
+fn put_all(lines: &mut String, replies: &mut String) -> Result<(), AllocError> {
+    for _ in 0..SLOTS {
+        lines.push_str("attach\n")?;
+    }
+    for slot in 0..SLOTS {
+        write!(lines, "{slot} alloc 1 2 normal\n")?;
+        write!(replies, "mutator {slot}\nok\n")?;
+    }
+    lines.push_str("gc begin\ngc finish\ngc no\n")?;
+    replies.push_str("collector\nok\n0\n1\n")?;
+    Ok(())
+}
+
+fn check<R: Threads + Wait + Abort + Sync>(
+    rt: &R,
+    alloc: Global,
+    texts: (&str, &str),
+    output: &mut Taken,
+) {
+    let gate = Counts {
+        began: AtomicU64::new(0),
+        ended: AtomicU64::new(0),
+    };
+    let answer = run(rt, alloc, texts.0.as_bytes(), SETTING, &gate, output);
+    match answer {
+        Ok(()) => assert_eq!(rt; output.text(), Some(texts.1)),
+        Err(fault) => {
+            assert_eq!(rt; fault, ScriptError::Memory);
+            assert!(rt; output.bytes.is_empty());
+        }
+    }
+    let began = gate.began.load(Ordering::SeqCst);
+    assert_eq!(rt; gate.ended.load(Ordering::SeqCst), began);
+}
+
+/// Where an actor's thread is refused, the answer is that, and nothing is printed; where a helper's is, the replies are the usual ones.
+/// Either way each call that began has ended.
+#[test]
+fn refused_thread(rt: HostRuntime) -> Result<(), Fail> {
+    let mut output = Taken::new(rt.alloc())?;
+    let mut lines = String::new(rt.alloc());
+    let mut replies = String::new(rt.alloc());
+    put_all(&mut lines, &mut replies)?;
+    let texts = (lines.as_str(), replies.as_str());
+    check(&rt, rt.alloc(), texts, &mut output);
+    Ok(())
+}

@@ -1,0 +1,76 @@
+#!/usr/bin/env bash
+# By hand: what holds where the start of a thread is refused, each start in turn. It needs strace, and runs what stands there:
+# the proved program ('./mpheap build'), and the tests named 'refused_thread' ('rt test' in their crates).
+# strace counts the starts of each thread apart: the first thread starts the mutators and the collector, and the collector
+# starts the helpers of a pause.
+set -uo pipefail
+top=$(dirname "$(dirname "$(readlink -f "${BASH_SOURCE[0]}")")")
+program=$top/crates/mpheap/out/mpheap
+room=$(mktemp -d)
+trap 'rm -rf "$room"' EXIT
+passed=0
+failed=0
+
+# refuse K WORDS..: the words, where the K-th start of a thread fails; how they end, and what they write.
+refuse() {
+    at=$1
+    shift
+    out=$(timeout 60 strace -f -o "$room/starts" -e trace=clone3 -e inject=clone3:error=EAGAIN:when="$at" \
+        "$@" 2>"$room/err")
+    status=$?
+    said="$out|$(cat "$room/err")"
+    refused=$((refused + $(grep -c INJECTED "$room/starts")))
+}
+
+# is WHAT WANTED SEEN
+is() {
+    if [ "$2" = "$3" ]; then
+        passed=$((passed + 1))
+    else
+        failed=$((failed + 1))
+        printf 'refused threads: %s\n  wanted: %s\n  seen:   %s\n' "$1" "$2" "$3"
+    fi
+}
+
+# actors MUTATORS: the start of each actor is refused in turn, then those of the helpers whose numbers are past the actors',
+# and at last none.
+actors() {
+    seq "$1" | sed 's/.*/attach/' >"$room/workload"
+    seq 0 $(($1 - 1)) | sed 's/$/ alloc 1 2 normal/' >>"$room/workload"
+    printf 'gc begin\ngc finish\ngc no\n' >>"$room/workload"
+    replies=$(seq 0 $(($1 - 1)) | sed 's/.*/mutator &\nok/' && printf 'collector\nok\n0\n1\n')
+    refused=0
+    for start in $(seq 1 99); do
+        refuse "$start" "$program" threads --pages 4 --helpers 8 "$room/workload"
+        if [ "$start" -le $(($1 + 1)) ]; then
+            is "$1 mutators, start $start" "1 |no memory" "$status $said"
+        else
+            is "$1 mutators, start $start" "0 $replies|" "$status $said"
+            [ "$start" -lt 9 ] || break
+        fi
+    done
+    echo "$1 mutators: $refused starts refused"
+}
+
+# holds CRATE TEST: the test passes, whichever start is refused, up to one that never comes.
+holds() {
+    tests=$top/crates/$1/out/$1_tests
+    [ -x "$tests" ] || return
+    refused=0
+    for start in $(seq 1 99); do
+        before=$refused
+        refuse "$start" "$tests" "$2"
+        is "$1 $2, start $start" 0 "$status"
+        [ "$refused" -gt "$before" ] || break
+    done
+    echo "$1 $2: $refused starts refused"
+}
+
+if [ -x "$program" ]; then
+    for mutators in 0 1 16; do actors "$mutators"; done
+fi
+holds test_shared threads::refused_thread
+holds test_threads refused::refused_thread
+holds test_pause refused::refused_thread
+echo "refused threads: $passed passed, $failed failed"
+[ "$passed" -gt 0 ] && [ "$failed" = 0 ]
