@@ -11,6 +11,7 @@ use words::Slot;
 
 impl Core {
     // Makes a call of a slot.
+    #[inline(always)]
     fn serve_call(&mut self, slot: Slot, call: Call) -> Reply
         ensures { IsCall self.old (Event.Mutator slot call) result self.new }
     {
@@ -35,6 +36,7 @@ impl Core {
     }
 
     // Makes the call that an event is.
+    #[inline(always)]
     fn serve(&mut self, event: Event) -> Reply
         ensures { IsAct self.old event result self.new }
     {
@@ -52,7 +54,8 @@ impl Core {
         }
     }
 
-    /// Makes the call that an event is.
+    /// Makes the call that an event is. Inlined where the event is known, only the arm of its call is left.
+    #[inline(always)]
     pub fn act(&mut self, event: Event) -> Reply
         ensures acts { IsAct self.old event result self.new }
         ensures line { IsLine self.old event result self.new }
