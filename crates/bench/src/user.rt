@@ -17,11 +17,11 @@ pub(crate) struct User {
 impl User {
     /// Opens the heap. `None` out of memory.
     pub(crate) fn new(alloc: Global) -> Option<User> {
-        let mut core = Core::new(alloc, MAX_PAGES).ok()?;
-        let slot = core.attach().ok()?;
         let object = Reg::new(1)?;
         let word = Reg::new(2)?;
         let kept = Reg::new(3)?;
+        let mut core = Core::new(alloc, MAX_PAGES).ok()?;
+        let slot = core.attach().ok()?;
         Some(User {
             core,
             slot,
@@ -93,13 +93,17 @@ impl User {
         let _stored = self.core.store(self.slot, self.object, offset, self.word);
     }
 
+    fn size(&mut self, base: u64) -> u64 {
+        let _done = self.core.set(self.slot, self.object, base);
+        self.core.size(self.slot, self.object).unwrap_or(0)
+    }
+
     /// Asks for the words of every second object, and answers their sum.
     pub(crate) fn sizes(&mut self, bases: &[u64]) -> u64 {
         let mut sum: u64 = 0;
         for (number, base) in bases.iter().enumerate() {
             if number % 2 == 0 {
-                let _done = self.core.set(self.slot, self.object, *base);
-                sum = sum.wrapping_add(self.core.size(self.slot, self.object).unwrap_or(0));
+                sum = sum.wrapping_add(self.size(*base));
             }
         }
         sum
@@ -117,13 +121,18 @@ impl User {
         self.core.collect().unwrap_or(0)
     }
 
+    // Marks, and reads a dirty page again. Answers whether there was one.
+    fn mark_on(&mut self) -> bool {
+        let _marked = self.core.mark(u64::MAX);
+        self.core.retrace() == Ok(1)
+    }
+
     /// Begins a cycle, and marks till nothing is left to read.
     pub(crate) fn mark_all(&mut self) {
         let _begun = self.core.begin();
         let _read = self.core.roots();
         for _ in 0..u64::MAX {
-            let _marked = self.core.mark(u64::MAX);
-            if self.core.retrace() != Ok(1) {
+            if !self.mark_on() {
                 break;
             }
         }

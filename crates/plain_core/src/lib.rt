@@ -13,6 +13,3 @@ mod places;
 mod plain;
 
 pub use plain::Core;
-
-#[cfg(test)]
-mod tests;

@@ -8,6 +8,3 @@ mod shared;
 pub use jobs::{Job, make_calls, run_all, run_to_one_history, settle};
 pub use register::{Call, Register, Reply};
 pub use shared::{Collector, Mutator, ReadValue, SharedRegister, open};
-
-#[cfg(test)]
-mod tests;

@@ -1,5 +1,5 @@
 //! Cores over pages, against a core without pages, against what roots reach, against counts, and with memory that is
-//! ample.
+//! ample; and that core without pages by itself.
 #![tactic(auto)]
 
 #[cfg(test)]
@@ -14,6 +14,8 @@ mod filling;
 mod opening;
 #[cfg(test)]
 mod pair;
+#[cfg(test)]
+mod plain_calls;
 #[cfg(test)]
 mod reached;
 #[cfg(test)]

@@ -1,10 +1,13 @@
-//! The heap behind the lock, as its users see it: worked rows in one thread, mutators in threads of their own, and cycles beside them.
+//! The heap behind the lock, as its users see it: worked rows in one thread, mutators in threads of their own, and cycles
+//! beside them; and the worked example of a history.
 #![tactic(auto)]
 
 #[cfg(test)]
 mod attached;
 #[cfg(test)]
 mod helped;
+#[cfg(test)]
+mod register;
 #[cfg(test)]
 mod rows;
 #[cfg(test)]

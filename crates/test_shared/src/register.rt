@@ -1,8 +1,11 @@
+//! Mutators of a register behind a lock, and the one history that they leave.
 ghost use Rattle.std.specs.Prelude.{◌≡◌, IfOk};
 ghost use Rattle.shared_register.specs.Calls.{AreReady};
 
-use super::*;
 use history::{Naming, Opened};
+use shared_register::{
+    Call, Job, ReadValue, Register, Reply, SharedRegister, open, run_to_one_history,
+};
 use std::alloc::{AllocError, Global};
 use std::marker::Brand;
 use std::process::Abort;

@@ -1,4 +1,4 @@
-use Rattle.shared_register.proofs.tests.a_refused_open_can_be_made_again.Given as goal
+use Rattle.test_shared.proofs.register.a_refused_open_can_be_made_again.Given as goal
 
 -- the table that was just opened
 abbrev pub ghosts-come_and_go : goal.ghosts-come_and_go

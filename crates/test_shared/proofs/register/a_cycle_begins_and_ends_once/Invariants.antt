@@ -1,4 +1,4 @@
-use Rattle.shared_register.proofs.tests.a_cycle_begins_and_ends_once.Given as goal
+use Rattle.test_shared.proofs.register.a_cycle_begins_and_ends_once.Given as goal
 
 -- the table that was just opened
 abbrev pub ghosts-run_cycles : goal.ghosts-run_cycles

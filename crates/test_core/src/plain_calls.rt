@@ -1,17 +1,14 @@
-//! Runs of whole calls, each with the replies that the definitions of the heap give by hand.
+//! Runs of whole calls of the core without pages, each with the replies that the definitions of the heap give by hand.
 
-use crate::Core;
+use crate::scene::reg;
+use plain_core::Core;
 use std::process::Abort;
 use std::test::Fail;
-use words::{Global, Kind, OpenError, Refusal, Reg};
-
-fn register(number: u8) -> Result<Reg, Fail> {
-    Ok(Reg::new(number).ok_or("register")?)
-}
+use words::{Global, Kind, OpenError, Refusal};
 
 fn run_first(rt: &impl Abort, core: &mut Core) -> Result<(), Fail> {
     let slot = core.attach().ok().ok_or("attach")?;
-    let (r1, r2, r3) = (register(1)?, register(2)?, register(3)?);
+    let (r1, r2, r3) = (reg(1)?, reg(2)?, reg(3)?);
     assert_eq!(rt; slot.number(), 0);
     assert_eq!(rt; core.alloc(slot, r1, 3, Kind::Normal), Ok(()));
     assert_eq!(rt; core.set(slot, r2, 77), Ok(()));
@@ -55,7 +52,7 @@ fn pages_are_one_to_the_limit(rt: HostRuntime) -> Result<(), Fail> {
 
 fn wrap(rt: &impl Abort, core: &mut Core) -> Result<(), Fail> {
     let slot = core.attach().ok().ok_or("attach")?;
-    let (r1, r2, r3) = (register(1)?, register(2)?, register(3)?);
+    let (r1, r2, r3) = (reg(1)?, reg(2)?, reg(3)?);
     assert_eq!(rt; core.set(slot, r1, 5), Ok(()));
     assert_eq!(rt; core.copy(slot, r2, r1), Ok(()));
     assert_eq!(rt; core.add(slot, r2, r2, 3), Ok(()));
@@ -77,7 +74,7 @@ fn registers_wrap(rt: HostRuntime) -> Result<(), Fail> {
 
 fn push_and_put(rt: &impl Abort, core: &mut Core) -> Result<(), Fail> {
     let slot = core.attach().ok().ok_or("attach")?;
-    let (r1, r2) = (register(1)?, register(2)?);
+    let (r1, r2) = (reg(1)?, reg(2)?);
     let global = Global::new(63).ok_or("global")?;
     assert_eq!(rt; core.pop(slot, r1), Err(Refusal::StackEmpty));
     for word in 0..256u64 {
@@ -101,7 +98,7 @@ fn stack_and_globals(rt: HostRuntime) -> Result<(), Fail> {
 
 fn free_by_base(rt: &impl Abort, core: &mut Core) -> Result<(), Fail> {
     let slot = core.attach().ok().ok_or("attach")?;
-    let (r1, r2, r3) = (register(1)?, register(2)?, register(3)?);
+    let (r1, r2, r3) = (reg(1)?, reg(2)?, reg(3)?);
     assert_eq!(rt; core.alloc(slot, r1, 5, Kind::PointerFree), Ok(()));
     assert_eq!(rt; core.add(slot, r2, r1, 47), Ok(()));
     let first = core.get(slot, r1);
@@ -127,7 +124,7 @@ fn objects_are_freed_by_their_base(rt: HostRuntime) -> Result<(), Fail> {
 // Two objects that point to each other, and one that a register points into.
 fn collect_ring(rt: &impl Abort, core: &mut Core) -> Result<(), Fail> {
     let slot = core.attach().ok().ok_or("attach")?;
-    let (r1, r2, r3) = (register(1)?, register(2)?, register(3)?);
+    let (r1, r2, r3) = (reg(1)?, reg(2)?, reg(3)?);
     assert_eq!(rt; core.alloc(slot, r1, 2, Kind::Normal), Ok(()));
     assert_eq!(rt; core.alloc(slot, r2, 2, Kind::Normal), Ok(()));
     assert_eq!(rt; core.alloc(slot, r3, 2, Kind::Normal), Ok(()));
@@ -151,7 +148,7 @@ fn unreached_objects_go(rt: HostRuntime) -> Result<(), Fail> {
 // A pointer-free object has the base of another, which is reached by nothing else.
 fn forget_named(rt: &impl Abort, core: &mut Core) -> Result<(), Fail> {
     let slot = core.attach().ok().ok_or("attach")?;
-    let (r1, r2) = (register(1)?, register(2)?);
+    let (r1, r2) = (reg(1)?, reg(2)?);
     assert_eq!(rt; core.alloc(slot, r1, 2, Kind::PointerFree), Ok(()));
     assert_eq!(rt; core.alloc(slot, r2, 512, Kind::Normal), Ok(()));
     assert_eq!(rt; core.store(slot, r1, 0, r2), Ok(()));

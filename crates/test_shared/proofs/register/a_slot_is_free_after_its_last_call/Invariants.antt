@@ -1,4 +1,4 @@
-use Rattle.shared_register.proofs.tests.a_slot_is_free_after_its_last_call.Given as goal
+use Rattle.test_shared.proofs.register.a_slot_is_free_after_its_last_call.Given as goal
 
 -- the table that was just opened
 abbrev pub ghosts-come_and_go : goal.ghosts-come_and_go

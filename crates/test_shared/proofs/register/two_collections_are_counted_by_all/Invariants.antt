@@ -1,4 +1,4 @@
-use Rattle.shared_register.proofs.tests.two_collections_are_counted_by_all.Given as goal
+use Rattle.test_shared.proofs.register.two_collections_are_counted_by_all.Given as goal
 
 -- the table that was just opened
 abbrev pub ghosts-count_in_a_row : goal.ghosts-count_in_a_row

@@ -1,4 +1,4 @@
-use Rattle.shared_register.proofs.tests.threads_leave_one_history.Given as goal
+use Rattle.test_shared.proofs.register.threads_leave_one_history.Given as goal
 
 -- the table that was just opened
 abbrev pub ghosts-add_in_threads : goal.ghosts-add_in_threads
