@@ -1,11 +1,10 @@
 -- The walk that forgets the unmarked objects.
-use Rattle.std.proofs.Common.{inl, inr, ◌≡◌, ℕ, ◌+◌, ◌*◌, ◌<◌, ◌≤◌, ◌⊎◌, Bool, true, false, List, [], ◌++◌, ◌∷◌, length, set, get_or, length-set, get_or-set_same, get_or-set_other, Contains, Some, None, refl, sym, ap, ◌∙◌, subst, ⊎_elim, arith, length-append}
+use Rattle.std.proofs.Common.{inl, inr, ◌≡◌, ℕ, ◌+◌, ◌*◌, ◌<◌, ◌≤◌, ◌⊎◌, false, List, [], ◌++◌, ◌∷◌, length, set, get_or, length-set, get_or-set_same, get_or-set_other, Contains, Some, None, refl, sym, ap, ◌∙◌, subst, ⊎_elim, arith, length-append}
 use Rattle.std.proofs.lemmas.Bool.{cases_lt, cases_eq}
 use Rattle.std.proofs.lemmas.List.{ext_get_or}
 use Rattle.blocks.proofs.Places.{class_bounds}
 use Rattle.std.proofs.lemmas.List.Elements.{All-push, All-contains}
 use Rattle.std.proofs.lemmas.Option.{same_Some}
-use Rattle.words.specs.declared.limits.TheConstants.{FIRST_ADDRESS}
 use Rattle.block_map.specs.declared.found.Found.{Found}
 use Rattle.block_map.specs.Places.{page_start, page_of}
 use Rattle.block_map.specs.FoundIn.{found_in}
@@ -22,7 +21,7 @@ use Rattle.block_map.specs.FoundIn.{IsLawful}
 use Rattle.block_map.specs.Objects.{cell_object, IsObjectOn}
 use Rattle.blocks.specs.Cells.{Cells, IsCells}
 use Rattle.words.specs.declared.class.Kind.{Kind}
-use Rattle.object_space.proofs.Sweeping.{without_none, without_more, has, true_has, false_has}
+use Rattle.object_space.proofs.Sweeping.{without_none, without_more, has}
 
 -- nothing was looked at
 pub passed_none : (old : Store) (m : Marking) (from limit : ℕ) → HasPassed old m from limit from 0 old
@@ -129,7 +128,7 @@ module _ (old : Store) (m : Marking) (from limit address n : ℕ) (mid : Store) 
               (cases_lt w f.base)
 
 -- an object that an address of a cut page reads is one of the page
-cut_page_object : (states : List PageState) (page : ℕ) (b : Cells) → IsLaid states → IsLawful states → state_at states page ≡ cut b → (w : ℕ) (f : Found) → page_start page ≤ w → w < page_start (page + 1) → found_in states w ≡ Some f → f.page ≡ page
+pub cut_page_object : (states : List PageState) (page : ℕ) (b : Cells) → IsLaid states → IsLawful states → state_at states page ≡ cut b → (w : ℕ) (f : Found) → page_start page ≤ w → w < page_start (page + 1) → found_in states w ≡ Some f → f.page ≡ page
 cut_page_object states page b laid lawful is w f low high there =
     by (lies_cases states laid f page (lawful.object w f there) (let r = lawful.map.reads w f there in let a = r.from in let z = r.below in (omega arith, omega arith)))
   where
