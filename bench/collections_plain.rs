@@ -189,22 +189,34 @@ impl Core {
         self.words[((found.base - START) / 8) as usize] = u64::from(block.first);
         block.first = found.cell;
         clear(&mut block.taken, usize::from(found.cell));
-        let is_empty = block.taken == [0; 4];
+        if block.taken == [0; 4] {
+            self.free_page(page);
+            return;
+        }
         let Page::Cut(block) = &self.map[page] else {
             return;
         };
         let row = self.row_of(block);
-        if is_empty {
-            self.map[page] = Page::Free;
-            set(&mut self.free, page);
-            clear(&mut self.open[row], page);
-            clear(&mut self.pending, page);
-        } else {
-            set(&mut self.open[row], page);
-        }
+        set(&mut self.open[row], page);
+    }
+
+    // A page that keeps no object is free at once.
+    fn free_page(&mut self, page: usize) {
+        let Page::Cut(block) = &self.map[page] else {
+            return;
+        };
+        let row = self.row_of(block);
+        self.map[page] = Page::Free;
+        set(&mut self.free, page);
+        clear(&mut self.open[row], page);
+        clear(&mut self.pending, page);
     }
 
     fn sweep_page(&mut self, page: usize) {
+        if self.marker.marks[4 * page..4 * page + 4] == [0; 4] {
+            self.free_page(page);
+            return;
+        }
         let mut address = start_of(page);
         while let Some(found) = next_on_page(&self.map, page as u32, address) {
             address = found.base + 8 * u64::from(found.len);
@@ -337,21 +349,30 @@ fn time_finish(name: &str, core: &mut Core, bases: &[u64], stores: u64) {
     report(name, least, 1, stores);
 }
 
-fn time_allocs(core: &mut Core) {
+fn lose_all(core: &mut Core) -> u64 {
     core.keep(0);
     core.mark_all();
-    let gone = core.finish();
-    let mut all: u128 = 0;
-    let mut longest: u128 = 0;
-    for _ in 0..OBJECTS {
-        let start = Instant::now();
-        let _base = black_box(&mut *core).alloc(2);
-        let spent = start.elapsed().as_nanos();
-        all += spent;
-        longest = longest.max(spent);
+    core.finish()
+}
+
+fn time_allocs(core: &mut Core, bases: &mut [u64]) {
+    let gone = lose_all(core);
+    let start = Instant::now();
+    for base in bases.iter_mut() {
+        *base = core.alloc(2);
     }
-    report("alloc_after_cycle", all, OBJECTS as u64, gone);
-    report("alloc_longest", longest, 1, 0);
+    report("alloc_after_cycle", start.elapsed().as_nanos(), OBJECTS as u64, gone);
+}
+
+fn time_longest(core: &mut Core, bases: &mut [u64]) {
+    let gone = lose_all(core);
+    let mut longest: u128 = 0;
+    for base in bases.iter_mut() {
+        let start = Instant::now();
+        *base = black_box(&mut *core).alloc(2);
+        longest = longest.max(start.elapsed().as_nanos());
+    }
+    report("alloc_longest", longest, 1, gone);
 }
 
 fn time_finds(name: &str, core: &mut Core, bases: &[u64]) {
@@ -374,12 +395,13 @@ fn main() {
         time_collect(&format!("collect_{shape}"), &mut core);
     }
     let mut core = Core::new();
-    let bases = build(&mut core, "list");
+    let mut bases = build(&mut core, "list");
     time_collect("collect_list", &mut core);
     for stores in [0, 10, 100, 1_000] {
         time_finish(&format!("finish_stores_{stores}"), &mut core, &bases, stores);
     }
-    time_allocs(&mut core);
+    time_allocs(&mut core, &mut bases);
+    time_longest(&mut core, &mut bases);
     let mut core = Core::new();
     let bases = build(&mut core, "every_other");
     core.mark_all();

@@ -71,7 +71,27 @@ struct Core {
     free: Vec<u64>,
     map: Vec<Page>,
     open: Vec<Vec<u64>>,
+    pending: Vec<u64>,
+    marks: Vec<u64>,
+    dirty: Vec<u64>,
+    is_marking: bool,
     index: [u8; 129],
+}
+
+fn is_set(row: &[u64], i: usize) -> bool {
+    (row[i / 64] >> (i % 64)) & 1 == 1
+}
+
+fn set(row: &mut [u64], i: usize) {
+    row[i / 64] |= 1 << (i % 64);
+}
+
+fn clear(row: &mut [u64], i: usize) {
+    row[i / 64] &= !(1 << (i % 64));
+}
+
+fn granule(address: u64) -> usize {
+    ((address - START) / 16) as usize
 }
 
 fn fill(row: &mut [u64], first: usize, n: usize, free: bool) {
@@ -113,11 +133,15 @@ impl Core {
             free: vec![u64::MAX; PAGES / 64],
             map: (0..PAGES).map(|_| Page::Free).collect(),
             open: vec![vec![0; PAGES / 64 + 1]; 26],
+            pending: vec![0; PAGES / 64 + 1],
+            marks: vec![0; 4 * PAGES],
+            dirty: vec![0; PAGES / 64 + 1],
+            is_marking: false,
             index,
         }
     }
 
-    fn find(&self, w: u64) -> Option<Found> {
+    fn look_up(&self, w: u64) -> Option<Found> {
         let page = (w.checked_sub(START)? / 4_096) as u32;
         match self.map.get(page as usize)? {
             Page::Free => None,
@@ -136,6 +160,12 @@ impl Core {
                 _ => None,
             },
         }
+    }
+
+    // On a page that is still to be swept only marked objects are kept.
+    fn find(&self, w: u64) -> Option<Found> {
+        let found = self.look_up(w)?;
+        (!is_set(&self.pending, found.page as usize) || is_set(&self.marks, granule(found.base))).then_some(found)
     }
 
     fn row(class: usize, kind: Kind) -> usize {
@@ -222,6 +252,7 @@ impl Core {
         self.map[page] = Page::Free;
         fill(&mut self.free, page, 1, true);
         self.open[row][page / 64] &= !(1 << (page % 64));
+        clear(&mut self.pending, page);
     }
 
     fn mutator(&mut self, slot: usize) -> Result<&mut Mutator, Refusal> {
@@ -257,6 +288,9 @@ impl Core {
         }
         self.find(address).ok_or(Refusal::NoObject)?;
         self.words[((address - START) / 8) as usize] = word;
+        if self.is_marking {
+            set(&mut self.dirty, ((address - START) / 4_096) as usize);
+        }
         Ok(())
     }
 
@@ -266,6 +300,9 @@ impl Core {
             return Err(Refusal::BadSize);
         }
         let base = self.allocate(words, kind).ok_or(Refusal::Full)?;
+        if self.is_marking {
+            set(&mut self.marks, granule(base));
+        }
         self.mutator(slot)?.registers[into] = base;
         Ok(())
     }
@@ -277,6 +314,7 @@ impl Core {
             return Err(Refusal::NotBase);
         }
         self.release(found);
+        clear(&mut self.marks, granule(word));
         Ok(())
     }
 }

@@ -75,22 +75,34 @@ fn time_finish<R: Eprint + Clock>(
     report(rt, name, least, 1, stores)
 }
 
-// Allocations after the pause in which all objects went: the mean of all, and the longest.
-fn time_allocs<R: Eprint + Clock>(rt: &R, user: &mut User) -> io::Result<()> {
+// A cycle in which all objects go. Answers how many.
+fn lose_all(user: &mut User) -> u64 {
     user.keep(0);
     user.mark_all();
-    let gone = user.finish();
-    let mut all: u128 = 0;
-    let mut longest: u128 = 0;
-    for _ in 0..OBJECTS {
-        let start = Instant::now(rt)?;
-        let _base = user.allocate(2);
-        let spent = since(rt, start)?;
-        all = all.saturating_add(spent);
-        longest = longest.max(spent);
+    user.finish()
+}
+
+// Allocations after the pause in which all objects went.
+fn time_allocs<R: Eprint + Clock>(rt: &R, user: &mut User, bases: &mut [u64]) -> io::Result<()> {
+    let gone = lose_all(user);
+    let start = Instant::now(rt)?;
+    for base in bases.iter_mut() {
+        *base = user.allocate(2);
     }
-    report(rt, "alloc_after_cycle", all, OBJECTS as u64, gone)?;
-    report(rt, "alloc_longest", longest, 1, user.sweep_all())
+    let calls = OBJECTS as u64;
+    report(rt, "alloc_after_cycle", since(rt, start)?, calls, gone)
+}
+
+// The longest of them.
+fn time_longest<R: Eprint + Clock>(rt: &R, user: &mut User, bases: &mut [u64]) -> io::Result<()> {
+    let gone = lose_all(user);
+    let mut longest: u128 = 0;
+    for base in bases.iter_mut() {
+        let start = Instant::now(rt)?;
+        *base = user.allocate(2);
+        longest = longest.max(since(rt, start)?);
+    }
+    report(rt, "alloc_longest", longest, 1, gone)
 }
 
 // Lookups of the objects that are left, every second one.
@@ -130,7 +142,8 @@ fn time_list<R: Eprint + Clock>(rt: &R, user: &mut User, bases: &mut [u64]) -> i
     ] {
         time_finish(rt, name, user, bases, stores)?;
     }
-    time_allocs(rt, user)
+    time_allocs(rt, user, bases)?;
+    time_longest(rt, user, bases)
 }
 
 fn measure_shape<R: Eprint + Clock>(

@@ -37,7 +37,7 @@ place_on states (cut b) f laid on =
 place_on states (head n k) f laid on = let base : f.base ≡ page_start f.page = ap (λ (x : Found). x.base) on in omega arith
 place_on states (body q) f laid on = absurd on
 
-begins_on : (states : List PageState) → IsLaid states → (f : Found) → IsObject states f → page_of f.base ≡ f.page
+pub begins_on : (states : List PageState) → IsLaid states → (f : Found) → IsObject states f → page_of f.base ≡ f.page
 begins_on states laid f o = place_on states (state_at states f.page) f (laid.each f.page o.page) o.on
 
 -- ---- products

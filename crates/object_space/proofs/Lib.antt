@@ -17,3 +17,4 @@ pub mod Passing
 pub mod Forgetting
 pub mod Counting
 pub mod Forgets
+pub mod FreePages

@@ -130,7 +130,7 @@ module _ (old : Store) (m : Marking) (from limit address n : ℕ) (mid : Store) 
               (cases_lt w f.base)
 
 -- an object that an address of a cut page reads is one of the page
-cut_page_object : (states : List PageState) (page : ℕ) (b : Cells) → IsLaid states → IsLawful states → state_at states page ≡ cut b → (w : ℕ) (f : Found) → page_start page ≤ w → w < page_start (page + 1) → found_in states w ≡ Some f → f.page ≡ page
+pub cut_page_object : (states : List PageState) (page : ℕ) (b : Cells) → IsLaid states → IsLawful states → state_at states page ≡ cut b → (w : ℕ) (f : Found) → page_start page ≤ w → w < page_start (page + 1) → found_in states w ≡ Some f → f.page ≡ page
 cut_page_object states page b laid lawful is w f low high there =
     by (lies_cases states laid f page (lawful.object w f there) (let r = lawful.map.reads w f there in let a = r.from in let z = r.below in (omega arith, omega arith)))
   where

@@ -17,6 +17,7 @@ mod available_pages;
 mod close;
 mod forget;
 mod free;
+mod free_page;
 mod mark;
 mod sweep;
 

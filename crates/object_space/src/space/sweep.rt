@@ -71,7 +71,7 @@ impl ObjectSpace {
         Passed { next, forgotten: 1 }
     }
 
-    // Sweeps a page.
+    // Sweeps a page. One without a mark keeps no object, and is free at once.
     pub(super) fn sweep_page(&mut self, marker: &Marker, page: PageNo)
         requires pages { length marker.now.dirty ≡ length self.old.states }
         requires inside { page < length self.old.states }
@@ -81,6 +81,10 @@ impl ObjectSpace {
     {
         // Its clauses tell what is true of the map, and that the page is cut.
         let _end = self.end();
+        if marker.marks_on(page) == 0 {
+            self.free_page(page);
+            return;
+        }
         let Some(_) = self.map.block(page) else {
             unreachable!();
         };

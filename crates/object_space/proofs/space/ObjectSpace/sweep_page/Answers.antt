@@ -5,6 +5,7 @@ use Rattle.object_space.specs.Store.{Store}
 use Rattle.words.specs.Layout.{page_start}
 use Rattle.object_space.specs.Sweeps.{HasPassed}
 use Rattle.object_space.proofs.Passing.{passed_none, passed_more, passed_page, passes_further}
+use Rattle.object_space.proofs.FreePages.{sweeps_unmarked}
 use Rattle.object_space.proofs.space.ObjectSpace.sweep_page.Goals as goal
 
 pub loop-address-init : goal.loop-address-init
@@ -28,3 +29,7 @@ returns-clause-sweeps c =
     passed_page _ _ c.args.page c.loop-address.address _ _ _ c.end-end.ensures.laid c.end-end.ensures.lawful c.in-Some.field-0.now (sym (ap (λ (t : Store). state_at t.states c.args.page) c.self.view_is) ∙ c.in-Some.ensures)
     (let end = c.page_start-end.ensures in let test = c.loop-address-test.false in omega arith) c.loop-address.invariant.1
     (ap (λ (t : Store). t.words) c.self-2.view_is) (ap (λ (t : Store). t.states) c.self-2.view_is) (c.clear.ensures ∙ ap (λ (t : Store). slice_set t.pending c.args.page false) c.self-2.view_is)
+
+pub returns-then-marks_on-eq0-clause-sweeps : goal.returns-then-marks_on-eq0-clause-sweeps
+returns-then-marks_on-eq0-clause-sweeps c =
+    sweeps_unmarked _ _ _ _ c.end-end.ensures.laid c.end-end.ensures.lawful (sym c.marks_on.ensures ∙ c.if-marks_on-eq0.true) c.free_page.ensures
