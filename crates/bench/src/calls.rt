@@ -95,32 +95,37 @@ fn measure_calls<R: Eprint + Clock>(
     time_allocs(rt, "alloc_two", user, sizes, bases)
 }
 
-fn measure_classes<R: Eprint + Clock>(
-    rt: &R,
-    user: &mut User,
-    sizes: &mut [u64],
-    bases: &mut [u64],
-) -> io::Result<()> {
-    draw(sizes, 256);
-    time_allocs(rt, "alloc_classes", user, sizes, bases)
+fn measure_mix<R: Eprint + Clock>(rt: &R, alloc: Global, user: &mut User) -> io::Result<()> {
+    let mut sizes = vec![in alloc; 0u64; MORE]?;
+    let mut bases = vec![in alloc; 0u64; MORE]?;
+    let mut ring = vec![in alloc; 0u64; RING]?;
+    measure_calls(
+        rt,
+        user,
+        sizes.as_mut_slice(),
+        bases.as_mut_slice(),
+        ring.as_mut_slice(),
+    )
+}
+
+fn measure_classes<R: Eprint + Clock>(rt: &R, alloc: Global, user: &mut User) -> io::Result<()> {
+    let mut sizes = vec![in alloc; 0u64; EACH]?;
+    let mut bases = vec![in alloc; 0u64; EACH]?;
+    draw(sizes.as_mut_slice(), 256);
+    time_allocs(
+        rt,
+        "alloc_classes",
+        user,
+        sizes.as_slice(),
+        bases.as_mut_slice(),
+    )
 }
 
 /// Allocation, freeing, loads and stores.
 pub(crate) fn measure<R: Eprint + Clock>(rt: &R, alloc: Global) -> io::Result<()> {
-    let mut sizes = vec![in alloc; 0u64; MORE]?;
-    let mut bases = vec![in alloc; 0u64; MORE]?;
-    let mut ring = vec![in alloc; 0u64; RING]?;
-    if let Some(mut user) = User::new(alloc) {
-        measure_calls(
-            rt,
-            &mut user,
-            sizes.as_mut_slice(),
-            bases.as_mut_slice(),
-            ring.as_mut_slice(),
-        )?;
-        let mut sizes = vec![in alloc; 0u64; EACH]?;
-        let mut bases = vec![in alloc; 0u64; EACH]?;
-        measure_classes(rt, &mut user, sizes.as_mut_slice(), bases.as_mut_slice())?;
-    }
-    Ok(())
+    let Some(mut user) = User::new(alloc) else {
+        return Ok(());
+    };
+    measure_mix(rt, alloc, &mut user)?;
+    measure_classes(rt, alloc, &mut user)
 }

@@ -110,7 +110,7 @@ fn time_finds<R: Eprint + Clock>(
 }
 
 // Lookups while each page has dead objects that aren't swept, and when they are.
-fn measure_finds<R: Eprint + Clock>(rt: &R, user: &mut User, bases: &mut [u64]) -> io::Result<()> {
+fn time_pending<R: Eprint + Clock>(rt: &R, user: &mut User, bases: &mut [u64]) -> io::Result<()> {
     build(user, bases, "every_other");
     user.mark_all();
     let _gone = user.finish();
@@ -119,7 +119,7 @@ fn measure_finds<R: Eprint + Clock>(rt: &R, user: &mut User, bases: &mut [u64]) 
     time_finds(rt, "find_swept", user, bases)
 }
 
-fn measure_list<R: Eprint + Clock>(rt: &R, user: &mut User, bases: &mut [u64]) -> io::Result<()> {
+fn time_list<R: Eprint + Clock>(rt: &R, user: &mut User, bases: &mut [u64]) -> io::Result<()> {
     build(user, bases, "list");
     time_collect(rt, "collect_list", user)?;
     for (stores, name) in [
@@ -133,20 +133,43 @@ fn measure_list<R: Eprint + Clock>(rt: &R, user: &mut User, bases: &mut [u64]) -
     time_allocs(rt, user)
 }
 
+fn measure_shape<R: Eprint + Clock>(
+    rt: &R,
+    alloc: Global,
+    name: &str,
+    shape: &str,
+    bases: &mut [u64],
+) -> io::Result<()> {
+    let Some(mut user) = User::new(alloc) else {
+        return Ok(());
+    };
+    build(&mut user, bases, shape);
+    time_collect(rt, name, &mut user)
+}
+
+fn measure_list<R: Eprint + Clock>(rt: &R, alloc: Global, bases: &mut [u64]) -> io::Result<()> {
+    let Some(mut user) = User::new(alloc) else {
+        return Ok(());
+    };
+    time_list(rt, &mut user, bases)
+}
+
+fn measure_finds<R: Eprint + Clock>(rt: &R, alloc: Global, bases: &mut [u64]) -> io::Result<()> {
+    let Some(mut user) = User::new(alloc) else {
+        return Ok(());
+    };
+    time_pending(rt, &mut user, bases)
+}
+
+fn measure_all<R: Eprint + Clock>(rt: &R, alloc: Global, bases: &mut [u64]) -> io::Result<()> {
+    measure_shape(rt, alloc, "collect_tree", "tree", bases)?;
+    measure_shape(rt, alloc, "collect_graph", "graph", bases)?;
+    measure_list(rt, alloc, bases)?;
+    measure_finds(rt, alloc, bases)
+}
+
 /// Full collections, pauses, allocations after them, and lookups.
 pub(crate) fn measure<R: Eprint + Clock>(rt: &R, alloc: Global) -> io::Result<()> {
     let mut bases = vec![in alloc; 0u64; OBJECTS]?;
-    for (shape, name) in [("tree", "collect_tree"), ("graph", "collect_graph")] {
-        if let Some(mut user) = User::new(alloc) {
-            build(&mut user, bases.as_mut_slice(), shape);
-            time_collect(rt, name, &mut user)?;
-        }
-    }
-    if let Some(mut user) = User::new(alloc) {
-        measure_list(rt, &mut user, bases.as_mut_slice())?;
-    }
-    if let Some(mut user) = User::new(alloc) {
-        measure_finds(rt, &mut user, bases.as_mut_slice())?;
-    }
-    Ok(())
+    measure_all(rt, alloc, bases.as_mut_slice())
 }

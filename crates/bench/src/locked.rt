@@ -5,7 +5,7 @@ use crate::figures::{report, since};
 use heap_core::Core;
 use history::{Naming, Opened};
 use shared::{Mutator, SharedHeap, open};
-use std::alloc::Global;
+use std::alloc::{AllocError, Global};
 use std::marker::{Brand, Sync};
 use std::rt::Clock;
 use std::sync::Wait;
@@ -114,31 +114,51 @@ fn cost<J: Naming + Send + Sync, R: Threads + Wait + Sync + Clock>(
     Ok((stores, since(rt, start)?))
 }
 
-fn time_words<J: Naming + Send + Sync, R: Threads + Wait + Sync + Eprint + Clock>(
+// The least cost of some rounds, as two lines.
+fn time_crew<J: Naming + Send + Sync, R: Threads + Wait + Sync + Eprint + Clock>(
     rt: &R,
-    alloc: Global,
-    heap: &SharedHeap<J>,
+    crew: &mut [Caller<J, R>],
+    store: &str,
+    load: &str,
+    calls: u64,
 ) -> io::Result<()> {
+    let mut least = (u128::MAX, u128::MAX);
+    for _ in 0..ROUNDS {
+        let (stores, loads) = cost(rt, crew)?;
+        least = (least.0.min(stores), least.1.min(loads));
+    }
+    report(rt, store, least.0, calls, 0)?;
+    report(rt, load, least.1, calls, 0)
+}
+
+// Four mutators, or fewer where no more may come.
+fn hire<'a, J: Naming, R: Wait>(
+    rt: &'a R,
+    alloc: Global,
+    heap: &'a SharedHeap<J>,
+) -> Result<Vec<Caller<'a, J, R>>, AllocError> {
     let mut crew = Vec::new(alloc);
     for _ in 0..CREW {
         if let Some(caller) = Caller::new(rt, heap) {
             crew.push(caller)?;
         }
     }
+    Ok(crew)
+}
+
+fn time_words<J: Naming + Send + Sync, R: Threads + Wait + Sync + Eprint + Clock>(
+    rt: &R,
+    alloc: Global,
+    heap: &SharedHeap<J>,
+) -> io::Result<()> {
+    let mut crew = hire(rt, alloc, heap)?;
     for (callers, store, load) in [
         (4usize, "locked_store_by_4", "locked_load_by_4"),
         (2, "locked_store_by_2", "locked_load_by_2"),
         (1, "locked_store_by_1", "locked_load_by_1"),
     ] {
         crew.truncate(callers);
-        let mut least = (u128::MAX, u128::MAX);
-        for _ in 0..ROUNDS {
-            let (stores, loads) = cost(rt, crew.as_mut_slice())?;
-            least = (least.0.min(stores), least.1.min(loads));
-        }
-        let calls = CALLS * callers as u64;
-        report(rt, store, least.0, calls, 0)?;
-        report(rt, load, least.1, calls, 0)?;
+        time_crew(rt, crew.as_mut_slice(), store, load, CALLS * callers as u64)?;
     }
     Ok(())
 }

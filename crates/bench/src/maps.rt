@@ -93,7 +93,7 @@ fn draw(random: &mut Random, words: &mut [u64], from: u64, bytes: u64) {
 }
 
 // Words that read cells, words that read the large object, and words that read nothing.
-fn measure_map<R: Eprint + Clock>(rt: &R, map: &BlockMap, words: &mut [u64]) -> io::Result<()> {
+fn time_map<R: Eprint + Clock>(rt: &R, map: &BlockMap, words: &mut [u64]) -> io::Result<()> {
     let mut random = Random::new(1);
     let half = PAGE_BYTES * u64::from(HALF);
     for (name, from, bytes) in [
@@ -112,22 +112,31 @@ fn measure_map<R: Eprint + Clock>(rt: &R, map: &BlockMap, words: &mut [u64]) -> 
     report(rt, "next_on_page", since(rt, start)?, count, count)
 }
 
-fn measure_pool<R: Eprint + Clock>(rt: &R, pool: &mut PagePool) -> io::Result<()> {
+fn measure_map<R: Eprint + Clock>(rt: &R, alloc: Global, words: &mut [u64]) -> io::Result<()> {
+    let Some(mut space) = BlockSpace::open(alloc, MAX_PAGES) else {
+        return Ok(());
+    };
+    lay_out(&mut space);
+    time_map(rt, space.map(), words)
+}
+
+fn time_pool<R: Eprint + Clock>(rt: &R, pool: &mut PagePool) -> io::Result<()> {
     scatter(pool);
     let start = Instant::now(rt)?;
     let answer = take_runs(pool);
     report(rt, "take_run", since(rt, start)?, u64::from(ROUNDS), answer)
 }
 
+fn measure_pool<R: Eprint + Clock>(rt: &R, alloc: Global) -> io::Result<()> {
+    let Ok(mut pool) = PagePool::new(alloc, MAX_PAGES) else {
+        return Ok(());
+    };
+    time_pool(rt, &mut pool)
+}
+
 /// Lookups in a map, a walk over its objects, and runs of a pool.
 pub(crate) fn measure<R: Eprint + Clock>(rt: &R, alloc: Global) -> io::Result<()> {
     let mut words = vec![in alloc; 0u64; WORDS]?;
-    if let Some(mut space) = BlockSpace::open(alloc, MAX_PAGES) {
-        lay_out(&mut space);
-        measure_map(rt, space.map(), words.as_mut_slice())?;
-    }
-    if let Ok(mut pool) = PagePool::new(alloc, MAX_PAGES) {
-        measure_pool(rt, &mut pool)?;
-    }
-    Ok(())
+    measure_map(rt, alloc, words.as_mut_slice())?;
+    measure_pool(rt, alloc)
 }

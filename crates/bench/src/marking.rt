@@ -102,20 +102,26 @@ fn measure_objects<R: Eprint + Clock>(
     shape: &str,
     count: u64,
 ) -> io::Result<()> {
-    if let Some(mut heap) = Heap::open(alloc, 400, 0) {
-        fill(&mut heap, count);
-        link(&mut heap, shape, count);
-        time_marking(rt, name, &mut heap, count)?;
-    }
-    Ok(())
+    let Some(mut heap) = Heap::open(alloc, 400, 0) else {
+        return Ok(());
+    };
+    fill(&mut heap, count);
+    link(&mut heap, shape, count);
+    time_marking(rt, name, &mut heap, count)
+}
+
+// One object of many words.
+fn measure_words<R: Eprint + Clock>(rt: &R, alloc: Global) -> io::Result<()> {
+    let Some(mut heap) = Heap::open(alloc, WORD_PAGES, WORD_PAGES) else {
+        return Ok(());
+    };
+    draw(&mut heap);
+    time_marking(rt, "mark_words", &mut heap, WORDS)
 }
 
 /// Marking of one object of many words, and of lists, trees and graphs.
 pub(crate) fn measure<R: Eprint + Clock>(rt: &R, alloc: Global) -> io::Result<()> {
-    if let Some(mut heap) = Heap::open(alloc, WORD_PAGES, WORD_PAGES) {
-        draw(&mut heap);
-        time_marking(rt, "mark_words", &mut heap, WORDS)?;
-    }
+    measure_words(rt, alloc)?;
     for (shape, count, name) in [
         ("list", 1_000, "mark_list_1000"),
         ("list", 10_000, "mark_list_10000"),

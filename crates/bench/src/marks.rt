@@ -93,7 +93,25 @@ fn hire(
     Ok(crew)
 }
 
-// Nanoseconds of a claim of all bits by each helper, and of a look at all bits.
+// Nanoseconds of a claim of all bits by each of a crew, and of a look at all bits.
+fn time_crew<R: Threads + Sync + Clock>(
+    rt: &R,
+    table: &MarkTable,
+    granules: usize,
+    crew: &mut [Claimer],
+) -> io::Result<(u128, u128)>
+    requires granules { granules ≡ length (start_of table.now) }
+    requires crew { All (λ c. IsReady table.now c) crew.old }
+{
+    let start = Instant::now(rt)?;
+    claim_side_by_side(rt, table, granules, crew);
+    let claims = since(rt, start)?;
+    let start = Instant::now(rt)?;
+    look_side_by_side(rt, table, granules, crew);
+    Ok((claims, since(rt, start)?))
+}
+
+// The same of so many helpers on a table of their own.
 fn cost<R: Threads + Sync + Clock>(rt: &R, alloc: Global, helpers: u8) -> io::Result<(u128, u128)>
     requires { helpers ≤ MAX_HELPERS }
 {
@@ -102,12 +120,23 @@ fn cost<R: Threads + Sync + Clock>(rt: &R, alloc: Global, helpers: u8) -> io::Re
         return Err(AllocError.into());
     };
     let mut crew = hire(alloc, &table, &mut first, helpers)?;
-    let start = Instant::now(rt)?;
-    claim_side_by_side(rt, &table, marks.granules(), crew.as_mut_slice());
-    let claims = since(rt, start)?;
-    let start = Instant::now(rt)?;
-    look_side_by_side(rt, &table, marks.granules(), crew.as_mut_slice());
-    Ok((claims, since(rt, start)?))
+    time_crew(rt, &table, marks.granules(), crew.as_mut_slice())
+}
+
+// The least of some rounds.
+fn least_cost<R: Threads + Sync + Clock>(
+    rt: &R,
+    alloc: Global,
+    helpers: u8,
+) -> io::Result<(u128, u128)>
+    requires { helpers ≤ MAX_HELPERS }
+{
+    let mut least = (u128::MAX, u128::MAX);
+    for _ in 0..ROUNDS {
+        let (claims, looks) = cost(rt, alloc, helpers)?;
+        least = (least.0.min(claims), least.1.min(looks));
+    }
+    Ok(least)
 }
 
 /// Claims and looks by one, two and four threads.
@@ -117,11 +146,7 @@ pub(crate) fn measure<R: Threads + Sync + Eprint + Clock>(rt: &R, alloc: Global)
         (2, "claim_by_2", "is_set_by_2"),
         (4, "claim_by_4", "is_set_by_4"),
     ] {
-        let mut least = (u128::MAX, u128::MAX);
-        for _ in 0..ROUNDS {
-            let (claims, looks) = cost(rt, alloc, helpers)?;
-            least = (least.0.min(claims), least.1.min(looks));
-        }
+        let least = least_cost(rt, alloc, helpers)?;
         report(rt, claim, least.0, BITS, u64::from(helpers))?;
         report(rt, look, least.1, BITS, u64::from(helpers))?;
     }

@@ -21,19 +21,24 @@ const ROUNDS: u8 = 5;
 
 const PAGES: u32 = 8;
 
-/// So many mutators, each with an object of its own, which it stores to and loads from.
-fn text_of(alloc: Global, mutators: u32) -> Result<String, AllocError> {
-    let mut lines = String::new(alloc);
+/// A mutator's lines: it has an object of its own, which it stores to and loads from.
+fn put_lines(lines: &mut String, slot: u32) -> Result<(), AllocError> {
+    write!(lines, "{slot} alloc 1 2 normal\n")?;
+    for _ in 0..PAIRS {
+        write!(lines, "{slot} store 1 0 2\n{slot} load 3 1 0\n")?;
+    }
+    Ok(())
+}
+
+/// So many mutators, each with its lines.
+fn put_all(lines: &mut String, mutators: u32) -> Result<(), AllocError> {
     for _ in 0..mutators {
         lines.push_str("attach\n")?;
     }
     for slot in 0..mutators {
-        write!(lines, "{slot} alloc 1 2 normal\n")?;
-        for _ in 0..PAIRS {
-            write!(lines, "{slot} store 1 0 2\n{slot} load 3 1 0\n")?;
-        }
+        put_lines(lines, slot)?;
     }
-    Ok(lines)
+    Ok(())
 }
 
 /// Nanoseconds of a run, the replies of which are not printed. A run that memory is refused to tells nothing.
@@ -50,40 +55,56 @@ fn cost<R: Threads + Wait + Sync + Clock>(
     }
 }
 
+fn time_workload<R: Threads + Wait + Sync + Eprint + Clock>(
+    rt: &R,
+    alloc: Global,
+    name: &str,
+    workload: &Workload,
+    lines: u64,
+) -> io::Result<()> {
+    let Some(helpers) = Helpers::new(1) else {
+        return Ok(());
+    };
+    let mut least = u128::MAX;
+    for _ in 0..ROUNDS {
+        least = least.min(cost(rt, alloc, workload, helpers)?);
+    }
+    report(rt, name, least, lines, 0)
+}
+
 fn time_lines<R: Threads + Wait + Sync + Eprint + Clock>(
     rt: &R,
     alloc: Global,
     name: &str,
     mutators: u32,
 ) -> io::Result<()> {
-    let text = text_of(alloc, mutators)?;
+    let mut text = String::new(alloc);
+    put_all(&mut text, mutators)?;
     let Ok(workload) = Workload::read(alloc, &mut Std::new(text.as_bytes())) else {
         return Ok(());
     };
-    let Some(helpers) = Helpers::new(1) else {
-        return Ok(());
-    };
-    let mut least = u128::MAX;
-    for _ in 0..ROUNDS {
-        least = least.min(cost(rt, alloc, &workload, helpers)?);
-    }
-    report(rt, name, least, LINES * u64::from(mutators), 0)
+    time_workload(rt, alloc, name, &workload, LINES * u64::from(mutators))
 }
 
-/// A line of a random script, made, and read as a line of a workload.
+/// A line of a random script, read as a line of a workload.
+fn time_read<R: Eprint + Clock>(rt: &R, alloc: Global, text: &[u8]) -> io::Result<()> {
+    let start = Instant::now(rt)?;
+    let Ok(_workload) = Workload::read(alloc, &mut Std::new(text)) else {
+        return Ok(());
+    };
+    let read = since(rt, start)?;
+    report(rt, "workload_line_read", read, u64::from(MAX_STEPS), 0)
+}
+
+/// A line of a random script, made, and read.
 fn time_random<R: Eprint + Clock>(rt: &R, alloc: Global) -> io::Result<()> {
     let start = Instant::now(rt)?;
     let Ok(text) = make_stress(alloc, 1, 16, MAX_STEPS) else {
         return Ok(());
     };
     let made = since(rt, start)?;
-    let start = Instant::now(rt)?;
-    let Ok(_workload) = Workload::read(alloc, &mut Std::new(text.as_slice())) else {
-        return Ok(());
-    };
-    let read = since(rt, start)?;
     report(rt, "stress_line", made, u64::from(MAX_STEPS), 0)?;
-    report(rt, "workload_line_read", read, u64::from(MAX_STEPS), 0)
+    time_read(rt, alloc, text.as_slice())
 }
 
 /// Lines of one, two and four mutators, and of random scripts.

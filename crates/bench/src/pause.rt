@@ -43,7 +43,36 @@ fn time_pause<R: Threads + Wait + Sync + Eprint + Clock>(
     report(rt, name, least, count, u64::from(number))
 }
 
+// The pause by so many helpers, on a line with a name of its own.
+fn time_named<R: Threads + Wait + Sync + Eprint + Clock>(
+    rt: &R,
+    alloc: Global,
+    shape: &str,
+    heap: &mut Heap,
+    roots: &[u64],
+    number: u8,
+    count: u64,
+) -> io::Result<()> {
+    let name = format!(in alloc; "pause_{shape}_{count}_by_{number}")?;
+    time_pause(rt, alloc, name.as_str(), heap, roots, number, count)
+}
+
 // The pause alone, and by 1, 2 and 4 helpers.
+fn time_shape<R: Threads + Wait + Sync + Eprint + Clock>(
+    rt: &R,
+    alloc: Global,
+    shape: &str,
+    heap: &mut Heap,
+    count: u64,
+) -> io::Result<()> {
+    let mut roots = [0; LISTS as usize];
+    put_roots(shape, count, &mut roots);
+    for number in [0, 1, 2, 4] {
+        time_named(rt, alloc, shape, heap, &roots, number, count)?;
+    }
+    Ok(())
+}
+
 fn measure_shape<R: Threads + Wait + Sync + Eprint + Clock>(
     rt: &R,
     alloc: Global,
@@ -55,13 +84,7 @@ fn measure_shape<R: Threads + Wait + Sync + Eprint + Clock>(
     };
     fill(&mut heap, count);
     link(&mut heap, shape, count);
-    let mut roots = [0; LISTS as usize];
-    put_roots(shape, count, &mut roots);
-    for number in [0, 1, 2, 4] {
-        let name = format!(in alloc; "pause_{shape}_{count}_by_{number}")?;
-        time_pause(rt, alloc, name.as_str(), &mut heap, &roots, number, count)?;
-    }
-    Ok(())
+    time_shape(rt, alloc, shape, &mut heap, count)
 }
 
 /// Pauses over many lists, a tree and a list; with no helper they are the calling thread's alone.

@@ -17,11 +17,11 @@ pub(crate) struct User {
 impl User {
     /// Opens the heap. `None` out of memory.
     pub(crate) fn new(alloc: Global) -> Option<User> {
-        let mut core = Core::new(alloc, MAX_PAGES).ok()?;
-        let slot = core.attach().ok()?;
         let object = Reg::new(1)?;
         let word = Reg::new(2)?;
         let kept = Reg::new(3)?;
+        let mut core = Core::new(alloc, MAX_PAGES).ok()?;
+        let slot = core.attach().ok()?;
         Some(User {
             core,
             slot,
