@@ -15,31 +15,43 @@ fn option<'a>(alloc: Global, name: &'a str) -> Arg<'a> {
     Arg::new(alloc, name).long(name)
 }
 
-/// What the command line may be: one subcommand for each row, and no help or version form.
-pub fn command_line<'a>(alloc: Global) -> Result<Command<'a>, AllocError> {
-    let run = Command::new(alloc, "run")
+/// `run --pages N [FILE]`.
+fn run_words<'a>(alloc: Global) -> Result<Command<'a>, AllocError> {
+    Command::new(alloc, "run")
         .disable_help_flag(true)
         .arg(option(alloc, "pages").required(true))?
-        .arg(Arg::new(alloc, "file"))?;
-    let threads = Command::new(alloc, "threads")
+        .arg(Arg::new(alloc, "file"))
+}
+
+/// `threads --pages N [--helpers K] FILE`.
+fn threads_words<'a>(alloc: Global) -> Result<Command<'a>, AllocError> {
+    Command::new(alloc, "threads")
         .disable_help_flag(true)
         .arg(option(alloc, "pages").required(true))?
         .arg(option(alloc, "helpers"))?
-        .arg(Arg::new(alloc, "file").required(true))?;
-    let stress = Command::new(alloc, "stress")
+        .arg(Arg::new(alloc, "file").required(true))
+}
+
+/// `stress --seed N --mutators K --steps L`.
+fn stress_words<'a>(alloc: Global) -> Result<Command<'a>, AllocError> {
+    Command::new(alloc, "stress")
         .disable_help_flag(true)
         .arg(option(alloc, "seed").required(true))?
         .arg(option(alloc, "mutators").required(true))?
-        .arg(option(alloc, "steps").required(true))?;
+        .arg(option(alloc, "steps").required(true))
+}
+
+/// What the command line may be: one subcommand for each row, and no help or version form.
+pub fn command_line<'a>(alloc: Global) -> Result<Command<'a>, AllocError> {
     Command::new(alloc, "mpheap")
         .no_binary_name(true)
         .disable_help_flag(true)
         .disable_version_flag(true)
         .disable_help_subcommand(true)
         .subcommand_required(true)
-        .subcommand(run)?
-        .subcommand(threads)?
-        .subcommand(stress)
+        .subcommand(run_words(alloc)?)?
+        .subcommand(threads_words(alloc)?)?
+        .subcommand(stress_words(alloc)?)
 }
 
 /// A refused parse is no row of the table, except out of memory.
