@@ -114,19 +114,7 @@ fn cost<J: Naming + Send + Sync, R: Threads + Wait + Sync + Clock>(
     Ok((stores, since(rt, start)?))
 }
 
-// The least cost of some rounds.
-fn least_cost<J: Naming + Send + Sync, R: Threads + Wait + Sync + Clock>(
-    rt: &R,
-    crew: &mut [Caller<J, R>],
-) -> io::Result<(u128, u128)> {
-    let mut least = (u128::MAX, u128::MAX);
-    for _ in 0..ROUNDS {
-        let (stores, loads) = cost(rt, crew)?;
-        least = (least.0.min(stores), least.1.min(loads));
-    }
-    Ok(least)
-}
-
+// The least cost of some rounds, as two lines.
 fn time_crew<J: Naming + Send + Sync, R: Threads + Wait + Sync + Eprint + Clock>(
     rt: &R,
     crew: &mut [Caller<J, R>],
@@ -134,7 +122,11 @@ fn time_crew<J: Naming + Send + Sync, R: Threads + Wait + Sync + Eprint + Clock>
     load: &str,
     calls: u64,
 ) -> io::Result<()> {
-    let least = least_cost(rt, crew)?;
+    let mut least = (u128::MAX, u128::MAX);
+    for _ in 0..ROUNDS {
+        let (stores, loads) = cost(rt, crew)?;
+        least = (least.0.min(stores), least.1.min(loads));
+    }
     report(rt, store, least.0, calls, 0)?;
     report(rt, load, least.1, calls, 0)
 }

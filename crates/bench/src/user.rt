@@ -93,17 +93,13 @@ impl User {
         let _stored = self.core.store(self.slot, self.object, offset, self.word);
     }
 
-    fn size(&mut self, base: u64) -> u64 {
-        let _done = self.core.set(self.slot, self.object, base);
-        self.core.size(self.slot, self.object).unwrap_or(0)
-    }
-
     /// Asks for the words of every second object, and answers their sum.
     pub(crate) fn sizes(&mut self, bases: &[u64]) -> u64 {
         let mut sum: u64 = 0;
         for (number, base) in bases.iter().enumerate() {
             if number % 2 == 0 {
-                sum = sum.wrapping_add(self.size(*base));
+                let _done = self.core.set(self.slot, self.object, *base);
+                sum = sum.wrapping_add(self.core.size(self.slot, self.object).unwrap_or(0));
             }
         }
         sum
@@ -121,18 +117,13 @@ impl User {
         self.core.collect().unwrap_or(0)
     }
 
-    // Marks, and reads a dirty page again. Answers whether there was one.
-    fn mark_on(&mut self) -> bool {
-        let _marked = self.core.mark(u64::MAX);
-        self.core.retrace() == Ok(1)
-    }
-
     /// Begins a cycle, and marks till nothing is left to read.
     pub(crate) fn mark_all(&mut self) {
         let _begun = self.core.begin();
         let _read = self.core.roots();
         for _ in 0..u64::MAX {
-            if !self.mark_on() {
+            let _marked = self.core.mark(u64::MAX);
+            if self.core.retrace() != Ok(1) {
                 break;
             }
         }

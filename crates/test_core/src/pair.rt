@@ -42,8 +42,8 @@ fn count(answer: Result<u64, Refusal>) -> Reply {
     }
 }
 
-// What the plain heap answers to a call.
-fn ask_plain(core: &mut plain_core::Core, slot: Slot, call: Call) -> Reply {
+/// What the plain heap answers to a call.
+pub(crate) fn ask_plain(core: &mut plain_core::Core, slot: Slot, call: Call) -> Reply {
     match call {
         Call::Detach => done(core.detach(slot)),
         Call::Set(reg, number) => done(core.set(slot, reg, number)),

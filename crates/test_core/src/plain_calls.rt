@@ -1,34 +1,52 @@
 //! Runs of whole calls of the core without pages, each with the replies that the definitions of the heap give by hand.
 
-use crate::scene::reg;
+use crate::pair::ask_plain;
+use crate::scene::{FULL, NO_OBJECT, reg};
+use heap_spec::{Call, Reply};
 use plain_core::Core;
 use std::process::Abort;
 use std::test::Fail;
-use words::{Global, Kind, OpenError, Refusal};
+use words::{Global, Kind, OpenError, Refusal, Slot};
+
+// Each call is answered so.
+fn answer(rt: &impl Abort, core: &mut Core, slot: Slot, lines: &[(Call, Reply)]) {
+    for (call, reply) in lines {
+        assert!(rt; ask_plain(core, slot, *call) == *reply);
+    }
+}
+
+// The collections, with nothing said of what they do.
+fn collect(core: &mut Core) -> u64 {
+    core.collect()
+}
+
+fn forget(core: &mut Core, bases: &[u64]) -> bool {
+    core.forget(bases)
+}
 
 fn run_first(rt: &impl Abort, core: &mut Core) -> Result<(), Fail> {
     let slot = core.attach().ok().ok_or("attach")?;
     let (r1, r2, r3) = (reg(1)?, reg(2)?, reg(3)?);
     assert_eq!(rt; slot.number(), 0);
-    assert_eq!(rt; core.alloc(slot, r1, 3, Kind::Normal), Ok(()));
-    assert_eq!(rt; core.set(slot, r2, 77), Ok(()));
-    assert_eq!(rt; core.store(slot, r1, 0, r2), Ok(()));
-    assert_eq!(rt; core.load(slot, r3, r1, 0), Ok(77));
-    assert_eq!(rt; core.load(slot, r3, r1, 1), Ok(0));
-    assert_eq!(rt; core.load(slot, r3, r1, 4), Err(Refusal::NoObject));
-    assert_eq!(rt; core.load(slot, r3, r2, 0), Err(Refusal::Misaligned));
-    assert_eq!(rt;
-        core.alloc(slot, r1, 0, Kind::Normal),
-        Err(Refusal::BadSize)
-    );
-    assert_eq!(rt;
-        core.alloc(slot, r1, 16384, Kind::Normal),
-        Err(Refusal::Full)
-    );
-    assert_eq!(rt; core.alloc(slot, r1, 1025, Kind::Normal), Ok(()));
-    assert_eq!(rt; core.alloc(slot, r1, 257, Kind::Normal), Err(Refusal::Full));
-    assert_eq!(rt; core.detach(slot), Ok(()));
-    assert_eq!(rt; core.detach(slot), Err(Refusal::NoSlot));
+    let lines = [
+        (Call::Alloc(r1, 3, Kind::Normal), Reply::Done),
+        (Call::Set(r2, 77), Reply::Done),
+        (Call::Store(r1, 0, r2), Reply::Done),
+        (Call::Load(r3, r1, 0), Reply::Word(77)),
+        (Call::Load(r3, r1, 1), Reply::Word(0)),
+        (Call::Load(r3, r1, 4), NO_OBJECT),
+        (Call::Load(r3, r2, 0), Reply::Refused(Refusal::Misaligned)),
+        (
+            Call::Alloc(r1, 0, Kind::Normal),
+            Reply::Refused(Refusal::BadSize),
+        ),
+        (Call::Alloc(r1, 16384, Kind::Normal), FULL),
+        (Call::Alloc(r1, 1025, Kind::Normal), Reply::Done),
+        (Call::Alloc(r1, 257, Kind::Normal), FULL),
+        (Call::Detach, Reply::Done),
+        (Call::Detach, Reply::Refused(Refusal::NoSlot)),
+    ];
+    answer(rt, core, slot, &lines);
     Ok(())
 }
 
@@ -53,16 +71,19 @@ fn pages_are_one_to_the_limit(rt: HostRuntime) -> Result<(), Fail> {
 fn wrap(rt: &impl Abort, core: &mut Core) -> Result<(), Fail> {
     let slot = core.attach().ok().ok_or("attach")?;
     let (r1, r2, r3) = (reg(1)?, reg(2)?, reg(3)?);
-    assert_eq!(rt; core.set(slot, r1, 5), Ok(()));
-    assert_eq!(rt; core.copy(slot, r2, r1), Ok(()));
-    assert_eq!(rt; core.add(slot, r2, r2, 3), Ok(()));
-    assert_eq!(rt; core.get(slot, r2), Ok(8));
-    assert_eq!(rt; core.sub(slot, r3, r2, r1), Ok(()));
-    assert_eq!(rt; core.get(slot, r3), Ok(3));
-    assert_eq!(rt; core.sub(slot, r3, r1, r2), Ok(()));
-    assert_eq!(rt; core.get(slot, r3), Ok(18_446_744_073_709_551_613));
-    assert_eq!(rt; core.add(slot, r3, r3, 4), Ok(()));
-    assert_eq!(rt; core.get(slot, r3), Ok(1));
+    let lines = [
+        (Call::Set(r1, 5), Reply::Done),
+        (Call::Copy(r2, r1), Reply::Done),
+        (Call::Add(r2, r2, 3), Reply::Done),
+        (Call::Get(r2), Reply::Word(8)),
+        (Call::Sub(r3, r2, r1), Reply::Done),
+        (Call::Get(r3), Reply::Word(3)),
+        (Call::Sub(r3, r1, r2), Reply::Done),
+        (Call::Get(r3), Reply::Word(18_446_744_073_709_551_613)),
+        (Call::Add(r3, r3, 4), Reply::Done),
+        (Call::Get(r3), Reply::Word(1)),
+    ];
+    answer(rt, core, slot, &lines);
     Ok(())
 }
 
@@ -76,17 +97,24 @@ fn push_and_put(rt: &impl Abort, core: &mut Core) -> Result<(), Fail> {
     let slot = core.attach().ok().ok_or("attach")?;
     let (r1, r2) = (reg(1)?, reg(2)?);
     let global = Global::new(63).ok_or("global")?;
-    assert_eq!(rt; core.pop(slot, r1), Err(Refusal::StackEmpty));
+    let empty = [(Call::Pop(r1), Reply::Refused(Refusal::StackEmpty))];
+    answer(rt, core, slot, &empty);
     for word in 0..256u64 {
-        assert_eq!(rt; core.set(slot, r1, word), Ok(()));
-        assert_eq!(rt; core.push(slot, r1), Ok(()));
+        let lines = [
+            (Call::Set(r1, word), Reply::Done),
+            (Call::Push(r1), Reply::Done),
+        ];
+        answer(rt, core, slot, &lines);
     }
-    assert_eq!(rt; core.push(slot, r1), Err(Refusal::StackFull));
-    assert_eq!(rt; core.pop(slot, r2), Ok(255));
-    assert_eq!(rt; core.pop(slot, r2), Ok(254));
-    assert_eq!(rt; core.gput(slot, global, r2), Ok(()));
-    assert_eq!(rt; core.gget(slot, r1, global), Ok(254));
-    assert_eq!(rt; core.get(slot, r1), Ok(254));
+    let lines = [
+        (Call::Push(r1), Reply::Refused(Refusal::StackFull)),
+        (Call::Pop(r2), Reply::Word(255)),
+        (Call::Pop(r2), Reply::Word(254)),
+        (Call::GlobalPut(global, r2), Reply::Done),
+        (Call::GlobalGet(r1, global), Reply::Word(254)),
+        (Call::Get(r1), Reply::Word(254)),
+    ];
+    answer(rt, core, slot, &lines);
     Ok(())
 }
 
@@ -99,19 +127,25 @@ fn stack_and_globals(rt: HostRuntime) -> Result<(), Fail> {
 fn free_by_base(rt: &impl Abort, core: &mut Core) -> Result<(), Fail> {
     let slot = core.attach().ok().ok_or("attach")?;
     let (r1, r2, r3) = (reg(1)?, reg(2)?, reg(3)?);
-    assert_eq!(rt; core.alloc(slot, r1, 5, Kind::PointerFree), Ok(()));
-    assert_eq!(rt; core.add(slot, r2, r1, 47), Ok(()));
-    let first = core.get(slot, r1);
-    assert_eq!(rt; core.base(slot, r3, r2), first);
-    assert_eq!(rt; core.size(slot, r2), Ok(6));
-    assert_eq!(rt; core.free(slot, r2), Err(Refusal::NotBase));
-    assert_eq!(rt; core.add(slot, r2, r1, 48), Ok(()));
-    assert_eq!(rt; core.free(slot, r2), Err(Refusal::NoObject));
-    assert_eq!(rt; core.base(slot, r3, r2), Err(Refusal::NoObject));
-    assert_eq!(rt; core.free(slot, r1), Ok(()));
-    assert_eq!(rt; core.size(slot, r1), Err(Refusal::NoObject));
-    assert_eq!(rt; core.alloc(slot, r1, 512, Kind::Normal), Ok(()));
-    assert_eq!(rt; core.size(slot, r1), Ok(512));
+    let lines = [
+        (Call::Alloc(r1, 5, Kind::PointerFree), Reply::Done),
+        (Call::Add(r2, r1, 47), Reply::Done),
+    ];
+    answer(rt, core, slot, &lines);
+    let first = ask_plain(core, slot, Call::Get(r1));
+    let lines = [
+        (Call::Base(r3, r2), first),
+        (Call::Size(r2), Reply::Count(6)),
+        (Call::Free(r2), Reply::Refused(Refusal::NotBase)),
+        (Call::Add(r2, r1, 48), Reply::Done),
+        (Call::Free(r2), NO_OBJECT),
+        (Call::Base(r3, r2), NO_OBJECT),
+        (Call::Free(r1), Reply::Done),
+        (Call::Size(r1), NO_OBJECT),
+        (Call::Alloc(r1, 512, Kind::Normal), Reply::Done),
+        (Call::Size(r1), Reply::Count(512)),
+    ];
+    answer(rt, core, slot, &lines);
     Ok(())
 }
 
@@ -125,17 +159,20 @@ fn objects_are_freed_by_their_base(rt: HostRuntime) -> Result<(), Fail> {
 fn collect_ring(rt: &impl Abort, core: &mut Core) -> Result<(), Fail> {
     let slot = core.attach().ok().ok_or("attach")?;
     let (r1, r2, r3) = (reg(1)?, reg(2)?, reg(3)?);
-    assert_eq!(rt; core.alloc(slot, r1, 2, Kind::Normal), Ok(()));
-    assert_eq!(rt; core.alloc(slot, r2, 2, Kind::Normal), Ok(()));
-    assert_eq!(rt; core.alloc(slot, r3, 2, Kind::Normal), Ok(()));
-    assert_eq!(rt; core.store(slot, r1, 0, r2), Ok(()));
-    assert_eq!(rt; core.store(slot, r2, 1, r1), Ok(()));
-    assert_eq!(rt; core.set(slot, r1, 0), Ok(()));
-    assert_eq!(rt; core.collect(), 0);
-    assert_eq!(rt; core.set(slot, r2, 0), Ok(()));
-    assert_eq!(rt; core.collect(), 2);
-    assert_eq!(rt; core.size(slot, r3), Ok(2));
-    assert_eq!(rt; core.collect(), 0);
+    let lines = [
+        (Call::Alloc(r1, 2, Kind::Normal), Reply::Done),
+        (Call::Alloc(r2, 2, Kind::Normal), Reply::Done),
+        (Call::Alloc(r3, 2, Kind::Normal), Reply::Done),
+        (Call::Store(r1, 0, r2), Reply::Done),
+        (Call::Store(r2, 1, r1), Reply::Done),
+        (Call::Set(r1, 0), Reply::Done),
+    ];
+    answer(rt, core, slot, &lines);
+    assert_eq!(rt; collect(core), 0);
+    answer(rt, core, slot, &[(Call::Set(r2, 0), Reply::Done)]);
+    assert_eq!(rt; collect(core), 2);
+    answer(rt, core, slot, &[(Call::Size(r3), Reply::Count(2))]);
+    assert_eq!(rt; collect(core), 0);
     Ok(())
 }
 
@@ -149,21 +186,27 @@ fn unreached_objects_go(rt: HostRuntime) -> Result<(), Fail> {
 fn forget_named(rt: &impl Abort, core: &mut Core) -> Result<(), Fail> {
     let slot = core.attach().ok().ok_or("attach")?;
     let (r1, r2) = (reg(1)?, reg(2)?);
-    assert_eq!(rt; core.alloc(slot, r1, 2, Kind::PointerFree), Ok(()));
-    assert_eq!(rt; core.alloc(slot, r2, 512, Kind::Normal), Ok(()));
-    assert_eq!(rt; core.store(slot, r1, 0, r2), Ok(()));
+    let lines = [
+        (Call::Alloc(r1, 2, Kind::PointerFree), Reply::Done),
+        (Call::Alloc(r2, 512, Kind::Normal), Reply::Done),
+        (Call::Store(r1, 0, r2), Reply::Done),
+    ];
+    answer(rt, core, slot, &lines);
     let kept = core.get(slot, r1).ok().ok_or("a base")?;
     let gone = core.get(slot, r2).ok().ok_or("a base")?;
-    assert!(rt; !core.forget(&[gone]));
-    assert_eq!(rt; core.set(slot, r2, 0), Ok(()));
-    assert!(rt; !core.forget(&[gone, kept]));
-    assert!(rt; !core.forget(&[gone, gone]));
-    assert!(rt; !core.forget(&[gone.wrapping_add(8)]));
-    assert!(rt; core.forget(&[gone]));
-    assert!(rt; !core.forget(&[gone]));
-    assert!(rt; core.forget(&[]));
-    assert_eq!(rt; core.load(slot, r2, r1, 0), Ok(gone));
-    assert_eq!(rt; core.size(slot, r2), Err(Refusal::NoObject));
+    assert!(rt; !forget(core, &[gone]));
+    answer(rt, core, slot, &[(Call::Set(r2, 0), Reply::Done)]);
+    assert!(rt; !forget(core, &[gone, kept]));
+    assert!(rt; !forget(core, &[gone, gone]));
+    assert!(rt; !forget(core, &[gone.wrapping_add(8)]));
+    assert!(rt; forget(core, &[gone]));
+    assert!(rt; !forget(core, &[gone]));
+    assert!(rt; forget(core, &[]));
+    let lines = [
+        (Call::Load(r2, r1, 0), Reply::Word(gone)),
+        (Call::Size(r2), NO_OBJECT),
+    ];
+    answer(rt, core, slot, &lines);
     Ok(())
 }
 
