@@ -8,7 +8,7 @@ use crate::opening::is_page_count;
 use std::alloc::Global;
 use std::marker::Model;
 use words::OpenError;
-use words::limits::{FIRST_ADDRESS, PAGE_WORDS, WORD_BYTES};
+use words::limits::{FIRST_ADDRESS, GRANULE_WORDS, PAGE_WORDS, WORD_BYTES};
 
 /// The memory of a heap: its words, which no call but these reads or writes.
 #[derive(Drop)]
@@ -73,13 +73,19 @@ impl Memory {
         self.words[place(address)] = word;
     }
 
-    /// Writes 0 into so many words from an address on.
+    /// Writes 0 into so many words from an address on. Those of the least objects are written without a loop.
+    #[inline]
     pub fn zero(&mut self, address: u64, count: u32)
         requires address { IsWordAddress self.old address }
         requires inside { place address + count ≤ length self.old }
         ensures { IsZeroed self.old self.new (place address) count }
     {
         let first = place(address);
+        if u64::from(count) == GRANULE_WORDS {
+            self.words[first] = 0;
+            self.words[first + 1] = 0;
+            return;
+        }
         self.words[first..first + count as usize].fill(0);
     }
 }
