@@ -1,9 +1,10 @@
 //! A heap over pages and a plain one that are asked the same.
 use crate::twins::{Twin, Twins};
+use heap_spec::answers::{count, done, word};
 use heap_spec::{Call, Event, Reply};
 use std::alloc::Global;
 use std::test::Fail;
-use words::{Kind, Refusal, Reg, Slot};
+use words::{Kind, Reg, Slot};
 
 /// The words of one register in the two heaps.
 #[derive(Clone, Copy, Drop)]
@@ -18,28 +19,6 @@ pub(crate) struct Pair {
     pub(crate) paged: heap_core::Core,
     pub(crate) plain: plain_core::Core,
     pub(crate) twins: Twins,
-}
-
-// A reply to a call that answers nothing more, a word, and a number.
-fn done(answer: Result<(), Refusal>) -> Reply {
-    match answer {
-        Ok(()) => Reply::Done,
-        Err(refusal) => Reply::Refused(refusal),
-    }
-}
-
-fn word(answer: Result<u64, Refusal>) -> Reply {
-    match answer {
-        Ok(word) => Reply::Word(word),
-        Err(refusal) => Reply::Refused(refusal),
-    }
-}
-
-fn count(answer: Result<u64, Refusal>) -> Reply {
-    match answer {
-        Ok(count) => Reply::Count(count),
-        Err(refusal) => Reply::Refused(refusal),
-    }
 }
 
 /// What the plain heap answers to a call.

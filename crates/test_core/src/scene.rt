@@ -43,6 +43,13 @@ impl Scene {
         assert_eq!(rt; answer, reply, "{event:?}");
     }
 
+    /// Events get these replies, one after the other.
+    pub(crate) fn events(&mut self, rt: &impl Abort, rows: &[(Event, Reply)]) {
+        for (event, reply) in rows {
+            self.event(rt, *event, *reply);
+        }
+    }
+
     /// A call of the mutator gets this reply.
     pub(crate) fn call(&mut self, rt: &impl Abort, call: Call, reply: Reply) {
         self.event(rt, Event::Mutator(self.slot, call), reply);
