@@ -50,21 +50,28 @@ fn each_byte_has_its_cell(rt: HostRuntime) -> Result<(), Fail> {
     Ok(())
 }
 
+// The cell of the first page that is allocated next.
+fn take(space: &mut BlockSpace) -> Option<u16> {
+    let found = space.take(0)?;
+    Some(found.cell)
+}
+
 // The free cells of the first page come in this order, and there is no other.
 fn assert_taken(rt: &impl Abort, space: &mut BlockSpace, cells: &[u16]) {
     for cell in cells {
-        assert_eq!(rt; space.take(0).map(|found| found.cell), Some(*cell));
+        assert_eq!(rt; take(space), Some(*cell));
     }
-    assert_eq!(rt; space.take(0), None);
+    assert_eq!(rt; take(space), None);
 }
 
-// The allocated cells of the first page from a cell on begin with this one.
-fn assert_next(rt: &impl Abort, space: &BlockSpace, from: u16, wanted: Option<u16>) {
+// The first allocated cell of the first page from a cell on.
+fn next_taken(space: &BlockSpace, from: u16) -> Option<u16> {
     let map = space.map();
-    if map.len() > 0 {
-        let next = map.block(0).and_then(|block| block.next_taken(from));
-        assert_eq!(rt; next, wanted);
+    if map.len() == 0 {
+        return None;
     }
+    let block = map.block(0)?;
+    block.next_taken(from)
 }
 
 // A page of 96 words a cell, which has 5 cells: they come in their order, and from then on the last one that was put back
@@ -73,14 +80,14 @@ fn come_and_go(rt: &impl Abort, space: &mut BlockSpace) {
     assert!(rt; space.cut(0, 96, Kind::PointerFree));
     assert_taken(rt, space, &[0, 1, 2, 3, 4]);
     assert!(rt; space.put(0, 3) && space.put(0, 0) && space.put(0, 4) && !space.put(0, 0));
-    assert_next(rt, space, 0, Some(1));
-    assert_next(rt, space, 3, None);
+    assert_eq!(rt; next_taken(space, 0), Some(1));
+    assert_eq!(rt; next_taken(space, 3), None);
     assert_taken(rt, space, &[4, 0, 3]);
     assert!(rt; space.put(0, 1) && space.put(0, 2));
-    assert_eq!(rt; space.take(0).map(|found| found.cell), Some(2));
+    assert_eq!(rt; take(space), Some(2));
     assert!(rt; space.put(0, 4));
     assert_taken(rt, space, &[4, 1]);
-    assert_next(rt, space, 4, Some(4));
+    assert_eq!(rt; next_taken(space, 4), Some(4));
 }
 
 #[test]

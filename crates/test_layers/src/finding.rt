@@ -30,10 +30,15 @@ fn large(page: PageNo, pages: u16, kind: Kind) -> Found {
     }
 }
 
+// The address behind an object.
+fn end_of(found: &Found) -> u64 {
+    found.base.wrapping_add(8 * u64::from(found.len))
+}
+
 // The object that the word points into: the one whose bytes have that address.
 fn read_by(objects: &[Found], w: u64) -> Option<Found> {
     for found in objects {
-        if found.base <= w && (w - found.base) / 8 < u64::from(found.len) {
+        if found.base <= w && w < end_of(found) {
             return Some(*found);
         }
     }
@@ -55,12 +60,7 @@ fn assert_finds(rt: &impl Abort, map: &BlockMap, objects: &[Found]) {
     }
     for found in objects {
         assert_around(rt, map, objects, found.base);
-        assert_around(
-            rt,
-            map,
-            objects,
-            found.base.wrapping_add(8 * u64::from(found.len)),
-        );
+        assert_around(rt, map, objects, end_of(found));
     }
     for w in [
         0,
@@ -76,27 +76,33 @@ fn assert_finds(rt: &impl Abort, map: &BlockMap, objects: &[Found]) {
     }
 }
 
-// Each page gives the objects that have a word of it, in their order. The objects are given in that order.
+// The first object that has a word of a page from an address on, which lies on the page.
+fn next_from(map: &BlockMap, page: PageNo, from: u64) -> Option<Found> {
+    if page >= map.len() || from < page_start(page) {
+        return None;
+    }
+    map.next_on_page(page, from)
+}
+
+// A page gives the objects that have a word of it, in their order. The objects are given in that order.
+fn assert_walks_page(rt: &impl Abort, map: &BlockMap, objects: &[Found], page: PageNo) {
+    let start = page_start(page);
+    let mut from = start;
+    for found in objects {
+        let end = end_of(found);
+        if found.base < start.wrapping_add(4_096) && start < end {
+            let next = next_from(map, page, from);
+            assert_eq!(rt; next, Some(*found), "page {page} from {from}");
+            from = from.max(end);
+        }
+    }
+    assert_eq!(rt; next_from(map, page, from), None, "page {page} from {from}");
+}
+
+// So does each page.
 fn assert_walks(rt: &impl Abort, map: &BlockMap, objects: &[Found]) {
     for page in 0..map.len() {
-        let start = page_start(page);
-        let mut from = start;
-        for found in objects {
-            let end = found.base.wrapping_add(8 * u64::from(found.len));
-            if found.base < start + 4_096 && start < end {
-                assert_eq!(rt;
-                    map.next_on_page(page, start.max(from)),
-                    Some(*found),
-                    "page {page} from {from}"
-                );
-                from = from.max(end);
-            }
-        }
-        assert_eq!(rt;
-            map.next_on_page(page, start.max(from)),
-            None,
-            "page {page} from {from}"
-        );
+        assert_walks_page(rt, map, objects, page);
     }
 }
 
@@ -247,20 +253,43 @@ fn finds_on_large_pages(rt: HostRuntime) -> Result<(), Fail> {
     large_pages(&rt, &mut scene)
 }
 
-fn given_back(rt: &impl Abort, space: &mut BlockSpace) {
+// A large object on three pages, and before it one of 12 words that was put beside one that is free again.
+fn lay(rt: &impl Abort, space: &mut BlockSpace) {
     assert!(rt; space.cut_large(1, 3, Kind::Normal));
-    assert!(rt; cut_with(space, 0, 12, Kind::Normal, &[7, 8]) && space.put(0, 7));
+    assert!(rt; cut_with(space, 0, 12, Kind::Normal, &[7, 8]));
+    assert!(rt; space.put(0, 7));
     let kept = small(0, 8, 12, Kind::Normal);
     assert_finds(rt, space.map(), &[kept, large(1, 3, Kind::Normal)]);
-    assert!(rt; !space.uncut(2) && space.uncut(1));
+}
+
+// The large object goes, by its first page alone.
+fn give_large(rt: &impl Abort, space: &mut BlockSpace) {
+    assert!(rt; !space.uncut(2));
+    assert!(rt; space.uncut(1));
+    let kept = small(0, 8, 12, Kind::Normal);
     assert_finds(rt, space.map(), &[kept]);
     assert_walks(rt, space.map(), &[kept]);
-    assert!(rt; space.put(0, 8) && space.uncut(0) && !space.uncut(0));
+}
+
+// The small one goes, and its page, once.
+fn give_small(rt: &impl Abort, space: &mut BlockSpace) {
+    assert!(rt; space.put(0, 8));
+    assert!(rt; space.uncut(0));
+    assert!(rt; !space.uncut(0));
     assert_finds(rt, space.map(), &[]);
-    let map = space.map();
+}
+
+fn all_free(rt: &impl Abort, map: &BlockMap) {
     for page in 0..map.len() {
         assert!(rt; map.is_free(page));
     }
+}
+
+fn given_back(rt: &impl Abort, space: &mut BlockSpace) {
+    lay(rt, space);
+    give_large(rt, space);
+    give_small(rt, space);
+    all_free(rt, space.map());
 }
 
 #[test]

@@ -25,19 +25,43 @@ fn opens_in_range_alone(rt: HostRuntime) {
     }
 }
 
-fn written_and_zeroed(rt: &impl Abort, memory: &mut Memory) {
+// Words of two pages are written.
+fn write(rt: &impl Abort, memory: &mut Memory) {
     assert!(rt; memory.len() == 1_024);
     memory.write(FIRST_ADDRESS, 7);
     memory.write(FIRST_ADDRESS + 8_184, 9);
     memory.write(FIRST_ADDRESS + 4_096, u64::MAX);
+}
+
+// A reader reads these words, and 0 elsewhere.
+fn is_written(rt: &impl Abort, memory: &Memory) {
+    assert!(rt; memory.len() == 1_024);
     let mut reader = Reader::new(memory);
     assert_eq!(rt; reader.read(FIRST_ADDRESS), 7);
     assert_eq!(rt; reader.read(FIRST_ADDRESS + 8_184), 9);
     assert_eq!(rt; reader.read(FIRST_ADDRESS + 4_088), 0);
+}
+
+// Of the words between the first and the last 512 become 0.
+fn zero(rt: &impl Abort, memory: &mut Memory) {
+    assert!(rt; memory.len() == 1_024);
     memory.zero(FIRST_ADDRESS + 8, 512);
+}
+
+// The words are those that were written, but for these.
+fn is_zeroed(rt: &impl Abort, memory: &Memory) {
+    assert!(rt; memory.len() == 1_024);
     assert_eq!(rt; memory.read(FIRST_ADDRESS), 7);
     assert_eq!(rt; memory.read(FIRST_ADDRESS + 4_096), 0);
     assert_eq!(rt; memory.read(FIRST_ADDRESS + 8_184), 9);
+}
+
+// What is written is read, and then zeroed.
+fn written_and_zeroed(rt: &impl Abort, memory: &mut Memory) {
+    write(rt, memory);
+    is_written(rt, memory);
+    zero(rt, memory);
+    is_zeroed(rt, memory);
 }
 
 #[test]

@@ -25,21 +25,32 @@ fn lowest_run(free: &[bool], n: usize) -> Option<u32> {
     None
 }
 
+// Makes n pages of the row free, or none of them.
+fn fill(free: &mut [bool], first: usize, n: usize, is_free: bool) -> bool {
+    if first > free.len() || n > free.len() - first {
+        return false;
+    }
+    free[first..first + n].fill(is_free);
+    true
+}
+
 fn give(rt: &impl Abort, pool: &mut PagePool, free: &mut [bool], first: usize, n: usize) {
-    assert!(rt; first < 1_000 && n < 10);
-    assert!(rt; first + n <= pool.len() as usize && first + n <= free.len());
+    assert!(rt; first < 1_000 && n < 10 && first + n <= pool.len() as usize);
     pool.give(first as u32, n as u32);
-    free[first..first + n].fill(true);
+    assert!(rt; fill(free, first, n, true));
+}
+
+// Takes n pages; what a pool promises isn't carried on.
+fn take_run(pool: &mut PagePool, n: u32) -> Option<u32> {
+    pool.take_run(n)
 }
 
 fn take(rt: &impl Abort, pool: &mut PagePool, free: &mut [bool], n: usize) {
     assert!(rt; n < 10);
-    let answer = pool.take_run(n as u32);
+    let answer = take_run(pool, n as u32);
     assert_eq!(rt; answer, lowest_run(free, n), "{n} pages");
     if let Some(first) = answer {
-        let first = first as usize;
-        assert!(rt; first <= free.len() && n <= free.len() - first);
-        free[first..first + n].fill(false);
+        assert!(rt; fill(free, first as usize, n, false));
     }
 }
 
@@ -71,21 +82,29 @@ fn takes_the_lowest_run(rt: HostRuntime) -> Result<(), Fail> {
     Ok(())
 }
 
-fn runs_over_words(rt: &impl Abort, pool: &mut PagePool) {
-    for (n, wanted) in [
-        (60, Some(0)),
-        (32, Some(60)),
-        (933, None),
-        (932, Some(92)),
-        (1, None),
-    ] {
-        assert_eq!(rt; pool.take_run(n), wanted, "{n} pages");
+// Requests, with the first page of the run that each is given.
+const RUNS: [(u32, Option<u32>); 5] = [
+    (60, Some(0)),
+    (32, Some(60)),
+    (933, None),
+    (932, Some(92)),
+    (1, None),
+];
+
+// The same once four pages of the middle are free.
+const LATER: [(u32, Option<u32>); 3] = [(5, None), (4, Some(62)), (0, Some(0))];
+
+fn assert_runs(rt: &impl Abort, pool: &mut PagePool, rows: &[(u32, Option<u32>)]) {
+    for (n, wanted) in rows {
+        assert_eq!(rt; take_run(pool, *n), *wanted, "{n} pages");
     }
+}
+
+fn runs_over_words(rt: &impl Abort, pool: &mut PagePool) {
+    assert_runs(rt, pool, &RUNS);
     assert!(rt; pool.len() > 66);
     pool.give(62, 4);
-    for (n, wanted) in [(5, None), (4, Some(62)), (0, Some(0))] {
-        assert_eq!(rt; pool.take_run(n), wanted, "{n} pages");
-    }
+    assert_runs(rt, pool, &LATER);
 }
 
 #[test]

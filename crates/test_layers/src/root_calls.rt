@@ -9,15 +9,72 @@ fn reg(number: u8) -> Result<Reg, Fail> {
     Ok(Reg::new(number).ok_or("a register")?)
 }
 
+// Each call has a function of its own: what a call promises of the roots isn't carried on to the next.
+fn has(roots: &Roots, slot: Slot, reg: Reg, word: u64) -> bool {
+    roots.get(slot, reg) == Ok(word)
+}
+
+fn set(roots: &mut Roots, slot: Slot, reg: Reg, word: u64) -> bool {
+    roots.set(slot, reg, word) == Ok(())
+}
+
+fn copy(roots: &mut Roots, slot: Slot, into: Reg, from: Reg) -> bool {
+    roots.copy(slot, into, from) == Ok(())
+}
+
+fn add(roots: &mut Roots, slot: Slot, into: Reg, from: Reg, number: u64) -> bool {
+    roots.add(slot, into, from, number) == Ok(())
+}
+
+fn sub(roots: &mut Roots, slot: Slot, into: Reg, from: Reg, less: Reg) -> bool {
+    roots.sub(slot, into, from, less) == Ok(())
+}
+
+fn put(roots: &mut Roots, slot: Slot, global: Global, from: Reg) -> bool {
+    roots.gput(slot, global, from) == Ok(())
+}
+
+fn get(roots: &mut Roots, slot: Slot, into: Reg, global: Global, word: u64) -> bool {
+    roots.gget(slot, into, global) == Ok(word)
+}
+
+fn push(roots: &mut Roots, slot: Slot, from: Reg, answer: Result<(), Refusal>) -> bool {
+    roots.push(slot, from) == answer
+}
+
+fn pop(roots: &mut Roots, slot: Slot, into: Reg, answer: Result<u64, Refusal>) -> bool {
+    roots.pop(slot, into) == answer
+}
+
+// The mutator that comes has the slot with this number.
+fn comes(roots: &mut Roots, number: u8) -> bool {
+    match roots.attach() {
+        Ok(slot) => slot.number() == number,
+        Err(_) => false,
+    }
+}
+
+fn is_full(roots: &mut Roots) -> bool {
+    roots.attach() == Err(Refusal::NoSlot)
+}
+
+fn goes(roots: &mut Roots, slot: Slot, answer: Result<(), Refusal>) -> bool {
+    roots.detach(slot) == answer
+}
+
+fn is_vacant(roots: &Roots, slot: Slot, reg: Reg) -> bool {
+    roots.get(slot, reg) == Err(Refusal::NoSlot)
+}
+
 fn lowest_vacant(rt: &impl Abort, roots: &mut Roots, third: Slot, reg: Reg) {
     for number in 0..SLOTS {
-        assert!(rt; roots.attach().is_ok_and(|slot| slot.number() == number));
+        assert!(rt; comes(roots, number));
     }
-    assert_eq!(rt; roots.attach(), Err(Refusal::NoSlot));
-    assert_eq!(rt; roots.detach(third), Ok(()));
-    assert_eq!(rt; roots.detach(third), Err(Refusal::NoSlot));
-    assert_eq!(rt; roots.get(third, reg), Err(Refusal::NoSlot));
-    assert_eq!(rt; roots.attach(), Ok(third));
+    assert!(rt; is_full(roots));
+    assert!(rt; goes(roots, third, Ok(())));
+    assert!(rt; goes(roots, third, Err(Refusal::NoSlot)));
+    assert!(rt; is_vacant(roots, third, reg));
+    assert!(rt; comes(roots, third.number()));
 }
 
 #[test]
@@ -29,15 +86,15 @@ fn slots_are_the_lowest_vacant(rt: HostRuntime) -> Result<(), Fail> {
 
 fn wrapping_words(rt: &impl Abort, roots: &mut Roots, slot: Slot, regs: [Reg; 3], global: Global) {
     let [one, two, three] = regs;
-    assert_eq!(rt; roots.set(slot, one, 5), Ok(()));
-    assert_eq!(rt; roots.copy(slot, two, one), Ok(()));
-    assert_eq!(rt; roots.add(slot, two, two, u64::MAX), Ok(()));
-    assert_eq!(rt; roots.get(slot, two), Ok(4));
-    assert_eq!(rt; roots.sub(slot, three, two, one), Ok(()));
-    assert_eq!(rt; roots.get(slot, three), Ok(u64::MAX));
-    assert_eq!(rt; roots.gput(slot, global, three), Ok(()));
-    assert_eq!(rt; roots.gget(slot, one, global), Ok(u64::MAX));
-    assert_eq!(rt; roots.get(slot, one), Ok(u64::MAX));
+    assert!(rt; set(roots, slot, one, 5));
+    assert!(rt; copy(roots, slot, two, one));
+    assert!(rt; add(roots, slot, two, two, u64::MAX));
+    assert!(rt; has(roots, slot, two, 4));
+    assert!(rt; sub(roots, slot, three, two, one));
+    assert!(rt; has(roots, slot, three, u64::MAX));
+    assert!(rt; put(roots, slot, global, three));
+    assert!(rt; get(roots, slot, one, global, u64::MAX));
+    assert!(rt; has(roots, slot, one, u64::MAX));
 }
 
 #[test]
@@ -51,15 +108,15 @@ fn words_wrap(rt: HostRuntime) -> Result<(), Fail> {
 
 fn last_in_first_out(rt: &impl Abort, roots: &mut Roots, slot: Slot, from: Reg, into: Reg) {
     for word in 0..u64::from(STACK_WORDS) {
-        assert_eq!(rt; roots.set(slot, from, word), Ok(()));
-        assert_eq!(rt; roots.push(slot, from), Ok(()));
+        assert!(rt; set(roots, slot, from, word));
+        assert!(rt; push(roots, slot, from, Ok(())));
     }
-    assert_eq!(rt; roots.push(slot, from), Err(Refusal::StackFull));
+    assert!(rt; push(roots, slot, from, Err(Refusal::StackFull)));
     for word in (0..u64::from(STACK_WORDS)).rev() {
-        assert_eq!(rt; roots.pop(slot, into), Ok(word));
-        assert_eq!(rt; roots.get(slot, into), Ok(word));
+        assert!(rt; pop(roots, slot, into, Ok(word)));
+        assert!(rt; has(roots, slot, into, word));
     }
-    assert_eq!(rt; roots.pop(slot, into), Err(Refusal::StackEmpty));
+    assert!(rt; pop(roots, slot, into, Err(Refusal::StackEmpty)));
 }
 
 #[test]
