@@ -1,6 +1,6 @@
 //! A thread of its own for each of some jobs, or an error. Each job goes to its thread by value, comes back as its thread left it, and is
-//! then what the jobs' law says. Memory for all is taken first; where a thread is refused, no more are started, those that run are joined,
-//! and all jobs are dropped.
+//! then what the jobs' law says. Memory for all is taken first; where a thread is refused, no more of the jobs are started (the one beside
+//! them is), those that run are joined, and all jobs are dropped.
 #![tactic(auto)]
 
 mod beside;

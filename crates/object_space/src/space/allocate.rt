@@ -89,6 +89,7 @@ fn is_cut_for(map: &BlockMap, page: PageNo, class: Class, kind: Kind) -> bool
 
 impl ObjectSpace {
     // The lowest page that is still to be swept and is cut for the class and the kind.
+    #[inline(never)]
     fn pending_for(&self, class: Class, kind: Kind) -> Option<PageNo>
         ensures some { IfSome result (λ page. Has self.now.pending page × (page < length self.now.states)) }
         ensures none { IfNone result ((page : ℕ) → Has self.now.pending page → IsBlockFor (state_at self.now.states page) class kind → ⊥) }
@@ -121,6 +122,7 @@ impl ObjectSpace {
 
     // A page with a free cell for the class and the kind that is not to be swept any more. Pages for them that are still to
     // be swept are swept first, one by one.
+    #[inline(always)]
     fn swept_page(&mut self, marker: &Marker, class: Class, kind: Kind) -> Option<PageNo>
         requires pages { length marker.now.dirty ≡ length self.old.states }
         ensures sweeps { Sweeps self.old marker.now.marks self.new }
@@ -139,6 +141,7 @@ impl ObjectSpace {
     }
 
     // Takes the first free cell of a page that has one.
+    #[inline(always)]
     fn take_cell(&mut self, page: PageNo, class: Class, kind: Kind) -> u64
         requires cell { IsAvailable (state_at self.old.states page) class kind }
         requires swept { Has self.old.pending page → ⊥ }
@@ -158,6 +161,7 @@ impl ObjectSpace {
     }
 
     // Cuts a free page, and takes its first cell.
+    #[inline(never)]
     fn take_page(&mut self, class: Class, kind: Kind) -> Option<u64>
         requires { HasNoFreeCell self.old.states class kind }
         ensures some { IfSome result (λ base. HasRoomAt self.old (Placement.Small class) kind base) }
@@ -187,6 +191,7 @@ impl ObjectSpace {
     }
 
     // Takes a run of free pages.
+    #[inline(never)]
     fn take_run(&mut self, pages: u32, kind: Kind) -> Option<u64>
         requires { IsRequest (Placement.Large pages) }
         ensures some { IfSome result (λ base. HasRoomAt self.old (Placement.Large pages) kind base) }
@@ -206,6 +211,7 @@ impl ObjectSpace {
     }
 
     // A place for a small object.
+    #[inline(always)]
     fn place_small(&mut self, marker: &Marker, class: Class, kind: Kind) -> Option<u64>
         requires pages { length marker.now.dirty ≡ length self.old.states }
         ensures { MatchOption result (FindsNoPlace self.old marker.now.marks (Placement.Small class) kind self.new) (λ base. Allocates self.old marker.now.marks (Placement.Small class) kind base self.new) }
@@ -217,6 +223,7 @@ impl ObjectSpace {
     }
 
     // A place for an object: of the pages that are still to be swept, only those that are cut for it are.
+    #[inline(always)]
     fn place(&mut self, marker: &Marker, placement: &Placement, kind: Kind) -> Option<u64>
         requires request { IsRequest placement.now }
         requires pages { length marker.now.dirty ≡ length self.old.states }
