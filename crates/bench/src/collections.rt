@@ -181,41 +181,6 @@ fn measure_all<R: Eprint + Clock>(rt: &R, alloc: Global, bases: &mut [u64]) -> i
     measure_finds(rt, alloc, bases)
 }
 
-fn measure_shape<R: Eprint + Clock>(
-    rt: &R,
-    alloc: Global,
-    name: &str,
-    shape: &str,
-    bases: &mut [u64],
-) -> io::Result<()> {
-    let Some(mut user) = User::new(alloc) else {
-        return Ok(());
-    };
-    build(&mut user, bases, shape);
-    time_collect(rt, name, &mut user)
-}
-
-fn measure_list<R: Eprint + Clock>(rt: &R, alloc: Global, bases: &mut [u64]) -> io::Result<()> {
-    let Some(mut user) = User::new(alloc) else {
-        return Ok(());
-    };
-    time_list(rt, &mut user, bases)
-}
-
-fn measure_finds<R: Eprint + Clock>(rt: &R, alloc: Global, bases: &mut [u64]) -> io::Result<()> {
-    let Some(mut user) = User::new(alloc) else {
-        return Ok(());
-    };
-    time_pending(rt, &mut user, bases)
-}
-
-fn measure_all<R: Eprint + Clock>(rt: &R, alloc: Global, bases: &mut [u64]) -> io::Result<()> {
-    measure_shape(rt, alloc, "collect_tree", "tree", bases)?;
-    measure_shape(rt, alloc, "collect_graph", "graph", bases)?;
-    measure_list(rt, alloc, bases)?;
-    measure_finds(rt, alloc, bases)
-}
-
 /// Full collections, pauses, allocations after them, and lookups.
 pub(crate) fn measure<R: Eprint + Clock>(rt: &R, alloc: Global) -> io::Result<()> {
     let mut bases = vec![in alloc; 0u64; OBJECTS]?;
