@@ -6,8 +6,8 @@
 //!
 //! # By one thread
 //!
-//! [`close_marks`] takes no memory, and reads each dirty page, the words that entries have left and the pages of newly
-//! marked objects once.
+//! [`close_marks`] takes no memory, and reads at most the words of the pages that were dirty or that newly marked objects
+//! cover, and those that entries have left.
 //!
 //! # With helpers
 //!

@@ -1,6 +1,6 @@
 //! The core of a heap on one thread: its roots, the objects on its pages, and its collector. Each call of a mutator is one
-//! step of the sequential heap, and each call of the collector begins, goes on with or ends a cycle. All memory is taken
-//! when a core is made, and no call waits, but for `close_with`, which starts helpers and joins them.
+//! step of the sequential heap, and each call of the collector begins, goes on with or ends a cycle. Once a core is made no
+//! call takes memory or waits, but for `close_with`, which starts helpers and joins them.
 #![tactic(auto)]
 
 mod heap;

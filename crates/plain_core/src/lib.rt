@@ -1,6 +1,6 @@
 //! A heap core that is plain and slow: one row of words, one list of objects, and nothing of blocks, marks or dirty
 //! pages. Each of its calls is proved to be a step of the sequential heap. It takes memory when it is made and never
-//! again, and no thread, lock or atomic word.
+//! again, and has no thread, lock or atomic word.
 #![tactic(auto)]
 
 mod claims;
