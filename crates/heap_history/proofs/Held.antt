@@ -1,6 +1,6 @@
 -- An object that a register of an attached mutator has stays, whatever others do but for frees.
-use Rattle.std.proofs.Common.{◌≡◌, ◌≢◌, ℕ, zero, suc, ◌+◌, ◌*◌, ◌<◌, ◌≤◌, ◌⊎◌, List, [], ◌∷◌, ◌++◌, length, refl, sym, ap, ◌∙◌, subst, arith, inl, inr, ⊎_elim}
-use Rattle.std.specs.Prelude.{Option, Some, None, All, Contains, slice_get, slice_index, slice_set, flat_map}
+use Rattle.std.proofs.Common.{◌≡◌, ◌≢◌, ℕ, zero, suc, ◌<◌, List, [], ◌∷◌, length, sym, ap, ◌∙◌, subst, arith, ⊎_elim}
+use Rattle.std.specs.Prelude.{Some, All, Contains, slice_get, flat_map}
 use Rattle.std.proofs.lemmas.Bool.{cases_eq}
 use Rattle.std.proofs.lemmas.Option.{same_Some, none-some}
 use Rattle.std.proofs.lemmas.List.{length-set}
@@ -14,9 +14,9 @@ use Rattle.heap_spec.specs.declared.call.Call.{Call}
 use Rattle.heap_spec.specs.declared.event.Event.{Event}
 use Rattle.heap_spec.specs.declared.event.Event.TheVariants.{Attach, Mutator, Begin, Roots, Mark, Retrace, Finish, Sweep, Collect, Number}
 use Rattle.heap_spec.specs.declared.reply.Reply.{Reply}
-use Rattle.heap_spec.specs.Heap.{Heap, Object, Mutator as HeapMutator, IsSameObject, HasObject, ReadsObject, IsAttached, words_of, root_words}
-use Rattle.heap_spec.specs.Room.{HasRoom, length_of}
-use Rattle.heap_spec.specs.Closure.{Closure, Reached, root}
+use Rattle.heap_spec.specs.Heap.{Heap, Object, Mutator as HeapMutator, IsSameObject, HasObject, IsAttached, words_of}
+use Rattle.heap_spec.specs.Room.{HasRoom}
+use Rattle.heap_spec.specs.Closure.{Reached, root}
 use Rattle.heap_spec.specs.Steps.{Acts, Attaches, Calls, register}
 use Rattle.heap_spec.specs.Sound.{IsSound, IsCell}
 use Rattle.heap_spec.specs.Laws.{IsFreshRun}
@@ -70,7 +70,7 @@ acts_stay s slot m h (Acts.allocated {n = n} {kind = kind} {place = place} a e r
 acts_stay s slot m h (Acts.freed gone) free base o has = absurd free
 acts_stay s slot m h _ free base o has = (o, has, same_object o)
 
-calls_stay : (s : Heap) (slot : ℕ) → IsSound s → {call : Call} {reply : Reply} {s' : Heap} → Calls s slot call reply s' → IsNoFreeCall call → (base : ℕ) (o : Object) → HasObject s base o → Stays s' base o
+pub calls_stay : (s : Heap) (slot : ℕ) → IsSound s → {call : Call} {reply : Reply} {s' : Heap} → Calls s slot call reply s' → IsNoFreeCall call → (base : ℕ) (o : Object) → HasObject s base o → Stays s' base o
 calls_stay s slot h (Calls.acts {m = m} at act) free base o has = acts_stay s slot m h act free base o has
 calls_stay s slot h (Calls.vacant none) free base o has = (o, has, same_object o)
 

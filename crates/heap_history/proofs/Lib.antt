@@ -5,4 +5,5 @@ pub mod Stored
 pub mod Counting
 pub mod Passing
 pub mod Held
+pub mod Keeping
 pub mod Owning

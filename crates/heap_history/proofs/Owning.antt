@@ -1,9 +1,9 @@
 -- An allocation, the register that has its base, and what comes after.
-use Rattle.std.proofs.Common.{◌≡◌, ◌≢◌, ℕ, ◌+◌, ◌*◌, ◌<◌, ◌≤◌, ◌⊎◌, Bool, true, false, cond, List, [], ◌∷◌, ◌++◌, length, refl, sym, ap, ◌∙◌, subst, arith, inl, inr, ⊎_elim, replicate, get_or-set_same}
-use Rattle.std.specs.Prelude.{Option, Some, None, All, slice_get, slice_set, slice_index, nat_le, find, ◌||◌}
+use Rattle.std.proofs.Common.{◌≡◌, ℕ, ◌+◌, ◌*◌, ◌<◌, ◌≤◌, ◌⊎◌, Bool, true, false, cond, List, [], ◌∷◌, ◌++◌, length, refl, sym, ap, ◌∙◌, subst, arith, inl, inr, ⊎_elim, replicate, get_or-set_same}
+use Rattle.std.specs.Prelude.{Option, Some, None, All, slice_get, slice_set, nat_le, find}
 use Rattle.std.specs.Int.{div_ceil}
 use Rattle.std.specs.Option.{option_map}
-use Rattle.std.proofs.lemmas.Bool.{leb-true, leb-false}
+use Rattle.std.proofs.lemmas.Bool.{leb-true}
 use Rattle.std.proofs.lemmas.Option.{same_Some, none-some, slice_get_within}
 use Rattle.std.proofs.lemmas.List.{length-set, length-replicate}
 use Rattle.words.specs.declared.limits.TheConstants.{PAGE_WORDS}
@@ -12,9 +12,9 @@ use Rattle.words.specs.declared.class.Kind.{Kind}
 use Rattle.words.specs.declared.class.Placement.{Placement}
 use Rattle.words.specs.declared.class.Placement.TheVariants.{Small, Large}
 use Rattle.words.specs.Placing.{placement_of}
-use Rattle.history.specs.Histories.{event, AreOfOthers, Walks, Reaches, Legal}
+use Rattle.history.specs.Histories.{event, AreOfOthers, Walks, Reaches}
 use Rattle.heap_spec.specs.declared.call.Call.{Call}
-use Rattle.heap_spec.specs.declared.call.Call.TheVariants.{Get, Alloc, Base}
+use Rattle.heap_spec.specs.declared.call.Call.TheVariants.{Detach, Set, Copy, Add, Sub, Get, Push, Pop, Load, Store, Alloc, Free, Base, Size, GlobalGet, GlobalPut}
 use Rattle.heap_spec.specs.declared.event.Event.TheVariants.{Mutator}
 use Rattle.heap_spec.specs.declared.reply.Reply.{Reply}
 use Rattle.heap_spec.specs.declared.reply.Reply.TheVariants.{Done, Word}
@@ -29,10 +29,12 @@ use Rattle.heap_spec.proofs.Layouts.{AreApart, placed}
 use Rattle.heap_spec.proofs.Objects.{with_at-same, object_lies, one_read, room_apart}
 use Rattle.heap_history.specs.Passes.{Entry, HeapPass}
 use Rattle.heap_history.specs.Headline.{Makes}
-use Rattle.heap_history.specs.Laws.{MakesAfterNoFree, IsNoFree}
+use Rattle.heap_spec.specs.Laws.{IsFreshRun}
+use Rattle.heap_history.specs.Laws.{MakesAfterNoFree, IsNoFreeCall, IsNoFree, LeavesRegister, Keeps}
 use Rattle.heap_history.proofs.Slots.{slice_get-set_same, not_both}
 use Rattle.heap_history.proofs.Stored.{walks_last, walks_through, walks_mutators, reached_fresh, reached_sound}
-use Rattle.heap_history.proofs.Held.{Stays, room_none, walks_held}
+use Rattle.heap_history.proofs.Held.{room_none, calls_stay, walks_held}
+use Rattle.heap_history.proofs.Keeping.{calls_keep}
 
 -- a place holds what was asked for
 found_holds : (p : ℕ → Bool) (xs : List ℕ) (c : ℕ) → find p xs ≡ Some c → p c ≡ true
@@ -58,17 +60,21 @@ place_holds n place e = outer _ e
     outer true e = absurd (none-some place e)
     outer false e = inner (nat_le n 256) refl e
 
+-- A mutator's register has the base of an object of at least so many words.
+pub record Owned (s : Heap) (slot d n a : ℕ) : Type 0 where
+  pub object : Object
+  pub mutator : HeapMutator
+  pub at : IsAttached s slot mutator
+  pub there : d < length mutator.registers
+  pub holds : register mutator d ≡ a
+  pub has : HasObject s a object
+  pub size : n ≤ length object.words
+
 -- What a granted allocation leaves: the object, whose base the register has, apart from all that were there.
 pub record Allocated (s s' : Heap) (slot d n : ℕ) : Type 0 where
   pub base : ℕ
-  pub object : Object
-  pub mutator : HeapMutator
-  pub at : IsAttached s' slot mutator
-  pub there : d < length mutator.registers
-  pub holds : register mutator d ≡ base
-  pub has : HasObject s' base object
-  pub size : n ≤ length object.words
-  pub away : (b : ℕ) (p : Object) → HasObject s b p → AreApart base (length object.words) b (length p.words)
+  pub owned : Owned s' slot d n base
+  pub away : (b : ℕ) (p : Object) → HasObject s b p → AreApart base (length owned.object.words) b (length p.words)
 
 alloc_is : (s : Heap) (slot d n : ℕ) (kind : Kind) → IsSound s → d < 16 → {s' : Heap} → Calls s slot (Alloc d n kind) Done s' → Allocated s s' slot d n
 alloc_is s slot d n kind h few (acts {m = m} at (Acts.allocated {place = place} a e room)) =
@@ -79,13 +85,15 @@ alloc_is s slot d n kind h few (acts {m = m} at (Acts.allocated {place = place} 
     let is = placed n place e in
     record {
       base = a;
-      object = record { birth = s.births + 1; kind = kind; words = replicate (length_of place) 0 };
-      mutator = changed;
-      at = slice_get-set_same s.mutators slot (Some changed) (slice_get_within s.mutators slot (Some m) at);
-      there = subst (λ k. d < k) (sym (length-set m.registers d a)) there;
-      holds = get_or-set_same m.registers d a 0 there;
-      has = with_at-same s.objects a _ a refl;
-      size = subst (λ k. n ≤ k) (sym long) (place_holds n place e);
+      owned = record {
+        object = record { birth = s.births + 1; kind = kind; words = replicate (length_of place) 0 };
+        mutator = changed;
+        at = slice_get-set_same s.mutators slot (Some changed) (slice_get_within s.mutators slot (Some m) at);
+        there = subst (λ k. d < k) (sym (length-set m.registers d a)) there;
+        holds = get_or-set_same m.registers d a 0 there;
+        has = with_at-same s.objects a _ a refl;
+        size = subst (λ k. n ≤ k) (sym long) (place_holds n place e);
+      };
       away = λ b p has. subst (λ k. AreApart a k b (length p.words)) (sym long)
           (room_apart s h place kind a is room b p has (λ same. room_none s h place kind a is room p (ap s.objects (sym same) ∙ has)));
     }
@@ -106,103 +114,139 @@ base_is s h slot e d a m o at is has (acts {m = k} at' (Acts.base_nothing none))
     absurd (none a o (has, (omega (arith, word), omega (arith, word))))
 base_is s h slot e d a m o at is has (vacant none) = absurd (not_both s slot m at none)
 
--- what was seen up to a call: an allocation, the look at its register, and what others did after each
-abbrev pub up_to : (slot d n a : ℕ) → Kind → List Entry → List Entry → List Entry → List Entry
-up_to slot d n a kind early between since = (((early ++ event slot (Mutator slot (Alloc d n kind)) Done ∷ []) ++ between) ++ event slot (Mutator slot (Get d)) (Word a) ∷ []) ++ since
+-- the look at its register tells its base
+get_owned : (s : Heap) (slot d n a b : ℕ) {s' : Heap} → Calls s slot (Get d) (Word b) s' → Owned s slot d n a → (a ≡ b) × Owned s' slot d n a
+get_owned s slot d n a b calls own =
+    let get = get_is s slot d b calls own.mutator own.at in
+    (sym (get.0 ∙ own.holds), subst (λ (x : Heap). Owned x slot d n a) (sym get.1) own)
 
--- The object of an allocation and its register, after what others did.
-pub record Owned (pages : ℕ) (seen : List Entry) (t : HeapState) (slot d n a : ℕ) : Type 0 where
-  pub reached : Reaches (Opens pages) StateStep seen t
-  pub object : Object
-  pub mutator : HeapMutator
-  pub at : IsAttached (heap_of t) slot mutator
-  pub holds : register mutator d ≡ a
-  pub has : HasObject (heap_of t) a object
-  pub size : n ≤ length object.words
+-- and any call that leaves the register leaves it owned
+leaves_no_free : (d : ℕ) (call : Call) → LeavesRegister d call → IsNoFreeCall call
+leaves_no_free d Detach none = tt
+leaves_no_free d (Set r w) ne = tt
+leaves_no_free d (Copy r a) ne = tt
+leaves_no_free d (Add r a n) ne = tt
+leaves_no_free d (Sub r a b) ne = tt
+leaves_no_free d (Get r) ne = tt
+leaves_no_free d (Push r) ne = tt
+leaves_no_free d (Pop r) ne = tt
+leaves_no_free d (Load r a n) ne = tt
+leaves_no_free d (Store a n r) ne = tt
+leaves_no_free d (Alloc r n kind) ne = tt
+leaves_no_free d (Free r) none = none
+leaves_no_free d (Base r a) ne = tt
+leaves_no_free d (Size r) ne = tt
+leaves_no_free d (GlobalGet r g) ne = tt
+leaves_no_free d (GlobalPut g r) ne = tt
 
--- none of these events frees an object
-abbrev FreesNothing : List Entry → Type 0
-FreesNothing es = All (λ (e : Entry). IsNoFree e.call) es
-
-owned_after : (pages : ℕ) (early between since : List Entry) (t : HeapState) (slot d n a : ℕ) (kind : Kind) → Reaches (Opens pages) StateStep (up_to slot d n a kind early between since) t
-    → AreOfOthers slot between → FreesNothing between → AreOfOthers slot since → FreesNothing since → Owned pages (up_to slot d n a kind early between since) t slot d n a
-owned_after pages early between since t slot d n a kind r others1 free1 others2 free2 =
-    let made = early ++ event slot (Mutator slot (Alloc d n kind)) Done ∷ [] in
-    let told = (made ++ between) ++ event slot (Mutator slot (Get d)) (Word a) ∷ [] in
-    let t3 = walks_through r.0 t told since r.2 in
-    let t2 = walks_last r.0 t3.0 (made ++ between) (event slot (Mutator slot (Get d)) (Word a)) t3.1 in
-    let t1 = walks_through r.0 t2.0 made between t2.1 in
-    let t0 = walks_last r.0 t1.0 early (event slot (Mutator slot (Alloc d n kind)) Done) t1.1 in
-    let new = alloc_is (heap_of t0.0) slot d n kind (reached_sound pages early t0.0 (r.0, r.1, t0.1)) t0.2.in_range.1.0 t0.2.happens in
-    let first = ap heap_of t0.2.goes in
-    let held1 = walks_held t1.0 t2.0 between t1.2 (reached_fresh pages made t1.0 (r.0, r.1, t1.1)) slot new.mutator d new.base new.object
-    (ap (λ (s : Heap). slice_get s.mutators slot) first ∙ new.at) new.there new.holds (ap (λ (s : Heap). s.objects new.base) first ∙ new.has) others1 free1 in
-    let get = get_is (heap_of t2.0) slot d a t2.2.happens new.mutator held1.0 in
-    let second : heap_of t3.0 ≡ heap_of t2.0 = ap heap_of t2.2.goes ∙ get.1 in
-    let held2 = walks_held t3.0 t since t3.2 (reached_fresh pages told t3.0 (r.0, r.1, t3.1)) slot new.mutator d a held1.1.0
-    (ap (λ (s : Heap). slice_get s.mutators slot) second ∙ held1.0) new.there (sym get.0) (ap (λ (s : Heap). s.objects a) second ∙ (ap (heap_of t2.0).objects (get.0 ∙ new.holds) ∙ held1.1.1)) others2 free2 in
+call_owned : (s : Heap) (slot d n a : ℕ) → IsSound s → {call : Call} {reply : Reply} {s' : Heap} → Calls s slot call reply s' → LeavesRegister d call → Owned s slot d n a → Owned s' slot d n a
+call_owned s slot d n a h {call = call} calls leaves own =
+    let stays = calls_stay s slot h calls (leaves_no_free d call leaves) a own.object own.has in
+    let kept = calls_keep s slot own.mutator d own.at calls leaves in
     record {
-      reached = r;
-      object = held2.1.0;
-      mutator = new.mutator;
-      at = held2.0;
-      holds = sym get.0;
-      has = held2.1.1;
-      size = subst (λ k. n ≤ k) (sym (held2.1.2.size ∙ held1.1.2.size)) new.size;
+      object = stays.0;
+      mutator = kept.mutator;
+      at = kept.at;
+      there = subst (λ k. d < k) (sym kept.size) own.there;
+      holds = kept.word ∙ own.holds;
+      has = stays.1;
+      size = subst (λ k. n ≤ k) (sym stays.2.size) own.size;
     }
 
--- what such calls have seen
-seen_is : (pages d n a : ℕ) (kind : Kind) (call : Call) (reply : Reply) (start made told asked : HeapPass)
-    → (first : Makes pages start (Alloc d n kind) Done made) → (second : Makes pages made (Get d) (Word a) told) → (third : Makes pages told call reply asked)
-    → asked.seen ≡ up_to start.slot d n a kind (start.seen ++ first.extends.between) second.extends.between third.extends.between ++ event start.slot (Mutator start.slot call) reply ∷ []
-seen_is pages d n a kind call reply start made told asked first second third =
-    let slot1 = first.extends.slot in
-    let slot2 = second.extends.slot ∙ slot1 in
-    let two = second.extends.seen ∙ (λ i. (first.extends.seen i ++ second.extends.between) ++ event (slot1 i) (Mutator (slot1 i) (Get d)) (Word a) ∷ []) in
-    third.extends.seen ∙ (λ i. (two i ++ third.extends.between) ++ event (slot2 i) (Mutator (slot2 i) call) reply ∷ [])
+-- what others do leaves it, if they free nothing
+walks_owned : (s t : HeapState) (es : List Entry) → Walks StateStep s es t → IsFreshRun s.pages s.run → (who d n a : ℕ) → Owned (heap_of s) who d n a → AreOfOthers who es → All (λ (e : Entry). IsNoFree e.call) es
+    → Owned (heap_of t) who d n a
+walks_owned s t es w fresh who d n a own others free =
+    let held = walks_held s t es w fresh who own.mutator d a own.object own.at own.there own.holds own.has others free in
+    record { object = held.1.0; mutator = own.mutator; at = held.0; there = own.there; holds = own.holds; has = held.1.1; size = subst (λ k. n ≤ k) (sym held.1.2.size) own.size }
 
--- the object is there when the third call is made
-owned_then : (pages d n a : ℕ) (kind : Kind) (call : Call) (reply : Reply) (start made told asked : HeapPass)
-    → (first : Makes pages start (Alloc d n kind) Done made) → (second : MakesAfterNoFree pages made (Get d) (Word a) told) → (third : MakesAfterNoFree pages told call reply asked) → (t : HeapState)
-    → Reaches (Opens pages) StateStep (up_to start.slot d n a kind (start.seen ++ first.extends.between) second.makes.extends.between third.makes.extends.between) t
-    → Owned pages (up_to start.slot d n a kind (start.seen ++ first.extends.between) second.makes.extends.between third.makes.extends.between) t start.slot d n a
-owned_then pages d n a kind call reply start made told asked first second third t r =
-    let slot1 = first.extends.slot in
-    let slot2 = second.makes.extends.slot ∙ slot1 in
-    owned_after pages (start.seen ++ first.extends.between) second.makes.extends.between third.makes.extends.between t start.slot d n a kind r
-    (subst (λ (k : ℕ). AreOfOthers k second.makes.extends.between) slot1 second.makes.extends.others) second.kept
-    (subst (λ (k : ℕ). AreOfOthers k third.makes.extends.between) slot2 third.makes.extends.others) third.kept
+-- In each state to which what the pass has seen leads, its register has the base of such an object, and that base is one of these.
+abbrev pub IsOwned : ℕ → ℕ → ℕ → (ℕ → Type 0) → HeapPass → Type 0
+IsOwned pages d n Is pass = (t : HeapState) → Reaches (Opens pages) StateStep pass.seen t → (a : ℕ) × Is a × Owned (heap_of t) pass.slot d n a
 
-pub stays : (pages d n a e : ℕ) (kind : Kind) (reply : Reply) (start made told asked : HeapPass)
-    → Makes pages start (Alloc d n kind) Done made → MakesAfterNoFree pages made (Get d) (Word a) told → MakesAfterNoFree pages told (Base e d) reply asked → reply ≡ Word a
-stays pages d n a e kind reply start made told asked first second third =
-    let before = up_to start.slot d n a kind (start.seen ++ first.extends.between) second.makes.extends.between third.makes.extends.between in
-    let legal = subst (λ l. Legal (Opens pages) StateStep l) (seen_is pages d n a kind (Base e d) reply start made told asked first second.makes third.makes) third.makes.extends.fine.legal in
-    let last = walks_last legal.1.0 legal.0 before (event start.slot (Mutator start.slot (Base e d)) reply) legal.1.2 in
-    let own = owned_then pages d n a kind (Base e d) reply start made told asked first second third last.0 (legal.1.0, legal.1.1, last.1) in
-    base_is (heap_of last.0) (reached_sound pages before last.0 own.reached) start.slot e d a own.mutator own.object own.at own.holds own.has last.2.happens
+-- the state that a call is made in
+pub record Before (pages : ℕ) (pass : HeapPass) (between : List Entry) (call : Call) (reply : Reply) (t : HeapState) : Type 0 where
+  pub state : HeapState
+  pub reached : Reaches (Opens pages) StateStep (pass.seen ++ between) state
+  pub step : StateStep state pass.slot (Mutator pass.slot call) reply t
 
-pub apart : (pages d n a d' n' b : ℕ) (kind kind' : Kind) (start made told more asked : HeapPass)
-    → Makes pages start (Alloc d n kind) Done made → MakesAfterNoFree pages made (Get d) (Word a) told
-    → MakesAfterNoFree pages told (Alloc d' n' kind') Done more → Makes pages more (Get d') (Word b) asked
+before : (pages : ℕ) (old new : HeapPass) (call : Call) (reply : Reply) → (makes : Makes pages old call reply new) → (t : HeapState) → Reaches (Opens pages) StateStep new.seen t → Before pages old makes.extends.between call reply t
+before pages old new call reply makes t r =
+    let w = subst (λ l. Walks StateStep r.0 l t) makes.extends.seen r.2 in
+    let last = walks_last r.0 t (old.seen ++ makes.extends.between) (event old.slot (Mutator old.slot call) reply) w in
+    record { state = last.0; reached = (r.0, r.1, last.1); step = last.2 }
+
+-- there the object is owned still
+owned_before : (pages d n : ℕ) (Is : ℕ → Type 0) (old new : HeapPass) (call : Call) (reply : Reply) → (after : MakesAfterNoFree pages old call reply new) → IsOwned pages d n Is old
+    → (t : HeapState) → (at : Before pages old after.makes.extends.between call reply t) → (a : ℕ) × Is a × Owned (heap_of at.state) old.slot d n a
+owned_before pages d n Is old new call reply after own t at =
+    let between = after.makes.extends.between in
+    let mid = walks_through at.reached.0 at.state old.seen between at.reached.2 in
+    let reached : Reaches (Opens pages) StateStep old.seen mid.0 = (at.reached.0, at.reached.1, mid.1) in
+    let had = own mid.0 reached in
+    (had.0, had.1, walks_owned mid.0 at.state between mid.2 (reached_fresh pages old.seen mid.0 reached) old.slot d n had.0 had.2 after.makes.extends.others after.kept)
+
+-- the mutator's own allocation
+made_owned : (pages d n : ℕ) (kind : Kind) (old new : HeapPass) → Makes pages old (Alloc d n kind) Done new → IsOwned pages d n (λ a. Unit {0}) new
+made_owned pages d n kind old new makes t r =
+    let at = before pages old new (Alloc d n kind) Done makes t r in
+    let made = alloc_is (heap_of at.state) old.slot d n kind (reached_sound pages (old.seen ++ makes.extends.between) at.state at.reached) at.step.in_range.1.0 at.step.happens in
+    (made.base, tt, subst (λ (k : ℕ). Owned (heap_of t) k d n made.base) (sym makes.extends.slot) (subst (λ (x : Heap). Owned x old.slot d n made.base) (sym (ap heap_of at.step.goes)) made.owned))
+
+-- what it is told of its register
+told_owned : (pages d n a : ℕ) (old new : HeapPass) → MakesAfterNoFree pages old (Get d) (Word a) new → IsOwned pages d n (λ b. Unit {0}) old → IsOwned pages d n (λ b. b ≡ a) new
+told_owned pages d n a old new after own t r =
+    let at = before pages old new (Get d) (Word a) after.makes t r in
+    let had = owned_before pages d n (λ b. Unit {0}) old new (Get d) (Word a) after own t at in
+    let get = get_owned (heap_of at.state) old.slot d n had.0 a at.step.happens had.2 in
+    (had.0, get.0, subst (λ (k : ℕ). Owned (heap_of t) k d n had.0) (sym after.makes.extends.slot) (subst (λ (x : Heap). Owned x old.slot d n had.0) (sym (ap heap_of at.step.goes)) get.1))
+
+-- and its calls that leave the register
+kept_owned : (pages d n : ℕ) (Is : ℕ → Type 0) (old : HeapPass) → {new : HeapPass} → Keeps pages d old new → IsOwned pages d n Is old → IsOwned pages d n Is new
+kept_owned pages d n Is old Keeps.nothing own = own
+kept_owned pages d n Is old {new = new} (Keeps.longer {now = now} {call = call} {reply = reply} keeps leaves after) own = λ t r.
+    let at = before pages now new call reply after.makes t r in
+    let had = owned_before pages d n Is now new call reply after (kept_owned pages d n Is old keeps own) t at in
+    let sound = reached_sound pages (now.seen ++ after.makes.extends.between) at.state at.reached in
+    let held = call_owned (heap_of at.state) now.slot d n had.0 sound at.step.happens leaves had.2 in
+    (had.0, had.1, subst (λ (k : ℕ). Owned (heap_of t) k d n had.0) (sym after.makes.extends.slot) (subst (λ (x : Heap). Owned x now.slot d n had.0) (sym (ap heap_of at.step.goes)) held))
+
+-- an object is owned from its allocation on
+owned_on : (pages d n a : ℕ) (kind : Kind) (start made told later : HeapPass) → Makes pages start (Alloc d n kind) Done made → MakesAfterNoFree pages made (Get d) (Word a) told → Keeps pages d told later
+    → IsOwned pages d n (λ b. b ≡ a) later
+owned_on pages d n a kind start made told later first second keeps =
+    kept_owned pages d n (λ b. b ≡ a) told keeps (told_owned pages d n a made told second (made_owned pages d n kind start made first))
+
+pub stays : (pages d n a e : ℕ) (kind : Kind) (reply : Reply) (start made told later asked : HeapPass)
+    → Makes pages start (Alloc d n kind) Done made → MakesAfterNoFree pages made (Get d) (Word a) told → Keeps pages d told later → MakesAfterNoFree pages later (Base e d) reply asked → reply ≡ Word a
+stays pages d n a e kind reply start made told later asked first second keeps third =
+    let legal = third.makes.extends.fine.legal in
+    let at = before pages later asked (Base e d) reply third.makes legal.0 legal.1 in
+    let had = owned_before pages d n (λ b. b ≡ a) later asked (Base e d) reply third (owned_on pages d n a kind start made told later first second keeps) legal.0 at in
+    let own = had.2 in
+    let sound = reached_sound pages (later.seen ++ third.makes.extends.between) at.state at.reached in
+    base_is (heap_of at.state) sound later.slot e d had.0 own.mutator own.object own.at own.holds own.has at.step.happens ∙ ap Word had.1
+
+pub apart : (pages d n a d' n' b : ℕ) (kind kind' : Kind) (start made told later more asked : HeapPass)
+    → Makes pages start (Alloc d n kind) Done made → MakesAfterNoFree pages made (Get d) (Word a) told → Keeps pages d told later
+    → MakesAfterNoFree pages later (Alloc d' n' kind') Done more → Makes pages more (Get d') (Word b) asked
     → (a + 8 * n ≤ b) ⊎ (b + 8 * n' ≤ a)
-apart pages d n a d' n' b kind kind' start made told more asked first second third fourth =
-    let before = up_to start.slot d n a kind (start.seen ++ first.extends.between) second.makes.extends.between third.makes.extends.between in
+apart pages d n a d' n' b kind kind' start made told later more asked first second keeps third fourth =
+    let legal = fourth.extends.fine.legal in
     let since = fourth.extends.between in
-    let slot3 = third.makes.extends.slot ∙ (second.makes.extends.slot ∙ first.extends.slot) in
-    let e3 = event start.slot (Mutator start.slot (Alloc d' n' kind')) Done in
-    let e4 = event start.slot (Mutator start.slot (Get d')) (Word b) in
-    let three = seen_is pages d n a kind (Alloc d' n' kind') Done start made told more first second.makes third.makes in
-    let four : asked.seen ≡ ((before ++ e3 ∷ []) ++ since) ++ e4 ∷ [] = fourth.extends.seen ∙ (λ i. (three i ++ since) ++ event (slot3 i) (Mutator (slot3 i) (Get d')) (Word b) ∷ []) in
-    let legal = subst (λ l. Legal (Opens pages) StateStep l) four fourth.extends.fine.legal in
-    let t5 = walks_last legal.1.0 legal.0 ((before ++ e3 ∷ []) ++ since) e4 legal.1.2 in
-    let t4 = walks_through legal.1.0 t5.0 (before ++ e3 ∷ []) since t5.1 in
-    let t3 = walks_last legal.1.0 t4.0 before e3 t4.1 in
-    let own = owned_then pages d n a kind (Alloc d' n' kind') Done start made told more first second third t3.0 (legal.1.0, legal.1.1, t3.1) in
-    let new = alloc_is (heap_of t3.0) start.slot d' n' kind' (reached_sound pages before t3.0 own.reached) t3.2.in_range.1.0 t3.2.happens in
-    let others = subst (λ (k : ℕ). AreOfOthers k since) slot3 fourth.extends.others in
-    let at : IsAttached (heap_of t5.0) start.slot new.mutator = walks_mutators t4.0 t5.0 since start.slot t4.2 others ∙ (ap (λ (s : Heap). slice_get s.mutators start.slot) (ap heap_of t3.2.goes) ∙ new.at) in
-    let told2 : b ≡ new.base = (get_is (heap_of t5.0) start.slot d' b t5.2.happens new.mutator at).0 ∙ new.holds in
+    let last = before pages more asked (Get d') (Word b) fourth legal.0 legal.1 in
+    let mid = walks_through last.reached.0 last.state more.seen since last.reached.2 in
+    let at = before pages later more (Alloc d' n' kind') Done third.makes mid.0 (last.reached.0, last.reached.1, mid.1) in
+    let had = owned_before pages d n (λ k. k ≡ a) later more (Alloc d' n' kind') Done third (owned_on pages d n a kind start made told later first second keeps) mid.0 at in
+    let own = had.2 in
+    let sound = reached_sound pages (later.seen ++ third.makes.extends.between) at.state at.reached in
+    let new = alloc_is (heap_of at.state) later.slot d' n' kind' sound at.step.in_range.1.0 at.step.happens in
+    let slot = third.makes.extends.slot in
+    let there : IsAttached (heap_of mid.0) more.slot new.owned.mutator =
+    subst (λ (k : ℕ). IsAttached (heap_of mid.0) k new.owned.mutator) (sym slot) (ap (λ (s : Heap). slice_get s.mutators later.slot) (ap heap_of at.step.goes) ∙ new.owned.at) in
+    let still : IsAttached (heap_of last.state) more.slot new.owned.mutator = walks_mutators mid.0 last.state since more.slot mid.2 fourth.extends.others ∙ there in
+    let told2 : b ≡ new.base = (get_is (heap_of last.state) more.slot d' b last.step.happens new.owned.mutator still).0 ∙ new.owned.holds in
+    let is : had.0 ≡ a = had.1 in
     let size = own.size in
-    let size2 = new.size in
-    ⊎_elim (λ before. inr (omega arith)) (λ after. inl (omega arith)) (new.away a own.object own.has)
+    let size2 = new.owned.size in
+    ⊎_elim (λ before. inr (omega arith)) (λ after. inl (omega arith)) (new.away had.0 own.object own.has)

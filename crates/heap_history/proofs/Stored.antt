@@ -1,22 +1,21 @@
 -- A word set, stored and loaded at the end of a legal history.
 use Rattle.std.proofs.Common.{◌≡◌, ◌≢◌, ℕ, ◌<◌, List, [], ◌∷◌, ◌++◌, length, refl, sym, ap, ◌∙◌, subst, arith, get_or-set_same}
-use Rattle.std.specs.Prelude.{Some, All, slice_get, slice_set, slice_index}
+use Rattle.std.specs.Prelude.{Some, slice_get, slice_set}
 use Rattle.std.proofs.lemmas.Option.{slice_get_within}
 use Rattle.std.proofs.lemmas.List.Elements.{All-cons, All-nil, All-head, All-tail}
 use Rattle.history.specs.Histories.{event, AreOfOthers, Walks, Reaches, Legal}
-use Rattle.heap_spec.specs.declared.call.Call.{Call}
 use Rattle.heap_spec.specs.declared.call.Call.TheVariants.{Set, Load, Store}
 use Rattle.heap_spec.specs.declared.event.Event.{Event}
 use Rattle.heap_spec.specs.declared.event.Event.TheVariants.{Mutator}
 use Rattle.heap_spec.specs.declared.reply.Reply.{Reply}
 use Rattle.heap_spec.specs.declared.reply.Reply.TheVariants.{Done, Word}
 use Rattle.heap_spec.specs.Heap.{Heap, Mutator as HeapMutator, IsAttached}
-use Rattle.heap_spec.specs.Steps.{Acts, Calls, acts, vacant, with_register, register}
+use Rattle.heap_spec.specs.Steps.{Acts, Calls, acts, with_register, register}
 use Rattle.heap_spec.specs.Runs.{Moment}
 use Rattle.heap_spec.specs.Ranges.{InRange}
 use Rattle.heap_spec.specs.Sound.{IsSound}
 use Rattle.heap_spec.specs.Laws.{IsFreshRun}
-use Rattle.heap_spec.proofs.Calls.{attached_is, calls_kept}
+use Rattle.heap_spec.proofs.Calls.{attached_is}
 use Rattle.heap_spec.proofs.Runs.{fresh_sound}
 use Rattle.heap_spec.proofs.Loads.{load_stored}
 use Rattle.heap_spec.specs.SequentialObject.{HeapState, heap_of, Opens, StateStep}

@@ -1,5 +1,5 @@
 -- What follows from the headline for a caller.
-use Rattle.std.specs.Prelude.{◌≡◌, ◌≢◌, ℕ, ◌+◌, ◌*◌, ◌<◌, ◌≤◌, ◌⊎◌, true, All, List, [], ◌∷◌, ◌++◌}
+use Rattle.std.specs.Prelude.{◌≡◌, ◌≢◌, ℕ, ◌+◌, ◌*◌, ◌<◌, ◌≤◌, ◌⊎◌, true, All, [], ◌∷◌, ◌++◌}
 use mathlib.Core.List.{IsPrefix}
 use Rattle.history.specs.Histories.{event, count}
 use Rattle.heap_spec.specs.declared.call.Call.{Call}
@@ -62,17 +62,42 @@ pub record MakesAfterNoFree (pages : ℕ) (old : HeapPass) (call : Call) (reply 
   pub makes : Makes pages old call reply new
   pub kept : All (λ (e : Entry). IsNoFree e.call) makes.extends.between
 
--- A mutator allocates an object, and its register has the base, as it is told. Whatever others do between its calls, cycles and stores
--- among it but no free, the register still has the base of an object.
+-- a call that leaves the register as it is and frees no object
+abbrev pub LeavesRegister : ℕ → Call → Type 0
+LeavesRegister d Detach = ⊥
+LeavesRegister d (Set r w) = d ≢ r
+LeavesRegister d (Copy r a) = d ≢ r
+LeavesRegister d (Add r a n) = d ≢ r
+LeavesRegister d (Sub r a b) = d ≢ r
+LeavesRegister d (Get r) = Unit {0}
+LeavesRegister d (Push r) = Unit {0}
+LeavesRegister d (Pop r) = d ≢ r
+LeavesRegister d (Load r a n) = d ≢ r
+LeavesRegister d (Store a n r) = Unit {0}
+LeavesRegister d (Alloc r n kind) = d ≢ r
+LeavesRegister d (Free r) = ⊥
+LeavesRegister d (Base r a) = d ≢ r
+LeavesRegister d (Size r) = Unit {0}
+LeavesRegister d (GlobalGet r g) = d ≢ r
+LeavesRegister d (GlobalPut g r) = Unit {0}
+
+-- Any number of a mutator's calls that leave its register, while nobody frees.
+pub data Keeps (pages d : ℕ) (old : HeapPass) : HeapPass → Type 0 where
+  nothing : Keeps pages d old old
+  longer : {now new : HeapPass} {call : Call} {reply : Reply} → Keeps pages d old now → LeavesRegister d call → MakesAfterNoFree pages now call reply new → Keeps pages d old new
+
+-- A mutator allocates an object, and its register has the base, as it is told. While its calls leave that register, the register has the
+-- base of an object, whatever others do between them, cycles and stores among it but no free.
 abbrev pub OwnObjectStays : Type 0
-OwnObjectStays = (pages d n a e : ℕ) (kind : Kind) (reply : Reply) (start made told asked : HeapPass)
-    → Makes pages start (Alloc d n kind) Done made → MakesAfterNoFree pages made (Get d) (Word a) told → MakesAfterNoFree pages told (Base e d) reply asked → reply ≡ Word a
+OwnObjectStays = (pages d n a e : ℕ) (kind : Kind) (reply : Reply) (start made told later asked : HeapPass)
+    → Makes pages start (Alloc d n kind) Done made → MakesAfterNoFree pages made (Get d) (Word a) told → Keeps pages d told later
+    → MakesAfterNoFree pages later (Base e d) reply asked → reply ≡ Word a
 
 -- Two objects that a mutator allocates, the second while a register has the first, don't overlap, if nobody frees between.
 abbrev pub OwnObjectsApart : Type 0
-OwnObjectsApart = (pages d n a d' n' b : ℕ) (kind kind' : Kind) (start made told more asked : HeapPass)
-    → Makes pages start (Alloc d n kind) Done made → MakesAfterNoFree pages made (Get d) (Word a) told
-    → MakesAfterNoFree pages told (Alloc d' n' kind') Done more → Makes pages more (Get d') (Word b) asked
+OwnObjectsApart = (pages d n a d' n' b : ℕ) (kind kind' : Kind) (start made told later more asked : HeapPass)
+    → Makes pages start (Alloc d n kind) Done made → MakesAfterNoFree pages made (Get d) (Word a) told → Keeps pages d told later
+    → MakesAfterNoFree pages later (Alloc d' n' kind') Done more → Makes pages more (Get d') (Word b) asked
     → (a + WORD_BYTES * n ≤ b) ⊎ (b + WORD_BYTES * n' ≤ a)
 
 -- A mutator's own events begin with its attach.
