@@ -3,7 +3,9 @@ pub mod Chains
 pub mod Telling
 pub mod Stored
 pub mod Counting
+pub mod Legal
 pub mod Passing
 pub mod Held
 pub mod Keeping
+pub mod Places
 pub mod Owning

@@ -1,17 +1,9 @@
 -- An allocation, the register that has its base, and what comes after.
-use Rattle.std.proofs.Common.{◌≡◌, ℕ, ◌+◌, ◌*◌, ◌<◌, ◌≤◌, ◌⊎◌, Bool, true, false, cond, List, [], ◌∷◌, ◌++◌, length, refl, sym, ap, ◌∙◌, subst, arith, inl, inr, ⊎_elim, replicate, get_or-set_same}
-use Rattle.std.specs.Prelude.{Option, Some, None, All, slice_get, slice_set, nat_le, find}
-use Rattle.std.specs.Int.{div_ceil}
-use Rattle.std.specs.Option.{option_map}
-use Rattle.std.proofs.lemmas.Bool.{leb-true}
-use Rattle.std.proofs.lemmas.Option.{same_Some, none-some, slice_get_within}
+use Rattle.std.proofs.Common.{◌≡◌, ℕ, ◌+◌, ◌*◌, ◌<◌, ◌≤◌, ◌⊎◌, List, ◌++◌, length, refl, sym, ap, ◌∙◌, subst, arith, inl, inr, ⊎_elim, replicate, get_or-set_same}
+use Rattle.std.specs.Prelude.{Some, All, slice_get, slice_set}
+use Rattle.std.proofs.lemmas.Option.{slice_get_within}
 use Rattle.std.proofs.lemmas.List.{length-set, length-replicate}
-use Rattle.words.specs.declared.limits.TheConstants.{PAGE_WORDS}
-use Rattle.words.specs.declared.class.TheConstants.{CLASSES}
 use Rattle.words.specs.declared.class.Kind.{Kind}
-use Rattle.words.specs.declared.class.Placement.{Placement}
-use Rattle.words.specs.declared.class.Placement.TheVariants.{Small, Large}
-use Rattle.words.specs.Placing.{placement_of}
 use Rattle.history.specs.Histories.{event, AreOfOthers, Walks, Reaches}
 use Rattle.heap_spec.specs.declared.call.Call.{Call}
 use Rattle.heap_spec.specs.declared.call.Call.TheVariants.{Detach, Set, Copy, Add, Sub, Get, Push, Pop, Load, Store, Alloc, Free, Base, Size, GlobalGet, GlobalPut}
@@ -35,30 +27,7 @@ use Rattle.heap_history.proofs.Slots.{slice_get-set_same, not_both}
 use Rattle.heap_history.proofs.Stored.{walks_last, walks_through, walks_mutators, reached_fresh, reached_sound}
 use Rattle.heap_history.proofs.Held.{room_none, calls_stay, walks_held}
 use Rattle.heap_history.proofs.Keeping.{calls_keep}
-
--- a place holds what was asked for
-found_holds : (p : ℕ → Bool) (xs : List ℕ) (c : ℕ) → find p xs ≡ Some c → p c ≡ true
-found_holds p [] c e = absurd (none-some c e)
-found_holds p (x ∷ xs) c e = by (p x) refl e (found_holds p xs c)
-  where
-    by : (b : Bool) → p x ≡ b → cond b (Some x) (find p xs) ≡ Some c → (find p xs ≡ Some c → p c ≡ true) → p c ≡ true
-    by true t e rest = ap p (sym (same_Some x c e)) ∙ t
-    by false t e rest = rest e
-
-small_holds : (n : ℕ) (o : Option ℕ) (place : Placement) → ((c : ℕ) → o ≡ Some c → n ≤ c) → option_map Small o ≡ Some place → n ≤ length_of place
-small_holds n None place h e = absurd (none-some place e)
-small_holds n (Some c) place h e = subst (λ p. n ≤ length_of p) (same_Some _ _ e) (h c refl)
-
-place_holds : (n : ℕ) (place : Placement) → placement_of n ≡ Some place → n ≤ length_of place
-place_holds n place e = outer _ e
-  where
-    inner : (b : Bool) → nat_le n 256 ≡ b → cond b (option_map Small (find (λ c. nat_le n c) CLASSES)) (Some (Large (div_ceil n PAGE_WORDS))) ≡ Some place → n ≤ length_of place
-    inner true t e = small_holds n _ place (λ c f. leb-true n c (found_holds (λ c. nat_le n c) CLASSES c f)) e
-    inner false t e = subst (λ p. n ≤ length_of p) (same_Some _ _ e) (let holds : n ≤ PAGE_WORDS * div_ceil n PAGE_WORDS = omega arith in holds)
-
-    outer : (b : Bool) → cond b None (cond (nat_le n 256) (option_map Small (find (λ c. nat_le n c) CLASSES)) (Some (Large (div_ceil n PAGE_WORDS)))) ≡ Some place → n ≤ length_of place
-    outer true e = absurd (none-some place e)
-    outer false e = inner (nat_le n 256) refl e
+use Rattle.heap_history.proofs.Places.{place_holds}
 
 -- A mutator's register has the base of an object of at least so many words.
 pub record Owned (s : Heap) (slot d n a : ℕ) : Type 0 where

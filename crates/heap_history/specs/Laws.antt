@@ -1,5 +1,5 @@
 -- What follows from the headline for a caller.
-use Rattle.std.specs.Prelude.{◌≡◌, ◌≢◌, ℕ, ◌+◌, ◌*◌, ◌<◌, ◌≤◌, ◌⊎◌, true, All, [], ◌∷◌, ◌++◌}
+use Rattle.std.specs.Prelude.{◌≡◌, ◌≢◌, ℕ, ◌+◌, ◌*◌, ◌<◌, ◌≤◌, ◌⊎◌, true, All, List, [], ◌∷◌, ◌++◌}
 use mathlib.Core.List.{IsPrefix}
 use Rattle.history.specs.Histories.{event, count}
 use Rattle.heap_spec.specs.declared.call.Call.{Call}
@@ -8,11 +8,22 @@ use Rattle.heap_spec.specs.declared.event.Event.{Event}
 use Rattle.heap_spec.specs.declared.event.Event.TheVariants.{Attach, Mutator, Begin, Roots, Mark, Retrace, Finish, Sweep, Collect, Number}
 use Rattle.heap_spec.specs.declared.reply.Reply.{Reply}
 use Rattle.heap_spec.specs.declared.reply.Reply.TheVariants.{Done, Word}
+use Rattle.heap_spec.specs.Runs.{Told}
+use Rattle.heap_spec.specs.Histories.{LegalHistory}
 use Rattle.words.specs.declared.limits.TheConstants.{SLOTS, WORD_BYTES}
 use Rattle.words.specs.declared.class.Kind.{Kind}
 use Rattle.heap_history.specs.Ranks.{rank_of}
 use Rattle.heap_history.specs.Passes.{Entry, HeapPass, IsFine, begins}
 use Rattle.heap_history.specs.Headline.{Makes}
+
+-- what these events tell after those that were told, the newest first
+abbrev pub tells : List Told → List Entry → List Told
+tells told [] = told
+tells told (e ∷ es) = tells (record { event = e.call; reply = e.reply } ∷ told) es
+
+-- What a pass has seen is a legal history: some run of a new heap of so many pages tells it.
+abbrev pub SeenIsLegal : Type 0
+SeenIsLegal = (pages : ℕ) (pass : HeapPass) → IsFine pages pass → LegalHistory pages (tells [] pass.seen)
 
 -- a call that frees no object
 abbrev pub IsNoFreeCall : Call → Type 0

@@ -1,5 +1,10 @@
 //! What follows from the headline for a caller, whatever others do. Each law is a function that does nothing, and its contract is the law.
-ghost use Rattle.heap_history.specs.Laws.{OwnLoadAnswers, OwnObjectStays, OwnObjectsApart, MineBegins, CountGrows};
+ghost use Rattle.heap_history.specs.Laws.{SeenIsLegal, OwnLoadAnswers, OwnObjectStays, OwnObjectsApart, MineBegins, CountGrows};
+
+/// What a pass has seen is a legal history of the sequential heap.
+pub fn seen_is_legal()
+    ensures { SeenIsLegal }
+{}
 
 /// A mutator loads the word that it stored, if nothing happened between.
 pub fn own_load_answers()
