@@ -1,7 +1,8 @@
 #!/usr/bin/env bash
 # Tests of the script `mpheap` at the top of the repository, over a copy of the tree. What the script alone decides is tested
 # with a stand-in for rt, which notes how it was called and answers as it is told; two runs at the end are of the real rt,
-# so that the stand-in's answers are known to be rt's. It takes about a minute, and leaves nothing behind.
+# so that the stand-in's answers are known to be rt's, and one more runs examples/. It takes about two minutes, and leaves nothing
+# behind.
 set -uo pipefail
 top=$(dirname "$(dirname "$(readlink -f "${BASH_SOURCE[0]}")")")
 room=$(mktemp -d)
@@ -354,6 +355,27 @@ real_runs() {
     rm -f args
 }
 
+# Each of examples/ prints the replies that stand beside it, by an unproved build of the program.
+examples_have_their_replies() {
+    local file name cases=$room/cases
+    mkdir "$cases"
+    cd "$top" || exit 1
+    for file in examples/*.script examples/*.workload; do
+        name=$(basename "${file%.*}")
+        cp "$file" "$cases/$name"
+        cp "examples/$name.replies" "$cases/$name.stdout"
+        case $file in
+            *.script) lines run --pages 4 >"$cases/$name.args" ;;
+            *) lines threads --pages 4 {} >"$cases/$name.args" ;;
+        esac
+    done
+    (cd "$tree/crates/mpheap" && rt try --cases "$cases") >"$room/out" 2>&1
+    for file in "$cases"/*.stdout; do
+        name=$(basename "$file" .stdout)
+        is "examples/$name prints its replies" 1 "$(grep -c "case=$name run=ended status=0 .* output=expected" "$room/out")"
+    done
+}
+
 open_room
 usage_comes_first
 words_stay_as_they_are
@@ -366,6 +388,7 @@ proved_is_said_where_it_is_true
 failed_builds_prove_nothing
 found_from_everywhere
 real_runs
+examples_have_their_replies
 is "no folder is left behind" "" "$(ls -A "$TMPDIR")"
 echo "wrapper: $passed passed, $failed failed"
 [ "$failed" = 0 ]
