@@ -1,3 +1,4 @@
+//! The object under the lock, with the seat that knows the whole history.
 ghost use Rattle.std.specs.Prelude.{◌≡◌};
 ghost use Rattle.std.specs.Fn.{FnOnceReturnsAtMut};
 ghost use Rattle.history.specs.Objects.{KeepsStates};

@@ -1,3 +1,4 @@
+//! How a history begins, and how it gets a name.
 ghost use Rattle.std.specs.Prelude.{◌≡◌, [], IfOk};
 ghost use Rattle.history.specs.declared.object.TheConstants.{COLLECTOR as collector};
 

@@ -1,3 +1,4 @@
+//! What one slot has seen of the history.
 ghost use Rattle.std.specs.Prelude.{◌≡◌};
 ghost use Rattle.history.specs.Passes.{Agrees};
 

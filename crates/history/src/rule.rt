@@ -1,3 +1,4 @@
+//! The rule that every step of the table keeps, and the names that tell histories apart.
 ghost use Rattle.history.specs.Histories.{Legal};
 ghost use Rattle.history.specs.Rules.{Kept};
 ghost use Rattle.history.specs.Views.{opener};

@@ -1,3 +1,4 @@
+//! How a heap is opened.
 ghost use Rattle.std.specs.Prelude.{◌≡◌};
 ghost use Rattle.pages.specs.Opening.{IsOpened};
 

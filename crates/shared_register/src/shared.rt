@@ -1,3 +1,4 @@
+//! The register behind a lock, and the passes of those who call it.
 ghost use Rattle.std.specs.Prelude.{◌≡◌, ◌≢◌, ◌<◌, ◌%◌, ◌^◌, ◌⊎◌, [], not, true, false, IfOk, IfSome, slice_index_or};
 ghost use Rattle.history.specs.declared.object.TheConstants.{COLLECTOR as collector};
 ghost use Rattle.history.specs.Histories.{count, GrowsByOthers};
