@@ -1,8 +1,7 @@
 -- How the collector's calls are granted.
-use Rattle.std.proofs.Common.{◌≡◌, ℕ, Bool, true, sym, ◌∙◌, subst}
+use Rattle.std.proofs.Common.{◌≡◌, ℕ, true, sym, subst}
 use Rattle.std.specs.Prelude.{Result, Ok, Err}
 use Rattle.words.specs.declared.refusal.Refusal.{Refusal}
-use Rattle.heap_spec.specs.declared.event.Event.{Event}
 use Rattle.heap_spec.specs.declared.event.Event.TheVariants.{Finish}
 use Rattle.heap_spec.specs.declared.reply.Reply.{Reply}
 use Rattle.heap_spec.specs.declared.reply.Reply.TheVariants.{Count}

@@ -1,11 +1,10 @@
 -- What a pass that has learnt the history knows of the core under the lock.
-use Rattle.std.proofs.Common.{◌≡◌, ℕ, ◌<◌, true, false, List, [], refl, sym, ap, ◌∙◌, subst, true≢false, arith}
-use Rattle.std.specs.Prelude.{slice_get, ◌≤◌}
-use Rattle.words.specs.declared.limits.TheConstants.{MAX_PAGES}
+use Rattle.std.proofs.Common.{◌≡◌, ℕ, ◌<◌, false, List, [], refl, sym, ap, ◌∙◌, subst, true≢false, arith}
+use Rattle.std.specs.Prelude.{slice_get}
 use Rattle.history.specs.Histories.{is_live, Reaches}
 use Rattle.history.specs.Passes.{Owned}
 use Rattle.heap_spec.specs.Heap.{opening}
-use Rattle.heap_spec.specs.SequentialObject.{HeapState, heap_of, Opens, StateStep}
+use Rattle.heap_spec.specs.SequentialObject.{HeapState, Opens, StateStep}
 use Rattle.pages.specs.Opening.{IsPageCount}
 use Rattle.roots.specs.Roots.{IsNextSlot}
 use Rattle.heap_history.specs.Ranks.{rank_of}

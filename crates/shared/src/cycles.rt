@@ -5,6 +5,7 @@ ghost use Rattle.heap_spec.specs.declared.reply.Reply.TheVariants.{Done, Count};
 ghost use Rattle.heap_core.specs.Contents.{Contents};
 ghost use Rattle.heap_history.specs.Passes.{is_marking};
 ghost use Rattle.heap_history.specs.Headline.{Extends, Looks, IsGrantedIn};
+ghost use Rattle.shared.specs.Lending.{IsLent};
 
 use crate::heap::SharedHeap;
 use crate::tokens::Collector;
@@ -46,14 +47,16 @@ impl<J: Naming> SharedHeap<J> {
         }
     }
 
-    /// Runs work that is no event on the core, under the lock: on some core that is marking exactly if the collector's own events say so.
+    /// Runs work that is no event on the core, under the lock: on a core that stands for where the history leads that the collector has
+    /// then seen, and that is marking exactly if its own events say so.
     pub fn quiet<Q: Quiet<Core>>(
         &self,
         rt: &impl Wait,
         me: &mut Collector<J>,
         work: &mut Q,
     ) -> Q::Answer
-        ensures gives { (before : Contents) × (after : Contents) × Q.gives work.old before result work.new after × (before.cycle.is_marking ≡ is_marking me.old.mine) }
+        ensures gives { (before : Contents) × (after : Contents) × Q.gives work.old before result work.new after × (before.cycle.is_marking ≡ is_marking me.old.mine)
+            × IsLent J.origin me.new.seen before after }
         ensures looks { Looks J.origin me.old me.new }
     {
         let mut guard = self.lock.lock(rt);

@@ -1,5 +1,6 @@
 //! What the holders of a shared heap hold. Contracts see each as its pass.
 ghost use Rattle.std.specs.Prelude.{◌≡◌};
+ghost use Rattle.heap_history.specs.Passes.{IsFine};
 
 use heap_core::Core;
 use history::{Naming, Pass};
@@ -43,8 +44,11 @@ impl<J: Naming> Model for Collector<J> {
 impl<J: Naming> Mutator<J> {
     /// Its slot.
     pub fn slot(&self) -> Slot
-        ensures { result ≡ self.now.slot }
+        ensures slot { result ≡ self.now.slot }
+        // At any time what a mutator has seen is legal, and its own events are exactly its slot's in it.
+        ensures fine { IsFine J.origin self.now }
     {
+        let _slot = self.pass.slot();
         self.slot
     }
 }

@@ -1,4 +1,4 @@
-use Rattle.std.proofs.Common.{◌≡◌, true, false, not, sym, ap, subst, refl, ◌∙◌}
+use Rattle.std.proofs.Common.{◌≡◌, true, false, sym, ap, subst, refl, ◌∙◌}
 use Rattle.words.specs.declared.refusal.Refusal.TheVariants.{WrongPhase}
 use Rattle.heap_spec.specs.declared.event.Event.TheVariants.{Begin}
 use Rattle.heap_spec.specs.declared.reply.Reply.{Reply}

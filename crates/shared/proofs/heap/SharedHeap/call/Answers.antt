@@ -1,4 +1,4 @@
-use Rattle.std.proofs.Common.{sym, ap, subst, ◌∙◌, ℕ}
+use Rattle.std.proofs.Common.{sym, ap, subst, ℕ}
 use Rattle.heap_spec.specs.declared.event.Event.TheVariants.{Mutator}
 use Rattle.heap_spec.specs.SequentialObject.{Opens, StateStep}
 use Rattle.history.proofs.Headlines.{extended}

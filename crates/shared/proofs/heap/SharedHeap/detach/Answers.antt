@@ -1,4 +1,4 @@
-use Rattle.std.proofs.Common.{sym, ap, ◌∙◌}
+use Rattle.std.proofs.Common.{ap}
 use Rattle.shared.proofs.Passing.{caller_can}
 use Rattle.shared.proofs.heap.SharedHeap.detach.Goals as goal
 

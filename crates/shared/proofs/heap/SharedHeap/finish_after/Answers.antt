@@ -1,4 +1,4 @@
-use Rattle.std.proofs.Common.{◌≡◌, true, false, not, sym, ap, subst, refl, ◌∙◌}
+use Rattle.std.proofs.Common.{◌≡◌, true, false, sym, ap, subst, refl, ◌∙◌}
 use Rattle.words.specs.declared.refusal.Refusal.TheVariants.{WrongPhase}
 use Rattle.heap_spec.specs.declared.event.Event.TheVariants.{Finish}
 use Rattle.heap_spec.specs.declared.reply.Reply.TheVariants.{Count}
@@ -6,7 +6,7 @@ use Rattle.heap_spec.specs.SequentialObject.{Opens, StateStep}
 use Rattle.history.proofs.Headlines.{extended, looked}
 use Rattle.heap_history.specs.Ranks.{rank_of}
 use Rattle.heap_history.specs.Passes.{HeapPass, is_marking as marks}
-use Rattle.heap_history.specs.Headline.{Extends, Looks, IsGrantedIn}
+use Rattle.heap_history.specs.Headline.{Looks, IsGrantedIn}
 use Rattle.shared.proofs.Passing.{phase_is}
 use Rattle.shared.proofs.Granting.{is_count, finished}
 use Rattle.shared.proofs.heap.SharedHeap.finish_after.Goals as goal

@@ -1,4 +1,4 @@
-use Rattle.std.proofs.Common.{◌%◌, sym, ap, ◌∙◌}
+use Rattle.std.proofs.Common.{◌%◌, ap, ◌∙◌}
 use Rattle.heap_history.proofs.Passing.{own_count}
 use Rattle.shared.proofs.heap.SharedHeap.gc_no_of.Goals as goal
 

@@ -1,0 +1,6 @@
+use Rattle.std.proofs.Common.{subst}
+use Rattle.heap_history.specs.Passes.{HeapPass, IsFine}
+use Rattle.shared.proofs.tokens.Mutator.slot.Goals as goal
+
+pub returns-clause-fine : goal.returns-clause-fine
+returns-clause-fine g c = subst (λ (p : HeapPass). IsFine g.J.Naming.origin p) c.self.view_is c.slot-slot.ensures.agrees

@@ -1,0 +1,14 @@
+-- Which core the collector's own work is run on.
+use Rattle.std.specs.Prelude.{ℕ, List}
+use Rattle.history.specs.Histories.{Reaches}
+use Rattle.heap_spec.specs.SequentialObject.{HeapState, Opens, StateStep}
+use Rattle.heap_history.specs.Passes.{Entry}
+use Rattle.heap_core.specs.Contents.{Contents}
+use Rattle.heap_core.specs.AsObject.{Stands}
+
+-- Before the work and after it the core stands for where the history leads, from a new heap of so many pages.
+pub record IsLent (pages : ℕ) (history : List Entry) (before after : Contents) : Type 0 where
+  pub state : HeapState
+  pub reached : Reaches (Opens pages) StateStep history state
+  pub stood_for : Stands before state
+  pub still : Stands after state
