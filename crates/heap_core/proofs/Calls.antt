@@ -18,7 +18,7 @@ use Rattle.words.specs.Layout.{granule}
 use Rattle.heap_spec.specs.Heap.{with_at, without, without_at}
 use Rattle.heap_spec.specs.Room.{length_of}
 use Rattle.std.specs.Prelude.{Bool}
-use Rattle.std.proofs.lemmas.Bool.{false≢true}
+use Rattle.std.proofs.lemmas.Bool.{false≢true, cases_eq}
 use Rattle.marker.specs.Mutations.{IsFreed}
 use Rattle.marker.specs.Marking.{IsMarked}
 use Rattle.block_map.specs.Objects.{IsMap}
@@ -129,6 +129,9 @@ allocated roots roots' t0 t t' y y' slot d n base kind place m at is sweeps room
   stack = notes.stack;
   marks = λ f there marked. ⊎_elim (λ old. inl old) (λ same. inr (new f (kept_cases (is_kept t'.pending y'.marking.marks) (found_in t'.states) f.base f there).0 same)) (notes.marks (granule f.base) marked);
   dirty = λ p h. inl (subst (λ ds. Has ds p) notes.dirty h);
+  fewer = λ p h. sweeps.fewer p (subst (λ row. Has row p) gains.pending h);
+  swept = λ p h. inr tt;
+  roots_alone = λ not. absurd (not tt);
 }
   where
     -- the object at the granule is the one that came
@@ -169,6 +172,9 @@ full roots t0 t y slot d n kind place m at is sweeps swept none = record {
   stays_dirty = λ p h. h;
   current = refl;
   stack = refl;
+  fewer = sweeps.fewer;
+  swept = λ p h. inr tt;
+  roots_alone = λ not. absurd (not tt);
 }
 
 -- a kept object whose base was looked for is there
@@ -235,6 +241,9 @@ freed roots t t' y y' slot r m f lawful at is base loses frees phase count = rec
   stays_dirty = λ p h. subst (λ ds. Has ds p) (sym frees.dirty) h;
   current = frees.current;
   stack = frees.stack;
+  fewer = loses.fewer;
+  swept = λ p h. ⊎_elim (λ same. inr (m, at, f, is, same)) (λ ne. inl (loses.rest p ne ∙ h)) (cases_eq p f.page);
+  roots_alone = λ not. absurd (not tt);
 }
   where
     there : restrict (is_kept t.pending y.marking.marks) (found_in t.states) f.base ≡ Some f

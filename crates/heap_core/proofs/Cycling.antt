@@ -1,5 +1,5 @@
 -- The calls of the collector, over the core as a whole.
-use Rattle.std.proofs.Common.{◌≡◌, ℕ, ◌+◌, ◌≤◌, ◌%◌, true, false, List, [], length, Contains, refl, sym, ◌∙◌, arith}
+use Rattle.std.proofs.Common.{◌≡◌, ℕ, ◌+◌, ◌≤◌, ◌%◌, true, false, List, [], length, Contains, refl, sym, ap, ◌∙◌, arith}
 use Rattle.std.specs.Prelude.{count_by, ◌↔◌, Some}
 use Rattle.block_map.specs.declared.found.Found.{Found}
 use Rattle.block_map.specs.FoundIn.{found_in}
@@ -47,14 +47,15 @@ begins c t m sweeps swept fresh = record {
   swept = swept;
 }
 
-pub sweeps_one : (c : Contents) (t : Store) (n : ℕ) → Sweeps c.store c.cycle.marking.marks t → n ≤ 1 → count_by (λ b. b) t.pending + n ≡ count_by (λ b. b) c.store.pending → (n ≡ 0 → IsSwept c.store)
+pub sweeps_one : (c : Contents) (t : Store) (n : ℕ) → Sweeps c.store c.cycle.marking.marks t → n ≤ 1 → count_by (λ b. b) t.pending + n ≡ count_by (λ b. b) c.store.pending → (n ≡ 0 → IsSwept c.store × (t ≡ c.store))
     → SweepsOne c n (record { roots = c.roots; store = t; cycle = c.cycle })
 sweeps_one c t n sweeps few fewer none = record {
   stands = λ s h. swept_stands c.roots c.store t c.cycle sweeps s h;
   cycle = refl;
   few = few;
   fewer = fewer;
-  none = none;
+  only = sweeps.fewer;
+  none = λ zero. let x = none zero in (x.0, ap (λ (x : Store). record c { store = x }) x.1);
 }
 
 pub marks_on : (c : Contents) (roots : List ℕ) (m : Marking) → IsMap (length c.store.states) (found_in c.store.states) → IsSwept c.store → ((w : ℕ) → Contains roots w → Contains (root_words_of c.roots) w)
@@ -63,6 +64,7 @@ marks_on c roots m map swept among traces = record {
   stands = λ s h. stands_still c _ swept s h;
   phase = refl;
   count = refl;
+  alone = refl;
   within = λ s h base o has marked. grows_within c map swept s h roots m among traces base o has marked;
   traces = traces;
 }

@@ -1,5 +1,5 @@
 -- How a core follows a run.
-use Rattle.std.proofs.Common.{Result, Ok, Err, ◌++◌, length, take, get_or, set, ◌≡◌, ℕ, ◌+◌, ◌%◌, ◌<◌, ◌≤◌, ◌⊎◌, true, false, List, [], ◌∷◌, Some, None, refl, sym, ap, ◌∙◌, subst, inl, inr, ⊎_elim, arith}
+use Rattle.std.proofs.Common.{Result, Ok, Err, ◌++◌, ◌≡◌, ℕ, ◌+◌, ◌%◌, ◌<◌, ◌≤◌, ◌⊎◌, true, false, List, [], ◌∷◌, Some, None, refl, sym, ap, ◌∙◌, subst, inl, inr, ⊎_elim, arith}
 use Rattle.std.specs.Prelude.{⊤}
 use Rattle.words.specs.declared.refusal.Refusal.{Refusal}
 use Rattle.words.specs.declared.refusal.Refusal.TheVariants.{WrongPhase}
@@ -27,7 +27,7 @@ use Rattle.heap_core.specs.Contents.{Contents, Cycle}
 use Rattle.heap_core.specs.Standing.{StandsFor, objects_of}
 use Rattle.heap_core.specs.Calls.{IsCall}
 use Rattle.heap_core.specs.Collections.{IsGrantedIn, IsAlwaysGranted, BeginsCycle, MarksOn, ReadsRoots, TakesWords, RetracesPage, ReadsPage, EndsCycle, CollectsAll, SweepsOne}
-use Rattle.heap_core.specs.Following.{Follows, IsLine, AreLines, told_of}
+use Rattle.heap_core.specs.Following.{Follows, IsLine, AreLines}
 
 -- what a step is to a run
 pub record IsMoment (start : Start) (run : Run) (event : Event) (reply : Reply) (s' : Heap) : Type 0 where

@@ -84,6 +84,9 @@ stores roots t t' y y' slot a n r m f lawful long at aligned is writes notes pha
   stays_dirty = notes.stays_dirty;
   current = notes.current;
   stack = notes.stack;
+  fewer = λ p h. subst (λ (x : Store). Has x.pending p) writes h;
+  swept = λ p h. inl (subst (λ (x : Store). Has x.pending p) (sym writes) h);
+  roots_alone = λ not. absurd (not tt);
 }
   where
     same : (b : ℕ) → restrict (is_kept t'.pending y'.marking.marks) (found_in t'.states) b ≡ restrict (is_kept t.pending y.marking.marks) (found_in t.states) b

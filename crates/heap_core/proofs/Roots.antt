@@ -41,6 +41,9 @@ quiet c roots event reply steps = record {
   stays_dirty = λ p h. h;
   current = refl;
   stack = refl;
+  fewer = λ p h. h;
+  swept = λ p h. inl h;
+  roots_alone = λ not. (refl, refl);
 }
 
 -- a step that changes no more than the roots

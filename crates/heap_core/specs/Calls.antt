@@ -1,16 +1,17 @@
 -- What calls of mutators do to a core.
 use Rattle.std.specs.Prelude.{◌≡◌, ℕ, ◌⊎◌, Some, None, true}
+use Rattle.words.specs.declared.refusal.Refusal.TheVariants.{Full}
 use Rattle.words.specs.Bits.{Has}
 use Rattle.words.specs.Layout.{page_of}
 use Rattle.heap_spec.specs.declared.call.Call.{Call}
-use Rattle.heap_spec.specs.declared.call.Call.TheVariants.{Store}
+use Rattle.heap_spec.specs.declared.call.Call.TheVariants.{Store, Alloc, Free}
 use Rattle.heap_spec.specs.declared.event.Event.{Event}
 use Rattle.heap_spec.specs.declared.event.Event.TheVariants.{Mutator}
 use Rattle.heap_spec.specs.declared.reply.Reply.{Reply}
-use Rattle.heap_spec.specs.declared.reply.Reply.TheVariants.{Done}
+use Rattle.heap_spec.specs.declared.reply.Reply.TheVariants.{Done, Refused}
 use Rattle.heap_spec.specs.Heap.{Mutator as HeapMutator}
 use Rattle.heap_spec.specs.Replies.{IsStep}
-use Rattle.heap_spec.specs.Steps.{address}
+use Rattle.heap_spec.specs.Steps.{address, register}
 use Rattle.block_map.specs.declared.found.Found.{Found}
 use Rattle.marker.specs.Marking.{IsMarked}
 use Rattle.roots.specs.Roots.{HasMutator}
@@ -27,9 +28,34 @@ abbrev pub StoresTo : Contents → Event → Reply → ℕ → Type 0
 StoresTo c (Mutator slot call) Done p = StoresOn c slot call p
 StoresTo c _ _ p = ⊥
 
+-- the call with this reply reaches the pages: a store, an allocation or a free that was done, or an allocation that found no place
+abbrev pub CallReachesPages : Call → Reply → Type 0
+CallReachesPages (Store a n r) Done = Unit {0}
+CallReachesPages (Alloc d n kind) Done = Unit {0}
+CallReachesPages (Alloc d n kind) (Refused Full) = Unit {0}
+CallReachesPages (Free r) Done = Unit {0}
+CallReachesPages _ _ = ⊥
+
+-- the event with this reply does
+abbrev pub ReachesPages : Event → Reply → Type 0
+ReachesPages (Mutator slot call) reply = CallReachesPages call reply
+ReachesPages _ _ = ⊥
+
+-- a page that a call of the slot may sweep: an allocation any, as it needs, and a free that of its object, which may become free
+abbrev pub CallMaySweep : Contents → ℕ → Call → ℕ → Type 0
+CallMaySweep c slot (Alloc d n kind) p = Unit {0}
+CallMaySweep c slot (Free r) p = (m : HeapMutator) × HasMutator c.roots slot m × (f : Found) × (objects_of c (register m r) ≡ Some f) × (p ≡ f.page)
+CallMaySweep c slot _ p = ⊥
+
+-- a page that an event may sweep
+abbrev pub MaySweep : Contents → Event → ℕ → Type 0
+MaySweep c (Mutator slot call) p = CallMaySweep c slot call p
+MaySweep c _ p = ⊥
+
 -- A call of a mutator is a step of the heap. It leaves the phase and the count as they are, and the work of the marker too,
 -- but for its own part of it: no object that is there before and after is newly marked or loses its mark, an object that
--- comes while a cycle is marking is marked, and of the pages only the one that it has stored to may become dirty.
+-- comes while a cycle is marking is marked, and of the pages only the one that it has stored to may become dirty. No page
+-- becomes one that is to be swept, and few calls sweep. Unless it reaches the pages it changes nothing but the roots.
 pub record IsCall (old : Contents) (event : Event) (reply : Reply) (new : Contents) : Type 0 where
   pub steps : IsStep (StandsFor old) event reply (StandsFor new)
   pub phase : new.cycle.is_marking ≡ old.cycle.is_marking
@@ -41,3 +67,6 @@ pub record IsCall (old : Contents) (event : Event) (reply : Reply) (new : Conten
   pub stays_dirty : (p : ℕ) → Has old.cycle.marking.dirty p → Has new.cycle.marking.dirty p
   pub current : new.cycle.marking.current ≡ old.cycle.marking.current
   pub stack : new.cycle.marking.stack ≡ old.cycle.marking.stack
+  pub fewer : (p : ℕ) → Has new.store.pending p → Has old.store.pending p
+  pub swept : (p : ℕ) → Has old.store.pending p → Has new.store.pending p ⊎ MaySweep old event p
+  pub roots_alone : (ReachesPages event reply → ⊥) → (new.store ≡ old.store) × (new.cycle ≡ old.cycle)

@@ -1,5 +1,6 @@
 -- What calls of the collector do to a core.
 use Rattle.std.specs.Prelude.{◌≡◌, ℕ, ◌+◌, ◌%◌, ◌<◌, ◌≤◌, Bool, true, false, List, [], length, count_by, Contains, Result, Ok, Err, if◌then◌else◌}
+use Rattle.words.specs.Bits.{Has}
 use Rattle.words.specs.declared.refusal.Refusal.{Refusal}
 use Rattle.words.specs.declared.refusal.Refusal.TheVariants.{WrongPhase}
 use Rattle.heap_spec.specs.declared.reply.Reply.{Reply}
@@ -40,12 +41,14 @@ pub record BeginsCycle (old new : Contents) : Type 0 where
   pub fresh : IsFresh (length old.store.states) new.cycle.marking
   pub swept : IsSwept new.store
 
--- The marker went on, with these roots. The core stands for what it stood for, in the same phase and with the same count;
--- only objects of the closure of the marks before are marked, and only pages of newly marked ones have become dirty.
+-- The marker went on, with these roots, and nothing but its work has changed. The core stands for what it stood for, in the
+-- same phase and with the same count; only objects of the closure of the marks before are marked, and only pages of newly
+-- marked ones have become dirty.
 pub record MarksOn (roots : List ℕ) (old new : Contents) : Type 0 where
   pub stands : (s : Heap) → StandsFor old s → StandsFor new s
   pub phase : new.cycle.is_marking ≡ old.cycle.is_marking
   pub count : new.cycle.count ≡ old.cycle.count
+  pub alone : new ≡ record old { cycle = record old.cycle { marking = new.cycle.marking } }
   pub within : (s : Heap) → StandsFor old s → (base : ℕ) (o : Object) → HasObject s base o → IsMarked new.cycle.marking base → Closure s (IsMarkedBirth s old.cycle.marking) base
   pub traces : Traces (found_in old.store.states) old.store.words roots old.cycle.marking new.cycle.marking
 
@@ -107,10 +110,12 @@ pub record CollectsAll (old : Contents) (n : ℕ) (new : Contents) : Type 0 wher
   pub swept : IsSwept new.store
   pub collects : (s : Heap) → StandsFor old s → (s' : Heap) × CollectsFully s (Count n) s' × StandsFor new s'
 
--- One page was swept if one was to be swept, and then one fewer is. The core stands for what it stood for.
+-- One page was swept if one was to be swept, and then one fewer is, none of them new; else nothing has changed. The core
+-- stands for what it stood for.
 pub record SweepsOne (old : Contents) (n : ℕ) (new : Contents) : Type 0 where
   pub stands : (s : Heap) → StandsFor old s → StandsFor new s
   pub cycle : new.cycle ≡ old.cycle
   pub few : n ≤ 1
   pub fewer : count_by (λ b. b) new.store.pending + n ≡ count_by (λ b. b) old.store.pending
-  pub none : n ≡ 0 → IsSwept old.store
+  pub only : (p : ℕ) → Has new.store.pending p → Has old.store.pending p
+  pub none : n ≡ 0 → IsSwept old.store × (new ≡ old)

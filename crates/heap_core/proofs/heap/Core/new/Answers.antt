@@ -15,6 +15,7 @@ returns c = (
     refl,
     refl,
     c.in_ok-objects.ensures.1.0,
+    c.in_ok-marker.ensures.1,
   ),
 )
 

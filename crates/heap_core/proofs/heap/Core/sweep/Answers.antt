@@ -15,5 +15,5 @@ returns c = rw (← c.self.view_is) (elim c.if-sweep.branch [
   | else-sweep w ↦
       let none = c.sweep.ensures.none w.if-sweep.false in
       let same : count_by (λ b. b) c.sweep.new.self.pending ≡ count_by (λ b. b) c.self.inside.objects.pending = ap (λ (t : Store). count_by (λ b. b) t.pending) none.1 in
-      rw w.result-is (sweeps_one _ _ 0 c.sweep.ensures.sweeps (omega arith) (omega arith) (λ zero. none.0))
+      rw w.result-is (sweeps_one _ _ 0 c.sweep.ensures.sweeps (omega arith) (omega arith) (λ zero. none))
 ])
