@@ -71,6 +71,6 @@ if [ -x "$program" ]; then
 fi
 holds test_shared threads::refused_thread
 holds test_threads refused::refused_thread
-holds test_pause refused::refused_thread
+holds test_threads refused_helpers::refused_thread
 echo "refused threads: $passed passed, $failed failed"
 [ "$passed" -gt 0 ] && [ "$failed" = 0 ]

@@ -1,8 +1,10 @@
-//! Threads that claim all marks of a table side by side.
+//! Threads without a heap: they claim all marks of a table side by side, and run jobs.
 #![tactic(auto)]
 
 #[cfg(test)]
 mod alone;
+#[cfg(test)]
+mod jobs;
 
 ghost use Rattle.std.specs.Prelude.{◌≡◌, ℕ, ◌+◌, ◌<◌, ◌≤◌, true, length, All, OnOk, OnErr, IfOk, vec_len};
 ghost use Rattle.words.specs.Bits.{IsFullRow};

@@ -30,6 +30,15 @@ fn additions(alloc: Global, count: usize) -> Result<Lines, AllocError>
     Ok(Lines { calls, replies })
 }
 
+// Of two mutators.
+fn twice(alloc: Global, count: usize) -> Result<(Lines, Lines), AllocError>
+    ensures { IfOk result (λ l. AreReady l.0.calls.items l.0.replies.items × AreReady l.1.calls.items l.1.replies.items) }
+{
+    let first = additions(alloc, count)?;
+    let second = additions(alloc, count)?;
+    Ok((first, second))
+}
+
 // The numbers that the additions found, each counted once, in the mutator's order.
 fn count_found(replies: &[Reply], found: &mut [bool]) -> bool {
     let mut last = None;
@@ -108,10 +117,8 @@ fn add_in_threads<J: Naming + Send + Sync, R: Threads + Wait + Abort + Sync>(
 #[test]
 fn threads_leave_one_history(rt: HostRuntime) -> Result<(), Fail> {
     let alloc = rt.alloc();
-    let a = additions(alloc, CALLS)?;
-    let b = additions(alloc, CALLS)?;
-    let c = additions(alloc, CALLS)?;
-    let d = additions(alloc, CALLS)?;
+    let (a, b) = twice(alloc, CALLS)?;
+    let (c, d) = twice(alloc, CALLS)?;
     let mut found = vec![in alloc; false; 4 * CALLS]?;
     let opened = open(alloc, 0)?;
     let sum = add_in_threads::<Brand, _>(&rt, opened, a, b, c, d, found.as_mut_slice());

@@ -145,22 +145,52 @@ struct Found {
     ended: u64,
 }
 
+// A mutator comes, whose list is empty.
+fn player<'a, J: Naming, R: Wait + Abort>(rt: &'a R, heap: &'a SharedHeap<J>) -> Player<'a, J, R> {
+    Player {
+        me: attach(rt, heap),
+        calls: 0,
+        kept: ArrayVec::new(),
+        read_back: 0,
+        lost: 0,
+    }
+}
+
+fn come<'a, J: Naming, R: Wait + Abort>(
+    rt: &'a R,
+    alloc: Global,
+    heap: &'a SharedHeap<J>,
+) -> Result<Vec<Player<'a, J, R>>, AllocError> {
+    let mut players = Vec::new(alloc);
+    for _ in 0..MUTATORS {
+        players.push(player(rt, heap))?;
+    }
+    Ok(players)
+}
+
+// What the players and the collector found.
+fn sum_up<J: Naming, R: Wait>(players: &[Player<'_, J, R>], ended: u64) -> Found {
+    let mut found = Found {
+        calls: u64::MAX,
+        read_back: 0,
+        lost: 0,
+        ended,
+    };
+    for player in players {
+        found.calls = found.calls.min(player.calls);
+        found.read_back = found.read_back.wrapping_add(player.read_back);
+        found.lost = found.lost.wrapping_add(player.lost);
+    }
+    found
+}
+
 fn play_all<J: Naming + Send + Sync, R: Threads + Wait + Abort + Sync>(
     rt: &R,
     alloc: Global,
     heap: &SharedHeap<J>,
     collector: Collector<J>,
 ) -> Result<Found, AllocError> {
-    let mut players = Vec::with_capacity(alloc, MUTATORS)?;
-    for _ in 0..MUTATORS {
-        players.push(Player {
-            me: attach(rt, heap),
-            calls: 0,
-            kept: ArrayVec::new(),
-            read_back: 0,
-            lost: 0,
-        })?;
-    }
+    let players = come(rt, alloc, heap)?;
     let cycles = Cycles {
         rt,
         heap,
@@ -172,18 +202,7 @@ fn play_all<J: Naming + Send + Sync, R: Threads + Wait + Abort + Sync>(
     let (players, cycles) = run_each_beside::<_, _, Plays, _, _, Plays, _>(
         rt, alloc, &Plays, &work, players, &Plays, &collect, cycles,
     )?;
-    let mut found = Found {
-        calls: u64::MAX,
-        read_back: 0,
-        lost: 0,
-        ended: cycles.ended,
-    };
-    for player in &players {
-        found.calls = found.calls.min(player.calls);
-        found.read_back = found.read_back.wrapping_add(player.read_back);
-        found.lost = found.lost.wrapping_add(player.lost);
-    }
-    Ok(found)
+    Ok(sum_up(players.as_slice(), cycles.ended))
 }
 
 fn sixteen_mutators<J: Naming + Send + Sync, R: Threads + Wait + Abort + Sync>(

@@ -66,16 +66,26 @@ fn check(
     Ok(())
 }
 
-// The same on new cores, by each number of helpers.
+// The same on new cores.
+fn check_new(
+    rt: &(impl Abort + Threads + Wait + Sync),
+    alloc: Global,
+    text: &[u8],
+    number: u8,
+) -> Result<(), Fail> {
+    let mut helped = Core::new(alloc, PAGES).ok().ok_or("a core")?;
+    let mut alone = Core::new(alloc, PAGES).ok().ok_or("a core")?;
+    check(rt, alloc, &mut helped, &mut alone, text, number)
+}
+
+// By each number of helpers.
 fn check_all(
     rt: &(impl Abort + Threads + Wait + Sync),
     alloc: Global,
     text: &[u8],
 ) -> Result<(), Fail> {
     for number in 1..=MAX_HELPERS {
-        let mut helped = Core::new(alloc, PAGES).ok().ok_or("a core")?;
-        let mut alone = Core::new(alloc, PAGES).ok().ok_or("a core")?;
-        check(rt, alloc, &mut helped, &mut alone, text, number)?;
+        check_new(rt, alloc, text, number)?;
     }
     Ok(())
 }
@@ -98,14 +108,20 @@ fn random_cores_keep_the_same(rt: HostRuntime) -> Result<(), Fail> {
     Ok(())
 }
 
+// An object with its number, to which a word of the first one points.
+fn put_child(alloc: Global, text: &mut Vec<u8>, child: u32) -> Result<(), Fail> {
+    let lines = format!(in alloc;
+        "0 alloc 2 2 normal\n0 set 3 {child}\n0 store 2 0 3\n0 store 1 {child} 2\n"
+    )?;
+    text.extend_from_slice(lines.as_bytes())?;
+    Ok(())
+}
+
 // An object of 300 words, each of which points to an object of its own.
 fn widen(alloc: Global, text: &mut Vec<u8>) -> Result<(), Fail> {
     text.extend_from_slice(b"attach\n0 alloc 1 300 normal\n")?;
     for child in 0..300u32 {
-        let lines = format!(in alloc;
-            "0 alloc 2 2 normal\n0 set 3 {child}\n0 store 2 0 3\n0 store 1 {child} 2\n"
-        )?;
-        text.extend_from_slice(lines.as_bytes())?;
+        put_child(alloc, text, child)?;
     }
     text.extend_from_slice(b"0 set 2 0\ngc begin\ngc roots\n")?;
     Ok(())
