@@ -119,18 +119,30 @@ fn play<'a, J: Naming, R: Wait>(player: Player<'a, J, R>) -> Player<'a, J, R> {
     player
 }
 
+fn begin<J: Naming>(rt: &impl Wait, heap: &SharedHeap<J>, collector: &mut Collector<J>) {
+    let _begun = heap.begin(rt, collector);
+    let _roots = heap.quiet(rt, collector, &mut Roots);
+}
+
+fn mark<J: Naming>(rt: &impl Wait, heap: &SharedHeap<J>, collector: &mut Collector<J>) {
+    let _some = heap.quiet(rt, collector, &mut Mark(16));
+    let _page = heap.quiet(rt, collector, &mut Retrace);
+    let _more = heap.quiet(rt, collector, &mut Mark(64));
+}
+
+// Answers the cycles that ended.
+fn end<J: Naming>(rt: &impl Wait, heap: &SharedHeap<J>, collector: &mut Collector<J>) -> u64 {
+    let _count = heap.finish(rt, collector);
+    let _swept = heap.quiet(rt, collector, &mut Sweep);
+    heap.gc_no_of(collector)
+}
+
 fn cycle<'a, J: Naming, R: Wait>(cycles: Cycles<'a, J, R>) -> Cycles<'a, J, R> {
     let mut cycles = cycles;
     for _ in 0..CALLS / CALLS_A_CYCLE {
-        let (rt, heap) = (cycles.rt, cycles.heap);
-        let _begun = heap.begin(rt, &mut cycles.collector);
-        let _roots = heap.quiet(rt, &mut cycles.collector, &mut Roots);
-        let _some = heap.quiet(rt, &mut cycles.collector, &mut Mark(16));
-        let _page = heap.quiet(rt, &mut cycles.collector, &mut Retrace);
-        let _more = heap.quiet(rt, &mut cycles.collector, &mut Mark(64));
-        let _count = heap.finish(rt, &mut cycles.collector);
-        let _swept = heap.quiet(rt, &mut cycles.collector, &mut Sweep);
-        cycles.ended = heap.gc_no_of(&mut cycles.collector);
+        begin(cycles.rt, cycles.heap, &mut cycles.collector);
+        mark(cycles.rt, cycles.heap, &mut cycles.collector);
+        cycles.ended = end(cycles.rt, cycles.heap, &mut cycles.collector);
     }
     cycles
 }
