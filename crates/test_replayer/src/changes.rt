@@ -52,12 +52,8 @@ fn deny_places(
     let past = Hint::Place(base.wrapping_add(PAGE_BYTES * u64::from(PAGES)));
     deny(replayer, event, *reply, past)?;
     deny(replayer, event, *reply, Hint::Nothing)?;
-    deny(
-        replayer,
-        event,
-        Reply::Refused(Refusal::Full),
-        Hint::Nothing,
-    )
+    let full = Reply::Refused(Refusal::Full);
+    deny(replayer, event, full, Hint::Nothing)
 }
 
 // Where an object was born none is born again.
