@@ -158,7 +158,10 @@ struct Found {
 }
 
 // A mutator comes, whose list is empty.
-fn player<'a, J: Naming, R: Wait + Abort>(rt: &'a R, heap: &'a SharedHeap<J>) -> Player<'a, J, R> {
+fn make_player<'a, J: Naming, R: Wait + Abort>(
+    rt: &'a R,
+    heap: &'a SharedHeap<J>,
+) -> Player<'a, J, R> {
     Player {
         me: attach(rt, heap),
         calls: 0,
@@ -175,7 +178,7 @@ fn come<'a, J: Naming, R: Wait + Abort>(
 ) -> Result<Vec<Player<'a, J, R>>, AllocError> {
     let mut players = Vec::new(alloc);
     for _ in 0..MUTATORS {
-        players.push(player(rt, heap))?;
+        players.push(make_player(rt, heap))?;
     }
     Ok(players)
 }
