@@ -7,6 +7,8 @@ mod cells;
 #[cfg(test)]
 mod classes;
 #[cfg(test)]
+mod dirty;
+#[cfg(test)]
 mod finding;
 #[cfg(test)]
 mod memory;
