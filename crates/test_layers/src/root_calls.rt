@@ -88,14 +88,25 @@ fn slots_are_the_lowest_vacant(rt: HostRuntime) -> Result<(), Fail> {
     Ok(())
 }
 
-fn wrapping_words(rt: &impl Abort, roots: &mut Roots, slot: Slot, regs: [Reg; 3], global: Global) {
-    let [one, two, three] = regs;
+// Sums and differences wrap: the third register gets the greatest word.
+fn wrapping_words(rt: &impl Abort, roots: &mut Roots, slot: Slot, one: Reg, two: Reg, three: Reg) {
     assert!(rt; set(roots, slot, one, 5));
     assert!(rt; copy(roots, slot, two, one));
     assert!(rt; add(roots, slot, two, two, u64::MAX));
     assert!(rt; has(roots, slot, two, 4));
     assert!(rt; sub(roots, slot, three, two, one));
     assert!(rt; has(roots, slot, three, u64::MAX));
+}
+
+// A global hands that word on.
+fn shared_word(
+    rt: &impl Abort,
+    roots: &mut Roots,
+    slot: Slot,
+    one: Reg,
+    three: Reg,
+    global: Global,
+) {
     assert!(rt; put(roots, slot, global, three));
     assert!(rt; get(roots, slot, one, global, u64::MAX));
     assert!(rt; has(roots, slot, one, u64::MAX));
@@ -106,7 +117,8 @@ fn words_wrap(rt: HostRuntime) -> Result<(), Fail> {
     let global = Global::new(63).ok_or("a global")?;
     let mut roots = Roots::new();
     let slot = roots.attach().ok().ok_or("a mutator")?;
-    wrapping_words(&rt, &mut roots, slot, [reg(1), reg(2), reg(15)], global);
+    wrapping_words(&rt, &mut roots, slot, reg(1), reg(2), reg(15));
+    shared_word(&rt, &mut roots, slot, reg(1), reg(15), global);
     Ok(())
 }
 
