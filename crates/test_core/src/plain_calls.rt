@@ -7,7 +7,16 @@ use plain_core::Core;
 use std::alloc;
 use std::process::Abort;
 use std::test::Fail;
-use words::{Global, Kind, OpenError, Refusal, Slot};
+use words::{Global, Kind, OpenError, Refusal, Reg, Slot};
+
+// Each of these has a function of its own: what a call promises isn't carried on to the next.
+fn come(core: &mut Core) -> Result<Slot, Fail> {
+    Ok(core.attach().ok().ok_or("a slot")?)
+}
+
+fn base_in(core: &Core, slot: Slot, reg: Reg) -> Result<u64, Fail> {
+    Ok(core.get(slot, reg).ok().ok_or("a base")?)
+}
 
 // Each call is answered so.
 fn answer(rt: &impl Abort, core: &mut Core, slot: Slot, lines: &[(Call, Reply)]) {
@@ -26,7 +35,7 @@ fn forget(core: &mut Core, bases: &[u64]) -> bool {
 }
 
 fn run_first(rt: &impl Abort, core: &mut Core) -> Result<(), Fail> {
-    let slot = core.attach().ok().ok_or("attach")?;
+    let slot = come(core)?;
     let (r1, r2, r3) = (reg(1), reg(2), reg(3));
     assert_eq!(rt; slot.number(), 0);
     let lines = [
@@ -76,7 +85,7 @@ fn pages_are_one_to_the_limit(rt: HostRuntime) {
 }
 
 fn wrap(rt: &impl Abort, core: &mut Core) -> Result<(), Fail> {
-    let slot = core.attach().ok().ok_or("attach")?;
+    let slot = come(core)?;
     let (r1, r2, r3) = (reg(1), reg(2), reg(3));
     let lines = [
         (Call::Set(r1, 5), Reply::Done),
@@ -101,7 +110,7 @@ fn registers_wrap(rt: HostRuntime) -> Result<(), Fail> {
 }
 
 fn push_and_put(rt: &impl Abort, core: &mut Core) -> Result<(), Fail> {
-    let slot = core.attach().ok().ok_or("attach")?;
+    let slot = come(core)?;
     let (r1, r2) = (reg(1), reg(2));
     let global = Global::new(63).ok_or("global")?;
     let empty = [(Call::Pop(r1), Reply::Refused(Refusal::StackEmpty))];
@@ -132,7 +141,7 @@ fn stack_and_globals(rt: HostRuntime) -> Result<(), Fail> {
 }
 
 fn free_by_base(rt: &impl Abort, core: &mut Core) -> Result<(), Fail> {
-    let slot = core.attach().ok().ok_or("attach")?;
+    let slot = come(core)?;
     let (r1, r2, r3) = (reg(1), reg(2), reg(3));
     let lines = [
         (Call::Alloc(r1, 5, Kind::PointerFree), Reply::Done),
@@ -164,7 +173,7 @@ fn objects_are_freed_by_their_base(rt: HostRuntime) -> Result<(), Fail> {
 
 // Two objects that point to each other, and one that a register points into.
 fn collect_ring(rt: &impl Abort, core: &mut Core) -> Result<(), Fail> {
-    let slot = core.attach().ok().ok_or("attach")?;
+    let slot = come(core)?;
     let (r1, r2, r3) = (reg(1), reg(2), reg(3));
     let lines = [
         (Call::Alloc(r1, 2, Kind::Normal), Reply::Done),
@@ -189,9 +198,19 @@ fn unreached_objects_go(rt: HostRuntime) -> Result<(), Fail> {
     collect_ring(&rt, &mut core)
 }
 
+// Of two objects one is forgotten, by its base, once.
+fn is_forgotten_alone(rt: &impl Abort, core: &mut Core, kept: u64, gone: u64) {
+    assert!(rt; !forget(core, &[gone, kept]));
+    assert!(rt; !forget(core, &[gone, gone]));
+    assert!(rt; !forget(core, &[gone.wrapping_add(8)]));
+    assert!(rt; forget(core, &[gone]));
+    assert!(rt; !forget(core, &[gone]));
+    assert!(rt; forget(core, &[]));
+}
+
 // A pointer-free object has the base of another, which is reached by nothing else.
 fn forget_named(rt: &impl Abort, core: &mut Core) -> Result<(), Fail> {
-    let slot = core.attach().ok().ok_or("attach")?;
+    let slot = come(core)?;
     let (r1, r2) = (reg(1), reg(2));
     let lines = [
         (Call::Alloc(r1, 2, Kind::PointerFree), Reply::Done),
@@ -199,16 +218,10 @@ fn forget_named(rt: &impl Abort, core: &mut Core) -> Result<(), Fail> {
         (Call::Store(r1, 0, r2), Reply::Done),
     ];
     answer(rt, core, slot, &lines);
-    let kept = core.get(slot, r1).ok().ok_or("a base")?;
-    let gone = core.get(slot, r2).ok().ok_or("a base")?;
+    let (kept, gone) = (base_in(core, slot, r1)?, base_in(core, slot, r2)?);
     assert!(rt; !forget(core, &[gone]));
     answer(rt, core, slot, &[(Call::Set(r2, 0), Reply::Done)]);
-    assert!(rt; !forget(core, &[gone, kept]));
-    assert!(rt; !forget(core, &[gone, gone]));
-    assert!(rt; !forget(core, &[gone.wrapping_add(8)]));
-    assert!(rt; forget(core, &[gone]));
-    assert!(rt; !forget(core, &[gone]));
-    assert!(rt; forget(core, &[]));
+    is_forgotten_alone(rt, core, kept, gone);
     let lines = [
         (Call::Load(r2, r1, 0), Reply::Word(gone)),
         (Call::Size(r2), NO_OBJECT),

@@ -216,9 +216,9 @@ fn changed_lines_are_denied(rt: HostRuntime) -> Result<(), Fail> {
 
 // While a cycle is marking no end of it forgets these, no full collection does, and no other cycle begins.
 fn deny_forgotten(replayer: &mut Replayer, bases: &[u64]) -> Result<(), Fail> {
-    let (count, forgot) = (Reply::Count(1), Hint::Forgot(bases));
-    deny(replayer, &Event::Finish, count, forgot)?;
-    deny(replayer, &Event::Collect, count, forgot)?;
+    for event in [Event::Finish, Event::Collect] {
+        deny(replayer, &event, Reply::Count(1), Hint::Forgot(bases))?;
+    }
     deny(replayer, &Event::Begin, Reply::Done, Hint::Nothing)
 }
 
