@@ -70,7 +70,7 @@ if [ -x "$program" ]; then
     for mutators in 0 1 16; do actors "$mutators"; done
 fi
 holds test_shared threads::refused_thread
-holds test_threads refused::refused_thread
-holds test_pause refused::refused_thread
+holds test_workloads refused::refused_thread
+holds test_workloads refused_helpers::refused_thread
 echo "refused threads: $passed passed, $failed failed"
 [ "$passed" -gt 0 ] && [ "$failed" = 0 ]

@@ -87,11 +87,11 @@ impl<'a, J: Naming, R: Wait> Caller<'a, J, R> {
     }
 }
 
-// Nanoseconds of the stores and of the loads of all callers, each in a thread of its own.
-fn cost<J: Naming + Send + Sync, R: Threads + Wait + Sync + Clock>(
+// Nanoseconds of the stores of all callers, each in a thread of its own.
+fn time_stores<J: Naming + Send + Sync, R: Threads + Wait + Sync + Clock>(
     rt: &R,
     crew: &mut [Caller<J, R>],
-) -> io::Result<(u128, u128)> {
+) -> io::Result<u128> {
     let start = Instant::now(rt)?;
     thread::for_each_mut(
         rt,
@@ -101,7 +101,14 @@ fn cost<J: Naming + Send + Sync, R: Threads + Wait + Sync + Clock>(
             caller.store_often();
         },
     );
-    let stores = since(rt, start)?;
+    since(rt, start)
+}
+
+// Of their loads.
+fn time_loads<J: Naming + Send + Sync, R: Threads + Wait + Sync + Clock>(
+    rt: &R,
+    crew: &mut [Caller<J, R>],
+) -> io::Result<u128> {
     let start = Instant::now(rt)?;
     thread::for_each_mut(
         rt,
@@ -111,10 +118,24 @@ fn cost<J: Naming + Send + Sync, R: Threads + Wait + Sync + Clock>(
             caller.load_often();
         },
     );
-    Ok((stores, since(rt, start)?))
+    since(rt, start)
 }
 
-// The least cost of some rounds, as two lines.
+// The least of some rounds.
+fn least_cost<J: Naming + Send + Sync, R: Threads + Wait + Sync + Clock>(
+    rt: &R,
+    crew: &mut [Caller<J, R>],
+) -> io::Result<(u128, u128)> {
+    let mut least = (u128::MAX, u128::MAX);
+    for _ in 0..ROUNDS {
+        let stores = time_stores(rt, crew)?;
+        let loads = time_loads(rt, crew)?;
+        least = (least.0.min(stores), least.1.min(loads));
+    }
+    Ok(least)
+}
+
+// As two lines.
 fn time_crew<J: Naming + Send + Sync, R: Threads + Wait + Sync + Eprint + Clock>(
     rt: &R,
     crew: &mut [Caller<J, R>],
@@ -122,13 +143,9 @@ fn time_crew<J: Naming + Send + Sync, R: Threads + Wait + Sync + Eprint + Clock>
     load: &str,
     calls: u64,
 ) -> io::Result<()> {
-    let mut least = (u128::MAX, u128::MAX);
-    for _ in 0..ROUNDS {
-        let (stores, loads) = cost(rt, crew)?;
-        least = (least.0.min(stores), least.1.min(loads));
-    }
-    report(rt, store, least.0, calls, 0)?;
-    report(rt, load, least.1, calls, 0)
+    let (stores, loads) = least_cost(rt, crew)?;
+    report(rt, store, stores, calls, 0)?;
+    report(rt, load, loads, calls, 0)
 }
 
 // Four mutators, or fewer where no more may come.

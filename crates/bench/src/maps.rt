@@ -8,7 +8,7 @@ use std::io;
 use std::rt::Clock;
 use std::time::Instant;
 use words::limits::{FIRST_ADDRESS, MAX_PAGES, PAGE_BYTES, WORD_BYTES};
-use words::{Kind, page_start};
+use words::{Kind, PageNo, page_start};
 
 const WORDS: usize = 4_096;
 
@@ -60,15 +60,20 @@ fn take_runs(pool: &mut PagePool) -> u64 {
     sum
 }
 
-// The lower half is cut for six words, with three cells of four allocated, and the upper half is one large object.
+// A page is cut for six words, and three cells of four are allocated.
+fn lay_page(space: &mut BlockSpace, page: PageNo) {
+    space.cut(page, 6, Kind::Normal);
+    space.fill(page);
+    for fourth in 0..21 {
+        space.put(page, 4 * fourth + 3);
+    }
+}
+
+// The lower half is cut so, and the upper half is one large object.
 fn lay_out(space: &mut BlockSpace) {
     space.cut_large(HALF, HALF, Kind::Normal);
     for page in 0..HALF {
-        space.cut(page, 6, Kind::Normal);
-        space.fill(page);
-        for fourth in 0..21 {
-            space.put(page, 4 * fourth + 3);
-        }
+        lay_page(space, page);
     }
 }
 

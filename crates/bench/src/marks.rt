@@ -38,30 +38,25 @@ fn look_each(table: &MarkTable, granules: usize, me: &mut Claimer)
     }
 }
 
-fn claim_side_by_side<R: Threads + Sync>(
-    rt: &R,
-    table: &MarkTable,
-    granules: usize,
-    crew: &mut [Claimer],
-)
+// Each bit is claimed, or looked at.
+fn go_over(table: &MarkTable, granules: usize, me: &mut Claimer, is_claim: bool)
     requires granules { granules ≡ length (start_of table.now) }
-    requires crew { All (λ c. IsReady table.now c) crew.old }
-    ensures { All (λ c. IsReady table.now c) crew.new }
+    requires ready { IsReady table.now me.old }
+    ensures { IsReady table.now me.new }
 {
-    let work = |_: usize, me: &mut Claimer|
-        requires { (granules ≡ length (start_of table.now)) × IsReady table.now me.now }
-        ensures { IsReady table.entry.now me.exit.now }
-    {
+    if is_claim {
         claim_each(table, granules, me);
-    };
-    thread::for_each_mut(rt, crew, MAX_HELPERS as usize, &work);
+    } else {
+        look_each(table, granules, me);
+    }
 }
 
-fn look_side_by_side<R: Threads + Sync>(
+fn go_side_by_side<R: Threads + Sync>(
     rt: &R,
     table: &MarkTable,
     granules: usize,
     crew: &mut [Claimer],
+    is_claim: bool,
 )
     requires granules { granules ≡ length (start_of table.now) }
     requires crew { All (λ c. IsReady table.now c) crew.old }
@@ -71,7 +66,7 @@ fn look_side_by_side<R: Threads + Sync>(
         requires { (granules ≡ length (start_of table.now)) × IsReady table.now me.now }
         ensures { IsReady table.entry.now me.exit.now }
     {
-        look_each(table, granules, me);
+        go_over(table, granules, me, is_claim);
     };
     thread::for_each_mut(rt, crew, MAX_HELPERS as usize, &work);
 }
@@ -93,7 +88,24 @@ fn hire(
     Ok(crew)
 }
 
-// Nanoseconds of a claim of all bits by each of a crew, and of a look at all bits.
+// Nanoseconds of a claim of all bits by each of a crew, or of a look at all bits.
+fn time_side_by_side<R: Threads + Sync + Clock>(
+    rt: &R,
+    table: &MarkTable,
+    granules: usize,
+    crew: &mut [Claimer],
+    is_claim: bool,
+) -> io::Result<u128>
+    requires granules { granules ≡ length (start_of table.now) }
+    requires crew { All (λ c. IsReady table.now c) crew.old }
+    ensures { All (λ c. IsReady table.now c) crew.new }
+{
+    let start = Instant::now(rt)?;
+    go_side_by_side(rt, table, granules, crew, is_claim);
+    since(rt, start)
+}
+
+// Of a claim, and of a look after it.
 fn time_crew<R: Threads + Sync + Clock>(
     rt: &R,
     table: &MarkTable,
@@ -103,12 +115,9 @@ fn time_crew<R: Threads + Sync + Clock>(
     requires granules { granules ≡ length (start_of table.now) }
     requires crew { All (λ c. IsReady table.now c) crew.old }
 {
-    let start = Instant::now(rt)?;
-    claim_side_by_side(rt, table, granules, crew);
-    let claims = since(rt, start)?;
-    let start = Instant::now(rt)?;
-    look_side_by_side(rt, table, granules, crew);
-    Ok((claims, since(rt, start)?))
+    let claims = time_side_by_side(rt, table, granules, crew, true)?;
+    let looks = time_side_by_side(rt, table, granules, crew, false)?;
+    Ok((claims, looks))
 }
 
 // The same of so many helpers on a table of their own.

@@ -21,11 +21,17 @@ const ROUNDS: u8 = 5;
 
 const PAGES: u32 = 8;
 
+/// A store and a load.
+fn put_pair(lines: &mut String, slot: u32) -> Result<(), AllocError> {
+    write!(lines, "{slot} store 1 0 2\n{slot} load 3 1 0\n")?;
+    Ok(())
+}
+
 /// A mutator's lines: it has an object of its own, which it stores to and loads from.
 fn put_lines(lines: &mut String, slot: u32) -> Result<(), AllocError> {
     write!(lines, "{slot} alloc 1 2 normal\n")?;
     for _ in 0..PAIRS {
-        write!(lines, "{slot} store 1 0 2\n{slot} load 3 1 0\n")?;
+        put_pair(lines, slot)?;
     }
     Ok(())
 }

@@ -38,7 +38,7 @@ impl User {
     }
 
     fn free(&mut self, base: u64) {
-        let _done = self.core.set(self.slot, self.object, base);
+        self.aim(base);
         let _freed = self.core.free(self.slot, self.object);
     }
 
@@ -63,14 +63,26 @@ impl User {
         }
     }
 
+    fn aim(&mut self, base: u64) {
+        let _done = self.core.set(self.slot, self.object, base);
+    }
+
+    fn load(&mut self, offset: u64) -> u64 {
+        let word = self.core.load(self.slot, self.word, self.object, offset);
+        word.unwrap_or(7)
+    }
+
+    fn store(&mut self, offset: u64, from: Reg) {
+        let _stored = self.core.store(self.slot, self.object, offset, from);
+    }
+
     /// Loads two words of each object, and answers their sum.
     pub(crate) fn load_all(&mut self, ring: &[u64]) -> u64 {
         let mut sum: u64 = 0;
         for base in ring {
-            let _done = self.core.set(self.slot, self.object, *base);
+            self.aim(*base);
             for offset in 0..2 {
-                let word = self.core.load(self.slot, self.word, self.object, offset);
-                sum = sum.wrapping_add(word.unwrap_or(7));
+                sum = sum.wrapping_add(self.load(offset));
             }
         }
         sum
@@ -79,27 +91,31 @@ impl User {
     /// Stores into two words of each object.
     pub(crate) fn store_all(&mut self, ring: &[u64]) {
         for base in ring {
-            let _done = self.core.set(self.slot, self.object, *base);
+            self.aim(*base);
             for offset in 0..2 {
-                let _stored = self.core.store(self.slot, self.object, offset, self.object);
+                self.store(offset, self.object);
             }
         }
     }
 
     /// Stores a word into an object.
     pub(crate) fn link(&mut self, base: u64, offset: u64, word: u64) {
-        let _done = self.core.set(self.slot, self.object, base);
+        self.aim(base);
         let _set = self.core.set(self.slot, self.word, word);
-        let _stored = self.core.store(self.slot, self.object, offset, self.word);
+        self.store(offset, self.word);
+    }
+
+    fn size(&mut self, base: u64) -> u64 {
+        self.aim(base);
+        self.core.size(self.slot, self.object).unwrap_or(0)
     }
 
     /// Asks for the words of every second object, and answers their sum.
     pub(crate) fn sizes(&mut self, bases: &[u64]) -> u64 {
         let mut sum: u64 = 0;
-        for (number, base) in bases.iter().enumerate() {
-            if number % 2 == 0 {
-                let _done = self.core.set(self.slot, self.object, *base);
-                sum = sum.wrapping_add(self.core.size(self.slot, self.object).unwrap_or(0));
+        for two in bases.chunks(2) {
+            if let Some(base) = two.first() {
+                sum = sum.wrapping_add(self.size(*base));
             }
         }
         sum
@@ -117,13 +133,22 @@ impl User {
         self.core.collect().unwrap_or(0)
     }
 
-    /// Begins a cycle, and marks till nothing is left to read.
-    pub(crate) fn mark_all(&mut self) {
+    fn begin(&mut self) {
         let _begun = self.core.begin();
         let _read = self.core.roots();
+    }
+
+    // Reads all entries and the lowest dirty page. Answers whether there was one.
+    fn mark_on(&mut self) -> bool {
+        let _marked = self.core.mark(u64::MAX);
+        matches!(self.core.retrace(), Ok(1))
+    }
+
+    /// Begins a cycle, and marks till nothing is left to read.
+    pub(crate) fn mark_all(&mut self) {
+        self.begin();
         for _ in 0..u64::MAX {
-            let _marked = self.core.mark(u64::MAX);
-            if self.core.retrace() != Ok(1) {
+            if !self.mark_on() {
                 break;
             }
         }
@@ -138,7 +163,7 @@ impl User {
     pub(crate) fn sweep_all(&mut self) -> u64 {
         let mut swept: u64 = 0;
         for _ in 0..u64::MAX {
-            if self.core.sweep() != Ok(1) {
+            if !matches!(self.core.sweep(), Ok(1)) {
                 break;
             }
             swept = swept.wrapping_add(1);

@@ -11,6 +11,3 @@ mod starting;
 pub use beside::run_each_beside;
 pub use law::Law;
 pub use running::run_each;
-
-#[cfg(test)]
-mod tests;

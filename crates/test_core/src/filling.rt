@@ -14,7 +14,7 @@ const CELLS: [usize; 13] = [256, 128, 85, 64, 42, 32, 21, 16, 10, 8, 5, 4, 2];
 
 // Allocates an object of so many words, and answers its base, or `None` where the heap is full.
 fn next_base(scene: &mut Scene, words: u64, kind: Kind) -> Result<Option<u64>, Fail> {
-    let object = reg(1)?;
+    let object = reg(1);
     let answers = (
         scene.ask(Call::Alloc(object, words, kind)),
         scene.ask(Call::Get(object)),
@@ -38,24 +38,22 @@ fn fill(scene: &mut Scene, words: u64, kind: Kind, bases: &mut Vec<u64>) -> Resu
 }
 
 // Frees objects by their bases, each once.
-fn empty(rt: &impl Abort, scene: &mut Scene, bases: &[u64]) -> Result<(), Fail> {
-    let object = reg(2)?;
+fn empty(rt: &impl Abort, scene: &mut Scene, bases: &[u64]) {
+    let object = reg(2);
     for base in bases {
         scene.call(rt, Call::Set(object, *base), Reply::Done);
         scene.call(rt, Call::Free(object), Reply::Done);
         scene.call(rt, Call::Free(object), NO_OBJECT);
     }
-    Ok(())
 }
 
 // An empty heap has room for one object of all its pages, and for no other beside it.
-fn is_one_object(rt: &impl Abort, scene: &mut Scene, words: u64, kind: Kind) -> Result<(), Fail> {
-    let object = reg(0)?;
+fn is_one_object(rt: &impl Abort, scene: &mut Scene, words: u64, kind: Kind) {
+    let object = reg(0);
     let whole = u64::from(PAGES) * PAGE_WORDS;
     scene.call(rt, Call::Alloc(object, whole, kind), Reply::Done);
     scene.call(rt, Call::Size(object), Reply::Count(whole));
     scene.call(rt, Call::Alloc(object, words, kind), FULL);
-    Ok(())
 }
 
 // How many bases there are, each counted once.
@@ -80,8 +78,9 @@ fn is_filled_and_emptied(
         filled == cells.wrapping_mul(PAGES as usize),
         "cells of {words} words"
     );
-    empty(rt, scene, bases.as_slice())?;
-    is_one_object(rt, scene, words, kind)
+    empty(rt, scene, bases.as_slice());
+    is_one_object(rt, scene, words, kind);
+    Ok(())
 }
 
 // The same in a heap of its own.

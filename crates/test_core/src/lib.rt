@@ -7,6 +7,8 @@ mod calls;
 #[cfg(test)]
 mod collecting;
 #[cfg(test)]
+mod cycle;
+#[cfg(test)]
 mod draw;
 #[cfg(test)]
 mod filling;

@@ -4,9 +4,19 @@ use crate::pair::ask_plain;
 use crate::scene::{FULL, NO_OBJECT, reg};
 use heap_spec::{Call, Reply};
 use plain_core::Core;
+use std::alloc;
 use std::process::Abort;
 use std::test::Fail;
-use words::{Global, Kind, OpenError, Refusal, Slot};
+use words::{Global, Kind, OpenError, Refusal, Reg, Slot};
+
+// Each of these has a function of its own: what a call promises isn't carried on to the next.
+fn come(core: &mut Core) -> Result<Slot, Fail> {
+    Ok(core.attach().ok().ok_or("a slot")?)
+}
+
+fn base_in(core: &Core, slot: Slot, reg: Reg) -> Result<u64, Fail> {
+    Ok(core.get(slot, reg).ok().ok_or("a base")?)
+}
 
 // Each call is answered so.
 fn answer(rt: &impl Abort, core: &mut Core, slot: Slot, lines: &[(Call, Reply)]) {
@@ -25,8 +35,8 @@ fn forget(core: &mut Core, bases: &[u64]) -> bool {
 }
 
 fn run_first(rt: &impl Abort, core: &mut Core) -> Result<(), Fail> {
-    let slot = core.attach().ok().ok_or("attach")?;
-    let (r1, r2, r3) = (reg(1)?, reg(2)?, reg(3)?);
+    let slot = come(core)?;
+    let (r1, r2, r3) = (reg(1), reg(2), reg(3));
     assert_eq!(rt; slot.number(), 0);
     let lines = [
         (Call::Alloc(r1, 3, Kind::Normal), Reply::Done),
@@ -56,21 +66,27 @@ fn first_run(rt: HostRuntime) -> Result<(), Fail> {
     run_first(&rt, &mut core)
 }
 
+// Why there is no heap of so many pages, if there is none.
+fn refusal(alloc: alloc::Global, pages: u32) -> Option<OpenError> {
+    Core::new(alloc, pages).err()
+}
+
 #[test]
-fn pages_are_one_to_the_limit(rt: HostRuntime) -> Result<(), Fail> {
-    assert_eq!(rt; Core::new(rt.alloc(), 0).err(), Some(OpenError::BadPages));
-    assert_eq!(rt;
-        Core::new(rt.alloc(), 1025).err(),
-        Some(OpenError::BadPages)
-    );
-    assert!(rt; Core::new(rt.alloc(), 1).is_ok());
-    assert!(rt; Core::new(rt.alloc(), 1024).is_ok());
-    Ok(())
+fn pages_are_one_to_the_limit(rt: HostRuntime) {
+    for (pages, wanted) in [
+        (0, Some(OpenError::BadPages)),
+        (1025, Some(OpenError::BadPages)),
+        (1, None),
+        (1024, None),
+    ] {
+        let refused = refusal(rt.alloc(), pages);
+        assert_eq!(rt; refused, wanted, "{pages} pages");
+    }
 }
 
 fn wrap(rt: &impl Abort, core: &mut Core) -> Result<(), Fail> {
-    let slot = core.attach().ok().ok_or("attach")?;
-    let (r1, r2, r3) = (reg(1)?, reg(2)?, reg(3)?);
+    let slot = come(core)?;
+    let (r1, r2, r3) = (reg(1), reg(2), reg(3));
     let lines = [
         (Call::Set(r1, 5), Reply::Done),
         (Call::Copy(r2, r1), Reply::Done),
@@ -94,8 +110,8 @@ fn registers_wrap(rt: HostRuntime) -> Result<(), Fail> {
 }
 
 fn push_and_put(rt: &impl Abort, core: &mut Core) -> Result<(), Fail> {
-    let slot = core.attach().ok().ok_or("attach")?;
-    let (r1, r2) = (reg(1)?, reg(2)?);
+    let slot = come(core)?;
+    let (r1, r2) = (reg(1), reg(2));
     let global = Global::new(63).ok_or("global")?;
     let empty = [(Call::Pop(r1), Reply::Refused(Refusal::StackEmpty))];
     answer(rt, core, slot, &empty);
@@ -125,8 +141,8 @@ fn stack_and_globals(rt: HostRuntime) -> Result<(), Fail> {
 }
 
 fn free_by_base(rt: &impl Abort, core: &mut Core) -> Result<(), Fail> {
-    let slot = core.attach().ok().ok_or("attach")?;
-    let (r1, r2, r3) = (reg(1)?, reg(2)?, reg(3)?);
+    let slot = come(core)?;
+    let (r1, r2, r3) = (reg(1), reg(2), reg(3));
     let lines = [
         (Call::Alloc(r1, 5, Kind::PointerFree), Reply::Done),
         (Call::Add(r2, r1, 47), Reply::Done),
@@ -157,8 +173,8 @@ fn objects_are_freed_by_their_base(rt: HostRuntime) -> Result<(), Fail> {
 
 // Two objects that point to each other, and one that a register points into.
 fn collect_ring(rt: &impl Abort, core: &mut Core) -> Result<(), Fail> {
-    let slot = core.attach().ok().ok_or("attach")?;
-    let (r1, r2, r3) = (reg(1)?, reg(2)?, reg(3)?);
+    let slot = come(core)?;
+    let (r1, r2, r3) = (reg(1), reg(2), reg(3));
     let lines = [
         (Call::Alloc(r1, 2, Kind::Normal), Reply::Done),
         (Call::Alloc(r2, 2, Kind::Normal), Reply::Done),
@@ -182,26 +198,30 @@ fn unreached_objects_go(rt: HostRuntime) -> Result<(), Fail> {
     collect_ring(&rt, &mut core)
 }
 
-// A pointer-free object has the base of another, which is reached by nothing else.
-fn forget_named(rt: &impl Abort, core: &mut Core) -> Result<(), Fail> {
-    let slot = core.attach().ok().ok_or("attach")?;
-    let (r1, r2) = (reg(1)?, reg(2)?);
-    let lines = [
-        (Call::Alloc(r1, 2, Kind::PointerFree), Reply::Done),
-        (Call::Alloc(r2, 512, Kind::Normal), Reply::Done),
-        (Call::Store(r1, 0, r2), Reply::Done),
-    ];
-    answer(rt, core, slot, &lines);
-    let kept = core.get(slot, r1).ok().ok_or("a base")?;
-    let gone = core.get(slot, r2).ok().ok_or("a base")?;
-    assert!(rt; !forget(core, &[gone]));
-    answer(rt, core, slot, &[(Call::Set(r2, 0), Reply::Done)]);
+// Of two objects one is forgotten, by its base, once.
+fn is_forgotten_alone(rt: &impl Abort, core: &mut Core, kept: u64, gone: u64) {
     assert!(rt; !forget(core, &[gone, kept]));
     assert!(rt; !forget(core, &[gone, gone]));
     assert!(rt; !forget(core, &[gone.wrapping_add(8)]));
     assert!(rt; forget(core, &[gone]));
     assert!(rt; !forget(core, &[gone]));
     assert!(rt; forget(core, &[]));
+}
+
+// A pointer-free object has the base of another, which is reached by nothing else.
+fn forget_named(rt: &impl Abort, core: &mut Core) -> Result<(), Fail> {
+    let slot = come(core)?;
+    let (r1, r2) = (reg(1), reg(2));
+    let lines = [
+        (Call::Alloc(r1, 2, Kind::PointerFree), Reply::Done),
+        (Call::Alloc(r2, 512, Kind::Normal), Reply::Done),
+        (Call::Store(r1, 0, r2), Reply::Done),
+    ];
+    answer(rt, core, slot, &lines);
+    let (kept, gone) = (base_in(core, slot, r1)?, base_in(core, slot, r2)?);
+    assert!(rt; !forget(core, &[gone]));
+    answer(rt, core, slot, &[(Call::Set(r2, 0), Reply::Done)]);
+    is_forgotten_alone(rt, core, kept, gone);
     let lines = [
         (Call::Load(r2, r1, 0), Reply::Word(gone)),
         (Call::Size(r2), NO_OBJECT),

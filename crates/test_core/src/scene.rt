@@ -4,6 +4,7 @@ use heap_spec::{Call, Event, Reply};
 use std::alloc::Global;
 use std::process::Abort;
 use std::test::Fail;
+use words::limits::REGISTERS;
 use words::{Refusal, Reg, Slot};
 
 /// A heap and its mutator.
@@ -19,9 +20,12 @@ pub(crate) const FULL: Reply = Reply::Refused(Refusal::Full);
 /// What a call on a word that points into no object is answered.
 pub(crate) const NO_OBJECT: Reply = Reply::Refused(Refusal::NoObject);
 
-/// A register by its number.
-pub(crate) fn reg(number: u8) -> Result<Reg, Fail> {
-    Ok(Reg::new(number).ok_or("a register")?)
+/// A register by its number, counted round.
+pub(crate) fn reg(number: u8) -> Reg {
+    let Some(reg) = Reg::new(number % REGISTERS) else {
+        unreachable!();
+    };
+    reg
 }
 
 impl Scene {

@@ -2,11 +2,15 @@
 use roots::Roots;
 use std::process::Abort;
 use std::test::Fail;
-use words::limits::{SLOTS, STACK_WORDS};
+use words::limits::{REGISTERS, SLOTS, STACK_WORDS};
 use words::{Global, Refusal, Reg, Slot};
 
-fn reg(number: u8) -> Result<Reg, Fail> {
-    Ok(Reg::new(number).ok_or("a register")?)
+// A register by its number, counted round.
+fn reg(number: u8) -> Reg {
+    let Some(reg) = Reg::new(number % REGISTERS) else {
+        unreachable!();
+    };
+    reg
 }
 
 // Each call has a function of its own: what a call promises of the roots isn't carried on to the next.
@@ -80,18 +84,29 @@ fn lowest_vacant(rt: &impl Abort, roots: &mut Roots, third: Slot, reg: Reg) {
 #[test]
 fn slots_are_the_lowest_vacant(rt: HostRuntime) -> Result<(), Fail> {
     let third = Slot::new(3).ok_or("a slot")?;
-    lowest_vacant(&rt, &mut Roots::new(), third, reg(0)?);
+    lowest_vacant(&rt, &mut Roots::new(), third, reg(0));
     Ok(())
 }
 
-fn wrapping_words(rt: &impl Abort, roots: &mut Roots, slot: Slot, regs: [Reg; 3], global: Global) {
-    let [one, two, three] = regs;
+// Sums and differences wrap: the third register gets the greatest word.
+fn wrapping_words(rt: &impl Abort, roots: &mut Roots, slot: Slot, one: Reg, two: Reg, three: Reg) {
     assert!(rt; set(roots, slot, one, 5));
     assert!(rt; copy(roots, slot, two, one));
     assert!(rt; add(roots, slot, two, two, u64::MAX));
     assert!(rt; has(roots, slot, two, 4));
     assert!(rt; sub(roots, slot, three, two, one));
     assert!(rt; has(roots, slot, three, u64::MAX));
+}
+
+// A global hands that word on.
+fn shared_word(
+    rt: &impl Abort,
+    roots: &mut Roots,
+    slot: Slot,
+    one: Reg,
+    three: Reg,
+    global: Global,
+) {
     assert!(rt; put(roots, slot, global, three));
     assert!(rt; get(roots, slot, one, global, u64::MAX));
     assert!(rt; has(roots, slot, one, u64::MAX));
@@ -99,10 +114,11 @@ fn wrapping_words(rt: &impl Abort, roots: &mut Roots, slot: Slot, regs: [Reg; 3]
 
 #[test]
 fn words_wrap(rt: HostRuntime) -> Result<(), Fail> {
+    let global = Global::new(63).ok_or("a global")?;
     let mut roots = Roots::new();
     let slot = roots.attach().ok().ok_or("a mutator")?;
-    let global = Global::new(63).ok_or("a global")?;
-    wrapping_words(&rt, &mut roots, slot, [reg(1)?, reg(2)?, reg(15)?], global);
+    wrapping_words(&rt, &mut roots, slot, reg(1), reg(2), reg(15));
+    shared_word(&rt, &mut roots, slot, reg(1), reg(15), global);
     Ok(())
 }
 
@@ -123,6 +139,6 @@ fn last_in_first_out(rt: &impl Abort, roots: &mut Roots, slot: Slot, from: Reg, 
 fn a_stack_is_last_in_first_out(rt: HostRuntime) -> Result<(), Fail> {
     let mut roots = Roots::new();
     let slot = roots.attach().ok().ok_or("a mutator")?;
-    last_in_first_out(&rt, &mut roots, slot, reg(3)?, reg(4)?);
+    last_in_first_out(&rt, &mut roots, slot, reg(3), reg(4));
     Ok(())
 }

@@ -52,12 +52,8 @@ fn deny_places(
     let past = Hint::Place(base.wrapping_add(PAGE_BYTES * u64::from(PAGES)));
     deny(replayer, event, *reply, past)?;
     deny(replayer, event, *reply, Hint::Nothing)?;
-    deny(
-        replayer,
-        event,
-        Reply::Refused(Refusal::Full),
-        Hint::Nothing,
-    )
+    let full = Reply::Refused(Refusal::Full);
+    deny(replayer, event, full, Hint::Nothing)
 }
 
 // Where an object was born none is born again.
@@ -166,16 +162,26 @@ fn deny_early(pair: &mut Pair, event: &Event) -> Result<(), Fail> {
     Ok(())
 }
 
+// A line with one thing changed.
+fn deny_changed(
+    replayer: &mut Replayer,
+    event: &Event,
+    reply: &Reply,
+    hint: Hint,
+) -> Result<(), Fail> {
+    deny(replayer, event, other(reply), hint)?;
+    deny_places(replayer, event, reply, hint)?;
+    if let Hint::Forgot(gone) = hint {
+        deny_bases(replayer, event, reply, gone)?;
+    }
+    deny_ranges(replayer, event)
+}
+
 fn tell_changed(pair: &mut Pair, event: Event) -> Result<(), Fail> {
     deny_early(pair, &event)?;
     let reply = pair.recorder.act(&event)?;
     let hint = pair.recorder.hint();
-    deny(&mut pair.replayer, &event, other(&reply), hint)?;
-    deny_places(&mut pair.replayer, &event, &reply, hint)?;
-    if let Hint::Forgot(gone) = hint {
-        deny_bases(&mut pair.replayer, &event, &reply, gone)?;
-    }
-    deny_ranges(&mut pair.replayer, &event)?;
+    deny_changed(&mut pair.replayer, &event, &reply, hint)?;
     if !pair.replayer.step(&event, &reply, hint) {
         return Err("a yes".into());
     }
@@ -208,6 +214,14 @@ fn changed_lines_are_denied(rt: HostRuntime) -> Result<(), Fail> {
     Ok(())
 }
 
+// While a cycle is marking no end of it forgets these, no full collection does, and no other cycle begins.
+fn deny_forgotten(replayer: &mut Replayer, bases: &[u64]) -> Result<(), Fail> {
+    for event in [Event::Finish, Event::Collect] {
+        deny(replayer, &event, Reply::Count(1), Hint::Forgot(bases))?;
+    }
+    deny(replayer, &Event::Begin, Reply::Done, Hint::Nothing)
+}
+
 // An object that roots reach is forgotten by no collection, and the order of two lines matters.
 fn deny_reached(pair: &mut Pair) -> Result<(), Fail> {
     pair.lines(&["attach", "0 alloc 1 2 normal", "gc begin"])?;
@@ -215,24 +229,7 @@ fn deny_reached(pair: &mut Pair) -> Result<(), Fail> {
         return Err("a base".into());
     };
     let bases = [base];
-    deny(
-        &mut pair.replayer,
-        &Event::Finish,
-        Reply::Count(1),
-        Hint::Forgot(&bases),
-    )?;
-    deny(
-        &mut pair.replayer,
-        &Event::Collect,
-        Reply::Count(1),
-        Hint::Forgot(&bases),
-    )?;
-    deny(
-        &mut pair.replayer,
-        &Event::Begin,
-        Reply::Done,
-        Hint::Nothing,
-    )?;
+    deny_forgotten(&mut pair.replayer, &bases)?;
     pair.lines(&["0 set 1 0", "0 set 2 0"])?;
     if !pair
         .replayer

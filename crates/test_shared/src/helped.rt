@@ -49,14 +49,19 @@ fn end<J: Naming, R: Threads + Wait + Sync>(
     }
 }
 
-// Nodes in front of the list of register 1, each with its number, and after each a node that nothing points into.
+// A node in front of the list of register 1, with its number.
+fn push_node<J: Naming>(rt: &impl Wait, heap: &SharedHeap<J>, me: &mut Mutator<J>, number: u64) {
+    serve_call(rt, heap, me, Call::Alloc(reg(2), 2, Kind::Normal));
+    serve_call(rt, heap, me, Call::Set(reg(3), number));
+    serve_call(rt, heap, me, Call::Store(reg(2), 0, reg(3)));
+    serve_call(rt, heap, me, Call::Store(reg(2), 1, reg(1)));
+    serve_call(rt, heap, me, Call::Copy(reg(1), reg(2)));
+}
+
+// Nodes with these numbers, and after each a node that nothing points into.
 fn push<J: Naming>(rt: &impl Wait, heap: &SharedHeap<J>, me: &mut Mutator<J>, from: u64, to: u64) {
     for number in from..to {
-        serve_call(rt, heap, me, Call::Alloc(reg(2), 2, Kind::Normal));
-        serve_call(rt, heap, me, Call::Set(reg(3), number));
-        serve_call(rt, heap, me, Call::Store(reg(2), 0, reg(3)));
-        serve_call(rt, heap, me, Call::Store(reg(2), 1, reg(1)));
-        serve_call(rt, heap, me, Call::Copy(reg(1), reg(2)));
+        push_node(rt, heap, me, number);
         serve_call(rt, heap, me, Call::Alloc(reg(2), 4, Kind::Normal));
         serve_call(rt, heap, me, Call::Set(reg(2), 0));
     }
@@ -74,6 +79,45 @@ fn pop<J: Naming>(rt: &impl Wait, heap: &SharedHeap<J>, me: &mut Mutator<J>, nod
     sum
 }
 
+// A cycle begins.
+fn begin<J: Naming>(rt: &impl Wait, heap: &SharedHeap<J>, collector: &mut Collector<J>) {
+    let _begun = heap.begin(rt, collector);
+}
+
+// It marks a little.
+fn mark<J: Naming>(rt: &impl Wait, heap: &SharedHeap<J>, collector: &mut Collector<J>) {
+    let _roots = heap.quiet(rt, collector, &mut Roots);
+    let _some = heap.quiet(rt, collector, &mut Mark(3));
+}
+
+fn end_two<J: Naming, R: Threads + Wait + Sync>(
+    rt: &R,
+    alloc: Global,
+    heap: &SharedHeap<J>,
+    me: &mut Mutator<J>,
+    collector: &mut Collector<J>,
+    helpers: &Option<Helpers>,
+) -> Outcome {
+    let early = end(rt, alloc, heap, collector, helpers);
+    push(rt, heap, me, 0, FIRST);
+    begin(rt, heap, collector);
+    mark(rt, heap, collector);
+    push(rt, heap, me, FIRST, FIRST + MORE);
+    let first = end(rt, alloc, heap, collector, helpers);
+    let popped = pop(rt, heap, me, FEWER);
+    begin(rt, heap, collector);
+    let second = end(rt, alloc, heap, collector, helpers);
+    let late = end(rt, alloc, heap, collector, helpers);
+    let rest = pop(rt, heap, me, FIRST + MORE - FEWER);
+    Outcome {
+        early,
+        first,
+        second,
+        late,
+        sum: popped.wrapping_add(rest),
+    }
+}
+
 fn end_cycles<J: Naming, R: Threads + Wait + Abort + Sync>(
     rt: &R,
     alloc: Global,
@@ -84,26 +128,9 @@ fn end_cycles<J: Naming, R: Threads + Wait + Abort + Sync>(
 {
     let (heap, mut collector) = SharedHeap::<J>::named(opened);
     let mut me = heap.attach(rt).ok().expect(rt, "a slot");
-    let early = end(rt, alloc, &heap, &mut collector, &helpers);
-    push(rt, &heap, &mut me, 0, FIRST);
-    let _begun = heap.begin(rt, &mut collector);
-    let _roots = heap.quiet(rt, &mut collector, &mut Roots);
-    let _some = heap.quiet(rt, &mut collector, &mut Mark(3));
-    push(rt, &heap, &mut me, FIRST, FIRST + MORE);
-    let first = end(rt, alloc, &heap, &mut collector, &helpers);
-    let popped = pop(rt, &heap, &mut me, FEWER);
-    let _begun = heap.begin(rt, &mut collector);
-    let second = end(rt, alloc, &heap, &mut collector, &helpers);
-    let late = end(rt, alloc, &heap, &mut collector, &helpers);
-    let rest = pop(rt, &heap, &mut me, FIRST + MORE - FEWER);
+    let outcome = end_two(rt, alloc, &heap, &mut me, &mut collector, &helpers);
     heap.detach(rt, me);
-    Outcome {
-        early,
-        first,
-        second,
-        late,
-        sum: popped.wrapping_add(rest),
-    }
+    outcome
 }
 
 // What each way to end a cycle is to answer: nodes that nothing points into go, those that came while it was marking only

@@ -4,7 +4,8 @@ ghost use Rattle.shared_register.specs.Calls.{AreReady};
 
 use history::{Naming, Opened};
 use shared_register::{
-    Call, Job, ReadValue, Register, Reply, SharedRegister, open, run_to_one_history,
+    Call, Collector, Job, Mutator, ReadValue, Register, Reply, SharedRegister, open,
+    run_to_one_history,
 };
 use std::alloc::{AllocError, Global};
 use std::marker::Brand;
@@ -28,6 +29,15 @@ fn additions(alloc: Global, count: usize) -> Result<Lines, AllocError>
     let calls = vec![in alloc; Call::Add(1); count]?;
     let replies = vec![in alloc; Reply::Done; count]?;
     Ok(Lines { calls, replies })
+}
+
+// Of two mutators.
+fn twice(alloc: Global, count: usize) -> Result<(Lines, Lines), AllocError>
+    ensures { IfOk result (λ l. AreReady l.0.calls.items l.0.replies.items × AreReady l.1.calls.items l.1.replies.items) }
+{
+    let first = additions(alloc, count)?;
+    let second = additions(alloc, count)?;
+    Ok((first, second))
 }
 
 // The numbers that the additions found, each counted once, in the mutator's order.
@@ -108,10 +118,8 @@ fn add_in_threads<J: Naming + Send + Sync, R: Threads + Wait + Abort + Sync>(
 #[test]
 fn threads_leave_one_history(rt: HostRuntime) -> Result<(), Fail> {
     let alloc = rt.alloc();
-    let a = additions(alloc, CALLS)?;
-    let b = additions(alloc, CALLS)?;
-    let c = additions(alloc, CALLS)?;
-    let d = additions(alloc, CALLS)?;
+    let (a, b) = twice(alloc, CALLS)?;
+    let (c, d) = twice(alloc, CALLS)?;
     let mut found = vec![in alloc; false; 4 * CALLS]?;
     let opened = open(alloc, 0)?;
     let sum = add_in_threads::<Brand, _>(&rt, opened, a, b, c, d, found.as_mut_slice());
@@ -120,22 +128,33 @@ fn threads_leave_one_history(rt: HostRuntime) -> Result<(), Fail> {
     Ok(())
 }
 
+// The count after two collections, as each of two mutators and the collector tells it.
+fn count_two<J: Naming>(
+    rt: &impl Wait,
+    shared: &SharedRegister<J>,
+    a: &mut Mutator<J>,
+    b: &mut Mutator<J>,
+    collector: &mut Collector<J>,
+) -> [u64; 3] {
+    shared.collect(rt, collector);
+    shared.collect(rt, collector);
+    shared.meet_collector(a, collector);
+    let by_a = shared.cycles(a);
+    shared.meet(a, b);
+    let by_b = shared.cycles(b);
+    [by_a, by_b, shared.cycles_of(collector)]
+}
+
 fn count_in_a_row<J: Naming, R: Wait + Abort>(rt: &R, opened: Opened<Register>)
     requires { (opened.table ≡ J.table) × (opened.origin ≡ J.origin) }
 {
     let (shared, mut collector) = SharedRegister::<J>::new(opened);
     let mut a = shared.attach(rt).expect(rt, "a slot");
     let mut b = shared.attach(rt).expect(rt, "a slot");
-    shared.collect(rt, &mut collector);
-    shared.collect(rt, &mut collector);
-    shared.meet_collector(&mut a, &mut collector);
-    let by_a = shared.cycles(&mut a);
-    shared.meet(&mut a, &mut b);
-    let by_b = shared.cycles(&mut b);
-    let by_collector = shared.cycles_of(&mut collector);
+    let counts = count_two(rt, &shared, &mut a, &mut b, &mut collector);
     shared.detach(rt, a);
     shared.detach(rt, b);
-    assert_eq!(rt; [by_a, by_b, by_collector], [2, 2, 2]);
+    assert_eq!(rt; counts, [2, 2, 2]);
 }
 
 #[test]
@@ -145,21 +164,39 @@ fn two_collections_are_counted_by_all(rt: HostRuntime) -> Result<(), Fail> {
     Ok(())
 }
 
+// A cycle that hasn't begun doesn't end, and one that has doesn't begin.
+fn begin_once<J: Naming>(
+    rt: &impl Wait,
+    shared: &SharedRegister<J>,
+    collector: &mut Collector<J>,
+) -> [bool; 3] {
+    let idle = shared.finish(rt, collector);
+    let begun = shared.begin(rt, collector);
+    [idle, begun, shared.begin(rt, collector)]
+}
+
+// What is read while it runs, whether it ends, and the cycles that ended.
+fn end_once<J: Naming>(
+    rt: &impl Wait,
+    shared: &SharedRegister<J>,
+    collector: &mut Collector<J>,
+) -> (u64, bool, u64) {
+    let value = shared.quiet(rt, collector, &mut ReadValue);
+    let ended = shared.finish(rt, collector);
+    (value, ended, shared.cycles_of(collector))
+}
+
 fn run_cycles<J: Naming, R: Wait + Abort>(rt: &R, opened: Opened<Register>)
     requires { (opened.table ≡ J.table) × (opened.origin ≡ J.origin) }
 {
     let (shared, mut collector) = SharedRegister::<J>::new(opened);
     let mut a = shared.attach(rt).expect(rt, "a slot");
-    let idle = shared.finish(rt, &mut collector);
-    let begun = shared.begin(rt, &mut collector);
-    let again = shared.begin(rt, &mut collector);
+    let begun = begin_once(rt, &shared, &mut collector);
     shared.call(rt, &mut a, &Call::Set(7));
-    let seven = shared.quiet(rt, &mut collector, &mut ReadValue);
-    let ended = shared.finish(rt, &mut collector);
-    let cycles = shared.cycles_of(&mut collector);
+    let ended = end_once(rt, &shared, &mut collector);
     shared.detach(rt, a);
-    assert_eq!(rt; [idle, begun, again, ended], [false, true, false, true]);
-    assert_eq!(rt; [seven, cycles], [7, 1]);
+    assert_eq!(rt; begun, [false, true, false]);
+    assert_eq!(rt; ended, (7, true, 1));
 }
 
 #[test]

@@ -3,7 +3,7 @@ ghost use Rattle.std.specs.Prelude.{◌≡◌};
 
 use heap_core::Core;
 use history::{Naming, Opened};
-use shared::{SharedHeap, open};
+use shared::{Collector, Mutator, SharedHeap, open};
 use std::marker::Brand;
 use std::process::Abort;
 use std::sync::Wait;
@@ -27,22 +27,33 @@ fn seventeen_mutators_come_and_go(rt: HostRuntime) -> Result<(), Fail> {
     Ok(())
 }
 
+// The count after two collections, as each of two mutators and the collector tells it.
+fn count_two<J: Naming>(
+    rt: &impl Wait,
+    heap: &SharedHeap<J>,
+    a: &mut Mutator<J>,
+    b: &mut Mutator<J>,
+    collector: &mut Collector<J>,
+) -> [u64; 3] {
+    heap.collect(rt, collector);
+    heap.collect(rt, collector);
+    heap.meet_collector(a, collector);
+    let by_a = heap.gc_no(a);
+    heap.meet(a, b);
+    let by_b = heap.gc_no(b);
+    [by_a, by_b, heap.gc_no_of(collector)]
+}
+
 fn count_in_a_row<J: Naming, R: Wait + Abort>(rt: &R, opened: Opened<Core>)
     requires { (opened.table ≡ J.table) × (opened.origin ≡ J.origin) }
 {
     let (heap, mut collector) = SharedHeap::<J>::named(opened);
     let mut a = heap.attach(rt).ok().expect(rt, "a slot");
     let mut b = heap.attach(rt).ok().expect(rt, "a slot");
-    heap.collect(rt, &mut collector);
-    heap.collect(rt, &mut collector);
-    heap.meet_collector(&mut a, &mut collector);
-    let by_a = heap.gc_no(&mut a);
-    heap.meet(&mut a, &mut b);
-    let by_b = heap.gc_no(&mut b);
-    let by_collector = heap.gc_no_of(&mut collector);
+    let counts = count_two(rt, &heap, &mut a, &mut b, &mut collector);
     heap.detach(rt, a);
     heap.detach(rt, b);
-    assert_eq!(rt; [by_a, by_b, by_collector], [2, 2, 2]);
+    assert_eq!(rt; counts, [2, 2, 2]);
 }
 
 #[test]

@@ -119,18 +119,30 @@ fn play<'a, J: Naming, R: Wait>(player: Player<'a, J, R>) -> Player<'a, J, R> {
     player
 }
 
+fn begin<J: Naming>(rt: &impl Wait, heap: &SharedHeap<J>, collector: &mut Collector<J>) {
+    let _begun = heap.begin(rt, collector);
+    let _roots = heap.quiet(rt, collector, &mut Roots);
+}
+
+fn mark<J: Naming>(rt: &impl Wait, heap: &SharedHeap<J>, collector: &mut Collector<J>) {
+    let _some = heap.quiet(rt, collector, &mut Mark(16));
+    let _page = heap.quiet(rt, collector, &mut Retrace);
+    let _more = heap.quiet(rt, collector, &mut Mark(64));
+}
+
+// Answers the cycles that ended.
+fn end<J: Naming>(rt: &impl Wait, heap: &SharedHeap<J>, collector: &mut Collector<J>) -> u64 {
+    let _count = heap.finish(rt, collector);
+    let _swept = heap.quiet(rt, collector, &mut Sweep);
+    heap.gc_no_of(collector)
+}
+
 fn cycle<'a, J: Naming, R: Wait>(cycles: Cycles<'a, J, R>) -> Cycles<'a, J, R> {
     let mut cycles = cycles;
     for _ in 0..CALLS / CALLS_A_CYCLE {
-        let (rt, heap) = (cycles.rt, cycles.heap);
-        let _begun = heap.begin(rt, &mut cycles.collector);
-        let _roots = heap.quiet(rt, &mut cycles.collector, &mut Roots);
-        let _some = heap.quiet(rt, &mut cycles.collector, &mut Mark(16));
-        let _page = heap.quiet(rt, &mut cycles.collector, &mut Retrace);
-        let _more = heap.quiet(rt, &mut cycles.collector, &mut Mark(64));
-        let _count = heap.finish(rt, &mut cycles.collector);
-        let _swept = heap.quiet(rt, &mut cycles.collector, &mut Sweep);
-        cycles.ended = heap.gc_no_of(&mut cycles.collector);
+        begin(cycles.rt, cycles.heap, &mut cycles.collector);
+        mark(cycles.rt, cycles.heap, &mut cycles.collector);
+        cycles.ended = end(cycles.rt, cycles.heap, &mut cycles.collector);
     }
     cycles
 }
@@ -145,22 +157,55 @@ struct Found {
     ended: u64,
 }
 
+// A mutator comes, whose list is empty.
+fn make_player<'a, J: Naming, R: Wait + Abort>(
+    rt: &'a R,
+    heap: &'a SharedHeap<J>,
+) -> Player<'a, J, R> {
+    Player {
+        me: attach(rt, heap),
+        calls: 0,
+        kept: ArrayVec::new(),
+        read_back: 0,
+        lost: 0,
+    }
+}
+
+fn come<'a, J: Naming, R: Wait + Abort>(
+    rt: &'a R,
+    alloc: Global,
+    heap: &'a SharedHeap<J>,
+) -> Result<Vec<Player<'a, J, R>>, AllocError> {
+    let mut players = Vec::new(alloc);
+    for _ in 0..MUTATORS {
+        players.push(make_player(rt, heap))?;
+    }
+    Ok(players)
+}
+
+// What the players and the collector found.
+fn sum_up<J: Naming, R: Wait>(players: &[Player<'_, J, R>], ended: u64) -> Found {
+    let mut found = Found {
+        calls: u64::MAX,
+        read_back: 0,
+        lost: 0,
+        ended,
+    };
+    for player in players {
+        found.calls = found.calls.min(player.calls);
+        found.read_back = found.read_back.wrapping_add(player.read_back);
+        found.lost = found.lost.wrapping_add(player.lost);
+    }
+    found
+}
+
 fn play_all<J: Naming + Send + Sync, R: Threads + Wait + Abort + Sync>(
     rt: &R,
     alloc: Global,
     heap: &SharedHeap<J>,
     collector: Collector<J>,
 ) -> Result<Found, AllocError> {
-    let mut players = Vec::with_capacity(alloc, MUTATORS)?;
-    for _ in 0..MUTATORS {
-        players.push(Player {
-            me: attach(rt, heap),
-            calls: 0,
-            kept: ArrayVec::new(),
-            read_back: 0,
-            lost: 0,
-        })?;
-    }
+    let players = come(rt, alloc, heap)?;
     let cycles = Cycles {
         rt,
         heap,
@@ -172,18 +217,7 @@ fn play_all<J: Naming + Send + Sync, R: Threads + Wait + Abort + Sync>(
     let (players, cycles) = run_each_beside::<_, _, Plays, _, _, Plays, _>(
         rt, alloc, &Plays, &work, players, &Plays, &collect, cycles,
     )?;
-    let mut found = Found {
-        calls: u64::MAX,
-        read_back: 0,
-        lost: 0,
-        ended: cycles.ended,
-    };
-    for player in &players {
-        found.calls = found.calls.min(player.calls);
-        found.read_back = found.read_back.wrapping_add(player.read_back);
-        found.lost = found.lost.wrapping_add(player.lost);
-    }
-    Ok(found)
+    Ok(sum_up(players.as_slice(), cycles.ended))
 }
 
 fn sixteen_mutators<J: Naming + Send + Sync, R: Threads + Wait + Abort + Sync>(

@@ -1,11 +1,33 @@
-//! Workloads as their readers and writers see them: rules and bad lines, random scripts, and readers, writers and memory that fail.
+//! Workloads as their users see them: rules and bad lines, random scripts, and readers, writers and memory that fail; on threads worked
+//! rows under gates that hold actors back, mutators beside constant cycles, and random workloads; and pauses with helpers as users of a
+//! core see them: they keep what a pause alone keeps.
 #![tactic(auto)]
 
 #[cfg(test)]
+mod beside_cycles;
+#[cfg(test)]
 mod failures;
+#[cfg(test)]
+mod gates;
+#[cfg(test)]
+mod helped_cores;
+#[cfg(test)]
+mod pause;
+#[cfg(test)]
+mod possible;
 #[cfg(test)]
 mod printed;
 #[cfg(test)]
+mod random;
+#[cfg(test)]
+mod refused;
+#[cfg(test)]
+mod refused_helpers;
+#[cfg(test)]
+mod rows;
+#[cfg(test)]
 mod rules;
+#[cfg(test)]
+mod runs;
 #[cfg(test)]
 mod stress;

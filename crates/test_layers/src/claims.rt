@@ -1,15 +1,10 @@
 //! Threads that claim all marks of a table side by side.
-#![tactic(auto)]
-
-#[cfg(test)]
-mod alone;
-
 ghost use Rattle.std.specs.Prelude.{◌≡◌, ℕ, ◌+◌, ◌<◌, ◌≤◌, true, length, All, OnOk, OnErr, IfOk, vec_len};
 ghost use Rattle.words.specs.Bits.{IsFullRow};
 ghost use Rattle.words.specs.declared.limits.TheConstants.{MAX_HELPERS};
 ghost use Rattle.mark_bits.specs.Claims.{knows};
 ghost use Rattle.mark_bits.specs.Tables.{view, start_of, IsOf};
-ghost use Rattle.test_claims.specs.Crew.{IsReady, IsDone};
+ghost use Rattle.test_layers.specs.Crew.{IsReady, IsDone};
 
 use mark_bits::{Claimer, MarkTable, Marks};
 use std::alloc::{AllocError, Global};

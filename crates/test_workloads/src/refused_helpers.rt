@@ -1,7 +1,7 @@
 //! A pause with helpers where memory or a thread is refused. By itself this runs with ample memory and threads enough; `rt try
 //! --test --fail-alloc N` refuses the N-th request, and `tests/refused_threads.sh` refuses each thread in turn.
-use crate::cores::run;
-use final_pause::{Helpers, Open};
+use crate::helped_cores::{ask, close_with, run};
+use final_pause::Helpers;
 use heap_core::Core;
 use heap_spec::{Event, Reply};
 use std::alloc::Global;
@@ -17,6 +17,20 @@ const PAGES: u32 = 4;
 const MARKING: &str =
     "attach\n0 alloc 1 2 normal\n0 alloc 2 2 normal\n0 alloc 3 2 normal\n0 set 3 0\ngc begin\n";
 
+fn is_kept(core: &Core, address: u64) -> bool {
+    core.kept_at(address).is_some()
+}
+
+// Nothing is left to mark, and the third object alone goes.
+fn ends(rt: &impl Abort, core: &mut Core) {
+    assert_eq!(rt; ask(core, Event::Roots), Reply::Done);
+    assert_eq!(rt; ask(core, Event::Mark(1)), Reply::Count(0));
+    assert_eq!(rt; ask(core, Event::Finish), Reply::Count(1));
+    assert!(rt; is_kept(core, FIRST_ADDRESS));
+    assert!(rt; is_kept(core, FIRST_ADDRESS + 16));
+    assert!(rt; !is_kept(core, FIRST_ADDRESS + 32));
+}
+
 fn close(
     rt: &(impl Abort + Threads + Wait + Sync),
     alloc: Global,
@@ -24,13 +38,8 @@ fn close(
 ) -> Result<(), Fail> {
     run(core, MARKING.as_bytes())?;
     let helpers = Helpers::new(MAX_HELPERS).ok_or("eight helpers")?;
-    assert_eq!(rt; core.close_with(rt, alloc, helpers, &Open), Ok(()));
-    assert_eq!(rt; core.act(Event::Roots), Reply::Done);
-    assert_eq!(rt; core.act(Event::Mark(1)), Reply::Count(0));
-    assert_eq!(rt; core.act(Event::Finish), Reply::Count(1));
-    assert!(rt; core.kept_at(FIRST_ADDRESS).is_some());
-    assert!(rt; core.kept_at(FIRST_ADDRESS + 16).is_some());
-    assert!(rt; core.kept_at(FIRST_ADDRESS + 32).is_none());
+    assert_eq!(rt; close_with(rt, alloc, core, helpers), Ok(()));
+    ends(rt, core);
     Ok(())
 }
 

@@ -9,6 +9,7 @@ use std::process::Abort;
 use std::sync::Wait;
 use std::test::Fail;
 use std::thread::Threads;
+use words::Refusal;
 use words::limits::{FIRST_ADDRESS, GRANULE_BYTES, MAX_HELPERS, PAGE_GRANULES};
 use workloads::make_stress;
 
@@ -28,18 +29,32 @@ pub(crate) fn run(core: &mut Core, text: &[u8]) -> Result<(), Fail> {
     for line in text.split(|byte| *byte == b'\n') {
         if !line.is_empty() && line.len() <= LINE_BYTES {
             let event = command(line).ok_or("a command")?;
-            let _reply = core.act(event);
+            let _reply = ask(core, event);
         }
     }
     Ok(())
 }
 
+// Each call has a function of its own: what a call promises isn't carried on to the next.
+pub(crate) fn ask(core: &mut Core, event: Event) -> Reply {
+    core.act(event)
+}
+
+pub(crate) fn close_with(
+    rt: &(impl Threads + Wait + Sync),
+    alloc: Global,
+    core: &mut Core,
+    helpers: Helpers,
+) -> Result<(), Refusal> {
+    core.close_with(rt, alloc, helpers, &Open)
+}
+
 // The helped core has nothing left to mark, and then both forget as many objects and keep the same.
 fn compare(rt: &impl Abort, helped: &mut Core, alone: &mut Core) {
-    assert_eq!(rt; helped.act(Event::Roots), Reply::Done);
-    assert_eq!(rt; helped.act(Event::Mark(u64::MAX)), Reply::Count(0));
-    assert_eq!(rt; helped.act(Event::Retrace), Reply::Count(0));
-    assert_eq!(rt; helped.act(Event::Finish), alone.act(Event::Finish));
+    assert_eq!(rt; ask(helped, Event::Roots), Reply::Done);
+    assert_eq!(rt; ask(helped, Event::Mark(u64::MAX)), Reply::Count(0));
+    assert_eq!(rt; ask(helped, Event::Retrace), Reply::Count(0));
+    assert_eq!(rt; ask(helped, Event::Finish), ask(alone, Event::Finish));
     for granule in 0..PAGE_GRANULES * u64::from(PAGES) {
         let address = FIRST_ADDRESS + GRANULE_BYTES * granule;
         assert!(rt;
@@ -61,21 +76,31 @@ fn check(
     run(helped, text)?;
     run(alone, text)?;
     let helpers = Helpers::new(number).ok_or("a number of helpers")?;
-    assert_eq!(rt; helped.close_with(rt, alloc, helpers, &Open), Ok(()));
+    assert_eq!(rt; close_with(rt, alloc, helped, helpers), Ok(()));
     compare(rt, helped, alone);
     Ok(())
 }
 
-// The same on new cores, by each number of helpers.
+// The same on new cores.
+fn check_new(
+    rt: &(impl Abort + Threads + Wait + Sync),
+    alloc: Global,
+    text: &[u8],
+    number: u8,
+) -> Result<(), Fail> {
+    let mut helped = Core::new(alloc, PAGES).ok().ok_or("a core")?;
+    let mut alone = Core::new(alloc, PAGES).ok().ok_or("a core")?;
+    check(rt, alloc, &mut helped, &mut alone, text, number)
+}
+
+// By each number of helpers.
 fn check_all(
     rt: &(impl Abort + Threads + Wait + Sync),
     alloc: Global,
     text: &[u8],
 ) -> Result<(), Fail> {
     for number in 1..=MAX_HELPERS {
-        let mut helped = Core::new(alloc, PAGES).ok().ok_or("a core")?;
-        let mut alone = Core::new(alloc, PAGES).ok().ok_or("a core")?;
-        check(rt, alloc, &mut helped, &mut alone, text, number)?;
+        check_new(rt, alloc, text, number)?;
     }
     Ok(())
 }
@@ -98,14 +123,20 @@ fn random_cores_keep_the_same(rt: HostRuntime) -> Result<(), Fail> {
     Ok(())
 }
 
+// An object with its number, to which a word of the first one points.
+fn put_child(alloc: Global, text: &mut Vec<u8>, child: u32) -> Result<(), Fail> {
+    let lines = format!(in alloc;
+        "0 alloc 2 2 normal\n0 set 3 {child}\n0 store 2 0 3\n0 store 1 {child} 2\n"
+    )?;
+    text.extend_from_slice(lines.as_bytes())?;
+    Ok(())
+}
+
 // An object of 300 words, each of which points to an object of its own.
 fn widen(alloc: Global, text: &mut Vec<u8>) -> Result<(), Fail> {
     text.extend_from_slice(b"attach\n0 alloc 1 300 normal\n")?;
     for child in 0..300u32 {
-        let lines = format!(in alloc;
-            "0 alloc 2 2 normal\n0 set 3 {child}\n0 store 2 0 3\n0 store 1 {child} 2\n"
-        )?;
-        text.extend_from_slice(lines.as_bytes())?;
+        put_child(alloc, text, child)?;
     }
     text.extend_from_slice(b"0 set 2 0\ngc begin\ngc roots\n")?;
     Ok(())
@@ -120,9 +151,9 @@ fn more_objects_than_entries_are_kept(rt: HostRuntime) -> Result<(), Fail> {
 
 #[test]
 fn helpers_wait_for_a_cycle(rt: HostRuntime) -> Result<(), Fail> {
-    let mut core = Core::new(rt.alloc(), 1).ok().ok_or("a core")?;
     let helpers = Helpers::new(2).ok_or("two helpers")?;
-    let answer = core.close_with(&rt, rt.alloc(), helpers, &Open);
-    assert_eq!(&rt; answer, Err(words::Refusal::WrongPhase));
+    let mut core = Core::new(rt.alloc(), 1).ok().ok_or("a core")?;
+    let answer = close_with(&rt, rt.alloc(), &mut core, helpers);
+    assert_eq!(&rt; answer, Err(Refusal::WrongPhase));
     Ok(())
 }

@@ -3,7 +3,7 @@ use Rattle.std.specs.Prelude.{◌≡◌, ℕ, ◌<◌, true}
 use Rattle.mark_bits.specs.declared.table.MarkTable.{MarkTable}
 use Rattle.mark_bits.specs.Tables.{view, IsOf}
 use Rattle.mark_bits.specs.Claims.{knows}
-use Rattle.test_claims.specs.declared.Helper.{Helper}
+use Rattle.test_layers.specs.declared.claims.Helper.{Helper}
 
 -- the helper claims on the table, and has one part
 pub record IsReady (t : MarkTable) (h : Helper) : Type 0 where

@@ -1,8 +1,8 @@
 use Rattle.std.proofs.Common.{◌≡◌, ℕ, ◌+◌, ◌<◌, true, length, All, vec_len}
 use Rattle.mark_bits.specs.Claims.{knows}
 use Rattle.mark_bits.specs.Tables.{view, start_of, IsOf}
-use Rattle.test_claims.specs.Crew.{IsDone}
-use Rattle.test_claims.proofs.gather.Given as goal
+use Rattle.test_layers.specs.Crew.{IsDone}
+use Rattle.test_layers.proofs.claims.gather.Given as goal
 
 abbrev pub invariant-loop-helper : goal.invariant-loop-helper
 invariant-loop-helper l =

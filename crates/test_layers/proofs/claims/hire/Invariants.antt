@@ -1,7 +1,7 @@
 use Rattle.std.proofs.Common.{◌≡◌, ◌+◌, All, vec_len}
 use Rattle.mark_bits.specs.Tables.{view, IsOf}
-use Rattle.test_claims.specs.Crew.{IsReady}
-use Rattle.test_claims.proofs.hire.Given as goal
+use Rattle.test_layers.specs.Crew.{IsReady}
+use Rattle.test_layers.proofs.claims.hire.Given as goal
 
 abbrev pub invariant-loop : goal.invariant-loop
 invariant-loop l =

@@ -1,7 +1,8 @@
+//! Jobs on threads of their own: all are at work at the same time, and come back in their order.
 ghost use Rattle.std.specs.Prelude.{◌≡◌, ◌+◌, ◌%◌, ◌^◌, IfOk};
 ghost use Rattle.each_law.specs.Jobs.{HaveRun};
 
-use super::*;
+use each_law::{Law, run_each, run_each_beside};
 use std::sync::atomic::{AtomicU64, Ordering};
 use std::test::Fail;
 use std::thread;
