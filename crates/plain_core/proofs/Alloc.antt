@@ -43,7 +43,7 @@ new_sound pages words objects roots p w o = record {
   apart = λ e f x he hf re rf. absurd (All-contains (λ (g : Extent). ⊥) objects e (rw o (All-nil (λ (g : Extent). ⊥))) he);
 }
 
-even_product : (l i : ℕ) → l % 2 ≡ 0 → (l * i) % 2 ≡ 0
+pub even_product : (l i : ℕ) → l % 2 ≡ 0 → (l * i) % 2 ≡ 0
 even_product l i even =
     let e : l ≡ 2 * (l / 2) = omega arith in
     ap (λ x. (x * i) % 2) e ∙ ap (λ x. x % 2) (mul_assoc 2 (l / 2) i) ∙ mul-mod_right 2 ((l / 2) * i)

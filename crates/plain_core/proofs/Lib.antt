@@ -6,6 +6,7 @@ pub mod Placing
 pub mod Freshness
 pub mod Rooms
 pub mod Alloc
+pub mod Taking
 pub mod Free
 pub mod Lists
 pub mod Reaching

@@ -18,6 +18,10 @@ use Rattle.plain_core.specs.Places.{IsSized}
 pub cell_below : (length cell : ℕ) → 0 < length → length * (cell + 1) ≤ PAGE_WORDS → cell < PAGE_WORDS / length
 cell_below length cell some fits = let h : cell + 1 ≤ PAGE_WORDS / length = (le-div_iff_mul-le {k = length} {x = cell + 1} {y = PAGE_WORDS} some).1 (omega arith) in omega arith
 
+-- a cell below the number of cells fits on a page
+pub cell_fits : (length cell : ℕ) → 0 < length → cell < PAGE_WORDS / length → length * (cell + 1) ≤ PAGE_WORDS
+cell_fits length cell some below = let h = (le-div_iff_mul-le {k = length} {x = cell + 1} {y = PAGE_WORDS} some).0 (omega arith) in omega (arith, h)
+
 -- what is true of each class
 fits_class : ℕ → Bool
 fits_class n = nat_lt 0 n && (nat_le n MAX_SMALL_WORDS && (n % GRANULE_WORDS == 0))

@@ -11,5 +11,6 @@ mod owners;
 mod parting;
 mod places;
 mod plain;
+mod taken;
 
 pub use plain::Core;

@@ -1,13 +1,14 @@
-//! Where a new object may go, found by trying each place against each object.
-ghost use Rattle.std.specs.Prelude.{◌≡◌, ℕ, ◌<◌, ◌≤◌, ◌*◌, ◌/◌, ◌+◌, ◌^◌, IfSome, IfNone, false, IsTrue};
-ghost use Rattle.words.specs.declared.limits.TheConstants.{WORD_BYTES, PAGE_WORDS, MAX_PAGES, MAX_SMALL_WORDS};
+//! Where a new object may go, found page by page.
+ghost use Rattle.std.specs.Prelude.{◌≡◌, ℕ, ◌<◌, ◌≤◌, ◌*◌, ◌%◌, ◌+◌, ◌^◌, IfSome, IfNone, false, IsTrue};
+ghost use Rattle.words.specs.declared.limits.TheConstants.{WORD_BYTES, GRANULE_WORDS, PAGE_WORDS, MAX_PAGES, MAX_SMALL_WORDS};
 ghost use Rattle.words.specs.Layout.{page_start};
 ghost use Rattle.heap_spec.specs.Layout.{LiesOn};
 ghost use Rattle.heap_spec.specs.Room.{length_of};
 ghost use Rattle.plain_core.specs.Places.{IsPlace, IsPlaceOn, IsSmallPlace, IsLargePlace, IsFreePage, IsCutPage, IsNoBase, IsSized};
 
 use crate::extent::Extent;
-use words::limits::{PAGE_WORDS, WORD_BYTES};
+use crate::taken::taken_granules;
+use words::limits::{GRANULE_WORDS, PAGE_WORDS, WORD_BYTES};
 use words::{Kind, PageNo, Placement, page_start};
 
 /// Whether no object lies on the page.
@@ -62,14 +63,15 @@ pub fn is_base(objects: &[Extent], address: u64) -> bool
 
 /// The first cell of the page that is no object's base.
 fn free_cell(objects: &[Extent], page: PageNo, length: u64) -> Option<u64>
-    requires { (0 < length) × (length ≤ MAX_SMALL_WORDS) }
+    requires { (0 < length) × (length ≤ MAX_SMALL_WORDS) × (length % GRANULE_WORDS ≡ 0) }
     ensures some { IfSome result (λ a. (cell : ℕ) × (length * (cell + 1) ≤ PAGE_WORDS) × (a ≡ page_start page + WORD_BYTES * (length * cell)) × IsNoBase objects.now a) }
     ensures none { IfNone result ((cell : ℕ) → length * (cell + 1) ≤ PAGE_WORDS → IsNoBase objects.now (page_start page + WORD_BYTES * (length * cell)) → ⊥) }
 {
+    let taken = taken_granules(objects, page);
     for cell in 0..PAGE_WORDS / length {
-        let address = page_start(page) + WORD_BYTES * (length * cell);
-        if !is_base(objects, address) {
-            return Some(address);
+        let granule = (length * cell / GRANULE_WORDS) as u16;
+        if !taken.is_set(granule) {
+            return Some(page_start(page) + WORD_BYTES * (length * cell));
         }
     }
     None
@@ -77,7 +79,7 @@ fn free_cell(objects: &[Extent], page: PageNo, length: u64) -> Option<u64>
 
 /// A place on the page for an object of a class.
 fn place_on(objects: &[Extent], page: PageNo, length: u64, kind: Kind) -> Option<u64>
-    requires { (0 < length) × (length ≤ MAX_SMALL_WORDS) }
+    requires { (0 < length) × (length ≤ MAX_SMALL_WORDS) × (length % GRANULE_WORDS ≡ 0) }
     ensures some { IfSome result (IsPlaceOn objects.now page length kind) }
     ensures none { IfNone result ((a : ℕ) → IsPlaceOn objects.now page length kind a → ⊥) }
 {
@@ -92,7 +94,7 @@ fn place_on(objects: &[Extent], page: PageNo, length: u64, kind: Kind) -> Option
 
 /// A place for an object of a class.
 fn small_place(objects: &[Extent], pages: u32, length: u64, kind: Kind) -> Option<u64>
-    requires { (0 < length) × (length ≤ MAX_SMALL_WORDS) }
+    requires { (0 < length) × (length ≤ MAX_SMALL_WORDS) × (length % GRANULE_WORDS ≡ 0) }
     ensures some { IfSome result (IsSmallPlace objects.now pages length kind) }
     ensures none { IfNone result ((a : ℕ) → IsSmallPlace objects.now pages length kind a → ⊥) }
 {

@@ -33,7 +33,7 @@ fn main(rt: HostRuntime) -> ExitCode {
             ExitCode::from(2)
         }
         Ok(Verdict::Breaks(line, rule)) => {
-            let _ = println!(rt; "line {line}: {rule}");
+            let _ = println!(rt; "line {line}: {}", rule.text());
             ExitCode::from(1)
         }
         Err(RunError::Memory) => {

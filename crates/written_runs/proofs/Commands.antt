@@ -14,7 +14,7 @@ use Rattle.heap_spec.specs.Ranges.{InRange, CallInRange}
 use Rattle.scripts.specs.Grammar.{kind_word, call_words, command_words, IsLineOf}
 use Rattle.written_runs.specs.Cuts.{Lacks}
 use Rattle.written_runs.proofs.Digits.{decimal_lacks}
-use Rattle.written_runs.proofs.Parts.{lacks_by}
+use Rattle.written_runs.proofs.Cutting.{lacks_by}
 
 abbrev EachLacks : List (List ℕ) → Type 0
 EachLacks words = AllByRecursion (Lacks 61) words

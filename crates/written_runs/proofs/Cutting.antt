@@ -1,7 +1,9 @@
 -- Where texts are cut.
-use Rattle.std.proofs.Common.{◌≡◌, ◌≢◌, ℕ, ◌<◌, ◌≤◌, List, [], ◌∷◌, ◌++◌, length, get_or, take, drop, refl, sym, ap, ◌∙◌, subst, arith}
+use Rattle.std.proofs.Common.{◌≡◌, ◌≢◌, ℕ, ◌<◌, ◌≤◌, List, [], ◌∷◌, ◌++◌, length, get_or, take, drop, refl, sym, ap, ◌∙◌, subst, arith, Bool, true, false, eqb}
+use Rattle.std.specs.Prelude.{not, ◌&&◌}
+use Rattle.std.proofs.lemmas.Bool.{eq-eqb}
 use Rattle.std.proofs.lemmas.List.{drop_more, get_or-take, length-take, length-drop}
-use Rattle.std.proofs.lemmas.List.Elements.{All-from_get_or, All-head, All-tail}
+use Rattle.std.proofs.lemmas.List.Elements.{All-from_get_or, All-head, All-tail, All-nil, All-cons}
 use Rattle.written_runs.specs.Cuts.{Lacks, IsEmptyOrFrom}
 
 -- a text that was searched up to an index
@@ -39,3 +41,29 @@ same_cut at (x ∷ f) r (y ∷ g) s e lf fr lg fs =
     let h : x ≡ y = cc in
     let c = same_cut at f r g s more (All-tail (λ z. z ≢ at) x f lf) fr (All-tail (λ z. z ≢ at) y g lg) fs in
     record { front = ap (λ z. z ∷ f) h ∙ ap (λ t. y ∷ t) c.front; rest = c.rest }
+
+-- whether a text lacks a byte, as a test that computes on literals
+abbrev pub lacks_test : ℕ → List ℕ → Bool
+lacks_test at [] = true
+lacks_test at (b ∷ text) = not (eqb b at) && lacks_test at text
+
+pub lacks_by : (at : ℕ) (text : List ℕ) → lacks_test at text ≡ true → Lacks at text
+lacks_by at [] holds = All-nil (λ b. b ≢ at)
+lacks_by at (b ∷ text) holds = All-cons (λ x. x ≢ at) b text (λ e. apart (eqb b at) (eq-eqb b at e) holds) (lacks_by at text (later (eqb b at) holds))
+  where
+    apart : (v : Bool) → v ≡ true → not v && lacks_test at text ≡ true → ⊥
+    apart true e h = let f : ⊥ = cc in f
+    apart false e h = let f : ⊥ = cc in f
+
+    later : (v : Bool) → not v && lacks_test at text ≡ true → lacks_test at text ≡ true
+    later true h = let f : ⊥ = cc in absurd f
+    later false h = h
+
+-- the first byte of a text, and the second
+abbrev pub lead : List ℕ → ℕ
+lead [] = 0
+lead (b ∷ text) = b
+
+abbrev pub second : List ℕ → ℕ
+second [] = 0
+second (b ∷ text) = lead text

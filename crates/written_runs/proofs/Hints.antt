@@ -9,8 +9,8 @@ use Rattle.replayer.specs.declared.hint.Hint.{Hint}
 use Rattle.replayer.specs.declared.hint.Hint.TheVariants.{Nothing, Place, Forgot}
 use Rattle.written_runs.specs.Written.{bases_text}
 use Rattle.written_runs.specs.Reading.{IsNumberAt, AreBases, IsHint}
-use Rattle.written_runs.proofs.Digits.{bases_from}
-use Rattle.written_runs.proofs.Parts.{lead, second, same_number}
+use Rattle.written_runs.proofs.Digits.{bases_from, same_number}
+use Rattle.written_runs.proofs.Cutting.{lead, second}
 
 -- Some bases were read of a text, and what the text is besides is what the rest is.
 pub record IsReadTo (text bases rest : List ℕ) : Type 0 where

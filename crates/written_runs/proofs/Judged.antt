@@ -68,9 +68,16 @@ judged pages text rest behind line number old new (Bad n) u e found =
     subst (HasFault (λ run l. IsUnwritten l) (fresh pages) (lines_of text)) (sym found.0) (fault_here (λ run l. IsUnwritten l) pages text rest behind line number old u e found.1)
 judged pages text rest behind line number old new (Breaks n rule) u e found =
     let s = found.1 in
-    subst (HasFault (IsBroken (fresh pages)) (fresh pages) (lines_of text)) (sym found.0)
-    (fault_here (IsBroken (fresh pages)) pages text rest behind line number old u e
-    (record { event = s.event; reply = s.reply; hint = s.hint; is_written = s.is_written; no_replay = λ next replay. s.no_replay (fresh pages) u.run next u.follows replay }))
+    subst (HasFault (IsBroken (fresh pages) rule) (fresh pages) (lines_of text)) (sym found.0)
+    (fault_here (IsBroken (fresh pages) rule) pages text rest behind line number old u e
+    (record {
+      event = s.event;
+      reply = s.reply;
+      hint = s.hint;
+      is_written = s.is_written;
+      no_replay = λ next replay. s.no_replay (fresh pages) u.run next u.follows replay;
+      named = s.named;
+    }))
 
 -- the first line of a text that was cut at its first newline
 pub line_with_newline : (text line rest behind : List ℕ) (b : ℕ) → IsCut newline text line rest → rest ≡ b ∷ behind → lines_of text ≡ line ∷ lines_of behind

@@ -1,7 +1,11 @@
 pub mod Cutting
 pub mod Digits
-pub mod Parts
+pub mod Refusals
+pub mod Replies
+pub mod Rests
+pub mod Parting
 pub mod Commands
 pub mod Hints
 pub mod Unwritten
 pub mod Judged
+pub mod Arguments

@@ -11,7 +11,8 @@ use Rattle.written_runs.specs.Cuts.{IsEmptyOrFrom}
 use Rattle.written_runs.specs.Written.{answer_of, hint_text, IsLineWith, IsWritten}
 use Rattle.written_runs.specs.Reading.{IsParted, IsReplyAt, IsHint}
 use Rattle.written_runs.specs.Judging.{IsUnwritten}
-use Rattle.written_runs.proofs.Parts.{same_parts, same_rest}
+use Rattle.written_runs.proofs.Parting.{same_parts}
+use Rattle.written_runs.proofs.Rests.{same_rest}
 use Rattle.written_runs.proofs.Commands.{line_lacks}
 
 hint_from : (hint : Hint) → IsEmptyOrFrom 32 (hint_text hint)

@@ -1,4 +1,6 @@
 pub mod Cuts
 pub mod Written
 pub mod Reading
+pub mod Rules
 pub mod Judging
+pub mod Arguments

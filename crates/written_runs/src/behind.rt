@@ -39,7 +39,8 @@ impl Behind {
 
 // The bases that a text is, each behind a space.
 fn bases_of(alloc: Global, text: &[u8]) -> Result<Option<Vec<u64>>, AllocError>
-    ensures { IfOk result (λ found. MatchOption found ((bases : List ℕ) → AreBases text.now bases → ⊥) (λ bases. AreBases text.now bases.items)) }
+    ensures { IfOk result (λ found. MatchOption found ((bases : List ℕ) → AreBases text.now bases → ⊥)
+        (λ bases. AreBases text.now bases.items)) }
 {
     let mut bases = Vec::new(alloc);
     let mut rest = text;
@@ -55,7 +56,8 @@ fn bases_of(alloc: Global, text: &[u8]) -> Result<Option<Vec<u64>>, AllocError>
 
 /// What a text is that stands behind a reply, and `None` exactly if it is no hint's.
 pub fn behind_of(alloc: Global, text: &[u8]) -> Result<Option<Behind>, AllocError>
-    ensures { IfOk result (λ found. MatchOption found ((hint : HintValue) → IsHint text.now hint → ⊥) (λ behind. IsBehind text.now behind)) }
+    ensures { IfOk result (λ found. MatchOption found ((hint : HintValue) → IsHint text.now hint → ⊥)
+        (λ behind. IsBehind text.now behind)) }
 {
     if text.is_empty() {
         return Ok(Some(Behind::Nothing));

@@ -1,31 +1,39 @@
 //! The words that the programs on written runs are given.
-ghost use Rattle.std.specs.Prelude.{◌≤◌, IfSome};
+ghost use Rattle.std.specs.Prelude.{ℕ, List, ◌≤◌, IfSome, MatchOption, map, string_bytes};
 ghost use Rattle.words.specs.declared.limits.TheConstants.{MAX_PAGES};
+ghost use Rattle.written_runs.specs.Arguments.{IsPageCount, AreGiven};
 
+use crate::cut::is;
 use scripts::number;
 use words::limits::MAX_PAGES;
 
 // The pages of a heap, as they are written.
 fn pages_given(text: &str) -> Option<u32>
-    ensures { IfSome result (λ pages. (1 ≤ pages) × (pages ≤ MAX_PAGES)) }
+    ensures { MatchOption result ((pages : ℕ) → IsPageCount text.now pages → ⊥) (λ pages. IsPageCount text.now pages) }
 {
     let Some(pages) = number(text.as_bytes()) else {
         return None;
     };
-    if pages == 0 || pages > u64::from(MAX_PAGES) {
+    if pages == 0 {
+        return None;
+    }
+    if pages > u64::from(MAX_PAGES) {
         return None;
     }
     Some(pages as u32)
 }
 
-/// The pages and the file of `--pages N FILE`.
+/// The pages and the file of `--pages N FILE`, and `None` exactly if the words are others.
 pub fn words_given(words: &[String]) -> Option<(u32, &str)>
-    ensures { IfSome result (λ given. (1 ≤ given.0) × (given.0 ≤ MAX_PAGES)) }
+    ensures given { MatchOption result
+        ((pages : ℕ) (file : List ℕ) → AreGiven (map string_bytes words.now) pages file → ⊥)
+        (λ given. AreGiven (map string_bytes words.now) given.0 given.1.now) }
+    ensures range { IfSome result (λ given. (1 ≤ given.0) × (given.0 ≤ MAX_PAGES)) }
 {
     let [option, count, file] = words else {
         return None;
     };
-    if option.as_str() != "--pages" {
+    if !is(option.as_str().as_bytes(), "--pages") {
         return None;
     }
     let Some(pages) = pages_given(count.as_str()) else {

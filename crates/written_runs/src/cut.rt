@@ -23,7 +23,8 @@ pub fn cut(text: &[u8], at: u8) -> (&[u8], &[u8])
 
 /// What stands behind this front of a text, and `None` exactly if the text begins otherwise.
 pub fn past<'a>(text: &'a [u8], front: &str) -> Option<&'a [u8]>
-    ensures { MatchOption result ((rest : List ℕ) → text.now ≡ front.now ++ rest → ⊥) (λ rest. text.now ≡ front.now ++ rest.now) }
+    ensures { MatchOption result ((rest : List ℕ) → text.now ≡ front.now ++ rest → ⊥)
+        (λ rest. text.now ≡ front.now ++ rest.now) }
 {
     if text.len() < front.len() {
         return None;

@@ -1,5 +1,5 @@
-//! Runs that are written down, in the lines of docs/REPLAY.md: how a line is read, how it is written, and what the checker
-//! says of a run.
+//! Runs that are written down, in the lines of docs/REPLAY.md: how a line is read, how it is written, and what the
+//! checker says of a run.
 #![tactic(auto)]
 
 mod behind;
@@ -12,5 +12,6 @@ mod verdict;
 mod writing;
 
 pub use command::words_given;
+pub use rules::Rule;
 pub use verdict::{Verdict, judge};
 pub use writing::line_text;

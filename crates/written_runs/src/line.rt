@@ -27,7 +27,8 @@ pub struct Line {
 
 // The command of a line, and what stands behind ` => `. No command has a `=`.
 fn parted(line: &[u8]) -> Option<(&[u8], &[u8])>
-    ensures { MatchOption result ((text answer : List ℕ) → IsParted line.now text answer → ⊥) (λ parts. IsParted line.now parts.0.now parts.1.now) }
+    ensures { MatchOption result ((text answer : List ℕ) → IsParted line.now text answer → ⊥)
+        (λ parts. IsParted line.now parts.0.now parts.1.now) }
 {
     let (front, rest) = cut(line, b'=');
     let Some(answer) = past(rest, "=> ") else {
@@ -44,7 +45,8 @@ fn parted(line: &[u8]) -> Option<(&[u8], &[u8])>
 
 /// Reads a line, and gives `None` exactly if it is written of nothing.
 pub fn read_line(alloc: Global, line: &[u8]) -> Result<Option<Line>, AllocError>
-    ensures { IfOk result (λ found. MatchOption found (IsUnwritten line.now) (λ l. IsLineWith line.now l.event l.reply (behind_text l.behind) × HasWords l.behind)) }
+    ensures { IfOk result (λ found. MatchOption found (IsUnwritten line.now)
+        (λ l. IsLineWith line.now l.event l.reply (behind_text l.behind) × HasWords l.behind)) }
 {
     let Some((text, answer)) = parted(line) else {
         return Ok(None);

@@ -15,7 +15,8 @@ use words::{Refusal, Slot};
 
 /// The number that stands behind a space at the front of a text, and what is left of the text.
 pub fn number_at(text: &[u8]) -> Option<(u64, &[u8])>
-    ensures { MatchOption result ((n : ℕ) (rest : List ℕ) → IsNumberAt text.now n rest → ⊥) (λ found. IsNumberAt text.now found.0 found.1.now) }
+    ensures { MatchOption result ((n : ℕ) (rest : List ℕ) → IsNumberAt text.now n rest → ⊥)
+        (λ found. IsNumberAt text.now found.0 found.1.now) }
 {
     let Some(text) = past(text, " ") else {
         return None;
@@ -31,24 +32,19 @@ pub fn number_at(text: &[u8]) -> Option<(u64, &[u8])>
 fn answers_word(event: &Event) -> bool
     ensures { result ≡ answers_word event.now }
 {
-    match event {
-        Event::Mutator(_, Call::Size(_)) => false,
-        Event::Mutator(_, _) => true,
-        Event::Attach
-        | Event::Begin
-        | Event::Roots
-        | Event::Mark(_)
-        | Event::Retrace
-        | Event::Finish
-        | Event::Sweep
-        | Event::Collect
-        | Event::Number => false,
-    }
+    let Event::Mutator(_, call) = event else {
+        return false;
+    };
+    let Call::Size(_) = call else {
+        return true;
+    };
+    false
 }
 
 // The refusal with this code.
 fn refusal_with(code: u64) -> Option<Refusal>
-    ensures { MatchOption result ((refusal : RefusalValue) → code_of refusal ≡ code → ⊥) (λ refusal. code_of refusal ≡ code) }
+    ensures { MatchOption result ((refusal : RefusalValue) → code_of refusal ≡ code → ⊥)
+        (λ refusal. code_of refusal ≡ code) }
 {
     match code {
         1 => Some(Refusal::NoSlot),
@@ -66,7 +62,8 @@ fn refusal_with(code: u64) -> Option<Refusal>
 
 // The slot whose number stands behind a space, and what is left of the text.
 fn slot_at(text: &[u8]) -> Option<(Slot, &[u8])>
-    ensures { MatchOption result ((slot : ℕ) (rest : List ℕ) → slot < SLOTS → IsNumberAt text.now slot rest → ⊥) (λ found. IsNumberAt text.now found.0 found.1.now × (found.0 < SLOTS)) }
+    ensures { MatchOption result ((slot : ℕ) (rest : List ℕ) → slot < SLOTS → IsNumberAt text.now slot rest → ⊥)
+        (λ found. IsNumberAt text.now found.0 found.1.now × (found.0 < SLOTS)) }
 {
     let Some((n, rest)) = number_at(text) else {
         return None;
@@ -82,7 +79,8 @@ fn slot_at(text: &[u8]) -> Option<(Slot, &[u8])>
 
 // The refusal whose code and name stand each behind a space, and what is left of the text.
 fn refusal_at(text: &[u8]) -> Option<(Refusal, &[u8])>
-    ensures { MatchOption result ((refusal : RefusalValue) (rest : List ℕ) → IsRefusalAt text.now refusal rest → ⊥) (λ found. IsRefusalAt text.now found.0 found.1.now) }
+    ensures { MatchOption result ((refusal : RefusalValue) (rest : List ℕ) → IsRefusalAt text.now refusal rest → ⊥)
+        (λ found. IsRefusalAt text.now found.0 found.1.now) }
 {
     let Some((code, text)) = number_at(text) else {
         return None;
@@ -102,7 +100,8 @@ fn refusal_at(text: &[u8]) -> Option<(Refusal, &[u8])>
 
 /// The reply to an event that a text begins with, and what is left of the text.
 pub fn reply_at<'a>(event: &Event, text: &'a [u8]) -> Option<(Reply, &'a [u8])>
-    ensures { MatchOption result ((other : EventValue) (reply : ReplyValue) (rest : List ℕ) → IsReplyAt other text.now reply rest → ⊥)
+    ensures { MatchOption result ((other : EventValue) (reply : ReplyValue) (rest : List ℕ)
+        → IsReplyAt other text.now reply rest → ⊥)
         (λ found. IsReplyAt event.now text.now found.0 found.1.now) }
 {
     let (word, rest) = cut(text, b' ');

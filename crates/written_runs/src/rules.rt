@@ -1,29 +1,116 @@
 //! What a line that isn't legal breaks, in words.
+ghost use Rattle.std.specs.Prelude.{◌≡◌};
+ghost use Rattle.written_runs.specs.Rules.{call_rule, alloc_rule, collection_rule, rule_of};
 
 use heap_spec::{Call, Event, Reply};
 use replayer::Hint;
 
-fn of_alloc(reply: &Reply, hint: Hint) -> &'static str {
-    match (reply, hint) {
-        (Reply::Done, Hint::Place(_)) => {
-            "no object of this size and kind may be placed there, or the slot has no mutator"
+/// A rule of runs, by the kind of the line that breaks it.
+#[derive(Clone, Copy, Debug, PartialEq, Eq)]
+pub enum Rule {
+    /// A mutator comes.
+    Attach,
+
+    /// A request was granted at a place.
+    GivenPlace,
+
+    /// A request was granted, and no place is given.
+    NoPlace,
+
+    /// A request wasn't granted.
+    Refusal,
+
+    /// A word is loaded.
+    Load,
+
+    /// A word is stored.
+    Store,
+
+    /// An object is freed.
+    Free,
+
+    /// The base of an object is asked for.
+    Base,
+
+    /// The size of an object is asked for.
+    Size,
+
+    /// A register, a stack or a global is read or written, or a mutator goes.
+    Roots,
+
+    /// A cycle begins.
+    Begin,
+
+    /// A small step of a cycle.
+    SmallStep,
+
+    /// A collection, and what it forgot.
+    Forgotten,
+
+    /// A collection, and nothing of what it forgot.
+    NoBases,
+
+    /// A page is swept.
+    Sweep,
+
+    /// Collections are counted.
+    Number,
+}
+
+impl Rule {
+    /// The rule, in words.
+    pub fn text(self) -> &'static str {
+        match self {
+            Rule::Attach => "a mutator gets the lowest free slot, and is refused if there is none",
+            Rule::GivenPlace =>
+                "no object of this size and kind may be placed there, or the slot has no mutator",
+            Rule::NoPlace => "a granted request needs the place of its object",
+            Rule::Refusal =>
+                "a request is refused exactly for its slot, its size, or if no place has room",
+            Rule::Load => "a load answers the word that was stored last, or why there is none",
+            Rule::Store => "a store is refused exactly if its address is no word of an object",
+            Rule::Free => "only the base of an object can be freed",
+            Rule::Base => "the base is that of the object that the word points into",
+            Rule::Size => "the size is that of the object that the word points into",
+            Rule::Roots => "registers, stacks and globals have what was put there last",
+            Rule::Begin => "a cycle begins exactly while none is marking",
+            Rule::SmallStep => {
+                "the small steps of a cycle are granted exactly while one is marking, and answer within their range"
+            }
+            Rule::Forgotten => {
+                "what is forgotten are so many distinct objects that nothing reaches, by their bases, and a full collection forgets all of them"
+            }
+            Rule::NoBases => {
+                "a collection needs the bases of what it forgot, or the phase forbids it"
+            }
+            Rule::Sweep => "a sweep answers 0 or 1",
+            Rule::Number => "the number is that of the collections so far",
         }
-        (Reply::Done, Hint::Nothing | Hint::Forgot(_)) => {
-            "a granted request needs the place of its object"
-        }
-        (Reply::Slot(_) | Reply::Word(_) | Reply::Count(_) | Reply::Refused(_), _) =>
-            "a request is refused exactly for its slot, its size, or if no place has room",
     }
 }
 
-fn of_call(call: &Call, reply: &Reply, hint: Hint) -> &'static str {
+fn of_alloc(reply: &Reply, hint: Hint) -> Rule
+    ensures { result ≡ alloc_rule reply.now hint.entry }
+{
+    let Reply::Done = reply else {
+        return Rule::Refusal;
+    };
+    let Hint::Place(_) = hint else {
+        return Rule::NoPlace;
+    };
+    Rule::GivenPlace
+}
+
+fn of_call(call: &Call, reply: &Reply, hint: Hint) -> Rule
+    ensures { result ≡ call_rule call.now reply.now hint.entry }
+{
     match call {
         Call::Alloc(_, _, _) => of_alloc(reply, hint),
-        Call::Load(_, _, _) => "a load answers the word that was stored last, or why there is none",
-        Call::Store(_, _, _) => "a store is refused exactly if its address is no word of an object",
-        Call::Free(_) => "only the base of an object can be freed",
-        Call::Base(_, _) => "the base is that of the object that the word points into",
-        Call::Size(_) => "the size is that of the object that the word points into",
+        Call::Load(_, _, _) => Rule::Load,
+        Call::Store(_, _, _) => Rule::Store,
+        Call::Free(_) => Rule::Free,
+        Call::Base(_, _) => Rule::Base,
+        Call::Size(_) => Rule::Size,
         Call::Detach
         | Call::Set(_, _)
         | Call::Copy(_, _)
@@ -33,31 +120,30 @@ fn of_call(call: &Call, reply: &Reply, hint: Hint) -> &'static str {
         | Call::Push(_)
         | Call::Pop(_)
         | Call::GlobalGet(_, _)
-        | Call::GlobalPut(_, _) => "registers, stacks and globals have what was put there last",
+        | Call::GlobalPut(_, _) => Rule::Roots,
     }
 }
 
-fn of_collection(hint: Hint) -> &'static str {
-    match hint {
-        Hint::Forgot(_) => {
-            "what is forgotten are so many distinct objects that nothing reaches, by their bases, and a full collection forgets all of them"
-        }
-        Hint::Nothing | Hint::Place(_) =>
-            "a collection needs the bases of what it forgot, or the phase forbids it",
-    }
+fn of_collection(hint: Hint) -> Rule
+    ensures { result ≡ collection_rule hint.entry }
+{
+    let Hint::Forgot(_) = hint else {
+        return Rule::NoBases;
+    };
+    Rule::Forgotten
 }
 
 /// The rule that a line breaks which the checker has said no to.
-pub fn rule_of(event: &Event, reply: &Reply, hint: Hint) -> &'static str {
+pub fn rule_of(event: &Event, reply: &Reply, hint: Hint) -> Rule
+    ensures { result ≡ rule_of event.now reply.now hint.entry }
+{
     match event {
-        Event::Attach => "a mutator gets the lowest free slot, and is refused if there is none",
+        Event::Attach => Rule::Attach,
         Event::Mutator(_, call) => of_call(call, reply, hint),
-        Event::Begin => "a cycle begins exactly while none is marking",
-        Event::Roots | Event::Mark(_) | Event::Retrace => {
-            "the small steps of a cycle are granted exactly while one is marking, and answer within their range"
-        }
+        Event::Begin => Rule::Begin,
+        Event::Roots | Event::Mark(_) | Event::Retrace => Rule::SmallStep,
         Event::Finish | Event::Collect => of_collection(hint),
-        Event::Sweep => "a sweep answers 0 or 1",
-        Event::Number => "the number is that of the collections so far",
+        Event::Sweep => Rule::Sweep,
+        Event::Number => Rule::Number,
     }
 }

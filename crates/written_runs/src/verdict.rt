@@ -6,7 +6,7 @@ ghost use Rattle.written_runs.specs.Judging.{IsJudged, IsFound};
 
 use crate::cut::cut;
 use crate::line::read_line;
-use crate::rules::rule_of;
+use crate::rules::{Rule, rule_of};
 use faults::RunError;
 use replayer::Replayer;
 use std::alloc::{AllocError, Global};
@@ -21,7 +21,7 @@ pub enum Verdict {
     Bad(u64),
 
     /// The line of this number, from 1, is the first that isn't legal, and breaks this rule.
-    Breaks(u64, &'static str),
+    Breaks(u64, Rule),
 }
 
 // What is wrong with the next line, if anything is.

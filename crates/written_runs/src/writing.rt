@@ -60,8 +60,10 @@ pub fn line_text(
     reply: &Reply,
     hint: Hint,
 ) -> Result<String, AllocError>
-    ensures { IfOk result (λ line. (event : Event) → IsLineOf command.now event → IsAnswer event reply.now → NamesWords hint.entry
-        → IsWritten (string_bytes line) event reply.now hint.entry) }
+    ensures text { IfOk result (λ line. string_bytes line
+        ≡ command.now ++ (codes " => " ++ (answer_of reply.now ++ hint_text hint.entry))) }
+    ensures written { IfOk result (λ line. (event : Event) → IsLineOf command.now event → IsAnswer event reply.now
+        → NamesWords hint.entry → IsWritten (string_bytes line) event reply.now hint.entry) }
 {
     let answer = reply_text(alloc, reply)?;
     let mut line = format!(in alloc; "{command} => {answer}")?;

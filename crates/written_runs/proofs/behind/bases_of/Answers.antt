@@ -1,6 +1,6 @@
 use Rattle.std.proofs.Common.{arith}
 use Rattle.std.proofs.lemmas.Bool.Decides.{nat_tests}
-use Rattle.written_runs.proofs.Parts.{shorter}
+use Rattle.written_runs.proofs.Digits.{shorter}
 use Rattle.written_runs.proofs.Hints.{read_none, no_number, read_more, read_all}
 use Rattle.written_runs.proofs.behind.bases_of.Goals as goal
 

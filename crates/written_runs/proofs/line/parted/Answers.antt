@@ -1,5 +1,5 @@
 use Rattle.std.proofs.Common.{ℕ, ◌∙◌, ap, ◌∷◌, ◌++◌, []}
-use Rattle.written_runs.proofs.Parts.{parted_cut, parted_here, no_space}
+use Rattle.written_runs.proofs.Parting.{parted_cut, parted_here, no_space}
 use Rattle.written_runs.proofs.line.parted.Goals as goal
 
 pub returns-in_default : goal.returns-in_default

@@ -1,4 +1,4 @@
-use Rattle.written_runs.proofs.Parts.{no_number_here}
+use Rattle.written_runs.proofs.Digits.{no_number_here}
 use Rattle.written_runs.proofs.reply.number_at.Goals as goal
 
 pub returns-in_default-number : goal.returns-in_default-number

@@ -1,6 +1,6 @@
 use Rattle.std.proofs.Common.{ℕ, ◌∙◌, sym, subst}
 use Rattle.written_runs.specs.Reading.{IsNumberAt}
-use Rattle.written_runs.proofs.Parts.{no_refusal, no_name, other_name}
+use Rattle.written_runs.proofs.Refusals.{no_refusal, no_name, other_name}
 use Rattle.written_runs.proofs.reply.refusal_at.Goals as goal
 
 pub returns-in_default-refusal_with : goal.returns-in_default-refusal_with

@@ -1,4 +1,4 @@
-use Rattle.written_runs.proofs.Parts.{no_reply, no_slot_reply, no_refused_reply}
+use Rattle.written_runs.proofs.Replies.{no_reply, no_slot_reply, no_refused_reply}
 use Rattle.written_runs.proofs.reply.reply_at.Goals as goal
 
 pub returns-in_default : goal.returns-in_default

@@ -1,5 +1,5 @@
 use Rattle.std.proofs.Common.{arith}
-use Rattle.written_runs.proofs.Parts.{no_slot}
+use Rattle.written_runs.proofs.Digits.{no_slot}
 use Rattle.written_runs.proofs.reply.slot_at.Goals as goal
 
 pub returns-then-n-from : goal.returns-then-n-from

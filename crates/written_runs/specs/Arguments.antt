@@ -1,0 +1,15 @@
+-- The words that the programs on written runs are given.
+use Rattle.std.specs.Prelude.{◌≡◌, ℕ, ◌≤◌, List, [], ◌∷◌, codes, decimal}
+use Rattle.words.specs.declared.limits.TheConstants.{MAX_PAGES}
+
+-- A text is a number of pages that a heap may have.
+pub record IsPageCount (text : List ℕ) (pages : ℕ) : Type 0 where
+  pub text_is : text ≡ decimal pages
+  pub some : 1 ≤ pages
+  pub few : pages ≤ MAX_PAGES
+
+-- The words are `--pages`, a number of pages, and a file.
+pub record AreGiven (words : List (List ℕ)) (pages : ℕ) (file : List ℕ) : Type 0 where
+  pub count : List ℕ
+  pub words_are : words ≡ codes "--pages" ∷ count ∷ file ∷ []
+  pub pages_are : IsPageCount count pages
