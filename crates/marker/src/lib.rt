@@ -36,6 +36,7 @@
 
 mod count;
 mod entry;
+mod inside;
 mod marker;
 mod mutators;
 mod retrace;

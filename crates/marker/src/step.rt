@@ -1,6 +1,7 @@
 //! Steps of marking: words of entries are read, at most so many a call.
 ghost use Rattle.std.specs.Prelude.{◌≡◌, ◌+◌, ◌*◌, ◌<◌, ◌≤◌, ◌↔◌, [], true, false, length, MatchOption, IfSome, Some};
 ghost use Rattle.words.specs.declared.limits.TheConstants.{MAX_PAGES, PAGE_BYTES, PAGE_WORDS};
+ghost use Rattle.block_map.specs.declared.found.Found.{Found};
 ghost use Rattle.block_map.specs.Objects.{IsPlaced};
 ghost use Rattle.block_map.specs.FoundIn.{found_in, IsLawful};
 ghost use Rattle.marker.specs.declared.entry.Entry.{Entry};
@@ -21,7 +22,7 @@ pub struct Marked {
     /// The words that were read.
     pub read: u64,
 
-    /// No entry is left.
+    /// No entry is left. Where one is, the entry that is being read has a word left.
     pub empty: bool,
 }
 
@@ -34,6 +35,7 @@ impl Marker {
         ensures traces { Traces (found_in map.now) reader.old.words [] self.old self.new }
         ensures read { result.read ≤ budget }
         ensures empty { (result.empty ≡ true) ↔ IsEmpty self.new }
+        ensures live { result.empty ≡ false → (f : Found) × IsLive (found_in map.now) self.new f }
         ensures fewer { result.read < budget → IsEmpty self.new }
         ensures taken { TakesOff (found_in map.now) reader.old.words self.old self.new }
         ensures dirty { StaysDirty self.old self.new }

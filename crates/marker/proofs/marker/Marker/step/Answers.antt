@@ -1,4 +1,5 @@
-use Rattle.std.proofs.Common.{◌+◌, ◌≤◌, ◌∙◌, ℕ, List, [], length, refl, subst, arith}
+use Rattle.std.proofs.Common.{◌+◌, ◌≤◌, ◌∙◌, ℕ, List, [], length, refl, sym, subst, arith}
+use Rattle.std.proofs.lemmas.Bool.{false≢true}
 use Rattle.block_map.specs.FoundIn.{found_in}
 use Rattle.marker.specs.Marking.{Marking, StaysDirty}
 use Rattle.marker.specs.Work.{cost}
@@ -67,6 +68,12 @@ returns-then-read-budget-clause-dirty c = dirty (goal.at.returns-then-read-budge
 
 pub returns-clause-dirty : goal.returns-clause-dirty
 returns-clause-dirty c = dirty (goal.at.returns-clause-dirty c).After-settle
+
+pub returns-then-read-budget-clause-live : goal.returns-then-read-budget-clause-live
+returns-then-read-budget-clause-live c = λ e. (c.in-Some.found, c.in-Some.ensures.live)
+
+pub returns-clause-live : goal.returns-clause-live
+returns-clause-live c = λ e. absurd (false≢true (sym e))
 
 less : (c : After-settle) → cost (found_in c.args.map.now) c.settle.new.self + c.loop-found.read ≤ cost (found_in c.args.map.now) c.args.self.now
 less c =
