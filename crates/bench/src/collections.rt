@@ -48,6 +48,18 @@ fn time_collect<R: Eprint + Clock>(rt: &R, name: &str, user: &mut User) -> io::R
     report(rt, name, least, OBJECTS as u64, 0)
 }
 
+// So many stores, into objects that stand seven apart.
+fn link_some(user: &mut User, bases: &[u64], stores: u64) {
+    for number in 0..stores {
+        let place = number.wrapping_mul(7);
+        user.link(
+            base_of(bases, place),
+            0,
+            base_of(bases, place.wrapping_add(1)),
+        );
+    }
+}
+
 // The pause alone, with so many stores since all was marked, the fastest of some.
 fn time_finish<R: Eprint + Clock>(
     rt: &R,
@@ -59,14 +71,7 @@ fn time_finish<R: Eprint + Clock>(
     let mut least = u128::MAX;
     for _ in 0..ROUNDS {
         user.mark_all();
-        for number in 0..stores {
-            let base = base_of(bases, number.wrapping_mul(7));
-            user.link(
-                base,
-                0,
-                base_of(bases, number.wrapping_mul(7).wrapping_add(1)),
-            );
-        }
+        link_some(user, bases, stores);
         user.keep(base_of(bases, 0));
         let start = Instant::now(rt)?;
         let _gone = user.finish();

@@ -135,7 +135,19 @@ fn least_cost<J: Naming + Send + Sync, R: Threads + Wait + Sync + Clock>(
     Ok(least)
 }
 
-// As two lines.
+// Stores and loads, a line each.
+fn report_both<R: Eprint>(
+    rt: &R,
+    store: &str,
+    load: &str,
+    least: (u128, u128),
+    calls: u64,
+) -> io::Result<()> {
+    report(rt, store, least.0, calls, 0)?;
+    report(rt, load, least.1, calls, 0)
+}
+
+// The least cost of both.
 fn time_crew<J: Naming + Send + Sync, R: Threads + Wait + Sync + Eprint + Clock>(
     rt: &R,
     crew: &mut [Caller<J, R>],
@@ -143,9 +155,8 @@ fn time_crew<J: Naming + Send + Sync, R: Threads + Wait + Sync + Eprint + Clock>
     load: &str,
     calls: u64,
 ) -> io::Result<()> {
-    let (stores, loads) = least_cost(rt, crew)?;
-    report(rt, store, stores, calls, 0)?;
-    report(rt, load, loads, calls, 0)
+    let least = least_cost(rt, crew)?;
+    report_both(rt, store, load, least, calls)
 }
 
 // Four mutators, or fewer where no more may come.

@@ -5,6 +5,8 @@
 #[cfg(test)]
 mod attached;
 #[cfg(test)]
+mod cycles;
+#[cfg(test)]
 mod helped;
 #[cfg(test)]
 mod register;

@@ -3,11 +3,11 @@
 ghost use Rattle.std.specs.Prelude.{◌≡◌};
 
 use crate::attached::{Attached, attach};
+use crate::cycles::{CALLS_A_CYCLE, Cycles, cycle};
 use crate::serve::reg;
 use arrayvec::ArrayVec;
 use each_law::{Law, run_each_beside};
 use heap_core::Core;
-use heap_core::quiet::{Mark, Retrace, Roots, Sweep};
 use heap_spec::{Call, Reply};
 use history::{Naming, Opened};
 use shared::{Collector, SharedHeap, open};
@@ -25,13 +25,10 @@ const MUTATORS: usize = 16;
 const PAGES: u32 = 8;
 
 /// Each actor makes at least so many calls.
-const CALLS: u64 = 100_000;
+pub(crate) const CALLS: u64 = 100_000;
 
 /// The most turns of a mutator: one in five may make no call, where the heap has no room and the list is empty.
 const TURNS: u64 = 2 * CALLS;
-
-/// The calls of a cycle.
-const CALLS_A_CYCLE: u64 = 8;
 
 /// The longest list that a mutator keeps.
 const LONGEST: usize = 24;
@@ -47,15 +44,6 @@ struct Player<'a, J: Naming, R: Wait> {
     kept: ArrayVec<u64, LONGEST>,
     read_back: u64,
     lost: u64,
-}
-
-/// The collector with its heap.
-#[derive(Drop)]
-struct Cycles<'a, J: Naming, R: Wait> {
-    rt: &'a R,
-    heap: &'a SharedHeap<J>,
-    collector: Collector<J>,
-    ended: u64,
 }
 
 // What becomes of players is looked at by the test.
@@ -119,34 +107,6 @@ fn play<'a, J: Naming, R: Wait>(player: Player<'a, J, R>) -> Player<'a, J, R> {
     player
 }
 
-fn begin<J: Naming>(rt: &impl Wait, heap: &SharedHeap<J>, collector: &mut Collector<J>) {
-    let _begun = heap.begin(rt, collector);
-    let _roots = heap.quiet(rt, collector, &mut Roots);
-}
-
-fn mark<J: Naming>(rt: &impl Wait, heap: &SharedHeap<J>, collector: &mut Collector<J>) {
-    let _some = heap.quiet(rt, collector, &mut Mark(16));
-    let _page = heap.quiet(rt, collector, &mut Retrace);
-    let _more = heap.quiet(rt, collector, &mut Mark(64));
-}
-
-// Answers the cycles that ended.
-fn end<J: Naming>(rt: &impl Wait, heap: &SharedHeap<J>, collector: &mut Collector<J>) -> u64 {
-    let _count = heap.finish(rt, collector);
-    let _swept = heap.quiet(rt, collector, &mut Sweep);
-    heap.gc_no_of(collector)
-}
-
-fn cycle<'a, J: Naming, R: Wait>(cycles: Cycles<'a, J, R>) -> Cycles<'a, J, R> {
-    let mut cycles = cycles;
-    for _ in 0..CALLS / CALLS_A_CYCLE {
-        begin(cycles.rt, cycles.heap, &mut cycles.collector);
-        mark(cycles.rt, cycles.heap, &mut cycles.collector);
-        cycles.ended = end(cycles.rt, cycles.heap, &mut cycles.collector);
-    }
-    cycles
-}
-
 /// What the test looks at: calls of the mutator that made fewest, words that were read back, words that were lost, and
 /// cycles that ended.
 #[derive(Clone, Copy)]
@@ -183,6 +143,15 @@ fn come<'a, J: Naming, R: Wait + Abort>(
     Ok(players)
 }
 
+impl Found {
+    // What one more mutator found.
+    fn add(&mut self, calls: u64, read_back: u64, lost: u64) {
+        self.calls = self.calls.min(calls);
+        self.read_back = self.read_back.wrapping_add(read_back);
+        self.lost = self.lost.wrapping_add(lost);
+    }
+}
+
 // What the players and the collector found.
 fn sum_up<J: Naming, R: Wait>(players: &[Player<'_, J, R>], ended: u64) -> Found {
     let mut found = Found {
@@ -192,11 +161,23 @@ fn sum_up<J: Naming, R: Wait>(players: &[Player<'_, J, R>], ended: u64) -> Found
         ended,
     };
     for player in players {
-        found.calls = found.calls.min(player.calls);
-        found.read_back = found.read_back.wrapping_add(player.read_back);
-        found.lost = found.lost.wrapping_add(player.lost);
+        found.add(player.calls, player.read_back, player.lost);
     }
     found
+}
+
+fn play_beside<'a, J: Naming + Send + Sync, R: Threads + Wait + Sync>(
+    rt: &R,
+    alloc: Global,
+    players: Vec<Player<'a, J, R>>,
+    cycles: Cycles<'a, J, R>,
+) -> Result<Found, AllocError> {
+    let work = |player| { play(player) };
+    let collect = |cycles| { cycle(cycles) };
+    let (players, cycles) = run_each_beside::<_, _, Plays, _, _, Plays, _>(
+        rt, alloc, &Plays, &work, players, &Plays, &collect, cycles,
+    )?;
+    Ok(sum_up(players.as_slice(), cycles.ended))
 }
 
 fn play_all<J: Naming + Send + Sync, R: Threads + Wait + Abort + Sync>(
@@ -212,12 +193,7 @@ fn play_all<J: Naming + Send + Sync, R: Threads + Wait + Abort + Sync>(
         collector,
         ended: 0,
     };
-    let work = |player| { play(player) };
-    let collect = |cycles| { cycle(cycles) };
-    let (players, cycles) = run_each_beside::<_, _, Plays, _, _, Plays, _>(
-        rt, alloc, &Plays, &work, players, &Plays, &collect, cycles,
-    )?;
-    Ok(sum_up(players.as_slice(), cycles.ended))
+    play_beside(rt, alloc, players, cycles)
 }
 
 fn sixteen_mutators<J: Naming + Send + Sync, R: Threads + Wait + Abort + Sync>(
