@@ -30,6 +30,31 @@ fn written(
     Ok(Some(text))
 }
 
+// Prints the lines that are written of a script's commands, and answers the program's status.
+fn print_run(rt: &HostRuntime, recorder: &mut Recorder, script: &str) -> u8 {
+    for line in script.lines() {
+        let Ok(Some(text)) = written(rt.alloc(), recorder, line) else {
+            return 2;
+        };
+        let Ok(()) = println!(rt; "{text}") else {
+            return 1;
+        };
+    }
+    0
+}
+
+// Runs the script of a file on a new heap, and answers the program's status.
+fn record(rt: &HostRuntime, pages: u32, file: &str) -> u8 {
+    let Ok(script) = fs::read_to_string(rt, file) else {
+        return 1;
+    };
+    let Ok(core) = Core::new(rt.alloc(), pages) else {
+        return 2;
+    };
+    let mut recorder = Recorder::new(rt.alloc(), core);
+    print_run(rt, &mut recorder, script.as_str())
+}
+
 fn main(rt: HostRuntime) -> ExitCode {
     let Ok(words) = env::args(&rt) else {
         return ExitCode::from(2);
@@ -40,20 +65,5 @@ fn main(rt: HostRuntime) -> ExitCode {
     let Some((pages, file)) = words_given(words.as_slice()) else {
         return ExitCode::from(2);
     };
-    let Ok(text) = fs::read_to_string(&rt, file) else {
-        return ExitCode::from(1);
-    };
-    let Ok(core) = Core::new(rt.alloc(), pages) else {
-        return ExitCode::from(2);
-    };
-    let mut recorder = Recorder::new(rt.alloc(), core);
-    for line in text.lines() {
-        let Ok(Some(text)) = written(rt.alloc(), &mut recorder, line) else {
-            return ExitCode::from(2);
-        };
-        let Ok(()) = println!(rt; "{text}") else {
-            return ExitCode::from(1);
-        };
-    }
-    ExitCode::from(0)
+    ExitCode::from(record(&rt, pages, file))
 }
