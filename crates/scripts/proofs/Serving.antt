@@ -5,8 +5,6 @@ use Rattle.std.specs.List.{AllZip}
 use Rattle.std.specs.Io.KnownBytes.{Consumes, Appends, IsAtEnd}
 use Rattle.std.proofs.lemmas.List.{map_push, append-nil}
 use Rattle.std.proofs.lemmas.List.Elements.{All-push, All-nil}
-use Rattle.heap_spec.specs.declared.event.Event.{Event}
-use Rattle.heap_spec.specs.declared.reply.Reply.{Reply}
 use Rattle.heap_spec.specs.Heap.{opening}
 use Rattle.heap_spec.specs.Runs.{Start, Told, Run, Touched, fresh}
 use Rattle.heap_spec.specs.Transcripts.{LegalTranscript, LineOf, ends, on}
@@ -26,7 +24,7 @@ use Rattle.scripts.specs.Answers.{Answers, BeginsAnswer, IsAnswered, Serves}
 use Rattle.scripts.specs.Turns.{IsRun, IsTurn, HasRun, IsUpTo, text_of}
 use Rattle.scripts.proofs.Bytes.{Appends-none, Appends-more, Consumes-none, Consumes-more}
 use Rattle.scripts.proofs.Inputs.{zip_push, length-push, known, at_end, no_buffer, no_left, more_lines, last_line, all_short}
-use Rattle.scripts.proofs.Texts.{lines_of-text, lines_of-line, lines_of-last, first_line, whole_lines_of-text, take-front, at-front, text_of-push}
+use Rattle.scripts.proofs.Texts.{lines_of-text, lines_of-last, first_line, whole_lines_of-text, take-front, at-front, text_of-push}
 
 -- one line more of a transcript
 legal_on : (start : Start) {run mid last : Run} {lines : List Told} (told : Told) → LegalTranscript Touched start run lines mid → LineOf Touched start mid told.event told.reply last → LegalTranscript Touched start run (lines ++ told ∷ []) last

@@ -21,6 +21,6 @@ IsLineRead Line line old new = Consumes old new (line ++ newline ∷ [])
 -- the last line, which lacks its newline
 IsLineRead Last line old new = Consumes old new line × IsAtEnd new × (0 < length line)
 -- no line
-IsLineRead End line old new = Consumes old new [] × IsAtEnd new
+IsLineRead End line old new = Consumes old new [] × IsAtEnd new × (line ≡ [])
 -- the front of a line that is too long
 IsLineRead TooLong line old new = (byte : ℕ) × Consumes old new (line ++ byte ∷ []) × (byte ≢ newline) × (length line ≡ LINE_BYTES)

@@ -1,5 +1,5 @@
 //! Single words, and numbers among them.
-ghost use Rattle.std.specs.Prelude.{◌≡◌, ℕ, ◌<◌, ◌^◌, MatchOption, MatchBool, decimal};
+ghost use Rattle.std.specs.Prelude.{◌≡◌, ℕ, ◌<◌, MatchOption, MatchBool, decimal};
 ghost use Rattle.heap_spec.specs.Layout.{word_end};
 
 use itoa::Buffer;

@@ -85,13 +85,14 @@ pub fn run_script<R: Source, W: Sink>(
     run_lines(&mut core, &mut buffer, reader, writer, pages)
 }
 
-/// Runs a script that is at hand as bytes, and gives the bytes of its replies beside the answer.
+/// Runs a script that is at hand as bytes, and gives the bytes of its replies beside the answer. No read fails.
 pub fn run_bytes(alloc: Global, script: &[u8], pages: u32) -> (Vec<u8>, Result<(), ScriptError>)
     requires some { 1 ≤ pages }
     requires most { pages ≤ MAX_PAGES }
-    ensures { (left : List ℕ) × Serves pages script.now [] (Some left) (Some result.0.items) result.1 }
+    ensures serves { (left : List ℕ) × Serves pages script.now [] (Some left) (Some result.0.items) result.1 }
+    ensures no_read_fault { read_faults result.1 ≡ 0 }
 {
-    let mut reader = Std::new(script);
+    let mut reader = script;
     let mut writer = Std::new(Vec::<u8>::new(alloc));
     let answer = run_script(alloc, &mut reader, &mut writer, pages);
     (writer.inner, answer)

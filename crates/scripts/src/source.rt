@@ -3,6 +3,8 @@
 ghost use Rattle.std.specs.Prelude.{◌≡◌, ℕ, ◌+◌, ◌<◌, ◌≤◌, Option, List, length, take, IfOk, OnOk, OnErr};
 ghost use Rattle.std.specs.Io.KnownBytes.{ReadConsumes, WriteAppends, Appends};
 
+use std::io::Read;
+
 /// A read or a write failed.
 #[derive(Clone, Copy, Debug, PartialEq, Eq)]
 pub struct Failed;
@@ -38,6 +40,22 @@ pub trait Sink {
         ensures ok { IfOk result (λ n. 0 < n → faults self.new ≡ faults self.old) }
         ensures none { result ≡ Ok 0 → 0 < length bytes.now → faults self.new ≡ faults self.old + 1 }
         ensures fault { OnErr result (faults self.new ≡ faults self.old + 1) };
+}
+
+/// Bytes at hand are given from their front on, and no call fails.
+impl Source for &[u8] {
+    ghost use Rattle.std.specs.Prelude.{Some};
+
+    ghost remaining = { λ bytes. Some bytes.now };
+
+    ghost faults = { λ bytes. 0 };
+
+    fn read(&mut self, buf: &mut [u8]) -> Result<usize, Failed> {
+        match Read::read(self, buf) {
+            Ok(n) => Ok(n),
+            Err(_) => unreachable!(),
+        }
+    }
 }
 
 /// Writes all of the bytes, and stops at the first fault: nothing is tried again.
