@@ -1,14 +1,8 @@
 //! The program: scripts are run over a heap in one thread, workloads on threads, and random ones are written.
 #![tactic(auto)]
 
-mod arguments;
-mod fault;
-mod program;
-#[cfg(test)]
-mod tests;
-
-use crate::fault::Fault;
-use crate::program::program;
+use command_line::program;
+use commands::{Fault, end};
 use scripts::Std;
 use std::process::ExitCode;
 use std::{env, io};
@@ -23,13 +17,11 @@ fn main(rt: HostRuntime) -> ExitCode {
             } else {
                 Fault::BadCommand
             };
-            fault.tell(&mut errors);
-            return ExitCode::from(fault.status());
+            return ExitCode::from(end(Err(fault), &mut errors));
         }
     };
     let Ok(words) = words.skip(1).collect::<Vec<String>>(rt.alloc()) else {
-        Fault::Memory.tell(&mut errors);
-        return ExitCode::from(Fault::Memory.status());
+        return ExitCode::from(end(Err(Fault::Memory), &mut errors));
     };
     let mut input = Std::new(rt.reader());
     let mut output = Std::new(io::writer(&rt));

@@ -13,9 +13,9 @@ use Rattle.heap_spec.specs.declared.event.Event.TheVariants.{Begin, Roots, Mark,
 use Rattle.heap_spec.specs.declared.reply.Reply.{Reply}
 use Rattle.heap_spec.specs.declared.reply.Reply.TheVariants.{Done, Count, Refused}
 use Rattle.heap_spec.specs.Replies.{done_reply, count_reply}
-use Rattle.heap_spec.specs.Runs.{Run, Touched, fresh, is_marking, count as collections}
+use Rattle.heap_spec.specs.Runs.{Touched, fresh, is_marking, count as collections}
 use Rattle.heap_spec.specs.Transcripts.{LineOf, IsWrongPhase}
-use Rattle.heap_spec.specs.SequentialObject.{HeapState, Opens, StateStep}
+use Rattle.heap_spec.specs.SequentialObject.{HeapState}
 use Rattle.heap_history.specs.Ranks.{rank_of}
 use Rattle.heap_history.specs.Passes.{Entry, HeapPass, is_marking as marks}
 use Rattle.heap_history.specs.Headline.{Extends, Looks, IsGrantedIn}

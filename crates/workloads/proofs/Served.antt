@@ -4,7 +4,7 @@ use Rattle.std.specs.Prelude.{Option, Result, Ok, Err, OnOk, OnErr, take, ⊤}
 use Rattle.std.specs.Io.KnownBytes.{Appends}
 use Rattle.scripts.specs.declared.errors.ScriptError.{ScriptError}
 use Rattle.scripts.specs.declared.errors.ScriptError.TheVariants.{BadLine, Read, Write, Memory}
-use Rattle.scripts.specs.Ends.{read_faults, write_faults}
+use Rattle.scripts.specs.Ends.{read_faults}
 use Rattle.scripts.proofs.Bytes.{Appends-none}
 use Rattle.workloads.specs.Workloads.{ActorLines}
 use Rattle.workloads.specs.Reading.{IsReadAs, Reads}

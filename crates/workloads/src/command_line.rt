@@ -1,5 +1,5 @@
 //! Commands as lines, as the grammar reads them.
-ghost use Rattle.std.specs.Prelude.{◌≡◌, ℕ, ◌≤◌, ◌∷◌, ◌++◌, length, map, decimal};
+ghost use Rattle.std.specs.Prelude.{◌≡◌, ◌≤◌, ◌∷◌, ◌++◌, length, map, decimal};
 ghost use Rattle.std.specs.List.{join_with_byte};
 ghost use Rattle.scripts.specs.Grammar.{call_words, kind_word};
 ghost use Rattle.scripts.specs.declared.limits.TheConstants.{LINE_BYTES};

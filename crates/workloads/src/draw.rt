@@ -1,5 +1,5 @@
 //! What words of a generator draw.
-ghost use Rattle.std.specs.Prelude.{◌≡◌, ℕ, ◌<◌, ◌≤◌, ◌%◌, Some, slice_get};
+ghost use Rattle.std.specs.Prelude.{◌≡◌, ◌<◌, ◌≤◌, ◌%◌, Some, slice_get};
 ghost use Rattle.words.specs.declared.limits.TheConstants.{SLOTS};
 ghost use Rattle.workloads.specs.Draws.{drawn, drawn_calls, drawn_collections};
 

@@ -1,5 +1,5 @@
 //! A workload on threads: each mutator in a thread of its own, and the collector in one more.
-ghost use Rattle.std.specs.Prelude.{◌≡◌, ◌≤◌, ◌<◌, [], All, IfSome, IfOk, length, vec_len, slice_index_or};
+ghost use Rattle.std.specs.Prelude.{◌≡◌, ◌≤◌, ◌<◌, [], All, IfSome, IfOk, length, vec_len};
 ghost use Rattle.std.specs.Vec.{vec_capacity};
 ghost use Rattle.words.specs.declared.limits.TheConstants.{MAX_PAGES, SLOTS};
 ghost use Rattle.workloads.specs.Actors.{IsPlain, CanCall, HasCalled, IsAttached, AreAttached, AreReplies, CanCommand, HasCommanded};
@@ -17,7 +17,7 @@ use final_pause::{Gate, Helpers};
 use heap_core::Core;
 use heap_spec::{Call, Reply};
 use history::{Naming, Opened};
-use shared::{SharedHeap, open};
+use shared::{Collector, SharedHeap, open};
 use std::alloc::{AllocError, Global};
 use std::marker::Brand;
 use std::sync::Wait;
@@ -87,24 +87,23 @@ fn take_replies<'a, J: Naming, R: Wait>(
     }
 }
 
-/// Runs the workload on a heap that has a name. All memory is taken before the first thread starts.
-fn run_named<J: Naming + Send + Sync, R: Threads + Wait + Sync, G: Gate>(
+/// Runs the workload on this heap, of which nobody has seen anything. All memory is taken before the first thread starts.
+fn run_on<J: Naming + Send + Sync, R: Threads + Wait + Sync, G: Gate>(
     rt: &R,
     alloc: Global,
-    opened: Opened<Core>,
+    heap: &SharedHeap<J>,
+    collector: Collector<J>,
     workload: &Workload,
     helpers: Helpers,
     gate: &G,
 ) -> Result<Replies, AllocError>
-    requires table { opened.table ≡ J.table }
-    requires pages { opened.origin ≡ J.origin }
+    requires { collector ≡ record { slot = SLOTS; seen = []; mine = [] } }
     ensures { IfOk result (λ replies. HaveOneHistory J.origin workload.now replies) }
 {
-    let (heap, collector) = SharedHeap::<J>::named(opened);
     let commands = workload.commands();
     let answers = vec![in alloc; Reply::Done; commands.len()]?;
     let mut replies = Vec::with_capacity(alloc, workload.mutators())?;
-    let jobs = attach_all(rt, alloc, &heap, workload)?;
+    let jobs = attach_all(rt, alloc, heap, workload)?;
     let work = |job|
         requires { CanCall job }
         ensures { HasCalled job.entry result }
@@ -112,7 +111,7 @@ fn run_named<J: Naming + Send + Sync, R: Threads + Wait + Sync, G: Gate>(
     let collect = |job|
         requires { CanCommand job }
         ensures { HasCommanded J.origin job.entry result }
-    { run_collector(rt, alloc, &heap, helpers, gate, job) };
+    { run_collector(rt, alloc, heap, helpers, gate, job) };
     let other = CollectorJob {
         collector,
         commands,
@@ -138,6 +137,23 @@ fn run_named<J: Naming + Send + Sync, R: Threads + Wait + Sync, G: Gate>(
     settle(&mut collector, jobs.as_mut_slice());
     take_replies(jobs, &mut replies);
     Ok(Replies::new(replies, Lines::of(answers)))
+}
+
+/// Runs the workload on a heap that has a name.
+fn run_named<J: Naming + Send + Sync, R: Threads + Wait + Sync, G: Gate>(
+    rt: &R,
+    alloc: Global,
+    opened: Opened<Core>,
+    workload: &Workload,
+    helpers: Helpers,
+    gate: &G,
+) -> Result<Replies, AllocError>
+    requires table { opened.table ≡ J.table }
+    requires pages { opened.origin ≡ J.origin }
+    ensures { IfOk result (λ replies. HaveOneHistory J.origin workload.now replies) }
+{
+    let (heap, collector) = SharedHeap::<J>::named(opened);
+    run_on(rt, alloc, &heap, collector, workload, helpers, gate)
 }
 
 /// Runs a workload on a heap of its own of so many pages: each mutator makes its calls in a thread of its own, and the collector gives

@@ -1,4 +1,3 @@
-use Rattle.std.proofs.Common.{rules}
 use Rattle.workloads.specs.OneHistory.{HaveOneHistory}
 use Rattle.workloads.proofs.Served.{no_room, printed}
 use Rattle.workloads.proofs.serving.run_workload.Goals as goal

@@ -1,6 +1,6 @@
 //! Workloads on threads, and random scripts.
 
-use super::{Broken, check};
+use crate::runs::{Broken, check};
 use std::fs;
 use std::process::Abort;
 use std::rt::Files;
@@ -47,30 +47,4 @@ fn workloads_run_on_threads(rt: HostRuntime) -> Result<(), Fail> {
 fn a_random_script_is_written(rt: HostRuntime) {
     let words = ["stress", "--seed", "1", "--mutators", "2", "--steps", "0"];
     check(&rt, &words, &mut Broken::new(), ("attach\nattach\n", "", 0));
-}
-
-/// Words that are of no row of the table, and no file is read.
-#[test]
-fn bad_commands(rt: HostRuntime) {
-    let commands: [&[&str]; 8] = [
-        &["threads"],
-        &["threads", "--pages", "4"],
-        &["threads", "file"],
-        &["threads", "--pages", "0", "file"],
-        &["threads", "--pages", "4", "--helpers", "0", "file"],
-        &["stress", "--seed", "1", "--mutators", "2"],
-        &["stress", "--seed", "1", "--mutators", "17", "--steps", "0"],
-        &[
-            "stress",
-            "--seed",
-            "1",
-            "--mutators",
-            "1",
-            "--steps",
-            "100001",
-        ],
-    ];
-    for words in commands {
-        check(&rt, words, &mut Broken::new(), ("", "bad command\n", 2));
-    }
 }

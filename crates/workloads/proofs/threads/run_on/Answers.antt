@@ -4,7 +4,7 @@ use Rattle.std.proofs.Math.Seq.{take-append_seam}
 use Rattle.workloads.specs.declared.mutator_job.MutatorJob.{MutatorJob}
 use Rattle.workloads.specs.Actors.{CommandedAll, AllSettled, AreReplies}
 use Rattle.workloads.proofs.OneHistories.{one_history}
-use Rattle.workloads.proofs.threads.run_named.Goals as goal
+use Rattle.workloads.proofs.threads.run_on.Goals as goal
 
 pub returns : goal.returns
 returns g c =
@@ -20,13 +20,13 @@ returns g c =
     let len : length new ≡ n = kept ∙ c.as_mut_slice.ensures.len in
     let whole : take n (new ++ drop (length new) items) ≡ new = ap (λ (m : ℕ). take m (new ++ drop (length new) items)) (sym len) ∙ take-append_seam new (drop (length new) items) in
     let all = c.settle.new.collector.seen in
-    let opened = c.named-heap.result.1 in
+    let opened = c.args.collector in
     let replies = c.new.result in
     let commanded = c.in_ok-jobs-2.ensures.1.commanded in
     one_history pages c.args.workload.now c.in_ok-jobs.jobs.items items new opened other.collector c.gc_no_of-collections.new.collector c.settle.new.collector replies
     c.in_ok-jobs.ensures.attached c.in_ok-jobs-2.ensures.0
     (subst (λ l. CommandedAll pages opened c.args.workload.now.collector l other.collector) (sym (c.new.ensures.collector ∙ c.of.ensures))
     (subst (λ l. CommandedAll pages opened l other.replies.items other.collector) c.commands-commands.ensures.value commanded))
-    c.named-heap.ensures c.gc_no_of-collections.ensures.looks c.settle.ensures.collector c.settle.ensures.grows c.settle.ensures.fine
+    c.requires c.gc_no_of-collections.ensures.looks c.settle.ensures.collector c.settle.ensures.grows c.settle.ensures.fine
     (subst (λ l. AllSettled pages all l new) is c.settle.ensures.settled) size
     (subst (λ l. AreReplies new l) (sym c.new.ensures.mutators) (subst (λ l. AreReplies l c.take_replies.new.replies.items) whole c.take_replies.ensures))

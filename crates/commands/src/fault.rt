@@ -1,13 +1,13 @@
 //! Why the program ends with a status that isn't 0, and what it says of it.
-ghost use Rattle.std.specs.Prelude.{◌≡◌, ◌<◌, length};
+ghost use Rattle.std.specs.Prelude.{◌≡◌, ◌+◌, ◌<◌, ℕ, length, take, OnOk, OnErr};
+ghost use Rattle.std.specs.Io.KnownBytes.{Appends};
 ghost use Rattle.scripts.specs.declared.limits.TheConstants.{REPLY_BYTES};
-ghost use Rattle.mpheap.specs.Faults.{status_of, fault_text};
+ghost use Rattle.commands.specs.Faults.{fault_of, status_of, fault_text, fault_line};
 
 use arrayvec::ArrayString;
 use itoa::Buffer;
 use scripts::limits::REPLY_BYTES;
-use scripts::{ScriptError, Sink, write_all};
-use std::alloc::AllocError;
+use scripts::{Failed, ScriptError, Sink, write_all};
 
 /// Why the program ends with a status that isn't 0.
 #[derive(Clone, Copy, Debug, PartialEq, Eq)]
@@ -28,14 +28,11 @@ pub enum Fault {
     Memory,
 }
 
-impl From<AllocError> for Fault {
-    fn from(_error: AllocError) -> Fault {
-        Fault::Memory
-    }
-}
-
-impl From<ScriptError> for Fault {
-    fn from(error: ScriptError) -> Fault {
+impl Fault {
+    /// What ends a script, or a workload, as the program's fault.
+    pub fn of(error: ScriptError) -> Fault
+        ensures { result ≡ fault_of error }
+    {
         match error {
             ScriptError::BadLine(n) => Fault::BadLine(n),
             ScriptError::Read => Fault::Read,
@@ -43,9 +40,7 @@ impl From<ScriptError> for Fault {
             ScriptError::Memory => Fault::Memory,
         }
     }
-}
 
-impl Fault {
     /// The status with which the program ends.
     pub fn status(self) -> u8
         ensures { result ≡ status_of self }
@@ -75,11 +70,16 @@ impl Fault {
         }
     }
 
-    /// Writes its line. A fault of the writer changes nothing.
-    pub fn tell<E: Sink>(self, errors: &mut E) {
+    /// Writes its line.
+    pub fn tell<E: Sink>(self, errors: &mut E) -> Result<(), Failed>
+        ensures ok { OnOk result (Appends (E.written errors.old) (E.written errors.new) (fault_line self)) }
+        ensures err { OnErr result ((n : ℕ) × Appends (E.written errors.old) (E.written errors.new) (take n (fault_line self))) }
+        ensures none { OnOk result (E.faults errors.new ≡ E.faults errors.old) }
+        ensures fault { OnErr result (E.faults errors.new ≡ E.faults errors.old + 1) }
+    {
         let mut text = ArrayString::<REPLY_BYTES>::new();
         self.put_text(&mut text);
         text.push('\n');
-        let _told = write_all(errors, text.as_str().as_bytes());
+        write_all(errors, text.as_str().as_bytes())
     }
 }

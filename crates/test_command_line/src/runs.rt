@@ -1,7 +1,7 @@
-//! The program as its users see it: its words, its statuses, and what it says of a fault.
+//! Scripts, statuses, and what is said of a fault.
 ghost use Rattle.std.specs.Prelude.{◌≡◌, ◌+◌, None};
 
-use crate::program::program;
+use command_line::program;
 use pages::Count;
 use scripts::{Failed, Sink, Source, Std};
 use std::fs;
@@ -11,8 +11,6 @@ use std::sync::Wait;
 use std::test::Fail;
 use std::thread::Threads;
 
-mod commands;
-
 const SCRIPT: &str = "attach\n0 alloc 1 3 normal\n0 set 2 77\n0 store 1 0 2\n0 load 3 1 0\n";
 
 const REPLIES: &str = "mutator 0\nok\nok\nok\n77\n";
@@ -21,12 +19,12 @@ const RUN: [&str; 3] = ["run", "--pages", "4"];
 
 /// Fails whenever it is asked.
 #[derive(Drop)]
-struct Broken {
+pub struct Broken {
     faults: Count,
 }
 
 impl Broken {
-    fn new() -> Broken {
+    pub fn new() -> Broken {
         Broken {
             faults: Count::zero(),
         }
@@ -61,7 +59,7 @@ impl Sink for Broken {
 }
 
 /// Runs the program over an input, and compares all that can be seen.
-fn check<R: Abort + Files + AllocGlobal + Threads + Wait + Sync, I: Source>(
+pub fn check<R: Abort + Files + AllocGlobal + Threads + Wait + Sync, I: Source>(
     rt: &R,
     words: &[&str],
     input: &mut I,
@@ -115,10 +113,10 @@ fn a_fault_that_cannot_be_told(rt: HostRuntime) {
     assert_eq!(rt; status, 2);
 }
 
-/// Words that are of no row of the table, and the input isn't read.
+/// Words that are of no row of the table, and neither the input nor a file is read.
 #[test]
 fn bad_commands(rt: HostRuntime) {
-    let commands: [&[&str]; 18] = [
+    let commands: [&[&str]; 26] = [
         &[],
         &["run"],
         &["walk", "--pages", "4"],
@@ -137,6 +135,22 @@ fn bad_commands(rt: HostRuntime) {
         &["help"],
         &["run", "--help"],
         &["--version"],
+        &["threads"],
+        &["threads", "--pages", "4"],
+        &["threads", "file"],
+        &["threads", "--pages", "0", "file"],
+        &["threads", "--pages", "4", "--helpers", "0", "file"],
+        &["stress", "--seed", "1", "--mutators", "2"],
+        &["stress", "--seed", "1", "--mutators", "17", "--steps", "0"],
+        &[
+            "stress",
+            "--seed",
+            "1",
+            "--mutators",
+            "1",
+            "--steps",
+            "100001",
+        ],
     ];
     for words in commands {
         check(&rt, words, &mut Broken::new(), ("", "bad command\n", 2));

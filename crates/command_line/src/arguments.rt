@@ -2,11 +2,10 @@
 ghost use Rattle.std.specs.Prelude.{◌≤◌, IfOk};
 ghost use Rattle.words.specs.declared.limits.TheConstants.{MAX_PAGES};
 
-use crate::fault::Fault;
 use clap::error::ErrorKind;
 use clap::{Arg, ArgMatches, Command, Error};
+use commands::{Fault, number_in};
 use final_pause::Helpers;
-use scripts::number;
 use std::alloc::{AllocError, Global};
 use words::limits::{MAX_HELPERS, MAX_PAGES};
 
@@ -41,14 +40,19 @@ fn stress_words<'a>(alloc: Global) -> Result<Command<'a>, AllocError> {
         .arg(option(alloc, "steps").required(true))
 }
 
-/// What the command line may be: one subcommand for each row, and no help or version form.
-pub fn command_line<'a>(alloc: Global) -> Result<Command<'a>, AllocError> {
+/// A command line that has to be one of the commands, and has no help or version form.
+fn no_command<'a>(alloc: Global) -> Command<'a> {
     Command::new(alloc, "mpheap")
         .no_binary_name(true)
         .disable_help_flag(true)
         .disable_version_flag(true)
         .disable_help_subcommand(true)
         .subcommand_required(true)
+}
+
+/// What the command line may be: a subcommand for each row of the program's table.
+pub fn command_line<'a>(alloc: Global) -> Result<Command<'a>, AllocError> {
+    no_command(alloc)
         .subcommand(run_words(alloc)?)?
         .subcommand(threads_words(alloc)?)?
         .subcommand(stress_words(alloc)?)
@@ -76,12 +80,9 @@ pub fn number_given(
     let Some(text) = given.get_str(option) else {
         return Err(Fault::BadCommand);
     };
-    let Some(n) = number(text.as_bytes()) else {
+    let Some(n) = number_in(text.as_bytes(), least, most) else {
         return Err(Fault::BadCommand);
     };
-    if n < least || n > most {
-        return Err(Fault::BadCommand);
-    }
     Ok(n)
 }
 

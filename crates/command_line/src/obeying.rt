@@ -1,0 +1,104 @@
+//! What each command does, with the numbers and the file that it is given.
+ghost use Rattle.std.specs.Prelude.{◌≤◌};
+ghost use Rattle.words.specs.declared.limits.TheConstants.{MAX_PAGES};
+
+use crate::arguments::{helpers_given, number_given, pages_given};
+use clap::ArgMatches;
+use commands::{Fault, write_stress};
+use final_pause::{Helpers, Open};
+use scripts::{ScriptError, Sink, Source, Std, run_script};
+use std::alloc::Global;
+use std::fs;
+use std::rt::Files;
+use std::sync::Wait;
+use std::thread::Threads;
+use words::limits::SLOTS;
+use workloads::limits::MAX_STEPS;
+use workloads::run_workload;
+
+/// What ends a command, as the program's fault.
+fn faulted(answer: Result<(), ScriptError>) -> Result<(), Fault> {
+    match answer {
+        Ok(()) => Ok(()),
+        Err(error) => Err(Fault::of(error)),
+    }
+}
+
+/// `run`: runs a script, in FILE or in the input.
+fn run<F: Files, I: Source, O: Sink>(
+    alloc: Global,
+    files: &F,
+    given: &ArgMatches<'_>,
+    input: &mut I,
+    output: &mut O,
+) -> Result<(), Fault> {
+    let pages = pages_given(given)?;
+    let Some(path) = given.get_str("file") else {
+        return faulted(run_script(alloc, input, output, pages));
+    };
+    let Ok(file) = fs::open(files, path) else {
+        return Err(Fault::Read);
+    };
+    faulted(run_script(alloc, &mut Std::new(file), output, pages))
+}
+
+/// Runs a workload, with nobody held back.
+fn run_open<R: Threads + Wait + Sync, I: Source, O: Sink>(
+    alloc: Global,
+    rt: &R,
+    input: &mut I,
+    output: &mut O,
+    pages: u32,
+    helpers: Helpers,
+) -> Result<(), Fault>
+    requires some { 1 ≤ pages }
+    requires most { pages ≤ MAX_PAGES }
+{
+    faulted(run_workload(rt, alloc, input, output, pages, helpers, &Open))
+}
+
+/// `threads`: runs the workload in FILE.
+fn threads<R: Files + Threads + Wait + Sync, O: Sink>(
+    alloc: Global,
+    rt: &R,
+    given: &ArgMatches<'_>,
+    output: &mut O,
+) -> Result<(), Fault> {
+    let pages = pages_given(given)?;
+    let helpers = helpers_given(given)?;
+    let Some(path) = given.get_str("file") else {
+        return Err(Fault::BadCommand);
+    };
+    let Ok(file) = fs::open(rt, path) else {
+        return Err(Fault::Read);
+    };
+    run_open(alloc, rt, &mut Std::new(file), output, pages, helpers)
+}
+
+/// `stress`: writes a random script.
+fn stress<O: Sink>(alloc: Global, given: &ArgMatches<'_>, output: &mut O) -> Result<(), Fault> {
+    let seed = number_given(given, "seed", 0, u64::MAX)?;
+    let mutators = number_given(given, "mutators", 1, u64::from(SLOTS))?;
+    let steps = number_given(given, "steps", 0, u64::from(MAX_STEPS))?;
+    faulted(write_stress(alloc, output, seed, mutators as u8, steps as u32))
+}
+
+/// Does what the words that were read say.
+pub fn obey<R: Files + Threads + Wait + Sync, I: Source, O: Sink>(
+    alloc: Global,
+    rt: &R,
+    words: &ArgMatches<'_>,
+    input: &mut I,
+    output: &mut O,
+) -> Result<(), Fault> {
+    if let Some(given) = words.subcommand_matches("run") {
+        return run(alloc, rt, given, input, output);
+    }
+    if let Some(given) = words.subcommand_matches("threads") {
+        return threads(alloc, rt, given, output);
+    }
+    if let Some(given) = words.subcommand_matches("stress") {
+        return stress(alloc, given, output);
+    }
+    Err(Fault::BadCommand)
+}
