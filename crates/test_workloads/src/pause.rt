@@ -38,6 +38,7 @@ fn check_pause<R: Threads + Wait + Abort + Sync>(
     assert_eq!(rt; answer, Ok(()));
     assert_eq!(rt; gate.missed.load(Ordering::SeqCst), 0);
     assert_eq!(rt; gate.claiming.load(Ordering::SeqCst), claimers);
+    assert_eq!(rt; gate.ended.load(Ordering::SeqCst), 1);
     assert_eq!(rt; output.text(), Some(REPLIES), "{helpers} helpers");
 }
 

@@ -17,6 +17,9 @@ const SETTING: Setting = Setting {
     helpers: MAX_HELPERS,
 };
 
+// One of each mutator, and three of the collector, beside those of helpers.
+const CALLS: u64 = 19;
+
 /// Counts the calls that began and those that ended.
 #[derive(Drop)]
 struct Counts {
@@ -59,14 +62,17 @@ fn check<R: Threads + Wait + Abort + Sync>(
         ended: AtomicU64::new(0),
     };
     let answer = run(rt, alloc, texts.0.as_bytes(), SETTING, &gate, output);
+    let began = gate.began.load(Ordering::SeqCst);
     match answer {
-        Ok(()) => assert_eq!(rt; output.text(), Some(texts.1)),
+        Ok(()) => {
+            assert_eq!(rt; output.text(), Some(texts.1));
+            assert!(rt; began >= CALLS);
+        }
         Err(fault) => {
             assert_eq!(rt; fault, ScriptError::Memory);
             assert!(rt; output.bytes.is_empty());
         }
     }
-    let began = gate.began.load(Ordering::SeqCst);
     assert_eq!(rt; gate.ended.load(Ordering::SeqCst), began);
 }
 

@@ -70,6 +70,7 @@ fn check_two<R: Threads + Wait + Abort + Sync>(rt: &R, alloc: Global, output: &m
     let answer = run(rt, alloc, TWO_THREADS.as_bytes(), SETTING, &gate, output);
     assert_eq!(rt; answer, Ok(()));
     assert_eq!(rt; gate.missed.load(Ordering::SeqCst), 0);
+    assert_eq!(rt; gate.there.load(Ordering::SeqCst), 2);
     assert_eq!(rt;
         output.text(),
         Some("mutator 0\nok\nok\nmutator 1\nok\n5\ncollector\n")
@@ -92,6 +93,7 @@ fn check_meeting<R: Threads + Wait + Abort + Sync>(rt: &R, alloc: Global, output
     let answer = run(rt, alloc, SIXTEEN.as_bytes(), SETTING, &gate, output);
     assert_eq!(rt; answer, Ok(()));
     assert_eq!(rt; gate.missed.load(Ordering::SeqCst), 0);
+    assert_eq!(rt; gate.there.load(Ordering::SeqCst), 17);
 }
 
 /// Sixteen mutators and the collector are all there before one of them makes its first call.
