@@ -1,6 +1,6 @@
 -- What a legal history tells of the state that it leads to.
 use Rattle.std.proofs.Common.{◌≡◌, ◌≢◌, ℕ, ◌+◌, ◌<◌, ◌==◌, Bool, true, false, cond, not, List, [], ◌∷◌, ◌++◌, refl, sym, ap, ◌∙◌, subst, arith, eq-eqb, ne_eqb, true≢false, zero, suc}
-use Rattle.std.specs.Prelude.{Option, Some, None, slice_get, replicate}
+use Rattle.std.specs.Prelude.{None, slice_get, replicate}
 use native.Mathlib.Decide.{ℕ_discrete}
 use Rattle.history.specs.Histories.{event, weight, count, is_first, is_last, own_with, own_from, own, live_from, is_live, Walks, Reaches, Legal}
 use Rattle.history.proofs.Snocs.{count_snoc}

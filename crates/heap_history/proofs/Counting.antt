@@ -1,7 +1,7 @@
 -- Collections of a longer history.
-use Rattle.std.proofs.Common.{◌≡◌, ℕ, ◌+◌, ◌≤◌, List, [], ◌∷◌, ◌++◌, sym, ap, ◌∙◌, arith}
+use Rattle.std.proofs.Common.{◌≤◌, List, [], ◌∷◌, ◌++◌, ap, arith}
 use mathlib.Core.List.{IsPrefix}
-use Rattle.history.specs.Histories.{count, weight}
+use Rattle.history.specs.Histories.{count}
 use Rattle.heap_history.specs.Ranks.{rank_of}
 use Rattle.heap_history.specs.Passes.{Entry, HeapPass}
 

@@ -1,6 +1,6 @@
 -- An object that a register of an attached mutator has stays, whatever others do but for frees.
-use Rattle.std.proofs.Common.{◌≡◌, ◌≢◌, ℕ, zero, suc, ◌+◌, ◌*◌, ◌<◌, ◌≤◌, ◌⊎◌, List, [], ◌∷◌, ◌++◌, length, refl, sym, ap, ◌∙◌, subst, arith, inl, inr, ⊎_elim}
-use Rattle.std.specs.Prelude.{Option, Some, None, All, Contains, slice_get, slice_index, slice_set, flat_map}
+use Rattle.std.proofs.Common.{◌≡◌, ◌≢◌, ℕ, zero, suc, ◌<◌, List, [], ◌∷◌, length, sym, ap, ◌∙◌, subst, arith, ⊎_elim}
+use Rattle.std.specs.Prelude.{Some, All, Contains, slice_get, flat_map}
 use Rattle.std.proofs.lemmas.Bool.{cases_eq}
 use Rattle.std.proofs.lemmas.Option.{same_Some, none-some}
 use Rattle.std.proofs.lemmas.List.{length-set}
@@ -14,9 +14,9 @@ use Rattle.heap_spec.specs.declared.call.Call.{Call}
 use Rattle.heap_spec.specs.declared.event.Event.{Event}
 use Rattle.heap_spec.specs.declared.event.Event.TheVariants.{Attach, Mutator, Begin, Roots, Mark, Retrace, Finish, Sweep, Collect, Number}
 use Rattle.heap_spec.specs.declared.reply.Reply.{Reply}
-use Rattle.heap_spec.specs.Heap.{Heap, Object, Mutator as HeapMutator, IsSameObject, HasObject, ReadsObject, IsAttached, words_of, root_words}
-use Rattle.heap_spec.specs.Room.{HasRoom, length_of}
-use Rattle.heap_spec.specs.Closure.{Closure, Reached, root}
+use Rattle.heap_spec.specs.Heap.{Heap, Object, Mutator as HeapMutator, IsSameObject, HasObject, IsAttached, words_of}
+use Rattle.heap_spec.specs.Room.{HasRoom}
+use Rattle.heap_spec.specs.Closure.{Reached, root}
 use Rattle.heap_spec.specs.Steps.{Acts, Attaches, Calls, register}
 use Rattle.heap_spec.specs.Sound.{IsSound, IsCell}
 use Rattle.heap_spec.specs.Laws.{IsFreshRun}
@@ -98,7 +98,7 @@ flat_contains f (z ∷ zs) zero x y e c = subst (λ l. Contains l y) (sym (flat_
 flat_contains f (z ∷ zs) (suc i) x y e c = subst (λ l. Contains l y) (sym (flat_map-cons f z zs)) (Contains-append_right (f z) (flat_map f zs) y (flat_contains f zs i x y e c))
 
 -- so an object that it has is reached
-held_reached : (s : Heap) → IsSound s → (who : ℕ) (m : HeapMutator) (d a : ℕ) (o : Object) → IsAttached s who m → d < length m.registers → register m d ≡ a → HasObject s a o → Reached s a
+pub held_reached : (s : Heap) → IsSound s → (who : ℕ) (m : HeapMutator) (d a : ℕ) (o : Object) → IsAttached s who m → d < length m.registers → register m d ≡ a → HasObject s a o → Reached s a
 held_reached s h who m d a o at lt is has =
     let some = (object_lies s h a o has).some in
     let word : Contains m.registers a = subst (λ w. Contains m.registers w) is (Contains-get_or m.registers d 0 lt) in

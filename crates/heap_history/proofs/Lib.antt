@@ -5,4 +5,6 @@ pub mod Stored
 pub mod Counting
 pub mod Passing
 pub mod Held
+pub mod Loaded
 pub mod Owning
+pub mod OwnWords

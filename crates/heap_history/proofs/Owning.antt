@@ -1,9 +1,9 @@
 -- An allocation, the register that has its base, and what comes after.
-use Rattle.std.proofs.Common.{◌≡◌, ◌≢◌, ℕ, ◌+◌, ◌*◌, ◌<◌, ◌≤◌, ◌⊎◌, Bool, true, false, cond, List, [], ◌∷◌, ◌++◌, length, refl, sym, ap, ◌∙◌, subst, arith, inl, inr, ⊎_elim, replicate, get_or-set_same}
-use Rattle.std.specs.Prelude.{Option, Some, None, All, slice_get, slice_set, slice_index, nat_le, find, ◌||◌}
+use Rattle.std.proofs.Common.{◌≡◌, ℕ, ◌+◌, ◌*◌, ◌<◌, ◌≤◌, ◌⊎◌, Bool, true, false, cond, List, [], ◌∷◌, ◌++◌, length, refl, sym, ap, ◌∙◌, subst, arith, inl, inr, ⊎_elim, replicate, get_or-set_same}
+use Rattle.std.specs.Prelude.{Option, Some, None, All, slice_get, slice_set, nat_le, find}
 use Rattle.std.specs.Int.{div_ceil}
 use Rattle.std.specs.Option.{option_map}
-use Rattle.std.proofs.lemmas.Bool.{leb-true, leb-false}
+use Rattle.std.proofs.lemmas.Bool.{leb-true}
 use Rattle.std.proofs.lemmas.Option.{same_Some, none-some, slice_get_within}
 use Rattle.std.proofs.lemmas.List.{length-set, length-replicate}
 use Rattle.words.specs.declared.limits.TheConstants.{PAGE_WORDS}
@@ -12,7 +12,7 @@ use Rattle.words.specs.declared.class.Kind.{Kind}
 use Rattle.words.specs.declared.class.Placement.{Placement}
 use Rattle.words.specs.declared.class.Placement.TheVariants.{Small, Large}
 use Rattle.words.specs.Placing.{placement_of}
-use Rattle.history.specs.Histories.{event, AreOfOthers, Walks, Reaches, Legal}
+use Rattle.history.specs.Histories.{event, AreOfOthers, Reaches, Legal}
 use Rattle.heap_spec.specs.declared.call.Call.{Call}
 use Rattle.heap_spec.specs.declared.call.Call.TheVariants.{Get, Alloc, Base}
 use Rattle.heap_spec.specs.declared.event.Event.TheVariants.{Mutator}
@@ -32,7 +32,7 @@ use Rattle.heap_history.specs.Headline.{Makes}
 use Rattle.heap_history.specs.Laws.{MakesAfterNoFree, IsNoFree}
 use Rattle.heap_history.proofs.Slots.{slice_get-set_same, not_both}
 use Rattle.heap_history.proofs.Stored.{walks_last, walks_through, walks_mutators, reached_fresh, reached_sound}
-use Rattle.heap_history.proofs.Held.{Stays, room_none, walks_held}
+use Rattle.heap_history.proofs.Held.{room_none, walks_held}
 
 -- a place holds what was asked for
 found_holds : (p : ℕ → Bool) (xs : List ℕ) (c : ℕ) → find p xs ≡ Some c → p c ≡ true
@@ -68,9 +68,10 @@ pub record Allocated (s s' : Heap) (slot d n : ℕ) : Type 0 where
   pub holds : register mutator d ≡ base
   pub has : HasObject s' base object
   pub size : n ≤ length object.words
+  pub registers : length mutator.registers ≡ 16
   pub away : (b : ℕ) (p : Object) → HasObject s b p → AreApart base (length object.words) b (length p.words)
 
-alloc_is : (s : Heap) (slot d n : ℕ) (kind : Kind) → IsSound s → d < 16 → {s' : Heap} → Calls s slot (Alloc d n kind) Done s' → Allocated s s' slot d n
+pub alloc_is : (s : Heap) (slot d n : ℕ) (kind : Kind) → IsSound s → d < 16 → {s' : Heap} → Calls s slot (Alloc d n kind) Done s' → Allocated s s' slot d n
 alloc_is s slot d n kind h few (acts {m = m} at (Acts.allocated {place = place} a e room)) =
     let size = (attached_is s slot m h at).registers.size in
     let there : d < length m.registers = omega (arith, size) in
@@ -86,6 +87,7 @@ alloc_is s slot d n kind h few (acts {m = m} at (Acts.allocated {place = place} 
       holds = get_or-set_same m.registers d a 0 there;
       has = with_at-same s.objects a _ a refl;
       size = subst (λ k. n ≤ k) (sym long) (place_holds n place e);
+      registers = length-set m.registers d a ∙ size;
       away = λ b p has. subst (λ k. AreApart a k b (length p.words)) (sym long)
           (room_apart s h place kind a is room b p has (λ same. room_none s h place kind a is room p (ap s.objects (sym same) ∙ has)));
     }
