@@ -98,7 +98,7 @@ flat_contains f (z ∷ zs) zero x y e c = subst (λ l. Contains l y) (sym (flat_
 flat_contains f (z ∷ zs) (suc i) x y e c = subst (λ l. Contains l y) (sym (flat_map-cons f z zs)) (Contains-append_right (f z) (flat_map f zs) y (flat_contains f zs i x y e c))
 
 -- so an object that it has is reached
-held_reached : (s : Heap) → IsSound s → (who : ℕ) (m : HeapMutator) (d a : ℕ) (o : Object) → IsAttached s who m → d < length m.registers → register m d ≡ a → HasObject s a o → Reached s a
+pub held_reached : (s : Heap) → IsSound s → (who : ℕ) (m : HeapMutator) (d a : ℕ) (o : Object) → IsAttached s who m → d < length m.registers → register m d ≡ a → HasObject s a o → Reached s a
 held_reached s h who m d a o at lt is has =
     let some = (object_lies s h a o has).some in
     let word : Contains m.registers a = subst (λ w. Contains m.registers w) is (Contains-get_or m.registers d 0 lt) in

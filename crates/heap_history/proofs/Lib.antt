@@ -8,4 +8,6 @@ pub mod Passing
 pub mod Held
 pub mod Keeping
 pub mod Places
+pub mod Loaded
 pub mod Owning
+pub mod OwnWords

@@ -123,11 +123,17 @@ call_owned s slot d n a h {call = call} calls leaves own =
     }
 
 -- what others do leaves it, if they free nothing
-walks_owned : (s t : HeapState) (es : List Entry) → Walks StateStep s es t → IsFreshRun s.pages s.run → (who d n a : ℕ) → Owned (heap_of s) who d n a → AreOfOthers who es → All (λ (e : Entry). IsNoFree e.call) es
+pub walks_owned : (s t : HeapState) (es : List Entry) → Walks StateStep s es t → IsFreshRun s.pages s.run → (who d n a : ℕ) → Owned (heap_of s) who d n a → AreOfOthers who es → All (λ (e : Entry). IsNoFree e.call) es
     → Owned (heap_of t) who d n a
 walks_owned s t es w fresh who d n a own others free =
     let held = walks_held s t es w fresh who own.mutator d a own.object own.at own.there own.holds own.has others free in
     record { object = held.1.0; mutator = own.mutator; at = held.0; there = own.there; holds = own.holds; has = held.1.1; size = subst (λ k. n ≤ k) (sym held.1.2.size) own.size }
+
+-- and its mutator too
+pub walks_owned_mutator : (s t : HeapState) (es : List Entry) (w : Walks StateStep s es t) (fresh : IsFreshRun s.pages s.run) (who d n a : ℕ) (own : Owned (heap_of s) who d n a) (others : AreOfOthers who es)
+    (free : All (λ (e : Entry). IsNoFree e.call) es) → (walks_owned s t es w fresh who d n a own others free).mutator ≡ own.mutator
+unfolding walks_owned
+walks_owned_mutator s t es w fresh who d n a own others free = refl
 
 -- In each state to which what the pass has seen leads, its register has the base of such an object, and that base is one of these.
 abbrev pub IsOwned : ℕ → ℕ → ℕ → (ℕ → Type 0) → HeapPass → Type 0
@@ -139,14 +145,14 @@ pub record Before (pages : ℕ) (pass : HeapPass) (between : List Entry) (call :
   pub reached : Reaches (Opens pages) StateStep (pass.seen ++ between) state
   pub step : StateStep state pass.slot (Mutator pass.slot call) reply t
 
-before : (pages : ℕ) (old new : HeapPass) (call : Call) (reply : Reply) → (makes : Makes pages old call reply new) → (t : HeapState) → Reaches (Opens pages) StateStep new.seen t → Before pages old makes.extends.between call reply t
+pub before : (pages : ℕ) (old new : HeapPass) (call : Call) (reply : Reply) → (makes : Makes pages old call reply new) → (t : HeapState) → Reaches (Opens pages) StateStep new.seen t → Before pages old makes.extends.between call reply t
 before pages old new call reply makes t r =
     let w = subst (λ l. Walks StateStep r.0 l t) makes.extends.seen r.2 in
     let last = walks_last r.0 t (old.seen ++ makes.extends.between) (event old.slot (Mutator old.slot call) reply) w in
     record { state = last.0; reached = (r.0, r.1, last.1); step = last.2 }
 
 -- there the object is owned still
-owned_before : (pages d n : ℕ) (Is : ℕ → Type 0) (old new : HeapPass) (call : Call) (reply : Reply) → (after : MakesAfterNoFree pages old call reply new) → IsOwned pages d n Is old
+pub owned_before : (pages d n : ℕ) (Is : ℕ → Type 0) (old new : HeapPass) (call : Call) (reply : Reply) → (after : MakesAfterNoFree pages old call reply new) → IsOwned pages d n Is old
     → (t : HeapState) → (at : Before pages old after.makes.extends.between call reply t) → (a : ℕ) × Is a × Owned (heap_of at.state) old.slot d n a
 owned_before pages d n Is old new call reply after own t at =
     let between = after.makes.extends.between in
@@ -156,7 +162,7 @@ owned_before pages d n Is old new call reply after own t at =
     (had.0, had.1, walks_owned mid.0 at.state between mid.2 (reached_fresh pages old.seen mid.0 reached) old.slot d n had.0 had.2 after.makes.extends.others after.kept)
 
 -- the mutator's own allocation
-made_owned : (pages d n : ℕ) (kind : Kind) (old new : HeapPass) → Makes pages old (Alloc d n kind) Done new → IsOwned pages d n (λ a. Unit {0}) new
+pub made_owned : (pages d n : ℕ) (kind : Kind) (old new : HeapPass) → Makes pages old (Alloc d n kind) Done new → IsOwned pages d n (λ a. Unit {0}) new
 made_owned pages d n kind old new makes t r =
     let at = before pages old new (Alloc d n kind) Done makes t r in
     let made = alloc_is (heap_of at.state) old.slot d n kind (reached_sound pages (old.seen ++ makes.extends.between) at.state at.reached) at.step.in_range.1.0 at.step.happens in
@@ -171,7 +177,7 @@ told_owned pages d n a old new after own t r =
     (had.0, get.0, subst (λ (k : ℕ). Owned (heap_of t) k d n had.0) (sym after.makes.extends.slot) (subst (λ (x : Heap). Owned x old.slot d n had.0) (sym (ap heap_of at.step.goes)) get.1))
 
 -- and its calls that leave the register
-kept_owned : (pages d n : ℕ) (Is : ℕ → Type 0) (old : HeapPass) → {new : HeapPass} → Keeps pages d old new → IsOwned pages d n Is old → IsOwned pages d n Is new
+pub kept_owned : (pages d n : ℕ) (Is : ℕ → Type 0) (old : HeapPass) → {new : HeapPass} → Keeps pages d old new → IsOwned pages d n Is old → IsOwned pages d n Is new
 kept_owned pages d n Is old Keeps.nothing own = own
 kept_owned pages d n Is old {new = new} (Keeps.longer {now = now} {call = call} {reply = reply} keeps leaves after) own = λ t r.
     let at = before pages now new call reply after.makes t r in

@@ -1,7 +1,7 @@
 -- What follows from the headline for a caller.
-use Rattle.std.specs.Prelude.{◌≡◌, ◌≢◌, ℕ, ◌+◌, ◌*◌, ◌<◌, ◌≤◌, ◌⊎◌, true, All, List, [], ◌∷◌, ◌++◌}
+use Rattle.std.specs.Prelude.{◌≡◌, ◌≢◌, ℕ, ◌+◌, ◌*◌, ◌<◌, ◌≤◌, ◌⊎◌, true, All, List, [], ◌∷◌}
 use mathlib.Core.List.{IsPrefix}
-use Rattle.history.specs.Histories.{event, count}
+use Rattle.history.specs.Histories.{count}
 use Rattle.heap_spec.specs.declared.call.Call.{Call}
 use Rattle.heap_spec.specs.declared.call.Call.TheVariants.{Detach, Set, Copy, Add, Sub, Get, Push, Pop, Load, Store, Alloc, Free, Base, Size, GlobalGet, GlobalPut}
 use Rattle.heap_spec.specs.declared.event.Event.{Event}
@@ -57,16 +57,66 @@ IsNoFree Sweep = Unit {0}
 IsNoFree Collect = Unit {0}
 IsNoFree Number = Unit {0}
 
--- a call with no other event between it and what its caller had seen
-pub record MakesNext (pages : ℕ) (old : HeapPass) (call : Call) (reply : Reply) (new : HeapPass) : Type 0 where
-  pub makes : Makes pages old call reply new
-  pub at_once : new.seen ≡ old.seen ++ event old.slot (Mutator old.slot call) reply ∷ []
+-- a call that stores nothing and frees nothing
+abbrev pub LeavesWordsCall : Call → Type 0
+LeavesWordsCall Detach = Unit {0}
+LeavesWordsCall (Set r w) = Unit {0}
+LeavesWordsCall (Copy d a) = Unit {0}
+LeavesWordsCall (Add d a n) = Unit {0}
+LeavesWordsCall (Sub d a b) = Unit {0}
+LeavesWordsCall (Get r) = Unit {0}
+LeavesWordsCall (Push r) = Unit {0}
+LeavesWordsCall (Pop d) = Unit {0}
+LeavesWordsCall (Load d a n) = Unit {0}
+LeavesWordsCall (Store a n r) = ⊥
+LeavesWordsCall (Alloc d n kind) = Unit {0}
+LeavesWordsCall (Free r) = ⊥
+LeavesWordsCall (Base d a) = Unit {0}
+LeavesWordsCall (Size r) = Unit {0}
+LeavesWordsCall (GlobalGet d g) = Unit {0}
+LeavesWordsCall (GlobalPut g r) = Unit {0}
 
--- A mutator puts a word into a register and stores it, whatever others do between. Its next load from the same place, if nothing
--- happens between, answers that word.
+-- and an event that does neither: a cycle may be one
+abbrev pub LeavesWords : Event → Type 0
+LeavesWords Attach = Unit {0}
+LeavesWords (Mutator slot call) = LeavesWordsCall call
+LeavesWords Begin = Unit {0}
+LeavesWords Roots = Unit {0}
+LeavesWords (Mark n) = Unit {0}
+LeavesWords Retrace = Unit {0}
+LeavesWords Finish = Unit {0}
+LeavesWords Sweep = Unit {0}
+LeavesWords Collect = Unit {0}
+LeavesWords Number = Unit {0}
+
+-- an event that is no collection
+abbrev pub IsNoCollection : Event → Type 0
+IsNoCollection Attach = Unit {0}
+IsNoCollection (Mutator slot call) = Unit {0}
+IsNoCollection Begin = Unit {0}
+IsNoCollection Roots = Unit {0}
+IsNoCollection (Mark n) = Unit {0}
+IsNoCollection Retrace = Unit {0}
+IsNoCollection Finish = ⊥
+IsNoCollection Sweep = Unit {0}
+IsNoCollection Collect = ⊥
+IsNoCollection Number = Unit {0}
+
+-- A call with no store and no free between it and what its caller had seen, whatever else others did.
+pub record MakesAfterNoWrite (pages : ℕ) (old : HeapPass) (call : Call) (reply : Reply) (new : HeapPass) : Type 0 where
+  pub makes : Makes pages old call reply new
+  pub left : All (λ (e : Entry). LeavesWords e.call) makes.extends.between
+
+-- And with no collection between either.
+pub record MakesUndisturbed (pages : ℕ) (old : HeapPass) (call : Call) (reply : Reply) (new : HeapPass) : Type 0 where
+  pub after : MakesAfterNoWrite pages old call reply new
+  pub kept : All (λ (e : Entry). IsNoCollection e.call) after.makes.extends.between
+
+-- A mutator puts a word into a register and stores it, whatever others do between. Its next load from the same place, if nobody
+-- stores, frees or collects between, answers that word.
 abbrev pub OwnLoadAnswers : Type 0
 OwnLoadAnswers = (pages a n r d w : ℕ) (reply : Reply) (start set stored loaded : HeapPass)
-    → Makes pages start (Set r w) Done set → Makes pages set (Store a n r) Done stored → MakesNext pages stored (Load d a n) reply loaded → reply ≡ Word w
+    → Makes pages start (Set r w) Done set → Makes pages set (Store a n r) Done stored → MakesUndisturbed pages stored (Load d a n) reply loaded → reply ≡ Word w
 
 -- A call with no free between it and what its caller had seen, whatever else others did.
 pub record MakesAfterNoFree (pages : ℕ) (old : HeapPass) (call : Call) (reply : Reply) (new : HeapPass) : Type 0 where
@@ -103,6 +153,13 @@ abbrev pub OwnObjectStays : Type 0
 OwnObjectStays = (pages d n a e : ℕ) (kind : Kind) (reply : Reply) (start made told later asked : HeapPass)
     → Makes pages start (Alloc d n kind) Done made → MakesAfterNoFree pages made (Get d) (Word a) told → Keeps pages d told later
     → MakesAfterNoFree pages later (Base e d) reply asked → reply ≡ Word a
+
+-- A mutator allocates an object, and calls that leave its register follow. Then it puts a word into another register and stores it in
+-- the object. Its next load from there answers that word, whatever others do between, cycles among it, but stores and frees.
+abbrev pub OwnWordStays : Type 0
+OwnWordStays = (pages d n r w k e : ℕ) (kind : Kind) (reply : Reply) (start made later set stored loaded : HeapPass) → d ≢ r → k < n
+    → Makes pages start (Alloc d n kind) Done made → Keeps pages d made later → MakesAfterNoFree pages later (Set r w) Done set
+    → MakesAfterNoFree pages set (Store d k r) Done stored → MakesAfterNoWrite pages stored (Load e d k) reply loaded → reply ≡ Word w
 
 -- Two objects that a mutator allocates, the second while a register has the first, don't overlap, if nobody frees between.
 abbrev pub OwnObjectsApart : Type 0

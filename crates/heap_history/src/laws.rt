@@ -1,12 +1,12 @@
 //! What follows from the headline for a caller, whatever others do. Each law is a function that does nothing, and its contract is the law.
-ghost use Rattle.heap_history.specs.Laws.{SeenIsLegal, OwnLoadAnswers, OwnObjectStays, OwnObjectsApart, MineBegins, CountGrows};
+ghost use Rattle.heap_history.specs.Laws.{SeenIsLegal, OwnLoadAnswers, OwnObjectStays, OwnWordStays, OwnObjectsApart, MineBegins, CountGrows};
 
 /// What a pass has seen is a legal history of the sequential heap.
 pub fn seen_is_legal()
     ensures { SeenIsLegal }
 {}
 
-/// A mutator loads the word that it stored, if nothing happened between.
+/// A mutator loads the word that it stored, whatever others do, unless somebody stores, frees or collects between.
 pub fn own_load_answers()
     ensures { OwnLoadAnswers }
 {}
@@ -14,6 +14,12 @@ pub fn own_load_answers()
 /// An object that a mutator allocated stays while a register has it, unless somebody frees it.
 pub fn own_object_stays()
     ensures { OwnObjectStays }
+{}
+
+/// What a mutator stored in an object that it allocated stays there while a register has the object, whatever cycles run, unless somebody
+/// stores or frees.
+pub fn own_word_stays()
+    ensures { OwnWordStays }
 {}
 
 /// Two objects that a mutator allocated don't overlap.

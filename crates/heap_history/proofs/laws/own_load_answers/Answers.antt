@@ -1,4 +1,4 @@
-use Rattle.heap_history.proofs.Stored.{own_load}
+use Rattle.heap_history.proofs.Loaded.{own_load}
 use Rattle.heap_history.proofs.laws.own_load_answers.Goals as goal
 
 pub returns : goal.returns
