@@ -28,7 +28,7 @@ abbrev pub StoresTo : Contents → Event → Reply → ℕ → Type 0
 StoresTo c (Mutator slot call) Done p = StoresOn c slot call p
 StoresTo c _ _ p = ⊥
 
--- the call with this reply reaches the pages: a store, an allocation or a free that was done, or an allocation that found no place
+-- the call with this reply reaches the pages: a store, an allocation or a free that was done, or an allocation with no place
 abbrev pub CallReachesPages : Call → Reply → Type 0
 CallReachesPages (Store a n r) Done = Unit {0}
 CallReachesPages (Alloc d n kind) Done = Unit {0}

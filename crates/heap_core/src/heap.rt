@@ -51,7 +51,8 @@ impl Core {
     /// [`OpenError::BadPages`] exactly for no page or more than the limit, and else [`OpenError::Memory`] where a growth
     /// of memory was refused.
     pub fn new(alloc: Global, pages: u32) -> Result<Core, OpenError>
-        ensures { IsOpened pages result (λ core. StandsFor core (opening pages) × (core.cycle.is_marking ≡ false) × (core.cycle.count ≡ 0) × IsSwept core.store × IsFresh pages core.cycle.marking) }
+        ensures { IsOpened pages result (λ core. StandsFor core (opening pages) × (core.cycle.is_marking ≡ false) × (core.cycle.count ≡ 0)
+            × IsSwept core.store × IsFresh pages core.cycle.marking) }
     {
         let objects = ObjectSpace::new(alloc, pages)?;
         let marker = Marker::new(alloc, pages)?;
