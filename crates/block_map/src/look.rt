@@ -73,7 +73,7 @@ impl BlockMap {
     {
         match self.page(page) {
             Page::Head(large) => large_at(page, *large),
-            _ => unreachable!(),
+            Page::Free | Page::Cut(_) | Page::Body(_) => unreachable!(),
         }
     }
 }

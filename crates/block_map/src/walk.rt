@@ -30,12 +30,13 @@ impl BlockMap {
     {
         match self.page(page) {
             Page::Cut(block) => Some(block),
-            _ => None,
+            Page::Free | Page::Head(_) | Page::Body(_) => None,
         }
     }
 
     /// The first allocated object that has a word of a page from an address on, be it one that begins before that
     /// address or on an earlier page. `None` exactly where none has.
+    #[inline(always)]
     #[tactic(auto, using(crate::proofs::Walking::walking, crate::proofs::Finding::head_few))]
     pub fn next_on_page(&self, page: PageNo, from: u64) -> Option<Found>
         requires inside { page < length self.now }
@@ -56,6 +57,7 @@ impl BlockMap {
 }
 
 // The object in the first allocated cell of a block from the one on that has the address.
+#[inline(always)]
 #[tactic(auto, using(crate::proofs::Walking::cells))]
 fn next_in_block(page: PageNo, block: &Block, from: u64) -> Option<Found>
     requires page { page < MAX_PAGES }

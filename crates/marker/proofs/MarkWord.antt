@@ -56,11 +56,6 @@ word_below states w m lawful low = word_none (found_in states) w m (outside (len
 pub word_above : (states : List PageState) (bytes w : ℕ) (m : Marking) → IsLawful states → bytes ≡ PAGE_BYTES * length states → FIRST_ADDRESS ≤ w → bytes ≤ w - FIRST_ADDRESS → MarksWord (found_in states) w m m
 word_above states bytes w m lawful b le high = word_none (found_in states) w m (outside (length states) (found_in states) w lawful.map (inr (omega arith)))
 
--- the word is no address of the heap
-pub word_outside : (states : List PageState) (bytes w : ℕ) (m : Marking) → IsLawful states → bytes ≡ PAGE_BYTES * length states → (w < FIRST_ADDRESS) ⊎ (FIRST_ADDRESS + bytes ≤ w) → MarksWord (found_in states) w m m
-word_outside states bytes w m lawful b out =
-    word_none (found_in states) w m (outside (length states) (found_in states) w lawful.map (⊎_elim (λ (low : w < FIRST_ADDRESS). inl low) (λ (high : FIRST_ADDRESS + bytes ≤ w). inr (omega arith)) out))
-
 -- a marked object is pointed into
 pub word_marked : (found : ℕ → Option Found) (w : ℕ) (g : Found) (m : Marking) → found w ≡ Some g → Has m.marks (granule g.base) → MarksWord found w m m
 word_marked found w g m is h = nothing (λ f e. subst (λ x. IsMarked m x.base) (same_Some g f (sym is ∙ e)) h) refl

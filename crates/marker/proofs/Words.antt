@@ -6,22 +6,20 @@ use Rattle.std.proofs.lemmas.List.{take_all, take_more}
 use Rattle.std.proofs.lemmas.List.FromFn.{map-range_with_len_more, length-map-range_with_len, get_or-map-range_with_len}
 use Rattle.std.proofs.lemmas.List.Elements.{Contains-append_left, Contains-append_right, Contains-append_cases}
 use Rattle.words.specs.declared.class.Kind.TheVariants.{Normal}
-use Rattle.words.specs.declared.limits.TheConstants.{FIRST_ADDRESS, PAGE_BYTES, PAGE_GRANULES}
+use Rattle.words.specs.declared.limits.TheConstants.{PAGE_GRANULES}
 use Rattle.words.specs.Bits.{Has}
 use Rattle.words.specs.Layout.{granule}
 use Rattle.pages.specs.Memory.{word_at}
 use Rattle.block_map.specs.declared.found.Found.{Found}
 use Rattle.block_map.specs.Objects.{IsMap}
-use Rattle.block_map.specs.States.{PageState}
-use Rattle.block_map.specs.FoundIn.{found_in, IsLawful}
 use Rattle.marker.specs.Marking.{Marking, IsConsistent, IsMarked, StaysDirty, word_address}
 use Rattle.marker.specs.Work.{cost}
 use Rattle.marker.specs.Closure.{Closure, held, root, word}
 use Rattle.marker.specs.Invariant.{IsTargetMarked, AreRootsMarked}
-use Rattle.marker.specs.Growth.{MarksWord, MarksWords, Passes, Traces, Awaits, words_of, nothing, object, begun, and_word, pointer_free, pushed, dirtied}
+use Rattle.marker.specs.Growth.{MarksWord, MarksWords, Traces, Awaits, words_of, nothing, object, begun, and_word, pointer_free, pushed, dirtied}
 use Rattle.marker.proofs.Closures.{at_base, marks_of, same_object}
 use Rattle.marker.proofs.Growing.{Extends, extends_refl, extends_trans, target_more, traced_more}
-use Rattle.marker.proofs.MarkWord.{object_extends, object_marked, object_only, word_outside}
+use Rattle.marker.proofs.MarkWord.{object_extends, object_marked, object_only}
 
 awaits_pages : (f : Found) (old new : Marking) → Awaits f old new → length new.dirty ≡ length old.dirty
 awaits_pages f old new (pointer_free k s d) = ap length d
@@ -52,12 +50,6 @@ pub words_more : (found : ℕ → Option Found) (words : List ℕ) (f : Found) (
     → MarksWord found (word_at words (word_address f (first + n))) m new → MarksWords found old (words_of words f first (n + 1)) new
 words_more found words f first n old m new x y =
     subst (λ l. MarksWords found old l new) (sym (map-range_with_len_more (λ i. word_at words (word_address f i)) first n (first + n) refl)) (and_word x y)
-
--- a word that is no address of the heap is passed
-pub passes_more : (states : List PageState) (bytes : ℕ) (words : List ℕ) (f : Found) (first n k w : ℕ) → IsLawful states → bytes ≡ PAGE_BYTES * length states → Passes (found_in states) words f first n k
-    → w ≡ word_at words (word_address f (first + k)) → (w < FIRST_ADDRESS) ⊎ (FIRST_ADDRESS + bytes ≤ w) → Passes (found_in states) words f first n (k + 1)
-passes_more states bytes words f first n k w lawful b p e out old m x =
-    words_more (found_in states) words f first k old m m (p old m x) (subst (λ v. MarksWord (found_in states) v m m) e (word_outside states bytes w m lawful b out))
 
 -- which words are some of an object's
 pub contains_word : (words : List ℕ) (f : Found) (first n i : ℕ) → first ≤ i → i < first + n → Contains (words_of words f first n) (word_at words (word_address f i))

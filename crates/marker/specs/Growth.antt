@@ -51,11 +51,6 @@ pub data MarksWords (found : ℕ → Option Found) (old : Marking) : List ℕ �
 abbrev pub words_of : List ℕ → Found → ℕ → ℕ → List ℕ
 words_of words f first n = map (λ i. word_at words (word_address f i)) (range_with_len first n)
 
--- The words of an object from its word first + n on, up to first + k, call for nothing: what is done with those before
--- them is what is done with all.
-abbrev pub Passes : (ℕ → Option Found) → List ℕ → Found → ℕ → ℕ → ℕ → Type 0
-Passes found words f first n k = (old m : Marking) → MarksWords found old (words_of words f first n) m → MarksWords found old (words_of words f first k) m
-
 -- What a call of the marker does: it keeps the invariant, marks only objects, and only those of the closure of the marks
 -- before and the roots, and makes only pages of newly marked objects dirty.
 pub record Traces (found : ℕ → Option Found) (words roots : List ℕ) (old new : Marking) : Type 0 where

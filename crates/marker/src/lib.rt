@@ -36,7 +36,6 @@
 
 mod count;
 mod entry;
-mod inside;
 mod marker;
 mod mutators;
 mod retrace;

@@ -12,7 +12,6 @@ ghost use Rattle.marker.specs.Invariant.{AreRootsMarked, DirtyPageInvariant};
 ghost use Rattle.marker.specs.Growth.{Awaits, MarksWord, MarksWords, Traces, words_of};
 
 use crate::entry::Entry;
-use crate::inside::next_inside;
 use crate::spread::dirty_object;
 use arrayvec::ArrayVec;
 use block_map::{BlockMap, Found};
@@ -21,7 +20,7 @@ use mark_bits::{Marks, granule_of};
 use pages::{Reader, is_page_count};
 use std::alloc::Global;
 use std::marker::Model;
-use words::limits::{FIRST_ADDRESS, MARK_STACK_ENTRIES, PAGE_BYTES};
+use words::limits::{FIRST_ADDRESS, MARK_STACK_ENTRIES, PAGE_BYTES, WORD_BYTES};
 use words::{Kind, OpenError, PageNo};
 
 // The entries of the mark stack.
@@ -186,10 +185,10 @@ impl Marker {
         ensures counted { reader.new.reads ≡ reader.old.reads + count }
     {
         self.laws();
-        let mut done = 0;
-        while let Some(inside) = next_inside(map, heap_bytes, reader, found, first, done, count) {
-            self.mark_target(map, inside.word);
-            done = inside.at + 1;
+        let start = found.base + WORD_BYTES * u64::from(first);
+        for i in 0..count {
+            let word = reader.read(start + WORD_BYTES * i);
+            self.mark_word(map, heap_bytes, word);
         }
     }
 
