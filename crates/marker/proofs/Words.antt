@@ -2,14 +2,15 @@
 use Rattle.std.proofs.Common.{◌≡◌, ℕ, ◌+◌, ◌-◌, ◌*◌, ◌<◌, ◌≤◌, List, [], ◌∷◌, ◌++◌, length, get_or, take, Contains, Option, Some, refl, sym, ap, ◌∙◌, subst, inl, inr, ⊎_elim, append_assoc, append-nil, arith}
 use Rattle.std.specs.Prelude.{◌⊎◌}
 use Rattle.std.proofs.lemmas.Option.{same_Some}
-use Rattle.std.proofs.lemmas.List.{take_all, take_more}
+use Rattle.std.specs.Prelude.{drop, slice_range}
+use Rattle.std.proofs.lemmas.List.{take_more, ext_get_or, get_or-take, get_or-drop, length-drop, length-take-le}
 use Rattle.std.proofs.lemmas.List.FromFn.{map-range_with_len_more, length-map-range_with_len, get_or-map-range_with_len}
 use Rattle.std.proofs.lemmas.List.Elements.{Contains-append_left, Contains-append_right, Contains-append_cases}
 use Rattle.words.specs.declared.class.Kind.TheVariants.{Normal}
 use Rattle.words.specs.declared.limits.TheConstants.{PAGE_GRANULES}
 use Rattle.words.specs.Bits.{Has}
 use Rattle.words.specs.Layout.{granule}
-use Rattle.pages.specs.Memory.{word_at}
+use Rattle.pages.specs.Memory.{place, word_at}
 use Rattle.block_map.specs.declared.found.Found.{Found}
 use Rattle.block_map.specs.Objects.{IsMap}
 use Rattle.marker.specs.Marking.{Marking, IsConsistent, IsMarked, StaysDirty, word_address}
@@ -50,6 +51,22 @@ pub words_more : (found : ℕ → Option Found) (words : List ℕ) (f : Found) (
     → MarksWord found (word_at words (word_address f (first + n))) m new → MarksWords found old (words_of words f first (n + 1)) new
 words_more found words f first n old m new x y =
     subst (λ l. MarksWords found old l new) (sym (map-range_with_len_more (λ i. word_at words (word_address f i)) first n (first + n) refl)) (and_word x y)
+
+-- the words of an object from one of them on, as they lie in a row
+pub run_words : (words : List ℕ) (f : Found) (first n start : ℕ) → start ≡ word_address f first → 268435456 ≤ start → place start + n ≤ length words → slice_range words (place start) (place start + n) ≡ words_of words f first n
+run_words words f first n start is above inside =
+    let at = place start in
+    let row = words_of words f first n in
+    let rest : length (drop at words) ≡ length words - at = length-drop at words in
+    let size : length (slice_range words at (at + n)) ≡ n = (let cut : at + n - at ≡ n = omega arith in ap (λ k. length (take k (drop at words))) cut ∙ length-take-le n (drop at words) (omega (arith, rest, inside))) in
+    ext_get_or 0 (slice_range words at (at + n)) row (size ∙ sym (length-map-range_with_len (λ i. word_at words (word_address f i)) first n))
+    (λ i lt.
+    let below : i < n = omega (arith, lt, size) in
+    let there : place (word_address f (first + i)) ≡ at + i = omega (arith, is, above) in
+    get_or-take (at + n - at) (drop at words) i 0 (omega (arith, below))
+    ∙ get_or-drop at words i 0
+    ∙ ap (λ k. get_or words k 0) (sym there)
+    ∙ sym (get_or-map-range_with_len (λ k. word_at words (word_address f k)) first n i (first + i) 0 below refl))
 
 -- which words are some of an object's
 pub contains_word : (words : List ℕ) (f : Found) (first n i : ℕ) → first ≤ i → i < first + n → Contains (words_of words f first n) (word_at words (word_address f i))
@@ -150,22 +167,18 @@ module _ (pages : ℕ) (found : ℕ → Option Found) (map : IsMap pages found) 
 
 -- What the roots' words come to, once all are done with.
 pub record Scans (found : ℕ → Option Found) (roots : List ℕ) (old new : Marking) : Type 0 where
-  pub marks : MarksWords found old roots new
   pub traces : (words : List ℕ) → Traces found words roots old new
   pub targets : AreRootsMarked found roots new
   pub dirty : StaysDirty old new
   pub cost : cost found new ≤ cost found old
 
-pub scanned : {pages : ℕ} {found : ℕ → Option Found} {old new : Marking} {roots : List ℕ} {i : ℕ} → IsMap pages found → IsConsistent old → length old.dirty ≡ pages → length roots ≤ i
-    → MarksWords found old (take i roots) new → Scans found roots old new
-scanned {pages = pages} {found = found} {old = old} {new = new} {roots = roots} {i = i} map consistent size all x =
-    let y = subst (λ ws. MarksWords found old ws new) (take_all i roots all) x in
+pub scanned : {pages : ℕ} {found : ℕ → Option Found} {old new : Marking} {roots : List ℕ} → IsMap pages found → IsConsistent old → length old.dirty ≡ pages → MarksWords found old roots new → Scans found roots old new
+scanned {pages = pages} {found = found} {old = old} {new = new} map consistent size x =
     let marks = marks_of pages old consistent size in
-    let e = words_extends pages found map old marks y in
+    let e = words_extends pages found map old marks x in
     record {
-      marks = y;
-      traces = λ words. roots_traces pages found map old marks words y;
-      targets = words_targets pages found map old marks y;
+      traces = λ words. roots_traces pages found map old marks words x;
+      targets = words_targets pages found map old marks x;
       dirty = e.dirty;
       cost = e.cost;
     }

@@ -163,6 +163,19 @@ impl Marker {
         }
     }
 
+    // Marks what words point into. They lie in a slice of their own, so that nothing which is marked between two of them can move them.
+    #[inline]
+    fn mark_all(&mut self, map: &BlockMap, heap_bytes: u64, words: &[u64])
+        requires pages { length self.old.dirty ≡ length map.now }
+        requires lawful { IsLawful map.now }
+        requires bytes { heap_bytes ≡ PAGE_BYTES * length map.now }
+        ensures { MarksWords (found_in map.now) self.old words.now self.new }
+    {
+        for word in words {
+            self.mark_word(map, heap_bytes, *word);
+        }
+    }
+
     // Marks what words of an object point into: so many, from its word `first` on.
     #[inline]
     pub(crate) fn mark_words(
@@ -186,10 +199,7 @@ impl Marker {
     {
         self.laws();
         let start = found.base + WORD_BYTES * u64::from(first);
-        for i in 0..count {
-            let word = reader.read(start + WORD_BYTES * i);
-            self.mark_word(map, heap_bytes, word);
-        }
+        self.mark_all(map, heap_bytes, reader.read_run(start, count));
     }
 
     /// Marks the objects that root words point into. Entries stay where they are.
@@ -204,8 +214,6 @@ impl Marker {
     {
         self.laws();
         let heap_bytes = heap_bytes(map);
-        for word in roots {
-            self.mark_word(map, heap_bytes, *word);
-        }
+        self.mark_all(map, heap_bytes, roots);
     }
 }

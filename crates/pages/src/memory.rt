@@ -1,5 +1,5 @@
 //! The words of the heap, seen as their list.
-ghost use Rattle.std.specs.Prelude.{◌≡◌, ℕ, ◌+◌, ◌*◌, ◌<◌, ◌≤◌, List, length, vec_len};
+ghost use Rattle.std.specs.Prelude.{◌≡◌, ℕ, ◌+◌, ◌*◌, ◌<◌, ◌≤◌, List, length, slice_range, vec_len};
 ghost use Rattle.words.specs.declared.limits.TheConstants.{PAGE_WORDS, MAX_PAGES, FIRST_ADDRESS};
 ghost use Rattle.pages.specs.Memory.{IsWordAddress, IsZeroMemory, IsZeroed, place, word_at, with_word_at};
 ghost use Rattle.pages.specs.Opening.{IsOpened};
@@ -62,6 +62,17 @@ impl Memory {
         ensures { result ≡ word_at self.now address }
     {
         self.words[place(address)]
+    }
+
+    /// So many words, from an address on.
+    #[inline]
+    pub(crate) fn run(&self, address: u64, count: u64) -> &[u64]
+        requires above { FIRST_ADDRESS ≤ address }
+        requires inside { place address + count ≤ length self.now }
+        ensures { result.now ≡ slice_range self.now (place address) (place address + count) }
+    {
+        let first = place(address);
+        &self.words[first..first + count as usize]
     }
 
     /// Writes a word at an address.

@@ -1,6 +1,7 @@
-//! Reads of the heap that contracts count. A reader lends no memory, and costs nothing when it runs.
-ghost use Rattle.std.specs.Prelude.{◌≡◌, ◌+◌};
-ghost use Rattle.pages.specs.Memory.{IsWordAddress, word_at};
+//! Reads of the heap that contracts count. A reader lends no word that it doesn't count, and costs nothing when it runs.
+ghost use Rattle.std.specs.Prelude.{◌≡◌, ◌+◌, ◌≤◌, length, slice_range};
+ghost use Rattle.words.specs.declared.limits.TheConstants.{FIRST_ADDRESS};
+ghost use Rattle.pages.specs.Memory.{IsWordAddress, place, word_at};
 
 use crate::count::Count;
 use crate::memory::Memory;
@@ -33,6 +34,15 @@ impl<'a> Reader<'a> {
         }
     }
 
+    // Counts a read.
+    #[inline]
+    fn count_one(&mut self)
+        ensures words { self.new.words ≡ self.old.words }
+        ensures counted { self.new.reads ≡ self.old.reads + 1 }
+    {
+        self.count = self.count.next();
+    }
+
     /// The word at an address.
     #[inline]
     pub fn read(&mut self, address: u64) -> u64
@@ -41,7 +51,22 @@ impl<'a> Reader<'a> {
         ensures words { self.new.words ≡ self.old.words }
         ensures counted { self.new.reads ≡ self.old.reads + 1 }
     {
-        self.count = self.count.next();
+        self.count_one();
         self.memory.read(address)
+    }
+
+    /// So many words, from an address on. Each is counted as a read; the loop that counts them has no code.
+    #[inline]
+    pub fn read_run(&mut self, address: u64, count: u64) -> &'a [u64]
+        requires above { FIRST_ADDRESS ≤ address }
+        requires inside { place address + count ≤ length self.old.words }
+        ensures run { result.now ≡ slice_range self.old.words (place address) (place address + count) }
+        ensures words { self.new.words ≡ self.old.words }
+        ensures counted { self.new.reads ≡ self.old.reads + count }
+    {
+        for _ in 0..count {
+            self.count_one();
+        }
+        self.memory.run(address, count)
     }
 }
