@@ -1,8 +1,8 @@
 -- The marking of one object.
-use Rattle.std.proofs.Common.{◌≡◌, ℕ, ◌+◌, ◌-◌, ◌*◌, ◌<◌, ◌≤◌, List, [], ◌∷◌, ◌++◌, length, Bool, true, false, get_or, set, sum_by, Contains, Option, Some, None, refl, sym, ap, ◌∙◌, subst, inl, inr, ⊎_elim, arith, length-append, length-set, get_or-set_same}
+use Rattle.std.proofs.Common.{◌≡◌, ℕ, ◌+◌, ◌-◌, ◌*◌, ◌%◌, ◌^◌, ◌<◌, ◌≤◌, List, [], ◌∷◌, ◌++◌, length, Bool, true, false, get_or, set, sum_by, Contains, Option, Some, None, refl, sym, ap, ◌∙◌, subst, inl, inr, ⊎_elim, arith, length-append, length-set, get_or-set_same}
 use Rattle.std.specs.Prelude.{◌⊎◌, option_to_list}
 use Rattle.std.proofs.lemmas.Option.{same_Some}
-use Rattle.std.proofs.lemmas.Bool.{false≢true}
+use Rattle.std.proofs.lemmas.Bool.{cases_lt, false≢true}
 use Rattle.std.proofs.lemmas.List.Sums.{sum_by-append}
 use Rattle.std.proofs.lemmas.List.Elements.{Contains-append_left, Contains-append_right, Contains-push_cases}
 use Rattle.std.proofs.lemmas.List.{length_push}
@@ -48,13 +48,11 @@ outside pages found w map out = unfound (found w) (λ f e.
 pub word_none : (found : ℕ → Option Found) (w : ℕ) (m : Marking) → found w ≡ None → MarksWord found w m m
 word_none found w m n = nothing (λ g e. let x : None ≡ Some g = sym n ∙ e in absurd (cc x)) refl
 
--- the word is below the heap
-pub word_below : (states : List PageState) (w : ℕ) (m : Marking) → IsLawful states → w < FIRST_ADDRESS → MarksWord (found_in states) w m m
-word_below states w m lawful low = word_none (found_in states) w m (outside (length states) (found_in states) w lawful.map (inl low))
-
--- the word is past the heap's end
-pub word_above : (states : List PageState) (bytes w : ℕ) (m : Marking) → IsLawful states → bytes ≡ PAGE_BYTES * length states → FIRST_ADDRESS ≤ w → bytes ≤ w - FIRST_ADDRESS → MarksWord (found_in states) w m m
-word_above states bytes w m lawful b le high = word_none (found_in states) w m (outside (length states) (found_in states) w lawful.map (inr (omega arith)))
+-- the word is an address below the heap or past its end: its distance from the first one, modulo 2^64, tells both
+pub word_outside : (states : List PageState) (bytes w : ℕ) (m : Marking) → IsLawful states → bytes ≡ PAGE_BYTES * length states → w < 2 ^ 64 → bytes ≤ (w + (2 ^ 64 - FIRST_ADDRESS)) % 2 ^ 64
+    → MarksWord (found_in states) w m m
+word_outside states bytes w m lawful b fits far = word_none (found_in states) w m (outside (length states) (found_in states) w lawful.map
+    (⊎_elim (λ low. inl low) (λ (high : FIRST_ADDRESS ≤ w). inr (omega (arith, b, fits, far, high))) (cases_lt w FIRST_ADDRESS)))
 
 -- a marked object is pointed into
 pub word_marked : (found : ℕ → Option Found) (w : ℕ) (g : Found) (m : Marking) → found w ≡ Some g → Has m.marks (granule g.base) → MarksWord found w m m
@@ -167,5 +165,3 @@ module _ (pages : ℕ) (found : ℕ → Option Found) (map : IsMap pages found) 
   object_extends = by_awaits x.awaits
 
 pub ruleset marking = (markable)
-
-pub ruleset ranging = (word_below, word_above)

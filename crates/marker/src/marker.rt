@@ -108,17 +108,13 @@ impl Marker {
 
     // Marks the object that the word points into. The heap's range is tested here, before the map is asked.
     #[inline]
-    #[tactic(auto, using(crate::proofs::MarkWord::ranging))]
     pub(crate) fn mark_word(&mut self, map: &BlockMap, heap_bytes: u64, word: u64)
         requires pages { length self.old.dirty ≡ length map.now }
         requires lawful { IsLawful map.now }
         requires bytes { heap_bytes ≡ PAGE_BYTES * length map.now }
         ensures { MarksWord (found_in map.now) word self.old self.new }
     {
-        if word < FIRST_ADDRESS {
-            return;
-        }
-        if word - FIRST_ADDRESS >= heap_bytes {
+        if word.wrapping_sub(FIRST_ADDRESS) >= heap_bytes {
             return;
         }
         self.mark_target(map, word);
