@@ -28,13 +28,15 @@ returns-in-TooLong-clause-serves g c input held tells_input tells_held =
     let few : c.loop-number.number ≤ LAST_LINE = let h = c.loop-number-test.true in omega (arith, h) in
     too_long_serves c.args.pages c.loop-number.number c.loop-number.core input held c.args.buffer.now c.loop-number.buffer c.next_line.new.buffer c.next_line.new.line.items
     (g.R.Source.remaining c.args.reader.now) (g.R.Source.remaining c.loop-number.reader) (g.R.Source.remaining c.next_line.new.source) (g.W.Sink.written c.args.writer.now) (g.W.Sink.written c.loop-number.writer)
-    few c.requires.empty tells_input tells_held c.loop-number.invariant.ran c.in-Ok.ensures.plain (found_is c.in-Ok.found TooLong c.next_line.new.line.items _ _ c.in-TooLong.is c.in-Ok.ensures.ok)
+    few c.requires.empty tells_input tells_held c.loop-number.invariant.ran c.in-Ok.ensures.plain (found_is c.in-Ok.found TooLong c.next_line.new.line.items (left_of c.loop-number.buffer (g.R.Source.remaining c.loop-number.reader)) (left_of c.next_line.new.buffer (g.R.Source.remaining c.next_line.new.source))
+    c.in-TooLong.is c.in-Ok.ensures.ok)
 
 pub returns-in-Last-clause-serves : goal.returns-in-Last-clause-serves
 returns-in-Last-clause-serves g c input held tells_input tells_held =
     last_serves c.args.pages c.loop-number.number c.loop-number.core c.answer_line.new.core input held c.args.buffer.now c.loop-number.buffer c.next_line.new.buffer c.next_line.new.line.items
     (g.R.Source.remaining c.args.reader.now) (g.R.Source.remaining c.loop-number.reader) (g.R.Source.remaining c.next_line.new.source) (g.W.Sink.written c.args.writer.now) (g.W.Sink.written c.loop-number.writer) (g.W.Sink.written c.answer_line.new.sink)
-    c.answer_line.result c.loop-number-test.true c.requires.empty tells_input tells_held c.loop-number.invariant.ran c.in-Ok.ensures.plain (found_is c.in-Ok.found Last c.next_line.new.line.items _ _ c.in-Last.is c.in-Ok.ensures.ok)
+    c.answer_line.result c.loop-number-test.true c.requires.empty tells_input tells_held c.loop-number.invariant.ran c.in-Ok.ensures.plain (found_is c.in-Ok.found Last c.next_line.new.line.items (left_of c.loop-number.buffer (g.R.Source.remaining c.loop-number.reader)) (left_of c.next_line.new.buffer (g.R.Source.remaining c.next_line.new.source))
+    c.in-Last.is c.in-Ok.ensures.ok)
     (turn_is c.args.pages c.loop-number.number c.as_slice.result.now c.next_line.new.line.items c.loop-number.core c.answer_line.new.core
     (g.W.Sink.written c.loop-number.writer) (g.W.Sink.written c.answer_line.new.sink) c.answer_line.result c.as_slice.ensures.value c.answer_line.ensures.turn)
 
