@@ -83,15 +83,38 @@ fn make_job<'a, J: Naming, R: Wait + Abort>(
     }
 }
 
+// So many mutators come.
+fn come<'a, J: Naming, R: Wait + Abort>(
+    rt: &'a R,
+    alloc: Global,
+    heap: &'a SharedHeap<J>,
+    flags: &'a [AtomicU64; 2],
+    count: u8,
+) -> Result<Vec<Job<'a, J, R>>, AllocError> {
+    let mut jobs = Vec::new(alloc);
+    for _ in 0..count {
+        jobs.push(make_job(rt, heap, flags))?;
+    }
+    Ok(jobs)
+}
+
+// What the job with this number found.
+fn found_by<J: Naming, R: Wait>(jobs: &[Job<'_, J, R>], number: usize) -> (Reply, bool) {
+    match jobs.get(number) {
+        Some(job) => (job.word, job.seen),
+        None => (Reply::Done, false),
+    }
+}
+
 fn run_both<J: Naming + Send + Sync, R: Threads + Wait + Abort + Sync>(
     rt: &R,
     alloc: Global,
     heap: &SharedHeap<J>,
 ) -> Result<[(Reply, bool); 2], AllocError> {
     let flags = [AtomicU64::new(0), AtomicU64::new(0)];
-    let jobs = vec![in alloc; make_job(rt, heap, &flags), make_job(rt, heap, &flags)]?;
+    let jobs = come(rt, alloc, heap, &flags, 2)?;
     let jobs = run_each::<_, _, Runs, _>(rt, alloc, &Runs, &run_job, jobs)?;
-    Ok([(jobs[0].word, jobs[0].seen), (jobs[1].word, jobs[1].seen)])
+    Ok([found_by(jobs.as_slice(), 0), found_by(jobs.as_slice(), 1)])
 }
 
 fn two_mutators<J: Naming + Send + Sync, R: Threads + Wait + Abort + Sync>(
@@ -121,19 +144,6 @@ fn allocate<'a, J: Naming, R: Wait>(job: Job<'a, J, R>) -> Job<'a, J, R> {
     job
 }
 
-fn come<'a, J: Naming, R: Wait + Abort>(
-    rt: &'a R,
-    alloc: Global,
-    heap: &'a SharedHeap<J>,
-    flags: &'a [AtomicU64; 2],
-) -> Result<Vec<Job<'a, J, R>>, AllocError> {
-    let mut jobs = Vec::new(alloc);
-    for _ in 0..SLOTS {
-        jobs.push(make_job(rt, heap, flags))?;
-    }
-    Ok(jobs)
-}
-
 // Sixteen mutators come, each gets a thread of its own or one is refused it, and all go.
 fn run_sixteen<J: Naming + Send + Sync, R: Threads + Wait + Abort + Sync>(
     rt: &R,
@@ -141,7 +151,7 @@ fn run_sixteen<J: Naming + Send + Sync, R: Threads + Wait + Abort + Sync>(
     heap: &SharedHeap<J>,
 ) -> Result<(), AllocError> {
     let flags = [AtomicU64::new(0), AtomicU64::new(0)];
-    let jobs = come(rt, alloc, heap, &flags)?;
+    let jobs = come(rt, alloc, heap, &flags, SLOTS)?;
     let _answer = run_each::<_, _, Runs, _>(rt, alloc, &Runs, &allocate, jobs);
     Ok(())
 }
