@@ -1,10 +1,15 @@
-//! Heaps that are laid out here and marked while they are written, against plain loops over what was put there.
+//! Heaps that are laid out here and marked while they are written, and what words point into there, against plain loops over
+//! what was put there; and threads that claim marks.
 #![tactic(auto)]
 
+#[cfg(test)]
+mod claims;
 #[cfg(test)]
 mod coming;
 #[cfg(test)]
 mod cut_again;
+#[cfg(test)]
+mod finding;
 #[cfg(test)]
 mod graph;
 #[cfg(test)]
@@ -17,8 +22,6 @@ mod offers;
 mod overflow;
 #[cfg(test)]
 mod scene;
-#[cfg(test)]
-mod shapes;
 #[cfg(test)]
 mod steps;
 #[cfg(test)]

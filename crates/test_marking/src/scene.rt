@@ -21,6 +21,17 @@ pub(crate) fn word_of(found: Found, index: u32) -> u64 {
     found.base.wrapping_add(8 * u64::from(index))
 }
 
+// How many of these objects are marked.
+fn count_marked(heap: &Heap, objects: &[Found]) -> usize {
+    let mut count: usize = 0;
+    for found in objects {
+        if heap.is_marked(found.base) {
+            count = count.saturating_add(1);
+        }
+    }
+    count
+}
+
 impl Scene {
     /// So many pages with no object.
     pub(crate) fn open(alloc: Global, pages: u32) -> Result<Scene, Fail> {
@@ -122,13 +133,7 @@ impl Scene {
 
     /// How many objects are marked.
     pub(crate) fn marks(&self) -> usize {
-        let mut count: usize = 0;
-        for found in self.graph.objects() {
-            if self.heap.is_marked(found.base) {
-                count = count.saturating_add(1);
-            }
-        }
-        count
+        count_marked(&self.heap, self.graph.objects())
     }
 
     /// Exactly these objects are marked, each of its own base.

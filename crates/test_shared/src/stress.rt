@@ -36,14 +36,20 @@ const LONGEST: usize = 24;
 // How many nodes the heap has room for: whoever reads more has seen cells used again.
 const NODES: u64 = 8 * 256;
 
+/// Calls, words that were read back, and words that were lost.
+#[derive(Clone, Copy)]
+struct Tally {
+    calls: u64,
+    read_back: u64,
+    lost: u64,
+}
+
 /// A mutator with its list: what it pushed is what it is to pop.
 #[derive(Drop)]
 struct Player<'a, J: Naming, R: Wait> {
     me: Attached<'a, J, R>,
-    calls: u64,
     kept: ArrayVec<u64, LONGEST>,
-    read_back: u64,
-    lost: u64,
+    tally: Tally,
 }
 
 // What becomes of players is looked at by the test.
@@ -55,7 +61,7 @@ impl<T> Law<T> for Plays {
 
 impl<'a, J: Naming, R: Wait> Player<'a, J, R> {
     fn call(&mut self, call: Call) -> Reply {
-        self.calls = self.calls.wrapping_add(1);
+        self.tally.calls = self.tally.calls.wrapping_add(1);
         self.me.call(call)
     }
 
@@ -80,9 +86,9 @@ impl<'a, J: Naming, R: Wait> Player<'a, J, R> {
             return;
         };
         if self.call(Call::Load(reg(3), reg(1), 0)) == Reply::Word(word) {
-            self.read_back = self.read_back.wrapping_add(1);
+            self.tally.read_back = self.tally.read_back.wrapping_add(1);
         } else {
-            self.lost = self.lost.wrapping_add(1);
+            self.tally.lost = self.tally.lost.wrapping_add(1);
         }
         self.call(Call::Load(reg(1), reg(1), 1));
     }
@@ -92,7 +98,7 @@ impl<'a, J: Naming, R: Wait> Player<'a, J, R> {
 fn play<'a, J: Naming, R: Wait>(player: Player<'a, J, R>) -> Player<'a, J, R> {
     let mut player = player;
     for turn in 0..TURNS {
-        if player.calls >= CALLS {
+        if player.tally.calls >= CALLS {
             break;
         }
         if player.kept.is_full() || turn % 5 == 4 {
@@ -107,13 +113,11 @@ fn play<'a, J: Naming, R: Wait>(player: Player<'a, J, R>) -> Player<'a, J, R> {
     player
 }
 
-/// What the test looks at: calls of the mutator that made fewest, words that were read back, words that were lost, and
-/// cycles that ended.
+/// What the test looks at: calls of the mutator that made fewest, words of all that were read back or lost, and cycles that
+/// ended.
 #[derive(Clone, Copy)]
 struct Found {
-    calls: u64,
-    read_back: u64,
-    lost: u64,
+    all: Tally,
     ended: u64,
 }
 
@@ -124,10 +128,12 @@ fn make_player<'a, J: Naming, R: Wait + Abort>(
 ) -> Player<'a, J, R> {
     Player {
         me: attach(rt, heap),
-        calls: 0,
         kept: ArrayVec::new(),
-        read_back: 0,
-        lost: 0,
+        tally: Tally {
+            calls: 0,
+            read_back: 0,
+            lost: 0,
+        },
     }
 }
 
@@ -143,27 +149,26 @@ fn come<'a, J: Naming, R: Wait + Abort>(
     Ok(players)
 }
 
-impl Found {
+impl Tally {
     // What one more mutator found.
-    fn add(&mut self, calls: u64, read_back: u64, lost: u64) {
-        self.calls = self.calls.min(calls);
-        self.read_back = self.read_back.wrapping_add(read_back);
-        self.lost = self.lost.wrapping_add(lost);
+    fn add(&mut self, more: Tally) {
+        self.calls = self.calls.min(more.calls);
+        self.read_back = self.read_back.wrapping_add(more.read_back);
+        self.lost = self.lost.wrapping_add(more.lost);
     }
 }
 
-// What the players and the collector found.
-fn sum_up<J: Naming, R: Wait>(players: &[Player<'_, J, R>], ended: u64) -> Found {
-    let mut found = Found {
+// What the players found.
+fn sum_up<J: Naming, R: Wait>(players: &[Player<'_, J, R>]) -> Tally {
+    let mut all = Tally {
         calls: u64::MAX,
         read_back: 0,
         lost: 0,
-        ended,
     };
     for player in players {
-        found.add(player.calls, player.read_back, player.lost);
+        all.add(player.tally);
     }
-    found
+    all
 }
 
 fn play_beside<'a, J: Naming + Send + Sync, R: Threads + Wait + Sync>(
@@ -172,12 +177,13 @@ fn play_beside<'a, J: Naming + Send + Sync, R: Threads + Wait + Sync>(
     players: Vec<Player<'a, J, R>>,
     cycles: Cycles<'a, J, R>,
 ) -> Result<Found, AllocError> {
-    let work = |player| { play(player) };
-    let collect = |cycles| { cycle(cycles) };
     let (players, cycles) = run_each_beside::<_, _, Plays, _, _, Plays, _>(
-        rt, alloc, &Plays, &work, players, &Plays, &collect, cycles,
+        rt, alloc, &Plays, &play, players, &Plays, &cycle, cycles,
     )?;
-    Ok(sum_up(players.as_slice(), cycles.ended))
+    Ok(Found {
+        all: sum_up(players.as_slice()),
+        ended: cycles.ended,
+    })
 }
 
 fn play_all<J: Naming + Send + Sync, R: Threads + Wait + Abort + Sync>(
@@ -211,9 +217,13 @@ fn sixteen_mutators<J: Naming + Send + Sync, R: Threads + Wait + Abort + Sync>(
 fn no_list_loses_a_node(rt: HostRuntime) -> Result<(), Fail> {
     let opened = open(rt.alloc(), PAGES).ok().ok_or("a heap")?;
     let found = sixteen_mutators::<Brand, _>(&rt, rt.alloc(), opened)?;
-    assert_eq!(rt; found.lost, 0);
-    assert!(rt; found.calls >= CALLS, "{} calls", found.calls);
-    assert!(rt; found.read_back > NODES, "{} words", found.read_back);
+    assert_eq!(rt; found.all.lost, 0);
+    assert!(rt; found.all.calls >= CALLS, "{} calls", found.all.calls);
+    assert!(rt;
+        found.all.read_back > NODES,
+        "{} words",
+        found.all.read_back
+    );
     assert_eq!(rt; found.ended, CALLS / CALLS_A_CYCLE);
     Ok(())
 }

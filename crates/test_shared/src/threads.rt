@@ -25,6 +25,7 @@ const TURNS: u64 = 1_000_000_000;
 #[derive(Drop)]
 struct Job<'a, J: Naming, R: Wait> {
     me: Attached<'a, J, R>,
+    flags: &'a [AtomicU64; 2],
     word: Reply,
     seen: bool,
 }
@@ -47,8 +48,8 @@ fn look(flag: &AtomicU64) -> bool {
 }
 
 // Stores a word of its own, raises its flag, looks for the other's, and loads.
-fn run_job<'a, J: Naming, R: Wait>(flags: &[AtomicU64; 2], job: Job<'a, J, R>) -> Job<'a, J, R> {
-    let Job { mut me, .. } = job;
+fn run_job<'a, J: Naming, R: Wait>(job: Job<'a, J, R>) -> Job<'a, J, R> {
+    let Job { mut me, flags, .. } = job;
     let slot = me.slot();
     me.call(Call::Alloc(reg(1), 2, Kind::Normal));
     me.call(Call::Set(reg(2), 7 + u64::from(slot)));
@@ -61,14 +62,47 @@ fn run_job<'a, J: Naming, R: Wait>(flags: &[AtomicU64; 2], job: Job<'a, J, R>) -
     mine.store(1, Ordering::SeqCst);
     let seen = look(other);
     let word = me.call(Call::Load(reg(3), reg(1), 0));
-    Job { me, word, seen }
+    Job {
+        me,
+        flags,
+        word,
+        seen,
+    }
 }
 
-fn make_job<'a, J: Naming, R: Wait + Abort>(rt: &'a R, heap: &'a SharedHeap<J>) -> Job<'a, J, R> {
+fn make_job<'a, J: Naming, R: Wait + Abort>(
+    rt: &'a R,
+    heap: &'a SharedHeap<J>,
+    flags: &'a [AtomicU64; 2],
+) -> Job<'a, J, R> {
     Job {
         me: attach(rt, heap),
+        flags,
         word: Reply::Done,
         seen: false,
+    }
+}
+
+// So many mutators come.
+fn come<'a, J: Naming, R: Wait + Abort>(
+    rt: &'a R,
+    alloc: Global,
+    heap: &'a SharedHeap<J>,
+    flags: &'a [AtomicU64; 2],
+    count: u8,
+) -> Result<Vec<Job<'a, J, R>>, AllocError> {
+    let mut jobs = Vec::new(alloc);
+    for _ in 0..count {
+        jobs.push(make_job(rt, heap, flags))?;
+    }
+    Ok(jobs)
+}
+
+// What the job with this number found.
+fn found_by<J: Naming, R: Wait>(jobs: &[Job<'_, J, R>], number: usize) -> (Reply, bool) {
+    match jobs.get(number) {
+        Some(job) => (job.word, job.seen),
+        None => (Reply::Done, false),
     }
 }
 
@@ -78,10 +112,9 @@ fn run_both<J: Naming + Send + Sync, R: Threads + Wait + Abort + Sync>(
     heap: &SharedHeap<J>,
 ) -> Result<[(Reply, bool); 2], AllocError> {
     let flags = [AtomicU64::new(0), AtomicU64::new(0)];
-    let jobs = vec![in alloc; make_job(rt, heap), make_job(rt, heap)]?;
-    let work = |job| { run_job(&flags, job) };
-    let jobs = run_each::<_, _, Runs, _>(rt, alloc, &Runs, &work, jobs)?;
-    Ok([(jobs[0].word, jobs[0].seen), (jobs[1].word, jobs[1].seen)])
+    let jobs = come(rt, alloc, heap, &flags, 2)?;
+    let jobs = run_each::<_, _, Runs, _>(rt, alloc, &Runs, &run_job, jobs)?;
+    Ok([found_by(jobs.as_slice(), 0), found_by(jobs.as_slice(), 1)])
 }
 
 fn two_mutators<J: Naming + Send + Sync, R: Threads + Wait + Abort + Sync>(
@@ -106,9 +139,9 @@ fn each_mutator_loads_its_own_word(rt: HostRuntime) -> Result<(), Fail> {
 
 // A mutator in a thread allocates.
 fn allocate<'a, J: Naming, R: Wait>(job: Job<'a, J, R>) -> Job<'a, J, R> {
-    let Job { mut me, seen, .. } = job;
-    let word = me.call(Call::Alloc(reg(1), 2, Kind::Normal));
-    Job { me, word, seen }
+    let mut job = job;
+    job.word = job.me.call(Call::Alloc(reg(1), 2, Kind::Normal));
+    job
 }
 
 // Sixteen mutators come, each gets a thread of its own or one is refused it, and all go.
@@ -117,12 +150,9 @@ fn run_sixteen<J: Naming + Send + Sync, R: Threads + Wait + Abort + Sync>(
     alloc: Global,
     heap: &SharedHeap<J>,
 ) -> Result<(), AllocError> {
-    let mut jobs = Vec::with_capacity(alloc, usize::from(SLOTS))?;
-    for _ in 0..SLOTS {
-        jobs.push(make_job(rt, heap))?;
-    }
-    let work = |job| { allocate(job) };
-    let _answer = run_each::<_, _, Runs, _>(rt, alloc, &Runs, &work, jobs);
+    let flags = [AtomicU64::new(0), AtomicU64::new(0)];
+    let jobs = come(rt, alloc, heap, &flags, SLOTS)?;
+    let _answer = run_each::<_, _, Runs, _>(rt, alloc, &Runs, &allocate, jobs);
     Ok(())
 }
 

@@ -1,5 +1,6 @@
 //! Four mutators beside constant cycles, ended with helpers and without: each stores and loads its own numbers, and every load answers what was stored.
 
+use crate::fakes::Taken;
 use crate::runs::{Setting, run};
 use final_pause::Open;
 use std::alloc::{AllocError, Global};
@@ -7,7 +8,6 @@ use std::process::Abort;
 use std::sync::Wait;
 use std::test::Fail;
 use std::thread::Threads;
-use test_scripts::fakes::Taken;
 
 const MUTATORS: u32 = 4;
 

@@ -1,11 +1,11 @@
 //! Reads and allocations that fail.
 
+use crate::fakes::Script;
 use crate::rules::mutators_of;
 use crate::stress::lines_of;
 use scripts::ScriptError;
 use std::alloc::Global;
 use std::process::Abort;
-use test_scripts::fakes::Script;
 use workloads::{RunError, make_stress};
 
 const WORKLOAD: &str = "attach\nattach\n0 alloc 1 3 normal\ngc begin\n1 set 2 77\ngc finish\n";

@@ -1,16 +1,25 @@
-//! Workloads as their users see them: rules and bad lines, random scripts, and readers, writers and memory that fail; on threads worked
-//! rows under gates that hold actors back, mutators beside constant cycles, and random workloads; and pauses with helpers as users of a
-//! core see them: they keep what a pause alone keeps.
+//! Scripts as their readers and writers see them: rows, bad lines, and readers, writers and memory that fail. Workloads as their
+//! users see them: rules and bad lines, random scripts, and what fails; on threads worked rows under gates that hold actors back,
+//! mutators beside constant cycles, and random workloads; and pauses with helpers as users of a core see them: they keep what a pause
+//! alone keeps.
 #![tactic(auto)]
 
 #[cfg(test)]
+mod bad_lines;
+#[cfg(test)]
 mod beside_cycles;
 #[cfg(test)]
+mod collections;
+#[cfg(test)]
 mod failures;
+#[cfg(test)]
+mod fakes;
 #[cfg(test)]
 mod gates;
 #[cfg(test)]
 mod helped_cores;
+#[cfg(test)]
+mod overflow;
 #[cfg(test)]
 mod pause;
 #[cfg(test)]
@@ -30,4 +39,16 @@ mod rules;
 #[cfg(test)]
 mod runs;
 #[cfg(test)]
+mod scene;
+#[cfg(test)]
+mod script_faults;
+#[cfg(test)]
+mod script_rows;
+#[cfg(test)]
+mod std_calls;
+#[cfg(test)]
 mod stress;
+#[cfg(test)]
+mod tables;
+#[cfg(test)]
+mod turns;

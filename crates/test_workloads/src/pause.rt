@@ -1,5 +1,6 @@
 //! A cycle that runs while a mutator is held back, ended with helpers that meet, and memory that is refused then.
 
+use crate::fakes::{Script, Taken};
 use crate::gates::HeldPause;
 use crate::possible::may_print;
 use crate::runs::{Setting, run};
@@ -11,7 +12,6 @@ use std::sync::Wait;
 use std::sync::atomic::Ordering;
 use std::test::Fail;
 use std::thread::Threads;
-use test_scripts::fakes::{Script, Taken};
 use workloads::Workload;
 
 const PAGES: u32 = 4;

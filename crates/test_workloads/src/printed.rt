@@ -1,11 +1,11 @@
 //! Replies are printed actor by actor.
 
+use crate::fakes::Taken;
 use heap_spec::Reply;
 use scripts::ScriptError;
 use std::alloc::{AllocError, Global};
 use std::process::Abort;
 use std::test::Fail;
-use test_scripts::fakes::Taken;
 use words::{Refusal, Slot};
 use workloads::{Lines, Replies, print_replies};
 

@@ -1,5 +1,6 @@
 //! Random workloads.
 
+use crate::fakes::{Script, Taken};
 use crate::possible::may_print;
 use crate::runs::{Setting, run};
 use final_pause::Open;
@@ -9,7 +10,6 @@ use std::process::Abort;
 use std::sync::Wait;
 use std::test::Fail;
 use std::thread::Threads;
-use test_scripts::fakes::{Script, Taken};
 use words::limits::MAX_PAGES;
 use workloads::{RunError, Workload, make_stress};
 

@@ -1,5 +1,6 @@
 //! Threads that are refused. By itself this runs with threads enough; `tests/refused_threads.sh` refuses each thread in turn.
 
+use crate::fakes::Taken;
 use crate::runs::{Setting, run};
 use final_pause::Gate;
 use scripts::ScriptError;
@@ -9,7 +10,6 @@ use std::sync::Wait;
 use std::sync::atomic::{AtomicU64, Ordering};
 use std::test::Fail;
 use std::thread::Threads;
-use test_scripts::fakes::Taken;
 use words::limits::{MAX_HELPERS, SLOTS};
 
 const SETTING: Setting = Setting {

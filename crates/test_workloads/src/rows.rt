@@ -1,5 +1,6 @@
 //! Worked rows.
 
+use crate::fakes::Taken;
 use crate::gates::{Meeting, TwoThreads};
 use crate::runs::{Setting, run};
 use final_pause::Open;
@@ -10,7 +11,6 @@ use std::sync::Wait;
 use std::sync::atomic::Ordering;
 use std::test::Fail;
 use std::thread::Threads;
-use test_scripts::fakes::Taken;
 
 const SETTING: Setting = Setting {
     pages: 4,

