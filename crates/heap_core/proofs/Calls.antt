@@ -46,7 +46,7 @@ use Rattle.heap_view.proofs.Shows.{at_base}
 use Rattle.object_space.proofs.Sweeping.{read_or_not}
 use Rattle.object_space.specs.Rooms.{HasRoomAt, HasNoRoom}
 use Rattle.heap_core.proofs.Lookups.{finds}
-use Rattle.heap_core.proofs.Roots.{core_of, attached, stands_set, none_some}
+use Rattle.heap_core.proofs.Roots.{not_done, core_of, attached, stands_set, none_some}
 
 -- pages were swept
 pub swept_stands : (roots : RootSet) (t0 t : Store) (y : Cycle) → Sweeps t0 y.marking.marks t → (s : Heap) → StandsFor (core_of roots t0 y) s → StandsFor (core_of roots t y) s
@@ -131,6 +131,7 @@ allocated roots roots' t0 t t' y y' slot d n base kind place m at is sweeps room
   dirty = λ p h. inl (subst (λ ds. Has ds p) notes.dirty h);
   fewer = λ p h. sweeps.fewer p (subst (λ row. Has row p) gains.pending h);
   swept = λ p h. inr tt;
+  full = λ h. absurd (not_done (Mutator slot (Alloc d n kind)) h);
   roots_alone = λ not. absurd (not tt);
 }
   where
@@ -174,6 +175,7 @@ full roots t0 t y slot d n kind place m at is sweeps swept none = record {
   stack = refl;
   fewer = sweeps.fewer;
   swept = λ p h. inr tt;
+  full = λ h. swept;
   roots_alone = λ not. absurd (not tt);
 }
 
@@ -243,6 +245,7 @@ freed roots t t' y y' slot r m f lawful at is base loses frees phase count = rec
   stack = frees.stack;
   fewer = loses.fewer;
   swept = λ p h. ⊎_elim (λ same. inr (m, at, f, is, same)) (λ ne. inl (loses.rest p ne ∙ h)) (cases_eq p f.page);
+  full = λ h. absurd (not_done (Mutator slot (Free r)) h);
   roots_alone = λ not. absurd (not tt);
 }
   where

@@ -13,7 +13,7 @@ use Rattle.roots.specs.Roots.{root_words_of}
 use Rattle.object_space.specs.Store.{Store, IsSwept}
 use Rattle.heap_core.specs.Contents.{Contents, Cycle}
 use Rattle.heap_core.specs.Standing.{StandsFor}
-use Rattle.object_space.specs.Sweeps.{ForgetsUnreached, Sweeps}
+use Rattle.object_space.specs.Sweeps.{ForgetsUnreached, Sweeps, SweepsAny, KeepsCells}
 use Rattle.object_space.specs.Kept.{restrict, is_kept, IsPendingAfter}
 use Rattle.object_space.proofs.Kept.{kept_same, nothing_pending}
 use Rattle.object_space.proofs.Allocations.{shows_same}
@@ -41,18 +41,22 @@ pub begins : (c : Contents) (t : Store) (m : Marking) → Sweeps c.store c.cycle
     → BeginsCycle c (record { roots = c.roots; store = t; cycle = record { marking = m; is_marking = true; count = c.cycle.count } })
 begins c t m sweeps swept fresh = record {
   stands = λ s h. stands_still (record c { store = t }) _ swept s (swept_stands c.roots c.store t c.cycle sweeps s h);
+  roots = refl;
   phase = refl;
   count = refl;
   fresh = fresh;
   swept = swept;
 }
 
-pub sweeps_one : (c : Contents) (t : Store) (n : ℕ) → Sweeps c.store c.cycle.marking.marks t → n ≤ 1 → count_by (λ b. b) t.pending + n ≡ count_by (λ b. b) c.store.pending → (n ≡ 0 → IsSwept c.store × (t ≡ c.store))
+pub sweeps_one : (c : Contents) (t : Store) (n : ℕ) → Sweeps c.store c.cycle.marking.marks t → n ≤ 1
+    → (n ≡ 1 → SweepsAny c.store c.cycle.marking.marks t) → count_by (λ b. b) t.pending + n ≡ count_by (λ b. b) c.store.pending → (n ≡ 0 → IsSwept c.store × (t ≡ c.store))
     → SweepsOne c n (record { roots = c.roots; store = t; cycle = c.cycle })
-sweeps_one c t n sweeps few fewer none = record {
+sweeps_one c t n sweeps few page fewer none = record {
   stands = λ s h. swept_stands c.roots c.store t c.cycle sweeps s h;
+  roots = refl;
   cycle = refl;
   few = few;
+  page = page;
   fewer = fewer;
   only = sweeps.fewer;
   none = λ zero. let x = none zero in (x.0, ap (λ (x : Store). record c { store = x }) x.1);
@@ -80,20 +84,21 @@ closes_marks c m map swept traces done closed = record {
   all = λ s h. all_marked c map swept s h m closed;
 }
 
-pub ends_cycle : (c : Contents) (t' : Store) (m : Marking) (count n : ℕ) → IsMap (length c.store.states) (found_in c.store.states) → IsSwept c.store → ForgetsUnreached c.store (root_words_of c.roots) c.cycle.marking n m.marks t' → IsPendingAfter t'.states m.marks t'.pending
+pub ends_cycle : (c : Contents) (t' : Store) (m : Marking) (count n : ℕ) → IsMap (length c.store.states) (found_in c.store.states) → IsSwept c.store → ForgetsUnreached c.store (root_words_of c.roots) c.cycle.marking n m.marks t' → KeepsCells c.store t' → IsPendingAfter t'.states m.marks t'.pending → IsDone m
     → count ≡ (c.cycle.count + 1) % word_end → EndsCycle c n (record { roots = c.roots; store = t'; cycle = record { marking = m; is_marking = false; count = count } })
-ends_cycle c t' m count n map swept x pending counts = record {
-  ends = record { phase = refl; count = counts };
+ends_cycle c t' m count n map swept x cells pending done counts = record {
+  ends = record { roots = refl; phase = refl; count = counts; done = done; marked = x.marked };
   forgets = λ s h. ends c map swept s h t' _ n x;
+  cells = cells;
   pending = pending;
 }
 
 -- a collection sweeps, and drops the marks, first
 pub collects_all : (c : Contents) (t : Store) (dropped : Marking) (t' : Store) (m : Marking) (count n : ℕ) → IsMap (length t.states) (found_in t.states) → Sweeps c.store c.cycle.marking.marks t → IsSwept t → IsFresh (length t.states) dropped
-    → ForgetsUnreached t (root_words_of c.roots) dropped n m.marks t' → IsSwept t' → count ≡ (c.cycle.count + 1) % word_end
+    → ForgetsUnreached t (root_words_of c.roots) dropped n m.marks t' → IsSwept t' → IsDone m → count ≡ (c.cycle.count + 1) % word_end
     → CollectsAll c n (record { roots = c.roots; store = t'; cycle = record { marking = m; is_marking = false; count = count } })
-collects_all c t dropped t' m count n map sweeps swept fresh x swept' counts = record {
-  ends = record { phase = refl; count = counts };
+collects_all c t dropped t' m count n map sweeps swept fresh x swept' done counts = record {
+  ends = record { roots = refl; phase = refl; count = counts; done = done; marked = x.marked };
   swept = swept';
   collects = λ s h. collects (record { roots = c.roots; store = t; cycle = record c.cycle { marking = dropped } }) map swept s (stands_still (record c { store = t }) _ swept s (swept_stands c.roots c.store t c.cycle sweeps s h)) t' _ n fresh x;
 }

@@ -2,12 +2,12 @@
 use Rattle.std.proofs.Common.{inl, ◌≡◌, ℕ, set, Some, None, refl, sym, ap, ◌∙◌, subst}
 use Rattle.std.specs.Prelude.{slice_get}
 use Rattle.words.specs.declared.refusal.Refusal.{Refusal}
-use Rattle.words.specs.declared.refusal.Refusal.TheVariants.{NoSlot}
+use Rattle.words.specs.declared.refusal.Refusal.TheVariants.{NoSlot, Full}
 use Rattle.heap_spec.specs.declared.call.Call.{Call}
 use Rattle.heap_spec.specs.declared.event.Event.{Event}
 use Rattle.heap_spec.specs.declared.event.Event.TheVariants.{Mutator}
 use Rattle.heap_spec.specs.declared.reply.Reply.{Reply}
-use Rattle.heap_spec.specs.declared.reply.Reply.TheVariants.{Refused}
+use Rattle.heap_spec.specs.declared.reply.Reply.TheVariants.{Refused, Done}
 use Rattle.heap_spec.specs.Heap.{Heap, Mutator as HeapMutator, IsAttached}
 use Rattle.heap_spec.specs.Replies.{IsStep}
 use Rattle.heap_spec.specs.Steps.{Acts, Calls, Step}
@@ -16,7 +16,7 @@ use Rattle.roots.specs.Roots.{RootSet, HasMutator, HasNoMutator, with_word, with
 use Rattle.roots.proofs.Steps.{set_mutators}
 use Rattle.object_space.specs.Store.{Store}
 use Rattle.heap_core.specs.Contents.{Contents, Cycle}
-use Rattle.heap_core.specs.Calls.{IsCall}
+use Rattle.heap_core.specs.Calls.{IsCall, FindsNoPlace, ReachesPages}
 use Rattle.object_space.specs.Kept.{is_kept}
 use Rattle.object_space.specs.Stores.{Stores}
 use Rattle.heap_core.specs.Standing.{StandsFor}
@@ -28,9 +28,28 @@ core_of roots t y = record { roots = roots; store = t; cycle = y }
 pub none_some : (f : Found) → None ≡ Some f → ⊥
 none_some f e = cc
 
+-- an allocation for which there is no place reaches the pages
+full_reaches : (event : Event) (reply : Reply) → FindsNoPlace event reply → ReachesPages event reply
+full_reaches event reply FindsNoPlace.full = tt
+
+full_reply : (event : Event) (reply : Reply) → FindsNoPlace event reply → reply ≡ Refused Full
+full_reply event reply FindsNoPlace.full = refl
+
+-- an event that doesn't is none
+pub not_reaching : (event : Event) (reply : Reply) → (ReachesPages event reply → ⊥) → FindsNoPlace event reply → ⊥
+not_reaching event reply not h = not (full_reaches event reply h)
+
+-- nor is one that was done
+pub not_done : (event : Event) → FindsNoPlace event Done → ⊥
+not_done event h = other (full_reply event Done h)
+  where
+    other : Done ≡ Refused Full → ⊥
+    other e = cc
+
 -- a call that leaves the store and the cycle as they are
-pub quiet : (c : Contents) (roots : RootSet) (event : Event) (reply : Reply) → IsStep (StandsFor c) event reply (StandsFor (record c { roots = roots })) → IsCall c event reply (record c { roots = roots })
-quiet c roots event reply steps = record {
+pub quiet : (c : Contents) (roots : RootSet) (event : Event) (reply : Reply) → (FindsNoPlace event reply → ⊥)
+    → IsStep (StandsFor c) event reply (StandsFor (record c { roots = roots })) → IsCall c event reply (record c { roots = roots })
+quiet c roots event reply not_full steps = record {
   steps = steps;
   phase = refl;
   count = refl;
@@ -43,12 +62,14 @@ quiet c roots event reply steps = record {
   stack = refl;
   fewer = λ p h. h;
   swept = λ p h. inl h;
+  full = λ h. absurd (not_full h);
   roots_alone = λ not. (refl, refl);
 }
 
 -- a step that changes no more than the roots
-pub steps_roots : (roots roots' : RootSet) (t : Store) (y : Cycle) (event : Event) (reply : Reply) → StepsRoots roots event reply roots' → IsCall (core_of roots t y) event reply (core_of roots' t y)
-steps_roots roots roots' t y event reply steps = quiet (core_of roots t y) roots' event reply (λ s h.
+pub steps_roots : (roots roots' : RootSet) (t : Store) (y : Cycle) (event : Event) (reply : Reply) → (ReachesPages event reply → ⊥) → StepsRoots roots event reply roots'
+    → IsCall (core_of roots t y) event reply (core_of roots' t y)
+steps_roots roots roots' t y event reply apart steps = quiet (core_of roots t y) roots' event reply (not_reaching event reply apart) (λ s h.
     let same : with_roots s roots ≡ s =
     ap (λ ms. record s { mutators = ms; globals = roots.globals }) (sym h.mutators) ∙ ap (λ gs. record s { globals = gs }) (sym h.globals) in (
       with_roots s roots',
@@ -62,12 +83,15 @@ attached roots t y s slot m h at = ap (λ ms. slice_get ms slot) h.mutators ∙ 
 
 -- a call for a slot that has no mutator
 pub refused_vacant : (c : Contents) (slot : ℕ) (call : Call) → HasNoMutator c.roots slot → IsCall c (Mutator slot call) (Refused NoSlot) c
-refused_vacant c slot call none = quiet c c.roots (Mutator slot call) (Refused NoSlot) (λ s h. (s, Calls.vacant (ap (λ ms. slice_get ms slot) h.mutators ∙ none), h))
+refused_vacant c slot call none = quiet c c.roots (Mutator slot call) (Refused NoSlot) (λ h. other (full_reply (Mutator slot call) (Refused NoSlot) h)) (λ s h. (s, Calls.vacant (ap (λ ms. slice_get ms slot) h.mutators ∙ none), h))
+  where
+    other : Refused NoSlot ≡ Refused Full → ⊥
+    other e = cc
 
 -- a call of a mutator that is refused
-pub refused : (roots : RootSet) (t : Store) (y : Cycle) (slot : ℕ) (m : HeapMutator) (call : Call) (refusal : Refusal) → HasMutator roots slot m
+pub refused : (roots : RootSet) (t : Store) (y : Cycle) (slot : ℕ) (m : HeapMutator) (call : Call) (refusal : Refusal) → HasMutator roots slot m → (ReachesPages (Mutator slot call) (Refused refusal) → ⊥)
     → ((s : Heap) → Stores (is_kept t.pending y.marking.marks) t s → Acts s slot m call (Refused refusal) s) → IsCall (core_of roots t y) (Mutator slot call) (Refused refusal) (core_of roots t y)
-refused roots t y slot m call refusal at acts = quiet (core_of roots t y) roots (Mutator slot call) (Refused refusal) (λ s h. (s, Calls.acts (attached roots t y s slot m h at) (acts s h.store), h))
+refused roots t y slot m call refusal at apart acts = quiet (core_of roots t y) roots (Mutator slot call) (Refused refusal) (not_reaching (Mutator slot call) (Refused refusal) apart) (λ s h. (s, Calls.acts (attached roots t y s slot m h at) (acts s h.store), h))
 
 -- the roots stand for those of a heap in which a register was set
 pub stands_set : (roots roots' : RootSet) (t t' : Store) (y y' : Cycle) (s after : Heap) (slot r w : ℕ) (m : HeapMutator) → StandsFor (core_of roots t y) s → HasMutator roots slot m → SetsWord roots slot r w roots'

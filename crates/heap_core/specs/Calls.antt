@@ -1,5 +1,6 @@
 -- What calls of mutators do to a core.
 use Rattle.std.specs.Prelude.{◌≡◌, ℕ, ◌⊎◌, Some, None, true}
+use Rattle.words.specs.declared.class.Kind.{Kind}
 use Rattle.words.specs.declared.refusal.Refusal.TheVariants.{Full}
 use Rattle.words.specs.Bits.{Has}
 use Rattle.words.specs.Layout.{page_of}
@@ -15,6 +16,7 @@ use Rattle.heap_spec.specs.Steps.{address, register}
 use Rattle.block_map.specs.declared.found.Found.{Found}
 use Rattle.marker.specs.Marking.{IsMarked}
 use Rattle.roots.specs.Roots.{HasMutator}
+use Rattle.object_space.specs.Store.{IsSwept}
 use Rattle.heap_core.specs.Contents.{Contents}
 use Rattle.heap_core.specs.Standing.{StandsFor, objects_of}
 
@@ -23,10 +25,10 @@ abbrev pub StoresOn : Contents → ℕ → Call → ℕ → Type 0
 StoresOn c slot (Store a n r) p = (m : HeapMutator) × HasMutator c.roots slot m × (p ≡ page_of (address m a n))
 StoresOn c slot _ p = ⊥
 
--- the page that an event with this reply has stored to, if it is a store that was done
-abbrev pub StoresTo : Contents → Event → Reply → ℕ → Type 0
-StoresTo c (Mutator slot call) Done p = StoresOn c slot call p
-StoresTo c _ _ p = ⊥
+-- the page that an event with this reply may make dirty: that of a store that was done while a cycle is marking
+abbrev pub MayDirty : Contents → Event → Reply → ℕ → Type 0
+MayDirty c (Mutator slot call) Done p = (c.cycle.is_marking ≡ true) × StoresOn c slot call p
+MayDirty c _ _ p = ⊥
 
 -- the call with this reply reaches the pages: a store, an allocation or a free that was done, or an allocation with no place
 abbrev pub CallReachesPages : Call → Reply → Type 0
@@ -41,6 +43,10 @@ abbrev pub ReachesPages : Event → Reply → Type 0
 ReachesPages (Mutator slot call) reply = CallReachesPages call reply
 ReachesPages _ _ = ⊥
 
+-- the event with this reply is an allocation for which there was no place
+pub data FindsNoPlace : Event → Reply → Type 0 where
+  full : {slot d n : ℕ} {kind : Kind} → FindsNoPlace (Mutator slot (Alloc d n kind)) (Refused Full)
+
 -- a page that a call of the slot may sweep: an allocation any, as it needs, and a free that of its object, which may become free
 abbrev pub CallMaySweep : Contents → ℕ → Call → ℕ → Type 0
 CallMaySweep c slot (Alloc d n kind) p = Unit {0}
@@ -54,8 +60,9 @@ MaySweep c _ p = ⊥
 
 -- A call of a mutator is a step of the heap. It leaves the phase and the count as they are, and the work of the marker too,
 -- but for its own part of it: no object that is there before and after is newly marked or loses its mark, an object that
--- comes while a cycle is marking is marked, and of the pages only the one that it has stored to may become dirty. No page
--- becomes one that is to be swept, and few calls sweep. Unless it reaches the pages it changes nothing but the roots.
+-- comes while a cycle is marking is marked, and of the pages only the one that it has stored to may become dirty, while a
+-- cycle is marking. No page becomes one that is to be swept, few calls sweep, and an allocation for which there was no place
+-- has left none to be swept. Unless it reaches the pages it changes nothing but the roots.
 pub record IsCall (old : Contents) (event : Event) (reply : Reply) (new : Contents) : Type 0 where
   pub steps : IsStep (StandsFor old) event reply (StandsFor new)
   pub phase : new.cycle.is_marking ≡ old.cycle.is_marking
@@ -63,10 +70,11 @@ pub record IsCall (old : Contents) (event : Event) (reply : Reply) (new : Conten
   pub marks : (f : Found) → objects_of new f.base ≡ Some f → IsMarked new.cycle.marking f.base → IsMarked old.cycle.marking f.base ⊎ (objects_of old f.base ≡ None)
   pub stays : (f : Found) → objects_of new f.base ≡ Some f → IsMarked old.cycle.marking f.base → IsMarked new.cycle.marking f.base
   pub came : old.cycle.is_marking ≡ true → (f : Found) → objects_of new f.base ≡ Some f → objects_of old f.base ≡ None → IsMarked new.cycle.marking f.base
-  pub dirty : (p : ℕ) → Has new.cycle.marking.dirty p → Has old.cycle.marking.dirty p ⊎ StoresTo old event reply p
+  pub dirty : (p : ℕ) → Has new.cycle.marking.dirty p → Has old.cycle.marking.dirty p ⊎ MayDirty old event reply p
   pub stays_dirty : (p : ℕ) → Has old.cycle.marking.dirty p → Has new.cycle.marking.dirty p
   pub current : new.cycle.marking.current ≡ old.cycle.marking.current
   pub stack : new.cycle.marking.stack ≡ old.cycle.marking.stack
   pub fewer : (p : ℕ) → Has new.store.pending p → Has old.store.pending p
   pub swept : (p : ℕ) → Has old.store.pending p → Has new.store.pending p ⊎ MaySweep old event p
+  pub full : FindsNoPlace event reply → IsSwept new.store
   pub roots_alone : (ReachesPages event reply → ⊥) → (new.store ≡ old.store) × (new.cycle ≡ old.cycle)

@@ -1,5 +1,5 @@
 -- What calls of the collector do to a core.
-use Rattle.std.specs.Prelude.{◌≡◌, ℕ, ◌+◌, ◌%◌, ◌<◌, ◌≤◌, Bool, true, false, List, [], length, count_by, Contains, Result, Ok, Err, if◌then◌else◌}
+use Rattle.std.specs.Prelude.{◌≡◌, ℕ, ◌+◌, ◌%◌, ◌<◌, ◌≤◌, Bool, true, false, List, [], length, count_by, Contains, Some, Result, Ok, Err, if◌then◌else◌}
 use Rattle.words.specs.Bits.{Has}
 use Rattle.words.specs.declared.refusal.Refusal.{Refusal}
 use Rattle.words.specs.declared.refusal.Refusal.TheVariants.{WrongPhase}
@@ -9,6 +9,7 @@ use Rattle.heap_spec.specs.Layout.{word_end}
 use Rattle.heap_spec.specs.Heap.{Heap, Object, HasObject}
 use Rattle.heap_spec.specs.Closure.{Closure}
 use Rattle.heap_spec.specs.Cycles.{TakesOut, CollectsFully}
+use Rattle.block_map.specs.declared.found.Found.{Found}
 use Rattle.marker.specs.Marking.{IsMarked, IsFresh, IsEmpty, IsClean, IsDone, StaysDirty}
 use Rattle.marker.specs.Invariant.{AreRootsMarked}
 use Rattle.marker.specs.Growth.{MarksWords, Traces}
@@ -19,8 +20,9 @@ use Rattle.roots.specs.Roots.{root_words_of}
 use Rattle.object_space.specs.Store.{IsSwept}
 use Rattle.heap_core.specs.Contents.{Contents}
 use Rattle.object_space.specs.Kept.{IsPendingAfter}
+use Rattle.object_space.specs.Sweeps.{KeepsCells, SweepsAny}
 use Rattle.block_map.specs.FoundIn.{found_in}
-use Rattle.heap_core.specs.Standing.{StandsFor}
+use Rattle.heap_core.specs.Standing.{StandsFor, objects_of}
 
 -- A call of the collector in one phase alone: granted exactly in that phase, refused in the other, and refused it changes
 -- nothing.
@@ -36,6 +38,7 @@ IsAlwaysGranted (Err refusal) P = ⊥
 -- A cycle begins: the core is marking, with no mark, no dirty page, no entry, and nothing to be swept.
 pub record BeginsCycle (old new : Contents) : Type 0 where
   pub stands : (s : Heap) → StandsFor old s → StandsFor new s
+  pub roots : new.roots ≡ old.roots
   pub phase : new.cycle.is_marking ≡ true
   pub count : new.cycle.count ≡ old.cycle.count
   pub fresh : IsFresh (length old.store.states) new.cycle.marking
@@ -92,16 +95,21 @@ pub record ForgetsOutside (s : Heap) (births : ℕ → Type 0) (reply : Reply) (
   pub outside : (base : ℕ) → Contains bases base → Closure s births base → ⊥
   pub all : (base : ℕ) (o : Object) → HasObject s base o → (Closure s births base → ⊥) → Contains bases base
 
--- The marking has ended, and one collection more is counted.
+-- The marking has ended, and one collection more is counted. No page is dirty and no entry is left, each object that is kept
+-- is marked, and no root has changed.
 pub record EndsMarking (old new : Contents) : Type 0 where
+  pub roots : new.roots ≡ old.roots
   pub phase : new.cycle.is_marking ≡ false
   pub count : new.cycle.count ≡ (old.cycle.count + 1) % word_end
+  pub done : IsDone new.cycle.marking
+  pub marked : (f : Found) → objects_of new f.base ≡ Some f → IsMarked new.cycle.marking f.base
 
--- A cycle ends: exactly the objects outside of the closure of the marks go, so many. The pages that are still to be swept
--- are then the blocks with an unmarked allocated object.
+-- A cycle ends: exactly the objects outside of the closure of the marks go, so many, the small ones only when their pages are
+-- swept. The pages that are still to be swept are then the blocks with an unmarked allocated object.
 pub record EndsCycle (old : Contents) (n : ℕ) (new : Contents) : Type 0 where
   pub ends : EndsMarking old new
   pub forgets : (s : Heap) → StandsFor old s → (s' : Heap) × ForgetsOutside s (IsMarkedBirth s old.cycle.marking) (Count n) s' × StandsFor new s'
+  pub cells : KeepsCells old.store new.store
   pub pending : IsPendingAfter new.store.states new.cycle.marking.marks new.store.pending
 
 -- A full collection: exactly the objects that are not reached go, so many, and nothing is left to be swept.
@@ -110,12 +118,14 @@ pub record CollectsAll (old : Contents) (n : ℕ) (new : Contents) : Type 0 wher
   pub swept : IsSwept new.store
   pub collects : (s : Heap) → StandsFor old s → (s' : Heap) × CollectsFully s (Count n) s' × StandsFor new s'
 
--- One page was swept if one was to be swept, and then one fewer is, none of them new; else nothing has changed. The core
--- stands for what it stood for.
+-- One page was swept if one was to be swept: its unmarked objects are gone, no other page has changed, and one fewer is to be
+-- swept, none of them new. Else nothing has changed. The core stands for what it stood for.
 pub record SweepsOne (old : Contents) (n : ℕ) (new : Contents) : Type 0 where
   pub stands : (s : Heap) → StandsFor old s → StandsFor new s
+  pub roots : new.roots ≡ old.roots
   pub cycle : new.cycle ≡ old.cycle
   pub few : n ≤ 1
+  pub page : n ≡ 1 → SweepsAny old.store old.cycle.marking.marks new.store
   pub fewer : count_by (λ b. b) new.store.pending + n ≡ count_by (λ b. b) old.store.pending
   pub only : (p : ℕ) → Has new.store.pending p → Has old.store.pending p
   pub none : n ≡ 0 → IsSwept old.store × (new ≡ old)

@@ -74,6 +74,13 @@ module _ (t : Store) (marks : List Bool) (page : ℕ) (lawful : IsLawful t.state
       lawful.found f.base f (record { page = subst (λ p. p < length t.states) (sym f_page) inside; on = subst (λ st. IsObjectOn st f) (sym (ap (state_at t.states) f_page ∙ at_head.2)) (at_head.3 ∙ ap (λ p. large_object p at_head.0 at_head.1) (sym f_page)) })
       (record { from = omega arith; below = omega arith })
 
+  long : PAGE_WORDS ≤ f.len
+  long =
+      let large : LaidAt t.states page (head at_head.0 at_head.1) = subst (LaidAt t.states page) at_head.2 (laid.each page inside) in
+      let some = large.0 in
+      let len : f.len ≡ PAGE_WORDS * at_head.0 = ap (λ (x : Found). x.len) at_head.3 in
+      omega arith
+
   only_large : (g : Found) → found_in t.states g.base ≡ Some g → g.page ≡ page → g ≡ f
   only_large g there here =
       let on : IsObjectOn (head at_head.0 at_head.1) g = subst (λ st. IsObjectOn st g) (ap (state_at t.states) here ∙ at_head.2) (lawful.object g.base g there).on in
@@ -92,7 +99,7 @@ module _ (t : Store) (marks : List Bool) (page : ℕ) (lawful : IsLawful t.state
       each = All-push (IsUnmarkedOn t.states marks page) [] f.base (λ k d lt. absurd (omega arith)) (record { object = f; is = large_found; at = refl; on = f_page; unmarked = not });
       all = λ g there here no_mark. subst (λ (x : Found). Contains (f.base ∷ []) x.base) (sym (only_large g there here)) (Contains-push [] f.base);
     };
-    change = gone f large_found refl (λ h. whole (subst (Has t.pending) f_page h)) loses;
+    change = gone f large_found refl long (λ h. whole (subst (Has t.pending) f_page h)) loses;
   }
 
 -- ---- a block
@@ -160,6 +167,7 @@ forgotten_none old marks swept = record {
   each = λ k d lt. absurd (omega arith);
   all = λ f there lt not. absurd (omega arith);
   less = λ w f e. e;
+  small = λ w f e short. e;
   stays = λ w f e h. e;
   unswept = λ w f e lt not. absurd (omega arith);
   only = λ p h. absurd (swept p h);
@@ -184,6 +192,7 @@ module _ (old : Store) (marks : List Bool) (page n : ℕ) (mid : Store) (before 
   module _ (k : ℕ) (new : Store) (bases : List ℕ) (number : k ≡ length bases) (few : k ≤ PAGE_GRANULES) (on : AreUnmarkedOn mid.states marks page bases)
       (words : KeepsWords (found_in new.states) mid.words new.words) (pages : length new.states ≡ length mid.states)
       (less : (w : ℕ) (f : Found) → found_in new.states w ≡ Some f → found_in mid.states w ≡ Some f)
+      (small : (w : ℕ) (f : Found) → found_in mid.states w ≡ Some f → f.len < PAGE_WORDS → found_in new.states w ≡ Some f)
       (stays : (w : ℕ) (f : Found) → found_in mid.states w ≡ Some f → Has marks (granule f.base) ⊎ (page + 1 ≤ f.page) → found_in new.states w ≡ Some f)
       (keeps_row : (w : ℕ) (f : Found) → found_in new.states w ≡ Some f → Has mid.pending f.page → Has new.pending f.page)
       (unswept_here : (w : ℕ) (f : Found) → found_in new.states w ≡ Some f → f.page ≡ page → (Has marks (granule f.base) → ⊥) → Has new.pending f.page)
@@ -205,6 +214,7 @@ module _ (old : Store) (marks : List Bool) (page n : ℕ) (mid : Store) (before 
           (λ ge. Contains-append_right h.bases bases f.base (on.all f (h.stays f.base f there (inr ge)) (omega arith) not))
           (cases_lt f.page page);
       less = λ w f e. h.less w f (less w f e);
+      small = λ w f e short. small w f (h.small w f e short) short;
       stays = λ w f e x. stays w f (h.stays w f e (⊎_elim (λ marked. inl marked) (λ ge. inr (omega arith)) x)) x;
       unswept = λ w f e lt not. ⊎_elim
           (λ low. keeps_row w f e (h.unswept w f (less w f e) low not))
@@ -223,10 +233,10 @@ module _ (old : Store) (marks : List Bool) (page n : ℕ) (mid : Store) (before 
 
       by : ForgetsBases mid page x.bases new → HasForgotten old marks (page + 1) (n + k) new
       by (nothing empty same) = subst (HasForgotten old marks (page + 1) (n + k)) (sym same)
-          (page_more k mid x.bases x.number x.few x.objects (λ f i there lt. refl) refl (λ w f e. e) (λ w f e y. e) (λ w f e p. p)
+          (page_more k mid x.bases x.number x.few x.objects (λ f i there lt. refl) refl (λ w f e. e) (λ w f e short. e) (λ w f e y. e) (λ w f e p. p)
           (λ w f e here not. absurd (none_here empty w f e here not)) h.only)
       by (unswept is_cut inside base has same) = subst (HasForgotten old marks (page + 1) (n + k)) (sym same)
-          (page_more k (record mid { pending = set mid.pending page true }) x.bases x.number x.few x.objects (λ f i there lt. refl) refl (λ w f e. e) (λ w f e y. e)
+          (page_more k (record mid { pending = set mid.pending page true }) x.bases x.number x.few x.objects (λ f i there lt. refl) refl (λ w f e. e) (λ w f e short. e) (λ w f e y. e)
           (λ w f e p. set_keeps f.page p)
           (λ w f e here not. ap (λ q. get_or (set mid.pending page true) q false) here ∙ get_or-set_same mid.pending page true false inside)
           (λ p now. ⊎_elim
@@ -240,8 +250,9 @@ module _ (old : Store) (marks : List Bool) (page n : ℕ) (mid : Store) (before 
               (λ (e : p ≡ page). ap (λ q. get_or (set mid.pending page true) q false) e ∙ get_or-set_same mid.pending page true false inside)
               (λ ne. get_or-set_other mid.pending page p true false ne ∙ was)
               (cases_eq p page)
-      by (gone f there_f one whole loses) =
+      by (gone f there_f one long whole loses) =
           page_more k new x.bases x.number x.few x.objects loses.words loses.pages less
+          (λ w g there short. sym (loses.removed.others w (λ r. let len = ap (λ (z : Found). z.len) (same_Some g f (sym there ∙ loses.removed.after w r)) in omega arith)) ∙ there)
           (λ w g there y. sym (loses.removed.others w (λ r. apart w g there r y)) ∙ there)
           (λ w g e was. loses.pending w g e ∙ was)
           (λ w g e here not. absurd (not_here w g e here not))
@@ -280,6 +291,7 @@ pub forgotten_all : (old : Store) (marks : List Bool) (n : ℕ) (now : Store) �
 forgotten_all old marks n now lawful row h = record {
   words = h.words;
   pages = h.pages;
+  cells = record { less = h.less; small = h.small };
   pending = record {
     unmarked = λ w f there is_cut not. h.unswept w f there (below w f (h.less w f there)) not;
     only = λ p has. let x = h.only p has in (x.0, x.1, x.2, x.3, row.cut p has, x.4);

@@ -1,7 +1,9 @@
 -- What is closed and then forgotten.
-use Rattle.std.proofs.Common.{◌≡◌, ℕ, ◌⊎◌, ⊎_elim, subst, sym, ◌∙◌, Bool, List, Option, Some}
+use Rattle.std.proofs.Common.{◌≡◌, ℕ, ◌⊎◌, ⊎_elim, subst, sym, refl, ◌∙◌, Bool, true, false, List, get_or, Option, Some}
 use Rattle.std.specs.Prelude.{◌↔◌}
+use Rattle.std.proofs.lemmas.Bool.{false≢true}
 use Rattle.words.specs.Bits.{Has}
+use Rattle.words.specs.Layout.{granule}
 use Rattle.block_map.specs.declared.found.Found.{Found}
 use Rattle.block_map.specs.FoundIn.{found_in}
 use Rattle.marker.specs.Marking.{Marking, IsMarked, IsObjectGranule, AreMarksObjects}
@@ -10,6 +12,14 @@ use Rattle.object_space.specs.Store.{Store}
 use Rattle.object_space.specs.Kept.{is_kept}
 use Rattle.object_space.specs.Sweeps.{ForgetsUnreached, ForgetsLazily, Sweeps}
 use Rattle.object_space.proofs.Kept.{kept_cases, kept_is, marked_kept}
+
+-- what is not without a mark has one
+marked_not : (marks : List Bool) (k : ℕ) → ((Has marks k → ⊥) → ⊥) → Has marks k
+marked_not marks k not = by (get_or marks k false) refl
+  where
+    by : (b : Bool) → get_or marks k false ≡ b → Has marks k
+    by true e = e
+    by false e = absurd (not (λ h. false≢true (sym e ∙ h)))
 
 -- lazily
 pub forgets_lazily : (old : Store) (roots : List ℕ) (m m' : Marking) (n : ℕ) (new : Store) → ForgetsLazily old m'.marks n new
@@ -24,6 +34,7 @@ forgets_lazily old roots m m' n new x closes = record {
     (λ is inside. (x.unmarked f there).0 is ((closes f there).1 inside)),
     (λ outside. (x.unmarked f there).1 (λ marked. outside ((closes f there).0 marked))),
   );
+  marked = λ f there. let k = x.without.left f.base f there in marked_not m'.marks (granule f.base) (λ not. k.1 ((x.unmarked f k.0).1 not));
 }
 
 -- and what is left to be swept is swept at once
@@ -40,6 +51,7 @@ sweeps_unreached old roots m n marks mid new x y = record {
     kept = λ w f e stays. y.same.same w ∙ x.without.kept w f e stays;
   };
   outside = x.outside;
+  marked = λ f there. x.marked f (sym (y.same.same f.base) ∙ there);
 }
 
 -- Each mark is that of an object that is left while pages are swept, since marked objects are kept.

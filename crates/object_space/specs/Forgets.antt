@@ -1,7 +1,7 @@
 -- What the end of a cycle forgets, page by page.
 use Rattle.std.specs.Prelude.{◌≡◌, ℕ, ◌*◌, ◌<◌, ◌≤◌, ◌⊎◌, true, Bool, slice_set, List, [], ◌∷◌, length, Contains, All, nat_eq, Some}
 use Rattle.std.specs.List.{IsDistinct}
-use Rattle.words.specs.declared.limits.TheConstants.{PAGE_GRANULES}
+use Rattle.words.specs.declared.limits.TheConstants.{PAGE_GRANULES, PAGE_WORDS}
 use Rattle.words.specs.Bits.{Has}
 use Rattle.words.specs.Layout.{granule}
 use Rattle.block_map.specs.declared.found.Found.{Found}
@@ -30,7 +30,7 @@ pub record AreUnmarkedOn (states : List PageState) (marks : List Bool) (page : �
 pub data ForgetsBases (old : Store) (page : ℕ) (bases : List ℕ) (new : Store) : Type 0 where
   nothing : bases ≡ [] → new ≡ old → ForgetsBases old page bases new
   unswept : IsCut (state_at old.states page) → page < length old.pending → (base : ℕ) → Contains bases base → new ≡ record old { pending = slice_set old.pending page true } → ForgetsBases old page bases new
-  gone : (f : Found) → found_in old.states f.base ≡ Some f → bases ≡ f.base ∷ [] → (Has old.pending f.page → ⊥) → Loses old f new → ForgetsBases old page bases new
+  gone : (f : Found) → found_in old.states f.base ≡ Some f → bases ≡ f.base ∷ [] → PAGE_WORDS ≤ f.len → (Has old.pending f.page → ⊥) → Loses old f new → ForgetsBases old page bases new
 
 -- The unmarked objects that begin on a page are forgotten, so many.
 pub record ForgetsOn (old : Store) (marks : List Bool) (page n : ℕ) (new : Store) : Type 0 where
@@ -51,6 +51,7 @@ pub record HasForgotten (old : Store) (marks : List Bool) (page n : ℕ) (now : 
   pub each : All (λ b. (p : ℕ) × (p < page) × IsUnmarkedOn old.states marks p b) bases
   pub all : (f : Found) → found_in old.states f.base ≡ Some f → f.page < page → (Has marks (granule f.base) → ⊥) → Contains bases f.base
   pub less : (w : ℕ) (f : Found) → found_in now.states w ≡ Some f → found_in old.states w ≡ Some f
+  pub small : (w : ℕ) (f : Found) → found_in old.states w ≡ Some f → f.len < PAGE_WORDS → found_in now.states w ≡ Some f
   pub stays : (w : ℕ) (f : Found) → found_in old.states w ≡ Some f → Has marks (granule f.base) ⊎ (page ≤ f.page) → found_in now.states w ≡ Some f
   pub unswept : (w : ℕ) (f : Found) → found_in now.states w ≡ Some f → f.page < page → (Has marks (granule f.base) → ⊥) → Has now.pending f.page
   pub only : (p : ℕ) → Has now.pending p → (w : ℕ) × (f : Found) × (found_in now.states w ≡ Some f) × (f.page ≡ p) × (Has marks (granule f.base) → ⊥)

@@ -1,7 +1,7 @@
 -- Objects that go, and objects that come, as changes of the store.
 use Rattle.std.specs.Prelude.{◌≡◌, ◌↔◌, ℕ, ◌+◌, ◌*◌, ◌<◌, ◌≤◌, ◌≢◌, count_by, Bool, false, slice_index_or, slice_set, List, length, Contains, All, nat_eq, Option, Some}
 use Rattle.std.specs.List.{IsDistinct}
-use Rattle.words.specs.declared.limits.TheConstants.{WORD_BYTES}
+use Rattle.words.specs.declared.limits.TheConstants.{PAGE_WORDS, WORD_BYTES}
 use Rattle.words.specs.declared.class.Kind.{Kind}
 use Rattle.words.specs.declared.class.Placement.{Placement}
 use Rattle.heap_spec.specs.Room.{length_of}
@@ -79,8 +79,8 @@ pub record HasPassed (old : Store) (marking : Marking) (from limit address n : �
   pub read : All (λ b. (w : ℕ) × (f : Found) × (from ≤ w) × (w < limit) × (found_in old.states w ≡ Some f) × (f.base ≡ b)) bases
   pub done : (w : ℕ) (f : Found) → from ≤ w → w < address → found_in now.states w ≡ Some f → IsMarked marking f.base
 
--- To the heap exactly the objects outside of the closure of the marks and the roots are gone, so many, and the words of the
--- others stay.
+-- To the heap exactly the objects outside of the closure of the marks and the roots are gone, so many. The others are marked
+-- now, and their words stay.
 pub record ForgetsUnreached (old : Store) (roots : List ℕ) (marking : Marking) (n : ℕ) (marks : List Bool) (new : Store) : Type 0 where
   pub words : KeepsWords (kept_in new.states new.pending marks) old.words new.words
   pub pages : length new.states ≡ length old.states
@@ -88,6 +88,7 @@ pub record ForgetsUnreached (old : Store) (roots : List ℕ) (marking : Marking)
   pub number : n ≡ length bases
   pub without : IsWithout (found_in old.states) (kept_in new.states new.pending marks) bases
   pub outside : (f : Found) → found_in old.states f.base ≡ Some f → Contains bases f.base ↔ (Closure (found_in old.states) old.words roots (IsMarked marking) f → ⊥)
+  pub marked : (f : Found) → kept_in new.states new.pending marks f.base ≡ Some f → Has marks (granule f.base)
 
 -- A page was swept: its unmarked objects are gone, and it is not to be swept any more. The words of all others stay, and
 -- nothing else has changed.
@@ -98,6 +99,10 @@ pub record SweepsPage (old : Store) (marks : List Bool) (page : ℕ) (new : Stor
   pub others : (w : ℕ) (f : Found) → found_in old.states w ≡ Some f → f.page ≢ page → found_in new.states w ≡ Some f
   pub marked : (w : ℕ) (f : Found) → found_in old.states w ≡ Some f → f.page ≡ page → Has marks (granule f.base) → found_in new.states w ≡ Some f
   pub only : (w : ℕ) (f : Found) → found_in new.states w ≡ Some f → (found_in old.states w ≡ Some f) × (f.page ≡ page → Has marks (granule f.base))
+
+-- one of the pages that are to be swept was swept
+abbrev pub SweepsAny : Store → List Bool → Store → Type 0
+SweepsAny old marks new = (page : ℕ) × Has old.pending page × SweepsPage old marks page new
 
 -- Pages were swept: the kept objects are the same, and their words stay.
 pub record Sweeps (old : Store) (marks : List Bool) (new : Store) : Type 0 where
@@ -126,11 +131,17 @@ pub record FindsNoRoom (old : Store) (marks : List Bool) (place : Placement) (ki
   pub swept : IsSwept new
   pub none : HasNoRoom new place kind
 
+-- No object has come, and each small one still has its cell: it goes when its page is swept.
+pub record KeepsCells (old new : Store) : Type 0 where
+  pub less : (w : ℕ) (f : Found) → found_in new.states w ≡ Some f → found_in old.states w ≡ Some f
+  pub small : (w : ℕ) (f : Found) → found_in old.states w ≡ Some f → f.len < PAGE_WORDS → found_in new.states w ≡ Some f
+
 -- Each unmarked object is forgotten, so many: the large ones are gone from the map, and the pages of the others are to be
 -- swept. The words of the objects of the map stay, and nothing else has changed.
 pub record ForgetsLazily (old : Store) (marks : List Bool) (n : ℕ) (new : Store) : Type 0 where
   pub words : KeepsWords (found_in new.states) old.words new.words
   pub pages : length new.states ≡ length old.states
+  pub cells : KeepsCells old new
   pub pending : IsPendingAfter new.states marks new.pending
   pub bases : List ℕ
   pub number : n ≡ length bases

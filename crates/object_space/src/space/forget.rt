@@ -4,12 +4,12 @@
 ghost use Rattle.std.specs.Prelude.{◌≡◌, ◌<◌, length};
 ghost use Rattle.block_map.specs.FoundIn.{found_in, IsLawful};
 ghost use Rattle.block_map.specs.States.{IsCut, state_at};
-ghost use Rattle.marker.specs.Marking.{AreMarksObjects};
+ghost use Rattle.marker.specs.Marking.{AreMarksObjects, IsDone};
 ghost use Rattle.marker.specs.Invariant.{DirtyPageInvariant};
 ghost use Rattle.object_space.specs.Store.{IsSwept, IsPendingRow};
 ghost use Rattle.object_space.specs.Kept.{IsPendingAfter};
 ghost use Rattle.object_space.specs.Forgets.{ForgetsOn};
-ghost use Rattle.object_space.specs.Sweeps.{ForgetsUnreached, ForgetsLazily};
+ghost use Rattle.object_space.specs.Sweeps.{ForgetsUnreached, ForgetsLazily, KeepsCells};
 
 use super::ObjectSpace;
 use marker::Marker;
@@ -90,7 +90,9 @@ impl ObjectSpace {
         requires objects { AreMarksObjects (found_in self.old.states) marker.old }
         requires invariant { DirtyPageInvariant (found_in self.old.states) self.old.words marker.old }
         ensures forgets { ForgetsUnreached self.old roots.now marker.old result marker.new.marks self.new }
+        ensures cells { KeepsCells self.old self.new }
         ensures pending { IsPendingAfter self.new.states marker.new.marks self.new.pending }
+        ensures done { IsDone marker.new }
         ensures pages { length marker.new.dirty ≡ length self.new.states }
         ensures objects { AreMarksObjects (found_in self.new.states) marker.new }
         ensures lawful { IsLawful self.old.states }
@@ -109,6 +111,7 @@ impl ObjectSpace {
         requires invariant { DirtyPageInvariant (found_in self.old.states) self.old.words marker.old }
         ensures forgets { ForgetsUnreached self.old roots.now marker.old result marker.new.marks self.new }
         ensures swept { IsSwept self.new }
+        ensures done { IsDone marker.new }
         ensures pages { length marker.new.dirty ≡ length self.new.states }
         ensures objects { AreMarksObjects (found_in self.new.states) marker.new }
         ensures lawful { IsLawful self.old.states }

@@ -8,7 +8,7 @@ ghost use Rattle.block_map.specs.States.{IsLaid};
 ghost use Rattle.words.specs.Bits.{Has};
 ghost use Rattle.words.specs.Layout.{page_start};
 ghost use Rattle.object_space.specs.Store.{IsSwept};
-ghost use Rattle.object_space.specs.Sweeps.{Passes, Sweeps, SweepsPage};
+ghost use Rattle.object_space.specs.Sweeps.{Passes, Sweeps, SweepsAny, SweepsPage};
 
 use super::ObjectSpace;
 use block_map::Found;
@@ -102,6 +102,7 @@ impl ObjectSpace {
         requires pages { length marker.now.dirty ≡ length self.old.states }
         ensures sweeps { Sweeps self.old marker.now.marks self.new }
         ensures none { result ≡ false → IsSwept self.old × (self.new ≡ self.old) }
+        ensures page { result ≡ true → SweepsAny self.old marker.now.marks self.new }
         ensures fewer { result ≡ true → count_by (λ b. b) self.new.pending + 1 ≡ count_by (λ b. b) self.old.pending }
     {
         // Its clauses tell that there are few.

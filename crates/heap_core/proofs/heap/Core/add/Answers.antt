@@ -5,4 +5,4 @@ use Rattle.heap_core.proofs.Roots.{steps_roots}
 use Rattle.heap_core.proofs.heap.Core.add.Goals as goal
 
 pub returns : goal.returns
-returns c = rw (← c.self.view_is) (steps_roots _ _ _ _ (Mutator c.args.slot (Add c.args.into c.args.from c.args.number)) (done_reply c.add.result) c.add.ensures)
+returns c = rw (← c.self.view_is) (steps_roots _ _ _ _ (Mutator c.args.slot (Add c.args.into c.args.from c.args.number)) (done_reply c.add.result) (λ h. h) c.add.ensures)

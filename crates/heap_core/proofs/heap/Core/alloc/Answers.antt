@@ -11,7 +11,7 @@ returns-in_default c = rw (← c.self.view_is) (refused_vacant _ _ _ c.in_defaul
 
 pub returns-in_default-class_of : goal.returns-in_default-class_of
 returns-in_default-class_of c = rw (← c.self.view_is)
-    (refused _ _ _ _ c.in-Some.field-0.now _ _ c.in-Some.ensures.some (λ s h. Acts.bad_size (sym c.in_default-class_of.ensures)))
+    (refused _ _ _ _ c.in-Some.field-0.now _ _ c.in-Some.ensures.some (λ h. h) (λ s h. Acts.bad_size (sym c.in_default-class_of.ensures)))
 
 pub allocate-requires-clause-request : goal.allocate-requires-clause-request
 allocate-requires-clause-request c = sized c.args.words _ (sym c.in-Some-class_of.ensures)

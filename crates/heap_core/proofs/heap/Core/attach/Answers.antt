@@ -4,4 +4,4 @@ use Rattle.heap_core.proofs.Roots.{steps_roots}
 use Rattle.heap_core.proofs.heap.Core.attach.Goals as goal
 
 pub returns : goal.returns
-returns c = rw (← c.self.view_is) (steps_roots _ _ _ _ Attach (slot_reply c.attach.result) c.attach.ensures)
+returns c = rw (← c.self.view_is) (steps_roots _ _ _ _ Attach (slot_reply c.attach.result) (λ h. h) c.attach.ensures)

@@ -5,4 +5,4 @@ use Rattle.heap_core.proofs.Roots.{steps_roots}
 use Rattle.heap_core.proofs.heap.Core.copy.Goals as goal
 
 pub returns : goal.returns
-returns c = rw (← c.self.view_is) (steps_roots _ _ _ _ (Mutator c.args.slot (Copy c.args.into c.args.from)) (done_reply c.copy.result) c.copy.ensures)
+returns c = rw (← c.self.view_is) (steps_roots _ _ _ _ (Mutator c.args.slot (Copy c.args.into c.args.from)) (done_reply c.copy.result) (λ h. h) c.copy.ensures)

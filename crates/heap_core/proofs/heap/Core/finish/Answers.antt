@@ -10,5 +10,5 @@ returns c =
     rw (← c.self.view_is) (
       c.if-not-self.false,
       ends_cycle _ _ _ _ _ c.finish-count.ensures.lawful.map (c.self.invariant.swept c.if-not-self.false)
-          (subst (λ rs. ForgetsUnreached c.self.inside.objects rs c.self.inside.marker c.finish-count.result c.finish-count.new.marker.marks c.finish-count.new.self) e c.finish-count.ensures.forgets) c.finish-count.ensures.pending refl,
+          (subst (λ rs. ForgetsUnreached c.self.inside.objects rs c.self.inside.marker c.finish-count.result c.finish-count.new.marker.marks c.finish-count.new.self) e c.finish-count.ensures.forgets) c.finish-count.ensures.cells c.finish-count.ensures.pending c.finish-count.ensures.done refl,
     )

@@ -12,12 +12,12 @@ returns-in_default c = rw (← c.self.view_is) (refused_vacant _ _ _ c.in_defaul
 
 pub returns-in_default-find : goal.returns-in_default-find
 returns-in_default-find c = rw (← c.self.view_is)
-    (refused _ _ _ _ c.in-Some.mutator.now _ _ c.in-Some.ensures.some
+    (refused _ _ _ _ c.in-Some.mutator.now _ _ c.in-Some.ensures.some (λ h. h)
     (λ s h. Acts.free_nothing (finds_nothing _ _ s _ c.in_default-find.ensures.lawful h (rw c.word-word.ensures at (sym c.in_default-find.ensures.found)))))
 
 pub returns-then-found-word : goal.returns-then-found-word
 returns-then-found-word c = rw (← c.self.view_is)
-    (refused _ _ _ _ c.in-Some.mutator.now _ _ c.in-Some.ensures.some
+    (refused _ _ _ _ c.in-Some.mutator.now _ _ c.in-Some.ensures.some (λ h. h)
     (λ s h. inside _ _ s _ _ _ c.in-Some-find.found c.in-Some-find.ensures.lawful (rw c.word-word.ensures at (sym c.in-Some-find.ensures.found)) (rw c.word-word.ensures at c.if-found-word.true) h))
 
 pub release-requires-clause-found : goal.release-requires-clause-found

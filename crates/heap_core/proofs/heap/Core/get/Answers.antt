@@ -5,4 +5,4 @@ use Rattle.heap_core.proofs.Roots.{steps_roots}
 use Rattle.heap_core.proofs.heap.Core.get.Goals as goal
 
 pub returns : goal.returns
-returns c = rw (← c.self.view_is) (steps_roots _ _ _ _ (Mutator c.args.slot (Get c.args.reg)) (word_reply c.get.result) c.get.ensures)
+returns c = rw (← c.self.view_is) (steps_roots _ _ _ _ (Mutator c.args.slot (Get c.args.reg)) (word_reply c.get.result) (λ h. h) c.get.ensures)

@@ -5,4 +5,4 @@ use Rattle.heap_core.proofs.Roots.{steps_roots}
 use Rattle.heap_core.proofs.heap.Core.gget.Goals as goal
 
 pub returns : goal.returns
-returns c = rw (← c.self.view_is) (steps_roots _ _ _ _ (Mutator c.args.slot (GlobalGet c.args.into c.args.global)) (word_reply c.gget.result) c.gget.ensures)
+returns c = rw (← c.self.view_is) (steps_roots _ _ _ _ (Mutator c.args.slot (GlobalGet c.args.into c.args.global)) (word_reply c.gget.result) (λ h. h) c.gget.ensures)

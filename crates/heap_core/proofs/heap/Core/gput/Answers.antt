@@ -5,4 +5,4 @@ use Rattle.heap_core.proofs.Roots.{steps_roots}
 use Rattle.heap_core.proofs.heap.Core.gput.Goals as goal
 
 pub returns : goal.returns
-returns c = rw (← c.self.view_is) (steps_roots _ _ _ _ (Mutator c.args.slot (GlobalPut c.args.global c.args.from)) (done_reply c.gput.result) c.gput.ensures)
+returns c = rw (← c.self.view_is) (steps_roots _ _ _ _ (Mutator c.args.slot (GlobalPut c.args.global c.args.from)) (done_reply c.gput.result) (λ h. h) c.gput.ensures)

@@ -11,11 +11,11 @@ returns-in_default c = rw (← c.self.view_is) (refused_vacant _ _ _ c.in_defaul
 
 pub returns-then-address-ne0 : goal.returns-then-address-ne0
 returns-then-address-ne0 c = rw (← c.self.view_is)
-    (refused _ _ _ _ c.in-Some.mutator.now _ _ c.in-Some.ensures.some (λ s h. Acts.load_misaligned (rw c.address-address.ensures at c.if-address-ne0.true)))
+    (refused _ _ _ _ c.in-Some.mutator.now _ _ c.in-Some.ensures.some (λ h. h) (λ s h. Acts.load_misaligned (rw c.address-address.ensures at c.if-address-ne0.true)))
 
 pub returns-in_default-find : goal.returns-in_default-find
 returns-in_default-find c = rw (← c.self.view_is)
-    (refused _ _ _ _ c.in-Some.mutator.now _ _ c.in-Some.ensures.some
+    (refused _ _ _ _ c.in-Some.mutator.now _ _ c.in-Some.ensures.some (λ h. h)
     (λ s h. Acts.load_nothing (rw c.address-address.ensures at c.if-address-ne0.false) (finds_nothing _ _ s _ c.in_default-find.ensures.lawful h (rw c.address-address.ensures at (sym c.in_default-find.ensures.found)))))
 
 pub read-word-requires : goal.read-word-requires

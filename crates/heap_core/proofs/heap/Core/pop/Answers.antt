@@ -5,4 +5,4 @@ use Rattle.heap_core.proofs.Roots.{steps_roots}
 use Rattle.heap_core.proofs.heap.Core.pop.Goals as goal
 
 pub returns : goal.returns
-returns c = rw (← c.self.view_is) (steps_roots _ _ _ _ (Mutator c.args.slot (Pop c.args.into)) (word_reply c.pop.result) c.pop.ensures)
+returns c = rw (← c.self.view_is) (steps_roots _ _ _ _ (Mutator c.args.slot (Pop c.args.into)) (word_reply c.pop.result) (λ h. h) c.pop.ensures)

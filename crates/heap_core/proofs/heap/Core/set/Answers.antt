@@ -5,4 +5,4 @@ use Rattle.heap_core.proofs.Roots.{steps_roots}
 use Rattle.heap_core.proofs.heap.Core.set.Goals as goal
 
 pub returns : goal.returns
-returns c = rw (← c.self.view_is) (steps_roots _ _ _ _ (Mutator c.args.slot (Set c.args.reg c.args.word)) (done_reply c.set.result) c.set.ensures)
+returns c = rw (← c.self.view_is) (steps_roots _ _ _ _ (Mutator c.args.slot (Set c.args.reg c.args.word)) (done_reply c.set.result) (λ h. h) c.set.ensures)

@@ -14,11 +14,11 @@ returns-in_default c = rw (← c.self.view_is) (refused_vacant _ _ _ c.in_defaul
 
 pub returns-then-target-ne0 : goal.returns-then-target-ne0
 returns-then-target-ne0 c = rw (← c.self.view_is)
-    (refused _ _ _ _ c.in-Some.mutator.now _ _ c.in-Some.ensures.some (λ s h. Acts.store_misaligned (rw c.address-target.ensures at c.if-target-ne0.true)))
+    (refused _ _ _ _ c.in-Some.mutator.now _ _ c.in-Some.ensures.some (λ h. h) (λ s h. Acts.store_misaligned (rw c.address-target.ensures at c.if-target-ne0.true)))
 
 pub returns-in_default-find : goal.returns-in_default-find
 returns-in_default-find c = rw (← c.self.view_is)
-    (refused _ _ _ _ c.in-Some.mutator.now _ _ c.in-Some.ensures.some
+    (refused _ _ _ _ c.in-Some.mutator.now _ _ c.in-Some.ensures.some (λ h. h)
     (λ s h. Acts.store_nothing (rw c.address-target.ensures at c.if-target-ne0.false) (finds_nothing _ _ s _ c.in_default-find.ensures.lawful h (rw c.address-target.ensures at (sym c.in_default-find.ensures.found)))))
 
 pub write-requires-clause-address : goal.write-requires-clause-address

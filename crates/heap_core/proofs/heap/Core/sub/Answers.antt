@@ -5,4 +5,4 @@ use Rattle.heap_core.proofs.Roots.{steps_roots}
 use Rattle.heap_core.proofs.heap.Core.sub.Goals as goal
 
 pub returns : goal.returns
-returns c = rw (← c.self.view_is) (steps_roots _ _ _ _ (Mutator c.args.slot (Sub c.args.into c.args.from c.args.less)) (done_reply c.sub.result) c.sub.ensures)
+returns c = rw (← c.self.view_is) (steps_roots _ _ _ _ (Mutator c.args.slot (Sub c.args.into c.args.from c.args.less)) (done_reply c.sub.result) (λ h. h) c.sub.ensures)

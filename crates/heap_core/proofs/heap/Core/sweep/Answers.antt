@@ -11,9 +11,9 @@ invariant_of-self c = traced_swept _ _ _ c.self.invariant c.sweep.ensures.sweeps
 
 pub returns : goal.returns
 returns c = rw (← c.self.view_is) (elim c.if-sweep.branch [
-  | then-sweep w ↦ rw w.result-is (sweeps_one _ _ 1 c.sweep.ensures.sweeps (omega arith) (c.sweep.ensures.fewer w.if-sweep.true) (λ zero. absurd (omega arith)))
+  | then-sweep w ↦ rw w.result-is (sweeps_one _ _ 1 c.sweep.ensures.sweeps (omega arith) (λ one. c.sweep.ensures.page w.if-sweep.true) (c.sweep.ensures.fewer w.if-sweep.true) (λ zero. absurd (omega arith)))
   | else-sweep w ↦
       let none = c.sweep.ensures.none w.if-sweep.false in
       let same : count_by (λ b. b) c.sweep.new.self.pending ≡ count_by (λ b. b) c.self.inside.objects.pending = ap (λ (t : Store). count_by (λ b. b) t.pending) none.1 in
-      rw w.result-is (sweeps_one _ _ 0 c.sweep.ensures.sweeps (omega arith) (omega arith) (λ zero. none))
+      rw w.result-is (sweeps_one _ _ 0 c.sweep.ensures.sweeps (omega arith) (λ one. absurd (omega arith)) (omega arith) (λ zero. none))
 ])

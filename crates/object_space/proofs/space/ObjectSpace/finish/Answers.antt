@@ -7,6 +7,9 @@ forget_lazily-requires-clause-objects c = objects_marked _ c.args.marker.now c.c
 pub returns-clause-forgets : goal.returns-clause-forgets
 returns-clause-forgets c = forgets_lazily _ _ _ c.close.new.marker _ _ c.forget_lazily.ensures c.close.ensures.closure
 
+pub returns-clause-cells : goal.returns-clause-cells
+returns-clause-cells c = c.forget_lazily.ensures.cells
+
 pub returns-clause-pending : goal.returns-clause-pending
 returns-clause-pending c = c.forget_lazily.ensures.pending
 
