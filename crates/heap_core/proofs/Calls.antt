@@ -55,7 +55,7 @@ swept_stands roots t0 t y sweeps s h = record {
   globals = h.globals;
   store = record {
     pages = h.store.pages ∙ sym sweeps.pages;
-    shows = shows_kept (kept_in t.states t.pending y.marking.marks) t0.words t.words s.objects s.births low sweeps.words
+    shows = shows_kept (kept_in t.states t.pending y.marking.marks) t0.words t.words s.objects s.births low (λ f i there lt. sweeps.words f i (kept_cases (is_kept t.pending y.marking.marks) (found_in t.states) f.base f there).0 lt)
         (shows_same (kept_in t0.states t0.pending y.marking.marks) (kept_in t.states t.pending y.marking.marks) t0.words s.objects s.births sweeps.same h.store.shows);
   };
 }

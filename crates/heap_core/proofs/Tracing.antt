@@ -17,7 +17,7 @@ use Rattle.marker.specs.Invariant.{DirtyPageInvariant}
 use Rattle.marker.specs.Mutations.{KeepsWords, IsFreed}
 use Rattle.marker.proofs.Mutating.{free_traced}
 use Rattle.object_space.specs.Kept.{is_kept}
-use Rattle.object_space.proofs.Kept.{kept_all, kept_cases, kept_is, marked_kept, nothing_pending}
+use Rattle.object_space.proofs.Kept.{kept_cases, kept_is, marked_kept}
 use Rattle.object_space.specs.Store.{Store, IsSwept}
 use Rattle.heap_core.specs.Contents.{Cycle, IsTraced}
 use Rattle.heap_core.specs.Beside.{NotesWrite, NotesObject}
@@ -99,21 +99,10 @@ traced_swept t0 t y x sweeps = record {
   pages = x.pages ∙ sym sweeps.pages;
   objects = λ k h. let o = x.objects k h in record { object = o.object; is = kept_stays o.object (subst (Has y.marking.marks) (sym o.first) h) o.is; first = o.first };
   swept = λ is page h. x.swept is page (sweeps.fewer page h);
-  invariant = λ is. free_traced (found_in t0.states) (found_in t.states) t0.words t.words y.marking (record { before = λ w f there. same is w ∙ there })
-      (λ f i there lt. sweeps.words f i (kept_is (is_kept t.pending y.marking.marks) (found_in t.states) f.base f there (swept is f)) lt) (x.invariant is);
+  invariant = λ is. free_traced (found_in t0.states) (found_in t.states) t0.words t.words y.marking sweeps.less sweeps.words (x.invariant is);
 }
   where
-    -- while a cycle is marking all objects are kept
-    swept : y.is_marking ≡ true → (f : Found) → is_kept t.pending y.marking.marks f ≡ true
-    swept is f = nothing_pending t.pending y.marking.marks f (λ h. x.swept is f.page (sweeps.fewer f.page h))
-
     -- a marked object is kept
     kept_stays : (f : Found) → Has y.marking.marks (granule f.base) → found_in t0.states f.base ≡ Some f → found_in t.states f.base ≡ Some f
     kept_stays f marked there =
         (kept_cases (is_kept t.pending y.marking.marks) (found_in t.states) f.base f (sweeps.same.same f.base ∙ kept_is (is_kept t0.pending y.marking.marks) (found_in t0.states) f.base f there (marked_kept t0.pending y.marking.marks f marked))).0
-
-    same : y.is_marking ≡ true → (w : ℕ) → found_in t0.states w ≡ found_in t.states w
-    same is w =
-        sym ((kept_all (is_kept t0.pending y.marking.marks) (found_in t0.states) (λ v f there. nothing_pending t0.pending y.marking.marks f (x.swept is f.page))).same w)
-        ∙ sym (sweeps.same.same w)
-        ∙ (kept_all (is_kept t.pending y.marking.marks) (found_in t.states) (λ v f there. swept is f)).same w

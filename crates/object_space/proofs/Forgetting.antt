@@ -40,7 +40,7 @@ forgets_lazily old roots m m' n new x closes = record {
 -- and what is left to be swept is swept at once
 pub sweeps_unreached : (old : Store) (roots : List ℕ) (m : Marking) (n : ℕ) (marks : List Bool) (mid new : Store) → ForgetsUnreached old roots m n marks mid → Sweeps mid marks new → ForgetsUnreached old roots m n marks new
 sweeps_unreached old roots m n marks mid new x y = record {
-  words = λ f i there lt. y.words f i there lt ∙ x.words f i (sym (y.same.same f.base) ∙ there) lt;
+  words = λ f i there lt. y.words f i (kept_cases (is_kept new.pending marks) (found_in new.states) f.base f there).0 lt ∙ x.words f i (sym (y.same.same f.base) ∙ there) lt;
   pages = y.pages ∙ x.pages;
   bases = x.bases;
   number = x.number;

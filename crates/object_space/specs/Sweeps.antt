@@ -18,7 +18,7 @@ use Rattle.block_map.specs.FoundIn.{found_in}
 use Rattle.block_map.specs.Objects.{IsMap}
 use Rattle.marker.specs.Marking.{Marking, IsMarked}
 use Rattle.marker.specs.Closure.{Closure}
-use Rattle.marker.specs.Mutations.{KeepsWords, HasZeroWords}
+use Rattle.marker.specs.Mutations.{HasNoNew, KeepsWords, HasZeroWords}
 use Rattle.object_space.specs.Store.{Store}
 
 -- The objects with these bases are gone, and nothing else has changed.
@@ -104,12 +104,15 @@ pub record SweepsPage (old : Store) (marks : List Bool) (page : ℕ) (new : Stor
 abbrev pub SweepsAny : Store → List Bool → Store → Type 0
 SweepsAny old marks new = (page : ℕ) × Has old.pending page × SweepsPage old marks page new
 
--- Pages were swept: the kept objects are the same, and their words stay.
+-- Pages were swept: the kept objects are the same, no object has come, and those of a page that is still to be swept are all
+-- there. The words of the objects that are left stay.
 pub record Sweeps (old : Store) (marks : List Bool) (new : Store) : Type 0 where
   pub before : IsMap (length old.states) (found_in old.states)
-  pub words : KeepsWords (kept_in new.states new.pending marks) old.words new.words
+  pub words : KeepsWords (found_in new.states) old.words new.words
   pub pages : length new.states ≡ length old.states
   pub same : IsSameMap (kept_in old.states old.pending marks) (kept_in new.states new.pending marks)
+  pub less : HasNoNew (found_in old.states) (found_in new.states)
+  pub waiting : (w : ℕ) (f : Found) → found_in old.states w ≡ Some f → Has new.pending f.page → found_in new.states w ≡ Some f
   pub fewer : (page : ℕ) → Has new.pending page → Has old.pending page
   pub number : count_by (λ b. b) new.pending ≤ count_by (λ b. b) old.pending
 
