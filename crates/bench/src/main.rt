@@ -12,6 +12,7 @@ mod marking;
 mod marks;
 mod on_threads;
 mod pause;
+mod script;
 mod user;
 
 use std::io;
@@ -24,5 +25,6 @@ fn main(rt: HostRuntime) -> io::Result<()> {
     marking::measure(&rt, rt.alloc())?;
     pause::measure(&rt, rt.alloc())?;
     locked::measure(&rt, rt.alloc())?;
+    script::measure(&rt, rt.alloc())?;
     on_threads::measure(&rt, rt.alloc())
 }

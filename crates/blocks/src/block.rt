@@ -51,12 +51,14 @@ impl Block {
         ensures listed { IsListed memory.new page result }
         ensures memory { ChangesPage memory.old memory.new page }
     {
+        // Its number of cells comes first, so that it is divided but once.
+        let taken = CellRow::new(class.cells());
         link_all(memory, class, page);
         Block {
             class,
             kind,
             reciprocal: reciprocal_of(class),
-            taken: CellRow::new(class.cells()),
+            taken,
             first: 0,
         }
     }

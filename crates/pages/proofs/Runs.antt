@@ -48,6 +48,19 @@ search_end row n low s empty i run =
 pub no_pages : (row : List Bool) → IsFirstFreeRun row 0 0
 no_pages row = record { run = record { inside = omega arith; free = λ k a b. absurd (omega arith) }; lowest = λ j lt run. absurd (omega arith) }
 
+pub no_page : (row : List Bool) → IsEmptyFrom row 0 → HasNoFreeRun row 1
+no_page row empty i run = let within = run.inside in begins_free row i 1 (omega arith) (empty i (omega arith) (omega arith)) run
+
+pub first_page : (row : List Bool) (i : ℕ) → IsFirstFrom row 0 i → IsFirstFreeRun row i 1
+first_page row i next =
+    let inside = next.inside in
+    record {
+      run = record { inside = omega arith; free = λ k from below. let e : k ≡ i = omega arith in ap (λ m. get_or row m false) e ∙ next.member };
+      lowest = λ j lt run. begins_free row j 1 (omega arith) (next.least j (omega arith) lt) run;
+    }
+
+pub ruleset one_page = (no_page, first_page)
+
 pub ruleset searching = (search_start, search_more, search_found, search_end, no_pages)
 
 pub ends_inside : (row : List Bool) (first end : ℕ) → get_or row first false ≡ true → IsFirstClearFrom row first end → IsRunEnd row first end

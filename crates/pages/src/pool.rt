@@ -33,6 +33,9 @@ fn find_run(row: &BitRow, n: usize) -> Option<usize>
     if n == 0 {
         return Some(0);
     }
+    if n == 1 {
+        return find_page(row);
+    }
     let mut low = 0;
     while let Some(first) = row.next(low) {
         let end = run_end(row, first);
@@ -42,6 +45,14 @@ fn find_run(row: &BitRow, n: usize) -> Option<usize>
         low = end;
     }
     None
+}
+
+// The lowest free page of a row: of a run of one page the end isn't looked for.
+#[tactic(auto, using(crate::proofs::Runs::one_page))]
+fn find_page(row: &BitRow) -> Option<usize>
+    ensures { MatchOption result (HasNoFreeRun row.now 1) (λ i. IsFirstFreeRun row.now i 1) }
+{
+    row.next(0)
 }
 
 // Where the run of free pages ends that begins at `first`.

@@ -1,6 +1,9 @@
 use Rattle.pages.proofs.Runs.{search_more, search_found, search_end}
 use Rattle.pages.proofs.pool.find_run.Goals as goal
 
+pub returns-then-n-eq1 : goal.returns-then-n-eq1
+returns-then-n-eq1 c = rw c.if-n-eq1.true c.find_page.ensures
+
 pub returns-then-end-first : goal.returns-then-end-first
 returns-then-end-first c = search_found _ _ _ _ _ c.loop-first.invariant c.in-Some.ensures c.run_end-end.ensures c.if-end-first.true
 
