@@ -30,4 +30,6 @@ mod rules;
 #[cfg(test)]
 mod runs;
 #[cfg(test)]
+mod small_steps;
+#[cfg(test)]
 mod stress;
