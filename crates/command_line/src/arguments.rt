@@ -1,6 +1,8 @@
 //! The words of the command line: which there may be, and the numbers among them.
-ghost use Rattle.std.specs.Prelude.{◌≤◌, IfOk};
+ghost use Rattle.std.specs.Prelude.{◌≡◌, ◌≤◌, Err, IfOk, IfErr};
 ghost use Rattle.words.specs.declared.limits.TheConstants.{MAX_PAGES};
+ghost use Rattle.commands.specs.declared.fault.Fault.TheVariants.{BadCommand};
+ghost use Rattle.command_line.specs.Obeying.{write_faults};
 
 use clap::error::ErrorKind;
 use clap::{Arg, ArgMatches, Command, Error};
@@ -59,7 +61,9 @@ pub fn command_line<'a>(alloc: Global) -> Result<Command<'a>, AllocError> {
 }
 
 /// A refused parse is no row of the table, except out of memory.
-pub fn refused(error: &Error) -> Fault {
+pub fn refused(error: &Error) -> Fault
+    ensures { write_faults (Err result) ≡ 0 }
+{
     if error.kind() == ErrorKind::OutOfMemory {
         Fault::Memory
     } else {
@@ -76,6 +80,7 @@ pub fn number_given(
 ) -> Result<u64, Fault>
     ensures least { IfOk result (λ n. least ≤ n) }
     ensures most { IfOk result (λ n. n ≤ most) }
+    ensures bad { IfErr result (λ fault. fault ≡ BadCommand) }
 {
     let Some(text) = given.get_str(option) else {
         return Err(Fault::BadCommand);
@@ -90,13 +95,16 @@ pub fn number_given(
 pub fn pages_given(given: &ArgMatches<'_>) -> Result<u32, Fault>
     ensures some { IfOk result (λ pages. 1 ≤ pages) }
     ensures most { IfOk result (λ pages. pages ≤ MAX_PAGES) }
+    ensures bad { IfErr result (λ fault. fault ≡ BadCommand) }
 {
     let pages = number_given(given, "pages", 1, u64::from(MAX_PAGES))?;
     Ok(pages as u32)
 }
 
 /// The number of helpers of a pause: one where none is given.
-pub fn helpers_given(given: &ArgMatches<'_>) -> Result<Helpers, Fault> {
+pub fn helpers_given(given: &ArgMatches<'_>) -> Result<Helpers, Fault>
+    ensures { IfErr result (λ fault. fault ≡ BadCommand) }
+{
     let number = match given.get_str("helpers") {
         Some(_) => number_given(given, "helpers", 1, u64::from(MAX_HELPERS))?,
         None => 1,

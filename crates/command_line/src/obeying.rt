@@ -1,6 +1,7 @@
 //! What each command does, with the numbers and the file that it is given.
-ghost use Rattle.std.specs.Prelude.{◌≤◌};
+ghost use Rattle.std.specs.Prelude.{◌≡◌, ◌≤◌};
 ghost use Rattle.words.specs.declared.limits.TheConstants.{MAX_PAGES};
+ghost use Rattle.command_line.specs.Obeying.{as_fault, HasRead, HasWritten};
 
 use crate::arguments::{helpers_given, number_given, pages_given};
 use clap::ArgMatches;
@@ -17,7 +18,9 @@ use workloads::limits::MAX_STEPS;
 use workloads::run_workload;
 
 /// What ends a command, as the program's fault.
-fn faulted(answer: Result<(), ScriptError>) -> Result<(), Fault> {
+fn faulted(answer: Result<(), ScriptError>) -> Result<(), Fault>
+    ensures { result ≡ as_fault answer }
+{
     match answer {
         Ok(()) => Ok(()),
         Err(error) => Err(Fault::of(error)),
@@ -31,7 +34,10 @@ fn run<F: Files, I: Source, O: Sink>(
     given: &ArgMatches<'_>,
     input: &mut I,
     output: &mut O,
-) -> Result<(), Fault> {
+) -> Result<(), Fault>
+    ensures read { HasRead I.faults result input.old input.new }
+    ensures wrote { HasWritten O.faults result output.old output.new }
+{
     let pages = pages_given(given)?;
     let Some(path) = given.get_str("file") else {
         return faulted(run_script(alloc, input, output, pages));
@@ -53,6 +59,7 @@ fn run_open<R: Threads + Wait + Sync, I: Source, O: Sink>(
 ) -> Result<(), Fault>
     requires some { 1 ≤ pages }
     requires most { pages ≤ MAX_PAGES }
+    ensures wrote { HasWritten O.faults result output.old output.new }
 {
     faulted(run_workload(rt, alloc, input, output, pages, helpers, &Open))
 }
@@ -63,7 +70,9 @@ fn threads<R: Files + Threads + Wait + Sync, O: Sink>(
     rt: &R,
     given: &ArgMatches<'_>,
     output: &mut O,
-) -> Result<(), Fault> {
+) -> Result<(), Fault>
+    ensures wrote { HasWritten O.faults result output.old output.new }
+{
     let pages = pages_given(given)?;
     let helpers = helpers_given(given)?;
     let Some(path) = given.get_str("file") else {
@@ -76,7 +85,9 @@ fn threads<R: Files + Threads + Wait + Sync, O: Sink>(
 }
 
 /// `stress`: writes a random script.
-fn stress<O: Sink>(alloc: Global, given: &ArgMatches<'_>, output: &mut O) -> Result<(), Fault> {
+fn stress<O: Sink>(alloc: Global, given: &ArgMatches<'_>, output: &mut O) -> Result<(), Fault>
+    ensures wrote { HasWritten O.faults result output.old output.new }
+{
     let seed = number_given(given, "seed", 0, u64::MAX)?;
     let mutators = number_given(given, "mutators", 1, u64::from(SLOTS))?;
     let steps = number_given(given, "steps", 0, u64::from(MAX_STEPS))?;
@@ -90,7 +101,10 @@ pub fn obey<R: Files + Threads + Wait + Sync, I: Source, O: Sink>(
     words: &ArgMatches<'_>,
     input: &mut I,
     output: &mut O,
-) -> Result<(), Fault> {
+) -> Result<(), Fault>
+    ensures read { HasRead I.faults result input.old input.new }
+    ensures wrote { HasWritten O.faults result output.old output.new }
+{
     if let Some(given) = words.subcommand_matches("run") {
         return run(alloc, rt, given, input, output);
     }

@@ -1,7 +1,5 @@
 //! The program, from its words to its status.
-ghost use Rattle.std.specs.Prelude.{Result, ⊤};
-ghost use Rattle.commands.specs.declared.fault.Fault.{Fault};
-ghost use Rattle.commands.specs.Faults.{Ends};
+ghost use Rattle.command_line.specs.Obeying.{HasRead, HasWritten, ProgramEnds};
 
 use crate::arguments::{command_line, refused};
 use crate::obeying::obey;
@@ -26,7 +24,10 @@ fn perform<R: Files + Threads + Wait + Sync, S: AsStr, I: Source, O: Sink>(
     words: &[S],
     input: &mut I,
     output: &mut O,
-) -> Result<(), Fault> {
+) -> Result<(), Fault>
+    ensures read { HasRead I.faults result input.old input.new }
+    ensures wrote { HasWritten O.faults result output.old output.new }
+{
     match matches(alloc, words) {
         Ok(words) => obey(alloc, rt, &words, input, output),
         Err(error) => Err(refused(&error)),
@@ -42,7 +43,8 @@ pub fn program<R: Files + Threads + Wait + Sync, S: AsStr, I: Source, O: Sink, E
     output: &mut O,
     errors: &mut E,
 ) -> u8
-    ensures { (answer : Result ⊤ Fault) × Ends answer result (E.written errors.old) (E.written errors.new) (E.faults errors.old) (E.faults errors.new) }
+    ensures { ProgramEnds I.faults O.faults input.old input.new output.old output.new result
+        (E.written errors.old) (E.written errors.new) (E.faults errors.old) (E.faults errors.new) }
 {
     end(perform(alloc, rt, words, input, output), errors)
 }

@@ -1,5 +1,5 @@
 -- The statuses of the program, and what it says of a fault.
-use Rattle.std.specs.Prelude.{◌≡◌, ℕ, ◌+◌, Option, List, [], ◌∷◌, ◌++◌, take, codes, decimal, Result, Ok, Err, ⊤}
+use Rattle.std.specs.Prelude.{◌≡◌, ℕ, ◌+◌, ◌⊎◌, Option, List, [], ◌∷◌, ◌++◌, take, codes, decimal, Result, Ok, Err, ⊤}
 use Rattle.std.specs.Io.KnownBytes.{Appends}
 use Rattle.scripts.specs.declared.errors.ScriptError.{ScriptError}
 use Rattle.scripts.specs.declared.errors.ScriptError.TheVariants.{BadLine as LineIsBad, Read as ReadFailed, Write as WriteFailed, Memory as MemoryRefused}
@@ -34,11 +34,13 @@ fault_text Memory = codes "no memory"
 abbrev pub fault_line : Fault → List ℕ
 fault_line fault = fault_text fault ++ newline ∷ []
 
--- A fault ends the program with its status. Its line is told, or a front of it where the writer of errors failed.
+-- A fault ends the program with its status. Its line is told, or a front of it where the writer of errors failed. After that nothing is
+-- tried again.
 pub record EndsBy (fault : Fault) (status : ℕ) (old new : Option (List ℕ)) (faults faults' : ℕ) : Type 0 where
   pub status_is : status ≡ status_of fault
   pub front : (n : ℕ) × Appends old new (take n (fault_line fault))
   pub whole : faults' ≡ faults → Appends old new (fault_line fault)
+  pub once : (faults' ≡ faults) ⊎ (faults' ≡ faults + 1)
 
 -- How the program ends, by what its command answered: with status 0 and no word of a fault, or by a fault.
 abbrev pub Ends : Result ⊤ Fault → ℕ → Option (List ℕ) → Option (List ℕ) → ℕ → ℕ → Type 0

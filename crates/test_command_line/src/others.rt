@@ -8,9 +8,15 @@ use std::sync::Wait;
 use std::test::Fail;
 use std::thread::Threads;
 
-const WORKLOAD: &str = "attach\nattach\n0 set 1 5\n1 get 1\ngc no\n0 get 1\n";
+/// Its first mutator fills four pages.
+const WORKLOAD: &str =
+    "attach\nattach\n0 set 1 5\n1 get 1\ngc no\n0 get 1\n0 alloc 2 1537 normal\n0 alloc 3 1 normal\n";
 
-const REPLIES: &str = "mutator 0\nok\n5\nmutator 1\n0\ncollector\n0\n";
+const REPLIES: &str = "mutator 0\nok\n5\nok\nrefused 6 Full\nmutator 1\n0\ncollector\n0\n";
+
+/// The text was made by a program of its own in another language, over the generator's published rule.
+const SEED_7: &str =
+    "attach\ngc sweep\n0 pop 4\ngc begin\n0 pop 10\n0 alloc 1 31 normal\n0 store 7 2 11\n";
 
 /// A workload in a file, with helpers and without, a bad line in its place, and a file that isn't there.
 fn check_workloads<'a, R: Abort + Files + AllocGlobal + Threads + Wait + Sync>(
@@ -45,6 +51,6 @@ fn workloads_run_on_threads(rt: HostRuntime) -> Result<(), Fail> {
 
 #[test]
 fn a_random_script_is_written(rt: HostRuntime) {
-    let words = ["stress", "--seed", "1", "--mutators", "2", "--steps", "0"];
-    check(&rt, &words, &mut Broken::new(), ("attach\nattach\n", "", 0));
+    let words = ["stress", "--seed", "7", "--mutators", "1", "--steps", "6"];
+    check(&rt, &words, &mut Broken::new(), (SEED_7, "", 0));
 }

@@ -11,9 +11,11 @@ use std::sync::Wait;
 use std::test::Fail;
 use std::thread::Threads;
 
-const SCRIPT: &str = "attach\n0 alloc 1 3 normal\n0 set 2 77\n0 store 1 0 2\n0 load 3 1 0\n";
+/// It fills four pages: one with cells, and three with a large object.
+const SCRIPT: &str =
+    "attach\n0 alloc 1 3 normal\n0 set 2 77\n0 store 1 0 2\n0 load 3 1 0\n0 alloc 4 1025 normal\n0 alloc 5 257 normal\n";
 
-const REPLIES: &str = "mutator 0\nok\nok\nok\n77\n";
+const REPLIES: &str = "mutator 0\nok\nok\nok\n77\nok\nrefused 6 Full\n";
 
 const RUN: [&str; 3] = ["run", "--pages", "4"];
 

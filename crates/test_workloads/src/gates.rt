@@ -132,3 +132,44 @@ impl Gate for HeldPause {
         }
     }
 }
+
+/// Mutators and the collector make their calls one at a time, in this order. Helpers aren't held back.
+#[derive(Drop)]
+pub struct InTurn<'a> {
+    pub order: &'a [u8],
+    pub made: AtomicU64,
+    pub missed: AtomicU64,
+}
+
+impl<'a> InTurn<'a> {
+    pub fn new(order: &'a [u8]) -> InTurn<'a> {
+        InTurn {
+            order,
+            made: AtomicU64::new(0),
+            missed: AtomicU64::new(0),
+        }
+    }
+
+    fn is_turn_of(&self, actor: u8) -> bool {
+        let made = self.made.load(Ordering::SeqCst) as usize;
+        self.order.get(made) == Some(&actor)
+    }
+}
+
+impl Gate for InTurn<'_> {
+    fn before(&self, actor: u8, _call: u32) {
+        for _ in 0..TURNS {
+            if COLLECTOR < actor || self.is_turn_of(actor) {
+                return;
+            }
+            thread::yield_now();
+        }
+        self.missed.fetch_add(1, Ordering::SeqCst);
+    }
+
+    fn after(&self, actor: u8, _call: u32) {
+        if actor <= COLLECTOR {
+            self.made.fetch_add(1, Ordering::SeqCst);
+        }
+    }
+}

@@ -45,6 +45,8 @@ mod script_faults;
 #[cfg(test)]
 mod script_rows;
 #[cfg(test)]
+mod small_steps;
+#[cfg(test)]
 mod std_calls;
 #[cfg(test)]
 mod stress;

@@ -2,6 +2,7 @@
 ghost use Rattle.std.specs.Prelude.{◌≡◌, ◌≤◌, ◌<◌, [], All, IfSome, IfOk, length, vec_len};
 ghost use Rattle.std.specs.Vec.{vec_capacity};
 ghost use Rattle.words.specs.declared.limits.TheConstants.{MAX_PAGES, SLOTS};
+ghost use Rattle.each_law.specs.Jobs.{HaveRun};
 ghost use Rattle.workloads.specs.Actors.{IsPlain, CanCall, HasCalled, IsAttached, AreAttached, AreReplies, CanCommand, HasCommanded};
 ghost use Rattle.workloads.specs.OneHistory.{HaveOneHistory};
 
@@ -87,6 +88,41 @@ fn take_replies<'a, J: Naming, R: Wait>(
     }
 }
 
+/// Runs each mutator's job in a thread of its own, and the collector's in one more.
+fn run_jobs<'a, J: Naming + Send + Sync, R: Threads + Wait + Sync, G: Gate>(
+    rt: &R,
+    alloc: Global,
+    heap: &SharedHeap<J>,
+    helpers: Helpers,
+    gate: &G,
+    jobs: Vec<MutatorJob<'a, J, R>>,
+    other: CollectorJob<'a, J>,
+) -> Result<(Vec<MutatorJob<'a, J, R>>, CollectorJob<'a, J>), AllocError>
+    requires can { All (λ job. CanCall job) jobs.items }
+    requires other { CanCommand other }
+    ensures jobs { IfOk result (λ done. HaveRun (λ job run. HasCalled job run) jobs.entry.items done.0.items) }
+    ensures other { IfOk result (λ done. HasCommanded J.origin other.entry done.1) }
+{
+    let work = |job|
+        requires { CanCall job }
+        ensures { HasCalled job.entry result }
+    { run_mutator(gate, job) };
+    let collect = |job|
+        requires { CanCommand job }
+        ensures { HasCommanded J.origin job.entry result }
+    { run_collector(rt, alloc, heap, helpers, gate, job) };
+    run_each_beside::<_, _, MakesCalls, _, _, GivesCommands, _>(
+        rt,
+        alloc,
+        &MakesCalls,
+        &work,
+        jobs,
+        &GivesCommands,
+        &collect,
+        other,
+    )
+}
+
 /// Runs the workload on this heap, of which nobody has seen anything. All memory is taken before the first thread starts.
 fn run_on<J: Naming + Send + Sync, R: Threads + Wait + Sync, G: Gate>(
     rt: &R,
@@ -104,29 +140,12 @@ fn run_on<J: Naming + Send + Sync, R: Threads + Wait + Sync, G: Gate>(
     let answers = vec![in alloc; Reply::Done; commands.len()]?;
     let mut replies = Vec::with_capacity(alloc, workload.mutators())?;
     let jobs = attach_all(rt, alloc, heap, workload)?;
-    let work = |job|
-        requires { CanCall job }
-        ensures { HasCalled job.entry result }
-    { run_mutator(gate, job) };
-    let collect = |job|
-        requires { CanCommand job }
-        ensures { HasCommanded J.origin job.entry result }
-    { run_collector(rt, alloc, heap, helpers, gate, job) };
     let other = CollectorJob {
         collector,
         commands,
         replies: answers,
     };
-    let (mut jobs, other) = run_each_beside::<_, _, MakesCalls, _, _, GivesCommands, _>(
-        rt,
-        alloc,
-        &MakesCalls,
-        &work,
-        jobs,
-        &GivesCommands,
-        &collect,
-        other,
-    )?;
+    let (mut jobs, other) = run_jobs(rt, alloc, heap, helpers, gate, jobs, other)?;
     let CollectorJob {
         mut collector,
         commands: _,

@@ -22,9 +22,9 @@ returns g c =
     let all = c.settle.new.collector.seen in
     let opened = c.args.collector in
     let replies = c.new.result in
-    let commanded = c.in_ok-jobs-2.ensures.1.commanded in
+    let commanded = c.in_ok-jobs-2.ensures.other.commanded in
     one_history pages c.args.workload.now c.in_ok-jobs.jobs.items items new opened other.collector c.gc_no_of-collections.new.collector c.settle.new.collector replies
-    c.in_ok-jobs.ensures.attached c.in_ok-jobs-2.ensures.0
+    c.in_ok-jobs.ensures.attached c.in_ok-jobs-2.ensures.jobs
     (subst (λ l. CommandedAll pages opened c.args.workload.now.collector l other.collector) (sym (c.new.ensures.collector ∙ c.of.ensures))
     (subst (λ l. CommandedAll pages opened l other.replies.items other.collector) c.commands-commands.ensures.value commanded))
     c.requires c.gc_no_of-collections.ensures.looks c.settle.ensures.collector c.settle.ensures.grows c.settle.ensures.fine
