@@ -1,6 +1,8 @@
 //! A heap that is asked, and what its replies leave open.
-ghost use Rattle.std.specs.Prelude.{◌≡◌, IfOk, IfErr};
+ghost use Rattle.std.specs.Prelude.{◌≡◌, ℕ, IfOk, IfErr, MatchOption, None};
 ghost use Rattle.heap_core.specs.Following.{IsLine};
+ghost use Rattle.replayer.specs.declared.hint.Hint.TheVariants.{Place};
+ghost use Rattle.recording.specs.Noting.{IsNoted, IsWordOf, PlacesCall, PlacesEvent};
 
 use heap_core::Core;
 use heap_spec::{Call, Event, Reply};
@@ -22,24 +24,18 @@ pub struct Recorder {
 }
 
 impl Model for Recorder {
-    ghost use Rattle.heap_core.specs.Contents.{Contents};
+    ghost use Rattle.recording.specs.Contents.{Contents};
 
     ghost Value = { Contents };
 
-    ghost view = { λ r. r.core };
-}
-
-fn is_refused(reply: &Reply) -> bool {
-    let Reply::Refused(_) = reply else {
-        return false;
-    };
-    true
+    ghost view = { λ r. record { core = r.core; place = r.place } };
 }
 
 impl Recorder {
     /// A recorder of a new heap.
     pub fn new(alloc: Global, core: Core) -> Recorder
-        ensures { result ≡ core }
+        ensures core { result.core ≡ core }
+        ensures place { result.place ≡ None }
     {
         Recorder {
             alloc,
@@ -84,7 +80,8 @@ impl Recorder {
 
     // Notes the object that a request was granted.
     fn note_place(&mut self, slot: Slot, into: Reg) -> Result<(), AllocError>
-        ensures { self.new ≡ self.old }
+        ensures core { self.new.core ≡ self.old.core }
+        ensures place { IsWordOf self.old.core slot into self.new.place }
     {
         let Ok(base) = self.core.get(slot, into) else {
             return Ok(());
@@ -96,7 +93,8 @@ impl Recorder {
 
     // Notes what a call of a mutator left.
     fn note_call(&mut self, slot: Slot, call: &Call) -> Result<(), AllocError>
-        ensures { self.new ≡ self.old }
+        ensures core { self.new.core ≡ self.old.core }
+        ensures place { PlacesCall self.old.core slot call.now self.old.place self.new.place }
     {
         match call {
             Call::Alloc(into, _, _) => self.note_place(slot, *into),
@@ -120,7 +118,8 @@ impl Recorder {
 
     // Notes what an event left that was not refused.
     fn note(&mut self, event: &Event) -> Result<(), AllocError>
-        ensures { self.new ≡ self.old }
+        ensures core { self.new.core ≡ self.old.core }
+        ensures place { PlacesEvent self.old.core event.now self.old.place self.new.place }
     {
         match event {
             Event::Mutator(slot, call) => self.note_call(*slot, call),
@@ -143,21 +142,25 @@ impl Recorder {
     /// # Errors
     /// If memory is refused, in which to note objects; the call was made, and what is noted from then on may lack some.
     pub fn act(&mut self, event: &Event) -> Result<Reply, AllocError>
-        ensures line { IfOk result (λ reply. IsLine self.old event.now reply self.new) }
-        ensures made { IfErr result (λ error. (reply : Reply) × IsLine self.old event.now reply self.new) }
+        ensures line { IfOk result (λ reply. IsNoted self.old event.now reply self.new) }
+        ensures made { IfErr result (λ error. (reply : Reply) × IsLine self.old.core event.now reply self.new.core) }
     {
         let reply = self.core.act(*event);
         self.place = None;
         self.gone.clear();
         self.has_collected = false;
-        if !is_refused(&reply) {
+        let Reply::Refused(_) = reply else {
             self.note(event)?;
-        }
+            return Ok(reply);
+        };
         Ok(reply)
     }
 
-    /// What the reply to the last event leaves open.
-    pub fn hint(&self) -> Hint<'_> {
+    /// What the reply to the last event leaves open: where the object of a granted request went, or which objects are gone. The
+    /// contract pins the place alone.
+    pub fn hint(&self) -> Hint<'_>
+        ensures { MatchOption self.now.place ((base : ℕ) → result ≡ Place base → ⊥) (λ base. result ≡ Place base) }
+    {
         if let Some(base) = self.place {
             return Hint::Place(base);
         }

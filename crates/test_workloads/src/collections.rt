@@ -2,6 +2,13 @@
 
 use crate::tables::{Repeated, Row};
 
+/// A pointer that moves, while a cycle is marking, to where the marker has been.
+pub const HIDDEN_POINTER: &str =
+    "attach\n0 alloc 1 2 normal\n0 alloc 4 2 normal\n0 alloc 2 2 normal\n0 set 5 77\n0 store 2 0 5\n0 store 1 0 2\n0 set 2 0\ngc begin\ngc roots\ngc mark 2\n0 load 6 1 0\n0 store 4 0 6\n0 store 1 0 2\n0 set 6 0\ngc finish\n0 load 6 4 0\n0 load 7 6 0\n";
+
+pub const HIDDEN_POINTER_REPLIES: &str =
+    "mutator 0\nok\nok\nok\nok\nok\nok\nok\nok\nok\n2\nptr\nok\nok\nok\n0\nptr\n77\n";
+
 /// Rows of full collections, cycles and sweeps.
 pub const COLLECTIONS: [Row; 20] = [
     Row {
@@ -49,8 +56,8 @@ pub const COLLECTIONS: [Row; 20] = [
     Row {
         name: "hidden_pointer",
         pages: 4,
-        script: "attach\n0 alloc 1 2 normal\n0 alloc 4 2 normal\n0 alloc 2 2 normal\n0 set 5 77\n0 store 2 0 5\n0 store 1 0 2\n0 set 2 0\ngc begin\ngc roots\ngc mark 2\n0 load 6 1 0\n0 store 4 0 6\n0 store 1 0 2\n0 set 6 0\ngc finish\n0 load 6 4 0\n0 load 7 6 0\n",
-        replies: "mutator 0\nok\nok\nok\nok\nok\nok\nok\nok\nok\n2\nptr\nok\nok\nok\n0\nptr\n77\n",
+        script: HIDDEN_POINTER,
+        replies: HIDDEN_POINTER_REPLIES,
     },
     Row {
         name: "quiet_cycle",

@@ -56,12 +56,13 @@ impl Source for Script<'_> {
     }
 }
 
-/// Takes bytes, at most so many a call, and fails at one of its calls, counted from 0.
+/// Takes bytes, at most so many a call. At one of its calls, counted from 0, it fails, and at one it takes none.
 #[derive(Drop)]
 pub struct Taken {
     pub bytes: Vec<u8>,
     pub most: usize,
     pub fails_at: Option<usize>,
+    pub stops_at: Option<usize>,
     pub calls: usize,
     pub faults: Count,
 }
@@ -81,6 +82,7 @@ impl Taken {
             bytes: Vec::with_capacity(alloc, 4_096)?,
             most,
             fails_at,
+            stops_at: None,
             calls: 0,
             faults: Count::zero(),
         })
@@ -105,7 +107,12 @@ impl Sink for Taken {
     fn write(&mut self, bytes: &[u8]) -> Result<usize, Failed> {
         let call = self.calls;
         self.calls = self.calls.saturating_add(1);
-        let n = bytes.len().min(self.most);
+        let most = if self.stops_at == Some(call) {
+            0
+        } else {
+            self.most
+        };
+        let n = bytes.len().min(most);
         if self.fails_at == Some(call) || self.bytes.extend_from_slice(&bytes[..n]).is_err() {
             self.faults = self.faults.next();
             return Err(Failed);

@@ -1,5 +1,6 @@
 //! Reads, writes and allocations that fail.
 
+use crate::collections::{HIDDEN_POINTER as SCRIPT, HIDDEN_POINTER_REPLIES as REPLIES};
 use crate::fakes::{Script, Taken};
 use crate::scene::Scene;
 use scripts::{ScriptError, run_script};
@@ -7,14 +8,24 @@ use std::alloc::Global;
 use std::process::Abort;
 use std::test::Fail;
 
-const SCRIPT: &str = "attach\n0 alloc 1 3 normal\n0 set 2 77\n0 store 1 0 2\n0 load 3 1 0\n";
+/// How many lines the script has, each with a reply of one line.
+const LINES: usize = 18;
 
-const REPLIES: &str = "mutator 0\nok\nok\nok\n77\n";
+/// So many bytes a call, and how many calls it takes to read the script and see its end.
+const READS: [(usize, usize); 3] = [(1, 229), (7, 34), (4_096, 2)];
 
 /// The replies to so many first lines.
 fn replies_to(lines: usize) -> &'static str {
-    let ends = [0usize, 10, 13, 16, 19, 22];
-    REPLIES.get(..ends[lines.min(5)]).unwrap_or(REPLIES)
+    let mut left = lines;
+    for (i, byte) in REPLIES.as_bytes().iter().enumerate() {
+        if left == 0 {
+            return REPLIES.get(..i).unwrap_or(REPLIES);
+        }
+        if *byte == b'\n' {
+            left -= 1;
+        }
+    }
+    REPLIES
 }
 
 /// The complete lines before the fault are answered, and no call of the reader follows it.
@@ -30,10 +41,22 @@ fn check_read_fault(rt: &impl Abort, scene: &mut Scene, most: usize, call: usize
 #[test]
 fn every_read_fails(rt: HostRuntime) -> Result<(), Fail> {
     let mut scene = Scene::new(rt.alloc())?;
-    for (most, calls) in [(1usize, 65usize), (7, 11), (4_096, 2)] {
+    for (most, calls) in READS {
         for call in 0..calls {
             check_read_fault(&rt, &mut scene, most, call);
         }
+    }
+    Ok(())
+}
+
+/// One byte a call is read as all at once.
+#[test]
+fn short_reads(rt: HostRuntime) -> Result<(), Fail> {
+    let mut scene = Scene::new(rt.alloc())?;
+    for (most, calls) in READS {
+        let mut input = Script::failing_at(SCRIPT.as_bytes(), most, calls);
+        scene.check(&rt, "short reads", 4, &mut input, (REPLIES, Ok(())));
+        assert_eq!(rt; input.calls, calls);
     }
     Ok(())
 }
@@ -53,51 +76,75 @@ fn check_written(
 }
 
 /// What the writer took before stands, and no call of it follows the fault.
-fn check_write_fault(rt: &impl Abort, output: &mut Taken, written: Option<&str>, alloc: Global) {
-    let calls = output.fails_at;
+fn check_write_fault(
+    rt: &impl Abort,
+    output: &mut Taken,
+    call: usize,
+    written: Option<&str>,
+    alloc: Global,
+) {
     check_written(rt, output, alloc, Err(ScriptError::Write), written);
-    assert_eq!(rt;
-        Some(output.calls),
-        calls.map(|call| call.saturating_add(1))
-    );
+    assert_eq!(rt; output.calls, call.saturating_add(1));
 }
 
+/// A writer that takes one byte a call, and one that takes all, fail at this call, or take none.
+fn check_call(
+    rt: &impl Abort,
+    output: &mut Taken,
+    call: usize,
+    most: usize,
+    written: Option<&str>,
+    alloc: Global,
+) {
+    output.most = most;
+    output.fails_at = Some(call);
+    output.stops_at = None;
+    output.clear();
+    check_write_fault(rt, output, call, written, alloc);
+    output.fails_at = None;
+    output.stops_at = Some(call);
+    output.clear();
+    check_write_fault(rt, output, call, written, alloc);
+}
+
+/// Where a writer fails, and where it takes none of some bytes, that call is the last.
 #[test]
 fn every_write_fails(rt: HostRuntime) -> Result<(), Fail> {
-    let alloc = rt.alloc();
+    let mut output = Taken::new(rt.alloc())?;
     for call in 0..REPLIES.len() {
-        let mut output = Taken::limited(alloc, 1, Some(call))?;
-        check_write_fault(&rt, &mut output, REPLIES.get(..call), alloc);
+        check_call(&rt, &mut output, call, 1, REPLIES.get(..call), rt.alloc());
     }
-    for call in 0..5usize {
-        let mut output = Taken::limited(alloc, usize::MAX, Some(call))?;
-        check_write_fault(&rt, &mut output, Some(replies_to(call)), alloc);
+    for call in 0..LINES {
+        let written = Some(replies_to(call));
+        check_call(&rt, &mut output, call, usize::MAX, written, rt.alloc());
     }
     Ok(())
 }
 
-/// A writer that takes one byte a call gets all, and one that takes none is a fault at once.
+/// A writer that takes one byte a call gets all.
 #[test]
 fn short_writes(rt: HostRuntime) -> Result<(), Fail> {
     let mut slow = Taken::limited(rt.alloc(), 1, None)?;
     check_written(&rt, &mut slow, rt.alloc(), Ok(()), Some(REPLIES));
-    let mut stuck = Taken::limited(rt.alloc(), 0, None)?;
-    let fault = Err(ScriptError::Write);
-    check_written(&rt, &mut stuck, rt.alloc(), fault, Some(""));
-    assert_eq!(rt; stuck.calls, 1);
+    assert_eq!(rt; slow.calls, REPLIES.len());
     Ok(())
 }
 
-/// Where memory is refused, at whichever request, nothing was written, and where none is refused, all is. By itself this
-/// runs with ample memory; `rt try --test --fail-alloc N` refuses the N-th request.
+/// Where memory is refused, at whichever request, nothing was written, and the same script run again prints its replies. By
+/// itself this runs with ample memory; `rt try --test --fail-alloc N` refuses the N-th request.
 #[test]
 fn refused_memory(rt: HostRuntime) -> Result<(), Fail> {
+    let Ok(mut output) = Taken::new(rt.alloc()) else {
+        return Ok(());
+    };
     let mut input = Script::new(SCRIPT.as_bytes());
-    let mut output = Taken::new(rt.alloc())?;
     let answer = run_script(rt.alloc(), &mut input, &mut output, 4);
-    let seen = (output.text(), answer);
-    let granted = (Some(REPLIES), Ok(()));
-    let refused = (Some(""), Err(ScriptError::Memory));
-    assert!(rt; seen == granted || seen == refused);
+    if answer == Err(ScriptError::Memory) {
+        assert_eq!(rt; output.text(), Some(""));
+        check_written(&rt, &mut output, rt.alloc(), Ok(()), Some(REPLIES));
+        return Ok(());
+    }
+    assert_eq!(rt; answer, Ok(()));
+    assert_eq!(rt; output.text(), Some(REPLIES));
     Ok(())
 }
