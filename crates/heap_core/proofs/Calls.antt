@@ -5,7 +5,7 @@ use Rattle.words.specs.declared.class.Kind.{Kind}
 use Rattle.words.specs.declared.class.Placement.{Placement}
 use Rattle.words.specs.declared.refusal.Refusal.TheVariants.{Full, NotBase}
 use Rattle.words.specs.Placing.{placement_of}
-use Rattle.heap_spec.specs.declared.call.Call.TheVariants.{Alloc, Free}
+use Rattle.heap_spec.specs.declared.call.Call.TheVariants.{Alloc, Free, Store as StoreCall}
 use Rattle.heap_spec.specs.declared.event.Event.TheVariants.{Mutator}
 use Rattle.heap_spec.specs.declared.reply.Reply.TheVariants.{Refused, Done}
 use Rattle.heap_spec.specs.Heap.{Heap, Mutator as HeapMutator}
@@ -46,7 +46,7 @@ use Rattle.heap_view.proofs.Shows.{at_base}
 use Rattle.object_space.proofs.Sweeping.{read_or_not}
 use Rattle.object_space.specs.Rooms.{HasRoomAt, HasNoRoom}
 use Rattle.heap_core.proofs.Lookups.{finds}
-use Rattle.heap_core.proofs.Roots.{not_done, core_of, attached, stands_set, none_some}
+use Rattle.heap_core.proofs.Roots.{not_done, dirty_event, refused_clean, core_of, attached, stands_set, none_some}
 
 -- pages were swept
 pub swept_stands : (roots : RootSet) (t0 t : Store) (y : Cycle) → Sweeps t0 y.marking.marks t → (s : Heap) → StandsFor (core_of roots t0 y) s → StandsFor (core_of roots t y) s
@@ -132,9 +132,13 @@ allocated roots roots' t0 t t' y y' slot d n base kind place m at is sweeps room
   fewer = λ p h. sweeps.fewer p (subst (λ row. Has row p) gains.pending h);
   swept = λ p h. inr tt;
   full = λ h. absurd (not_done (Mutator slot (Alloc d n kind)) h);
+  written = λ p h. absurd (clean (dirty_event (core_of roots t0 y) (Mutator slot (Alloc d n kind)) Done p h));
   roots_alone = λ not. absurd (not tt);
 }
   where
+    clean : ((s a i q : ℕ) × (Mutator slot (Alloc d n kind) ≡ Mutator s (StoreCall a i q))) → ⊥
+    clean (s, a, i, q, e) = cc
+
     -- the object at the granule is the one that came
     new : (f : Found) → found_in t'.states f.base ≡ Some f → granule f.base ≡ granule base → restrict (is_kept t0.pending y.marking.marks) (found_in t0.states) f.base ≡ None
     new f there same =
@@ -176,6 +180,7 @@ full roots t0 t y slot d n kind place m at is sweeps swept none = record {
   fewer = sweeps.fewer;
   swept = λ p h. inr tt;
   full = λ h. swept;
+  written = λ p h. absurd (refused_clean (core_of roots t0 y) (Mutator slot (Alloc d n kind)) Full p h);
   roots_alone = λ not. absurd (not tt);
 }
 
@@ -246,9 +251,13 @@ freed roots t t' y y' slot r m f lawful at is base loses frees phase count = rec
   fewer = loses.fewer;
   swept = λ p h. ⊎_elim (λ same. inr (m, at, f, is, same)) (λ ne. inl (loses.rest p ne ∙ h)) (cases_eq p f.page);
   full = λ h. absurd (not_done (Mutator slot (Free r)) h);
+  written = λ p h. absurd (clean (dirty_event (core_of roots t y) (Mutator slot (Free r)) Done p h));
   roots_alone = λ not. absurd (not tt);
 }
   where
+    clean : ((s a n q : ℕ) × (Mutator slot (Free r) ≡ Mutator s (StoreCall a n q))) → ⊥
+    clean (s, a, n, q, e) = cc
+
     there : restrict (is_kept t.pending y.marking.marks) (found_in t.states) f.base ≡ Some f
     there = ap (restrict (is_kept t.pending y.marking.marks) (found_in t.states)) base ∙ is
 

@@ -8,14 +8,14 @@ use Rattle.heap_spec.specs.Replies.{IsStep}
 use Rattle.heap_spec.specs.Steps.{Acts, Calls, address, register, with_register, with_object}
 use Rattle.words.specs.declared.limits.TheConstants.{PAGE_WORDS}
 use Rattle.words.specs.Bits.{Has}
-use Rattle.words.specs.Layout.{granule}
+use Rattle.words.specs.Layout.{granule, page_of}
 use Rattle.pages.specs.Memory.{IsWordAddress, place, word_at, with_word_at}
 use Rattle.block_map.specs.FoundIn.{found_in, IsLawful}
 use Rattle.block_map.specs.declared.found.Found.{Found}
 use Rattle.roots.specs.Roots.{RootSet, HasMutator, SetsWord}
 use Rattle.object_space.specs.Store.{Store}
 use Rattle.heap_core.specs.Contents.{Cycle}
-use Rattle.heap_core.specs.Calls.{IsCall}
+use Rattle.heap_core.specs.Calls.{IsCall, MakesDirty}
 use Rattle.heap_core.specs.Beside.{NotesWrite}
 use Rattle.std.specs.Prelude.{Bool}
 use Rattle.object_space.specs.Kept.{restrict, is_kept}
@@ -25,7 +25,7 @@ use Rattle.heap_core.specs.Standing.{StandsFor}
 use Rattle.object_space.proofs.Kept.{kept_map}
 use Rattle.heap_view.proofs.Shows.{reads_object, reads_nothing, word_read, is_word}
 use Rattle.object_space.proofs.Changes.{shows_stored}
-use Rattle.heap_core.proofs.Roots.{core_of, attached, stands_set, quiet, not_reaching, not_done, none_some}
+use Rattle.heap_core.proofs.Roots.{core_of, attached, stands_set, quiet, not_done, none_some}
 
 -- an address that finds a kept object reads it in the heap
 pub finds : (keep : Found → Bool) (t : Store) (s : Heap) (w : ℕ) (f : Found) → IsLawful t.states → Stores keep t s → restrict keep (found_in t.states) w ≡ Some f → (o : Object) × ReadsObject s w f.base o × IsShown t.words f o
@@ -40,7 +40,7 @@ finds_nothing keep t s w lawful stores none base o r =
 
 pub loads : (roots roots' : RootSet) (t : Store) (y : Cycle) (slot d a n w : ℕ) (m : HeapMutator) (f : Found) → IsLawful t.states → HasMutator roots slot m → address m a n % 8 ≡ 0 → restrict (is_kept t.pending y.marking.marks) (found_in t.states) (address m a n) ≡ Some f
     → w ≡ word_at t.words (address m a n) → SetsWord roots slot d w roots' → IsCall (core_of roots t y) (Mutator slot (Load d a n)) (Word w) (core_of roots' t y)
-loads roots roots' t y slot d a n w m f lawful at aligned is read sets = quiet (core_of roots t y) roots' (Mutator slot (Load d a n)) (Word w) (not_reaching (Mutator slot (Load d a n)) (Word w) (λ h. h)) (λ s h.
+loads roots roots' t y slot d a n w m f lawful at aligned is read sets = quiet (core_of roots t y) roots' (Mutator slot (Load d a n)) (Word w) (λ h. h) (λ s h.
     let found = finds (is_kept t.pending y.marking.marks) t s (address m a n) f lawful h.store is in
     let word = word_read (restrict (is_kept t.pending y.marking.marks) (found_in t.states)) (length t.states) (kept_map (length t.states) (is_kept t.pending y.marking.marks) (found_in t.states) lawful.map) t.words s.objects h.store.shows.shown (address m a n) f found.0 is found.2 aligned ∙ sym read in (
       with_register s slot m d w,
@@ -80,7 +80,8 @@ stores roots t t' y y' slot a n r m f lawful long at aligned is writes notes pha
   marks = λ g there marked. inl (subst (λ ms. Has ms (granule g.base)) notes.marks marked);
   stays = λ g there marked. subst (λ ms. Has ms (granule g.base)) (sym notes.marks) marked;
   came = λ is g there none. absurd (none_some g (sym none ∙ sym (same g.base) ∙ there));
-  dirty = λ p h. ⊎_elim (λ old. inl old) (λ new. inr (new.0, (m, at, new.1))) (notes.dirty p h);
+  dirty = λ p h. ⊎_elim (λ old. inl old) (λ new. inr (MakesDirty.store m new.0 at new.1)) (notes.dirty p h);
+  written = wrote;
   stays_dirty = notes.stays_dirty;
   current = notes.current;
   stack = notes.stack;
@@ -90,12 +91,19 @@ stores roots t t' y y' slot a n r m f lawful long at aligned is writes notes pha
   roots_alone = λ not. absurd (not tt);
 }
   where
+    mutator_one : {x z : HeapMutator} → Some (Some x) ≡ Some (Some z) → x ≡ z
+    mutator_one e = cc
+
+    -- the slot's mutator is the one that stored
+    wrote : (p : ℕ) → MakesDirty (core_of roots t y) (Mutator slot (StoreCall a n r)) Done p → Has y'.marking.dirty p
+    wrote p (MakesDirty.store other on here same) = subst (Has y'.marking.dirty) (ap (λ (x : HeapMutator). page_of (address x a n)) (mutator_one (sym at ∙ here)) ∙ sym same) (notes.written on)
+
     same : (b : ℕ) → restrict (is_kept t'.pending y'.marking.marks) (found_in t'.states) b ≡ restrict (is_kept t.pending y.marking.marks) (found_in t.states) b
     same b = ap (λ (x : Store). restrict (is_kept x.pending y'.marking.marks) (found_in x.states) b) writes ∙ ap (λ ms. restrict (is_kept t.pending ms) (found_in t.states) b) notes.marks
 
 pub based : (roots roots' : RootSet) (t : Store) (y : Cycle) (slot d a : ℕ) (m : HeapMutator) (f : Found) → IsLawful t.states → HasMutator roots slot m → restrict (is_kept t.pending y.marking.marks) (found_in t.states) (register m a) ≡ Some f
     → SetsWord roots slot d f.base roots' → IsCall (core_of roots t y) (Mutator slot (Base d a)) (Word f.base) (core_of roots' t y)
-based roots roots' t y slot d a m f lawful at is sets = quiet (core_of roots t y) roots' (Mutator slot (Base d a)) (Word f.base) (not_reaching (Mutator slot (Base d a)) (Word f.base) (λ h. h)) (λ s h.
+based roots roots' t y slot d a m f lawful at is sets = quiet (core_of roots t y) roots' (Mutator slot (Base d a)) (Word f.base) (λ h. h) (λ s h.
     let found = finds (is_kept t.pending y.marking.marks) t s (register m a) f lawful h.store is in (
       with_register s slot m d f.base,
       Calls.acts (attached roots t y s slot m h at) (Acts.based found.1),
@@ -104,6 +112,6 @@ based roots roots' t y slot d a m f lawful at is sets = quiet (core_of roots t y
 
 pub sized : (roots : RootSet) (t : Store) (y : Cycle) (slot r : ℕ) (m : HeapMutator) (f : Found) → IsLawful t.states → HasMutator roots slot m → restrict (is_kept t.pending y.marking.marks) (found_in t.states) (register m r) ≡ Some f
     → IsCall (core_of roots t y) (Mutator slot (Size r)) (Count f.len) (core_of roots t y)
-sized roots t y slot r m f lawful at is = quiet (core_of roots t y) roots (Mutator slot (Size r)) (Count f.len) (not_reaching (Mutator slot (Size r)) (Count f.len) (λ h. h)) (λ s h.
+sized roots t y slot r m f lawful at is = quiet (core_of roots t y) roots (Mutator slot (Size r)) (Count f.len) (λ h. h) (λ s h.
     let found = finds (is_kept t.pending y.marking.marks) t s (register m r) f lawful h.store is in
     (s, Calls.acts (attached roots t y s slot m h at) (subst (λ n. Acts s slot m (Size r) (Count n) s) found.2.size (Acts.sized found.1)), h))

@@ -4,6 +4,7 @@ use Rattle.std.specs.Prelude.{slice_get}
 use Rattle.words.specs.declared.refusal.Refusal.{Refusal}
 use Rattle.words.specs.declared.refusal.Refusal.TheVariants.{NoSlot, Full}
 use Rattle.heap_spec.specs.declared.call.Call.{Call}
+use Rattle.heap_spec.specs.declared.call.Call.TheVariants.{Store as StoreCall}
 use Rattle.heap_spec.specs.declared.event.Event.{Event}
 use Rattle.heap_spec.specs.declared.event.Event.TheVariants.{Mutator}
 use Rattle.heap_spec.specs.declared.reply.Reply.{Reply}
@@ -16,7 +17,7 @@ use Rattle.roots.specs.Roots.{RootSet, HasMutator, HasNoMutator, with_word, with
 use Rattle.roots.proofs.Steps.{set_mutators}
 use Rattle.object_space.specs.Store.{Store}
 use Rattle.heap_core.specs.Contents.{Contents, Cycle}
-use Rattle.heap_core.specs.Calls.{IsCall, FindsNoPlace, ReachesPages}
+use Rattle.heap_core.specs.Calls.{IsCall, FindsNoPlace, MakesDirty, ReachesPages}
 use Rattle.object_space.specs.Kept.{is_kept}
 use Rattle.object_space.specs.Stores.{Stores}
 use Rattle.heap_core.specs.Standing.{StandsFor}
@@ -35,9 +36,16 @@ full_reaches event reply FindsNoPlace.full = tt
 full_reply : (event : Event) (reply : Reply) → FindsNoPlace event reply → reply ≡ Refused Full
 full_reply event reply FindsNoPlace.full = refl
 
--- an event that doesn't is none
-pub not_reaching : (event : Event) (reply : Reply) → (ReachesPages event reply → ⊥) → FindsNoPlace event reply → ⊥
-not_reaching event reply not h = not (full_reaches event reply h)
+-- a store that was done reaches them
+dirty_reaches : (c : Contents) (event : Event) (reply : Reply) (p : ℕ) → MakesDirty c event reply p → ReachesPages event reply
+dirty_reaches c event reply p (MakesDirty.store m on at same) = tt
+
+-- what makes a page dirty was done, and is a store
+dirty_reply : (c : Contents) (event : Event) (reply : Reply) (p : ℕ) → MakesDirty c event reply p → reply ≡ Done
+dirty_reply c event reply p (MakesDirty.store m on at same) = refl
+
+pub dirty_event : (c : Contents) (event : Event) (reply : Reply) (p : ℕ) → MakesDirty c event reply p → (slot a n r : ℕ) × (event ≡ Mutator slot (StoreCall a n r))
+dirty_event c event reply p (MakesDirty.store {slot = slot} {a = a} {n = n} {r = r} m on at same) = (slot, a, n, r, refl)
 
 -- nor is one that was done
 pub not_done : (event : Event) → FindsNoPlace event Done → ⊥
@@ -47,9 +55,9 @@ not_done event h = other (full_reply event Done h)
     other e = cc
 
 -- a call that leaves the store and the cycle as they are
-pub quiet : (c : Contents) (roots : RootSet) (event : Event) (reply : Reply) → (FindsNoPlace event reply → ⊥)
+roots_change : (c : Contents) (roots : RootSet) (event : Event) (reply : Reply) → (FindsNoPlace event reply → ⊥) → ((p : ℕ) → MakesDirty c event reply p → ⊥)
     → IsStep (StandsFor c) event reply (StandsFor (record c { roots = roots })) → IsCall c event reply (record c { roots = roots })
-quiet c roots event reply not_full steps = record {
+roots_change c roots event reply not_full not_dirty steps = record {
   steps = steps;
   phase = refl;
   count = refl;
@@ -57,6 +65,7 @@ quiet c roots event reply not_full steps = record {
   stays = λ f is m. m;
   came = λ is f there none. absurd (none_some f (sym none ∙ there));
   dirty = λ p h. inl h;
+  written = λ p h. absurd (not_dirty p h);
   stays_dirty = λ p h. h;
   current = refl;
   stack = refl;
@@ -66,10 +75,15 @@ quiet c roots event reply not_full steps = record {
   roots_alone = λ not. (refl, refl);
 }
 
+-- one that doesn't reach the pages
+pub quiet : (c : Contents) (roots : RootSet) (event : Event) (reply : Reply) → (ReachesPages event reply → ⊥)
+    → IsStep (StandsFor c) event reply (StandsFor (record c { roots = roots })) → IsCall c event reply (record c { roots = roots })
+quiet c roots event reply apart steps = roots_change c roots event reply (λ h. apart (full_reaches event reply h)) (λ p h. apart (dirty_reaches c event reply p h)) steps
+
 -- a step that changes no more than the roots
 pub steps_roots : (roots roots' : RootSet) (t : Store) (y : Cycle) (event : Event) (reply : Reply) → (ReachesPages event reply → ⊥) → StepsRoots roots event reply roots'
     → IsCall (core_of roots t y) event reply (core_of roots' t y)
-steps_roots roots roots' t y event reply apart steps = quiet (core_of roots t y) roots' event reply (not_reaching event reply apart) (λ s h.
+steps_roots roots roots' t y event reply apart steps = quiet (core_of roots t y) roots' event reply apart (λ s h.
     let same : with_roots s roots ≡ s =
     ap (λ ms. record s { mutators = ms; globals = roots.globals }) (sym h.mutators) ∙ ap (λ gs. record s { globals = gs }) (sym h.globals) in (
       with_roots s roots',
@@ -81,9 +95,16 @@ steps_roots roots roots' t y event reply apart steps = quiet (core_of roots t y)
 pub attached : (roots : RootSet) (t : Store) (y : Cycle) (s : Heap) (slot : ℕ) (m : HeapMutator) → StandsFor (core_of roots t y) s → HasMutator roots slot m → IsAttached s slot m
 attached roots t y s slot m h at = ap (λ ms. slice_get ms slot) h.mutators ∙ at
 
+-- what is refused makes no page dirty
+pub refused_clean : (c : Contents) (event : Event) (refusal : Refusal) (p : ℕ) → MakesDirty c event (Refused refusal) p → ⊥
+refused_clean c event refusal p h = other (dirty_reply c event (Refused refusal) p h)
+  where
+    other : Refused refusal ≡ Done → ⊥
+    other e = cc
+
 -- a call for a slot that has no mutator
 pub refused_vacant : (c : Contents) (slot : ℕ) (call : Call) → HasNoMutator c.roots slot → IsCall c (Mutator slot call) (Refused NoSlot) c
-refused_vacant c slot call none = quiet c c.roots (Mutator slot call) (Refused NoSlot) (λ h. other (full_reply (Mutator slot call) (Refused NoSlot) h)) (λ s h. (s, Calls.vacant (ap (λ ms. slice_get ms slot) h.mutators ∙ none), h))
+refused_vacant c slot call none = roots_change c c.roots (Mutator slot call) (Refused NoSlot) (λ h. other (full_reply (Mutator slot call) (Refused NoSlot) h)) (refused_clean c (Mutator slot call) NoSlot) (λ s h. (s, Calls.vacant (ap (λ ms. slice_get ms slot) h.mutators ∙ none), h))
   where
     other : Refused NoSlot ≡ Refused Full → ⊥
     other e = cc
@@ -91,7 +112,7 @@ refused_vacant c slot call none = quiet c c.roots (Mutator slot call) (Refused N
 -- a call of a mutator that is refused
 pub refused : (roots : RootSet) (t : Store) (y : Cycle) (slot : ℕ) (m : HeapMutator) (call : Call) (refusal : Refusal) → HasMutator roots slot m → (ReachesPages (Mutator slot call) (Refused refusal) → ⊥)
     → ((s : Heap) → Stores (is_kept t.pending y.marking.marks) t s → Acts s slot m call (Refused refusal) s) → IsCall (core_of roots t y) (Mutator slot call) (Refused refusal) (core_of roots t y)
-refused roots t y slot m call refusal at apart acts = quiet (core_of roots t y) roots (Mutator slot call) (Refused refusal) (not_reaching (Mutator slot call) (Refused refusal) apart) (λ s h. (s, Calls.acts (attached roots t y s slot m h at) (acts s h.store), h))
+refused roots t y slot m call refusal at apart acts = quiet (core_of roots t y) roots (Mutator slot call) (Refused refusal) apart (λ s h. (s, Calls.acts (attached roots t y s slot m h at) (acts s h.store), h))
 
 -- the roots stand for those of a heap in which a register was set
 pub stands_set : (roots roots' : RootSet) (t t' : Store) (y y' : Cycle) (s after : Heap) (slot r w : ℕ) (m : HeapMutator) → StandsFor (core_of roots t y) s → HasMutator roots slot m → SetsWord roots slot r w roots'

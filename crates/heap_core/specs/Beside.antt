@@ -10,11 +10,12 @@ use Rattle.marker.specs.Marking.{Marking, IsMarked}
 use Rattle.marker.specs.Invariant.{DirtyPageInvariant}
 use Rattle.marker.specs.Mutations.{KeepsWords, HasZeroWords}
 
--- A word was written at the address: its page at most has become dirty, while a cycle is marking, and the invariant stays.
+-- A word was written at the address: while a cycle is marking its page has become dirty, no other has, and the invariant stays.
 pub record NotesWrite (is_marking : Bool) (address : ℕ) (old new : Marking) : Type 0 where
   pub marks : new.marks ≡ old.marks
   pub dirty_len : length new.dirty ≡ length old.dirty
   pub dirty : (p : ℕ) → Has new.dirty p → Has old.dirty p ⊎ ((is_marking ≡ true) × (p ≡ page_of address))
+  pub written : is_marking ≡ true → Has new.dirty (page_of address)
   pub stays_dirty : (p : ℕ) → Has old.dirty p → Has new.dirty p
   pub current : new.current ≡ old.current
   pub stack : new.stack ≡ old.stack

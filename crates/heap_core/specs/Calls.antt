@@ -20,15 +20,9 @@ use Rattle.object_space.specs.Store.{IsSwept}
 use Rattle.heap_core.specs.Contents.{Contents}
 use Rattle.heap_core.specs.Standing.{StandsFor, objects_of}
 
--- the page that a call of the slot stores to
-abbrev pub StoresOn : Contents → ℕ → Call → ℕ → Type 0
-StoresOn c slot (Store a n r) p = (m : HeapMutator) × HasMutator c.roots slot m × (p ≡ page_of (address m a n))
-StoresOn c slot _ p = ⊥
-
--- the page that an event with this reply may make dirty: that of a store that was done while a cycle is marking
-abbrev pub MayDirty : Contents → Event → Reply → ℕ → Type 0
-MayDirty c (Mutator slot call) Done p = (c.cycle.is_marking ≡ true) × StoresOn c slot call p
-MayDirty c _ _ p = ⊥
+-- the page that an event with this reply makes dirty: that of a store that was done while a cycle is marking
+pub data MakesDirty (c : Contents) : Event → Reply → ℕ → Type 0 where
+  store : {slot a n r p : ℕ} (m : HeapMutator) → c.cycle.is_marking ≡ true → HasMutator c.roots slot m → p ≡ page_of (address m a n) → MakesDirty c (Mutator slot (Store a n r)) Done p
 
 -- the call with this reply reaches the pages: a store, an allocation or a free that was done, or an allocation with no place
 abbrev pub CallReachesPages : Call → Reply → Type 0
@@ -60,7 +54,7 @@ MaySweep c _ p = ⊥
 
 -- A call of a mutator is a step of the heap. It leaves the phase and the count as they are, and the work of the marker too,
 -- but for its own part of it: no object that is there before and after is newly marked or loses its mark, an object that
--- comes while a cycle is marking is marked, and of the pages only the one that it has stored to may become dirty, while a
+-- comes while a cycle is marking is marked, and of the pages exactly the one that it has stored to becomes dirty, while a
 -- cycle is marking. No page becomes one that is to be swept, few calls sweep, and an allocation for which there was no place
 -- has left none to be swept. Unless it reaches the pages it changes nothing but the roots.
 pub record IsCall (old : Contents) (event : Event) (reply : Reply) (new : Contents) : Type 0 where
@@ -70,7 +64,8 @@ pub record IsCall (old : Contents) (event : Event) (reply : Reply) (new : Conten
   pub marks : (f : Found) → objects_of new f.base ≡ Some f → IsMarked new.cycle.marking f.base → IsMarked old.cycle.marking f.base ⊎ (objects_of old f.base ≡ None)
   pub stays : (f : Found) → objects_of new f.base ≡ Some f → IsMarked old.cycle.marking f.base → IsMarked new.cycle.marking f.base
   pub came : old.cycle.is_marking ≡ true → (f : Found) → objects_of new f.base ≡ Some f → objects_of old f.base ≡ None → IsMarked new.cycle.marking f.base
-  pub dirty : (p : ℕ) → Has new.cycle.marking.dirty p → Has old.cycle.marking.dirty p ⊎ MayDirty old event reply p
+  pub dirty : (p : ℕ) → Has new.cycle.marking.dirty p → Has old.cycle.marking.dirty p ⊎ MakesDirty old event reply p
+  pub written : (p : ℕ) → MakesDirty old event reply p → Has new.cycle.marking.dirty p
   pub stays_dirty : (p : ℕ) → Has old.cycle.marking.dirty p → Has new.cycle.marking.dirty p
   pub current : new.cycle.marking.current ≡ old.cycle.marking.current
   pub stack : new.cycle.marking.stack ≡ old.cycle.marking.stack

@@ -1,5 +1,6 @@
 //! The collector's small steps between calls of a mutator: what each has read, made clean or swept is in its reply.
 
+use crate::fakes::Taken;
 use crate::gates::InTurn;
 use crate::runs::{Setting, run};
 use std::alloc::Global;
@@ -8,7 +9,6 @@ use std::sync::Wait;
 use std::sync::atomic::Ordering;
 use std::test::Fail;
 use std::thread::Threads;
-use test_scripts::fakes::Taken;
 
 /// An object that points to another, and one that nothing points to. While the cycle marks, a new object is stored into the first.
 const LINES: &str =
