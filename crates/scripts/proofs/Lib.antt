@@ -4,4 +4,5 @@ pub mod Splitting
 pub mod FirstWords
 pub mod Texts
 pub mod Inputs
+pub mod Cores
 pub mod Serving

@@ -5,23 +5,23 @@ use Rattle.std.specs.List.{AllZip}
 use Rattle.std.specs.Io.KnownBytes.{Consumes, Appends, IsAtEnd}
 use Rattle.std.proofs.lemmas.List.{map_push, append-nil}
 use Rattle.std.proofs.lemmas.List.Elements.{All-push, All-nil}
-use Rattle.heap_spec.specs.Heap.{opening}
 use Rattle.heap_spec.specs.Runs.{Start, Told, Run, Touched, fresh}
 use Rattle.heap_spec.specs.Transcripts.{LegalTranscript, LineOf, ends, on}
 use Rattle.heap_core.specs.Contents.{Contents}
-use Rattle.heap_core.specs.Standing.{StandsFor}
 use Rattle.heap_core.specs.Following.{Follows}
 use Rattle.scripts.specs.declared.limits.TheConstants.{LAST_LINE, LINE_BYTES}
 use Rattle.scripts.specs.declared.errors.ScriptError.{ScriptError}
 use Rattle.scripts.specs.declared.errors.ScriptError.TheVariants.{BadLine, Read, Write, Memory}
 use Rattle.scripts.specs.declared.line.LineRead.{LineRead}
 use Rattle.scripts.specs.declared.line.LineRead.TheVariants.{Line, Last, End, TooLong}
+use Rattle.scripts.specs.Cores.{IsNew}
 use Rattle.scripts.specs.Grammar.{IsLineOf, IsBad}
 use Rattle.scripts.specs.Lines.{newline, IsShort, lines_of, whole_lines_of}
 use Rattle.scripts.specs.Reading.{left_of, IsPlain, IsLineRead}
 use Rattle.scripts.specs.Printing.{reply_line, printed}
 use Rattle.scripts.specs.Answers.{Answers, BeginsAnswer, IsAnswered, Serves}
 use Rattle.scripts.specs.Turns.{IsRun, IsTurn, HasRun, IsUpTo, text_of}
+use Rattle.scripts.proofs.Cores.{follows_fresh, no_calls, call_on}
 use Rattle.scripts.proofs.Bytes.{Appends-none, Appends-more, Consumes-none, Consumes-more}
 use Rattle.scripts.proofs.Inputs.{zip_push, length-push, known, at_end, no_buffer, no_left, more_lines, last_line, all_short}
 use Rattle.scripts.proofs.Texts.{lines_of-text, lines_of-last, first_line, whole_lines_of-text, take-front, at-front, text_of-push}
@@ -35,19 +35,18 @@ printed-push : (pages : ℕ) (lines : List Told) (told : Told) → printed pages
 printed-push pages [] told = append-nil (reply_line pages told.reply)
 printed-push pages (l ∷ lines) told = ap (λ x. reply_line pages l.reply ++ x) (printed-push pages lines told) ∙ sym (append_assoc (reply_line pages l.reply) (printed pages lines) (reply_line pages told.reply))
 
--- a new core follows the run without events
-pub follows_fresh : (pages : ℕ) (core : Contents) → StandsFor core (opening pages) → core.cycle.is_marking ≡ false → core.cycle.count ≡ 0 → Follows core (fresh pages) []
-follows_fresh pages core stands idle none = record {
-  stands = stands;
-  phase = idle;
-  count = none;
-  small = omega (arith, none);
-  touched = λ marking base o has marked. let h : ⊥ = cc in absurd h;
-}
-
 -- before the first line
-pub none_run : (pages : ℕ) (core : Contents) → Follows core (fresh pages) [] → HasRun pages core [] []
-none_run pages core h = record { told = []; last = []; plain = All-nil IsPlain; commands = tt; legal = ends; prints = refl; follows = h }
+none_run : (pages : ℕ) (core : Contents) → IsNew pages core → HasRun pages core [] []
+none_run pages core new = record {
+  told = [];
+  last = [];
+  plain = All-nil IsPlain;
+  commands = tt;
+  legal = ends;
+  calls = no_calls pages core new;
+  prints = refl;
+  follows = follows_fresh pages core new;
+}
 
 -- one line more
 pub run_on : (pages : ℕ) (old new : Contents) (lines : List (List ℕ)) (out line o : List ℕ) → HasRun pages old lines out → IsPlain line → IsRun pages line old new o → HasRun pages new (lines ++ line ∷ []) (out ++ o)
@@ -60,12 +59,22 @@ run_on pages old new lines out line o r plain turn =
       plain = All-push IsPlain lines line r.plain plain;
       commands = subst (λ es. AllZip IsLineOf (lines ++ line ∷ []) es) (sym (map_push (λ (t : Told). t.event) r.told told)) (zip_push IsLineOf lines (map (λ (t : Told). t.event) r.told) line turn.command r.commands turn.is_line);
       legal = legal_on (fresh pages) told r.legal next.1;
+      calls = call_on pages old new r.told told r.calls turn.acts;
       prints = ap (λ x. x ++ o) r.prints ∙ ap (λ x. printed pages r.told ++ x) turn.prints ∙ sym (printed-push pages r.told told);
       follows = next.2;
     }
 
 answers : (pages : ℕ) (core : Contents) (lines : List (List ℕ)) (out : List ℕ) → HasRun pages core lines out → length lines < LAST_LINE → Answers pages lines out
-answers pages core lines out r few = record { told = r.told; last = r.last; commands = r.commands; few = few; legal = r.legal; prints = r.prints }
+answers pages core lines out r few = record {
+  told = r.told;
+  last = r.last;
+  core = core;
+  commands = r.commands;
+  few = few;
+  legal = r.legal;
+  calls = r.calls;
+  prints = r.prints;
+}
 
 holds : (held out : List ℕ) (w0 w : Option (List ℕ)) → w0 ≡ Some held → Appends w0 w out → w ≡ Some (held ++ out)
 holds held out w0 w tells wrote =
@@ -230,8 +239,8 @@ memory_serves pages input held rem0 w0 tells_input tells_held =
     record { read = []; left = input; wrote = []; is_input = refl; is_left = tells_input; is_held = tells_held ∙ ap Some (sym (append-nil held)); answered = (refl, refl) }
 
 -- before the first line
-pub starts : (pages : ℕ) (core : Contents) (left w : Option (List ℕ)) → Follows core (fresh pages) [] → IsUpTo pages 1 core left left w w
-starts pages core left w follows = record { lines = []; out = []; run = none_run pages core follows; count = refl; read = Consumes-none left; wrote = Appends-none w }
+pub starts : (pages : ℕ) (core : Contents) (left w : Option (List ℕ)) → IsNew pages core → IsUpTo pages 1 core left left w w
+starts pages core left w new = record { lines = []; out = []; run = none_run pages core new; count = refl; read = Consumes-none left; wrote = Appends-none w }
 
 -- what was found, where it is known
 pub found_is : (found which : LineRead) (line : List ℕ) (old new : Option (List ℕ)) → found ≡ which → IsLineRead found line old new → IsLineRead which line old new

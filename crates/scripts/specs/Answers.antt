@@ -3,21 +3,26 @@ use Rattle.std.specs.Prelude.{◌≡◌, ℕ, ◌-◌, ◌<◌, ◌⊎◌, Optio
 use Rattle.std.specs.List.{AllZip}
 use Rattle.heap_spec.specs.Runs.{Told, Run, Touched, fresh}
 use Rattle.heap_spec.specs.Transcripts.{LegalTranscript}
+use Rattle.heap_core.specs.Contents.{Contents}
 use Rattle.scripts.specs.declared.limits.TheConstants.{LAST_LINE}
 use Rattle.scripts.specs.declared.errors.ScriptError.{ScriptError}
 use Rattle.scripts.specs.declared.errors.ScriptError.TheVariants.{BadLine, Read, Write, Memory}
+use Rattle.scripts.specs.Cores.{AreCallsOfNew}
 use Rattle.scripts.specs.Grammar.{IsLineOf, IsBad}
 use Rattle.scripts.specs.Lines.{IsShort, lines_of, whole_lines_of}
 use Rattle.scripts.specs.Printing.{printed}
 
 -- An out answers lines, on a heap of so many pages: the lines are commands', none of them has the last number that there is,
--- and some legal transcript of these commands from the opening state prints as out.
+-- and some legal transcript of these commands from the opening state, which are the calls of some new core with its replies,
+-- prints as out.
 pub record Answers (pages : ℕ) (lines : List (List ℕ)) (out : List ℕ) : Type 0 where
   pub told : List Told
   pub last : Run
+  pub core : Contents
   pub commands : AllZip IsLineOf lines (map (λ (t : Told). t.event) told)
   pub few : length lines < LAST_LINE
   pub legal : LegalTranscript Touched (fresh pages) [] told last
+  pub calls : AreCallsOfNew pages told core
   pub prints : out ≡ printed pages told
 
 -- Line n of a text, counted from 1, is bad: it is no command's, or its number is the last that there is.

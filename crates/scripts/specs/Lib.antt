@@ -5,6 +5,7 @@ pub mod Calls
 pub mod Lines
 pub mod Reading
 pub mod Printing
+pub mod Cores
 pub mod Answers
 pub mod Ends
 pub mod Turns

@@ -6,20 +6,23 @@ use Rattle.heap_spec.specs.declared.event.Event.{Event}
 use Rattle.heap_spec.specs.declared.reply.Reply.{Reply}
 use Rattle.heap_spec.specs.Runs.{Told, Run, Touched, fresh}
 use Rattle.heap_spec.specs.Transcripts.{LegalTranscript}
+use Rattle.heap_core.specs.Acts.{IsAct}
 use Rattle.heap_core.specs.Contents.{Contents}
 use Rattle.heap_core.specs.Following.{Follows, IsLine}
 use Rattle.scripts.specs.declared.errors.ScriptError.{ScriptError}
 use Rattle.scripts.specs.declared.errors.ScriptError.TheVariants.{BadLine, Read, Write, Memory}
+use Rattle.scripts.specs.Cores.{AreCallsOfNew}
 use Rattle.scripts.specs.Grammar.{IsLineOf, IsBad}
 use Rattle.scripts.specs.Lines.{newline}
 use Rattle.scripts.specs.Reading.{IsPlain}
 use Rattle.scripts.specs.Printing.{reply_line, printed}
 
--- The line is a command's, and the core did it with a reply that prints so.
+-- The line is a command's, the core was called so, and its reply prints so.
 pub record IsRun (pages : ℕ) (line : List ℕ) (old new : Contents) (out : List ℕ) : Type 0 where
   pub command : Event
   pub reply : Reply
   pub is_line : IsLineOf line command
+  pub acts : IsAct old command reply new
   pub does : IsLine old command reply new
   pub prints : out ≡ reply_line pages reply
 
@@ -42,6 +45,7 @@ pub record HasRun (pages : ℕ) (core : Contents) (lines : List (List ℕ)) (out
   pub plain : All IsPlain lines
   pub commands : AllZip IsLineOf lines (map (λ (t : Told). t.event) told)
   pub legal : LegalTranscript Touched (fresh pages) [] told last
+  pub calls : AreCallsOfNew pages told core
   pub prints : out ≡ printed pages told
   pub follows : Follows core (fresh pages) last
 

@@ -1,9 +1,8 @@
 //! Scripts over a heap of their own: each line is read, run and answered before the next.
 ghost use Rattle.std.specs.Prelude.{◌≡◌, ℕ, ◌+◌, ◌≤◌, List, [], Some};
 ghost use Rattle.words.specs.declared.limits.TheConstants.{MAX_PAGES};
-ghost use Rattle.heap_spec.specs.Runs.{fresh};
-ghost use Rattle.heap_core.specs.Following.{Follows};
 ghost use Rattle.scripts.specs.Answers.{Serves};
+ghost use Rattle.scripts.specs.Cores.{IsNew};
 ghost use Rattle.scripts.specs.Ends.{read_faults, write_faults};
 
 use crate::answer::answer_line;
@@ -26,7 +25,7 @@ fn run_lines<R: Source, W: Sink>(
     pages: u32,
 ) -> Result<(), ScriptError>
     requires pages { pages ≤ MAX_PAGES }
-    requires opens { Follows core.old (fresh pages) [] }
+    requires new { IsNew pages core.old }
     requires empty { buffer.old ≡ [] }
     ensures serves { (input held : List ℕ) → R.remaining reader.old ≡ Some input → W.written writer.old ≡ Some held
         → Serves pages input held (R.remaining reader.new) (W.written writer.new) result }

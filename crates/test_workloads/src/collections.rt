@@ -10,7 +10,7 @@ pub const HIDDEN_POINTER_REPLIES: &str =
     "mutator 0\nok\nok\nok\nok\nok\nok\nok\nok\nok\n2\nptr\nok\nok\nok\n0\nptr\n77\n";
 
 /// Rows of full collections, cycles and sweeps.
-pub const COLLECTIONS: [Row; 20] = [
+pub const COLLECTIONS: [Row; 22] = [
     Row {
         name: "pointer_free_holder",
         pages: 4,
@@ -118,6 +118,18 @@ pub const COLLECTIONS: [Row; 20] = [
         pages: 4,
         script: "attach\n0 alloc 1 2 normal\ngc begin\ngc retrace\n0 store 1 0 1\ngc retrace\ngc retrace\ngc finish\n",
         replies: "mutator 0\nok\nok\n0\nok\n1\n0\n0\n",
+    },
+    Row {
+        name: "stored_word_points_nowhere",
+        pages: 4,
+        script: "attach\n0 alloc 1 2 normal\ngc begin\n0 set 2 7\n0 store 1 0 2\ngc retrace\ngc retrace\n",
+        replies: "mutator 0\nok\nok\nok\nok\n1\n0\n",
+    },
+    Row {
+        name: "allocation_sweeps_as_it_needs",
+        pages: 4,
+        script: "attach\n0 alloc 1 2 normal\n0 alloc 2 4 normal\n0 set 1 0\n0 set 2 0\ngc begin\ngc finish\n0 alloc 1 2 normal\ngc sweep\ngc sweep\n",
+        replies: "mutator 0\nok\nok\nok\nok\nok\n2\nok\n1\n0\n",
     },
     Row {
         name: "cut_again_under_the_marker",

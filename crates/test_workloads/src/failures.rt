@@ -1,11 +1,17 @@
 //! Reads and allocations that fail.
 
-use crate::fakes::Script;
+use crate::fakes::{Script, Taken};
+use crate::gates::Counts;
 use crate::rules::mutators_of;
+use crate::runs::{Setting, run_read};
 use crate::stress::lines_of;
 use scripts::ScriptError;
 use std::alloc::Global;
 use std::process::Abort;
+use std::sync::Wait;
+use std::sync::atomic::Ordering;
+use std::test::Fail;
+use std::thread::Threads;
 use workloads::{RunError, make_stress};
 
 const WORKLOAD: &str = "attach\nattach\n0 alloc 1 3 normal\ngc begin\n1 set 2 77\ngc finish\n";
@@ -24,6 +30,44 @@ fn every_read_fails(rt: HostRuntime) {
             check_read_fault(&rt, rt.alloc(), &mut input, call);
         }
     }
+}
+
+/// A workload that isn't read to its end is not run: no call begins, and nothing is written.
+fn check_not_run<R: Threads + Wait + Abort + Sync>(
+    rt: &R,
+    alloc: Global,
+    input: &mut Script<'_>,
+    fault: ScriptError,
+    output: &mut Taken,
+) {
+    let setting = Setting {
+        pages: 4,
+        helpers: 1,
+    };
+    let gate = Counts::new();
+    let answer = run_read(rt, alloc, input, setting, &gate, output);
+    assert_eq!(rt; answer, Err(fault));
+    assert_eq!(rt; gate.began.load(Ordering::SeqCst), 0);
+    assert_eq!(rt; output.calls, 0);
+}
+
+#[test]
+fn no_thread_starts_before_all_is_read(rt: HostRuntime) -> Result<(), Fail> {
+    let mut output = Taken::new(rt.alloc())?;
+    let bad = "attach\n0 alloc 1 3 normal\ngc begin\ngc finish\n0 detach\n";
+    let mut input = Script::new(bad.as_bytes());
+    let bad_line = ScriptError::BadLine(5);
+    check_not_run(&rt, rt.alloc(), &mut input, bad_line, &mut output);
+    // All bytes came before the call that fails.
+    let mut failing = Script::failing_at(WORKLOAD.as_bytes(), usize::MAX, 1);
+    check_not_run(
+        &rt,
+        rt.alloc(),
+        &mut failing,
+        ScriptError::Read,
+        &mut output,
+    );
+    Ok(())
 }
 
 /// One byte a call is read as all at once.

@@ -1,4 +1,4 @@
-//! Gates that hold actors back until others have come, for a bounded time.
+//! Gates that hold actors back until others have come, for a bounded time, and one that counts.
 
 use final_pause::{COLLECTOR, FIRST_HELPER, Gate};
 use std::sync::atomic::{AtomicU64, Ordering};
@@ -16,6 +16,32 @@ fn await_all(there: &AtomicU64, awaited: u64, missed: &AtomicU64) {
         thread::yield_now();
     }
     missed.fetch_add(1, Ordering::SeqCst);
+}
+
+/// Counts the calls that began and those that ended.
+#[derive(Drop)]
+pub struct Counts {
+    pub began: AtomicU64,
+    pub ended: AtomicU64,
+}
+
+impl Counts {
+    pub fn new() -> Counts {
+        Counts {
+            began: AtomicU64::new(0),
+            ended: AtomicU64::new(0),
+        }
+    }
+}
+
+impl Gate for Counts {
+    fn before(&self, _actor: u8, _call: u32) {
+        self.began.fetch_add(1, Ordering::SeqCst);
+    }
+
+    fn after(&self, _actor: u8, _call: u32) {
+        self.ended.fetch_add(1, Ordering::SeqCst);
+    }
 }
 
 /// All actors meet before their first call: nobody alone gets past it.

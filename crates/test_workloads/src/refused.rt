@@ -1,13 +1,13 @@
 //! Threads that are refused. By itself this runs with threads enough; `tests/refused_threads.sh` refuses each thread in turn.
 
 use crate::fakes::Taken;
+use crate::gates::Counts;
 use crate::runs::{Setting, run};
-use final_pause::Gate;
 use scripts::ScriptError;
 use std::alloc::{AllocError, Global};
 use std::process::Abort;
 use std::sync::Wait;
-use std::sync::atomic::{AtomicU64, Ordering};
+use std::sync::atomic::Ordering;
 use std::test::Fail;
 use std::thread::Threads;
 use words::limits::{MAX_HELPERS, SLOTS};
@@ -19,23 +19,6 @@ const SETTING: Setting = Setting {
 
 // One of each mutator, and three of the collector, beside those of helpers.
 const CALLS: u64 = 19;
-
-/// Counts the calls that began and those that ended.
-#[derive(Drop)]
-struct Counts {
-    began: AtomicU64,
-    ended: AtomicU64,
-}
-
-impl Gate for Counts {
-    fn before(&self, _actor: u8, _call: u32) {
-        self.began.fetch_add(1, Ordering::SeqCst);
-    }
-
-    fn after(&self, _actor: u8, _call: u32) {
-        self.ended.fetch_add(1, Ordering::SeqCst);
-    }
-}
 
 /// Each mutator allocates what its register keeps, and a cycle ends: so each reply is the same in every order.
 fn put_all(lines: &mut String, replies: &mut String) -> Result<(), AllocError> {
@@ -57,10 +40,7 @@ fn check<R: Threads + Wait + Abort + Sync>(
     texts: (&str, &str),
     output: &mut Taken,
 ) {
-    let gate = Counts {
-        began: AtomicU64::new(0),
-        ended: AtomicU64::new(0),
-    };
+    let gate = Counts::new();
     let answer = run(rt, alloc, texts.0.as_bytes(), SETTING, &gate, output);
     let began = gate.began.load(Ordering::SeqCst);
     match answer {

@@ -17,6 +17,22 @@ pub struct Setting {
     pub helpers: u8,
 }
 
+/// Runs a workload that a reader gives, and keeps what was printed.
+pub fn run_read<R: Threads + Wait + Abort + Sync, G: Gate>(
+    rt: &R,
+    alloc: Global,
+    input: &mut Script<'_>,
+    setting: Setting,
+    gate: &G,
+    output: &mut Taken,
+) -> Result<(), ScriptError> {
+    let Setting { pages, helpers } = setting;
+    assert!(rt; 1 <= pages && pages <= MAX_PAGES);
+    let helpers = Helpers::new(helpers).expect(rt, "helpers");
+    output.clear();
+    run_workload(rt, alloc, input, output, pages, helpers, gate)
+}
+
 /// Runs a workload, and keeps what was printed.
 pub fn run<R: Threads + Wait + Abort + Sync, G: Gate>(
     rt: &R,
@@ -26,10 +42,6 @@ pub fn run<R: Threads + Wait + Abort + Sync, G: Gate>(
     gate: &G,
     output: &mut Taken,
 ) -> Result<(), ScriptError> {
-    let Setting { pages, helpers } = setting;
-    assert!(rt; 1 <= pages && pages <= MAX_PAGES);
-    let helpers = Helpers::new(helpers).expect(rt, "helpers");
     let mut input = Script::new(text);
-    output.clear();
-    run_workload(rt, alloc, &mut input, output, pages, helpers, gate)
+    run_read(rt, alloc, &mut input, setting, gate, output)
 }

@@ -6,7 +6,7 @@ use Rattle.scripts.proofs.Serving.{starts, end_serves, too_long_serves, read_ser
 use Rattle.scripts.proofs.script.run_lines.Goals as goal
 
 pub loop-number-init : goal.loop-number-init
-loop-number-init g c = record { ran = starts c.args.pages _ _ _ c.requires.opens; reader = refl; writer = refl }
+loop-number-init g c = record { ran = starts c.args.pages _ _ _ c.requires.new; reader = refl; writer = refl }
 
 pub returns-in-Err-clause-serves : goal.returns-in-Err-clause-serves
 returns-in-Err-clause-serves g c input held tells_input tells_held =
