@@ -1,17 +1,15 @@
 -- Where the object of a granted request was born.
-use Rattle.std.proofs.Common.{◌≡◌, ℕ, ◌<◌, ◌+◌, List, length, refl, sym, ap, subst, ◌∙◌, arith, length-set, get_or-set_same}
-use Rattle.std.specs.Prelude.{Option, Some, None, Result, Ok, Err, slice_get, slice_set}
+use Rattle.std.proofs.Common.{◌≡◌, ℕ, ◌<◌, List, length, refl, sym, ap, subst, ◌∙◌, arith, length-set, get_or-set_same}
+use Rattle.std.specs.Prelude.{Option, Some, Result, Ok, Err, slice_get, slice_set}
 use Rattle.std.proofs.lemmas.Option.{slice_get_within, slice_get-get_or, same_Some, none-some}
 use Rattle.words.specs.declared.class.Kind.{Kind}
 use Rattle.words.specs.declared.refusal.Refusal.{Refusal}
-use Rattle.heap_spec.specs.declared.call.Call.{Call}
 use Rattle.heap_spec.specs.declared.call.Call.TheVariants.{Alloc, Get}
 use Rattle.heap_spec.specs.declared.event.Event.{Event}
 use Rattle.heap_spec.specs.declared.event.Event.TheVariants.{Mutator}
 use Rattle.heap_spec.specs.declared.reply.Reply.{Reply}
 use Rattle.heap_spec.specs.declared.reply.Reply.TheVariants.{Done, Word, Refused}
 use Rattle.heap_spec.specs.Heap.{Heap, Mutator as HeapMutator, IsAttached}
-use Rattle.heap_spec.specs.Ranges.{IsRegister}
 use Rattle.heap_spec.specs.Replies.{word_reply}
 use Rattle.heap_spec.specs.Runs.{Start, Run, Touched, heap_after}
 use Rattle.heap_spec.specs.Sound.{IsSound}
@@ -21,7 +19,6 @@ use Rattle.heap_spec.proofs.Calls.{attached_is}
 use Rattle.heap_spec.proofs.Objects.{with_at-same}
 use Rattle.heap_core.specs.Contents.{Contents as CoreContents}
 use Rattle.heap_core.specs.Standing.{StandsFor}
-use Rattle.plain_core.specs.Answering.{IsBornAt}
 use Rattle.recording.specs.Noting.{IsBornIn, NamesPlace, IsWordOf, PlacesEvent}
 
 slice_get-set_same : {A : Type 0} (l : List A) (i : ℕ) (x : A) → i < length l → slice_get (slice_set l i x) i ≡ Some x
