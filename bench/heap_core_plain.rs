@@ -213,22 +213,59 @@ impl Core {
             return Some(START + 4_096 * first as u64);
         }
         let class = usize::from(self.index[words.div_ceil(2) as usize]);
-        let row = Core::row(class, kind);
-        let mut page = next(&self.open[row], 0, true);
-        if page >= PAGES {
-            page = take_run(&mut self.free, 1)?;
-            self.link_all(page, class);
-            self.map[page] = Page::Cut(Block {
-                class,
-                kind,
-                cells: 512 / CLASSES[class],
-                reciprocal: 65_536_u32.div_ceil(u32::from(CLASSES[class]) / 2),
-                taken: [0; 4],
-                first: 0,
-            });
-            self.open[row][page / 64] |= 1 << (page % 64);
+        while let Some(page) = self.page_for(class, kind) {
+            if !is_set(&self.pending, page) {
+                return self.take_cell(page, class, kind);
+            }
+            self.sweep_page(page);
         }
+        let page = take_run(&mut self.free, 1)?;
+        self.link_all(page, class);
+        self.map[page] = Page::Cut(Block {
+            class,
+            kind,
+            cells: 512 / CLASSES[class],
+            reciprocal: 65_536_u32.div_ceil(u32::from(CLASSES[class]) / 2),
+            taken: [0; 4],
+            first: 0,
+        });
+        set(&mut self.open[Core::row(class, kind)], page);
         self.take_cell(page, class, kind)
+    }
+
+    // A page with a free cell, or else a pending one for the class.
+    fn page_for(&self, class: usize, kind: Kind) -> Option<usize> {
+        let page = next(&self.open[Core::row(class, kind)], 0, true);
+        if page < PAGES {
+            return Some(page);
+        }
+        let mut from = 0;
+        loop {
+            let page = next(&self.pending, from, true);
+            if page >= PAGES {
+                return None;
+            }
+            if matches!(&self.map[page], Page::Cut(block) if block.class == class && block.kind == kind) {
+                return Some(page);
+            }
+            from = page + 1;
+        }
+    }
+
+    // Frees the cells of the page that aren't marked. In these loops no page is pending.
+    #[inline(never)]
+    fn sweep_page(&mut self, page: usize) {
+        let Page::Cut(block) = &self.map[page] else {
+            return;
+        };
+        let words = u64::from(CLASSES[block.class]);
+        for cell in 0..512 / words {
+            let address = START + 4_096 * page as u64 + 8 * cell * words;
+            if let Some(found) = self.look_up(address).filter(|_| !is_set(&self.marks, granule(address))) {
+                self.release(found);
+            }
+        }
+        clear(&mut self.pending, page);
     }
 
     fn release(&mut self, found: Found) {
