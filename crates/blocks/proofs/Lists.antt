@@ -10,7 +10,7 @@ use Rattle.words.specs.Classes.{IsSizeClass}
 use Rattle.pages.specs.Memory.{IsWordAddress, place, with_word_at}
 use Rattle.blocks.specs.Cells.{Cells, IsCells}
 use Rattle.blocks.specs.declared.list.TheConstants.{LIST_END}
-use Rattle.blocks.specs.Lists.{cell_start, link_of, ends, goes_on, ChangesPage, HasPage, IsFree, IsFreeFrom, IsListed, IsTaken, Lists}
+use Rattle.blocks.specs.Lists.{cell_start, link_of, ends, goes_on, ChangesPage, HasPage, IsFree, IsListed, IsTaken, Lists}
 use Rattle.blocks.proofs.Places.{class_bounds, divided}
 
 -- where a list begins
@@ -155,6 +155,12 @@ changes_none words page = record { size = refl; others = λ k out. refl }
 
 pub changes_more : (old mid new : List ℕ) (page : ℕ) → ChangesPage old mid page → ChangesPage mid new page → ChangesPage old new page
 changes_more old mid new page a b = record { size = b.size ∙ a.size; others = λ k out. b.others k out ∙ a.others k out }
+
+-- the cells below `left` are allocated, and the others free
+pub record IsFreeFrom (row : List Bool) (n left : ℕ) : Type 0 where
+  pub size : length row ≡ n
+  pub below : (i : ℕ) → i < left → get_or row i false ≡ true
+  pub from : (i : ℕ) → left ≤ i → get_or row i false ≡ false
 
 -- the cells from `left` on are a list
 pub record IsLinkedFrom (link : ℕ → ℕ) (n left first : ℕ) : Type 0 where

@@ -43,9 +43,3 @@ pub record IsFree (row : List Bool) (cell : ℕ) : Type 0 where
 pub record IsTaken (row : List Bool) (cell : ℕ) : Type 0 where
   pub inside : cell < length row
   pub taken : slice_index_or row cell false ≡ true
-
--- the cells below `left` are allocated, and the others free
-pub record IsFreeFrom (row : List Bool) (n left : ℕ) : Type 0 where
-  pub size : length row ≡ n
-  pub below : (i : ℕ) → i < left → slice_index_or row i false ≡ true
-  pub from : (i : ℕ) → left ≤ i → slice_index_or row i false ≡ false

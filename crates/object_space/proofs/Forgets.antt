@@ -1,5 +1,6 @@
 -- What is forgotten, page by page.
 use Rattle.std.proofs.Common.{inl, inr, ◌≡◌, ℕ, suc, ◌-◌, ◌+◌, ◌*◌, ◌<◌, ◌≤◌, ◌⊎◌, Bool, true, false, List, [], ◌++◌, ◌∷◌, length, set, get_or, get_or-set_same, get_or-set_other, Contains, Some, None, refl, sym, ap, ◌∙◌, subst, ⊎_elim, arith, length-append, append_assoc, append-nil, nat_eq}
+use Rattle.std.specs.Prelude.{All}
 use Rattle.std.specs.List.{IsDistinct}
 use Rattle.std.proofs.lemmas.Bool.{cases_lt, cases_eq, false≢true, eq-eqb}
 use Rattle.std.proofs.lemmas.Cmp.{nat_eq_equiv}
@@ -22,7 +23,7 @@ use Rattle.marker.specs.Mutations.{KeepsWords}
 use Rattle.object_space.specs.Store.{Store, IsSwept, IsPendingRow}
 use Rattle.object_space.specs.Sweeps.{Loses, ForgetsLazily}
 use Rattle.object_space.specs.Kept.{kept_in}
-use Rattle.object_space.specs.Forgets.{IsUnmarkedOn, AreUnmarkedOn, nothing, unswept, gone, ForgetsBases, ForgetsOn, HasForgotten}
+use Rattle.object_space.specs.Forgets.{IsUnmarkedOn, AreUnmarkedOn, nothing, unswept, gone, ForgetsBases, ForgetsOn}
 use Rattle.object_space.proofs.Counting.{dead_cells, cells_few}
 use Rattle.object_space.proofs.Kept.{ended_lazily}
 use Rattle.heap_view.proofs.Shows.{at_base, one_at_base}
@@ -156,6 +157,23 @@ distinct_append xs (y ∷ ys) dx dy apart =
     (Contains-push_cases xs y b hx)))
 
 -- ---- page by page
+
+-- The unmarked objects that begin on pages below this one are forgotten, so many. The words of the objects of the map stay.
+pub record HasForgotten (old : Store) (marks : List Bool) (page n : ℕ) (now : Store) : Type 0 where
+  pub words : KeepsWords (found_in now.states) old.words now.words
+  pub pages : length now.states ≡ length old.states
+  pub few : n ≤ PAGE_GRANULES * page
+  pub bases : List ℕ
+  pub number : n ≡ length bases
+  pub distinct : IsDistinct nat_eq bases
+  pub each : All (λ b. (p : ℕ) × (p < page) × IsUnmarkedOn old.states marks p b) bases
+  pub all : (f : Found) → found_in old.states f.base ≡ Some f → f.page < page → (Has marks (granule f.base) → ⊥) → Contains bases f.base
+  pub less : (w : ℕ) (f : Found) → found_in now.states w ≡ Some f → found_in old.states w ≡ Some f
+  pub small : (w : ℕ) (f : Found) → found_in old.states w ≡ Some f → f.len < PAGE_WORDS → found_in now.states w ≡ Some f
+  pub stays : (w : ℕ) (f : Found) → found_in old.states w ≡ Some f → Has marks (granule f.base) ⊎ (page ≤ f.page) → found_in now.states w ≡ Some f
+  pub unswept : (w : ℕ) (f : Found) → found_in now.states w ≡ Some f → f.page < page → (Has marks (granule f.base) → ⊥) → Has now.pending f.page
+  pub only : (p : ℕ) → Has now.pending p → (w : ℕ) × (f : Found) × (found_in now.states w ≡ Some f) × (f.page ≡ p) × (Has marks (granule f.base) → ⊥)
+
 pub forgotten_none : (old : Store) (marks : List Bool) → IsSwept old → HasForgotten old marks 0 0 old
 forgotten_none old marks swept = record {
   words = λ f i there lt. refl;

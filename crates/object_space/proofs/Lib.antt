@@ -1,3 +1,4 @@
+pub mod Stores
 pub mod Tables
 pub mod AvailableRows
 pub mod Kept

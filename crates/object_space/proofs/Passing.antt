@@ -1,19 +1,22 @@
 -- The walk that forgets the unmarked objects.
 use Rattle.std.proofs.Common.{inl, inr, ◌≡◌, ℕ, ◌+◌, ◌*◌, ◌<◌, ◌≤◌, ◌⊎◌, false, List, [], ◌++◌, ◌∷◌, length, set, get_or, length-set, get_or-set_same, get_or-set_other, Contains, Some, None, refl, sym, ap, ◌∙◌, subst, ⊎_elim, arith, length-append}
+use Rattle.std.specs.Prelude.{◌≢◌, All}
 use Rattle.std.proofs.lemmas.Bool.{cases_lt, cases_eq}
 use Rattle.std.proofs.lemmas.List.{ext_get_or}
 use Rattle.blocks.proofs.Places.{class_bounds}
 use Rattle.std.proofs.lemmas.List.Elements.{All-push, All-contains}
 use Rattle.std.proofs.lemmas.Option.{same_Some}
 use Rattle.words.specs.declared.limits.TheConstants.{PAGE_BYTES}
+use Rattle.words.specs.Bits.{Has}
 use Rattle.block_map.specs.declared.found.Found.{Found}
 use Rattle.block_map.specs.FoundIn.{found_in}
 use Rattle.block_map.specs.Objects.{IsMap, Reads}
 use Rattle.block_map.specs.Walks.{IsNextObject}
 use Rattle.pages.specs.Memory.{word_at}
 use Rattle.marker.specs.Marking.{Marking, IsMarked, word_address}
+use Rattle.marker.specs.Mutations.{KeepsWords}
 use Rattle.object_space.specs.Store.{Store}
-use Rattle.object_space.specs.Sweeps.{Passes, none, marked, forgot, HasPassed, SweepsPage}
+use Rattle.object_space.specs.Sweeps.{IsWithout, Passes, none, marked, forgot, SweepsPage}
 use Rattle.heap_view.proofs.Shows.{at_base, one_at_base}
 use Rattle.object_space.proofs.Rooms.{Lies, in_cell, in_large, lies_cases, large_page}
 use Rattle.block_map.specs.States.{PageState, cut, head, body, state_at, LaidAt, IsLaid}
@@ -24,6 +27,24 @@ use Rattle.blocks.specs.Cells.{Cells, IsCells}
 use Rattle.words.specs.declared.class.Kind.{Kind}
 use Rattle.words.specs.Layout.{page_start, page_of}
 use Rattle.object_space.proofs.Sweeping.{without_none, without_more, has}
+
+-- All unmarked objects that an address reads from one up to another are gone, so many, none that only addresses past the
+-- limit read, and nothing else has changed. The words of those that are left stay.
+pub record HasPassed (old : Store) (marking : Marking) (from limit address n : ℕ) (now : Store) : Type 0 where
+  pub words : KeepsWords (found_in now.states) old.words now.words
+  pub pages : length now.states ≡ length old.states
+  pub pending : (w : ℕ) (g : Found) → found_in now.states w ≡ Some g → get_or now.pending g.page false ≡ get_or old.pending g.page false
+  pub row_size : length now.pending ≡ length old.pending
+  pub rest : (p : ℕ) → ((w : ℕ) (f : Found) → from ≤ w → w < limit → found_in old.states w ≡ Some f → f.page ≢ p) → get_or now.pending p false ≡ get_or old.pending p false
+  pub fewer : (page : ℕ) → Has now.pending page → Has old.pending page
+  pub low : from ≤ address
+  pub few : n ≤ address
+  pub bases : List ℕ
+  pub number : n ≡ length bases
+  pub without : IsWithout (found_in old.states) (found_in now.states) bases
+  pub unmarked : All (λ b. IsMarked marking b → ⊥) bases
+  pub read : All (λ b. (w : ℕ) × (f : Found) × (from ≤ w) × (w < limit) × (found_in old.states w ≡ Some f) × (f.base ≡ b)) bases
+  pub done : (w : ℕ) (f : Found) → from ≤ w → w < address → found_in now.states w ≡ Some f → IsMarked marking f.base
 
 -- nothing was looked at
 pub passed_none : (old : Store) (m : Marking) (from limit : ℕ) → HasPassed old m from limit from 0 old

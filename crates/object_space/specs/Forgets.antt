@@ -1,5 +1,5 @@
 -- What the end of a cycle forgets, page by page.
-use Rattle.std.specs.Prelude.{◌≡◌, ℕ, ◌*◌, ◌<◌, ◌≤◌, ◌⊎◌, true, Bool, slice_set, List, [], ◌∷◌, length, Contains, All, nat_eq, Some}
+use Rattle.std.specs.Prelude.{◌≡◌, ℕ, ◌<◌, ◌≤◌, true, Bool, slice_set, List, [], ◌∷◌, length, Contains, All, nat_eq, Some}
 use Rattle.std.specs.List.{IsDistinct}
 use Rattle.words.specs.declared.limits.TheConstants.{PAGE_GRANULES, PAGE_WORDS}
 use Rattle.words.specs.Bits.{Has}
@@ -7,7 +7,6 @@ use Rattle.words.specs.Layout.{granule}
 use Rattle.block_map.specs.declared.found.Found.{Found}
 use Rattle.block_map.specs.FoundIn.{found_in}
 use Rattle.block_map.specs.States.{PageState, IsCut, state_at}
-use Rattle.marker.specs.Mutations.{KeepsWords}
 use Rattle.object_space.specs.Store.{Store}
 use Rattle.object_space.specs.Sweeps.{Loses}
 
@@ -39,19 +38,3 @@ pub record ForgetsOn (old : Store) (marks : List Bool) (page n : ℕ) (new : Sto
   pub few : n ≤ PAGE_GRANULES
   pub objects : AreUnmarkedOn old.states marks page bases
   pub change : ForgetsBases old page bases new
-
--- The unmarked objects that begin on pages below this one are forgotten, so many. The words of the objects of the map stay.
-pub record HasForgotten (old : Store) (marks : List Bool) (page n : ℕ) (now : Store) : Type 0 where
-  pub words : KeepsWords (found_in now.states) old.words now.words
-  pub pages : length now.states ≡ length old.states
-  pub few : n ≤ PAGE_GRANULES * page
-  pub bases : List ℕ
-  pub number : n ≡ length bases
-  pub distinct : IsDistinct nat_eq bases
-  pub each : All (λ b. (p : ℕ) × (p < page) × IsUnmarkedOn old.states marks p b) bases
-  pub all : (f : Found) → found_in old.states f.base ≡ Some f → f.page < page → (Has marks (granule f.base) → ⊥) → Contains bases f.base
-  pub less : (w : ℕ) (f : Found) → found_in now.states w ≡ Some f → found_in old.states w ≡ Some f
-  pub small : (w : ℕ) (f : Found) → found_in old.states w ≡ Some f → f.len < PAGE_WORDS → found_in now.states w ≡ Some f
-  pub stays : (w : ℕ) (f : Found) → found_in old.states w ≡ Some f → Has marks (granule f.base) ⊎ (page ≤ f.page) → found_in now.states w ≡ Some f
-  pub unswept : (w : ℕ) (f : Found) → found_in now.states w ≡ Some f → f.page < page → (Has marks (granule f.base) → ⊥) → Has now.pending f.page
-  pub only : (p : ℕ) → Has now.pending p → (w : ℕ) × (f : Found) × (found_in now.states w ≡ Some f) × (f.page ≡ p) × (Has marks (granule f.base) → ⊥)

@@ -16,10 +16,6 @@ pub record Store : Type 0 where
   pub states : List PageState
   pub pending : List Bool
 
--- the store of these
-abbrev pub store_of : List ℕ → List Bool → List PageState → List Bool → Store
-store_of words row states pending = record { words = words; free = row; states = states; pending = pending }
-
 -- The pool and the map have the same pages, and agree on which of them are free.
 pub record Agree (row : List Bool) (states : List PageState) : Type 0 where
   pub size : length row ≡ length states

@@ -61,24 +61,6 @@ pub data Passes (old : Store) (marking : Marking) (address next n : ℕ) (new : 
   marked : (f : Found) → IsNextObject (found_in old.states) address (page_start (page_of address + 1)) f → next ≡ f.base + WORD_BYTES * f.len → IsMarked marking f.base → n ≡ 0 → new ≡ old → Passes old marking address next n new
   forgot : (f : Found) → IsNextObject (found_in old.states) address (page_start (page_of address + 1)) f → next ≡ f.base + WORD_BYTES * f.len → (IsMarked marking f.base → ⊥) → n ≡ 1 → Loses old f new → Passes old marking address next n new
 
--- All unmarked objects that an address reads from one up to another are gone, so many, none that only addresses past the
--- limit read, and nothing else has changed. The words of those that are left stay.
-pub record HasPassed (old : Store) (marking : Marking) (from limit address n : ℕ) (now : Store) : Type 0 where
-  pub words : KeepsWords (found_in now.states) old.words now.words
-  pub pages : length now.states ≡ length old.states
-  pub pending : (w : ℕ) (g : Found) → found_in now.states w ≡ Some g → slice_index_or now.pending g.page false ≡ slice_index_or old.pending g.page false
-  pub row_size : length now.pending ≡ length old.pending
-  pub rest : (p : ℕ) → ((w : ℕ) (f : Found) → from ≤ w → w < limit → found_in old.states w ≡ Some f → f.page ≢ p) → slice_index_or now.pending p false ≡ slice_index_or old.pending p false
-  pub fewer : (page : ℕ) → Has now.pending page → Has old.pending page
-  pub low : from ≤ address
-  pub few : n ≤ address
-  pub bases : List ℕ
-  pub number : n ≡ length bases
-  pub without : IsWithout (found_in old.states) (found_in now.states) bases
-  pub unmarked : All (λ b. IsMarked marking b → ⊥) bases
-  pub read : All (λ b. (w : ℕ) × (f : Found) × (from ≤ w) × (w < limit) × (found_in old.states w ≡ Some f) × (f.base ≡ b)) bases
-  pub done : (w : ℕ) (f : Found) → from ≤ w → w < address → found_in now.states w ≡ Some f → IsMarked marking f.base
-
 -- To the heap exactly the objects outside of the closure of the marks and the roots are gone, so many. The others are marked
 -- now, and their words stay.
 pub record ForgetsUnreached (old : Store) (roots : List ℕ) (marking : Marking) (n : ℕ) (marks : List Bool) (new : Store) : Type 0 where

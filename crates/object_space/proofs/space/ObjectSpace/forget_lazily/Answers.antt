@@ -1,7 +1,6 @@
 use Rattle.std.proofs.Common.{◌≡◌, ◌+◌, length, sym, ap, subst, arith}
 use Rattle.object_space.specs.Store.{Store}
-use Rattle.object_space.specs.Forgets.{HasForgotten}
-use Rattle.object_space.proofs.Forgets.{forgotten_none, forgotten_more, forgotten_all}
+use Rattle.object_space.proofs.Forgets.{HasForgotten, forgotten_none, forgotten_more, forgotten_all}
 use Rattle.object_space.proofs.space.ObjectSpace.forget_lazily.Goals as goal
 
 pub loop-page-init : goal.loop-page-init

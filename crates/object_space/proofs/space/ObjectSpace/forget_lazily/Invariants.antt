@@ -1,4 +1,4 @@
-use Rattle.object_space.specs.Forgets.{HasForgotten}
+use Rattle.object_space.proofs.Forgets.{HasForgotten}
 use Rattle.object_space.proofs.space.ObjectSpace.forget_lazily.Given as goal
 
 abbrev pub invariant-loop-page : goal.invariant-loop-page

@@ -1,7 +1,8 @@
 use Rattle.std.proofs.Common.{[], ◌<◌, length, arith, subst, sym}
 use Rattle.block_map.proofs.Listed.{listed_span}
 use Rattle.block_map.specs.States.{free, state_at}
-use Rattle.object_space.specs.Store.{Store, store_of, KeepsPending}
+use Rattle.object_space.specs.Store.{Store, KeepsPending}
+use Rattle.object_space.proofs.Stores.{store_of}
 use Rattle.object_space.specs.Sweeps.{SweepsPage}
 use Rattle.object_space.proofs.Frees.{pending_row, sound_large_gone}
 use Rattle.object_space.proofs.FreePages.{pending_freed, sweeps_freed, cells_of}

@@ -1,4 +1,4 @@
-use Rattle.object_space.specs.Store.{store_of}
+use Rattle.object_space.proofs.Stores.{store_of}
 use Rattle.object_space.proofs.Opening.{opens}
 use Rattle.object_space.proofs.Pending.{swept_row}
 use Rattle.object_space.proofs.space.ObjectSpace.new.Goals as goal

@@ -3,7 +3,8 @@ use Rattle.words.specs.declared.limits.TheConstants.{PAGE_WORDS}
 use Rattle.block_map.proofs.Listed.{listed_span}
 use Rattle.block_map.specs.Listed.{first_on}
 use Rattle.block_map.specs.States.{free, state_at}
-use Rattle.object_space.specs.Store.{Store, store_of}
+use Rattle.object_space.specs.Store.{Store}
+use Rattle.object_space.proofs.Stores.{store_of}
 use Rattle.object_space.proofs.Frees.{on_page, in_block, large_here, sound_freed, sound_large_gone, loses_cell, loses_large, pending_row, size_freed}
 use Rattle.object_space.proofs.Pending.{pending_large, large_uncut}
 use Rattle.object_space.proofs.AvailablePages.{exact_large_gone}

@@ -3,8 +3,7 @@ use Rattle.std.specs.Prelude.{slice_set}
 use Rattle.block_map.specs.States.{state_at}
 use Rattle.object_space.specs.Store.{Store}
 use Rattle.words.specs.Layout.{page_start}
-use Rattle.object_space.specs.Sweeps.{HasPassed}
-use Rattle.object_space.proofs.Passing.{passed_none, passed_more, passed_page, passes_further}
+use Rattle.object_space.proofs.Passing.{HasPassed, passed_none, passed_more, passed_page, passes_further}
 use Rattle.object_space.proofs.FreePages.{sweeps_unmarked}
 use Rattle.object_space.proofs.space.ObjectSpace.sweep_page.Goals as goal
 

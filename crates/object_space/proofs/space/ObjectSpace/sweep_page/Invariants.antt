@@ -1,6 +1,6 @@
 use Rattle.std.proofs.Common.{◌-◌, ◌+◌, ℕ}
 use Rattle.words.specs.Layout.{page_start}
-use Rattle.object_space.specs.Sweeps.{HasPassed}
+use Rattle.object_space.proofs.Passing.{HasPassed}
 use Rattle.object_space.proofs.space.ObjectSpace.sweep_page.Given as goal
 
 abbrev pub invariant-loop-address : goal.invariant-loop-address

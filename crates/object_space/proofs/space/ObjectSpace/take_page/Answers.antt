@@ -1,6 +1,6 @@
 use Rattle.std.proofs.Common.{refl, true, sym, ap, ◌∙◌, subst, List, length, length-set, arith}
 use Rattle.block_map.specs.States.{PageState, IsCut, state_at, all_free}
-use Rattle.object_space.specs.Store.{store_of}
+use Rattle.object_space.proofs.Stores.{store_of}
 use Rattle.object_space.specs.Rooms.{TakesCell}
 use Rattle.object_space.proofs.Pending.{pending_cut, cut_cell, cut_page}
 use Rattle.object_space.proofs.Allocations.{allocates_page, first_cell, first_is, gains_page, no_room_small, sound_page}
