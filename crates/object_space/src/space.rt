@@ -7,8 +7,9 @@ ghost use Rattle.heap_spec.specs.Heap.{opening};
 ghost use Rattle.pages.specs.Memory.{IsWordAddress, word_at, with_word_at};
 ghost use Rattle.pages.specs.Opening.{IsOpened};
 ghost use Rattle.block_map.specs.FoundIn.{found_in, IsLawful};
+ghost use Rattle.block_map.specs.States.{IsLaid};
 ghost use Rattle.block_map.specs.declared.found.Found.{Found};
-ghost use Rattle.object_space.specs.Store.{IsSwept};
+ghost use Rattle.object_space.specs.Store.{IsPendingRow, IsSound, IsSwept};
 ghost use Rattle.object_space.specs.Kept.{kept_in};
 ghost use Rattle.object_space.specs.Stores.{Stores};
 
@@ -70,6 +71,18 @@ impl ObjectSpace {
             available,
             pending,
         })
+    }
+
+    /// What is true of every store: the pool agrees with the map, a page that is cut has an object, and the pages that are
+    /// still to be swept are cut.
+    #[inline]
+    pub fn laws(&self)
+        ensures sound { IsSound self.now }
+        ensures pending { IsPendingRow self.now }
+        ensures lawful { IsLawful self.now.states }
+        ensures laid { IsLaid self.now.states }
+    {
+        let _pages = self.map.len();
     }
 
     /// The kept object that a word reads. On a page that is still to be swept only marked objects are kept.

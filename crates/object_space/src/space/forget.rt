@@ -6,7 +6,7 @@ ghost use Rattle.block_map.specs.FoundIn.{found_in, IsLawful};
 ghost use Rattle.block_map.specs.States.{IsCut, state_at};
 ghost use Rattle.marker.specs.Marking.{AreMarksObjects, IsDone};
 ghost use Rattle.marker.specs.Invariant.{DirtyPageInvariant};
-ghost use Rattle.object_space.specs.Store.{IsSwept, IsPendingRow};
+ghost use Rattle.object_space.specs.Store.{IsSwept};
 ghost use Rattle.object_space.specs.Kept.{IsPendingAfter};
 ghost use Rattle.object_space.specs.Forgets.{ForgetsOn};
 ghost use Rattle.object_space.specs.Sweeps.{ForgetsUnreached, ForgetsLazily, KeepsCells};
@@ -58,13 +58,6 @@ impl ObjectSpace {
         1
     }
 
-    // What is true of the row of the pages to be swept.
-    fn pending_row(&self)
-        ensures { IsPendingRow self.now }
-    {
-        let _pending = &self.pending;
-    }
-
     // Forgets the objects that aren't marked, and answers how many: the large ones now, and the others when their pages are
     // swept.
     fn forget_lazily(&mut self, marker: &Marker) -> u64
@@ -79,7 +72,7 @@ impl ObjectSpace {
         for page in 0..self.map.len() {
             count += u64::from(self.forget_on(marker, page));
         }
-        self.pending_row();
+        self.laws();
         count
     }
 

@@ -16,5 +16,5 @@ returns c =
     let pages = ap (λ (t : Store). length t.states) c.self.view_is in
     let past = c.loop-page-test.false in let end = c.loop-page.auto.page-end in let count = c.len-page-end.ensures.len in
     let all : c.loop-page.page ≡ length c.args.self.now.states = omega arith in
-    forgotten_all c.args.self.now c.args.marker.now.marks c.loop-page.count c.loop-page.self c.end-end.ensures.lawful c.pending_row.ensures
+    forgotten_all c.args.self.now c.args.marker.now.marks c.loop-page.count c.loop-page.self c.end-end.ensures.lawful c.laws.ensures.pending
     (subst (λ p. HasForgotten c.args.self.now c.args.marker.now.marks p c.loop-page.count c.loop-page.self) all c.loop-page.invariant)
