@@ -46,6 +46,7 @@ use Rattle.heap_view.proofs.Shows.{at_base}
 use Rattle.object_space.proofs.Sweeping.{read_or_not}
 use Rattle.object_space.specs.Rooms.{HasRoomAt, HasNoRoom}
 use Rattle.heap_core.proofs.Lookups.{finds}
+use Rattle.heap_core.proofs.Forgotten.{forgotten_added, forgotten_removed, forgotten_swept}
 use Rattle.heap_core.proofs.Roots.{not_done, dirty_event, refused_clean, core_of, attached, stands_set, none_some}
 
 -- pages were swept
@@ -131,6 +132,12 @@ allocated roots roots' t0 t t' y y' slot d n base kind place m at is sweeps room
   dirty = λ p h. inl (subst (λ ds. Has ds p) notes.dirty h);
   fewer = λ p h. sweeps.fewer p (subst (λ row. Has row p) gains.pending h);
   swept = λ p h. inr tt;
+  forgotten = λ w f.
+      let came = forgotten_added t t' y.marking.marks y'.marking.marks gains.object gains.added (keeps_new t t' y y' place kind base gains notes) (keeps_same t t' y y' place kind base gains notes) w f in
+      let swept = forgotten_swept t0 t y.marking.marks sweeps w f in (
+        λ h. let was = swept.0 (came.0 h) in (was.0, subst (λ row. Has row f.page) (sym gains.pending) was.1),
+        λ h. came.1 (swept.1 (h.0, subst (λ row. Has row f.page) gains.pending h.1)),
+      );
   full = λ h. absurd (not_done (Mutator slot (Alloc d n kind)) h);
   written = λ p h. absurd (clean (dirty_event (core_of roots t0 y) (Mutator slot (Alloc d n kind)) Done p h));
   roots_alone = λ not. absurd (not tt);
@@ -179,6 +186,7 @@ full roots t0 t y slot d n kind place m at is sweeps swept none = record {
   stack = refl;
   fewer = sweeps.fewer;
   swept = λ p h. inr tt;
+  forgotten = forgotten_swept t0 t y.marking.marks sweeps;
   full = λ h. swept;
   written = λ p h. absurd (refused_clean (core_of roots t0 y) (Mutator slot (Alloc d n kind)) Full p h);
   roots_alone = λ not. absurd (not tt);
@@ -205,11 +213,14 @@ module _ (t t' : Store) (y y' : Cycle) (f : Found) (map : IsMap (length t.states
           let one : x ≡ f = same_object (length t.states) (found_in t.states) map x f (at_base (found_in t.states) (length t.states) map w x was) gone same in
           subst (Reads w) one (map.reads w x was)
 
+  keeps_left : (w : ℕ) (x : Found) → found_in t'.states w ≡ Some x → is_kept t'.pending y'.marking.marks x ≡ is_kept t.pending y.marking.marks x
+  keeps_left w x there =
+      ap (λ b. cond b (get_or y'.marking.marks (granule x.base) false) true) (loses.pending w x there)
+      ∙ ap (λ b. cond (get_or t.pending x.page false) b true) (others (granule x.base) (apart_left w x there))
+
   kept_left : IsRemoved (restrict (is_kept t.pending y.marking.marks) (found_in t.states)) (restrict (is_kept t'.pending y'.marking.marks) (found_in t'.states)) f
   kept_left = kept_removed (is_kept t.pending y.marking.marks) (is_kept t'.pending y'.marking.marks) (found_in t.states) (found_in t'.states) f loses.removed
-      (kept_cases (is_kept t.pending y.marking.marks) (found_in t.states) f.base f is).1
-      (λ w x there. ap (λ b. cond b (get_or y'.marking.marks (granule x.base) false) true) (loses.pending w x there)
-      ∙ ap (λ b. cond (get_or t.pending x.page false) b true) (others (granule x.base) (apart_left w x there)))
+      (kept_cases (is_kept t.pending y.marking.marks) (found_in t.states) f.base f is).1 keeps_left
 
   stores_less : (s : Heap) → Stores (is_kept t.pending y.marking.marks) t s → Stores (is_kept t'.pending y'.marking.marks) t' (without s (f.base ∷ []))
   stores_less s stores = record {
@@ -250,6 +261,8 @@ freed roots t t' y y' slot r m f lawful at is base loses frees phase count = rec
   stack = frees.stack;
   fewer = loses.fewer;
   swept = λ p h. ⊎_elim (λ same. inr (m, at, f, is, same)) (λ ne. inl (loses.rest p ne ∙ h)) (cases_eq p f.page);
+  forgotten = forgotten_removed t t' y.marking.marks y'.marking.marks f loses.removed (kept_cases (is_kept t.pending y.marking.marks) (found_in t.states) f.base f there).1
+      (keeps_left t t' y y' f lawful.map there loses others);
   full = λ h. absurd (not_done (Mutator slot (Free r)) h);
   written = λ p h. absurd (clean (dirty_event (core_of roots t y) (Mutator slot (Free r)) Done p h));
   roots_alone = λ not. absurd (not tt);

@@ -1,3 +1,4 @@
+pub mod Forgotten
 pub mod Roots
 pub mod Lookups
 pub mod Calls

@@ -25,6 +25,7 @@ use Rattle.heap_core.specs.Standing.{StandsFor}
 use Rattle.object_space.proofs.Kept.{kept_map}
 use Rattle.heap_view.proofs.Shows.{reads_object, reads_nothing, word_read, is_word}
 use Rattle.object_space.proofs.Changes.{shows_stored}
+use Rattle.heap_core.proofs.Forgotten.{forgotten_same}
 use Rattle.heap_core.proofs.Roots.{core_of, attached, stands_set, quiet, not_done, none_some}
 
 -- an address that finds a kept object reads it in the heap
@@ -87,6 +88,7 @@ stores roots t t' y y' slot a n r m f lawful long at aligned is writes notes pha
   stack = notes.stack;
   fewer = λ p h. subst (λ (x : Store). Has x.pending p) writes h;
   swept = λ p h. inl (subst (λ (x : Store). Has x.pending p) (sym writes) h);
+  forgotten = forgotten_same (core_of roots t y) (core_of roots t' y') (ap (λ (x : Store). x.states) writes) (ap (λ (x : Store). x.pending) writes) notes.marks;
   full = λ h. absurd (not_done (Mutator slot (StoreCall a n r)) h);
   roots_alone = λ not. absurd (not tt);
 }

@@ -21,6 +21,7 @@ use Rattle.heap_core.specs.Calls.{IsCall, FindsNoPlace, MakesDirty, ReachesPages
 use Rattle.object_space.specs.Kept.{is_kept}
 use Rattle.object_space.specs.Stores.{Stores}
 use Rattle.heap_core.specs.Standing.{StandsFor}
+use Rattle.heap_core.proofs.Forgotten.{forgotten_same}
 
 -- the core of these
 abbrev pub core_of : RootSet → Store → Cycle → Contents
@@ -71,6 +72,7 @@ roots_change c roots event reply not_full not_dirty steps = record {
   stack = refl;
   fewer = λ p h. h;
   swept = λ p h. inl h;
+  forgotten = forgotten_same c (record c { roots = roots }) refl refl refl;
   full = λ h. absurd (not_full h);
   roots_alone = λ not. (refl, refl);
 }

@@ -1,5 +1,5 @@
 -- What calls of mutators do to a core.
-use Rattle.std.specs.Prelude.{◌≡◌, ℕ, ◌⊎◌, Some, None, true}
+use Rattle.std.specs.Prelude.{◌≡◌, ◌↔◌, ℕ, ◌⊎◌, Some, None, true}
 use Rattle.words.specs.declared.class.Kind.{Kind}
 use Rattle.words.specs.declared.refusal.Refusal.TheVariants.{Full}
 use Rattle.words.specs.Bits.{Has}
@@ -18,7 +18,7 @@ use Rattle.marker.specs.Marking.{IsMarked}
 use Rattle.roots.specs.Roots.{HasMutator}
 use Rattle.object_space.specs.Store.{IsSwept}
 use Rattle.heap_core.specs.Contents.{Contents}
-use Rattle.heap_core.specs.Standing.{StandsFor, objects_of}
+use Rattle.heap_core.specs.Standing.{StandsFor, IsForgotten, objects_of}
 
 -- the page that an event with this reply makes dirty: that of a store that was done while a cycle is marking
 pub data MakesDirty (c : Contents) : Event → Reply → ℕ → Type 0 where
@@ -56,7 +56,8 @@ MaySweep c _ p = ⊥
 -- but for its own part of it: no object that is there before and after is newly marked or loses its mark, an object that
 -- comes while a cycle is marking is marked, and of the pages exactly the one that it has stored to becomes dirty, while a
 -- cycle is marking. No page becomes one that is to be swept, few calls sweep, and an allocation for which there was no place
--- has left none to be swept. Unless it reaches the pages it changes nothing but the roots.
+-- has left none to be swept. The forgotten objects are those of before whose pages are still to be swept. Unless it reaches
+-- the pages it changes nothing but the roots.
 pub record IsCall (old : Contents) (event : Event) (reply : Reply) (new : Contents) : Type 0 where
   pub steps : IsStep (StandsFor old) event reply (StandsFor new)
   pub phase : new.cycle.is_marking ≡ old.cycle.is_marking
@@ -71,5 +72,6 @@ pub record IsCall (old : Contents) (event : Event) (reply : Reply) (new : Conten
   pub stack : new.cycle.marking.stack ≡ old.cycle.marking.stack
   pub fewer : (p : ℕ) → Has new.store.pending p → Has old.store.pending p
   pub swept : (p : ℕ) → Has old.store.pending p → Has new.store.pending p ⊎ MaySweep old event p
+  pub forgotten : (w : ℕ) (f : Found) → IsForgotten new w f ↔ (IsForgotten old w f × Has new.store.pending f.page)
   pub full : FindsNoPlace event reply → IsSwept new.store
   pub roots_alone : (ReachesPages event reply → ⊥) → (new.store ≡ old.store) × (new.cycle ≡ old.cycle)

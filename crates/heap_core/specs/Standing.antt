@@ -1,5 +1,5 @@
 -- Which heap a core stands for.
-use Rattle.std.specs.Prelude.{Bool, ◌≡◌, ℕ, Option}
+use Rattle.std.specs.Prelude.{Bool, ◌≡◌, ℕ, Some, Option, false}
 use Rattle.heap_spec.specs.Heap.{Heap}
 use Rattle.block_map.specs.FoundIn.{found_in}
 use Rattle.block_map.specs.declared.found.Found.{Found}
@@ -14,6 +14,11 @@ keeps c = is_kept c.store.pending c.cycle.marking.marks
 -- The object that a word reads, of those that are kept.
 abbrev pub objects_of : Contents → ℕ → Option Found
 objects_of c = restrict (keeps c) (found_in c.store.states)
+
+-- The object that the word reads is allocated and not kept: the end of a cycle has forgotten it, and its page is still to be
+-- swept.
+abbrev pub IsForgotten : Contents → ℕ → Found → Type 0
+IsForgotten c w f = (found_in c.store.states w ≡ Some f) × (keeps c f ≡ false)
 
 -- The core has the heap's mutators and globals, and its kept objects are the heap's.
 pub record StandsFor (c : Contents) (s : Heap) : Type 0 where
