@@ -1,5 +1,6 @@
 pub mod Contents
 pub mod Standing
+pub mod Opening
 pub mod Beside
 pub mod KeptAt
 pub mod Calls

@@ -1,10 +1,10 @@
 //! The core, and how it is made.
-ghost use Rattle.std.specs.Prelude.{◌≡◌, false};
-ghost use Rattle.heap_spec.specs.Heap.{opening};
 ghost use Rattle.pages.specs.Opening.{IsOpened};
-ghost use Rattle.heap_core.specs.Standing.{StandsFor};
-ghost use Rattle.object_space.specs.Store.{IsSwept};
-ghost use Rattle.marker.specs.Marking.{IsFresh};
+ghost use Rattle.block_map.specs.FoundIn.{IsLawful};
+ghost use Rattle.block_map.specs.States.{IsLaid};
+ghost use Rattle.object_space.specs.Store.{IsPendingRow, IsSound};
+ghost use Rattle.heap_core.specs.Contents.{IsTraced};
+ghost use Rattle.heap_core.specs.Opening.{IsNew};
 
 mod beside;
 mod close_with;
@@ -51,8 +51,7 @@ impl Core {
     /// [`OpenError::BadPages`] exactly for no page or more than the limit, and else [`OpenError::Memory`] where a growth
     /// of memory was refused.
     pub fn new(alloc: Global, pages: u32) -> Result<Core, OpenError>
-        ensures { IsOpened pages result (λ core. StandsFor core (opening pages) × (core.cycle.is_marking ≡ false) × (core.cycle.count ≡ 0)
-            × IsSwept core.store × IsFresh pages core.cycle.marking) }
+        ensures { IsOpened pages result (λ core. IsNew pages core) }
     {
         let objects = ObjectSpace::new(alloc, pages)?;
         let marker = Marker::new(alloc, pages)?;
@@ -64,5 +63,19 @@ impl Core {
             count: 0,
             root_words: ArrayVec::new(),
         })
+    }
+
+    /// What is true of every core, whatever calls made it. Of its pages: free are exactly those that no object has a part
+    /// of, and those that are still to be swept are cut. Of its collector: each mark is that of an allocated object, and
+    /// while a cycle is marking nothing is to be swept and the dirty-page invariant holds.
+    pub fn laws(&self)
+        ensures laid { IsLaid self.now.store.states }
+        ensures lawful { IsLawful self.now.store.states }
+        ensures sound { IsSound self.now.store }
+        ensures pending { IsPendingRow self.now.store }
+        ensures traced { IsTraced self.now.store self.now.cycle }
+    {
+        self.objects.laws();
+        let _marker = &self.marker;
     }
 }

@@ -4,15 +4,16 @@ use Rattle.heap_spec.specs.Runs.{Told, fresh}
 use Rattle.heap_core.specs.Acts.{IsAct, none, more}
 use Rattle.heap_core.specs.Contents.{Contents}
 use Rattle.heap_core.specs.Following.{Follows}
-use Rattle.scripts.specs.Cores.{IsNew, AreCallsOfNew}
+use Rattle.heap_core.specs.Opening.{IsNew}
+use Rattle.scripts.specs.Cores.{AreCallsOfNew}
 
 -- a new core follows the run without events
 pub follows_fresh : (pages : ℕ) (core : Contents) → IsNew pages core → Follows core (fresh pages) []
 follows_fresh pages core new =
-    let idle : core.cycle.is_marking ≡ false = new.1 in
-    let zero : core.cycle.count ≡ 0 = new.2 in
+    let idle : core.cycle.is_marking ≡ false = new.phase in
+    let zero : core.cycle.count ≡ 0 = new.count in
     record {
-      stands = new.0;
+      stands = new.stands;
       phase = idle;
       count = zero;
       small = omega (arith, zero);

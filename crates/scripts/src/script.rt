@@ -1,8 +1,8 @@
 //! Scripts over a heap of their own: each line is read, run and answered before the next.
 ghost use Rattle.std.specs.Prelude.{◌≡◌, ℕ, ◌+◌, ◌≤◌, List, [], Some};
 ghost use Rattle.words.specs.declared.limits.TheConstants.{MAX_PAGES};
+ghost use Rattle.heap_core.specs.Opening.{IsNew};
 ghost use Rattle.scripts.specs.Answers.{Serves};
-ghost use Rattle.scripts.specs.Cores.{IsNew};
 ghost use Rattle.scripts.specs.Ends.{read_faults, write_faults};
 
 use crate::answer::answer_line;

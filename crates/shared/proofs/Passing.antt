@@ -3,7 +3,6 @@ use Rattle.std.proofs.Common.{◌≡◌, ℕ, ◌<◌, false, List, [], refl, sy
 use Rattle.std.specs.Prelude.{slice_get}
 use Rattle.history.specs.Histories.{is_live, Reaches}
 use Rattle.history.specs.Passes.{Owned}
-use Rattle.heap_spec.specs.Heap.{opening}
 use Rattle.heap_spec.specs.SequentialObject.{HeapState, Opens, StateStep}
 use Rattle.pages.specs.Opening.{IsPageCount}
 use Rattle.roots.specs.Roots.{IsNextSlot}
@@ -11,15 +10,15 @@ use Rattle.heap_history.specs.Ranks.{rank_of}
 use Rattle.heap_history.specs.Passes.{Entry, HeapPass, IsMutator, is_marking as marks}
 use Rattle.heap_history.proofs.Passing as pass
 use Rattle.heap_core.specs.Contents.{Contents}
-use Rattle.heap_core.specs.Standing.{StandsFor}
+use Rattle.heap_core.specs.Opening.{IsNew}
 use Rattle.heap_core.specs.AsObject.{Stands, HasCaller}
 
 -- the core of a new heap stands for a state that opens one of so many pages
-pub opening_stands : (c : Contents) (origin pages : ℕ) → origin ≡ pages → IsPageCount pages → StandsFor c (opening pages) → c.cycle.is_marking ≡ false → c.cycle.count ≡ 0 → (s : HeapState) × Opens origin s × Stands c s
-opening_stands c origin pages is range stands idle none = (
+pub opening_stands : (c : Contents) (origin pages : ℕ) → origin ≡ pages → IsPageCount pages → IsNew pages c → (s : HeapState) × Opens origin s × Stands c s
+opening_stands c origin pages is range new = (
   record { pages = pages; run = [] },
   record { pages_are = sym is; some_page = omega (arith, range.0); few_pages = range.1; nothing = refl },
-  record { stands = stands; phase = idle; count = none; small = omega (arith, none); touched = λ on base o has marked. absurd (true≢false (sym on ∙ idle)) },
+  record { stands = new.stands; phase = new.phase; count = new.count; small = let none = new.count in omega arith; touched = λ on base o has marked. absurd (true≢false (sym on ∙ new.phase)) },
 )
 
 -- a pass that has learnt the history `log`, and what it was before

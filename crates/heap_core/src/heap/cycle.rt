@@ -1,20 +1,16 @@
 //! The calls of the collector. Each is refused with [`Refusal::WrongPhase`] exactly in the wrong phase, and then changes
 //! nothing.
 ghost use Rattle.std.specs.Prelude.{◌≡◌, true, false};
-ghost use Rattle.block_map.specs.FoundIn.{found_in};
-ghost use Rattle.marker.specs.Invariant.{DirtyPageInvariant};
 ghost use Rattle.heap_core.specs.Collections.{IsGrantedIn, IsAlwaysGranted, BeginsCycle, ReadsRoots, TakesWords, RetracesPage, EndsCycle, CollectsAll, SweepsOne};
 
 use super::Core;
 use words::Refusal;
 
 impl Core {
-    /// Whether a cycle is marking. The dirty-page invariant holds then.
+    /// Whether a cycle is marking.
     pub fn is_marking(&self) -> bool
         ensures phase { result ≡ self.now.cycle.is_marking }
-        ensures invariant { self.now.cycle.is_marking ≡ true → DirtyPageInvariant (found_in self.now.store.states) self.now.store.words self.now.cycle.marking }
     {
-        let _marker = &self.marker;
         self.is_marking
     }
 

@@ -6,17 +6,17 @@ use Rattle.heap_core.proofs.heap.Core.new.Goals as goal
 pub returns : goal.returns
 returns c = (
   c.in_ok-objects.ensures.0,
-  (
-    record {
+  record {
+    stands = record {
       mutators = sym (ap (λ (r : RootSet). r.mutators) c.new-3.ensures);
       globals = sym (ap (λ (r : RootSet). r.globals) c.new-3.ensures);
       store = c.in_ok-objects.ensures.1.1 _;
-    },
-    refl,
-    refl,
-    c.in_ok-objects.ensures.1.0,
-    c.in_ok-marker.ensures.1,
-  ),
+    };
+    phase = refl;
+    count = refl;
+    swept = c.in_ok-objects.ensures.1.0;
+    fresh = c.in_ok-marker.ensures.1;
+  },
 )
 
 pub invariant_of-result : goal.invariant_of-result
