@@ -2,7 +2,7 @@
 ghost use Rattle.pages.specs.Opening.{IsOpened};
 ghost use Rattle.block_map.specs.FoundIn.{IsLawful};
 ghost use Rattle.block_map.specs.States.{IsLaid};
-ghost use Rattle.object_space.specs.Store.{IsPendingRow, IsSound};
+ghost use Rattle.object_space.specs.Store.{AreEmptyPages, IsPendingRow, IsSound};
 ghost use Rattle.heap_core.specs.Contents.{IsTraced};
 ghost use Rattle.heap_core.specs.Opening.{IsNew};
 
@@ -65,14 +65,15 @@ impl Core {
         })
     }
 
-    /// What is true of every core, whatever calls made it. Of its pages: free are exactly those that no object has a part
-    /// of, and those that are still to be swept are cut. Of its collector: each mark is that of an allocated object, and
-    /// while a cycle is marking nothing is to be swept and the dirty-page invariant holds.
+    /// What is true of every core, whatever calls made it. Of its pages: free are exactly those on which no object lies, and
+    /// those that are still to be swept are cut. Of its collector: each mark is that of an allocated object, and while a
+    /// cycle is marking nothing is to be swept and the dirty-page invariant holds.
     pub fn laws(&self)
-        ensures laid { IsLaid self.now.store.states }
-        ensures lawful { IsLawful self.now.store.states }
         ensures sound { IsSound self.now.store }
         ensures pending { IsPendingRow self.now.store }
+        ensures empty { AreEmptyPages self.now.store.free self.now.store.states }
+        ensures lawful { IsLawful self.now.store.states }
+        ensures laid { IsLaid self.now.store.states }
         ensures traced { IsTraced self.now.store self.now.cycle }
     {
         self.objects.laws();

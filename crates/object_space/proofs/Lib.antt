@@ -6,6 +6,7 @@ pub mod Words
 pub mod Changes
 pub mod Placing
 pub mod Rooms
+pub mod EmptyPages
 pub mod AvailablePages
 pub mod Allocations
 pub mod Opening

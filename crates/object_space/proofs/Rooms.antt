@@ -25,13 +25,13 @@ use Rattle.object_space.specs.Kept.{restrict}
 use Rattle.object_space.proofs.Kept.{kept_cases, kept_is}
 use Rattle.object_space.specs.Rooms.{IsFreeCell, HasNoFreeCell}
 
-free_cut : (b : Cells) → free ≡ cut b → ⊥
+pub free_cut : (b : Cells) → free ≡ cut b → ⊥
 free_cut b e = cc
 
-free_head : (n : ℕ) (k : Kind) → free ≡ head n k → ⊥
+pub free_head : (n : ℕ) (k : Kind) → free ≡ head n k → ⊥
 free_head n k e = cc
 
-free_body : (q : ℕ) → free ≡ body q → ⊥
+pub free_body : (q : ℕ) → free ≡ body q → ⊥
 free_body q e = cc
 
 cut_head : (b : Cells) (n : ℕ) (k : Kind) → cut b ≡ head n k → ⊥

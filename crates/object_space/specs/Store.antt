@@ -1,6 +1,7 @@
 -- Where the objects are, and what is true of it.
 use Rattle.std.specs.Prelude.{◌≡◌, ◌≢◌, ℕ, Some, ◌<◌, true, false, Bool, List, length, slice_index_or}
 use Rattle.words.specs.Bits.{Has}
+use Rattle.heap_spec.specs.Layout.{LiesOn}
 use Rattle.blocks.specs.Cells.{Cells}
 use Rattle.block_map.specs.States.{PageState, free, cut, state_at, IsCut}
 use Rattle.block_map.specs.Listed.{AreListed}
@@ -25,6 +26,11 @@ pub record Agree (row : List Bool) (states : List PageState) : Type 0 where
 -- Each page that is cut has an object: a page that has none left is free.
 abbrev pub HasObjects : List PageState → Type 0
 HasObjects states = (page : ℕ) (b : Cells) → state_at states page ≡ cut b → (i : ℕ) × (slice_index_or b.taken i false ≡ true)
+
+-- The row has exactly the pages on which no object lies.
+pub record AreEmptyPages (row : List Bool) (states : List PageState) : Type 0 where
+  pub all : (page : ℕ) → page < length states → ((w : ℕ) (f : Found) → found_in states w ≡ Some f → LiesOn f.base f.len page → ⊥) → Has row page
+  pub only : (page : ℕ) → Has row page → (w : ℕ) (f : Found) → found_in states w ≡ Some f → LiesOn f.base f.len page → ⊥
 
 -- What is true of the pages of each store.
 pub record IsSound (t : Store) : Type 0 where

@@ -9,7 +9,7 @@ ghost use Rattle.pages.specs.Opening.{IsOpened};
 ghost use Rattle.block_map.specs.FoundIn.{found_in, IsLawful};
 ghost use Rattle.block_map.specs.States.{IsLaid};
 ghost use Rattle.block_map.specs.declared.found.Found.{Found};
-ghost use Rattle.object_space.specs.Store.{IsPendingRow, IsSound, IsSwept};
+ghost use Rattle.object_space.specs.Store.{AreEmptyPages, IsPendingRow, IsSound, IsSwept};
 ghost use Rattle.object_space.specs.Kept.{kept_in};
 ghost use Rattle.object_space.specs.Stores.{Stores};
 
@@ -73,12 +73,13 @@ impl ObjectSpace {
         })
     }
 
-    /// What is true of every store: the pool agrees with the map, a page that is cut has an object, and the pages that are
-    /// still to be swept are cut.
+    /// What is true of every store: its free pages are exactly those on which no object lies, and those that are still to
+    /// be swept are cut.
     #[inline]
     pub fn laws(&self)
         ensures sound { IsSound self.now }
         ensures pending { IsPendingRow self.now }
+        ensures empty { AreEmptyPages self.now.free self.now.states }
         ensures lawful { IsLawful self.now.states }
         ensures laid { IsLaid self.now.states }
     {
