@@ -15,8 +15,8 @@ keeps c = is_kept c.store.pending c.cycle.marking.marks
 abbrev pub objects_of : Contents → ℕ → Option Found
 objects_of c = restrict (keeps c) (found_in c.store.states)
 
--- The object that the word reads is allocated and not kept: the end of a cycle has forgotten it, and its page is still to be
--- swept.
+-- The object that the word reads is allocated and not kept: the end of a cycle has forgotten it, and its page is still
+-- to be swept.
 abbrev pub IsForgotten : Contents → ℕ → Found → Type 0
 IsForgotten c w f = (found_in c.store.states w ≡ Some f) × (keeps c f ≡ false)
 

@@ -73,8 +73,8 @@ impl ObjectSpace {
         })
     }
 
-    /// What is true of every store: its free pages are exactly those on which no object lies, and those that are still to
-    /// be swept are cut.
+    /// What is true of every store: its free pages are exactly those on which no object lies, and those that are still
+    /// to be swept are cut.
     #[inline]
     pub fn laws(&self)
         ensures sound { IsSound self.now }
