@@ -3,7 +3,7 @@ ghost use Rattle.std.specs.Prelude.{◌≡◌, ℕ, ◌<◌, ◌≤◌, length, 
 ghost use Rattle.words.specs.declared.class.Kind.{Kind};
 ghost use Rattle.words.specs.declared.limits.TheConstants.{MAX_PAGES};
 ghost use Rattle.words.specs.Layout.{IsOnPage, IsOutside};
-ghost use Rattle.block_map.specs.States.{head, state_at, IsCut};
+ghost use Rattle.block_map.specs.States.{head, state_at};
 ghost use Rattle.block_map.specs.Objects.{IsAnswer, cell_object, large_object};
 ghost use Rattle.block_map.specs.FoundIn.{found_in, found_in_block, found_large, IsLawful};
 
@@ -27,7 +27,6 @@ impl BlockMap {
         self.look_up(w)
     }
 
-    // A cell is asked for first: most words that point into the heap point into one.
     #[inline]
     #[tactic(auto, using(crate::proofs::Finding::finding))]
     fn look_up(&self, w: u64) -> Option<Found>
@@ -37,22 +36,9 @@ impl BlockMap {
         let Some(page) = self.page_at(w) else {
             return None;
         };
-        if let Page::Cut(block) = self.page(page) {
-            return find_in_block(page, block, w);
-        }
-        self.find_large(page)
-    }
-
-    // The large object that has a page which isn't cut.
-    #[inline(never)]
-    #[tactic(auto, using(crate::proofs::Finding::finding))]
-    fn find_large(&self, page: PageNo) -> Option<Found>
-        requires inside { page < length self.now }
-        requires whole { IsCut (state_at self.now page) → ⊥ }
-        ensures { (w : ℕ) → IsOnPage page w → result ≡ found_in self.now w }
-    {
         match self.page(page) {
-            Page::Free | Page::Cut(_) => None,
+            Page::Free => None,
+            Page::Cut(block) => find_in_block(page, block, w),
             Page::Head(large) => Some(large_at(page, *large)),
             Page::Body(first) => Some(self.large(*first)),
         }
