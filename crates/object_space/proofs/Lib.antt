@@ -1,5 +1,6 @@
 pub mod Tables
 pub mod AvailableRows
+pub mod Lowest
 pub mod Kept
 pub mod Words
 pub mod Changes

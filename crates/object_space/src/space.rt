@@ -14,6 +14,7 @@ ghost use Rattle.object_space.specs.Stores.{Stores};
 
 mod allocate;
 mod available_pages;
+mod available_row;
 mod close;
 mod forget;
 mod free;
