@@ -20,30 +20,39 @@ struct Shared {
     count: AtomicU64,
 }
 
+// A register with an object, and one with a word. That they are these is known to no call.
+fn registers() -> (usize, usize) {
+    black_box((1, 2))
+}
+
 fn store_often(shared: &Shared, slot: usize) {
+    let (object, word) = registers();
     for _ in 0..CALLS {
-        let _stored = shared.core.lock().unwrap().store(slot, 1, 0, 2);
+        let _stored = shared.core.lock().unwrap().store(slot, object, 0, word);
     }
 }
 
 fn load_often(shared: &Shared, slot: usize) {
+    let (object, word) = registers();
     for _ in 0..CALLS {
-        let _word = black_box(shared.core.lock().unwrap().load(slot, 2, 1, 0));
+        let _word = black_box(shared.core.lock().unwrap().load(slot, word, object, 0));
     }
 }
 
 fn store_and_count(shared: &Shared, slot: usize) {
+    let (object, word) = registers();
     for _ in 0..CALLS {
         let mut core = shared.core.lock().unwrap();
-        let _stored = core.store(slot, 1, 0, 2);
+        let _stored = core.store(slot, object, 0, word);
         shared.count.fetch_add(black_box(0), SeqCst);
     }
 }
 
 fn load_and_count(shared: &Shared, slot: usize) {
+    let (object, word) = registers();
     for _ in 0..CALLS {
         let mut core = shared.core.lock().unwrap();
-        let _word = black_box(core.load(slot, 2, 1, 0));
+        let _word = black_box(core.load(slot, word, object, 0));
         shared.count.fetch_add(black_box(0), SeqCst);
     }
 }

@@ -45,11 +45,11 @@ impl User {
         }
     }
 
-    /// Allocates objects of so many words, and keeps their bases.
+    /// Allocates objects of so many words, and keeps their bases. Each request is looked up anew, even if inlined here.
     #[inline(never)]
     pub fn allocate_each(&mut self, words: u64, bases: &mut [u64]) {
         for base in bases {
-            *base = self.allocate(words);
+            *base = self.allocate(black_box(words));
         }
     }
 
