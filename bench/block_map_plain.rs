@@ -1,10 +1,19 @@
-//! A map of pages and a pool of free pages in plain Rust, with the same data and the same calls as the proved ones.
-//! It prints the same lines: a name, and picoseconds a call.
+//! A map of pages and a pool of free pages in plain Rust: the calls that the proved benchmark makes, with the same
+//! arguments. It prints the same lines: a name, picoseconds a call, and what the calls answered.
+mod plain_class;
+mod plain_figures;
 mod plain_map;
+mod plain_pool;
+mod plain_random;
 mod plain_row;
 
+use plain_class::Class;
+use plain_figures::report;
 use plain_map::{Block, Kind, Page, START, find, next_on_page};
-use plain_row::next;
+use plain_pool::{give, take_run};
+use plain_random::Random;
+use plain_row::set;
+use std::hint::black_box;
 use std::time::Instant;
 
 const PAGES: u32 = 1_024;
@@ -12,96 +21,97 @@ const HALF: u32 = 512;
 const WORDS: usize = 4_096;
 const ROUNDS: u32 = 200;
 
-fn take_run(row: &mut [u64], n: usize) -> Option<usize> {
-    let mut low = 0;
-    while low < PAGES as usize {
-        let first = next(row, low, true);
-        if first >= PAGES as usize {
-            return None;
-        }
-        let end = next(row, first, false).min(PAGES as usize);
-        if end - first >= n {
-            for page in first..first + n {
-                row[page / 64] &= !(1 << (page % 64));
-            }
-            return Some(first);
-        }
-        low = end;
-    }
-    None
-}
-
-fn give(row: &mut [u64], first: usize, n: usize) {
-    for page in first..first + n {
-        row[page / 64] |= 1 << (page % 64);
-    }
-}
-
-fn report(name: &str, start: Instant, calls: u64, answer: u64) {
-    println!("{name} {} {answer}", start.elapsed().as_nanos() * 1_000 / u128::from(calls));
-}
-
-fn main() {
-    let mut map: Vec<Page> = (0..PAGES).map(|_| Page::Free).collect();
-    for page in 0..HALF {
-        let mut taken = [0; 4];
-        for cell in (0..85).filter(|cell| cell % 4 != 3) {
-            taken[cell / 64] |= 1 << (cell % 64);
-        }
-        let mut block = Block::new(6, Kind::Normal);
-        block.taken = taken;
-        map[page as usize] = Page::Cut(block);
-    }
-    map[HALF as usize] = Page::Head(HALF, Kind::Normal);
-    for page in HALF + 1..PAGES {
-        map[page as usize] = Page::Body(HALF);
-    }
-    let half = 4_096 * u64::from(HALF);
-    for (name, from, bytes) in [("find_cell", START, half), ("find_large", START + half, half), ("find_none", 0, START)] {
-        let mut seed: u64 = 1;
-        let words: Vec<u64> = (0..WORDS)
-            .map(|_| {
-                seed = seed.wrapping_mul(6_364_136_223_846_793_005).wrapping_add(1_442_695_040_888_963_407);
-                from + (seed >> 20) % bytes
-            })
-            .collect();
-        let words = std::hint::black_box(words);
-        let start = Instant::now();
-        let mut sum: u64 = 0;
-        for _ in 0..ROUNDS {
-            for word in &words {
-                if let Some(found) = find(std::hint::black_box(&map), *word) {
-                    sum = sum.wrapping_add(found.base);
-                }
+fn find_all(map: &[Page], words: &[u64]) -> u64 {
+    let mut sum: u64 = 0;
+    for _ in 0..ROUNDS {
+        let map = black_box(map);
+        for word in words {
+            if let Some(found) = find(map, *word) {
+                sum = sum.wrapping_add(found.base);
             }
         }
-        report(name, start, u64::from(ROUNDS) * WORDS as u64, sum);
     }
-    let start = Instant::now();
+    sum
+}
+
+// The objects of all pages in their order.
+fn walk_all(map: &[Page]) -> u64 {
     let mut count = 0;
     for page in 0..PAGES {
+        let map = black_box(map);
         let mut from = START + 4_096 * u64::from(page);
-        while let Some(found) = next_on_page(std::hint::black_box(&map), page, from) {
+        while let Some(found) = next_on_page(map, page, from) {
             count += 1;
             from = found.base + 8 * u64::from(found.len);
         }
     }
-    report("next_on_page", start, count, count);
-    let mut row = vec![u64::MAX; PAGES as usize / 64];
-    for _ in 0..340 {
-        let _first = take_run(&mut row, 1);
-        let _second = take_run(&mut row, 2);
-    }
-    for third in 0..330 {
-        give(&mut row, 3 * third + 1, 2);
-    }
-    let start = Instant::now();
+    count
+}
+
+// Runs of three pages, in a pool in which every third page is used, but for the last pages.
+fn take_runs(free: &mut [u64]) -> u64 {
     let mut sum = 0;
     for _ in 0..ROUNDS {
-        if let Some(first) = take_run(std::hint::black_box(&mut row), 3) {
-            sum += first as u64;
-            give(&mut row, first, 3);
-        }
+        let free = black_box(&mut *free);
+        let Some(first) = take_run(free, 3) else {
+            return sum;
+        };
+        sum += first as u64;
+        give(free, first, 3);
     }
-    report("take_run", start, u64::from(ROUNDS), sum);
+    sum
+}
+
+// A page is cut for six words, and three cells of four are allocated.
+fn lay_page() -> Page {
+    let mut block = Block::new(Class::of(6), Kind::Normal);
+    for cell in (0..85).filter(|cell| cell % 4 != 3) {
+        set(&mut block.taken, cell);
+    }
+    Page::Cut(block)
+}
+
+// The lower half is cut so, and the upper half is one large object.
+fn lay_out() -> Vec<Page> {
+    let mut map: Vec<Page> = (0..HALF).map(|_| lay_page()).collect();
+    map.push(Page::Head(HALF, Kind::Normal));
+    map.extend((HALF + 1..PAGES).map(|_| Page::Body(HALF)));
+    map
+}
+
+// Nearly all pages are used, and then two of each three become free, but for the last ones.
+fn scatter(free: &mut [u64]) {
+    for _ in 0..340 {
+        let _first = take_run(free, 1);
+        let _second = take_run(free, 2);
+    }
+    for third in 0..330 {
+        give(free, 3 * third + 1, 2);
+    }
+}
+
+// Words that point into cells, words that point into the large object, and words that point into nothing.
+fn time_map(map: &[Page]) {
+    let mut random = Random::new(1);
+    let mut words = vec![0; WORDS];
+    let half = 4_096 * u64::from(HALF);
+    let places = [("find_cell", START, half), ("find_large", START + half, half), ("find_none", 0, START)];
+    for (name, from, bytes) in places {
+        words.fill_with(|| from + random.below(bytes));
+        let start = Instant::now();
+        let answer = find_all(map, &words);
+        report(name, start.elapsed().as_nanos(), u64::from(ROUNDS) * WORDS as u64, answer);
+    }
+    let start = Instant::now();
+    let count = walk_all(map);
+    report("next_on_page", start.elapsed().as_nanos(), count, count);
+}
+
+fn main() {
+    time_map(&black_box(lay_out()));
+    let mut free = vec![u64::MAX; PAGES as usize / 64];
+    scatter(&mut free);
+    let start = Instant::now();
+    let answer = take_runs(&mut free);
+    report("take_run", start.elapsed().as_nanos(), u64::from(ROUNDS), answer);
 }

@@ -1,7 +1,9 @@
-//! The plain core behind a `Mutex`, called by threads, and a count beside it that takes no lock. It prints a line for each
-//! call: its name, and picoseconds a call. `counted_` lines are the same calls with one `fetch_add` under the lock, which is
-//! what a history costs each call.
-use super::{Core, Kind, Mutator, Refusal};
+//! The plain core behind a `Mutex`, called by threads, and a count beside it that takes no lock. It prints a line for
+//! each call: its name, and picoseconds a call. `counted_` lines are the same calls with one `fetch_add` under the
+//! lock, which is what a history costs each call.
+use crate::plain_core::Core;
+use crate::plain_figures::report;
+use crate::plain_map::Kind;
 use std::hint::black_box;
 use std::sync::atomic::{AtomicU64, Ordering::SeqCst};
 use std::sync::Mutex;
@@ -12,48 +14,45 @@ const CALLS: usize = 200_000;
 const ROUNDS: usize = 10;
 const CREW: usize = 4;
 
-impl Core {
-    fn attach(&mut self) -> Result<usize, Refusal> {
-        let slot = self.mutators.iter().position(Option::is_none).ok_or(Refusal::NoSlot)?;
-        self.mutators[slot] = Some(Mutator { registers: [0; 16], stack: Vec::new() });
-        Ok(slot)
-    }
-
-    fn detach(&mut self, slot: usize) {
-        self.mutators[slot] = None;
-    }
-}
-
 /// A core behind its lock, and a word beside it that counts its history.
 struct Shared {
     core: Mutex<Core>,
     count: AtomicU64,
 }
 
+// A register with an object, and one with a word. That they are these is known to no call.
+fn registers() -> (usize, usize) {
+    black_box((1, 2))
+}
+
 fn store_often(shared: &Shared, slot: usize) {
+    let (object, word) = registers();
     for _ in 0..CALLS {
-        let _stored = shared.core.lock().unwrap().store(slot, 1, 0, 2);
+        let _stored = shared.core.lock().unwrap().store(slot, object, 0, word);
     }
 }
 
 fn load_often(shared: &Shared, slot: usize) {
+    let (object, word) = registers();
     for _ in 0..CALLS {
-        let _word = black_box(shared.core.lock().unwrap().load(slot, 2, 1, 0));
+        let _word = black_box(shared.core.lock().unwrap().load(slot, word, object, 0));
     }
 }
 
 fn store_and_count(shared: &Shared, slot: usize) {
+    let (object, word) = registers();
     for _ in 0..CALLS {
         let mut core = shared.core.lock().unwrap();
-        let _stored = core.store(slot, 1, 0, 2);
+        let _stored = core.store(slot, object, 0, word);
         shared.count.fetch_add(black_box(0), SeqCst);
     }
 }
 
 fn load_and_count(shared: &Shared, slot: usize) {
+    let (object, word) = registers();
     for _ in 0..CALLS {
         let mut core = shared.core.lock().unwrap();
-        let _word = black_box(core.load(slot, 2, 1, 0));
+        let _word = black_box(core.load(slot, word, object, 0));
         shared.count.fetch_add(black_box(0), SeqCst);
     }
 }
@@ -69,10 +68,6 @@ fn side_by_side(shared: &Shared, callers: usize, call: fn(&Shared, usize)) -> u1
     start.elapsed().as_nanos()
 }
 
-fn report(name: &str, nanoseconds: u128, calls: usize) {
-    println!("{name} {}", nanoseconds * 1_000 / calls as u128);
-}
-
 fn time_words(shared: &Shared) {
     let calls: [(&str, fn(&Shared, usize)); 4] = [
         ("locked_store", store_often),
@@ -83,7 +78,7 @@ fn time_words(shared: &Shared) {
     for callers in [4, 2, 1] {
         for (name, call) in calls {
             let least = (0..ROUNDS).map(|_| side_by_side(shared, callers, call)).min().unwrap_or(0);
-            report(&format!("{name}_by_{callers}"), least, CALLS * callers);
+            report(&format!("{name}_by_{callers}"), least, (CALLS * callers) as u64, 0);
         }
     }
 }
@@ -99,14 +94,14 @@ pub fn measure() {
     let start = Instant::now();
     for _ in 0..CALLS {
         let slot = shared.core.lock().unwrap().attach().ok().unwrap();
-        shared.core.lock().unwrap().detach(black_box(slot));
+        let _gone = shared.core.lock().unwrap().detach(black_box(slot));
     }
-    report("attach_and_detach", start.elapsed().as_nanos(), CALLS);
+    report("attach_and_detach", start.elapsed().as_nanos(), CALLS as u64, 0);
     let start = Instant::now();
     let mut sum: u64 = 0;
     for _ in 0..CALLS {
         sum = sum.wrapping_add(shared.count.load(SeqCst));
     }
-    report("gc_no", start.elapsed().as_nanos(), CALLS);
+    report("gc_no", start.elapsed().as_nanos(), CALLS as u64, sum);
     println!("sum {sum}");
 }

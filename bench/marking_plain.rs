@@ -1,17 +1,25 @@
 //! A marker in plain Rust, with the same data and the same calls as the proved one. It prints the same lines: a name,
 //! picoseconds a word or an object, and the words that were read.
+mod plain_class;
+mod plain_figures;
 mod plain_map;
 mod plain_marker;
+mod plain_random;
+mod plain_row;
 
+use plain_class::Class;
+use plain_figures::report;
 use plain_map::{Block, Kind, Page, START};
-use plain_marker::{Marker, set};
+use plain_marker::Marker;
+use plain_random::Random;
+use plain_row::set;
 use std::hint::black_box;
 use std::time::Instant;
 
 const WORDS: u64 = 262_144;
 const ROUNDS: u32 = 30;
 
-fn report(name: &str, map: &[Page], memory: &[u64], count: u64) {
+fn time_marking(name: &str, map: &[Page], memory: &[u64], count: u64) {
     let mut marker = Marker::new(map.len());
     let mut least = u128::MAX;
     let mut read = 0;
@@ -21,7 +29,7 @@ fn report(name: &str, map: &[Page], memory: &[u64], count: u64) {
         read = marker.mark(black_box(map), black_box(memory), black_box(&[START]));
         least = least.min(start.elapsed().as_nanos());
     }
-    println!("{name} {} {read}", least * 1_000 / u128::from(count));
+    report(name, least, count, read);
 }
 
 fn targets(shape: &str, number: u64, count: u64) -> (u64, u64) {
@@ -33,15 +41,11 @@ fn targets(shape: &str, number: u64, count: u64) -> (u64, u64) {
 }
 
 fn mark_words() {
-    let map: Vec<Page> = (0..512).map(|page| if page == 0 { Page::Head(512, Kind::Normal) } else { Page::Body(0) }).collect();
-    let mut seed: u64 = 1;
-    let memory: Vec<u64> = (0..WORDS)
-        .map(|_| {
-            seed = seed.wrapping_mul(6_364_136_223_846_793_005).wrapping_add(1_442_695_040_888_963_407);
-            (seed >> 20) % START
-        })
-        .collect();
-    report("mark_words", &map, &memory, WORDS);
+    let mut map: Vec<Page> = (0..512).map(|_| Page::Body(0)).collect();
+    map[0] = Page::Head(512, Kind::Normal);
+    let mut random = Random::new(1);
+    let memory: Vec<u64> = (0..WORDS).map(|_| random.below(START)).collect();
+    time_marking("mark_words", &map, &memory, WORDS);
 }
 
 fn mark_objects(shape: &str, count: u64) {
@@ -51,7 +55,7 @@ fn mark_objects(shape: &str, count: u64) {
     for number in 0..count {
         let page = number as usize / 256;
         if number % 256 == 0 {
-            map[page] = Page::Cut(Block::new(2, Kind::Normal));
+            map[page] = Page::Cut(Block::new(Class::of(2), Kind::Normal));
         }
         if let Page::Cut(block) = &mut map[page] {
             set(&mut block.taken, number as usize % 256);
@@ -60,7 +64,7 @@ fn mark_objects(shape: &str, count: u64) {
         memory[2 * number as usize] = pointer(first);
         memory[2 * number as usize + 1] = pointer(second);
     }
-    report(&format!("mark_{shape}_{count}"), &map, &memory, count);
+    time_marking(&format!("mark_{shape}_{count}"), &map, &memory, count);
 }
 
 fn main() {

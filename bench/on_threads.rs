@@ -1,6 +1,8 @@
-//! Lists of calls, each mutator's in a thread of its own, on the plain core behind a `Mutex`. It prints a line for each number
-//! of mutators: its name, and picoseconds a call.
-use super::{Core, Kind, Mutator, Refusal};
+//! Lists of calls, each mutator's in a thread of its own, on the plain core behind a `Mutex`. It prints a line for each
+//! number of mutators: its name, and picoseconds a call.
+use crate::plain_core::{Core, Refusal};
+use crate::plain_figures::report;
+use crate::plain_map::Kind;
 use std::hint::black_box;
 use std::sync::Mutex;
 use std::thread;
@@ -64,8 +66,8 @@ fn run(core: &Mutex<Core>, lists: &[Vec<Call>]) -> Vec<Vec<Reply>> {
 fn cost(mutators: usize) -> u128 {
     let lists = black_box(vec![calls(); mutators]);
     let mut core = Core::new();
-    for mutator in core.mutators.iter_mut().take(mutators) {
-        *mutator = Some(Mutator { registers: [0; 16], stack: Vec::new() });
+    for _ in 0..mutators {
+        let _slot = core.attach();
     }
     let core = black_box(Mutex::new(core));
     let start = Instant::now();
@@ -76,6 +78,6 @@ fn cost(mutators: usize) -> u128 {
 pub fn measure() {
     for mutators in [4, 2, 1] {
         let least = (0..ROUNDS).map(|_| cost(mutators)).min().unwrap_or(0);
-        println!("workload_line_by_{mutators} {}", least * 1_000 / (2 * PAIRS * mutators) as u128);
+        report(&format!("workload_line_by_{mutators}"), least, (2 * PAIRS * mutators) as u64, 0);
     }
 }

@@ -1,10 +1,16 @@
-//! The pause alone and with helpers in plain Rust, with the same data and the same scheme as the proved one. It prints the
-//! same lines: a name, picoseconds an object, and how many helpers there were.
+//! The pause alone and with helpers in plain Rust, with the same data and the same scheme as the proved one. It prints
+//! the same lines: a name, picoseconds an object, and how many helpers there were.
+mod plain_class;
+mod plain_figures;
 mod plain_map;
 mod plain_marker;
+mod plain_row;
 
+use plain_class::Class;
+use plain_figures::report;
 use plain_map::{Block, Found, Kind, Page, START, find};
-use plain_marker::{Marker, granule, set};
+use plain_marker::{Marker, granule};
+use plain_row::set;
 use std::hint::black_box;
 use std::sync::atomic::{AtomicU64, Ordering::SeqCst};
 use std::thread;
@@ -147,7 +153,7 @@ fn measure(shape: &str, count: u64) {
     for number in 0..count {
         let page = number as usize / 256;
         if number % 256 == 0 {
-            map[page] = Page::Cut(Block::new(2, Kind::Normal));
+            map[page] = Page::Cut(Block::new(Class::of(2), Kind::Normal));
         }
         if let Page::Cut(block) = &mut map[page] {
             set(&mut block.taken, number as usize % 256);
@@ -171,7 +177,7 @@ fn measure(shape: &str, count: u64) {
             }
             least = least.min(start.elapsed().as_nanos());
         }
-        println!("pause_{shape}_{count}_by_{helpers} {} {helpers}", least * 1_000 / u128::from(count));
+        report(&format!("pause_{shape}_{count}_by_{helpers}"), least, count, helpers as u64);
     }
 }
 

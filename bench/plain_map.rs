@@ -1,27 +1,37 @@
 //! A map of pages in plain Rust, as programs of this folder measure it: the same data and calls as the proved one.
+// A program uses a part of it.
+#![allow(dead_code)]
+
+use crate::plain_class::Class;
+use crate::plain_row::is_set;
+
+/// The address of the heap's first byte.
 pub const START: u64 = 268_435_456;
 
-#[allow(dead_code)]
+/// What stands in place of a number at the end of a list of free cells.
 pub const LIST_END: u16 = 65_535;
 
+/// Whether the collector reads an object's words.
 #[derive(Clone, Copy, PartialEq)]
 pub enum Kind {
     Normal,
-    #[allow(dead_code)]
     PointerFree,
 }
 
+/// A page cut into cells: which are allocated, and the first free one. The first word of a free cell has the number of
+/// the next one.
 pub struct Block {
-    pub words: u16,
+    pub class: Class,
     pub kind: Kind,
     reciprocal: u32,
     pub taken: [u64; 4],
-    pub cells: u16,
-    #[allow(dead_code)]
+    cells: u16,
     pub first: u16,
 }
 
-#[allow(dead_code)]
+/// What stands on a page: nothing, cells, a large object of so many pages, or a further page of one that begins there.
+/// Its tag has a byte of its own: one that shares the byte of a block's kind takes more steps to read.
+#[repr(u8)]
 pub enum Page {
     Free,
     Cut(Block),
@@ -29,7 +39,7 @@ pub enum Page {
     Body(u32),
 }
 
-#[allow(dead_code)]
+/// An allocated object.
 #[derive(Clone, Copy)]
 pub struct Found {
     pub base: u64,
@@ -40,10 +50,10 @@ pub struct Found {
 }
 
 impl Block {
-    /// A page cut into cells of so many words, all free.
+    /// A page cut into cells of a class, all free.
     #[inline]
-    pub fn new(words: u16, kind: Kind) -> Block {
-        Block { words, kind, reciprocal: 65_536_u32.div_ceil(u32::from(words) / 2), taken: [0; 4], cells: 512 / words, first: 0 }
+    pub fn new(class: Class, kind: Kind) -> Block {
+        Block { class, kind, reciprocal: class.reciprocal(), taken: [0; 4], cells: class.cells(), first: 0 }
     }
 
     #[inline]
@@ -66,8 +76,9 @@ impl Block {
 
     #[inline]
     fn at(&self, page: u32, cell: u16) -> Found {
-        let base = START + 4_096 * u64::from(page) + 8 * u64::from(cell) * u64::from(self.words);
-        Found { base, len: u32::from(self.words), kind: self.kind, page, cell }
+        let words = self.class.words();
+        let base = START + 4_096 * u64::from(page) + 8 * u64::from(cell) * u64::from(words);
+        Found { base, len: u32::from(words), kind: self.kind, page, cell }
     }
 }
 
@@ -84,20 +95,22 @@ fn head(map: &[Page], first: u32) -> Option<Found> {
     }
 }
 
-#[inline]
+/// The allocated object that a word points into. Inlined where only its being there is asked, the rest of it goes.
+#[inline(always)]
 pub fn find(map: &[Page], w: u64) -> Option<Found> {
     let page = w.checked_sub(START)? / 4_096;
     match map.get(page as usize)? {
         Page::Free => None,
         Page::Cut(block) => {
             let cell = block.cell_of(w)?;
-            ((block.taken[usize::from(cell / 64)] >> (cell % 64)) & 1 == 1).then(|| block.at(page as u32, cell))
+            is_set(&block.taken, usize::from(cell)).then(|| block.at(page as u32, cell))
         }
         Page::Head(pages, kind) => Some(large(page as u32, *pages, *kind)),
         Page::Body(first) => head(map, *first),
     }
 }
 
+/// The first allocated object that has a word of a page from an address on.
 #[inline]
 pub fn next_on_page(map: &[Page], page: u32, from: u64) -> Option<Found> {
     if from >= START + 4_096 * (u64::from(page) + 1) {

@@ -1,20 +1,19 @@
 //! A marker in plain Rust, as programs of this folder measure it: the same data and calls as the proved one.
+// A program uses a part of it.
+#![allow(dead_code)]
+
 use crate::plain_map::{Found, Kind, Page, START, find, next_on_page};
+use crate::plain_row::{clear, is_set, next, set};
 
 const ENTRIES: usize = 256;
 
-pub fn is_set(row: &[u64], i: usize) -> bool {
-    (row[i / 64] >> (i % 64)) & 1 == 1
-}
-
-pub fn set(row: &mut [u64], i: usize) {
-    row[i / 64] |= 1 << (i % 64);
-}
-
+/// The granule of an address, counted from the heap's first one.
+#[inline]
 pub fn granule(address: u64) -> usize {
     ((address - START) / 16) as usize
 }
 
+/// Marks, dirty pages and the objects to be read, each with the number of its next word.
 pub struct Marker {
     pub marks: Vec<u64>,
     pub dirty: Vec<u64>,
@@ -24,21 +23,53 @@ pub struct Marker {
 }
 
 impl Marker {
+    /// A marker of a heap of so many pages.
     pub fn new(pages: usize) -> Marker {
         Marker {
             marks: vec![0; 4 * pages],
-            dirty: vec![0; pages / 64 + 1],
+            dirty: vec![0; pages.div_ceil(64)],
             current: None,
             stack: [(0, 0); ENTRIES],
             len: 0,
         }
     }
 
+    /// Begins a cycle: no mark, no dirty page and no entry.
     pub fn begin(&mut self) {
         self.marks.fill(0);
         self.dirty.fill(0);
         self.current = None;
         self.len = 0;
+    }
+
+    /// Whether the object with this base is marked.
+    #[inline]
+    pub fn is_marked(&self, base: u64) -> bool {
+        is_set(&self.marks, granule(base))
+    }
+
+    /// The marks of a page's granules.
+    #[inline]
+    pub fn marks_on(&self, page: usize) -> &[u64] {
+        &self.marks[4 * page..4 * page + 4]
+    }
+
+    /// A word was written at the address.
+    #[inline]
+    pub fn written(&mut self, address: u64) {
+        set(&mut self.dirty, ((address - START) / 4_096) as usize);
+    }
+
+    /// An object was allocated at the base.
+    #[inline]
+    pub fn allocated(&mut self, base: u64) {
+        set(&mut self.marks, granule(base));
+    }
+
+    /// The object with this base was freed.
+    #[inline]
+    pub fn freed(&mut self, base: u64) {
+        clear(&mut self.marks, granule(base));
     }
 
     #[inline]
@@ -48,6 +79,8 @@ impl Marker {
         }
     }
 
+    // Most words point into no object, so that the loop over words is to hold the test of the range and not this.
+    #[inline(never)]
     fn mark_target(&mut self, map: &[Page], word: u64) {
         let Some(found) = find(map, word) else {
             return;
@@ -82,10 +115,7 @@ impl Marker {
     fn live(&self, map: &[Page]) -> Option<(Found, u32)> {
         let (base, next) = self.current?;
         let found = find(map, base)?;
-        let is_live = found.base == base
-            && found.kind == Kind::Normal
-            && next < found.len
-            && is_set(&self.marks, granule(base));
+        let is_live = found.base == base && found.kind == Kind::Normal && next < found.len && self.is_marked(base);
         is_live.then_some((found, next))
     }
 
@@ -103,7 +133,8 @@ impl Marker {
         }
     }
 
-    fn step(&mut self, map: &[Page], memory: &[u64], budget: u64) -> u64 {
+    /// Reads words of entries, at most so many, and answers how many.
+    pub fn step(&mut self, map: &[Page], memory: &[u64], budget: u64) -> u64 {
         let heap_bytes = 4_096 * map.len() as u64;
         let mut read = 0;
         while let Some((found, next)) = self.settle(map) {
@@ -118,16 +149,17 @@ impl Marker {
         read
     }
 
-    fn retrace(&mut self, map: &[Page], memory: &[u64]) -> Option<u32> {
-        let word = self.dirty.iter().position(|word| *word != 0)?;
-        let page = 64 * word as u32 + self.dirty[word].trailing_zeros();
-        self.dirty[word] &= self.dirty[word] - 1;
+    /// Reads the lowest dirty page again.
+    pub fn retrace(&mut self, map: &[Page], memory: &[u64]) -> Option<u32> {
+        let page = next(&self.dirty, 0, true)?;
+        clear(&mut self.dirty, page);
+        let page = page as u32;
         let heap_bytes = 4_096 * map.len() as u64;
         let mut address = START + 4_096 * u64::from(page);
         let end = address + 4_096;
         while let Some(found) = next_on_page(map, page, address) {
             let stop = (found.base + 8 * u64::from(found.len)).min(end);
-            if found.kind == Kind::Normal && is_set(&self.marks, granule(found.base)) {
+            if found.kind == Kind::Normal && self.is_marked(found.base) {
                 let first = address.saturating_sub(found.base) / 8;
                 let count = (stop - found.base) / 8 - first;
                 self.mark_words(map, heap_bytes, memory, found.base, first as u32, count);
@@ -137,11 +169,17 @@ impl Marker {
         Some(page)
     }
 
-    pub fn mark(&mut self, map: &[Page], memory: &[u64], roots: &[u64]) -> u64 {
+    /// Marks the objects that root words point into.
+    pub fn scan_roots(&mut self, map: &[Page], roots: &[u64]) {
         let heap_bytes = 4_096 * map.len() as u64;
         for word in roots {
             self.mark_word(map, heap_bytes, *word);
         }
+    }
+
+    /// Marks all that roots reach, and answers the words that were read off entries.
+    pub fn mark(&mut self, map: &[Page], memory: &[u64], roots: &[u64]) -> u64 {
+        self.scan_roots(map, roots);
         let mut read = 0;
         loop {
             read += self.step(map, memory, u64::MAX);

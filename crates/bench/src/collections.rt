@@ -91,9 +91,7 @@ fn lose_all(user: &mut User) -> u64 {
 fn time_allocs<R: Eprint + Clock>(rt: &R, user: &mut User, bases: &mut [u64]) -> io::Result<()> {
     let gone = lose_all(user);
     let start = Instant::now(rt)?;
-    for base in bases.iter_mut() {
-        *base = user.allocate(2);
-    }
+    user.allocate_each(2, bases);
     let calls = OBJECTS as u64;
     report(rt, "alloc_after_cycle", since(rt, start)?, calls, gone)
 }

@@ -4,6 +4,7 @@ use std::rt::Clock;
 use std::time::Instant;
 
 /// Prints a line: a name, picoseconds a call, and what the calls answered.
+#[inline(never)]
 pub(crate) fn report<R: Eprint>(
     rt: &R,
     name: &str,

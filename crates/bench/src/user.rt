@@ -43,9 +43,18 @@ impl User {
     }
 
     /// Allocates an object for each request, and keeps their bases.
+    #[inline(never)]
     pub(crate) fn allocate_all(&mut self, sizes: &[u64], bases: &mut [u64]) {
         for (base, size) in bases.iter_mut().zip(sizes) {
             *base = self.allocate(*size);
+        }
+    }
+
+    /// Allocates objects of so many words, and keeps their bases.
+    #[inline(never)]
+    pub(crate) fn allocate_each(&mut self, words: u64, bases: &mut [u64]) {
+        for base in bases.iter_mut() {
+            *base = self.allocate(words);
         }
     }
 
@@ -56,6 +65,7 @@ impl User {
     }
 
     /// Frees each object of the ring, and allocates another in its place.
+    #[inline(never)]
     pub(crate) fn turn(&mut self, sizes: &[u64], ring: &mut [u64]) {
         for (base, size) in ring.iter_mut().zip(sizes) {
             self.free(*base);
@@ -77,6 +87,7 @@ impl User {
     }
 
     /// Loads two words of each object, and answers their sum.
+    #[inline(never)]
     pub(crate) fn load_all(&mut self, ring: &[u64]) -> u64 {
         let mut sum: u64 = 0;
         for base in ring {
@@ -89,6 +100,7 @@ impl User {
     }
 
     /// Stores into two words of each object.
+    #[inline(never)]
     pub(crate) fn store_all(&mut self, ring: &[u64]) {
         for base in ring {
             self.aim(*base);
@@ -111,6 +123,7 @@ impl User {
     }
 
     /// Asks for the words of every second object, and answers their sum.
+    #[inline(never)]
     pub(crate) fn sizes(&mut self, bases: &[u64]) -> u64 {
         let mut sum: u64 = 0;
         for two in bases.chunks(2) {
@@ -129,6 +142,7 @@ impl User {
     }
 
     /// Collects in full, and answers how many objects went.
+    #[inline(never)]
     pub(crate) fn collect(&mut self) -> u64 {
         self.core.collect().unwrap_or(0)
     }

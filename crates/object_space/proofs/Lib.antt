@@ -1,6 +1,7 @@
 pub mod Stores
 pub mod Tables
 pub mod AvailableRows
+pub mod Lowest
 pub mod Kept
 pub mod Words
 pub mod Changes

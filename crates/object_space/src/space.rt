@@ -15,6 +15,7 @@ ghost use Rattle.object_space.specs.Stores.{Stores};
 
 mod allocate;
 mod available_pages;
+mod available_row;
 mod close;
 mod forget;
 mod free;
@@ -87,7 +88,7 @@ impl ObjectSpace {
     }
 
     /// The kept object that a word reads. On a page that is still to be swept only marked objects are kept.
-    #[inline]
+    #[inline(always)]
     pub fn find(&self, marker: &Marker, word: u64) -> Option<Found>
         requires pages { length marker.now.dirty ≡ length self.now.states }
         ensures found { result ≡ kept_in self.now.states self.now.pending marker.now.marks word }

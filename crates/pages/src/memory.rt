@@ -1,5 +1,5 @@
 //! The words of the heap, seen as their list.
-ghost use Rattle.std.specs.Prelude.{◌≡◌, ℕ, ◌+◌, ◌*◌, ◌<◌, ◌≤◌, List, length, slice_range, vec_len};
+ghost use Rattle.std.specs.Prelude.{◌≡◌, ℕ, ◌+◌, ◌*◌, ◌<◌, ◌≤◌, List, length, slice_index, slice_range, vec_len, EachIndex};
 ghost use Rattle.words.specs.declared.limits.TheConstants.{PAGE_WORDS, MAX_PAGES, FIRST_ADDRESS};
 ghost use Rattle.pages.specs.Memory.{IsWordAddress, IsZeroMemory, IsZeroed, place, word_at, with_word_at};
 ghost use Rattle.pages.specs.Opening.{IsOpened};
@@ -31,6 +31,16 @@ fn place(address: u64) -> usize
     ensures { result ≡ place address }
 {
     ((address - FIRST_ADDRESS) / WORD_BYTES) as usize
+}
+
+// Makes all words 0.
+#[inline]
+fn clear(words: &mut [u64])
+    ensures { EachIndex words.new (λ k. slice_index words.new k ≡ 0) }
+{
+    for word in words.iter_mut() {
+        *word = 0;
+    }
 }
 
 impl Memory {
@@ -97,6 +107,6 @@ impl Memory {
             self.words[first + 1] = 0;
             return;
         }
-        self.words[first..first + count as usize].fill(0);
+        clear(&mut self.words[first..first + count as usize]);
     }
 }

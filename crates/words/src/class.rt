@@ -11,6 +11,9 @@ use std::marker::Model;
 /// The words of each size class, from the least.
 pub const CLASSES: [u16; 13] = [2, 4, 6, 8, 12, 16, 24, 32, 48, 64, 96, 128, 256];
 
+// How many cells of each class a page has.
+const CELLS: [u16; 13] = [256, 128, 85, 64, 42, 32, 21, 16, 10, 8, 5, 4, 2];
+
 // The place among the classes of the least one that holds so many granules.
 const INDEX_OF_GRANULES: [u8; 129] = [
     0, 0, 1, 2, 3, 4, 4, 5, 5, 6, 6, 6, 6, 7, 7, 7, 7, 8, 8, 8, 8, 8, 8, 8, 8, 9, 9, 9, 9, 9, 9, 9,
@@ -71,12 +74,13 @@ impl Class {
         usize::from(self.number)
     }
 
-    /// How many cells a page has that is cut for this class.
+    /// How many cells a page has that is cut for this class. They are looked up, since a division is slow.
+    #[inline]
     pub fn cells(self) -> u16
         ensures value { result ≡ PAGE_WORDS / self }
         ensures fits { result * self ≤ PAGE_WORDS }
     {
-        PAGE_WORDS as u16 / self.words()
+        CELLS[usize::from(self.number)]
     }
 }
 

@@ -237,10 +237,27 @@ impl ObjectSpace {
         }
     }
 
-    /// Takes a place for a new object, writes 0 into its words, and answers its base. It sweeps as it needs: first pages
-    /// for the class and the kind, and where there is no free page either, the others until there is a place. `None`
-    /// exactly if no address has room, and then nothing is left to be swept.
-    pub fn allocate(&mut self, marker: &Marker, placement: Placement, kind: Kind) -> Option<u64>
+    // The first free cell of the lowest page for the class and the kind, if that page is not to be swept.
+    #[inline(always)]
+    fn take_ready(&mut self, class: Class, kind: Kind) -> Option<u64>
+        ensures room { IfSome result (λ base. HasRoomAt self.old (Placement.Small class) kind base) }
+        ensures gains { IfSome result (λ base. Gains self.old (Placement.Small class) kind base self.new) }
+        ensures none { IfNone result (self.new ≡ self.old) }
+    {
+        // Its clauses tell that there are few.
+        let _pages = self.map.len();
+        let Some(page) = self.available.first(class, kind) else {
+            return None;
+        };
+        if self.pending.is_set(page) {
+            return None;
+        }
+        Some(self.take_cell(page as PageNo, class, kind))
+    }
+
+    // Takes a place for a new object where none is ready: it sweeps as it needs, and takes free pages.
+    #[inline(never)]
+    fn search(&mut self, marker: &Marker, placement: Placement, kind: Kind) -> Option<u64>
         requires request { IsRequest placement }
         requires pages { length marker.now.dirty ≡ length self.old.states }
         ensures { MatchOption result (FindsNoRoom self.old marker.now.marks placement kind self.new) (λ base. Allocates self.old marker.now.marks placement kind base self.new) }
@@ -256,5 +273,23 @@ impl ObjectSpace {
             }
         }
         None
+    }
+
+    /// Takes a place for a new object, writes 0 into its words, and answers its base. It sweeps as it needs: first pages
+    /// for the class and the kind, and where there is no free page either, the others until there is a place. `None`
+    /// exactly if no address has room, and then nothing is left to be swept.
+    pub fn allocate(&mut self, marker: &Marker, placement: Placement, kind: Kind) -> Option<u64>
+        requires request { IsRequest placement }
+        requires pages { length marker.now.dirty ≡ length self.old.states }
+        ensures { MatchOption result (FindsNoRoom self.old marker.now.marks placement kind self.new) (λ base. Allocates self.old marker.now.marks placement kind base self.new) }
+    {
+        // Its clauses tell what is true of the map.
+        let _end = self.end();
+        if let Placement::Small(class) = &placement
+            && let Some(base) = self.take_ready(*class, kind)
+        {
+            return Some(base);
+        }
+        self.search(marker, placement, kind)
     }
 }

@@ -5,9 +5,10 @@ ghost use Rattle.words.specs.Bits.{IsEmptyFrom, IsFirstFrom};
 ghost use Rattle.words.specs.Classes.{IsSizeClass};
 ghost use Rattle.object_space.specs.AvailableRows.{row_number, row_of, AreClear, IsBitSet};
 
+use super::available_row::AvailableRow;
 use std::alloc::{AllocError, Global};
 use std::marker::Model;
-use words::{BitRow, CLASSES, Class, Kind, PageNo};
+use words::{CLASSES, Class, Kind, PageNo};
 
 // Two kinds for each class.
 const ROWS: usize = 2 * CLASSES.len();
@@ -15,7 +16,7 @@ const ROWS: usize = 2 * CLASSES.len();
 /// The pages of each class and kind that have a free cell.
 #[derive(Drop)]
 pub struct AvailablePages {
-    rows: Vec<BitRow>,
+    rows: Vec<AvailableRow>,
 }
 
 impl Model for AvailablePages {
@@ -45,7 +46,7 @@ fn number_of(class: Class, kind: Kind) -> usize
 
 // Sets the bit of a page in a row.
 #[inline]
-fn set_bit(rows: &mut Vec<BitRow>, number: usize, page: PageNo)
+fn set_bit(rows: &mut Vec<AvailableRow>, number: usize, page: PageNo)
     requires row { number < vec_len rows.old }
     requires page { page < length (slice_index_or rows.old.items number []) }
     ensures rows { rows.new.items ≡ slice_set rows.old.items number (slice_set (slice_index_or rows.old.items number []) page true) }
@@ -56,7 +57,7 @@ fn set_bit(rows: &mut Vec<BitRow>, number: usize, page: PageNo)
 
 // Clears it.
 #[inline]
-fn clear_bit(rows: &mut Vec<BitRow>, number: usize, page: PageNo)
+fn clear_bit(rows: &mut Vec<AvailableRow>, number: usize, page: PageNo)
     requires row { number < vec_len rows.old }
     requires page { page < length (slice_index_or rows.old.items number []) }
     ensures rows { rows.new.items ≡ slice_set rows.old.items number (slice_set (slice_index_or rows.old.items number []) page false) }
@@ -73,7 +74,7 @@ impl AvailablePages {
     {
         let mut rows = Vec::with_capacity(alloc, ROWS)?;
         for _ in 0..ROWS {
-            rows.push(BitRow::new(alloc, pages as usize)?)?;
+            rows.push(AvailableRow::new(alloc, pages as usize)?)?;
         }
         Ok(AvailablePages { rows })
     }
@@ -84,7 +85,7 @@ impl AvailablePages {
         ensures page { MatchOption result (IsEmptyFrom (row_of self.now class kind) 0) (λ page. IsFirstFrom (row_of self.now class kind) 0 page) }
         ensures listed { IsSizeClass class }
     {
-        self.rows[number_of(class, kind)].next(0)
+        self.rows[number_of(class, kind)].first()
     }
 
     /// Enters a page of a class and a kind.

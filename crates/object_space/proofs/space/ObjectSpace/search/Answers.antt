@@ -1,7 +1,7 @@
 use Rattle.std.proofs.Common.{arith}
 use Rattle.object_space.proofs.Searching.{allocates_after, no_place_after}
 use Rattle.object_space.proofs.Swept.{sweeps_none}
-use Rattle.object_space.proofs.space.ObjectSpace.allocate.Goals as goal
+use Rattle.object_space.proofs.space.ObjectSpace.search.Goals as goal
 
 pub loop-kind-init : goal.loop-kind-init
 loop-kind-init c = record { sweeps = sweeps_none _ _ c.end-end.ensures.lawful.map; none = c.in_default.ensures.none }

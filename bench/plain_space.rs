@@ -1,0 +1,252 @@
+//! The objects of a heap in plain Rust, with the data and the steps of the proved ones: the words, the map, the free
+//! pages, for each class and kind a row of the pages with a free cell, and the pages that are still to be swept.
+// A program uses a part of it.
+#![allow(dead_code)]
+
+mod sweep;
+
+use crate::plain_class::{CLASSES, Class, Placement};
+use crate::plain_map::{Block, Found, Kind, LIST_END, Page, START, find};
+use crate::plain_marker::Marker;
+use crate::plain_pool::{give, take_run};
+use crate::plain_row::{clear, is_set, next, set};
+
+const PAGE_WORDS: usize = 512;
+
+/// The objects of a heap.
+pub struct Space {
+    words: Vec<u64>,
+    map: Vec<Page>,
+    free: Vec<u64>,
+    available: Vec<Vec<u64>>,
+    pending: Vec<u64>,
+}
+
+#[inline]
+fn place(address: u64) -> usize {
+    ((address - START) / 8) as usize
+}
+
+#[inline]
+fn start_of(page: usize) -> u64 {
+    START + 4_096 * page as u64
+}
+
+#[inline]
+fn row_of(class: Class, kind: Kind) -> usize {
+    2 * class.number() + usize::from(kind == Kind::PointerFree)
+}
+
+// The words of the least cells are written at once. If `fill` stood here, the two were made one again.
+#[inline]
+fn zero(cell: &mut [u64]) {
+    match cell {
+        [first, second] => (*first, *second) = (0, 0),
+        _ => zero_all(cell),
+    }
+}
+
+#[inline(never)]
+fn zero_all(cell: &mut [u64]) {
+    cell.fill(0);
+}
+
+impl Space {
+    /// So many pages, with no object on them.
+    pub fn new(pages: usize) -> Space {
+        let mut free = vec![0; pages.div_ceil(64)];
+        give(&mut free, 0, pages);
+        Space {
+            words: vec![0; PAGE_WORDS * pages],
+            map: (0..pages).map(|_| Page::Free).collect(),
+            free,
+            available: vec![vec![0; pages.div_ceil(64)]; 2 * CLASSES],
+            pending: vec![0; pages.div_ceil(64)],
+        }
+    }
+
+    /// The kept object that a word points into. On a page that is still to be swept only marked objects are kept.
+    #[inline(always)]
+    pub fn find(&self, marker: &Marker, word: u64) -> Option<Found> {
+        let found = find(&self.map, word)?;
+        (!is_set(&self.pending, found.page as usize) || marker.is_marked(found.base)).then_some(found)
+    }
+
+    /// The word at an address.
+    #[inline]
+    pub fn read(&self, address: u64) -> u64 {
+        self.words[place(address)]
+    }
+
+    /// Writes a word at an address.
+    #[inline]
+    pub fn write(&mut self, address: u64, word: u64) {
+        self.words[place(address)] = word;
+    }
+
+    // The lowest page that is still to be swept and is cut for the class and the kind.
+    #[inline(never)]
+    fn pending_for(&self, class: Class, kind: Kind) -> Option<usize> {
+        let mut from = 0;
+        loop {
+            let page = next(&self.pending, from, true)?;
+            if matches!(&self.map[page], Page::Cut(block) if block.class == class && block.kind == kind) {
+                return Some(page);
+            }
+            from = page + 1;
+        }
+    }
+
+    // A page with a free cell for the class and the kind.
+    #[inline(always)]
+    fn page_for(&self, class: Class, kind: Kind) -> Option<usize> {
+        next(&self.available[row_of(class, kind)], 0, true)
+    }
+
+    // Takes the first free cell of a page that has one. Its first word has the number of the next one.
+    #[inline(always)]
+    fn take_cell(&mut self, page: usize, class: Class, kind: Kind) -> u64 {
+        let Page::Cut(block) = &mut self.map[page] else {
+            unreachable!();
+        };
+        let cell = usize::from(block.first);
+        let words = usize::from(class.words());
+        let start = PAGE_WORDS * page + cell * words;
+        let next = self.words[start] as u16;
+        block.first = next;
+        set(&mut block.taken, cell);
+        zero(&mut self.words[start..start + words]);
+        if next == LIST_END {
+            clear(&mut self.available[row_of(class, kind)], page);
+        }
+        START + 8 * start as u64
+    }
+
+    // Makes all cells of a page a list in their order.
+    fn link_all(&mut self, page: usize, class: Class) {
+        let words = &mut self.words[PAGE_WORDS * page..PAGE_WORDS * (page + 1)];
+        let mut first = LIST_END;
+        for cell in (0..class.cells()).rev() {
+            words[usize::from(cell) * usize::from(class.words())] = u64::from(first);
+            first = cell;
+        }
+    }
+
+    // Cuts a free page, and takes its first cell.
+    #[inline(never)]
+    fn take_page(&mut self, class: Class, kind: Kind) -> Option<u64> {
+        let page = take_run(&mut self.free, 1)?;
+        self.link_all(page, class);
+        self.map[page] = Page::Cut(Block::new(class, kind));
+        set(&mut self.available[row_of(class, kind)], page);
+        Some(self.take_cell(page, class, kind))
+    }
+
+    // Takes a run of free pages.
+    #[inline(never)]
+    fn take_pages(&mut self, pages: usize, kind: Kind) -> Option<u64> {
+        let first = take_run(&mut self.free, pages)?;
+        self.map[first] = Page::Head(pages as u32, kind);
+        for page in first + 1..first + pages {
+            self.map[page] = Page::Body(first as u32);
+        }
+        self.words[PAGE_WORDS * first..PAGE_WORDS * (first + pages)].fill(0);
+        Some(start_of(first))
+    }
+
+    // A place for a small object where no page has one, or the page that was found is still to be swept. Pages for the
+    // class and the kind that are still to be swept are swept first, one by one.
+    #[inline(never)]
+    fn make_place(&mut self, marker: &Marker, class: Class, kind: Kind, mut found: Option<usize>) -> Option<u64> {
+        while let Some(page) = found.or_else(|| self.pending_for(class, kind)) {
+            if !is_set(&self.pending, page) {
+                return Some(self.take_cell(page, class, kind));
+            }
+            self.sweep_page(marker, page);
+            found = self.page_for(class, kind);
+        }
+        self.take_page(class, kind)
+    }
+
+    #[inline(always)]
+    fn place_small(&mut self, marker: &Marker, class: Class, kind: Kind) -> Option<u64> {
+        match self.page_for(class, kind) {
+            Some(page) if !is_set(&self.pending, page) => Some(self.take_cell(page, class, kind)),
+            found => self.make_place(marker, class, kind, found),
+        }
+    }
+
+    #[inline(always)]
+    fn place(&mut self, marker: &Marker, placement: Placement, kind: Kind) -> Option<u64> {
+        match placement {
+            Placement::Small(class) => self.place_small(marker, class, kind),
+            Placement::Large(pages) => self.take_pages(pages, kind),
+        }
+    }
+
+    // Sweeps pages for any class, one by one, till there is a place.
+    #[cold]
+    fn sweep_and_place(&mut self, marker: &Marker, placement: Placement, kind: Kind) -> Option<u64> {
+        while self.sweep(marker) {
+            if let Some(base) = self.place(marker, placement, kind) {
+                return Some(base);
+            }
+        }
+        None
+    }
+
+    /// Takes a place for a new object, writes 0 into its words, and answers its base. It sweeps as it needs.
+    #[inline]
+    pub fn allocate(&mut self, marker: &Marker, placement: Placement, kind: Kind) -> Option<u64> {
+        self.place(marker, placement, kind).or_else(|| self.sweep_and_place(marker, placement, kind))
+    }
+
+    /// Frees an allocated object, and its page with the last one.
+    #[inline]
+    pub fn release(&mut self, found: Found) {
+        let page = found.page as usize;
+        let Page::Cut(block) = &mut self.map[page] else {
+            return self.free_pages(page, found.len as usize / PAGE_WORDS);
+        };
+        let row = row_of(block.class, block.kind);
+        self.words[place(found.base)] = u64::from(block.first);
+        block.first = found.cell;
+        clear(&mut block.taken, usize::from(found.cell));
+        if block.taken != [0; 4] {
+            set(&mut self.available[row], page);
+        } else {
+            self.free_block(page, row);
+        }
+    }
+
+    // Frees the page of a block of a row.
+    fn free_block(&mut self, page: usize, row: usize) {
+        self.map[page] = Page::Free;
+        give(&mut self.free, page, 1);
+        clear(&mut self.available[row], page);
+        clear(&mut self.pending, page);
+    }
+
+    // Frees the pages of a large object.
+    fn free_pages(&mut self, first: usize, pages: usize) {
+        for page in &mut self.map[first..first + pages] {
+            *page = Page::Free;
+        }
+        give(&mut self.free, first, pages);
+    }
+
+    /// Marks what root words read.
+    pub fn scan_roots(&self, marker: &mut Marker, roots: &[u64]) {
+        marker.scan_roots(&self.map, roots);
+    }
+
+    /// Reads at most so many words of entries, and answers how many.
+    pub fn mark(&self, marker: &mut Marker, most: u64) -> u64 {
+        marker.step(&self.map, &self.words, most)
+    }
+
+    /// Reads the lowest dirty page again. Answers whether there was one.
+    pub fn retrace(&self, marker: &mut Marker) -> bool {
+        marker.retrace(&self.map, &self.words).is_some()
+    }
+}

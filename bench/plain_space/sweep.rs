@@ -1,0 +1,73 @@
+//! Sweeping, and the end of a cycle: what isn't reached is forgotten, and goes when its page is swept.
+use super::{Space, row_of, start_of};
+use crate::plain_map::{Page, next_on_page};
+use crate::plain_marker::Marker;
+use crate::plain_row::{clear, next, ones, set};
+
+impl Space {
+    // Sweeps a page. One without a mark keeps no object, and is free at once.
+    pub(super) fn sweep_page(&mut self, marker: &Marker, page: usize) {
+        let Page::Cut(block) = &self.map[page] else {
+            unreachable!();
+        };
+        if marker.marks_on(page) == [0; 4] {
+            return self.free_block(page, row_of(block.class, block.kind));
+        }
+        let mut address = start_of(page);
+        while let Some(found) = next_on_page(&self.map, page as u32, address) {
+            address = found.base + 8 * u64::from(found.len);
+            if !marker.is_marked(found.base) {
+                self.release(found);
+            }
+        }
+        clear(&mut self.pending, page);
+    }
+
+    /// Sweeps one page, if one is still to be swept. Answers whether one was.
+    pub fn sweep(&mut self, marker: &Marker) -> bool {
+        let Some(page) = next(&self.pending, 0, true) else {
+            return false;
+        };
+        self.sweep_page(marker, page);
+        true
+    }
+
+    /// Sweeps all pages that are still to be swept.
+    pub fn sweep_all(&mut self, marker: &Marker) {
+        while self.sweep(marker) {}
+    }
+
+    // Forgets the unmarked objects that begin on a page, and answers how many: a large one goes now, and a block that
+    // has one is to be swept.
+    fn forget_on(&mut self, marker: &Marker, page: usize) -> u32 {
+        match &self.map[page] {
+            Page::Free | Page::Body(_) => 0,
+            Page::Cut(block) => {
+                let unmarked = ones(&block.taken) - ones(marker.marks_on(page));
+                if unmarked > 0 {
+                    set(&mut self.pending, page);
+                }
+                unmarked
+            }
+            Page::Head(_, _) if marker.is_marked(start_of(page)) => 0,
+            Page::Head(pages, _) => {
+                self.free_pages(page, *pages as usize);
+                1
+            }
+        }
+    }
+
+    /// Ends a cycle: what the roots and the marks reach is marked, and the other objects are forgotten. Answers how
+    /// many.
+    pub fn finish(&mut self, marker: &mut Marker, roots: &[u64]) -> u64 {
+        marker.mark(&self.map, &self.words, roots);
+        (0..self.map.len()).map(|page| u64::from(self.forget_on(marker, page))).sum()
+    }
+
+    /// The same, but all that is forgotten is swept now.
+    pub fn collect(&mut self, marker: &mut Marker, roots: &[u64]) -> u64 {
+        let gone = self.finish(marker, roots);
+        self.sweep_all(marker);
+        gone
+    }
+}
