@@ -7,7 +7,7 @@
 //! # By one thread
 //!
 //! [`close_marks`] takes no memory, and reads at most the words of the pages that were dirty or that newly marked objects
-//! cover, and those that entries have left.
+//! cover, and those that entries of Normal objects have left.
 //!
 //! # With helpers
 //!

@@ -4,12 +4,13 @@ use Rattle.std.specs.Prelude.{count_by}
 use Rattle.std.proofs.lemmas.Bool.{false≢true, cond-true, eq-eqb}
 use Rattle.block_map.specs.declared.found.Found.{Found}
 use Rattle.block_map.specs.Objects.{IsPlaced}
+use Rattle.words.specs.declared.class.Kind.TheVariants.{Normal}
 use Rattle.words.specs.declared.limits.TheConstants.{FIRST_ADDRESS, GRANULE_BYTES, PAGE_WORDS}
 use Rattle.words.specs.Bits.{Has}
 use Rattle.words.specs.Layout.{granule}
 use Rattle.marker.specs.declared.entry.Entry.{Entry}
 use Rattle.marker.specs.Marking.{pages_of}
-use Rattle.marker.specs.Work.{left, left_in, span, span_in, unmarked_from, newly_from, page_words}
+use Rattle.marker.specs.Work.{left, left_in, read_of, span, span_in, unmarked_from, newly_from, page_words}
 
 -- a mark that is set
 pub unmarked_set : (found : ℕ → Option Found) (row : List Bool) (k i : ℕ) → i < length row → get_or row i false ≡ false
@@ -37,10 +38,12 @@ span_at pages found g p e =
 pub words_covered : (pages : ℕ) (g : Found) → IsPlaced pages g → g.len ≤ PAGE_WORDS * pages_of g
 words_covered pages g p = let a = p.above in let s = p.some in omega arith
 
--- an entry for all of an object
-pub left_new : (found : ℕ → Option Found) (g : Found) (e : Entry) → found g.base ≡ Some g → e.base ≡ g.base → left found e ≡ g.len - e.next
+-- an entry of a Normal object
+pub left_new : (found : ℕ → Option Found) (g : Found) (e : Entry) → found g.base ≡ Some g → g.kind ≡ Normal → e.base ≡ g.base → left found e ≡ g.len - e.next
 unfolding left
-left_new found g e o b = ap (λ x. left_in (found x) e) b ∙ ap (λ y. left_in y e) o ∙ cond-true (g.base == e.base) (g.len - e.next) 0 (eq-eqb g.base e.base (sym b))
+left_new found g e o n b =
+    ap (λ x. left_in (found x) e) b ∙ ap (λ y. left_in y e) o ∙ cond-true (g.base == e.base) (read_of g.kind (g.len - e.next)) 0 (eq-eqb g.base e.base (sym b))
+    ∙ ap (λ k. read_of k (g.len - e.next)) n
 
 -- what was unmarked is unmarked or newly marked
 pub newly_rest : (found : ℕ → Option Found) (k : ℕ) (old new : List Bool) → length new ≡ length old → ((i : ℕ) → Has old i → Has new i)

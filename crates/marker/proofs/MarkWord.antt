@@ -136,8 +136,8 @@ module _ (pages : ℕ) (found : ℕ → Option Found) (map : IsMap pages found) 
   }
 
   -- the words of an entry for all of the object
-  entry_words : left found (entry_of g) ≡ g.len - 0
-  entry_words = left_new found g (entry_of g) is refl
+  entry_words : g.kind ≡ Normal → left found (entry_of g) ≡ g.len - 0
+  entry_words normal = left_new found g (entry_of g) is normal refl
 
   by_awaits : Awaits g old new → Extends found old new
   by_awaits (pointer_free k s d) =
@@ -154,7 +154,7 @@ module _ (pages : ℕ) (found : ℕ → Option Found) (map : IsMap pages found) 
       }))
       (let a : sum_by page_words new.dirty ≡ sum_by page_words old.dirty = ap (sum_by page_words) d in
       let l : sum_by (left found) new.stack ≡ sum_by (left found) old.stack + (0 + left found (entry_of g)) = ap (sum_by (left found)) s ∙ sum_by-append (left found) old.stack (entry_of g ∷ []) in
-      let m = entry_words in let c = words_covered pages g (map.placed _ g is) in omega arith)
+      let m = entry_words k in let c = words_covered pages g (map.placed _ g is) in omega arith)
   by_awaits (dirtied k full s d) =
       extends_by d.len (subst (IsBelow old.stack) (sym s) (below_refl old.stack)) d.more
       (λ p h. ⊎_elim (λ o. inl o) (λ (r : (page_of g.base ≤ p) × (p < last_page g + 1)). let r0 = r.0 in let r1 = r.1 in inr (r0, omega arith)) (d.others p h))

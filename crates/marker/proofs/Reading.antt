@@ -75,8 +75,8 @@ module _ (pages : ℕ) (found : ℕ → Option Found) (map : IsMap pages found) 
   less =
       let a = extends.cost in
       let f = x.fits in
-      let c : left found next ≡ x.object.len - next.next = left_new found x.object next x.live.object (sym x.live.base) in
-      let m : left_of found x.mid.current ≡ x.object.len - x.live.entry.next = ap (left_of found) mid_current ∙ left_new found x.object x.live.entry x.live.object (sym x.live.base) in
+      let c : left found next ≡ x.object.len - next.next = left_new found x.object next x.live.object x.live.normal (sym x.live.base) in
+      let m : left_of found x.mid.current ≡ x.object.len - x.live.entry.next = ap (left_of found) mid_current ∙ left_new found x.object x.live.entry x.live.object x.live.normal (sym x.live.base) in
       omega arith
 
   taken : TakesOff found words old new

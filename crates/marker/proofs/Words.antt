@@ -3,8 +3,8 @@ use Rattle.std.proofs.Common.{◌≡◌, ℕ, ◌+◌, ◌-◌, ◌*◌, ◌<◌
 use Rattle.std.specs.Prelude.{◌⊎◌}
 use Rattle.std.proofs.lemmas.Option.{same_Some}
 use Rattle.std.specs.Prelude.{drop, slice_range}
-use Rattle.std.proofs.lemmas.List.{take_more, ext_get_or, get_or-take, get_or-drop, length-drop, length-take-le}
-use Rattle.std.proofs.lemmas.List.FromFn.{map-range_with_len_more, length-map-range_with_len, get_or-map-range_with_len}
+use Rattle.std.proofs.lemmas.List.{ext_get_or, get_or-take, get_or-drop, length-drop, length-take-le}
+use Rattle.std.proofs.lemmas.List.FromFn.{length-map-range_with_len, get_or-map-range_with_len}
 use Rattle.std.proofs.lemmas.List.Elements.{Contains-append_left, Contains-append_right, Contains-append_cases}
 use Rattle.words.specs.declared.class.Kind.TheVariants.{Normal}
 use Rattle.words.specs.declared.limits.TheConstants.{PAGE_GRANULES}
@@ -41,16 +41,6 @@ pub words_append : (found : ℕ → Option Found) (a : Marking) (ws : List ℕ) 
 words_append found a ws b x begun = subst (λ l. MarksWords found a l b) (sym (append-nil ws)) x
 words_append found a ws b x (and_word {ws = vs} {w = v} {new = c} y z) =
     subst (λ l. MarksWords found a l c) (append_assoc ws vs (v ∷ [])) (and_word (words_append found a ws b x y) z)
-
--- one root more
-pub words_taken : (found : ℕ → Option Found) (old m new : Marking) (roots : List ℕ) (i : ℕ) → i < length roots → MarksWords found old (take i roots) m → MarksWord found (get_or roots i 0) m new → MarksWords found old (take (i + 1) roots) new
-words_taken found old m new roots i lt x y = subst (λ l. MarksWords found old l new) (sym (take_more roots i 0 lt)) (and_word x y)
-
--- one word of an object more
-pub words_more : (found : ℕ → Option Found) (words : List ℕ) (f : Found) (first n : ℕ) (old m new : Marking) → MarksWords found old (words_of words f first n) m
-    → MarksWord found (word_at words (word_address f (first + n))) m new → MarksWords found old (words_of words f first (n + 1)) new
-words_more found words f first n old m new x y =
-    subst (λ l. MarksWords found old l new) (sym (map-range_with_len_more (λ i. word_at words (word_address f i)) first n (first + n) refl)) (and_word x y)
 
 -- the words of an object from one of them on, as they lie in a row
 pub run_words : (words : List ℕ) (f : Found) (first n start : ℕ) → start ≡ word_address f first → 268435456 ≤ start → place start + n ≤ length words → slice_range words (place start) (place start + n) ≡ words_of words f first n

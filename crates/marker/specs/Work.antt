@@ -1,16 +1,24 @@
 -- How many heap words a marker may still have to read.
 use Rattle.std.specs.Prelude.{ℕ, ◌+◌, ◌-◌, ◌*◌, ◌==◌, Bool, true, false, List, [], ◌∷◌, Option, Some, None, sum_by, count_by, if◌then◌else◌}
+use Rattle.words.specs.declared.class.Kind.{Kind}
+use Rattle.words.specs.declared.class.Kind.TheVariants.{Normal, PointerFree}
 use Rattle.words.specs.declared.limits.TheConstants.{FIRST_ADDRESS, GRANULE_BYTES, PAGE_WORDS}
 use Rattle.block_map.specs.declared.found.Found.{Found}
 use Rattle.marker.specs.declared.entry.Entry.{Entry}
 use Rattle.marker.specs.Marking.{Marking, pages_of}
 
+-- how many of n words of an object are read: all of a Normal one's, and none of a pointer-free one's
+abbrev pub read_of : Kind → ℕ → ℕ
+read_of Normal n = n
+read_of PointerFree n = 0
+
 abbrev pub left_in : Option Found → Entry → ℕ
 left_in None e = 0
-left_in (Some f) e = if f.base == e.base then f.len - e.next else 0
+left_in (Some f) e = if f.base == e.base then read_of f.kind (f.len - e.next) else 0
 
--- The words that an entry has left: up to the end of the object that has its base now, whatever its mark and its
--- kind. An entry whose object was freed comes to life when its base is an object's again.
+-- The words that an entry has left: those up to the end of the Normal object that has its base now, marked or not, and
+-- none if there is no such object. An entry whose object was freed comes to life when its base is a Normal object's
+-- again.
 unfoldable pub left : (ℕ → Option Found) → Entry → ℕ
 left found e = left_in (found e.base) e
 

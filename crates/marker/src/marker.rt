@@ -17,7 +17,7 @@ use arrayvec::ArrayVec;
 use block_map::{BlockMap, Found};
 use dirty_pages::DirtyPages;
 use mark_bits::{Marks, granule_of};
-use pages::{Reader, is_page_count};
+use pages::{Reader, Words, is_page_count};
 use std::alloc::Global;
 use std::marker::Model;
 use words::limits::{FIRST_ADDRESS, MARK_STACK_ENTRIES, PAGE_BYTES, WORD_BYTES};
@@ -159,16 +159,16 @@ impl Marker {
         }
     }
 
-    // Marks what words point into. They lie in a slice of their own, so that nothing which is marked between two of them can move them.
+    // Marks what words point into. No mark between two of them can move them, since they lie in a row of their own.
     #[inline]
-    fn mark_all(&mut self, map: &BlockMap, heap_bytes: u64, words: &[u64])
+    fn mark_all(&mut self, map: &BlockMap, heap_bytes: u64, words: Words)
         requires pages { length self.old.dirty ≡ length map.now }
         requires lawful { IsLawful map.now }
         requires bytes { heap_bytes ≡ PAGE_BYTES * length map.now }
-        ensures { MarksWords (found_in map.now) self.old words.now self.new }
+        ensures { MarksWords (found_in map.now) self.old words.entry self.new }
     {
         for word in words {
-            self.mark_word(map, heap_bytes, *word);
+            self.mark_word(map, heap_bytes, word);
         }
     }
 
@@ -210,6 +210,6 @@ impl Marker {
     {
         self.laws();
         let heap_bytes = heap_bytes(map);
-        self.mark_all(map, heap_bytes, roots);
+        self.mark_all(map, heap_bytes, Words::new(roots));
     }
 }

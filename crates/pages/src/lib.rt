@@ -7,9 +7,11 @@ mod memory;
 mod opening;
 mod pool;
 mod reader;
+mod run;
 
 pub use count::Count;
 pub use memory::Memory;
 pub use opening::is_page_count;
 pub use pool::PagePool;
 pub use reader::Reader;
+pub use run::Words;

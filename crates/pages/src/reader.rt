@@ -1,10 +1,12 @@
-//! Reads of the heap that contracts count. A reader lends no word that it doesn't count, and costs nothing when it runs.
+//! Reads of the heap that contracts count. A reader lends no memory, counts each word that it gives, and costs nothing
+//! when it runs.
 ghost use Rattle.std.specs.Prelude.{◌≡◌, ◌+◌, ◌≤◌, length, slice_range};
 ghost use Rattle.words.specs.declared.limits.TheConstants.{FIRST_ADDRESS};
 ghost use Rattle.pages.specs.Memory.{IsWordAddress, place, word_at};
 
 use crate::count::Count;
 use crate::memory::Memory;
+use crate::run::Words;
 use std::marker::Model;
 
 /// A reader of a heap's words. Contracts see the words, and how many reads it has made.
@@ -55,18 +57,18 @@ impl<'a> Reader<'a> {
         self.memory.read(address)
     }
 
-    /// So many words, from an address on. Each is counted as a read; the loop that counts them has no code.
+    /// So many words, from an address on, each of them to be had once. All are counted here, by a loop that has no code.
     #[inline]
-    pub fn read_run(&mut self, address: u64, count: u64) -> &'a [u64]
+    pub fn read_run(&mut self, address: u64, count: u64) -> Words<'a>
         requires above { FIRST_ADDRESS ≤ address }
         requires inside { place address + count ≤ length self.old.words }
-        ensures run { result.now ≡ slice_range self.old.words (place address) (place address + count) }
+        ensures run { result ≡ slice_range self.old.words (place address) (place address + count) }
         ensures words { self.new.words ≡ self.old.words }
         ensures counted { self.new.reads ≡ self.old.reads + count }
     {
         for _ in 0..count {
             self.count_one();
         }
-        self.memory.run(address, count)
+        Words::new(self.memory.run(address, count))
     }
 }

@@ -1,7 +1,6 @@
-use Rattle.std.proofs.Common.{take}
 use Rattle.block_map.specs.FoundIn.{found_in}
 use Rattle.marker.specs.Growth.{MarksWords}
 use Rattle.marker.proofs.marker.Marker.mark_all.Given as goal
 
 abbrev pub invariant-loop-word : goal.invariant-loop-word
-invariant-loop-word l = MarksWords (found_in l.map) l.initial.self (take l.word-index l.words) l.self
+invariant-loop-word l = MarksWords (found_in l.map) l.initial.self l.yielded l.self
