@@ -27,8 +27,8 @@ fn run_lines<R: Source, W: Sink>(
     requires pages { pages ≤ MAX_PAGES }
     requires new { IsNew pages core.old }
     requires empty { buffer.old ≡ [] }
-    ensures serves { (input held : List ℕ) → R.remaining reader.old ≡ Some input → W.written writer.old ≡ Some held
-        → Serves pages input held (R.remaining reader.new) (W.written writer.new) result }
+    ensures serves { (input : List ℕ) → R.remaining reader.old ≡ Some input
+        → Serves pages input (R.remaining reader.new) (W.written writer.old) (W.written writer.new) result }
     ensures reader { R.faults reader.new ≡ R.faults reader.old + read_faults result }
     ensures writer { W.faults writer.new ≡ W.faults writer.old + write_faults result }
 {
@@ -69,9 +69,9 @@ pub fn run_script<R: Source, W: Sink>(
 ) -> Result<(), ScriptError>
     requires some { 1 ≤ pages }
     requires most { pages ≤ MAX_PAGES }
-    // What is written answers what is read, wherever both tell their bytes.
-    ensures serves { (input held : List ℕ) → R.remaining reader.old ≡ Some input → W.written writer.old ≡ Some held
-        → Serves pages input held (R.remaining reader.new) (W.written writer.new) result }
+    // What is written answers what is read, wherever the reader tells its bytes.
+    ensures serves { (input : List ℕ) → R.remaining reader.old ≡ Some input
+        → Serves pages input (R.remaining reader.new) (W.written writer.old) (W.written writer.new) result }
     ensures reader { R.faults reader.new ≡ R.faults reader.old + read_faults result }
     ensures writer { W.faults writer.new ≡ W.faults writer.old + write_faults result }
 {
@@ -88,7 +88,7 @@ pub fn run_script<R: Source, W: Sink>(
 pub fn run_bytes(alloc: Global, script: &[u8], pages: u32) -> (Vec<u8>, Result<(), ScriptError>)
     requires some { 1 ≤ pages }
     requires most { pages ≤ MAX_PAGES }
-    ensures serves { (left : List ℕ) × Serves pages script.now [] (Some left) (Some result.0.items) result.1 }
+    ensures serves { (left : List ℕ) × Serves pages script.now (Some left) (Some []) (Some result.0.items) result.1 }
     ensures no_read_fault { read_faults result.1 ≡ 0 }
 {
     let mut reader = script;
