@@ -6,3 +6,4 @@ pub mod Texts
 pub mod Inputs
 pub mod Cores
 pub mod Serving
+pub mod InMemory

@@ -64,3 +64,16 @@ pub record Serves (pages : ℕ) (input : List ℕ) (reader : Option (List ℕ)) 
   pub is_left : reader ≡ Some left
   pub is_written : Appends old new wrote
   pub answered : IsAnswered pages read left result wrote
+
+-- What stands written after each result, for a script that is at hand as bytes, where what is written stays in memory.
+abbrev pub AnswersBytes : ℕ → List ℕ → List ℕ → Result ⊤ ScriptError → Type 0
+-- an out that answers all lines
+AnswersBytes pages script wrote (Ok done) = Answers pages (lines_of script) wrote
+-- an out that answers the n - 1 lines before the bad one
+AnswersBytes pages script wrote (Err (BadLine n)) = Answers pages (take (n - 1) (lines_of script)) wrote × HasBadLine script n
+-- no read fails
+AnswersBytes pages script wrote (Err Read) = ⊥
+-- and no write
+AnswersBytes pages script wrote (Err Write) = ⊥
+-- nothing, or a beginning of an out that answers some of the first lines
+AnswersBytes pages script wrote (Err Memory) = (wrote ≡ []) ⊎ BeginsAnswer pages (lines_of script) wrote
