@@ -2,6 +2,7 @@ pub mod Bytes
 pub mod Decimals
 pub mod Splitting
 pub mod FirstWords
+pub mod Turns
 pub mod Texts
 pub mod Inputs
 pub mod Cores

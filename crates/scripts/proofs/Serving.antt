@@ -19,7 +19,8 @@ use Rattle.scripts.specs.Lines.{newline, IsShort, lines_of, whole_lines_of}
 use Rattle.scripts.specs.Reading.{left_of, IsPlain, IsLineRead}
 use Rattle.scripts.specs.Printing.{reply_line, printed}
 use Rattle.scripts.specs.Answers.{Answers, BeginsAnswer, IsAnswered, Serves}
-use Rattle.scripts.specs.Turns.{IsRun, IsTurn, HasRun, IsUpTo, text_of}
+use Rattle.scripts.specs.Turns.{IsRun, IsTurn, text_of}
+use Rattle.scripts.proofs.Turns.{HasRun, IsUpTo}
 use Rattle.scripts.proofs.Cores.{follows_fresh, no_calls, call_on}
 use Rattle.scripts.proofs.Bytes.{Appends-none, Appends-more, Consumes-none, Consumes-more}
 use Rattle.scripts.proofs.Inputs.{zip_push, length-push, known, at_end, no_buffer, no_left, more_lines, last_line, all_short}
