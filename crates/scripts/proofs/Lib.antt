@@ -2,7 +2,9 @@ pub mod Bytes
 pub mod Decimals
 pub mod Splitting
 pub mod FirstWords
+pub mod Turns
 pub mod Texts
 pub mod Inputs
 pub mod Cores
 pub mod Serving
+pub mod InMemory

@@ -1,6 +1,6 @@
 -- A run of lines is answered: one line more, and each way to end.
 use Rattle.std.proofs.Common.{◌≡◌, ℕ, ◌+◌, ◌-◌, ◌<◌, ◌≤◌, List, [], ◌∷◌, ◌++◌, length, take, map, refl, sym, ap, ◌∙◌, subst, arith, append_assoc, inl, inr, suc}
-use Rattle.std.specs.Prelude.{Option, Some, None, Result, Ok, Err, slice_get, ⊤, ◌⊎◌}
+use Rattle.std.specs.Prelude.{Option, Some, Result, Ok, Err, slice_get, ⊤, ◌⊎◌}
 use Rattle.std.specs.List.{AllZip}
 use Rattle.std.specs.Io.KnownBytes.{Consumes, Appends, IsAtEnd}
 use Rattle.std.proofs.lemmas.List.{map_push, append-nil}
@@ -19,7 +19,8 @@ use Rattle.scripts.specs.Lines.{newline, IsShort, lines_of, whole_lines_of}
 use Rattle.scripts.specs.Reading.{left_of, IsPlain, IsLineRead}
 use Rattle.scripts.specs.Printing.{reply_line, printed}
 use Rattle.scripts.specs.Answers.{Answers, BeginsAnswer, IsAnswered, Serves}
-use Rattle.scripts.specs.Turns.{IsRun, IsTurn, HasRun, IsUpTo, text_of}
+use Rattle.scripts.specs.Turns.{IsRun, IsTurn, text_of}
+use Rattle.scripts.proofs.Turns.{HasRun, IsUpTo}
 use Rattle.scripts.proofs.Cores.{follows_fresh, no_calls, call_on}
 use Rattle.scripts.proofs.Bytes.{Appends-none, Appends-more, Consumes-none, Consumes-more}
 use Rattle.scripts.proofs.Inputs.{zip_push, length-push, known, at_end, no_buffer, no_left, more_lines, last_line, all_short}
@@ -75,29 +76,21 @@ answers pages core lines out r few = record {
   prints = r.prints;
 }
 
-holds : (held out : List ℕ) (w0 w : Option (List ℕ)) → w0 ≡ Some held → Appends w0 w out → w ≡ Some (held ++ out)
-holds held out w0 w tells wrote =
-    let P : Option (List ℕ) → Type 0 = λ x. Appends x w out in by_rest w (subst P tells wrote)
-  where
-    by_rest : (v : Option (List ℕ)) → Appends (Some held) v out → v ≡ Some (held ++ out)
-    by_rest None h = absurd h
-    by_rest (Some x) h = ap Some h
-
 -- each end, from what is known of the input
-serves : (pages : ℕ) (input held b0 buffer text out : List ℕ) (rem0 rem w0 w : Option (List ℕ)) (result : Result ⊤ ScriptError) → b0 ≡ [] → rem0 ≡ Some input → w0 ≡ Some held
+serves : (pages : ℕ) (input b0 buffer text out : List ℕ) (rem0 rem w0 w : Option (List ℕ)) (result : Result ⊤ ScriptError) → b0 ≡ [] → rem0 ≡ Some input
     → Consumes (left_of b0 rem0) (left_of buffer rem) text → Appends w0 w out
-    → ((left : List ℕ) → rem ≡ Some left → IsAnswered pages (text ++ buffer) left result out) → Serves pages input held rem w result
-serves pages input held b0 buffer text out rem0 rem w0 w result none tells_input tells_held reads wrote answered =
-    let k = known input b0 buffer text rem0 rem none tells_input reads in
-    record { read = text ++ buffer; left = k.left; wrote = out; is_input = k.is_input; is_left = k.is_left; is_held = holds held out w0 w tells_held wrote; answered = answered k.left k.is_left }
+    → ((left : List ℕ) → rem ≡ Some left → IsAnswered pages (text ++ buffer) left result out) → Serves pages input rem w0 w result
+serves pages input b0 buffer text out rem0 rem w0 w result none tells reads wrote answered =
+    let k = known input b0 buffer text rem0 rem none tells reads in
+    record { read = text ++ buffer; left = k.left; wrote = out; is_input = k.is_input; is_left = k.is_left; is_written = wrote; answered = answered k.left k.is_left }
 
 -- the run came to the end of the input
-pub end_serves : (pages number : ℕ) (core : Contents) (input held b0 buffer buffer' : List ℕ) (rem0 rem rem' w0 w : Option (List ℕ)) (done : ⊤) → number ≤ LAST_LINE → b0 ≡ [] → rem0 ≡ Some input → w0 ≡ Some held
-    → IsUpTo pages number core (left_of b0 rem0) (left_of buffer rem) w0 w → Consumes (left_of buffer rem) (left_of buffer' rem') [] → IsAtEnd (left_of buffer' rem') → Serves pages input held rem' w (Ok done)
-end_serves pages number core input held b0 buffer buffer' rem0 rem rem' w0 w done few none tells_input tells_held u reads end =
+pub end_serves : (pages number : ℕ) (core : Contents) (input b0 buffer buffer' : List ℕ) (rem0 rem rem' w0 w : Option (List ℕ)) (done : ⊤) → number ≤ LAST_LINE → b0 ≡ [] → rem0 ≡ Some input
+    → IsUpTo pages number core (left_of b0 rem0) (left_of buffer rem) w0 w → Consumes (left_of buffer rem) (left_of buffer' rem') [] → IsAtEnd (left_of buffer' rem') → Serves pages input rem' w0 w (Ok done)
+end_serves pages number core input b0 buffer buffer' rem0 rem rem' w0 w done few none tells u reads end =
     let lines = u.lines in
     let same : text_of lines ++ [] ≡ text_of lines = append-nil (text_of lines) in
-    serves pages input held b0 buffer' (text_of lines ++ []) u.out rem0 rem' w0 w (Ok done) none tells_input tells_held
+    serves pages input b0 buffer' (text_of lines ++ []) u.out rem0 rem' w0 w (Ok done) none tells
     (Consumes-more _ _ _ (text_of lines) [] u.read reads) u.wrote
     (λ left is. let e = at_end buffer' left rem' is end in
     let all : lines_of ((text_of lines ++ []) ++ buffer') ≡ lines
@@ -116,14 +109,14 @@ bad_answered pages number core lines more bad out read left few count run is why
     (subst P (sym front) (answers pages core lines out run (omega (arith, count))), record { line = bad; counted = omega (arith, count); is_line = there; bad = why })
 
 -- a line that is too long
-pub too_long_serves : (pages number : ℕ) (core : Contents) (input held b0 buffer buffer' line : List ℕ) (rem0 rem rem' w0 w : Option (List ℕ)) → number ≤ LAST_LINE → b0 ≡ [] → rem0 ≡ Some input → w0 ≡ Some held
-    → IsUpTo pages number core (left_of b0 rem0) (left_of buffer rem) w0 w → IsPlain line → IsLineRead TooLong line (left_of buffer rem) (left_of buffer' rem') → Serves pages input held rem' w (Err (BadLine number))
-too_long_serves pages number core input held b0 buffer buffer' line rem0 rem rem' w0 w few none tells_input tells_held u plain found =
+pub too_long_serves : (pages number : ℕ) (core : Contents) (input b0 buffer buffer' line : List ℕ) (rem0 rem rem' w0 w : Option (List ℕ)) → number ≤ LAST_LINE → b0 ≡ [] → rem0 ≡ Some input
+    → IsUpTo pages number core (left_of b0 rem0) (left_of buffer rem) w0 w → IsPlain line → IsLineRead TooLong line (left_of buffer rem) (left_of buffer' rem') → Serves pages input rem' w0 w (Err (BadLine number))
+too_long_serves pages number core input b0 buffer buffer' line rem0 rem rem' w0 w few none tells u plain found =
     let lines = u.lines in
     let front : List ℕ = line ++ found.0 ∷ [] in
     let long : length front ≡ LINE_BYTES + 1 = length-push line found.0 ∙ ap (λ n. n + 1) found.3 in
     let no : IsPlain front = All-push (λ b. b ≡ newline → ⊥) line found.0 plain found.2 in
-    serves pages input held b0 buffer' (text_of lines ++ front) u.out rem0 rem' w0 w (Err (BadLine number)) none tells_input tells_held
+    serves pages input b0 buffer' (text_of lines ++ front) u.out rem0 rem' w0 w (Err (BadLine number)) none tells
     (Consumes-more _ _ _ (text_of lines) front u.read found.1) u.wrote
     (λ left is. let first = first_line front (buffer' ++ left) no (omega (arith, long)) in
     bad_answered pages number core lines first.lines first.line u.out ((text_of lines ++ front) ++ buffer') left few u.count u.run
@@ -131,11 +124,11 @@ too_long_serves pages number core input held b0 buffer buffer' line rem0 rem rem
     (inl (λ command l. let short = l.short in let h = first.long in omega (arith, short, h, long))))
 
 -- the reader failed within a line
-pub read_serves : (pages number : ℕ) (core : Contents) (input held b0 buffer buffer' part : List ℕ) (rem0 rem rem' w0 w : Option (List ℕ)) → IsShort part → number ≤ LAST_LINE → b0 ≡ [] → rem0 ≡ Some input → w0 ≡ Some held
-    → IsUpTo pages number core (left_of b0 rem0) (left_of buffer rem) w0 w → IsPlain part → buffer' ≡ [] → Consumes (left_of buffer rem) (left_of buffer' rem') part → Serves pages input held rem' w (Err Read)
-read_serves pages number core input held b0 buffer buffer' part rem0 rem rem' w0 w short few none tells_input tells_held u plain empty reads =
+pub read_serves : (pages number : ℕ) (core : Contents) (input b0 buffer buffer' part : List ℕ) (rem0 rem rem' w0 w : Option (List ℕ)) → IsShort part → number ≤ LAST_LINE → b0 ≡ [] → rem0 ≡ Some input
+    → IsUpTo pages number core (left_of b0 rem0) (left_of buffer rem) w0 w → IsPlain part → buffer' ≡ [] → Consumes (left_of buffer rem) (left_of buffer' rem') part → Serves pages input rem' w0 w (Err Read)
+read_serves pages number core input b0 buffer buffer' part rem0 rem rem' w0 w short few none tells u plain empty reads =
     let lines = u.lines in
-    serves pages input held b0 buffer' (text_of lines ++ part) u.out rem0 rem' w0 w (Err Read) none tells_input tells_held
+    serves pages input b0 buffer' (text_of lines ++ part) u.out rem0 rem' w0 w (Err Read) none tells
     (Consumes-more _ _ _ (text_of lines) part u.read reads) u.wrote
     (λ left is. let all : whole_lines_of ((text_of lines ++ part) ++ buffer') ≡ lines
     = ap whole_lines_of (ap (λ b. (text_of lines ++ part) ++ b) empty ∙ append-nil (text_of lines ++ part)) ∙ whole_lines_of-text lines part u.run.plain plain in
@@ -174,68 +167,63 @@ write_answered pages number old new lines more line out o whole n few count run 
     }
 
 -- a line that was not answered in full
-pub fault_serves : (pages number : ℕ) (old new : Contents) (input held b0 buffer buffer' line : List ℕ) (rem0 rem rem' w0 w w' : Option (List ℕ)) (fault : ScriptError) → number < LAST_LINE → b0 ≡ [] → rem0 ≡ Some input → w0 ≡ Some held
+pub fault_serves : (pages number : ℕ) (old new : Contents) (input b0 buffer buffer' line : List ℕ) (rem0 rem rem' w0 w w' : Option (List ℕ)) (fault : ScriptError) → number < LAST_LINE → b0 ≡ [] → rem0 ≡ Some input
     → IsUpTo pages number old (left_of b0 rem0) (left_of buffer rem) w0 w → IsPlain line → IsLineRead Line line (left_of buffer rem) (left_of buffer' rem') → IsTurn pages number line old new w w' (Err fault)
-    → Serves pages input held rem' w' (Err fault)
-fault_serves pages number old new input held b0 buffer buffer' line rem0 rem rem' w0 w w' (BadLine n) few none tells_input tells_held u plain reads turn =
-    let P : ℕ → Type 0 = λ k. Serves pages input held rem' w' (Err (BadLine k)) in
+    → Serves pages input rem' w0 w' (Err fault)
+fault_serves pages number old new input b0 buffer buffer' line rem0 rem rem' w0 w w' (BadLine n) few none tells u plain reads turn =
+    let P : ℕ → Type 0 = λ k. Serves pages input rem' w0 w' (Err (BadLine k)) in
     let text : List ℕ = text_of u.lines ++ (line ++ newline ∷ []) in
-    subst P (sym turn.0) (serves pages input held b0 buffer' text (u.out ++ []) rem0 rem' w0 w' (Err (BadLine number)) none tells_input tells_held
+    subst P (sym turn.0) (serves pages input b0 buffer' text (u.out ++ []) rem0 rem' w0 w' (Err (BadLine number)) none tells
     (Consumes-more _ _ _ (text_of u.lines) (line ++ newline ∷ []) u.read reads) (Appends-more w0 w w' u.out [] u.wrote turn.2)
     (λ left is. let Q : List ℕ → Type 0 = λ o. IsAnswered pages (text ++ buffer') left (Err (BadLine number)) o in
     subst Q (sym (append-nil u.out)) (bad_answered pages number old u.lines (lines_of (buffer' ++ left)) line u.out (text ++ buffer') left (omega (arith, few)) u.count u.run (more_lines u.lines line buffer' left u.run.plain plain) (inl turn.1))))
-fault_serves pages number old new input held b0 buffer buffer' line rem0 rem rem' w0 w w' Write few none tells_input tells_held u plain reads turn =
+fault_serves pages number old new input b0 buffer buffer' line rem0 rem rem' w0 w w' Write few none tells u plain reads turn =
     let text : List ℕ = text_of u.lines ++ (line ++ newline ∷ []) in
-    serves pages input held b0 buffer' text (u.out ++ take turn.1 turn.0) rem0 rem' w0 w' (Err Write) none tells_input tells_held
+    serves pages input b0 buffer' text (u.out ++ take turn.1 turn.0) rem0 rem' w0 w' (Err Write) none tells
     (Consumes-more _ _ _ (text_of u.lines) (line ++ newline ∷ []) u.read reads) (Appends-more w0 w w' u.out (take turn.1 turn.0) u.wrote turn.3)
     (λ left is. write_answered pages number old new u.lines (lines_of (buffer' ++ left)) line u.out turn.0 ((text ++ buffer') ++ left) turn.1 few u.count u.run plain turn.2 (more_lines u.lines line buffer' left u.run.plain plain))
-fault_serves pages number old new input held b0 buffer buffer' line rem0 rem rem' w0 w w' Read few none tells_input tells_held u plain reads turn = absurd turn
-fault_serves pages number old new input held b0 buffer buffer' line rem0 rem rem' w0 w w' Memory few none tells_input tells_held u plain reads turn = absurd turn
+fault_serves pages number old new input b0 buffer buffer' line rem0 rem rem' w0 w w' Read few none tells u plain reads turn = absurd turn
+fault_serves pages number old new input b0 buffer buffer' line rem0 rem rem' w0 w w' Memory few none tells u plain reads turn = absurd turn
 
 -- the last line, which lacks its newline
-pub last_serves : (pages number : ℕ) (old new : Contents) (input held b0 buffer buffer' line : List ℕ) (rem0 rem rem' w0 w w' : Option (List ℕ)) (result : Result ⊤ ScriptError) → number < LAST_LINE → b0 ≡ [] → rem0 ≡ Some input → w0 ≡ Some held
+pub last_serves : (pages number : ℕ) (old new : Contents) (input b0 buffer buffer' line : List ℕ) (rem0 rem rem' w0 w w' : Option (List ℕ)) (result : Result ⊤ ScriptError) → number < LAST_LINE → b0 ≡ [] → rem0 ≡ Some input
     → IsUpTo pages number old (left_of b0 rem0) (left_of buffer rem) w0 w → IsPlain line → IsLineRead Last line (left_of buffer rem) (left_of buffer' rem') → IsTurn pages number line old new w w' result
-    → Serves pages input held rem' w' result
-last_serves pages number old new input held b0 buffer buffer' line rem0 rem rem' w0 w w' (Ok done) few none tells_input tells_held u plain found turn =
-    serves pages input held b0 buffer' (text_of u.lines ++ line) (u.out ++ turn.0) rem0 rem' w0 w' (Ok done) none tells_input tells_held
+    → Serves pages input rem' w0 w' result
+last_serves pages number old new input b0 buffer buffer' line rem0 rem rem' w0 w w' (Ok done) few none tells u plain found turn =
+    serves pages input b0 buffer' (text_of u.lines ++ line) (u.out ++ turn.0) rem0 rem' w0 w' (Ok done) none tells
     (Consumes-more _ _ _ (text_of u.lines) line u.read found.0) (Appends-more w0 w w' u.out turn.0 u.wrote turn.2)
     (λ left is. let e = at_end buffer' left rem' is found.1 in
     let all : lines_of ((text_of u.lines ++ line) ++ buffer') ≡ u.lines ++ line ∷ []
     = ap lines_of (ap (λ b. (text_of u.lines ++ line) ++ b) (no_buffer buffer' left e) ∙ append-nil (text_of u.lines ++ line)) ∙ lines_of-text u.lines line u.run.plain ∙ ap (λ ls. u.lines ++ ls) (lines_of-last line plain found.2) in
     let P : List (List ℕ) → Type 0 = λ ls. Answers pages ls (u.out ++ turn.0) in
     (subst P (sym all) (answers pages new (u.lines ++ line ∷ []) (u.out ++ turn.0) (run_on pages old new u.lines u.out line turn.0 u.run plain turn.1) (let h = length-push u.lines line in let c = u.count in omega (arith, h, c))), no_left buffer' left e))
-last_serves pages number old new input held b0 buffer buffer' line rem0 rem rem' w0 w w' (Err (BadLine n)) few none tells_input tells_held u plain found turn =
-    let P : ℕ → Type 0 = λ k. Serves pages input held rem' w' (Err (BadLine k)) in
-    subst P (sym turn.0) (serves pages input held b0 buffer' (text_of u.lines ++ line) (u.out ++ []) rem0 rem' w0 w' (Err (BadLine number)) none tells_input tells_held
+last_serves pages number old new input b0 buffer buffer' line rem0 rem rem' w0 w w' (Err (BadLine n)) few none tells u plain found turn =
+    let P : ℕ → Type 0 = λ k. Serves pages input rem' w0 w' (Err (BadLine k)) in
+    subst P (sym turn.0) (serves pages input b0 buffer' (text_of u.lines ++ line) (u.out ++ []) rem0 rem' w0 w' (Err (BadLine number)) none tells
     (Consumes-more _ _ _ (text_of u.lines) line u.read found.0) (Appends-more w0 w w' u.out [] u.wrote turn.2)
     (λ left is. let Q : List ℕ → Type 0 = λ o. IsAnswered pages ((text_of u.lines ++ line) ++ buffer') left (Err (BadLine number)) o in
     subst Q (sym (append-nil u.out)) (bad_answered pages number old u.lines [] line u.out _ left (omega (arith, few)) u.count u.run (last_line u.lines line buffer' left u.run.plain plain found.2 (at_end buffer' left rem' is found.1)) (inl turn.1))))
-last_serves pages number old new input held b0 buffer buffer' line rem0 rem rem' w0 w w' (Err Write) few none tells_input tells_held u plain found turn =
-    serves pages input held b0 buffer' (text_of u.lines ++ line) (u.out ++ take turn.1 turn.0) rem0 rem' w0 w' (Err Write) none tells_input tells_held
+last_serves pages number old new input b0 buffer buffer' line rem0 rem rem' w0 w w' (Err Write) few none tells u plain found turn =
+    serves pages input b0 buffer' (text_of u.lines ++ line) (u.out ++ take turn.1 turn.0) rem0 rem' w0 w' (Err Write) none tells
     (Consumes-more _ _ _ (text_of u.lines) line u.read found.0) (Appends-more w0 w w' u.out (take turn.1 turn.0) u.wrote turn.3)
     (λ left is. write_answered pages number old new u.lines [] line u.out turn.0 (((text_of u.lines ++ line) ++ buffer') ++ left) turn.1 few u.count u.run plain turn.2 (last_line u.lines line buffer' left u.run.plain plain found.2 (at_end buffer' left rem' is found.1)))
-last_serves pages number old new input held b0 buffer buffer' line rem0 rem rem' w0 w w' (Err Read) few none tells_input tells_held u plain found turn = absurd turn
-last_serves pages number old new input held b0 buffer buffer' line rem0 rem rem' w0 w w' (Err Memory) few none tells_input tells_held u plain found turn = absurd turn
+last_serves pages number old new input b0 buffer buffer' line rem0 rem rem' w0 w w' (Err Read) few none tells u plain found turn = absurd turn
+last_serves pages number old new input b0 buffer buffer' line rem0 rem rem' w0 w w' (Err Memory) few none tells u plain found turn = absurd turn
 
 -- a line of the last number
-pub last_number_serves : (pages : ℕ) (core : Contents) (input held b0 buffer buffer' line : List ℕ) (rem0 rem rem' w0 w : Option (List ℕ)) (found : LineRead) → b0 ≡ [] → rem0 ≡ Some input → w0 ≡ Some held
-    → IsUpTo pages LAST_LINE core (left_of b0 rem0) (left_of buffer rem) w0 w → IsPlain line → IsLineRead found line (left_of buffer rem) (left_of buffer' rem') → (found ≡ End → ⊥) → Serves pages input held rem' w (Err (BadLine LAST_LINE))
-last_number_serves pages core input held b0 buffer buffer' line rem0 rem rem' w0 w Line none tells_input tells_held u plain reads more =
-    serves pages input held b0 buffer' (text_of u.lines ++ (line ++ newline ∷ [])) u.out rem0 rem' w0 w (Err (BadLine LAST_LINE)) none tells_input tells_held
+pub last_number_serves : (pages : ℕ) (core : Contents) (input b0 buffer buffer' line : List ℕ) (rem0 rem rem' w0 w : Option (List ℕ)) (found : LineRead) → b0 ≡ [] → rem0 ≡ Some input
+    → IsUpTo pages LAST_LINE core (left_of b0 rem0) (left_of buffer rem) w0 w → IsPlain line → IsLineRead found line (left_of buffer rem) (left_of buffer' rem') → (found ≡ End → ⊥) → Serves pages input rem' w0 w (Err (BadLine LAST_LINE))
+last_number_serves pages core input b0 buffer buffer' line rem0 rem rem' w0 w Line none tells u plain reads more =
+    serves pages input b0 buffer' (text_of u.lines ++ (line ++ newline ∷ [])) u.out rem0 rem' w0 w (Err (BadLine LAST_LINE)) none tells
     (Consumes-more _ _ _ (text_of u.lines) (line ++ newline ∷ []) u.read reads) u.wrote
     (λ left is. bad_answered pages LAST_LINE core u.lines (lines_of (buffer' ++ left)) line u.out _ left (omega arith) u.count u.run (more_lines u.lines line buffer' left u.run.plain plain) (inr refl))
-last_number_serves pages core input held b0 buffer buffer' line rem0 rem rem' w0 w Last none tells_input tells_held u plain found more =
-    serves pages input held b0 buffer' (text_of u.lines ++ line) u.out rem0 rem' w0 w (Err (BadLine LAST_LINE)) none tells_input tells_held
+last_number_serves pages core input b0 buffer buffer' line rem0 rem rem' w0 w Last none tells u plain found more =
+    serves pages input b0 buffer' (text_of u.lines ++ line) u.out rem0 rem' w0 w (Err (BadLine LAST_LINE)) none tells
     (Consumes-more _ _ _ (text_of u.lines) line u.read found.0) u.wrote
     (λ left is. bad_answered pages LAST_LINE core u.lines [] line u.out _ left (omega arith) u.count u.run (last_line u.lines line buffer' left u.run.plain plain found.2 (at_end buffer' left rem' is found.1)) (inr refl))
-last_number_serves pages core input held b0 buffer buffer' line rem0 rem rem' w0 w End none tells_input tells_held u plain found more = absurd (more refl)
-last_number_serves pages core input held b0 buffer buffer' line rem0 rem rem' w0 w TooLong none tells_input tells_held u plain found more =
-    too_long_serves pages LAST_LINE core input held b0 buffer buffer' line rem0 rem rem' w0 w (omega arith) none tells_input tells_held u plain found
-
--- memory was refused before anything was read
-pub memory_serves : (pages : ℕ) (input held : List ℕ) (rem0 w0 : Option (List ℕ)) → rem0 ≡ Some input → w0 ≡ Some held → Serves pages input held rem0 w0 (Err Memory)
-memory_serves pages input held rem0 w0 tells_input tells_held =
-    record { read = []; left = input; wrote = []; is_input = refl; is_left = tells_input; is_held = tells_held ∙ ap Some (sym (append-nil held)); answered = (refl, refl) }
+last_number_serves pages core input b0 buffer buffer' line rem0 rem rem' w0 w End none tells u plain found more = absurd (more refl)
+last_number_serves pages core input b0 buffer buffer' line rem0 rem rem' w0 w TooLong none tells u plain found more =
+    too_long_serves pages LAST_LINE core input b0 buffer buffer' line rem0 rem rem' w0 w (omega arith) none tells u plain found
 
 -- before the first line
 pub starts : (pages : ℕ) (core : Contents) (left w : Option (List ℕ)) → IsNew pages core → IsUpTo pages 1 core left left w w

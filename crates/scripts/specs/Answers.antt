@@ -1,6 +1,7 @@
 -- What a script's lines are answered.
 use Rattle.std.specs.Prelude.{◌≡◌, ℕ, ◌-◌, ◌<◌, ◌⊎◌, Option, Some, List, [], ◌++◌, length, take, map, All, slice_get, Result, Ok, Err, ⊤}
 use Rattle.std.specs.List.{AllZip}
+use Rattle.std.specs.Io.KnownBytes.{Appends}
 use Rattle.heap_spec.specs.Runs.{Told, Run, Touched, fresh}
 use Rattle.heap_spec.specs.Transcripts.{LegalTranscript}
 use Rattle.heap_core.specs.Contents.{Contents}
@@ -53,13 +54,26 @@ IsAnswered pages read left (Err Write) wrote = BeginsAnswer pages (lines_of (rea
 -- nothing, and nothing was read
 IsAnswered pages read left (Err Memory) wrote = (wrote ≡ []) × (read ≡ [])
 
--- A run over a reader that tells that its bytes are the input, and a writer that tells that it holds these: what was read
--- and what is left are the input, and what was written stands behind what the writer held.
-pub record Serves (pages : ℕ) (input held : List ℕ) (reader writer : Option (List ℕ)) (result : Result ⊤ ScriptError) : Type 0 where
+-- A run over a reader that tells that its bytes are the input: what was read and what is left are the input, and what was written
+-- is what the answer says.
+pub record Serves (pages : ℕ) (input : List ℕ) (reader : Option (List ℕ)) (old new : Option (List ℕ)) (result : Result ⊤ ScriptError) : Type 0 where
   pub read : List ℕ
   pub left : List ℕ
   pub wrote : List ℕ
   pub is_input : input ≡ read ++ left
   pub is_left : reader ≡ Some left
-  pub is_held : writer ≡ Some (held ++ wrote)
+  pub is_written : Appends old new wrote
   pub answered : IsAnswered pages read left result wrote
+
+-- What stands written after each result, for a script that is at hand as bytes, where what is written stays in memory.
+abbrev pub AnswersBytes : ℕ → List ℕ → List ℕ → Result ⊤ ScriptError → Type 0
+-- an out that answers all lines
+AnswersBytes pages script wrote (Ok done) = Answers pages (lines_of script) wrote
+-- an out that answers the n - 1 lines before the bad one
+AnswersBytes pages script wrote (Err (BadLine n)) = Answers pages (take (n - 1) (lines_of script)) wrote × HasBadLine script n
+-- no read fails
+AnswersBytes pages script wrote (Err Read) = ⊥
+-- and no write
+AnswersBytes pages script wrote (Err Write) = ⊥
+-- nothing, or a beginning of an out that answers some of the first lines
+AnswersBytes pages script wrote (Err Memory) = (wrote ≡ []) ⊎ BeginsAnswer pages (lines_of script) wrote

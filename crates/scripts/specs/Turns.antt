@@ -1,21 +1,16 @@
--- A run of a script, line by line.
-use Rattle.std.specs.Prelude.{◌≡◌, ℕ, ◌+◌, Option, List, [], ◌∷◌, ◌++◌, length, take, map, flat_map, All, Result, Ok, Err, ⊤}
-use Rattle.std.specs.List.{AllZip}
-use Rattle.std.specs.Io.KnownBytes.{Consumes, Appends}
+-- What a line of a script leads to.
+use Rattle.std.specs.Prelude.{◌≡◌, ℕ, Option, List, [], ◌∷◌, ◌++◌, take, flat_map, Result, Ok, Err, ⊤}
+use Rattle.std.specs.Io.KnownBytes.{Appends}
 use Rattle.heap_spec.specs.declared.event.Event.{Event}
 use Rattle.heap_spec.specs.declared.reply.Reply.{Reply}
-use Rattle.heap_spec.specs.Runs.{Told, Run, Touched, fresh}
-use Rattle.heap_spec.specs.Transcripts.{LegalTranscript}
 use Rattle.heap_core.specs.Acts.{IsAct}
 use Rattle.heap_core.specs.Contents.{Contents}
-use Rattle.heap_core.specs.Following.{Follows, IsLine}
+use Rattle.heap_core.specs.Following.{IsLine}
 use Rattle.scripts.specs.declared.errors.ScriptError.{ScriptError}
 use Rattle.scripts.specs.declared.errors.ScriptError.TheVariants.{BadLine, Read, Write, Memory}
-use Rattle.scripts.specs.Cores.{AreCallsOfNew}
 use Rattle.scripts.specs.Grammar.{IsLineOf, IsBad}
 use Rattle.scripts.specs.Lines.{newline}
-use Rattle.scripts.specs.Reading.{IsPlain}
-use Rattle.scripts.specs.Printing.{reply_line, printed}
+use Rattle.scripts.specs.Printing.{reply_line}
 
 -- The line is a command's, the core was called so, and its reply prints so.
 pub record IsRun (pages : ℕ) (line : List ℕ) (old new : Contents) (out : List ℕ) : Type 0 where
@@ -37,23 +32,3 @@ IsTurn pages number line old new wrote writes (Err Memory) = ⊥
 -- lines, each with its newline
 abbrev pub text_of : List (List ℕ) → List ℕ
 text_of lines = flat_map (λ line. line ++ newline ∷ []) lines
-
--- Some lines were run and answered: what was read and written since the start, the transcript, and the core after it.
-pub record HasRun (pages : ℕ) (core : Contents) (lines : List (List ℕ)) (out : List ℕ) : Type 0 where
-  pub told : List Told
-  pub last : Run
-  pub plain : All IsPlain lines
-  pub commands : AllZip IsLineOf lines (map (λ (t : Told). t.event) told)
-  pub legal : LegalTranscript Touched (fresh pages) [] told last
-  pub calls : AreCallsOfNew pages told core
-  pub prints : out ≡ printed pages told
-  pub follows : Follows core (fresh pages) last
-
--- The lines before this number were run, since the start.
-pub record IsUpTo (pages number : ℕ) (core : Contents) (input left : Option (List ℕ)) (held written : Option (List ℕ)) : Type 0 where
-  pub lines : List (List ℕ)
-  pub out : List ℕ
-  pub run : HasRun pages core lines out
-  pub count : length lines + 1 ≡ number
-  pub read : Consumes input left (text_of lines)
-  pub wrote : Appends held written out

@@ -12,6 +12,6 @@ pub enum ScriptError {
     /// The writer failed.
     Write,
 
-    /// Memory was refused, before the first line.
+    /// Memory was refused. `run_script` takes all that it needs before the first line.
     Memory,
 }

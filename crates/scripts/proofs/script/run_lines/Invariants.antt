@@ -1,6 +1,6 @@
 use Rattle.std.proofs.Common.{◌≡◌}
 use Rattle.scripts.specs.Reading.{left_of}
-use Rattle.scripts.specs.Turns.{IsUpTo}
+use Rattle.scripts.proofs.Turns.{IsUpTo}
 use Rattle.scripts.proofs.script.run_lines.Given as goal
 
 abbrev pub invariant-loop-number : goal.invariant-loop-number

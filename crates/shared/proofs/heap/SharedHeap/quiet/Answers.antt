@@ -2,21 +2,23 @@ use Rattle.std.proofs.Common.{sym, ap, subst, ◌∙◌}
 use Rattle.history.specs.Histories.{Reaches}
 use Rattle.heap_spec.specs.SequentialObject.{Opens, StateStep}
 use Rattle.heap_history.specs.Passes.{HeapPass, is_marking as marks}
-use Rattle.shared.specs.Lending.{IsLent}
+use Rattle.shared.specs.Lending.{HasInvariant, IsLent}
 use Rattle.shared.proofs.Passing.{phase_is}
 use Rattle.shared.proofs.heap.SharedHeap.quiet.Goals as goal
 
 pub returns-clause-gives : goal.returns-clause-gives
 returns-clause-gives g c =
-    let st = c.object-object.ensures.stands in
+    let st = c.object.ensures.stands in
     let l = c.learn.ensures in
     let new = c.learn.new.logged in
     let phase = phase_is new.object st.state c.me.inside.pass c.learn.new.pass c.deref_mut-logged.result.now.history new.history l.pass (ap (λ x. x.history) l.logged) c.me.invariant l.agrees.owned st.reached st.stood_for in
     let seen = ap (λ x. x.history) l.logged ∙ sym (ap (λ (p : HeapPass). p.seen) l.pass) in
-    let lent : IsLent g.J.Naming.origin c.learn.new.pass.seen c.learn.new.logged.object c.quiet.new.self.object = record {
+    let lent : IsLent g.J.Naming.origin c.learn.new.pass.seen c.learn.new.logged.object c.quiet-answer.new.self.object = record {
       state = st.state;
       reached = subst (λ h. Reaches (Opens g.J.Naming.origin) StateStep h st.state) seen st.reached;
       stood_for = st.stood_for;
-      still = c.quiet.ensures.keeps st.state st.stood_for;
+      still = c.quiet-answer.ensures.keeps st.state st.stood_for;
+      invariant = subst HasInvariant c.object.ensures.object c.is_marking-before.ensures.invariant;
+      invariant_after = subst HasInvariant c.object-2.ensures.object c.is_marking-after.ensures.invariant;
     } in
-    (c.learn.new.logged.object, c.quiet.new.self.object, c.quiet.ensures.gives, phase ∙ ap (λ (p : HeapPass). marks p.mine) c.me.view_is, lent)
+    (c.learn.new.logged.object, c.quiet-answer.new.self.object, c.quiet-answer.ensures.gives, phase ∙ ap (λ (p : HeapPass). marks p.mine) c.me.view_is, lent)
