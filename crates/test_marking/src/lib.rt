@@ -23,6 +23,8 @@ mod overflow;
 #[cfg(test)]
 mod scene;
 #[cfg(test)]
+mod shares;
+#[cfg(test)]
 mod steps;
 #[cfg(test)]
 mod stores;

@@ -161,3 +161,16 @@ fn any_number_of_helpers_ends_it_alike(rt: HostRuntime) -> Result<(), Fail> {
     }
     Ok(())
 }
+
+// Where memory is refused once the heap is open, at whichever request, the replies are the usual ones. By itself this runs
+// with ample memory; `rt try --test --fail-alloc N` refuses the N-th request.
+#[test]
+fn refused_memory(rt: HostRuntime) -> Result<(), Fail> {
+    let Ok(opened) = open(rt.alloc(), 4) else {
+        return Ok(());
+    };
+    let helpers = Helpers::new(2).ok_or("two helpers")?;
+    let helped = end_cycles::<Brand, _>(&rt, rt.alloc(), opened, Some(helpers));
+    assert_eq!(rt; helped, WANTED);
+    Ok(())
+}

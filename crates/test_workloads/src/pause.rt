@@ -78,8 +78,9 @@ fn check_memory<R: Threads + Wait + Abort + Sync>(rt: &R, alloc: Global, output:
 /// Where memory or a thread is refused, the answer is that, and nothing is printed; where only the helpers' is, the pause goes on without
 /// them. By itself this runs with ample memory; `rt try --test --fail-alloc N` refuses the N-th request.
 #[test]
-fn refused_memory(rt: HostRuntime) -> Result<(), Fail> {
-    let mut output = Taken::new(rt.alloc())?;
+fn refused_memory(rt: HostRuntime) {
+    let Ok(mut output) = Taken::new(rt.alloc()) else {
+        return;
+    };
     check_memory(&rt, rt.alloc(), &mut output);
-    Ok(())
 }

@@ -1,4 +1,5 @@
-//! Threads that are refused. By itself this runs with threads enough; `tests/refused_threads.sh` refuses each thread in turn.
+//! Memory or threads that are refused. By itself this runs with ample memory and threads enough; `rt try --test --fail-alloc N` refuses
+//! the N-th request, and `tests/refused_threads.sh` each thread in turn.
 
 use crate::fakes::Taken;
 use crate::gates::Counts;
@@ -8,7 +9,6 @@ use std::alloc::{AllocError, Global};
 use std::process::Abort;
 use std::sync::Wait;
 use std::sync::atomic::Ordering;
-use std::test::Fail;
 use std::thread::Threads;
 use words::limits::{MAX_HELPERS, SLOTS};
 
@@ -56,15 +56,22 @@ fn check<R: Threads + Wait + Abort + Sync>(
     assert_eq!(rt; gate.ended.load(Ordering::SeqCst), began);
 }
 
-/// Where an actor's thread is refused, the answer is that, and nothing is printed; where a helper's is, the replies are the usual ones.
-/// Either way each call that began has ended.
-#[test]
-fn refused_thread(rt: HostRuntime) -> Result<(), Fail> {
-    let mut output = Taken::new(rt.alloc())?;
-    let mut lines = String::new(rt.alloc());
-    let mut replies = String::new(rt.alloc());
+// The lines and their replies, and where to print; none where memory is refused.
+fn texts(alloc: Global) -> Result<(String, String, Taken), AllocError> {
+    let output = Taken::new(alloc)?;
+    let mut lines = String::new(alloc);
+    let mut replies = String::new(alloc);
     put_all(&mut lines, &mut replies)?;
+    Ok((lines, replies, output))
+}
+
+/// Where memory or an actor's thread is refused, the answer is that, and nothing is printed; where only the helpers' is, the replies are
+/// the usual ones. Either way each call that began has ended.
+#[test]
+fn refused_thread(rt: HostRuntime) {
+    let Ok((lines, replies, mut output)) = texts(rt.alloc()) else {
+        return;
+    };
     let texts = (lines.as_str(), replies.as_str());
     check(&rt, rt.alloc(), texts, &mut output);
-    Ok(())
 }
