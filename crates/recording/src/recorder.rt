@@ -1,5 +1,6 @@
 //! A heap that is asked, and what its replies leave open.
 ghost use Rattle.std.specs.Prelude.{◌≡◌, ℕ, IfOk, IfErr, MatchOption, None};
+ghost use Rattle.heap_core.specs.Acts.{IsAct};
 ghost use Rattle.heap_core.specs.Following.{IsLine};
 ghost use Rattle.replayer.specs.declared.hint.Hint.TheVariants.{Place};
 ghost use Rattle.recording.specs.Noting.{IsNoted, IsWordOf, PlacesCall, PlacesEvent};
@@ -142,8 +143,9 @@ impl Recorder {
     /// # Errors
     /// If memory is refused, in which to note objects; the call was made, and what is noted from then on may lack some.
     pub fn act(&mut self, event: &Event) -> Result<Reply, AllocError>
+        ensures acts { IfOk result (λ reply. IsAct self.old.core event.now reply self.new.core) }
         ensures line { IfOk result (λ reply. IsNoted self.old event.now reply self.new) }
-        ensures made { IfErr result (λ error. (reply : Reply) × IsLine self.old.core event.now reply self.new.core) }
+        ensures made { IfErr result (λ error. (reply : Reply) × IsAct self.old.core event.now reply self.new.core × IsLine self.old.core event.now reply self.new.core) }
     {
         let reply = self.core.act(*event);
         self.place = None;
