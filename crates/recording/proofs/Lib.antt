@@ -1,1 +1,4 @@
+pub mod Sorts
+pub mod Knowing
 pub mod Placing
+pub mod Noting
