@@ -1,15 +1,22 @@
 -- Objects that are named by their bases are taken out of a core and of its heap.
-use Rattle.std.proofs.Common.{◌≡◌, ℕ, ◌*◌, ◌<◌, ◌≤◌, Bool, true, false, List, [], length, get_or, replicate, refl, sym, ap, ◌∙◌, subst, arith, ⊎_elim}
+use Rattle.std.proofs.Common.{◌≡◌, ℕ, ◌*◌, ◌<◌, ◌≤◌, Bool, true, false, eqb, List, [], length, get_or, replicate, refl, sym, ap, ◌∙◌, subst, arith, ⊎_elim}
 use Rattle.std.specs.Prelude.{Some, Contains, slice_get}
-use Rattle.std.proofs.lemmas.Bool.{true≢false}
+use Rattle.std.specs.Cmp.{nat_eq_equiv}
+use Rattle.std.proofs.lemmas.Bool.{true≢false, eqb-true, eq-eqb}
 use Rattle.std.proofs.lemmas.List.{length-replicate, get_or-replicate}
 use Rattle.std.proofs.lemmas.List.Elements.{All-contains, All-weaker}
+use Rattle.std.proofs.lemmas.List.Folds.{list_any-from_Any}
+use Rattle.std.proofs.lemmas.Map.Made.{length-le_from_is_member}
+use Rattle.std.proofs.lemmas.Map.Views.{Contains-from_any}
 use Rattle.std.proofs.lemmas.Option.{slice_get_within, slice_get-get_or}
 use Rattle.words.specs.declared.class.Kind.TheVariants.{Normal}
 use Rattle.words.specs.declared.limits.TheConstants.{PAGE_GRANULES}
 use Rattle.heap_spec.specs.Layout.{Reads}
 use Rattle.heap_spec.specs.Heap.{Heap, Object, HasObject, without}
+use Rattle.heap_spec.specs.declared.reply.Reply.{Reply}
+use Rattle.heap_spec.specs.declared.reply.Reply.TheVariants.{Count}
 use Rattle.heap_spec.specs.Closure.{Reached}
+use Rattle.heap_spec.specs.Cycles.{CollectsFully}
 use Rattle.roots.specs.Roots.{root_words_of}
 use Rattle.plain_core.specs.declared.extent.Extent.{Extent}
 use Rattle.plain_core.specs.Contents.{Contents, IsSound}
@@ -125,3 +132,23 @@ pub all_unset_as : (n k : ℕ) (marks marks' flags flags' : List Bool) → n ≡
 all_unset_as n k marks marks' flags flags' size m f all = record {
   unset = λ i lt is. ap (λ l. get_or l i false) (sym f) ∙ all.unset i (omega arith) (ap (λ l. get_or l i false) m ∙ is);
 }
+
+-- full collections of one heap take as many
+pub same_count : (s t t' : Heap) (a b : ℕ) → CollectsFully s (Count a) t → CollectsFully s (Count b) t' → a ≡ b
+same_count s t t' a b x y =
+    let less = few t t' (Count a) (Count b) x y in
+    let more = few t' t (Count b) (Count a) y x in
+    let here : a ≡ length x.bases = number a (length x.bases) x.takes.number in
+    let there : b ≡ length y.bases = number b (length y.bases) y.takes.number in
+    omega arith
+  where
+    number : (m n : ℕ) → Count m ≡ Count n → m ≡ n
+    number m n e = cc
+
+    goes : (u u' : Heap) (q q' : Reply) (x : CollectsFully s q u) (y : CollectsFully s q' u') (base : ℕ) → Contains x.bases base → Contains y.bases base
+    goes u u' q q' x y base among =
+        let o = All-contains (λ b. (o : Object) × HasObject s b o) x.bases base x.takes.objects among in y.all base o.0 o.1 (All-contains (λ b. Reached s b → ⊥) x.bases base x.takes.unreached among)
+
+    few : (u u' : Heap) (q q' : Reply) (x : CollectsFully s q u) (y : CollectsFully s q' u') → length x.bases ≤ length y.bases
+    few u u' q q' x y = length-le_from_is_member nat_eq_equiv x.bases y.bases x.takes.distinct
+        (λ n is. let has = goes u u' q q' x y n (Contains-from_any eqb-true n x.bases is) in list_any-from_Any (eqb n) y.bases (has.0, n, has.1, has.2, eq-eqb n n refl))

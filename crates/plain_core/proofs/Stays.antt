@@ -77,6 +77,11 @@ module _ (old : List Extent) (flags : List Bool) where
       let d : Extent = record { base = 0; kind = Normal; length = 0 } in
       kept_goes index stay row (get_or row index d) h lt (get_or_default row index d (get_or row index d) (let size = h.size in omega arith)) flag
 
+  pub kept_counts : (index stay : ℕ) (row : List Extent) (h : IsKept old flags index stay row) (lt : index < length old) → get_or flags index false ≡ true → (row' : List Extent) × IsKept old flags (index + 1) (stay + 1) row'
+  kept_counts index stay row h lt flag =
+      let d : Extent = record { base = 0; kind = Normal; length = 0 } in
+      (set row stay (get_or row index d), kept_stays index stay row (get_or row index d) h lt (get_or_default row index d (get_or row index d) (let size = h.size in omega arith)) flag)
+
   -- all were looked at
   pub kept_all : (index stay count : ℕ) (row : List Extent) → length old ≤ index → index ≡ count → IsKept old flags index stay row → (n : ℕ) → n + stay ≡ count → Parts old flags (take stay row) n
   kept_all index stay count row past is h n left = record {

@@ -11,6 +11,14 @@ use Rattle.plain_core.specs.Standing.{StandsFor}
 abbrev pub IsCollected : Contents → ℕ → Contents → Type 0
 IsCollected old count new = (s : Heap) → StandsFor old s → (s' : Heap) × CollectsFully s (Count count) s' × StandsFor new s'
 
+-- Of each heap that the core stands for so many objects are not reached.
+abbrev pub HasGarbage : Contents → ℕ → Type 0
+HasGarbage c count = (s : Heap) → StandsFor c s → (s' : Heap) × CollectsFully s (Count count) s'
+
+-- of no heap that the core stands for a full collection takes so many
+abbrev pub CantCollect : Contents → ℕ → Type 0
+CantCollect c count = (s : Heap) → StandsFor c s → (s' : Heap) → CollectsFully s (Count count) s' → ⊥
+
 -- every object that is not reached is among these
 abbrev pub HasUnreached : Heap → List ℕ → Type 0
 HasUnreached s bases = (base : ℕ) (o : Object) → HasObject s base o → (Reached s base → ⊥) → Contains bases base

@@ -1,6 +1,7 @@
 //! Objects go, and the others stay.
-ghost use Rattle.std.specs.Prelude.{◌≡◌, ◌≤◌, length};
+ghost use Rattle.std.specs.Prelude.{◌≡◌, ◌≤◌, List, length};
 ghost use Rattle.std.specs.Vec.{vec_capacity};
+ghost use Rattle.plain_core.specs.declared.extent.Extent.{Extent as ExtentValue};
 ghost use Rattle.plain_core.specs.Parting.{Parts};
 
 use crate::extent::Extent;
@@ -20,5 +21,20 @@ pub fn keep_flagged(objects: &mut Vec<Extent>, flags: &[bool]) -> usize
         }
     }
     objects.truncate(stay);
+    count - stay
+}
+
+/// How many objects there are whose flag isn't set.
+pub fn count_unflagged(objects: &[Extent], flags: &[bool]) -> usize
+    requires { length objects.now ≤ length flags.now }
+    ensures { (stay : List ExtentValue) × Parts objects.now flags.now stay result }
+{
+    let count = objects.len();
+    let mut stay = 0;
+    for index in 0..count {
+        if flags[index] {
+            stay += 1;
+        }
+    }
     count - stay
 }

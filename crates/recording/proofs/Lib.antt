@@ -1,1 +1,5 @@
+pub mod Sorts
+pub mod Knowing
 pub mod Placing
+pub mod Lines
+pub mod Noting

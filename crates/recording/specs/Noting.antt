@@ -1,14 +1,15 @@
 -- What is noted beside the reply to an event.
-use Rattle.std.specs.Prelude.{◌≡◌, ℕ, Option, Some, Result, Ok}
-use Rattle.words.specs.declared.class.Kind.{Kind}
+use Rattle.std.specs.Prelude.{◌≡◌, ◌<◌, ◌+◌, ◌++◌, ◌∷◌, [], ℕ, List, All, Contains, nat_eq, Result, Ok}
+use Rattle.std.specs.Borrow.{Bor}
+use Rattle.std.specs.List.{IsDistinct}
 use Rattle.words.specs.declared.refusal.Refusal.{Refusal}
 use Rattle.heap_spec.specs.declared.call.Call.{Call}
-use Rattle.heap_spec.specs.declared.call.Call.TheVariants.{Alloc, Get}
+use Rattle.heap_spec.specs.declared.call.Call.TheVariants.{Alloc, Free, Get}
 use Rattle.heap_spec.specs.declared.event.Event.{Event}
-use Rattle.heap_spec.specs.declared.event.Event.TheVariants.{Mutator}
+use Rattle.heap_spec.specs.declared.event.Event.TheVariants.{Mutator, Finish, Collect}
 use Rattle.heap_spec.specs.declared.reply.Reply.{Reply}
-use Rattle.heap_spec.specs.declared.reply.Reply.TheVariants.{Done}
-use Rattle.heap_spec.specs.Heap.{Heap}
+use Rattle.heap_spec.specs.Layout.{word_end}
+use Rattle.heap_spec.specs.Heap.{Heap, Object, HasObject}
 use Rattle.heap_spec.specs.Ranges.{IsRegister}
 use Rattle.heap_spec.specs.Replies.{word_reply}
 use Rattle.heap_spec.specs.Runs.{Start, Run, Touched, heap_after}
@@ -17,36 +18,68 @@ use Rattle.heap_spec.specs.Transcripts.{LineOf}
 use Rattle.heap_core.specs.Contents.{Contents as CoreContents}
 use Rattle.heap_core.specs.Calls.{IsCall}
 use Rattle.heap_core.specs.Following.{Follows}
-use Rattle.plain_core.specs.Answering.{IsBornAt}
-use Rattle.recording.specs.Contents.{Contents}
+use Rattle.replayer.specs.declared.hint.Hint.{Hint}
+use Rattle.replayer.specs.declared.hint.Hint.TheVariants.{Nothing, Place, Forgot}
+use Rattle.replayer.specs.Replays.{IsReplay}
+use Rattle.recording.specs.Contents.{Contents, Note, names_nothing, names_place, names_gone}
+use Rattle.recording.specs.Sorting.{SortsOut}
 
--- an object was born where the place says
-abbrev pub IsBornIn : Option ℕ → Heap → Heap → Type 0
-IsBornIn place s s' = (base : ℕ) × (place ≡ Some base) × IsBornAt s base s'
+-- The bases are those of the heap's objects, each once, and no other.
+pub record Knows (bases : List ℕ) (s : Heap) : Type 0 where
+  pub distinct : IsDistinct nat_eq bases
+  pub objects : All (λ b. (o : Object) × HasObject s b o) bases
+  pub all : (base : ℕ) (o : Object) → HasObject s base o → Contains bases base
 
--- If the event is a request that was granted, of a heap as runs have them, its object was born at the place.
-abbrev pub NamesPlace : Option ℕ → Event → Reply → Heap → Heap → Type 0
-NamesPlace place event reply s s' = (slot into words : ℕ) (kind : Kind) → event ≡ Mutator slot (Alloc into words kind) → reply ≡ Done → IsSound s → IsBornIn place s s'
+-- The heap is one that runs have, its objects are known, and one more can be counted.
+pub record IsKnown (bases : List ℕ) (s : Heap) : Type 0 where
+  pub sound : IsSound s
+  pub knows : Knows bases s
+  pub room : s.births + 1 < word_end
 
--- From each run that the core followed, the event with its reply is a line of a legal transcript to one that it follows, and
--- the place of a granted request is noted.
+-- the hint says what is noted
+abbrev pub IsHint : Note → Hint → Type 0
+IsHint names_nothing hint = hint ≡ Nothing
+IsHint (names_place base) hint = hint ≡ Place base
+IsHint (names_gone bases) hint = (slice : Bor (List ℕ)) × (hint ≡ Forgot slice) × (slice.now ≡ bases)
+
+-- How a run goes on by an event with its reply, as it is noted: by a line of a legal transcript, to a run that the new core
+-- follows. Where the objects were known it is what a yes of the checker means, with a hint that says what is noted, and they
+-- are known afterwards.
+pub record GoesOn (old : Contents) (event : Event) (reply : Reply) (new : Contents) (start : Start) (run next : Run) : Type 0 where
+  pub line : LineOf Touched start run event reply next
+  pub follows : Follows new.core start next
+  pub replay : IsKnown old.bases (heap_after start run) → (hint : Hint) → IsHint new.note hint → IsReplay hint start run event reply next
+  pub knows : IsKnown old.bases (heap_after start run) → Knows new.bases (heap_after start next)
+
+-- From each run that the core followed a run goes on so.
 abbrev pub IsNoted : Contents → Event → Reply → Contents → Type 0
-IsNoted old event reply new = (start : Start) (run : Run) → Follows old.core start run
-    → (next : Run) × LineOf Touched start run event reply next × Follows new.core start next × NamesPlace new.place event reply (heap_after start run) (heap_after start next)
+IsNoted old event reply new = (start : Start) (run : Run) → Follows old.core start run → (next : Run) × GoesOn old event reply new start run next
 
--- The place is the word of a register, if that has one.
-pub record IsWordOf (c : CoreContents) (slot into : ℕ) (place : Option ℕ) : Type 0 where
+-- The word of a register, if that has one, is noted as the place, and its object is known.
+pub record NotesWord (c : CoreContents) (slot into : ℕ) (old new : Contents) : Type 0 where
   pub range : IsRegister into
   pub answer : Result ℕ Refusal
   pub reads : IsCall c (Mutator slot (Get into)) (word_reply answer) c
-  pub word : (base : ℕ) → answer ≡ Ok base → place ≡ Some base
+  pub place : (base : ℕ) → answer ≡ Ok base → new.note ≡ names_place base
+  pub bases : (base : ℕ) → answer ≡ Ok base → new.bases ≡ old.bases ++ base ∷ []
 
--- of a request the place is the word of its register, and of another call it is the one before
-abbrev pub PlacesCall : CoreContents → ℕ → Call → Option ℕ → Option ℕ → Type 0
-PlacesCall c slot (Alloc into words kind) old new = IsWordOf c slot into new
-PlacesCall c slot _ old new = new ≡ old
+-- Of the objects that were known those are known that the core still keeps.
+abbrev pub KeepsSome : CoreContents → Contents → Contents → Type 0
+KeepsSome c old new = (gone : List ℕ) × SortsOut c old.bases new.bases gone
 
--- the same of an event
-abbrev pub PlacesEvent : CoreContents → Event → Option ℕ → Option ℕ → Type 0
-PlacesEvent c (Mutator slot call) old new = PlacesCall c slot call old new
-PlacesEvent c _ old new = new ≡ old
+-- Those that it no longer keeps are noted.
+abbrev pub NotesGone : CoreContents → Contents → Contents → Type 0
+NotesGone c old new = (gone : List ℕ) × SortsOut c old.bases new.bases gone × (new.note ≡ names_gone gone)
+
+-- of a request its object is noted, after a free some objects are known, and after another call all
+abbrev pub NotesCall : CoreContents → ℕ → Call → Contents → Contents → Type 0
+NotesCall c slot (Alloc into words kind) old new = NotesWord c slot into old new
+NotesCall c slot (Free r) old new = KeepsSome c old new
+NotesCall c slot _ old new = new.bases ≡ old.bases
+
+-- after a collection what is gone is noted, and after another event of the collector all objects are known
+abbrev pub NotesEvent : CoreContents → Event → Contents → Contents → Type 0
+NotesEvent c (Mutator slot call) old new = NotesCall c slot call old new
+NotesEvent c Finish old new = NotesGone c old new
+NotesEvent c Collect old new = NotesGone c old new
+NotesEvent c _ old new = new.bases ≡ old.bases

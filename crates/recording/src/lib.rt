@@ -5,5 +5,6 @@
 #![tactic(auto)]
 
 mod recorder;
+mod sorting;
 
 pub use recorder::Recorder;

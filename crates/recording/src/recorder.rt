@@ -1,15 +1,16 @@
 //! A heap that is asked, and what its replies leave open.
-ghost use Rattle.std.specs.Prelude.{◌≡◌, ℕ, IfOk, IfErr, MatchOption, None};
+ghost use Rattle.std.specs.Prelude.{◌≡◌, [], IfOk, IfErr};
+ghost use Rattle.heap_core.specs.Acts.{IsAct};
 ghost use Rattle.heap_core.specs.Following.{IsLine};
-ghost use Rattle.replayer.specs.declared.hint.Hint.TheVariants.{Place};
-ghost use Rattle.recording.specs.Noting.{IsNoted, IsWordOf, PlacesCall, PlacesEvent};
+ghost use Rattle.recording.specs.Contents.{names_nothing};
+ghost use Rattle.recording.specs.Noting.{IsHint, IsNoted, KeepsSome, NotesGone, NotesWord, NotesCall, NotesEvent};
 
+use crate::sorting::sort_out;
 use heap_core::Core;
 use heap_spec::{Call, Event, Reply};
 use replayer::Hint;
 use std::alloc::{AllocError, Global};
 use std::marker::Model;
-use std::mem::replace;
 use words::{Reg, Slot};
 
 /// A heap, the bases of its objects, and what the last event made of them.
@@ -24,18 +25,19 @@ pub struct Recorder {
 }
 
 impl Model for Recorder {
-    ghost use Rattle.recording.specs.Contents.{Contents};
+    ghost use Rattle.recording.specs.Contents.{Contents, note_of};
 
     ghost Value = { Contents };
 
-    ghost view = { λ r. record { core = r.core; place = r.place } };
+    ghost view = { λ r. record { core = r.core; bases = r.bases.items; note = note_of r.place r.has_collected r.gone.items } };
 }
 
 impl Recorder {
-    /// A recorder of a new heap.
+    /// A recorder that knows of no object: of a new heap it knows all.
     pub fn new(alloc: Global, core: Core) -> Recorder
         ensures core { result.core ≡ core }
-        ensures place { result.place ≡ None }
+        ensures bases { result.bases ≡ [] }
+        ensures note { result.note ≡ names_nothing }
     {
         Recorder {
             alloc,
@@ -47,41 +49,28 @@ impl Recorder {
         }
     }
 
-    // Whether the heap keeps an object with this base.
-    fn keeps(&self, base: u64) -> bool {
-        let Some(found) = self.core.kept_at(base) else {
-            return false;
-        };
-        found.base == base
-    }
-
-    // Notes an object that stayed, or is gone.
-    fn sort(&mut self, base: u64) -> Result<(), AllocError>
-        ensures { self.new ≡ self.old }
-    {
-        if self.keeps(base) {
-            self.bases.push(base)?;
-            return Ok(());
-        }
-        self.gone.push(base)?;
-        Ok(())
-    }
-
-    // Looks which objects are gone.
+    // Looks which objects the heap still keeps.
     fn sort_out(&mut self) -> Result<(), AllocError>
-        ensures { self.new ≡ self.old }
+        ensures core { self.new.core ≡ self.old.core }
+        ensures sorted { IfOk result (λ done. KeepsSome self.old.core self.old self.new) }
     {
-        let bases = replace(&mut self.bases, Vec::new(self.alloc));
-        for base in bases.iter() {
-            self.sort(*base)?;
-        }
-        Ok(())
+        sort_out(self.alloc, &self.core, &mut self.bases, &mut self.gone)
+    }
+
+    // Notes which objects are gone.
+    fn note_gone(&mut self) -> Result<(), AllocError>
+        ensures core { self.new.core ≡ self.old.core }
+        ensures gone { IfOk result (λ done. NotesGone self.old.core self.old self.new) }
+    {
+        self.place = None;
+        self.has_collected = true;
+        sort_out(self.alloc, &self.core, &mut self.bases, &mut self.gone)
     }
 
     // Notes the object that a request was granted.
     fn note_place(&mut self, slot: Slot, into: Reg) -> Result<(), AllocError>
         ensures core { self.new.core ≡ self.old.core }
-        ensures place { IsWordOf self.old.core slot into self.new.place }
+        ensures word { IfOk result (λ done. NotesWord self.old.core slot into self.old self.new) }
     {
         let Ok(base) = self.core.get(slot, into) else {
             return Ok(());
@@ -94,7 +83,7 @@ impl Recorder {
     // Notes what a call of a mutator left.
     fn note_call(&mut self, slot: Slot, call: &Call) -> Result<(), AllocError>
         ensures core { self.new.core ≡ self.old.core }
-        ensures place { PlacesCall self.old.core slot call.now self.old.place self.new.place }
+        ensures notes { IfOk result (λ done. NotesCall self.old.core slot call.now self.old self.new) }
     {
         match call {
             Call::Alloc(into, _, _) => self.note_place(slot, *into),
@@ -119,14 +108,11 @@ impl Recorder {
     // Notes what an event left that was not refused.
     fn note(&mut self, event: &Event) -> Result<(), AllocError>
         ensures core { self.new.core ≡ self.old.core }
-        ensures place { PlacesEvent self.old.core event.now self.old.place self.new.place }
+        ensures notes { IfOk result (λ done. NotesEvent self.old.core event.now self.old self.new) }
     {
         match event {
             Event::Mutator(slot, call) => self.note_call(*slot, call),
-            Event::Finish | Event::Collect => {
-                self.has_collected = true;
-                self.sort_out()
-            }
+            Event::Finish | Event::Collect => self.note_gone(),
             Event::Attach
             | Event::Begin
             | Event::Roots
@@ -137,17 +123,18 @@ impl Recorder {
         }
     }
 
-    /// Makes the call that an event is, and notes what its reply leaves open.
+    /// Makes the call that an event is, and notes what its reply leaves open: with the hint it is what a yes of the checker
+    /// means, as long as all objects were known before, and they are known afterwards.
     ///
     /// # Errors
-    /// If memory is refused, in which to note objects; the call was made, and what is noted from then on may lack some.
+    /// If memory is refused, in which to note objects; the call was made, and what is known from then on may lack some.
     pub fn act(&mut self, event: &Event) -> Result<Reply, AllocError>
+        ensures acts { IfOk result (λ reply. IsAct self.old.core event.now reply self.new.core) }
         ensures line { IfOk result (λ reply. IsNoted self.old event.now reply self.new) }
-        ensures made { IfErr result (λ error. (reply : Reply) × IsLine self.old.core event.now reply self.new.core) }
+        ensures made { IfErr result (λ error. (reply : Reply) × IsAct self.old.core event.now reply self.new.core × IsLine self.old.core event.now reply self.new.core) }
     {
         let reply = self.core.act(*event);
         self.place = None;
-        self.gone.clear();
         self.has_collected = false;
         let Reply::Refused(_) = reply else {
             self.note(event)?;
@@ -156,10 +143,9 @@ impl Recorder {
         Ok(reply)
     }
 
-    /// What the reply to the last event leaves open: where the object of a granted request went, or which objects are gone. The
-    /// contract pins the place alone.
+    /// What the reply to the last event leaves open: where the object of a granted request went, or which objects are gone.
     pub fn hint(&self) -> Hint<'_>
-        ensures { MatchOption self.now.place ((base : ℕ) → result ≡ Place base → ⊥) (λ base. result ≡ Place base) }
+        ensures { IsHint self.now.note result }
     {
         if let Some(base) = self.place {
             return Hint::Place(base);

@@ -24,11 +24,11 @@ use Rattle.heap_spec.specs.Transcripts.{LineOf, IsWrongPhase}
 use Rattle.plain_core.specs.Contents.{Contents as PlainContents}
 use Rattle.plain_core.specs.Standing.{StandsFor}
 use Rattle.plain_core.specs.Answering.{IsNoStep, IsBornAt, IsAllocatedAt, CantAllocateAt}
-use Rattle.plain_core.specs.Collections.{IsTaken, CantTake, HasUnreached}
+use Rattle.plain_core.specs.Collections.{IsCollected, CantCollect, IsTaken, CantTake, HasUnreached}
 use Rattle.replayer.specs.declared.hint.Hint.{Hint}
 use Rattle.replayer.specs.declared.hint.Hint.TheVariants.{Nothing, Place, Forgot}
 use Rattle.replayer.specs.Contents.{Contents, Follows}
-use Rattle.replayer.specs.Replays.{NamesPlace, NamesBases, IsReplay, IsReplayed, IsNoReplay}
+use Rattle.replayer.specs.Replays.{NamesPlace, NamesBases, MayNameBases, IsReplay, IsReplayed, IsNoReplay}
 
 -- the call is a granted request
 abbrev pub IsGrant : Call → Reply → Type 0
@@ -95,7 +95,8 @@ module _ (old : Contents) (small : old.number < word_end) (few : old.births < wo
         record {
           line = LineOf.happens x.1;
           place = λ slot into words kind is done. absurd (cc);
-          bases = λ n which is. ⊎_elim (λ e. absurd (cc)) (λ e. absurd (cc)) which;
+          finished = λ n which is. absurd (cc);
+          collected = λ n which is. absurd (cc);
           births = omega arith;
         },
         record {
@@ -124,7 +125,8 @@ module _ (old : Contents) (small : old.number < word_end) (few : old.births < wo
         record {
           line = LineOf.happens x.1;
           place = λ at into words kind is done. absurd (none (into, words, kind, cc, done));
-          bases = λ n which is. ⊎_elim (λ e. absurd (cc)) (λ e. absurd (cc)) which;
+          finished = λ n which is. absurd (cc);
+          collected = λ n which is. absurd (cc);
           births = omega arith;
         },
         record {
@@ -154,7 +156,8 @@ module _ (old : Contents) (small : old.number < word_end) (few : old.births < wo
           record {
             line = LineOf.happens x.1;
             place = λ at d n q is done. x.2;
-            bases = λ n which is. absurd (cc);
+            finished = λ n which is. absurd (cc);
+            collected = λ n which is. absurd (cc);
             births = omega arith;
           },
           record {
@@ -195,7 +198,8 @@ module _ (old : Contents) (small : old.number < word_end) (few : old.births < wo
     record {
       line = LineOf.refused (subst (λ b. IsWrongPhase b event) f.phase wrong);
       place = λ slot into words kind is done. absurd (cc);
-      bases = λ n which is. absurd (cc);
+      finished = λ n which is. absurd (cc);
+      collected = λ n which is. absurd (cc);
       births = let known = f.births in omega arith;
     },
     f,
@@ -209,7 +213,8 @@ module _ (old : Contents) (small : old.number < word_end) (few : old.births < wo
     record {
       line = line start run f;
       place = λ slot into words kind is done. absurd (other slot (Alloc into words kind) is);
-      bases = λ n which is. absurd (small_step which);
+      finished = λ n which is. absurd (small_step (inl which));
+      collected = λ n which is. absurd (small_step (inr which));
       births = let known = f.births in omega arith;
     },
     f,
@@ -238,7 +243,8 @@ module _ (old : Contents) (small : old.number < word_end) (few : old.births < wo
     record {
       line = LineOf.happens (sym f.phase ∙ m, (refl, refl));
       place = λ slot into words kind is done. absurd (cc);
-      bases = λ n which is. absurd (cc);
+      finished = λ n which is. absurd (cc);
+      collected = λ n which is. absurd (cc);
       births = let known = f.births in omega arith;
     },
     record {
@@ -299,25 +305,25 @@ module _ (old : Contents) (small : old.number < word_end) (few : old.births < wo
         stuck q is LineOf.number = none (sym is ∙ ap Count (sym f.number))
 
     pub no_finish : (old.marking ≡ false → reply ≡ Refused WrongPhase → ⊥) → (old.marking ≡ true → (s : Heap) → StandsFor old.core s → (n : ℕ) (s' : Heap) → reply ≡ Count n → NamesBases hint n s s' → ⊥) → IsNoReplay old Finish reply hint
-    no_finish wrong none start run next f r = stuck reply refl r.line r.bases
+    no_finish wrong none start run next f r = stuck reply refl r.line r.finished
       where
         stuck : (q : Reply) → q ≡ reply → {to : Run} → LineOf AllTouched start run Finish q to
-            → ((n : ℕ) → (Finish ≡ Finish) ⊎ (Finish ≡ Collect) → reply ≡ Count n → NamesBases hint n (heap_after start run) (heap_after start to)) → ⊥
+            → ((n : ℕ) → Finish ≡ Finish → reply ≡ Count n → NamesBases hint n (heap_after start run) (heap_after start to)) → ⊥
         stuck q is (LineOf.happens {s' = s'} happens) names =
             let takes = happens.1.takes in
             let n : ℕ = length happens.1.bases in
-            none (f.phase ∙ happens.0) (heap_after start run) f.stands n s' (sym is ∙ takes.number) (names n (inl refl) (sym is ∙ takes.number))
+            none (f.phase ∙ happens.0) (heap_after start run) f.stands n s' (sym is ∙ takes.number) (names n refl (sym is ∙ takes.number))
         stuck q is (LineOf.refused phase) names = wrong (f.phase ∙ phase) (sym is)
 
-    pub no_collect : ((s : Heap) → StandsFor old.core s → (n : ℕ) (s' : Heap) → reply ≡ Count n → NamesBases hint n s s' → CollectsFully s reply s' → ⊥) → IsNoReplay old Collect reply hint
-    no_collect none start run next f r = stuck reply refl r.line r.bases
+    pub no_collect : ((s : Heap) → StandsFor old.core s → (n : ℕ) (s' : Heap) → reply ≡ Count n → MayNameBases hint n s s' → CollectsFully s reply s' → ⊥) → IsNoReplay old Collect reply hint
+    no_collect none start run next f r = stuck reply refl r.line r.collected
       where
         stuck : (q : Reply) → q ≡ reply → {to : Run} → LineOf AllTouched start run Collect q to
-            → ((n : ℕ) → (Collect ≡ Finish) ⊎ (Collect ≡ Collect) → reply ≡ Count n → NamesBases hint n (heap_after start run) (heap_after start to)) → ⊥
+            → ((n : ℕ) → Collect ≡ Collect → reply ≡ Count n → MayNameBases hint n (heap_after start run) (heap_after start to)) → ⊥
         stuck q is (LineOf.happens {s' = s'} happens) names =
             let n : ℕ = length happens.bases in
             let counts : reply ≡ Count n = sym is ∙ happens.takes.number in
-            none (heap_after start run) f.stands n s' counts (names n (inr refl) counts) (subst (λ x. CollectsFully (heap_after start run) x s') is happens)
+            none (heap_after start run) f.stands n s' counts (names n refl counts) (subst (λ x. CollectsFully (heap_after start run) x s') is happens)
         stuck q is (LineOf.refused phase) names = phase
 
 -- the numbers of equal replies
@@ -375,7 +381,8 @@ module _ (old : Contents) (small : old.number < word_end) (few : old.births < wo
         record {
           line = LineOf.happens (sym f.phase ∙ m, record { bases = bases.now; takes = named n (heap_after start run) x.0 x.1 counts; untouched = λ base o has ne. absurd (ne tt) });
           place = λ slot into words kind is done. absurd (cc);
-          bases = λ k which is. named k (heap_after start run) x.0 x.1 (sym is ∙ counts);
+          finished = λ k which is. named k (heap_after start run) x.0 x.1 (sym is ∙ counts);
+          collected = λ k which is. absurd (cc);
           births = below start run f x.0 x.1.after;
         },
         follows start run f x.0 Finish (Count n) refl refl x.1.after x.3,
@@ -389,7 +396,8 @@ module _ (old : Contents) (small : old.number < word_end) (few : old.births < wo
         record {
           line = LineOf.happens (record { bases = bases.now; takes = named n (heap_after start run) x.0 x.1 counts; all = x.2 refl });
           place = λ slot into words kind is done. absurd (cc);
-          bases = λ k which is. named k (heap_after start run) x.0 x.1 (sym is ∙ counts);
+          finished = λ k which is. absurd (cc);
+          collected = λ k which is. named k (heap_after start run) x.0 x.1 (sym is ∙ counts);
           births = below start run f x.0 x.1.after;
         },
         follows start run f x.0 Collect (Count n) refl refl x.1.after x.3,
@@ -414,9 +422,43 @@ module _ (old : Contents) (small : old.number < word_end) (few : old.births < wo
     pub finish_untaken : (bases : Bor (List ℕ)) → CantTake old.core bases.now false → IsNoReplay old Finish reply (Forgot bases)
     finish_untaken bases cant = no_finish old small few reply (Forgot bases) wrong (λ m s h n s' is names. cant s h n s' names (λ all. absurd (cc)))
 
-  pub collect_unnamed : (hint : Hint) → ((bases : Bor (List ℕ)) → hint ≡ Forgot bases → reply ≡ Count (length bases.now) → ⊥) → IsNoReplay old Collect reply hint
-  collect_unnamed hint none = no_collect old small few reply hint (λ s h n s' is names full. unnamed hint none n s s' is names)
+  may_unnamed : (hint : Hint) → (hint ≡ Nothing → ⊥) → ((bases : Bor (List ℕ)) → hint ≡ Forgot bases → reply ≡ Count (length bases.now) → ⊥) → (n : ℕ) (s s' : Heap) → reply ≡ Count n → MayNameBases hint n s s' → ⊥
+  may_unnamed Nothing says none n s s' is names = says refl
+  may_unnamed (Place base) says none n s s' is names = names
+  may_unnamed (Forgot bases) says none n s s' is names = none bases refl (is ∙ ap Count (as_many bases s s' n names))
+
+  pub collect_unnamed : (hint : Hint) → (hint ≡ Nothing → ⊥) → ((bases : Bor (List ℕ)) → hint ≡ Forgot bases → reply ≡ Count (length bases.now) → ⊥) → IsNoReplay old Collect reply hint
+  collect_unnamed hint says none = no_collect old small few reply hint (λ s h n s' is names full. may_unnamed hint says none n s s' is names)
 
   pub collect_untaken : (bases : Bor (List ℕ)) → CantTake old.core bases.now true → IsNoReplay old Collect reply (Forgot bases)
   collect_untaken bases cant = no_collect old small few reply (Forgot bases)
       (λ s h n s' is names full. cant s h n s' names (λ all. same_bases s s' bases.now full.bases names.after full.takes.after full.all))
+
+  pub collect_uncounted : ((n : ℕ) → reply ≡ Count n → ⊥) → IsNoReplay old Collect reply Nothing
+  collect_uncounted none = no_collect old small few reply Nothing (λ s h n s' is names full. none n is)
+
+-- full collections of which nothing is said but how many objects they take
+module _ (old : Contents) (small : old.number < word_end) (few : old.births < word_end) (n : ℕ) where
+  pub collect_unequal : CantCollect old.core n → IsNoReplay old Collect (Count n) Nothing
+  collect_unequal cant = no_collect old small few (Count n) Nothing (λ s h k s' is names full. cant s h s' full)
+
+  pub collects_counted : (new : PlainContents) → IsCollected old.core n new → IsReplayed old Collect (Count n) Nothing (record old { core = new; marking = false; number = (old.number + 1) % word_end })
+  collects_counted new full start run f =
+      let x = full (heap_after start run) f.stands in
+      let same : x.0.births ≡ (heap_after start run).births = ap (λ (s : Heap). s.births) x.1.takes.after in
+      let known = f.births in (
+        goes_on run Collect (Count n) x.0,
+        record {
+          line = LineOf.happens x.1;
+          place = λ slot into words kind is done. absurd (cc);
+          finished = λ k which is. absurd (cc);
+          collected = λ k which is. tt;
+          births = omega arith;
+        },
+        record {
+          stands = x.2;
+          phase = refl;
+          number = ap (λ k. (k + 1) % word_end) f.number;
+          births = f.births ∙ sym same;
+        },
+      )

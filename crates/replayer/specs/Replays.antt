@@ -1,5 +1,5 @@
 -- When a replayer says yes.
-use Rattle.std.specs.Prelude.{◌≡◌, ◌⊎◌, ◌<◌, ℕ}
+use Rattle.std.specs.Prelude.{◌≡◌, ◌<◌, ℕ}
 use Rattle.words.specs.declared.class.Kind.{Kind}
 use Rattle.heap_spec.specs.declared.call.Call.TheVariants.{Alloc}
 use Rattle.heap_spec.specs.declared.event.Event.{Event}
@@ -28,12 +28,20 @@ NamesBases Nothing n s s' = ⊥
 NamesBases (Place base) n s s' = ⊥
 NamesBases (Forgot bases) n s s' = TakesOut s bases.now (Count n) s'
 
+-- A full collection leaves nothing open, so of one the hint may say nothing.
+abbrev pub MayNameBases : Hint → ℕ → Heap → Heap → Type 0
+MayNameBases Nothing n s s' = Unit {0}
+MayNameBases (Place base) n s s' = ⊥
+MayNameBases (Forgot bases) n s s' = TakesOut s bases.now (Count n) s'
+
 -- The event with its reply is a line of a legal transcript, if every birth counts as touched, and the hint is right: it
--- names the place of a granted request, and what a granted collection forgot. Births stay below 2 ^ 64.
+-- names the place of a granted request, and what the end of a cycle forgot, and may name what a full collection forgot.
+-- Births stay below 2 ^ 64.
 pub record IsReplay (hint : Hint) (start : Start) (run : Run) (event : Event) (reply : Reply) (next : Run) : Type 0 where
   pub line : LineOf AllTouched start run event reply next
   pub place : (slot into words : ℕ) (kind : Kind) → event ≡ Mutator slot (Alloc into words kind) → reply ≡ Done → NamesPlace hint (heap_after start run) (heap_after start next)
-  pub bases : (n : ℕ) → (event ≡ Finish) ⊎ (event ≡ Collect) → reply ≡ Count n → NamesBases hint n (heap_after start run) (heap_after start next)
+  pub finished : (n : ℕ) → event ≡ Finish → reply ≡ Count n → NamesBases hint n (heap_after start run) (heap_after start next)
+  pub collected : (n : ℕ) → event ≡ Collect → reply ≡ Count n → MayNameBases hint n (heap_after start run) (heap_after start next)
   pub births : (heap_after start next).births < word_end
 
 -- From each run that the replayer followed it is a replay, to one that it follows.

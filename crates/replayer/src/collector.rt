@@ -200,8 +200,27 @@ impl Replayer {
         true
     }
 
-    // All that isn't reached is forgotten: the objects of the hint.
-    pub(crate) fn collect(&mut self, reply: &Reply, hint: Hint) -> bool
+    // All that isn't reached is forgotten: so many objects as the reply says.
+    fn collect_counted(&mut self, reply: &Reply) -> bool
+        ensures yes { IsTrue result → IsReplayed self.old Event.Collect reply.now HintValue.Nothing self.new }
+        ensures no { result ≡ false → IsNoReplay self.old Event.Collect reply.now HintValue.Nothing }
+        ensures same { result ≡ false → self.new ≡ self.old }
+    {
+        self.limits();
+        let Some(n) = count_in(reply) else {
+            return false;
+        };
+        if !self.core.collect_counted(n) {
+            return false;
+        }
+        self.marking = false;
+        self.number = self.number.wrapping_add(1);
+        true
+    }
+
+    // All that isn't reached is forgotten: the objects of the hint, which says something.
+    fn collect_named(&mut self, reply: &Reply, hint: Hint) -> bool
+        requires { hint ≡ HintValue.Nothing → ⊥ }
         ensures yes { IsTrue result → IsReplayed self.old Event.Collect reply.now hint.entry self.new }
         ensures no { result ≡ false → IsNoReplay self.old Event.Collect reply.now hint.entry }
         ensures same { result ≡ false → self.new ≡ self.old }
@@ -216,5 +235,17 @@ impl Replayer {
         self.marking = false;
         self.number = self.number.wrapping_add(1);
         true
+    }
+
+    // All that isn't reached is forgotten, whether the hint names it or says nothing.
+    pub(crate) fn collect(&mut self, reply: &Reply, hint: Hint) -> bool
+        ensures yes { IsTrue result → IsReplayed self.old Event.Collect reply.now hint.entry self.new }
+        ensures no { result ≡ false → IsNoReplay self.old Event.Collect reply.now hint.entry }
+        ensures same { result ≡ false → self.new ≡ self.old }
+    {
+        let Hint::Nothing = hint else {
+            return self.collect_named(reply, hint);
+        };
+        self.collect_counted(reply)
     }
 }

@@ -84,6 +84,17 @@ fn deny_fewer(
     Ok(())
 }
 
+// The end of a cycle says what it forgot, and a full collection that says nothing forgot no more and no less.
+fn deny_unnamed(replayer: &mut Replayer, event: &Event, count: u64) -> Result<(), Fail> {
+    if *event == Event::Finish {
+        return deny(replayer, event, Reply::Count(count), Hint::Nothing);
+    }
+    let more = Reply::Count(count.wrapping_add(1));
+    deny(replayer, event, more, Hint::Nothing)?;
+    let less = Reply::Count(count.wrapping_sub(1));
+    deny(replayer, event, less, Hint::Nothing)
+}
+
 // What a collection forgot is neither one more, nor one twice, nor an address inside an object.
 fn deny_bases(
     replayer: &mut Replayer,
@@ -104,7 +115,7 @@ fn deny_bases(
         Reply::Count(count.wrapping_add(1)),
         Hint::Forgot(gone),
     )?;
-    deny(replayer, event, *reply, Hint::Nothing)?;
+    deny_unnamed(replayer, event, *count)?;
     deny_fewer(replayer, event, reply, fewer)
 }
 
@@ -244,4 +255,30 @@ fn deny_reached(pair: &mut Pair) -> Result<(), Fail> {
 fn reached_objects_stay(rt: HostRuntime) -> Result<(), Fail> {
     let mut pair = Pair::new(rt.alloc(), 1)?;
     deny_reached(&mut pair)
+}
+
+// A full collection is replayed by how many objects it forgot, and the run goes on.
+fn collect_unnamed(pair: &mut Pair) -> Result<(), Fail> {
+    pair.lines(&[
+        "attach",
+        "0 alloc 1 2 normal",
+        "0 alloc 2 2 normal",
+        "0 set 1 0",
+    ])?;
+    let reply = pair.recorder.act(&Event::Collect)?;
+    if reply != Reply::Count(1) {
+        return Err("one object".into());
+    }
+    deny_unnamed(&mut pair.replayer, &Event::Collect, 1)?;
+    deny_unnamed(&mut pair.replayer, &Event::Finish, 1)?;
+    if !pair.replayer.step(&Event::Collect, &reply, Hint::Nothing) {
+        return Err("a yes".into());
+    }
+    pair.lines(&["0 size 2", "0 alloc 1 2 normal", "gc collect", "gc no"])
+}
+
+#[test]
+fn full_collections_need_no_bases(rt: HostRuntime) -> Result<(), Fail> {
+    let mut pair = Pair::new(rt.alloc(), 1)?;
+    collect_unnamed(&mut pair)
 }

@@ -43,11 +43,11 @@ call_rule (Size r) reply hint = SizeRule
 call_rule (GlobalGet d g) reply hint = RootsRule
 call_rule (GlobalPut g r) reply hint = RootsRule
 
--- the end of a cycle or a full collection, with what it forgot or without
-abbrev pub collection_rule : Hint → Rule
-collection_rule Nothing = NoBases
-collection_rule (Place base) = NoBases
-collection_rule (Forgot bases) = Forgotten
+-- the end of a cycle, with what it forgot or without
+abbrev pub finish_rule : Hint → Rule
+finish_rule Nothing = NoBases
+finish_rule (Place base) = NoBases
+finish_rule (Forgot bases) = Forgotten
 
 -- any line
 abbrev pub rule_of : Event → Reply → Hint → Rule
@@ -57,7 +57,7 @@ rule_of Begin reply hint = BeginRule
 rule_of Roots reply hint = SmallStep
 rule_of (Mark n) reply hint = SmallStep
 rule_of Retrace reply hint = SmallStep
-rule_of Finish reply hint = collection_rule hint
+rule_of Finish reply hint = finish_rule hint
 rule_of Sweep reply hint = SweepRule
-rule_of Collect reply hint = collection_rule hint
+rule_of Collect reply hint = Forgotten
 rule_of Number reply hint = NumberRule

@@ -1,6 +1,6 @@
 //! What a line that isn't legal breaks, in words.
 ghost use Rattle.std.specs.Prelude.{◌≡◌};
-ghost use Rattle.written_runs.specs.Rules.{call_rule, alloc_rule, collection_rule, rule_of};
+ghost use Rattle.written_runs.specs.Rules.{call_rule, alloc_rule, finish_rule, rule_of};
 
 use heap_spec::{Call, Event, Reply};
 use replayer::Hint;
@@ -47,7 +47,7 @@ pub enum Rule {
     /// A collection, and what it forgot.
     Forgotten,
 
-    /// A collection, and nothing of what it forgot.
+    /// The end of a cycle, and nothing of what it forgot.
     NoBases,
 
     /// A page is swept.
@@ -78,10 +78,10 @@ impl Rule {
                 "the small steps of a cycle are granted exactly while one is marking, and answer within their range"
             }
             Rule::Forgotten => {
-                "what is forgotten are so many distinct objects that nothing reaches, by their bases, and a full collection forgets all of them"
+                "what is forgotten are so many distinct objects that nothing reaches, by their bases, and a full collection forgets all of them, whether they are named or not"
             }
             Rule::NoBases => {
-                "a collection needs the bases of what it forgot, or the phase forbids it"
+                "the end of a cycle needs the bases of what it forgot, or the phase forbids it"
             }
             Rule::Sweep => "a sweep answers 0 or 1",
             Rule::Number => "the number is that of the collections so far",
@@ -124,8 +124,8 @@ fn of_call(call: &Call, reply: &Reply, hint: Hint) -> Rule
     }
 }
 
-fn of_collection(hint: Hint) -> Rule
-    ensures { result ≡ collection_rule hint.entry }
+fn of_finish(hint: Hint) -> Rule
+    ensures { result ≡ finish_rule hint.entry }
 {
     let Hint::Forgot(_) = hint else {
         return Rule::NoBases;
@@ -142,7 +142,8 @@ pub fn rule_of(event: &Event, reply: &Reply, hint: Hint) -> Rule
         Event::Mutator(_, call) => of_call(call, reply, hint),
         Event::Begin => Rule::Begin,
         Event::Roots | Event::Mark(_) | Event::Retrace => Rule::SmallStep,
-        Event::Finish | Event::Collect => of_collection(hint),
+        Event::Finish => of_finish(hint),
+        Event::Collect => Rule::Forgotten,
         Event::Sweep => Rule::Sweep,
         Event::Number => Rule::Number,
     }

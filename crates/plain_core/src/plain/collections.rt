@@ -1,12 +1,12 @@
 //! The calls that take out what is not reached.
 ghost use Rattle.std.specs.Prelude.{◌≡◌, IsTrue, true, false};
-ghost use Rattle.plain_core.specs.Collections.{IsCollected, IsTaken, CantTake};
+ghost use Rattle.plain_core.specs.Collections.{IsCollected, HasGarbage, CantCollect, IsTaken, CantTake};
 
 use super::Core;
 use crate::claims::{are_all_named, unset_flags};
 use crate::listing::list_reached;
 use crate::owners::write_owners;
-use crate::parting::keep_flagged;
+use crate::parting::{count_unflagged, keep_flagged};
 
 impl Core {
     /// Takes out all objects that are not reached, and answers how many.
@@ -24,6 +24,37 @@ impl Core {
             &mut self.listing,
         );
         keep_flagged(&mut self.objects, &self.listing.marks) as u64
+    }
+
+    // How many objects are not reached.
+    fn count_unreached(&mut self) -> u64
+        ensures garbage { HasGarbage self.old result }
+        ensures same { self.new ≡ self.old }
+    {
+        self.roots.write_words(&mut self.root_words);
+        let roots = self.root_words.as_slice();
+        write_owners(&self.objects, &mut self.owners);
+        list_reached(
+            roots,
+            &self.words,
+            &self.objects,
+            &self.owners,
+            &mut self.listing,
+        );
+        count_unflagged(&self.objects, &self.listing.marks) as u64
+    }
+
+    /// Takes out all objects that are not reached, if they are so many. Else nothing changes.
+    pub fn collect_counted(&mut self, count: u64) -> bool
+        ensures yes { IsTrue result → IsCollected self.old count self.new }
+        ensures no { result ≡ false → CantCollect self.old count }
+        ensures same { result ≡ false → self.new ≡ self.old }
+    {
+        if self.count_unreached() != count {
+            return false;
+        }
+        let _gone = self.collect();
+        true
     }
 
     // Takes out the objects with these bases, if they are distinct objects none of which is reached, and with `all` every

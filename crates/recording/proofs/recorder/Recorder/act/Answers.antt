@@ -1,11 +1,13 @@
-use Rattle.std.proofs.Common.{sym, subst}
-use Rattle.std.specs.Prelude.{None}
-use Rattle.heap_core.specs.Following.{Follows}
-use Rattle.recording.specs.Contents.{Contents}
-use Rattle.recording.proofs.Placing.{names}
+use Rattle.std.proofs.Common.{refl}
+use Rattle.recording.proofs.Noting.{noted_refused, noted}
 use Rattle.recording.proofs.recorder.Recorder.act.Goals as goal
 
-pub returns-in_default-clause-line : goal.returns-in_default-clause-line
-returns-in_default-clause-line c start run f =
-    let x = c.act-reply.ensures.line start run (subst (λ (r : Contents). Follows r.core start run) (sym c.self.view_is) f) in
-    (x.0, x.1, rw c.note.ensures.core x.2, names _ None _ _ _ start run x.0 c.note.ensures.place x.1 x.2.stands)
+pub returns-clause-line : goal.returns-clause-line
+returns-clause-line c = rw (← c.self.view_is) (noted_refused _ _ _ _ _ c.in-Refused.is refl c.act-reply.ensures.line)
+
+pub returns-in_default : goal.returns-in_default
+returns-in_default c = rw (← c.self.view_is) (record {
+  acts = rw c.note.ensures.core c.act-reply.ensures.acts;
+  line = noted _ _ _ _ _ c.in_default.not-Refused refl c.act-reply.ensures.line c.note.ensures.core c.in_ok-note.ensures.notes;
+  made = tt;
+})

@@ -4,10 +4,10 @@ use Rattle.heap_spec.specs.Layout.{word_end}
 use Rattle.replayer.specs.Contents.{Contents}
 use Rattle.heap_spec.specs.declared.event.Event.TheVariants.{Collect}
 use Rattle.replayer.proofs.Steps.{collects, collect_unnamed, collect_untaken}
-use Rattle.replayer.proofs.replayer.Replayer.collect.Goals as goal
+use Rattle.replayer.proofs.replayer.Replayer.collect_named.Goals as goal
 
 pub returns-in_default-clause-no : goal.returns-in_default-clause-no
-returns-in_default-clause-no c refused = collect_unnamed _ c.limits.ensures.number c.limits.ensures.births _ _ c.in_default.ensures.none
+returns-in_default-clause-no c refused = collect_unnamed _ c.limits.ensures.number c.limits.ensures.births _ _ c.requires c.in_default.ensures.none
 
 pub returns-then-not-collect_as-clause-no : goal.returns-then-not-collect_as-clause-no
 returns-then-not-collect_as-clause-no c refused =
