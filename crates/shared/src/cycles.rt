@@ -48,7 +48,8 @@ impl<J: Naming> SharedHeap<J> {
     }
 
     /// Runs work that is no event on the core, under the lock: on a core that stands for where the history leads that the collector has
-    /// then seen, and that is marking exactly if its own events say so. While it is, the dirty-page invariant holds.
+    /// then seen, and that is marking exactly if its own events say so. What is true of every core is true of it before and
+    /// after: while it is marking, the dirty-page invariant holds.
     pub fn quiet<Q: Quiet<Core>>(
         &self,
         rt: &impl Wait,
@@ -62,9 +63,9 @@ impl<J: Naming> SharedHeap<J> {
         let mut guard = self.lock.lock(rt);
         let logged = &mut *guard;
         self.log.learn(logged, &mut me.pass);
-        let _before = logged.object().is_marking();
+        logged.object().laws();
         let answer = logged.quiet(work);
-        let _after = logged.object().is_marking();
+        logged.object().laws();
         answer
     }
 }

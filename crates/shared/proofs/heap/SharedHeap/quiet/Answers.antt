@@ -2,7 +2,8 @@ use Rattle.std.proofs.Common.{sym, ap, subst, ◌∙◌}
 use Rattle.history.specs.Histories.{Reaches}
 use Rattle.heap_spec.specs.SequentialObject.{Opens, StateStep}
 use Rattle.heap_history.specs.Passes.{HeapPass, is_marking as marks}
-use Rattle.shared.specs.Lending.{HasInvariant, IsLent}
+use Rattle.heap_core.specs.Contents.{Contents, IsTraced}
+use Rattle.shared.specs.Lending.{IsLent}
 use Rattle.shared.proofs.Passing.{phase_is}
 use Rattle.shared.proofs.heap.SharedHeap.quiet.Goals as goal
 
@@ -18,7 +19,7 @@ returns-clause-gives g c =
       reached = subst (λ h. Reaches (Opens g.J.Naming.origin) StateStep h st.state) seen st.reached;
       stood_for = st.stood_for;
       still = c.quiet-answer.ensures.keeps st.state st.stood_for;
-      invariant = subst HasInvariant c.object.ensures.object c.is_marking-before.ensures.invariant;
-      invariant_after = subst HasInvariant c.object-2.ensures.object c.is_marking-after.ensures.invariant;
+      traced = subst (λ (x : Contents). IsTraced x.store x.cycle) c.object.ensures.object c.laws.ensures.traced;
+      traced_after = subst (λ (x : Contents). IsTraced x.store x.cycle) c.object-2.ensures.object c.laws-2.ensures.traced;
     } in
     (c.learn.new.logged.object, c.quiet-answer.new.self.object, c.quiet-answer.ensures.gives, phase ∙ ap (λ (p : HeapPass). marks p.mine) c.me.view_is, lent)
