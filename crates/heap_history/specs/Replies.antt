@@ -4,7 +4,7 @@ use Rattle.heap_spec.specs.declared.call.Call.TheVariants.{Detach, Set, Copy, Ad
 use Rattle.heap_spec.specs.declared.reply.Reply.{Reply}
 use Rattle.heap_spec.specs.declared.reply.Reply.TheVariants.{Slot, Done, Word, Count, Refused}
 
--- the reply is that the call is done, a word, or a number of things, or it refuses
+-- the reply is that the call is done, or it refuses
 abbrev pub IsDone : Reply → Type 0
 IsDone (Slot k) = ⊥
 IsDone Done = Unit {0}
@@ -12,6 +12,7 @@ IsDone (Word w) = ⊥
 IsDone (Count n) = ⊥
 IsDone (Refused why) = Unit {0}
 
+-- the reply is a word, or it refuses
 abbrev pub IsWord : Reply → Type 0
 IsWord (Slot k) = ⊥
 IsWord Done = ⊥
@@ -19,6 +20,7 @@ IsWord (Word w) = Unit {0}
 IsWord (Count n) = ⊥
 IsWord (Refused why) = Unit {0}
 
+-- the reply is a number of things, or it refuses
 abbrev pub IsCount : Reply → Type 0
 IsCount (Slot k) = ⊥
 IsCount Done = ⊥

@@ -7,13 +7,15 @@ use Rattle.heap_spec.specs.declared.event.Event.{Event}
 use Rattle.heap_spec.specs.declared.event.Event.TheVariants.{Attach, Mutator, Begin, Roots, Mark, Retrace, Finish, Sweep, Collect, Number}
 use Rattle.heap_spec.specs.Layout.{word_end}
 
--- the number of a register, of a global, and any word
+-- the number of a register
 abbrev pub IsRegister : ℕ → Type 0
 IsRegister r = r < REGISTERS
 
+-- the number of a global
 abbrev pub IsGlobal : ℕ → Type 0
 IsGlobal g = g < GLOBALS
 
+-- a number that a word can hold
 abbrev pub IsWord : ℕ → Type 0
 IsWord w = w < word_end
 

@@ -18,7 +18,7 @@ pub record IsMutator (m : Mutator) : Type 0 where
   pub room : length m.stack ≤ STACK_WORDS
   pub stack : All IsWord m.stack
 
--- a slot has no mutator, or one
+-- a slot has no mutator, or one with its registers, and with no more on its stack than there is room for
 abbrev pub IsSlot : Option Mutator → Type 0
 IsSlot None = Unit {0}
 IsSlot (Some m) = IsMutator m

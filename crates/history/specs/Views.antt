@@ -17,23 +17,26 @@ module _ {C R : Type 0} where
   abbrev pub opener : View C R
   opener = record { keeps = true; log = []; holds = true; pass = record { slot = COLLECTOR; seen = []; mine = [] }; hosts = false; guest = no_pass }
 
-  -- a seat lends its pass: what it keeps of its rights, and what goes
+  -- a seat that lends its pass keeps its other rights
   abbrev pub without_pass : View C R → View C R
   without_pass v = record v { holds = false; pass = no_pass }
 
+  -- what goes: a seat with this pass and no other right
   abbrev pub only_pass : View C R → View C R
   only_pass v = record nobody { holds = v.holds; pass = v.pass }
 
-  -- another seat takes it in
+  -- a seat that takes in the pass of another
   abbrev pub with_guest : View C R → View C R → View C R
   with_guest v w = record v { hosts = w.holds; guest = w.pass }
 
-  -- and gives it back
+  -- and gives it back: what it keeps
   abbrev pub without_guest : View C R → View C R
   without_guest v = record v { hosts = false; guest = no_pass }
 
+  -- what goes back: a seat with this guest as its pass, and no other right
   abbrev pub only_guest : View C R → View C R
   only_guest v = record nobody { holds = v.hosts; pass = v.guest }
 
+  -- the seat that lent it holds the pass of another again
   abbrev pub with_pass : View C R → View C R → View C R
   with_pass v w = record v { holds = w.holds; pass = w.pass }

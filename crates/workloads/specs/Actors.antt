@@ -42,11 +42,12 @@ pub record Keeps (old new : HeapPass) : Type 0 where
   pub mine : new.mine ≡ old.mine
 
 module _ {J R : Type 0} where
-  -- there is room for each reply
+  -- none of a mutator's calls is its last, and there is room for each reply
   pub record CanCall (job : MutatorJob J R) : Type 0 where
     pub plain : All IsPlain job.calls.now
     pub room : length job.replies.items ≡ length job.calls.now
 
+  -- a job's mutator made all its calls in their order, and the job has each reply
   pub record HasCalled (old new : MutatorJob J R) : Type 0 where
     pub calls : new.calls ≡ old.calls
     pub room : length new.replies.items ≡ length old.calls.now
@@ -59,6 +60,7 @@ module _ {J R : Type 0} where
     pub can : CanCall job
     pub begun : Begun pages job.attached
 
+  -- there is a job for each list of calls, and its mutator has just come to the slot of that number
   pub record AreAttached (pages : ℕ) (lists : List (List Call)) (jobs : List (MutatorJob J R)) : Type 0 where
     pub size : length jobs ≡ length lists
     pub each : (i : ℕ) (d : MutatorJob J R) → i < length lists → IsAttached pages (slice_index_or lists i []) i (slice_index_or jobs i d)
@@ -71,6 +73,7 @@ module _ {J R : Type 0} where
     pub seen : new.attached.seen ≡ history
     pub fine : IsFine pages new.attached
 
+  -- each job's mutator has seen this history, and the jobs are otherwise as they were
   abbrev pub AllSettled : ℕ → List Entry → List (MutatorJob J R) → List (MutatorJob J R) → Type 0
   AllSettled pages history old new = (i : ℕ) (d : MutatorJob J R) → i < length old → Settled pages history (slice_index_or old i d) (slice_index_or new i d)
 
@@ -80,11 +83,13 @@ module _ {J R : Type 0} where
     pub each : (i : ℕ) (d : MutatorJob J R) → i < length jobs → slice_index_or replies i [] ≡ (slice_index_or jobs i d).replies.items
 
 module _ {J : Type 0} where
+  -- all commands are the collector's, which has its slot, and there is room for each reply
   pub record CanCommand (job : CollectorJob J) : Type 0 where
     pub slot : job.collector.slot ≡ COLLECTOR
     pub own : All (λ command. is_collectors command ≡ true) job.commands.now
     pub room : length job.replies.items ≡ length job.commands.now
 
+  -- the collector gave all its commands in their order, and the job has each reply
   pub record HasCommanded (pages : ℕ) (old new : CollectorJob J) : Type 0 where
     pub room : length new.replies.items ≡ length old.commands.now
     pub commanded : CommandedAll pages old.collector old.commands.now new.replies.items new.collector
