@@ -21,6 +21,7 @@ module _ {C R : Type 0} where
   abbrev pub without_pass : View C R → View C R
   without_pass v = record v { holds = false; pass = no_pass }
 
+  -- what goes: a seat with that pass and no other right
   abbrev pub only_pass : View C R → View C R
   only_pass v = record nobody { holds = v.holds; pass = v.pass }
 
@@ -32,8 +33,10 @@ module _ {C R : Type 0} where
   abbrev pub without_guest : View C R → View C R
   without_guest v = record v { hosts = false; guest = no_pass }
 
+  -- what goes back: a seat that holds that guest as its pass
   abbrev pub only_guest : View C R → View C R
   only_guest v = record nobody { holds = v.hosts; pass = v.guest }
 
+  -- a seat has its pass again, as the other held it
   abbrev pub with_pass : View C R → View C R → View C R
   with_pass v w = record v { holds = w.holds; pass = w.pass }
