@@ -7,7 +7,7 @@ use Rattle.std.proofs.lemmas.List.{take_more, ext_get_or, get_or-take, get_or-dr
 use Rattle.std.proofs.lemmas.List.FromFn.{map-range_with_len_more, length-map-range_with_len, get_or-map-range_with_len}
 use Rattle.std.proofs.lemmas.List.Elements.{Contains-append_left, Contains-append_right, Contains-append_cases}
 use Rattle.words.specs.declared.class.Kind.TheVariants.{Normal}
-use Rattle.words.specs.declared.limits.TheConstants.{PAGE_GRANULES}
+use Rattle.words.specs.declared.limits.TheConstants.{FIRST_ADDRESS, PAGE_GRANULES}
 use Rattle.words.specs.Bits.{Has}
 use Rattle.words.specs.Layout.{granule}
 use Rattle.pages.specs.Memory.{place, word_at}
@@ -53,7 +53,7 @@ words_more found words f first n old m new x y =
     subst (λ l. MarksWords found old l new) (sym (map-range_with_len_more (λ i. word_at words (word_address f i)) first n (first + n) refl)) (and_word x y)
 
 -- the words of an object from one of them on, as they lie in a row
-pub run_words : (words : List ℕ) (f : Found) (first n start : ℕ) → start ≡ word_address f first → 268435456 ≤ start → place start + n ≤ length words → slice_range words (place start) (place start + n) ≡ words_of words f first n
+pub run_words : (words : List ℕ) (f : Found) (first n start : ℕ) → start ≡ word_address f first → FIRST_ADDRESS ≤ start → place start + n ≤ length words → slice_range words (place start) (place start + n) ≡ words_of words f first n
 run_words words f first n start is above inside =
     let at = place start in
     let row = words_of words f first n in
