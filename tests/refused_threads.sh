@@ -1,6 +1,6 @@
 #!/usr/bin/env bash
-# By hand: what holds where the start of a thread is refused, each start in turn. It needs strace, and runs what stands there:
-# the proved program ('./mpheap build'), and the tests named 'refused_thread' ('rt test' in their crates).
+# By hand: what holds where the start of a thread is refused, each start in turn. It needs strace, and what it runs: the proved
+# program ('./mpheap build'), and the tests named 'refused_thread' ('rt test' in their crates).
 # strace counts the starts of each thread apart: the first thread starts the mutators and the collector, and the collector
 # starts the helpers of a pause.
 set -uo pipefail
@@ -55,19 +55,26 @@ actors() {
 # holds CRATE TEST: the test passes, whichever start is refused, up to one that never comes.
 holds() {
     tests=$top/crates/$1/out/$1_tests
-    [ -x "$tests" ] || return
     refused=0
+    if [ ! -x "$tests" ]; then
+        is "$tests is built" yes no
+        return
+    fi
     for start in $(seq 1 99); do
         before=$refused
         refuse "$start" "$tests" "$2"
         is "$1 $2, start $start" 0 "$status"
         [ "$refused" -gt "$before" ] || break
     done
+    # A test of this name that isn't there starts no thread.
+    [ "$refused" -gt 0 ] || is "$1 $2: a start was refused" yes no
     echo "$1 $2: $refused starts refused"
 }
 
 if [ -x "$program" ]; then
     for mutators in 0 1 16; do actors "$mutators"; done
+else
+    is "$program is built" yes no
 fi
 holds test_shared threads::refused_thread
 holds test_workloads refused::refused_thread

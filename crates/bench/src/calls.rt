@@ -6,6 +6,7 @@ use std::alloc::Global;
 use std::io;
 use std::rt::Clock;
 use std::time::Instant;
+use words::limits::MAX_SMALL_WORDS;
 
 // The live objects, and how many more there are for a while.
 const RING: usize = 500;
@@ -111,7 +112,7 @@ fn measure_mix<R: Eprint + Clock>(rt: &R, alloc: Global, user: &mut User) -> io:
 fn measure_classes<R: Eprint + Clock>(rt: &R, alloc: Global, user: &mut User) -> io::Result<()> {
     let mut sizes = vec![in alloc; 0u64; EACH]?;
     let mut bases = vec![in alloc; 0u64; EACH]?;
-    draw(sizes.as_mut_slice(), 256);
+    draw(sizes.as_mut_slice(), MAX_SMALL_WORDS);
     time_allocs(
         rt,
         "alloc_classes",

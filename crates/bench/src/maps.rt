@@ -14,7 +14,7 @@ const WORDS: usize = 4_096;
 
 const ROUNDS: u32 = 200;
 
-const HALF: u32 = 512;
+const HALF: u32 = MAX_PAGES / 2;
 
 fn find_all(map: &BlockMap, words: &[u64]) -> u64 {
     let mut sum: u64 = 0;

@@ -6,11 +6,11 @@ use std::alloc::Global;
 use std::io;
 use std::rt::Clock;
 use std::time::Instant;
-use words::limits::{FIRST_ADDRESS, GRANULE_BYTES, PAGE_GRANULES, WORD_BYTES};
+use words::limits::{FIRST_ADDRESS, GRANULE_BYTES, PAGE_GRANULES, PAGE_WORDS, WORD_BYTES};
 
 const WORDS: u64 = 262_144;
 
-const WORD_PAGES: u32 = 512;
+const WORD_PAGES: u32 = (WORDS / PAGE_WORDS) as u32;
 
 const ROUNDS: u32 = 30;
 

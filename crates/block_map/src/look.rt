@@ -27,6 +27,7 @@ impl BlockMap {
         self.look_up(w)
     }
 
+    // What `find` answers; large objects lie on consecutive pages, and blocks have the cells of their class.
     #[inline]
     #[tactic(auto, using(crate::proofs::Finding::finding))]
     fn look_up(&self, w: u64) -> Option<Found>

@@ -11,12 +11,12 @@ use final_pause::Helpers;
 use std::alloc::{AllocError, Global};
 use words::limits::{MAX_HELPERS, MAX_PAGES};
 
-/// An option with a value.
+// An option with a value.
 fn option<'a>(alloc: Global, name: &'a str) -> Arg<'a> {
     Arg::new(alloc, name).long(name)
 }
 
-/// `run --pages N [FILE]`.
+// `run --pages N [FILE]`.
 fn run_words<'a>(alloc: Global) -> Result<Command<'a>, AllocError> {
     Command::new(alloc, "run")
         .disable_help_flag(true)
@@ -24,7 +24,7 @@ fn run_words<'a>(alloc: Global) -> Result<Command<'a>, AllocError> {
         .arg(Arg::new(alloc, "file"))
 }
 
-/// `threads --pages N [--helpers K] FILE`.
+// `threads --pages N [--helpers K] FILE`.
 fn threads_words<'a>(alloc: Global) -> Result<Command<'a>, AllocError> {
     Command::new(alloc, "threads")
         .disable_help_flag(true)
@@ -33,7 +33,7 @@ fn threads_words<'a>(alloc: Global) -> Result<Command<'a>, AllocError> {
         .arg(Arg::new(alloc, "file").required(true))
 }
 
-/// `stress --seed N --mutators K --steps L`.
+// `stress --seed N --mutators K --steps L`.
 fn stress_words<'a>(alloc: Global) -> Result<Command<'a>, AllocError> {
     Command::new(alloc, "stress")
         .disable_help_flag(true)
@@ -42,7 +42,7 @@ fn stress_words<'a>(alloc: Global) -> Result<Command<'a>, AllocError> {
         .arg(option(alloc, "steps").required(true))
 }
 
-/// A command line that has to be one of the commands, and has no help or version form.
+// A command line that has to be one of the commands, and has no help or version form.
 fn no_command<'a>(alloc: Global) -> Command<'a> {
     Command::new(alloc, "mpheap")
         .no_binary_name(true)

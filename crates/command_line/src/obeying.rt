@@ -17,7 +17,7 @@ use words::limits::SLOTS;
 use workloads::limits::MAX_STEPS;
 use workloads::run_workload;
 
-/// What ends a command, as the program's fault.
+// What ends a command, as the program's fault.
 fn faulted(answer: Result<(), ScriptError>) -> Result<(), Fault>
     ensures { result ≡ as_fault answer }
 {
@@ -27,7 +27,7 @@ fn faulted(answer: Result<(), ScriptError>) -> Result<(), Fault>
     }
 }
 
-/// `run`: runs a script, in FILE or in the input.
+// `run`: runs a script, in FILE or in the input.
 fn run<F: Files, I: Source, O: Sink>(
     alloc: Global,
     files: &F,
@@ -48,7 +48,7 @@ fn run<F: Files, I: Source, O: Sink>(
     faulted(run_script(alloc, &mut Std::new(file), output, pages))
 }
 
-/// Runs a workload, with nobody held back.
+// Runs a workload, with nobody held back.
 fn run_open<R: Threads + Wait + Sync, I: Source, O: Sink>(
     alloc: Global,
     rt: &R,
@@ -64,7 +64,7 @@ fn run_open<R: Threads + Wait + Sync, I: Source, O: Sink>(
     faulted(run_workload(rt, alloc, input, output, pages, helpers, &Open))
 }
 
-/// `threads`: runs the workload in FILE.
+// `threads`: runs the workload in FILE.
 fn threads<R: Files + Threads + Wait + Sync, O: Sink>(
     alloc: Global,
     rt: &R,
@@ -84,7 +84,7 @@ fn threads<R: Files + Threads + Wait + Sync, O: Sink>(
     run_open(alloc, rt, &mut Std::new(file), output, pages, helpers)
 }
 
-/// `stress`: writes a random script.
+// `stress`: writes a random script.
 fn stress<O: Sink>(alloc: Global, given: &ArgMatches<'_>, output: &mut O) -> Result<(), Fault>
     ensures wrote { HasWritten O.faults result output.old output.new }
 {

@@ -12,12 +12,12 @@ use std::rt::Files;
 use std::sync::Wait;
 use std::thread::Threads;
 
-/// The words, as they are read.
+// The words, as they are read.
 fn matches<'a, S: AsStr>(alloc: Global, words: &'a [S]) -> Result<ArgMatches<'a>, Error> {
     command_line(alloc)?.try_get_matches_from(words)
 }
 
-/// Does what the words say. Faults are looked for in this order: the words, the opening of the file, memory, the lines.
+// Does what the words say. Faults are looked for in this order: the words, the opening of the file, memory, the lines.
 fn perform<R: Files + Threads + Wait + Sync, S: AsStr, I: Source, O: Sink>(
     alloc: Global,
     rt: &R,

@@ -4,7 +4,7 @@ ghost use Rattle.commands.specs.Faults.{EndsBy, Ends};
 use crate::fault::Fault;
 use scripts::Sink;
 
-/// Ends with a fault, whose line is told.
+// Ends with a fault, whose line is told.
 fn end_by<E: Sink>(fault: Fault, errors: &mut E) -> u8
     ensures { EndsBy fault result (E.written errors.old) (E.written errors.new) (E.faults errors.old) (E.faults errors.new) }
 {

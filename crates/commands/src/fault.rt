@@ -51,7 +51,7 @@ impl Fault {
         }
     }
 
-    /// Puts its text in the place of what was there.
+    // Puts its text in the place of what was there.
     fn put_text(self, text: &mut ArrayString<REPLY_BYTES>)
         ensures text { text.new.bytes ≡ fault_text self }
         ensures room { length text.new.bytes < REPLY_BYTES }

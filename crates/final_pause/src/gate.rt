@@ -4,9 +4,10 @@
 //! [`FIRST_HELPER`] + h. The calls of an actor are numbered from 0, modulo 2^32. A helper's calls are its claims, and are
 //! numbered afresh in each pause.
 use std::marker::Sync;
+use words::limits::SLOTS;
 
 /// The collector's number as an actor.
-pub const COLLECTOR: u8 = 16;
+pub const COLLECTOR: u8 = SLOTS;
 
 /// The number of the first helper as an actor.
 pub const FIRST_HELPER: u8 = 32;

@@ -18,7 +18,7 @@
 //! joined, the table is dropped, and the calling thread marks alone.
 //!
 //! **Sharing.** Root words, entries and dirty pages are shared out by their places, root words first. No helper writes
-//! anything that another reads but the table, by claims, and what is on offer.
+//! anything that another reads but the table, by claims, what is on offer, and the count of helpers that have work.
 //!
 //! **Claiming.** An object is read by the helper whose claim marked it. It waits on that helper's stack, or where the stack
 //! is full, its pages become dirty in that helper's row. So each word of an object that a helper won points into what that

@@ -14,14 +14,15 @@ use Rattle.block_map.specs.FoundIn.{found_in, IsLawful}
 use Rattle.block_map.specs.declared.found.Found.{Found}
 use Rattle.roots.specs.Roots.{RootSet, HasMutator, SetsWord}
 use Rattle.object_space.specs.Store.{Store}
-use Rattle.heap_core.specs.Contents.{Cycle}
+use Rattle.heap_core.specs.Contents.{Contents, Cycle}
 use Rattle.heap_core.specs.Calls.{IsCall, MakesDirty}
 use Rattle.heap_core.specs.Beside.{NotesWrite}
-use Rattle.std.specs.Prelude.{Bool}
+use Rattle.std.specs.Prelude.{Bool, IfSome, Option}
 use Rattle.object_space.specs.Kept.{restrict, is_kept}
 use Rattle.heap_view.specs.Shows.{Shows, IsShown}
 use Rattle.object_space.specs.Stores.{Stores}
-use Rattle.heap_core.specs.Standing.{StandsFor}
+use Rattle.heap_core.specs.KeptAt.{IsKeptAt}
+use Rattle.heap_core.specs.Standing.{StandsFor, keeps, objects_of}
 use Rattle.object_space.proofs.Kept.{kept_map}
 use Rattle.heap_view.proofs.Shows.{reads_object, reads_nothing, word_read, is_word}
 use Rattle.object_space.proofs.Changes.{shows_stored}
@@ -33,6 +34,13 @@ pub finds : (keep : Found → Bool) (t : Store) (s : Heap) (w : ℕ) (f : Found)
 finds keep t s w f lawful stores is =
     let read = reads_object (restrict keep (found_in t.states)) (length t.states) (kept_map (length t.states) keep (found_in t.states) lawful.map) t.words s.objects stores.shows.shown w f is in
     (read.0, (read.1, read.3), read.2)
+
+-- what the core's look-up finds is kept at that word
+pub kept_if_found : (c : Contents) (w : ℕ) (r : Option Found) → IsLawful c.store.states → r ≡ objects_of c w → IfSome r (λ f. IsKeptAt c w f)
+kept_if_found c w None lawful is = tt
+kept_if_found c w (Some f) lawful is = λ s h.
+    let found = finds (keeps c) c.store s w f lawful h.store (sym is) in
+    record { object = found.0; reads = found.1; size = found.2.size; kind = found.2.kind }
 
 -- an address that finds nothing reads nothing in the heap
 pub finds_nothing : (keep : Found → Bool) (t : Store) (s : Heap) (w : ℕ) → IsLawful t.states → Stores keep t s → restrict keep (found_in t.states) w ≡ None → ReadsNothing s w

@@ -77,6 +77,7 @@ pub data ReadsPage (old new : Contents) : ℕ → Type 0 where
   none : IsClean old.cycle.marking → new ≡ old → ReadsPage old new 0
   page : (p : ℕ) → Retraces (found_in old.store.states) old.store.words p old.cycle.marking new.cycle.marking → ReadsPage old new 1
 
+-- A page was read again, or none was dirty, by the marker's work alone.
 pub record RetracesPage (old : Contents) (n : ℕ) (new : Contents) : Type 0 where
   pub marks : MarksOn [] old new
   pub reads : ReadsPage old new n

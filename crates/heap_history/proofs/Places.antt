@@ -5,7 +5,7 @@ use Rattle.std.specs.Int.{div_ceil}
 use Rattle.std.specs.Option.{option_map}
 use Rattle.std.proofs.lemmas.Bool.{leb-true}
 use Rattle.std.proofs.lemmas.Option.{same_Some, none-some}
-use Rattle.words.specs.declared.limits.TheConstants.{PAGE_WORDS}
+use Rattle.words.specs.declared.limits.TheConstants.{MAX_SMALL_WORDS, PAGE_WORDS}
 use Rattle.words.specs.declared.class.TheConstants.{CLASSES}
 use Rattle.words.specs.declared.class.Placement.{Placement}
 use Rattle.words.specs.declared.class.Placement.TheVariants.{Small, Large}
@@ -27,10 +27,10 @@ small_holds n (Some c) place h e = subst (λ p. n ≤ length_of p) (same_Some _ 
 pub place_holds : (n : ℕ) (place : Placement) → placement_of n ≡ Some place → n ≤ length_of place
 place_holds n place e = outer _ e
   where
-    inner : (b : Bool) → nat_le n 256 ≡ b → cond b (option_map Small (find (λ c. nat_le n c) CLASSES)) (Some (Large (div_ceil n PAGE_WORDS))) ≡ Some place → n ≤ length_of place
+    inner : (b : Bool) → nat_le n MAX_SMALL_WORDS ≡ b → cond b (option_map Small (find (λ c. nat_le n c) CLASSES)) (Some (Large (div_ceil n PAGE_WORDS))) ≡ Some place → n ≤ length_of place
     inner true t e = small_holds n _ place (λ c f. leb-true n c (found_holds (λ c. nat_le n c) CLASSES c f)) e
     inner false t e = subst (λ p. n ≤ length_of p) (same_Some _ _ e) (let holds : n ≤ PAGE_WORDS * div_ceil n PAGE_WORDS = omega arith in holds)
 
-    outer : (b : Bool) → cond b None (cond (nat_le n 256) (option_map Small (find (λ c. nat_le n c) CLASSES)) (Some (Large (div_ceil n PAGE_WORDS)))) ≡ Some place → n ≤ length_of place
+    outer : (b : Bool) → cond b None (cond (nat_le n MAX_SMALL_WORDS) (option_map Small (find (λ c. nat_le n c) CLASSES)) (Some (Large (div_ceil n PAGE_WORDS)))) ≡ Some place → n ≤ length_of place
     outer true e = absurd (none-some place e)
-    outer false e = inner (nat_le n 256) refl e
+    outer false e = inner (nat_le n MAX_SMALL_WORDS) refl e

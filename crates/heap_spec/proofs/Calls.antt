@@ -5,7 +5,7 @@ use Rattle.std.proofs.lemmas.Bool.{cases_lt}
 use Rattle.std.proofs.lemmas.Option.{get_or_from_slice_get, slice_get_within, none-some}
 use Rattle.std.proofs.lemmas.List.{length-set, length-replicate, length_push, get_or_past}
 use Rattle.std.proofs.lemmas.List.Elements.{All-set, All-replicate, All-push, All-pop, All-get_or, All-nil}
-use Rattle.words.specs.declared.limits.TheConstants.{MAX_PAGES}
+use Rattle.words.specs.declared.limits.TheConstants.{GLOBALS, MAX_PAGES, REGISTERS, SLOTS, STACK_WORDS}
 use Rattle.words.specs.declared.class.Kind.{Kind}
 use Rattle.words.specs.declared.class.Placement.{Placement}
 use Rattle.words.specs.Placing.{placement_of}
@@ -39,7 +39,7 @@ register_is : (m : Mutator) (r : ℕ) → IsMutator m → IsWord (register m r)
 register_is m r h = word_at m.registers r h.registers.words
 
 newcomer_is : IsMutator newcomer
-newcomer_is = record { registers = row_of_zeros 16; room = omega arith; stack = All-nil IsWord }
+newcomer_is = record { registers = row_of_zeros REGISTERS; room = omega arith; stack = All-nil IsWord }
 
 -- a sound heap with another mutator at a slot, or none
 slot_kept : (s : Heap) (slot : ℕ) (m : Option Mutator) → IsSound s → IsSlot m → IsSound (with_mutator s slot m)
@@ -55,7 +55,7 @@ slot_kept s slot m h is = record {
 register_kept : (s : Heap) (slot : ℕ) (m : Mutator) (r w : ℕ) → IsSound s → IsMutator m → IsWord w → IsSound (with_register s slot m r w)
 register_kept s slot m r w h is fits = slot_kept s slot _ h (record { registers = row_set _ m.registers r w is.registers fits; room = is.room; stack = is.stack })
 
-pushed_is : (m : Mutator) (w : ℕ) → IsMutator m → length m.stack < 256 → IsWord w → IsMutator (record m { stack = m.stack ++ w ∷ [] })
+pushed_is : (m : Mutator) (w : ℕ) → IsMutator m → length m.stack < STACK_WORDS → IsWord w → IsMutator (record m { stack = m.stack ++ w ∷ [] })
 pushed_is m w h few fits = record { registers = h.registers; room = (let l : length (m.stack ++ w ∷ []) ≡ length m.stack + 1 = length_push m.stack w in omega arith); stack = All-push IsWord m.stack w h.stack fits }
 
 popped_is : (m : Mutator) (rest : List ℕ) (w : ℕ) → IsMutator m → m.stack ≡ rest ++ w ∷ [] → IsMutator (record m { stack = rest }) × IsWord w
@@ -164,7 +164,7 @@ opening_is pages some few = record {
     distinct = λ a b o p io ip e. absurd (none-some o io);
     apart = λ a b o p io ip lt. absurd (none-some o io);
   };
-  slots = length-replicate {A = Option Mutator} 16 None;
-  mutators = All-replicate IsSlot 16 None tt;
-  globals = row_of_zeros 64;
+  slots = length-replicate {A = Option Mutator} SLOTS None;
+  mutators = All-replicate IsSlot SLOTS None tt;
+  globals = row_of_zeros GLOBALS;
 }

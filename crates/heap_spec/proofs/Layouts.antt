@@ -8,7 +8,7 @@ use Rattle.std.proofs.Math.Nat.{mul-le-mul_left}
 use Rattle.std.proofs.lemmas.Bool.{cases_lt, cases_order, leb-false}
 use Rattle.std.proofs.lemmas.Option.{same_Some, none-some}
 use Rattle.std.proofs.lemmas.List.Sums.{AllPass-from_list_all}
-use Rattle.words.specs.declared.limits.TheConstants.{PAGE_BYTES, PAGE_WORDS}
+use Rattle.words.specs.declared.limits.TheConstants.{GRANULE_BYTES, MAX_SMALL_WORDS, PAGE_BYTES, PAGE_WORDS}
 use Rattle.words.specs.declared.class.TheConstants.{CLASSES}
 use Rattle.words.specs.declared.class.Placement.{Placement}
 use Rattle.words.specs.declared.class.Placement.TheVariants.{Small, Large}
@@ -43,13 +43,13 @@ placed n place e = outer _ e
     classes : All IsSizeClass CLASSES
     classes = AllPass-from_list_all (λ x. list_any (λ c. c == x) CLASSES) CLASSES refl
 
-    inner : (b : Bool) → nat_le n 256 ≡ b → cond b (option_map Small (find (λ c. nat_le n c) CLASSES)) (Some (Large (div_ceil n PAGE_WORDS))) ≡ Some place → IsPlacement place
+    inner : (b : Bool) → nat_le n MAX_SMALL_WORDS ≡ b → cond b (option_map Small (find (λ c. nat_le n c) CLASSES)) (Some (Large (div_ceil n PAGE_WORDS))) ≡ Some place → IsPlacement place
     inner true t e = small_place _ place (λ c f. find_holds IsSizeClass (λ c. nat_le n c) CLASSES c classes f) e
-    inner false t e = let more : 256 < n = leb-false n 256 t in subst IsPlacement (same_Some _ _ e) (let some : 0 < div_ceil n PAGE_WORDS = omega arith in some)
+    inner false t e = let more : MAX_SMALL_WORDS < n = leb-false n MAX_SMALL_WORDS t in subst IsPlacement (same_Some _ _ e) (let some : 0 < div_ceil n PAGE_WORDS = omega arith in some)
 
-    outer : (b : Bool) → cond b None (cond (nat_le n 256) (option_map Small (find (λ c. nat_le n c) CLASSES)) (Some (Large (div_ceil n PAGE_WORDS)))) ≡ Some place → IsPlacement place
+    outer : (b : Bool) → cond b None (cond (nat_le n MAX_SMALL_WORDS) (option_map Small (find (λ c. nat_le n c) CLASSES)) (Some (Large (div_ceil n PAGE_WORDS)))) ≡ Some place → IsPlacement place
     outer true e = absurd (none-some place e)
-    outer false e = inner (nat_le n 256) refl e
+    outer false e = inner (nat_le n MAX_SMALL_WORDS) refl e
 
 -- cells and pages lie in the heap
 pub cell_lies : (pages base len : ℕ) → IsCell pages base len → LieInHeap pages base len
@@ -62,7 +62,7 @@ cell_lies pages base len c =
     let some : 2 ≤ len = class_some len c.class in
     record { some = omega arith; from = omega arith; to = omega arith; aligned = even (len / 2) (let even : len % 2 ≡ 0 = class_even len c.class in omega arith) }
   where
-    even : (half : ℕ) → len ≡ 2 * half → base % 16 ≡ 0
+    even : (half : ℕ) → len ≡ 2 * half → base % GRANULE_BYTES ≡ 0
     even half e =
         let is : base ≡ page_start c.page + 8 * (len * c.cell) = c.is_cell in
         let twice : len * c.cell ≡ 2 * (half * c.cell) = ap (λ x. x * c.cell) e ∙ (let m : 2 * half * c.cell ≡ 2 * (half * c.cell) = omega arith in m) in

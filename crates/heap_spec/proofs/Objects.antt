@@ -7,7 +7,7 @@ use Rattle.std.proofs.lemmas.Option.{same_Some, none-some}
 use Rattle.std.proofs.lemmas.List.{length-set}
 use Rattle.std.proofs.lemmas.List.Elements.{All-set, Contains-get_or}
 use Rattle.std.proofs.lemmas.List.Folds.{list_any_none, list_any-from_Any}
-use Rattle.words.specs.declared.limits.TheConstants.{PAGE_WORDS}
+use Rattle.words.specs.declared.limits.TheConstants.{MAX_SMALL_WORDS, PAGE_WORDS}
 use Rattle.words.specs.declared.class.Kind.{Kind}
 use Rattle.words.specs.declared.class.Placement.{Placement}
 use Rattle.words.specs.declared.class.Placement.TheVariants.{Small, Large}
@@ -158,7 +158,7 @@ room_apart s h (Small n) kind a class room b p is ne =
     same_size m e on laid =
         ⊎_elim
         (λ c. subst (AreApart a n b) (sym e) (cell_apart s.pages a n b cell ne (subst (λ x. LiesOn b x room.page) e on) (subst (IsCell s.pages b) e c)))
-        (λ whole. let few : n ≤ 256 = class_few n class in let some = whole.some in let size = whole.whole in absurd (omega arith))
+        (λ whole. let few : n ≤ MAX_SMALL_WORDS = class_few n class in let some = whole.some in let size = whole.whole in absurd (omega arith))
         laid
 
     inside : length p.words ≡ n → LiesOn b (length p.words) room.page → AreApart a n b (length p.words)

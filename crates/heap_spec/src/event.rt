@@ -27,7 +27,7 @@ pub enum Event {
     /// Ends the cycle.
     Finish,
 
-    /// Sweeps a pending block.
+    /// Sweeps a pending page.
     Sweep,
 
     /// Collects in full.

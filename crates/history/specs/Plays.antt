@@ -20,6 +20,7 @@ module _ {C R : Type 0} where
   abbrev pub acted : List (Event C R) → View C R → View C R
   acted said v = record v { log = v.log ++ said; guest = record { slot = v.guest.slot; seen = v.log ++ said; mine = v.guest.mine ++ said } }
 
+  -- The step of such an event: what came since the guest last saw is all of others, and its own events are then exactly its slot's
   pub record Acted (rank : C → Rank) (said : List (Event C R)) (v w : Me Unit (View C R)) : Type 0 where
     pub before : GrowsByOthers v.0.guest.slot v.0.guest.seen v.0.log
     pub owned : Owned rank v.0.guest.slot (v.0.log ++ said) (v.0.guest.mine ++ said)
@@ -30,9 +31,11 @@ module _ {C R : Type 0} where
   slot_of [] = 0
   slot_of (e ∷ es) = e.who
 
+  -- what the seat is then: the guest has seen the whole history with this event, which is its only one
   abbrev pub began : List (Event C R) → View C R → View C R
   began said v = record v { log = v.log ++ said; hosts = true; guest = record { slot = slot_of said; seen = v.log ++ said; mine = said } }
 
+  -- The step of such an event: the guest's own events are exactly this one
   pub record Began (rank : C → Rank) (said : List (Event C R)) (v w : Me Unit (View C R)) : Type 0 where
     pub owned : Owned rank (slot_of said) (v.0.log ++ said) said
     pub view_is : w ≡ (began said v.0, v.1)
@@ -41,6 +44,7 @@ module _ {C R : Type 0} where
   abbrev pub ended : List (Event C R) → View C R → View C R
   ended said v = record v { log = v.log ++ said; hosts = false; guest = no_pass }
 
+  -- The step of such an event: what came since the guest last saw is all of others, and up to it the guest's own events were exactly its slot's
   pub record Ended (rank : C → Rank) (said : List (Event C R)) (v w : Me Unit (View C R)) : Type 0 where
     pub before : GrowsByOthers v.0.guest.slot v.0.guest.seen v.0.log
     pub owned : Owned rank v.0.guest.slot v.0.log v.0.guest.mine
@@ -50,6 +54,7 @@ module _ {C R : Type 0} where
   abbrev pub learnt : View C R → View C R
   learnt v = record v { guest = record { slot = v.guest.slot; seen = v.log; mine = v.guest.mine } }
 
+  -- The step of that: what the guest learns is all of others, and its own events are still exactly its slot's
   pub record Learnt (rank : C → Rank) (v w : Me Unit (View C R)) : Type 0 where
     pub before : GrowsByOthers v.0.guest.slot v.0.guest.seen v.0.log
     pub owned : Owned rank v.0.guest.slot v.0.log v.0.guest.mine
@@ -59,6 +64,7 @@ module _ {C R : Type 0} where
   abbrev pub saw : List (Event C R) → View C R → View C R
   saw log v = record v { pass = record { slot = v.pass.slot; seen = log; mine = v.pass.mine } }
 
+  -- The step of that: the word is the count of a legal history, modulo 2^64, in which what is new to the pass is all of others
   pub record Saw (rank : C → Rank) (legal : List (Event C R) → Type 0) (v : Me Unit (View C R)) (found : ℕ) (w : Me Unit (View C R)) : Type 0 where
     pub log : List (Event C R)
     pub before : GrowsByOthers v.0.pass.slot v.0.pass.seen log
@@ -74,6 +80,8 @@ module _ {C R : Type 0} where
     guest = record { slot = v.guest.slot; seen = longer v.pass.seen v.guest.seen; mine = v.guest.mine };
   }
 
+  -- The step of that: the two are of different slots, one of them had seen what the other had and then events that are all of others, and the own
+  -- events of both are still exactly their slots'
   pub record Met (rank : C → Rank) (v w : Me Unit (View C R)) : Type 0 where
     pub one : GrowsByOthers v.0.pass.slot v.0.pass.seen v.0.guest.seen ⊎ GrowsByOthers v.0.guest.slot v.0.guest.seen v.0.pass.seen
     pub apart : v.0.pass.slot ≡ v.0.guest.slot → ⊥

@@ -4,6 +4,7 @@ use Rattle.std.specs.Int.{bit_at}
 use Rattle.words.specs.declared.limits.TheConstants.{MAX_HELPERS}
 use Rattle.mark_bits.specs.declared.claimer_view.ClaimerView.{ClaimerView}
 
+-- a claimer with so many parts, the marks at the start, the words that it saw, and the bits that it won
 abbrev pub claimer : ℕ → List Bool → List (ℕ × ℕ) → List ℕ → ClaimerView
 claimer parts start seen won = record { parts = parts; start = start; seen = seen; won = won }
 
@@ -33,6 +34,7 @@ first_view start = claimer all_parts start [] []
 abbrev pub kept_part : ClaimerView → ClaimerView
 kept_part v = claimer (v.parts - 1) v.start v.seen v.won
 
+-- the one that has won nothing: one part, which knows what the first knew
 abbrev pub cut_part : ClaimerView → ClaimerView
 cut_part v = claimer 1 v.start v.seen []
 
@@ -40,9 +42,11 @@ cut_part v = claimer 1 v.start v.seen []
 abbrev pub joined : ClaimerView → ClaimerView → ClaimerView
 joined v w = claimer (v.parts + w.parts) v.start (v.seen ++ w.seen) (v.won ++ w.won)
 
+-- what is left of a claimer that was joined to another: no part, and nothing known or won
 abbrev pub spent : ClaimerView
 spent = claimer 0 [] [] []
 
+-- one if it is so, and none if it isn't
 abbrev pub one : Bool → ℕ
 one b = cond b 1 0
 

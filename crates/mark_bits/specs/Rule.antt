@@ -20,6 +20,7 @@ pub record IsTrueOf (start : List Bool) (words : List ℕ) (v : ClaimerView) : T
   pub known : (k : ℕ) → knows v k ≡ true → bit words k ≡ true
   pub idle : v.parts ≡ 0 → v.won ≡ []
 
+-- Each set bit was set at the start or was won once.
 pub record IsWonOnce (start : List Bool) (s : State (Unit {0}) ClaimerView) : Type 0 where
   pub size : 64 * length s.words ≡ length start
   pub parts : total (λ v. v.parts) s.views ≡ all_parts
@@ -48,5 +49,6 @@ pub record Finds (v : ClaimerView) (k n : ℕ) : Type 0 where
 abbrev pub claimed : Step (Unit {0}) → Me (Unit {0}) ClaimerView → ℕ → Me (Unit {0}) ClaimerView → Type 0
 claimed s v n w = (w.1 ≡ v.1) × ((k : ℕ) → k / 64 ≡ s.word → mask k ≡ s.first → (w.0 ≡ after_claim v.0 k n) × Finds v.0 k n)
 
+-- a look says the place of its word; the claimer has then seen what stands there, which has each bit that was set at the start or that it knew
 abbrev pub looked : Step (Unit {0}) → Me (Unit {0}) ClaimerView → ℕ → Me (Unit {0}) ClaimerView → Type 0
 looked s v n w = (w.1 ≡ v.1) × (w.0 ≡ after_look v.0 s.word n) × ((k : ℕ) → k / 64 ≡ s.word → Finds v.0 k n)

@@ -7,7 +7,7 @@ use Rattle.std.proofs.lemmas.List.{ext_get_or, get_or-take, get_or-drop, length-
 use Rattle.std.proofs.lemmas.List.FromFn.{length-map-range_with_len, get_or-map-range_with_len}
 use Rattle.std.proofs.lemmas.List.Elements.{Contains-append_left, Contains-append_right, Contains-append_cases}
 use Rattle.words.specs.declared.class.Kind.TheVariants.{Normal}
-use Rattle.words.specs.declared.limits.TheConstants.{PAGE_GRANULES}
+use Rattle.words.specs.declared.limits.TheConstants.{FIRST_ADDRESS, PAGE_GRANULES}
 use Rattle.words.specs.Bits.{Has}
 use Rattle.words.specs.Layout.{granule}
 use Rattle.pages.specs.Memory.{place, word_at}
@@ -43,7 +43,7 @@ words_append found a ws b x (and_word {ws = vs} {w = v} {new = c} y z) =
     subst (λ l. MarksWords found a l c) (append_assoc ws vs (v ∷ [])) (and_word (words_append found a ws b x y) z)
 
 -- the words of an object from one of them on, as they lie in a row
-pub run_words : (words : List ℕ) (f : Found) (first n start : ℕ) → start ≡ word_address f first → 268435456 ≤ start → place start + n ≤ length words → slice_range words (place start) (place start + n) ≡ words_of words f first n
+pub run_words : (words : List ℕ) (f : Found) (first n start : ℕ) → start ≡ word_address f first → FIRST_ADDRESS ≤ start → place start + n ≤ length words → slice_range words (place start) (place start + n) ≡ words_of words f first n
 run_words words f first n start is above inside =
     let at = place start in
     let row = words_of words f first n in

@@ -12,6 +12,7 @@ use Rattle.words.specs.declared.class.TheConstants.{CLASSES}
 use Rattle.words.specs.Bits.{IsClear}
 use Rattle.words.specs.Classes.{IsSizeClass}
 use Rattle.words.proofs.Classes.{class_passes, class_at}
+use Rattle.object_space.specs.declared.space.available_pages.TheConstants.{ROWS}
 use Rattle.object_space.specs.AvailableRows.{kind_number, row_number, row_of, AreClear, IsBitSet}
 
 -- the place of a class among the classes, and back
@@ -56,7 +57,7 @@ number_one c d k l is is' e =
     let place : position_or_len (λ n. n == c) CLASSES ≡ position_or_len (λ n. n == d) CLASSES = omega arith in
     (sym (class_of_index c is) ∙ ap (λ i. get_or CLASSES i 0) place ∙ class_of_index d is', kind_one k l (omega arith))
 
-pub number_few : (class : ℕ) (kind : Kind) → IsSizeClass class → row_number class kind < 26
+pub number_few : (class : ℕ) (kind : Kind) → IsSizeClass class → row_number class kind < ROWS
 unfolding row_number
 number_few class kind is =
     let x = kind_few kind in
@@ -112,7 +113,7 @@ one_more_row rows row count pages all clear = record {
     last : (n : ℕ) → n ≡ length rows → get_or (rows ++ row ∷ []) n [] ≡ row
     last n e = ap (λ m. get_or (rows ++ row ∷ []) m []) e ∙ get_or_push rows row [] (length rows) refl
 
-pub all_clear : (rows : List (List Bool)) (pages : ℕ) → AllClear rows 26 pages → AreClear rows pages
+pub all_clear : (rows : List (List Bool)) (pages : ℕ) → AllClear rows ROWS pages → AreClear rows pages
 all_clear rows pages all = record { each = λ class kind is. all.each (row_number class kind) (number_few class kind is) }
 
 pub ruleset rows = (number_normal, number_pointer_free, index_inside, index_listed, no_rows, one_more_row, all_clear)

@@ -57,14 +57,6 @@ impl Memory {
         }
     }
 
-    /// The number of words.
-    pub fn len(&self) -> usize
-        ensures len { result ≡ length self.now }
-        ensures small { result ≤ PAGE_WORDS * MAX_PAGES }
-    {
-        self.words.len()
-    }
-
     /// The word at an address.
     #[inline]
     pub fn read(&self, address: u64) -> u64

@@ -68,6 +68,7 @@ fn run_end(row: &BitRow, first: usize) -> usize
     }
 }
 
+// Makes n pages of a row free, or taken, from the page `first` on.
 #[tactic(auto, using(crate::proofs::Runs::filling))]
 fn fill(row: &mut BitRow, first: usize, n: usize, free: bool)
     requires inside { first + n ≤ length row.old }
@@ -105,14 +106,6 @@ impl PagePool {
         ensures small { result ≤ MAX_PAGES }
     {
         self.free.len() as u32
-    }
-
-    /// Whether a page is free.
-    pub fn is_free(&self, page: PageNo) -> bool
-        requires { page < length self.now }
-        ensures { result ≡ slice_index_or self.now page false }
-    {
-        self.free.is_set(page as usize)
     }
 
     /// Takes n consecutive pages, the lowest that are free, and answers the first of them. `None` exactly where there

@@ -24,7 +24,7 @@ pub fn is_free(objects: &[Extent], page: PageNo) -> bool
     true
 }
 
-/// Whether the object has this length and this kind, if it lies on the page.
+// Whether the object has this length and this kind, if it lies on the page.
 fn agrees(object: &Extent, page: PageNo, length: u64, kind: Kind) -> bool
     ensures yes { IsTrue result → LiesOn object.now.base object.now.length page → (object.now.length ≡ length) × (object.now.kind ≡ kind) }
     ensures no { result ≡ false → (LiesOn object.now.base object.now.length page → (object.now.length ≡ length) × (object.now.kind ≡ kind)) → ⊥ }
@@ -61,7 +61,7 @@ pub fn is_base(objects: &[Extent], address: u64) -> bool
     false
 }
 
-/// The first cell of the page that is no object's base.
+// The first cell of the page that is no object's base.
 fn free_cell(objects: &[Extent], page: PageNo, length: u64) -> Option<u64>
     requires { (0 < length) × (length ≤ MAX_SMALL_WORDS) × (length % GRANULE_WORDS ≡ 0) }
     ensures some { IfSome result (λ a. (cell : ℕ) × (length * (cell + 1) ≤ PAGE_WORDS) × (a ≡ page_start page + WORD_BYTES * (length * cell)) × IsNoBase objects.now a) }
@@ -77,7 +77,7 @@ fn free_cell(objects: &[Extent], page: PageNo, length: u64) -> Option<u64>
     None
 }
 
-/// A place on the page for an object of a class.
+// A place on the page for an object of a class.
 fn place_on(objects: &[Extent], page: PageNo, length: u64, kind: Kind) -> Option<u64>
     requires { (0 < length) × (length ≤ MAX_SMALL_WORDS) × (length % GRANULE_WORDS ≡ 0) }
     ensures some { IfSome result (IsPlaceOn objects.now page length kind) }
@@ -92,7 +92,7 @@ fn place_on(objects: &[Extent], page: PageNo, length: u64, kind: Kind) -> Option
     free_cell(objects, page, length)
 }
 
-/// A place for an object of a class.
+// A place for an object of a class.
 fn small_place(objects: &[Extent], pages: u32, length: u64, kind: Kind) -> Option<u64>
     requires { (0 < length) × (length ≤ MAX_SMALL_WORDS) × (length % GRANULE_WORDS ≡ 0) }
     ensures some { IfSome result (IsSmallPlace objects.now pages length kind) }
@@ -120,7 +120,7 @@ pub fn is_free_run(objects: &[Extent], first: PageNo, count: u32) -> bool
     true
 }
 
-/// A place for a large object.
+// A place for a large object.
 fn large_place(objects: &[Extent], pages: u32, count: u32) -> Option<u64>
     requires { pages ≤ MAX_PAGES }
     ensures some { IfSome result (IsLargePlace objects.now pages count) }

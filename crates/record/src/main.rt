@@ -32,7 +32,8 @@ fn written(
 
 // Prints the lines that are written of a script's commands, and answers the program's status.
 fn print_run(rt: &HostRuntime, recorder: &mut Recorder, script: &str) -> u8 {
-    for line in script.lines() {
+    for line in script.split_inclusive('\n') {
+        let line = line.strip_suffix('\n').unwrap_or(line);
         let Ok(Some(text)) = written(rt.alloc(), recorder, line) else {
             return 2;
         };

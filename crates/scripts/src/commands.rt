@@ -10,7 +10,7 @@ use crate::words_of_line::Words;
 use heap_spec::{Call, Event};
 use words::Slot;
 
-/// The call that stands after a slot.
+// The call that stands after a slot.
 fn call(rest: &mut Words<'_>) -> Option<Call>
     ensures { ReadsCall rest.old result }
 {
@@ -38,7 +38,7 @@ fn call(rest: &mut Words<'_>) -> Option<Call>
     }
 }
 
-/// The collector's command that stands after `gc`.
+// The collector's command that stands after `gc`.
 fn collector_command(rest: &mut Words<'_>) -> Option<Event>
     ensures { ReadsCommand (codes "gc" ∷ rest.old) result }
 {
@@ -61,7 +61,7 @@ fn collector_command(rest: &mut Words<'_>) -> Option<Event>
     }
 }
 
-/// The command that these words are.
+// The command that these words are.
 fn command_of(words: &mut Words<'_>) -> Option<Event>
     ensures { ReadsCommand words.old result }
 {

@@ -40,14 +40,14 @@ impl InputBuffer {
         })
     }
 
-    /// Whether nothing is left.
+    // Whether nothing is left.
     fn is_empty(&self) -> bool
         ensures { MatchBool result (self.now ≡ []) (self.now ≡ [] → ⊥) }
     {
         self.start == self.end
     }
 
-    /// Takes the next byte.
+    // Takes the next byte.
     fn next(&mut self) -> Option<u8>
         ensures { MatchOption result ((self.old ≡ []) × (self.new ≡ [])) (λ byte. self.old ≡ byte ∷ self.new) }
     {
@@ -59,7 +59,7 @@ impl InputBuffer {
         Some(byte)
     }
 
-    /// Reads the next bytes of the source. Nothing comes at its end.
+    // Reads the next bytes of the source. Nothing comes at its end.
     fn fill<R: Source>(&mut self, source: &mut R) -> Result<(), Failed>
         requires { self.old ≡ [] }
         ensures ok { OnOk result (Consumes (R.remaining source.old) (R.remaining source.new) self.new) }

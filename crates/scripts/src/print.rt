@@ -12,7 +12,7 @@ use heap_spec::Reply;
 use itoa::Buffer;
 use words::limits::{FIRST_ADDRESS, PAGE_BYTES};
 
-/// Puts a reply's text, without its newline, in the place of what was there.
+// Puts a reply's text, without its newline, in the place of what was there.
 fn put_reply(text: &mut ArrayString<REPLY_BYTES>, pages: u32, reply: Reply)
     requires { pages ≤ MAX_PAGES }
     ensures text { text.new.bytes ≡ reply_text pages reply }

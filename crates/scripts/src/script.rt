@@ -17,7 +17,7 @@ use arrayvec::ArrayVec;
 use heap_core::Core;
 use std::alloc::Global;
 
-/// Runs the lines of a reader over a new core.
+// Runs the lines of a reader over a new core.
 fn run_lines<R: Source, W: Sink>(
     core: &mut Core,
     buffer: &mut InputBuffer,

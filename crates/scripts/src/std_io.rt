@@ -28,7 +28,7 @@ impl<T> Std<T> {
         }
     }
 
-    /// Counts a fault.
+    // Counts a fault.
     fn fail(&mut self) -> Failed
         ensures inner { self.new.inner ≡ self.old.inner }
         ensures counted { self.new.faults.n ≡ self.old.faults.n + 1 }

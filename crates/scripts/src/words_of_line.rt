@@ -6,7 +6,7 @@ ghost use Rattle.scripts.specs.Fields.{ReadsOne, ReadsTwo, ReadsThree};
 use crate::field::Field;
 use std::marker::Model;
 
-/// The first word of a line, and what stands after the space behind it.
+// The first word of a line, and what stands after the space behind it.
 fn next_word(line: &[u8]) -> (&[u8], Option<&[u8]>)
     ensures last { IfNone result.1 (words_of line.now ≡ result.0.now ∷ []) }
     ensures more { IfSome result.1 (λ rest. words_of line.now ≡ result.0.now ∷ words_of rest.now) }
@@ -54,7 +54,7 @@ impl<'a> Words<'a> {
         Some(word)
     }
 
-    /// Takes the next word, which is to be of this field.
+    // Takes the next word, which is to be of this field.
     fn next<A: Field>(&mut self) -> Option<A>
         ensures { MatchOption result ((a : A) (rest : List (List ℕ)) → A.fits a → self.old ≡ A.text a ∷ rest → ⊥)
             (λ a. (self.old ≡ A.text a ∷ self.new) × A.fits a) }

@@ -47,9 +47,9 @@ impl<J: Naming> SharedHeap<J> {
         }
     }
 
-    /// Runs work that is no event on the core, under the lock: on a core that stands for where the history leads that the collector has
-    /// then seen, and that is marking exactly if its own events say so. What is true of every core is true of it before and
-    /// after: while it is marking, the dirty-page invariant holds.
+    /// Runs the caller's own work, which is no event, on the core, under the lock; that core stands for where the history leads which
+    /// the collector has then seen, and is marking exactly if its own events say so. What is true of every core is true of
+    /// it before and after: while it is marking, the dirty-page invariant holds.
     pub fn quiet<Q: Quiet<Core>>(
         &self,
         rt: &impl Wait,

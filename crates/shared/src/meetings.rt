@@ -11,7 +11,7 @@ use crate::tokens::{Collector, Mutator};
 use history::Naming;
 
 impl<J: Naming> SharedHeap<J> {
-    /// How many collections were granted in the history that the mutator has then seen.
+    /// How many collections were granted in the history that the mutator has then seen, modulo 2^64.
     pub fn gc_no(&self, me: &mut Mutator<J>) -> u64
         ensures looks { Looks J.origin me.old me.new }
         ensures count { result ≡ count rank_of me.new.seen % 2 ^ 64 }
@@ -19,7 +19,7 @@ impl<J: Naming> SharedHeap<J> {
         self.log.count(&mut me.pass)
     }
 
-    /// How many collections were granted, which the collector's own events tell.
+    /// How many collections were granted, modulo 2^64, which the collector's own events tell.
     pub fn gc_no_of(&self, collector: &mut Collector<J>) -> u64
         ensures looks { Looks J.origin collector.old collector.new }
         ensures count { result ≡ count rank_of collector.new.mine % 2 ^ 64 }

@@ -26,6 +26,7 @@ IsPlainCall Detach = ⊥
 abbrev pub AreReady : List Call → List Reply → Type 0
 AreReady calls replies = All IsPlainCall calls × (length replies ≡ length calls)
 
+-- whether a cycle runs after this call, if b says whether one ran before
 abbrev pub marked : Bool → Call → Bool
 marked b Attach = b
 marked b (Set n) = b
@@ -36,6 +37,7 @@ marked b Finish = false
 marked b Collect = false
 marked b Detach = b
 
+-- whether a cycle runs after these events, if b says whether one ran before
 abbrev pub running_from : Bool → List (Event Call Reply) → Bool
 running_from b [] = b
 running_from b (e ∷ es) = running_from (marked b e.call) es
@@ -52,9 +54,11 @@ IsFine start pass = Agrees rank_of (IsOpening start) Steps pass
 abbrev pub Extends : ℕ → Known Call Reply → Call → Reply → Known Call Reply → Type 0
 Extends start old call reply new = headline.Extends rank_of (IsOpening start) Steps old call reply new
 
+-- the headline of a first call, of such a register
 abbrev pub Begun : ℕ → Known Call Reply → Call → Reply → Type 0
 Begun start pass call reply = headline.Begun rank_of (IsOpening start) Steps pass call reply
 
+-- the headline of a look that makes no call, of such a register
 abbrev pub Looks : ℕ → Known Call Reply → Known Call Reply → Type 0
 Looks start old new = headline.Looks rank_of (IsOpening start) Steps old new
 

@@ -7,6 +7,7 @@ use Rattle.shared_register.specs.declared.register.Reply.{Reply}
 use Rattle.shared_register.specs.Calls.{AreReady, Ran, Settled, StandsIn}
 
 module _ {J : Type 0} where
+  -- the job's calls are plain ones, with room for each reply
   abbrev pub CanRun : Job J → Type 0
   CanRun job = AreReady job.calls.items job.replies.items
 

@@ -15,6 +15,7 @@ pub record State : Type 0 where
   pub value : ℕ
   pub running : Bool
 
+-- which calls are a slot's first and its last, and which are counted
 abbrev pub rank_of : Call → Rank
 rank_of Attach = ranks.First
 rank_of (Set n) = ranks.Plain

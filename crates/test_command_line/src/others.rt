@@ -10,9 +10,9 @@ use std::thread::Threads;
 
 /// Its first mutator fills four pages.
 const WORKLOAD: &str =
-    "attach\nattach\n0 set 1 5\n1 get 1\ngc no\n0 get 1\n0 alloc 2 1537 normal\n0 alloc 3 1 normal\n";
+    "attach\nattach\n0 set 1 5\n1 get 1\ngc no\ngc begin\ngc finish\n0 get 1\n0 alloc 2 1537 normal\n0 alloc 3 1 normal\n";
 
-const REPLIES: &str = "mutator 0\nok\n5\nok\nrefused 6 Full\nmutator 1\n0\ncollector\n0\n";
+const REPLIES: &str = "mutator 0\nok\n5\nok\nrefused 6 Full\nmutator 1\n0\ncollector\n0\nok\n0\n";
 
 /// The text was made by a program of its own in another language, over the generator's published rule.
 const SEED_7: &str =

@@ -4,7 +4,7 @@ use fixtures::BlockSpace;
 use std::alloc::Global;
 use std::process::Abort;
 use std::test::Fail;
-use words::limits::FIRST_ADDRESS;
+use words::limits::{FIRST_ADDRESS, PAGE_BYTES, PAGE_GRANULES, PAGE_WORDS};
 use words::{Kind, PageNo, granule_of, page_start};
 
 // The object in a cell of so many words.
@@ -23,7 +23,7 @@ fn small(page: PageNo, cell: u16, words: u32, kind: Kind) -> Found {
 fn large(page: PageNo, pages: u16, kind: Kind) -> Found {
     Found {
         base: page_start(page),
-        len: 512 * u32::from(pages),
+        len: PAGE_WORDS as u32 * u32::from(pages),
         kind,
         page,
         cell: 0,
@@ -90,7 +90,7 @@ fn assert_walks_page(rt: &impl Abort, map: &BlockMap, objects: &[Found], page: P
     let mut from = start;
     for found in objects {
         let end = end_of(found);
-        if found.base < start.wrapping_add(4_096) && start < end {
+        if found.base < start.wrapping_add(PAGE_BYTES) && start < end {
             let next = next_from(map, page, from);
             assert_eq!(rt; next, Some(*found), "page {page} from {from}");
             from = from.max(end);
@@ -158,7 +158,7 @@ fn cut_with(space: &mut BlockSpace, page: PageNo, words: u64, kind: Kind, cells:
         return false;
     }
     space.fill(page);
-    for cell in 0..256 {
+    for cell in 0..PAGE_GRANULES as u16 {
         if !cells.contains(&cell) {
             space.put(page, cell);
         }

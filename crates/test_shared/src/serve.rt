@@ -2,6 +2,7 @@
 ghost use Rattle.std.specs.Prelude.{◌≡◌};
 
 use heap_core::quiet::{Mark, Retrace, Roots, Sweep};
+use heap_spec::answers::{count, done, word};
 use heap_spec::{Call, Event, Reply};
 use history::Naming;
 use shared::{Collector, Mutator, SharedHeap};
@@ -15,27 +16,6 @@ pub fn reg(number: u8) -> Reg {
         unreachable!();
     };
     reg
-}
-
-fn done(answer: Result<(), Refusal>) -> Reply {
-    match answer {
-        Ok(()) => Reply::Done,
-        Err(refusal) => Reply::Refused(refusal),
-    }
-}
-
-fn word(answer: Result<u64, Refusal>) -> Reply {
-    match answer {
-        Ok(word) => Reply::Word(word),
-        Err(refusal) => Reply::Refused(refusal),
-    }
-}
-
-fn count(answer: Result<u64, Refusal>) -> Reply {
-    match answer {
-        Ok(count) => Reply::Count(count),
-        Err(refusal) => Reply::Refused(refusal),
-    }
 }
 
 /// Makes a mutator's call. Its detach spends the mutator, so here it is refused.

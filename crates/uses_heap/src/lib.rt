@@ -2,7 +2,5 @@
 #![tactic(auto)]
 
 mod first_run;
-mod list;
 
 pub use first_run::store_and_load;
-pub use list::WordList;

@@ -8,6 +8,7 @@ use Rattle.std.proofs.lemmas.Option.{slice_get-get_or}
 use Rattle.std.proofs.lemmas.List.Folds.{find_at, Any-from_list_any}
 use Rattle.std.proofs.lemmas.List.Sums.{AllPass-from_list_all}
 use Rattle.words.specs.declared.class.TheConstants.{CLASSES, INDEX_OF_GRANULES}
+use Rattle.words.specs.declared.limits.TheConstants.{MAX_SMALL_WORDS}
 use Rattle.words.specs.Classes.{IsSizeClass, number_of}
 
 -- a test that each class passes
@@ -16,12 +17,12 @@ class_passes p n all is =
     let a = Any-from_list_any (λ c. c == n) CLASSES is in
     subst (λ x. p x ≡ true) (eqb-true a.1 n a.4) (subst (λ x. p x ≡ true) a.3 (AllPass-from_list_all p CLASSES all a.0 a.1 a.2))
 
--- a size class has words, an even number of them, and at most 256
+-- a size class has words, an even number of them, and at most those of the largest class
 pub class_some : (n : ℕ) → IsSizeClass n → 2 ≤ n
 class_some n is = leb-true 2 n (class_passes (λ c. nat_le 2 c) n refl is)
 
-pub class_few : (n : ℕ) → IsSizeClass n → n ≤ 256
-class_few n is = leb-true n 256 (class_passes (λ c. nat_le c 256) n refl is)
+pub class_few : (n : ℕ) → IsSizeClass n → n ≤ MAX_SMALL_WORDS
+class_few n is = leb-true n MAX_SMALL_WORDS (class_passes (λ c. nat_le c MAX_SMALL_WORDS) n refl is)
 
 pub class_even : (n : ℕ) → IsSizeClass n → n % 2 ≡ 0
 class_even n is = eqb-true (n % 2) 0 (class_passes (λ c. (c % 2) == 0) n refl is)
@@ -44,17 +45,17 @@ pub class_has_number : (n i : ℕ) → IsSizeClass n → i ≡ number_of n → s
 class_has_number n i is e = rw e (slice_get-get_or CLASSES (number_of n) 0 (number_inside n is) ∙ ap Some (class_numbered n is))
 
 -- the place that the table has for a request, checked for each
-table_inside : (n : ℕ) → n ≤ 256 → get_or INDEX_OF_GRANULES (div_ceil n 2) 0 < 13
+table_inside : (n : ℕ) → n ≤ MAX_SMALL_WORDS → get_or INDEX_OF_GRANULES (div_ceil n 2) 0 < 13
 table_inside n few = ltb-true _ _ (agree_below_at (λ k. nat_lt (get_or INDEX_OF_GRANULES (div_ceil k 2) 0) 13) (λ k. true) 257 n refl (omega arith))
 
-table_least : (n : ℕ) → n ≤ 256 → position_or_len (λ c. nat_le n c) CLASSES ≡ get_or INDEX_OF_GRANULES (div_ceil n 2) 0
+table_least : (n : ℕ) → n ≤ MAX_SMALL_WORDS → position_or_len (λ c. nat_le n c) CLASSES ≡ get_or INDEX_OF_GRANULES (div_ceil n 2) 0
 table_least n few =
     eqb-true _ _ (agree_below_at (λ k. position_or_len (λ c. nat_le k c) CLASSES == get_or INDEX_OF_GRANULES (div_ceil k 2) 0) (λ k. true) 257 n refl (omega arith))
 
-pub place_inside : (n g i : ℕ) → n ≤ 256 → g ≡ div_ceil n 2 → i ≡ get_or INDEX_OF_GRANULES g 0 → i < 13
+pub place_inside : (n g i : ℕ) → n ≤ MAX_SMALL_WORDS → g ≡ div_ceil n 2 → i ≡ get_or INDEX_OF_GRANULES g 0 → i < 13
 place_inside n g i few eg ei = rw (ei, eg) (table_inside n few)
 
-pub place_least : (n g i : ℕ) → n ≤ 256 → g ≡ div_ceil n 2 → i ≡ get_or INDEX_OF_GRANULES g 0 → find (λ c. nat_le n c) CLASSES ≡ Some (get_or CLASSES i 0)
+pub place_least : (n g i : ℕ) → n ≤ MAX_SMALL_WORDS → g ≡ div_ceil n 2 → i ≡ get_or INDEX_OF_GRANULES g 0 → find (λ c. nat_le n c) CLASSES ≡ Some (get_or CLASSES i 0)
 place_least n g i few eg ei =
     let at : position_or_len (λ c. nat_le n c) CLASSES ≡ i = table_least n few ∙ (rw (ei, eg) refl) in
     find_at (λ c. nat_le n c) CLASSES ∙ (rw at (slice_get-get_or CLASSES i 0 (place_inside n g i few eg ei)))

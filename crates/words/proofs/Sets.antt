@@ -3,7 +3,7 @@ use Rattle.std.proofs.Common.{◌≡◌, ◌≢◌, ℕ, ◌<◌, ◌≤◌, ◌
 use Rattle.std.specs.Prelude.{◌↔◌}
 use Rattle.std.proofs.lemmas.Bool.{cases_lt, cases_eq, true≢false}
 use Rattle.std.proofs.lemmas.List.{get_or_past}
-use Rattle.words.specs.Bits.{Has, IsFirstFrom, IsEmptyFrom, IsFirstClear}
+use Rattle.words.specs.Bits.{Has, IsFirstFrom, IsEmptyFrom}
 
 pub has_inside : (row : List Bool) (k : ℕ) → Has row k → k < length row
 has_inside row k has = ⊎_elim (λ lt. lt) (λ past. absurd (true≢false (sym has ∙ get_or_past row k false past))) (cases_lt k (length row))
@@ -30,6 +30,3 @@ first_least row low i first k has from = ⊎_elim (λ lt. absurd (true≢false (
 
 pub none_before : (row : List Bool) (low : ℕ) → IsEmptyFrom row low → (k : ℕ) → Has row k → k < low
 none_before row low empty k has = ⊎_elim (λ lt. lt) (λ from. absurd (true≢false (sym has ∙ empty k from (has_inside row k has)))) (cases_lt k low)
-
-pub clear_least : (row : List Bool) (i : ℕ) → IsFirstClear row i → (k : ℕ) → (Has row k → ⊥) → i ≤ k
-clear_least row i first k not = ⊎_elim (λ lt. absurd (not (first.least k lt))) (λ ge. ge) (cases_lt k i)

@@ -3,6 +3,7 @@ use Rattle.std.specs.Prelude.{ℕ, List, codes}
 use Rattle.words.specs.declared.refusal.Refusal.{Refusal}
 use Rattle.words.specs.declared.refusal.Refusal.TheVariants.{NoSlot, Misaligned, NoObject, NotBase, BadSize, Full, StackFull, StackEmpty, WrongPhase}
 
+-- The code that is printed of a refusal.
 abbrev pub code_of : Refusal → ℕ
 code_of NoSlot = 1
 code_of Misaligned = 2
@@ -14,6 +15,7 @@ code_of StackFull = 7
 code_of StackEmpty = 8
 code_of WrongPhase = 9
 
+-- The name that is printed of a refusal, in the codes of its letters.
 abbrev pub name_of : Refusal → List ℕ
 name_of NoSlot = codes "NoSlot"
 name_of Misaligned = codes "Misaligned"

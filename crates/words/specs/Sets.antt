@@ -1,6 +1,6 @@
 -- A row of bits is a set: the places of the bits that are set.
 use Rattle.std.specs.Prelude.{◌≡◌, ◌≢◌, ◌↔◌, ◌⊎◌, ℕ, ◌<◌, ◌≤◌, Bool, true, false, List, length, slice_set}
-use Rattle.words.specs.Bits.{Has, IsClear, IsFirstFrom, IsEmptyFrom, IsFirstClear, IsFullRow}
+use Rattle.words.specs.Bits.{Has, IsClear, IsFirstFrom, IsEmptyFrom}
 
 -- members are places of the row
 abbrev pub MembersAreInside : Type 0
@@ -23,9 +23,3 @@ pub record FirstIsLeast : Type 0 where
   pub first : (row : List Bool) (low i : ℕ) → IsFirstFrom row low i → Has row i × (low ≤ i)
   pub least : (row : List Bool) (low i : ℕ) → IsFirstFrom row low i → (k : ℕ) → Has row k → low ≤ k → i ≤ k
   pub none : (row : List Bool) (low : ℕ) → IsEmptyFrom row low → (k : ℕ) → Has row k → k < low
-
--- The first clear place is the least that is no member, and where there is none, all places are members.
-pub record FirstClearIsLeast : Type 0 where
-  pub first : (row : List Bool) (i : ℕ) → IsFirstClear row i → Has row i → ⊥
-  pub least : (row : List Bool) (i : ℕ) → IsFirstClear row i → (k : ℕ) → (Has row k → ⊥) → i ≤ k
-  pub none : (row : List Bool) → IsFullRow row → (k : ℕ) → k < length row → Has row k

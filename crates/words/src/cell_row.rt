@@ -1,6 +1,7 @@
 //! A row of at most 256 bits that lies in the value itself, seen as the list of its bits.
 ghost use Rattle.std.specs.Prelude.{◌≡◌, ℕ, ◌/◌, ◌<◌, ◌≤◌, Bool, true, false, List, length, replicate, slice_index_or, slice_set, MatchOption, MatchBool};
-ghost use Rattle.words.specs.Bits.{bits, members, IsFullRow, IsEmptyFrom, IsFirstFrom, IsFirstClear};
+ghost use Rattle.words.specs.declared.limits.TheConstants.{PAGE_GRANULES};
+ghost use Rattle.words.specs.Bits.{bits, members, IsEmptyFrom, IsFirstFrom};
 
 use crate::count::ones_of;
 use crate::scan::first_from;
@@ -18,14 +19,14 @@ impl Model for CellRow {
 
     ghost view = { λ s. bits s.words s.len };
 
-    ghost invariant = { λ s. s.len ≤ 256 };
+    ghost invariant = { λ s. s.len ≤ PAGE_GRANULES };
 }
 
 #[tactic(auto, using(crate::proofs::Rows::rows))]
 impl CellRow {
     /// A clear row of so many bits.
     pub fn new(len: u16) -> CellRow
-        requires { len ≤ 256 }
+        requires { len ≤ PAGE_GRANULES }
         ensures { result ≡ replicate len false }
     {
         CellRow { words: [0; 4], len }
@@ -62,19 +63,6 @@ impl CellRow {
     {
         let word = self.words[i as usize / 64];
         self.words[i as usize / 64] = word & !(1 << (i as usize % 64));
-    }
-
-    /// The lowest clear bit, and `None` exactly if every bit is set.
-    #[tactic(auto, using(crate::proofs::Scans::of_row))]
-    pub fn first_clear(&self) -> Option<u16>
-        ensures { MatchOption result (IsFullRow self.now) (λ i. IsFirstClear self.now i) }
-    {
-        let i = first_from(&self.words, false, 0);
-        if i < self.len as usize {
-            Some(i as u16)
-        } else {
-            None
-        }
     }
 
     /// How many members it has.

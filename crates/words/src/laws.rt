@@ -1,5 +1,5 @@
 //! The laws that make a row of bits a set. Each is a function that does nothing, and its contract is the law.
-ghost use Rattle.words.specs.Sets.{MembersAreInside, SetAddsOne, ClearTakesOne, ClearHasNone, FirstIsLeast, FirstClearIsLeast};
+ghost use Rattle.words.specs.Sets.{MembersAreInside, SetAddsOne, ClearTakesOne, ClearHasNone, FirstIsLeast};
 
 /// Members are places of the row.
 pub fn members_are_inside()
@@ -24,9 +24,4 @@ pub fn clear_has_none()
 /// The first member from a place on is the least one there.
 pub fn first_is_least()
     ensures { FirstIsLeast }
-{}
-
-/// The first clear place is the least that is no member.
-pub fn first_clear_is_least()
-    ensures { FirstClearIsLeast }
 {}

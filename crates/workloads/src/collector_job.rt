@@ -6,11 +6,11 @@ ghost use Rattle.workloads.specs.Actors.{Commanded, CommandedAll, CanCommand, Ha
 
 use crate::mutator_job::call_number;
 use each_law::Law;
-use final_pause::{Gate, Helpers};
+use final_pause::{COLLECTOR, Gate, Helpers};
 use heap_core::quiet::{Mark, Retrace, Roots, Sweep};
 use heap_spec::answers::{count, done};
 use heap_spec::{Event, Reply};
-use history::{COLLECTOR, Naming};
+use history::Naming;
 use shared::{Collector, SharedHeap};
 use std::alloc::Global;
 use std::sync::Wait;
@@ -34,7 +34,7 @@ impl<'a, J: Naming> Law<CollectorJob<'a, J>> for GivesCommands {
     ghost does = { λ law job done. HasCommanded J.origin job done };
 }
 
-/// One command of the collector.
+// One command of the collector.
 fn command<J: Naming, R: Threads + Wait + Sync, G: Gate>(
     rt: &R,
     alloc: Global,
@@ -61,7 +61,7 @@ fn command<J: Naming, R: Threads + Wait + Sync, G: Gate>(
     }
 }
 
-/// One command, between two calls of the gate.
+// One command, between two calls of the gate.
 fn give_command<J: Naming, R: Threads + Wait + Sync, G: Gate>(
     rt: &R,
     alloc: Global,
@@ -82,7 +82,7 @@ fn give_command<J: Naming, R: Threads + Wait + Sync, G: Gate>(
     reply
 }
 
-/// Gives the commands in their order, and notes their replies.
+// Gives the commands in their order, and notes their replies.
 fn give_commands<J: Naming, R: Threads + Wait + Sync, G: Gate>(
     rt: &R,
     alloc: Global,

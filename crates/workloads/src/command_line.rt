@@ -11,7 +11,7 @@ use itoa::Buffer;
 use scripts::limits::LINE_BYTES;
 use words::{Global, Kind, Reg};
 
-/// Puts a word behind what was there, and then these numbers, each behind a space.
+// Puts a word behind what was there, and then these numbers, each behind a space.
 fn put_words(line: &mut ArrayString<LINE_BYTES>, word: &str, numbers: &[u64])
     requires front { length line.old.bytes ≤ 8 }
     requires word { length word.now ≤ 8 }
@@ -27,7 +27,7 @@ fn put_words(line: &mut ArrayString<LINE_BYTES>, word: &str, numbers: &[u64])
     }
 }
 
-/// The word of a kind.
+// The word of a kind.
 fn kind_name(kind: Kind) -> &'static str
     ensures text { result.now ≡ kind_word kind }
     ensures short { length result.now ≤ 8 }
@@ -38,19 +38,21 @@ fn kind_name(kind: Kind) -> &'static str
     }
 }
 
+// The number of a register.
 fn register(register: Reg) -> u64
     ensures { result ≡ register }
 {
     u64::from(register.number())
 }
 
+// The number of a global.
 fn global(global: Global) -> u64
     ensures { result ≡ global }
 {
     u64::from(global.number())
 }
 
-/// Puts a call behind what was there.
+// Puts a call behind what was there.
 fn put_call(line: &mut ArrayString<LINE_BYTES>, call: Call)
     requires { length line.old.bytes ≤ 8 }
     ensures { line.new.bytes ≡ line.old.bytes ++ join_with_byte 32 (call_words call) }

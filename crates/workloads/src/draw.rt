@@ -6,6 +6,7 @@ ghost use Rattle.workloads.specs.Draws.{drawn, drawn_calls, drawn_collections};
 use heap_spec::{Call, Event};
 use words::{Global, Kind, Reg, Slot};
 
+// The register that a word draws.
 fn register(word: u32) -> Reg
     ensures { result ≡ word % 16 }
 {
@@ -15,6 +16,7 @@ fn register(word: u32) -> Reg
     register
 }
 
+// The global that a word draws.
 fn global(word: u32) -> Global
     ensures { result ≡ word % 64 }
 {
@@ -24,7 +26,7 @@ fn global(word: u32) -> Global
     global
 }
 
-/// A call, by its number.
+// A call, by its number.
 fn call(number: u32, p: Reg, q: Reg, x: u32) -> Call
     requires { number < 16 }
     ensures { slice_get (drawn_calls p q x) number ≡ Some result }
@@ -48,7 +50,7 @@ fn call(number: u32, p: Reg, q: Reg, x: u32) -> Call
     }
 }
 
-/// A command of the collector, by its number.
+// A command of the collector, by its number.
 fn collection(number: u32, x: u32) -> Event
     requires { number < 8 }
     ensures { slice_get (drawn_collections x) number ≡ Some result }

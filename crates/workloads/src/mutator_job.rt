@@ -75,7 +75,7 @@ pub(crate) fn call_number(place: usize) -> u32
     (place % (1 << u32::BITS)) as u32
 }
 
-/// One call, between two calls of the gate.
+// One call, between two calls of the gate.
 fn make_call<J: Naming, R: Wait, G: Gate>(
     rt: &R,
     heap: &SharedHeap<J>,
@@ -94,7 +94,7 @@ fn make_call<J: Naming, R: Wait, G: Gate>(
     reply
 }
 
-/// Makes the calls in their order, and notes their replies.
+// Makes the calls in their order, and notes their replies.
 fn make_calls<J: Naming, R: Wait, G: Gate>(
     rt: &R,
     heap: &SharedHeap<J>,
@@ -134,7 +134,7 @@ impl<'a, J: Naming, R: Wait> Attached<'a, J, R> {
         self.heap.meet_collector(&mut self.me, collector);
     }
 
-    /// Makes the calls in their order, and notes their replies.
+    // Makes the calls in their order, and notes their replies.
     fn make<G: Gate>(&mut self, gate: &G, calls: &[Call], replies: &mut [Reply])
         requires plain { All IsPlain calls.now }
         requires room { length replies.old ≡ length calls.now }

@@ -45,7 +45,7 @@ impl Replies {
     }
 }
 
-/// Prints replies, a line each.
+// Prints replies, a line each.
 fn print_lines<W: Sink>(replies: &Lines<Reply>, pages: u32, writer: &mut W) -> Result<(), Failed>
     requires { pages ≤ MAX_PAGES }
     ensures ok { OnOk result (Appends (W.written writer.old) (W.written writer.new) (replies_text pages replies.now)) }
@@ -59,7 +59,7 @@ fn print_lines<W: Sink>(replies: &Lines<Reply>, pages: u32, writer: &mut W) -> R
     Ok(())
 }
 
-/// Prints each mutator's line, and its replies below.
+// Prints each mutator's line, and its replies below.
 fn print_mutators<W: Sink>(
     mutators: &[Lines<Reply>],
     pages: u32,
@@ -82,6 +82,7 @@ fn print_mutators<W: Sink>(
     Ok(())
 }
 
+// Prints the replies of all actors.
 fn print_all<W: Sink>(replies: &Replies, pages: u32, writer: &mut W) -> Result<(), Failed>
     requires { pages ≤ MAX_PAGES }
     ensures ok { OnOk result (Appends (W.written writer.old) (W.written writer.new) (all_text pages replies.now)) }

@@ -9,7 +9,7 @@ use history::Naming;
 use shared::Collector;
 use std::sync::Wait;
 
-/// The job's mutator and the collector have then seen one history.
+// The job's mutator and the collector have then seen one history.
 fn meet_one<'a, J: Naming, R: Wait>(collector: &mut Collector<J>, job: &mut MutatorJob<'a, J, R>)
     ensures keeps { Keeps job.old.attached job.new.attached × (job.new.calls ≡ job.old.calls) × (job.new.replies ≡ job.old.replies) }
     ensures both { job.new.attached.seen ≡ collector.new.seen }

@@ -17,7 +17,7 @@ use rand_pcg::Lcg64Xsh32;
 use scripts::limits::LINE_BYTES;
 use std::alloc::{AllocError, Global};
 
-/// Puts a command's line behind a text.
+// Puts a command's line behind a text.
 fn put_line(text: &mut Vec<u8>, command: Event) -> Result<(), AllocError>
     ensures { OnOk result (text.new.items ≡ text.old.items ++ command_line command ++ newline ∷ []) }
 {
@@ -28,7 +28,7 @@ fn put_line(text: &mut Vec<u8>, command: Event) -> Result<(), AllocError>
     Ok(())
 }
 
-/// Puts the line that the next four words draw.
+// Puts the line that the next four words draw.
 fn put_draw(text: &mut Vec<u8>, words: &mut Lcg64Xsh32, mutators: u8) -> Result<(), AllocError>
     requires { mutators ≤ SLOTS }
     ensures { OnOk result ((steps : ℕ) → text.old.items ++ drawn_text mutators (steps + 1) words.old ≡ text.new.items ++ drawn_text mutators steps words.new) }
@@ -40,7 +40,7 @@ fn put_draw(text: &mut Vec<u8>, words: &mut Lcg64Xsh32, mutators: u8) -> Result<
     put_line(text, draw(mutators, x0, x1, x2, x3))
 }
 
-/// Puts the attaches of so many mutators.
+// Puts the attaches of so many mutators.
 fn put_attaches(text: &mut Vec<u8>, mutators: u8) -> Result<(), AllocError>
     ensures { OnOk result (text.new.items ≡ text.old.items ++ text_of (map command_line (replicate mutators Event.Attach))) }
 {
@@ -50,7 +50,7 @@ fn put_attaches(text: &mut Vec<u8>, mutators: u8) -> Result<(), AllocError>
     Ok(())
 }
 
-/// Puts the lines that the next words draw.
+// Puts the lines that the next words draw.
 fn put_draws(
     text: &mut Vec<u8>,
     words: &mut Lcg64Xsh32,

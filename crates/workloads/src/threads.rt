@@ -24,7 +24,7 @@ use std::marker::Brand;
 use std::sync::Wait;
 use std::thread::Threads;
 
-/// A mutator comes, which has to get this slot.
+// A mutator comes, which has to get this slot.
 fn attach_one<'a, J: Naming, R: Wait>(
     rt: &'a R,
     heap: &'a SharedHeap<J>,
@@ -50,7 +50,7 @@ fn attach_one<'a, J: Naming, R: Wait>(
     })
 }
 
-/// The workload's mutators come in their order, and memory for their replies is taken.
+// The workload's mutators come in their order, and memory for their replies is taken.
 fn attach_all<'a, J: Naming, R: Wait>(
     rt: &'a R,
     alloc: Global,
@@ -72,7 +72,7 @@ fn attach_all<'a, J: Naming, R: Wait>(
     Ok(jobs)
 }
 
-/// Takes the replies, and detaches the mutators.
+// Takes the replies, and detaches the mutators.
 fn take_replies<'a, J: Naming, R: Wait>(
     jobs: Vec<MutatorJob<'a, J, R>>,
     replies: &mut Vec<Lines<Reply>>,
@@ -88,7 +88,7 @@ fn take_replies<'a, J: Naming, R: Wait>(
     }
 }
 
-/// Runs each mutator's job in a thread of its own, and the collector's in one more.
+// Runs each mutator's job in a thread of its own, and the collector's in one more.
 fn run_jobs<'a, J: Naming + Send + Sync, R: Threads + Wait + Sync, G: Gate>(
     rt: &R,
     alloc: Global,
@@ -123,7 +123,7 @@ fn run_jobs<'a, J: Naming + Send + Sync, R: Threads + Wait + Sync, G: Gate>(
     )
 }
 
-/// Runs the workload on this heap, of which nobody has seen anything. All memory is taken before the first thread starts.
+// Runs the workload on this heap, of which nobody has seen anything. All memory is taken before the first thread starts.
 fn run_on<J: Naming + Send + Sync, R: Threads + Wait + Sync, G: Gate>(
     rt: &R,
     alloc: Global,
@@ -158,7 +158,7 @@ fn run_on<J: Naming + Send + Sync, R: Threads + Wait + Sync, G: Gate>(
     Ok(Replies::new(replies, Lines::of(answers)))
 }
 
-/// Runs the workload on a heap that has a name.
+// Runs the workload on a heap that has a name.
 fn run_named<J: Naming + Send + Sync, R: Threads + Wait + Sync, G: Gate>(
     rt: &R,
     alloc: Global,

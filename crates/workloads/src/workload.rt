@@ -31,7 +31,7 @@ impl Model for Workload {
     ghost invariant = { λ w. CanBeRun (record { mutators = w.mutators.items; collector = w.collector }) };
 }
 
-/// Puts a call behind those of a mutator.
+// Puts a call behind those of a mutator.
 fn put(lists: &mut Vec<Lines<Call>>, slot: usize, call: Call) -> Result<(), AllocError>
     requires { slot < length lists.old.items }
     ensures count { length lists.new.items ≡ length lists.old.items }
@@ -41,6 +41,7 @@ fn put(lists: &mut Vec<Lines<Call>>, slot: usize, call: Call) -> Result<(), Allo
     lists[slot].push(call)
 }
 
+// Whether a call is one that no workload has.
 fn is_detach(call: Call) -> bool
     ensures { MatchBool result (call ≡ Call.Detach) (call ≡ Call.Detach → ⊥) }
 {
@@ -48,7 +49,7 @@ fn is_detach(call: Call) -> bool
 }
 
 impl Workload {
-    /// No line yet.
+    // No line yet.
     fn new(alloc: Global) -> Workload
         ensures { result ≡ no_lines }
     {
@@ -83,7 +84,7 @@ impl Workload {
         self.collector.as_slice()
     }
 
-    /// Whether a command breaks no rule behind so many lines.
+    // Whether a command breaks no rule behind so many lines.
     fn may_follow(&self, lines: u64, command: &Event) -> bool
         ensures { MatchBool result (MayFollow lines (length self.now.mutators) command.now) (MayFollow lines (length self.now.mutators) command.now → ⊥) }
     {
@@ -102,7 +103,7 @@ impl Workload {
         }
     }
 
-    /// Takes a command that breaks no rule.
+    // Takes a command that breaks no rule.
     fn take(&mut self, alloc: Global, lines: u64, command: Event) -> Result<(), AllocError>
         requires { MayFollow lines (length self.old.mutators) command }
         ensures { OnOk result (self.new ≡ with_command command self.old) }
@@ -146,7 +147,7 @@ impl Workload {
         }
     }
 
-    /// Reads a workload, in time linear in its size. The first fault ends it: a line that breaks a rule, the reader's, or memory's.
+    /// Reads a workload. The first fault ends it: a line that breaks a rule, the reader's, or memory's.
     pub fn read<R: Source>(alloc: Global, reader: &mut R) -> Result<Workload, ScriptError>
         ensures reads { (input : List ℕ) → R.remaining reader.old ≡ Some input → Reads input (R.remaining reader.new) result }
         ensures faults { R.faults reader.new ≡ R.faults reader.old + read_faults result }

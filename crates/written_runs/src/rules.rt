@@ -89,6 +89,7 @@ impl Rule {
     }
 }
 
+// The rule of a request for an object.
 fn of_alloc(reply: &Reply, hint: Hint) -> Rule
     ensures { result ≡ alloc_rule reply.now hint.entry }
 {
@@ -101,6 +102,7 @@ fn of_alloc(reply: &Reply, hint: Hint) -> Rule
     Rule::GivenPlace
 }
 
+// The rule of a mutator's call.
 fn of_call(call: &Call, reply: &Reply, hint: Hint) -> Rule
     ensures { result ≡ call_rule call.now reply.now hint.entry }
 {
@@ -124,6 +126,7 @@ fn of_call(call: &Call, reply: &Reply, hint: Hint) -> Rule
     }
 }
 
+// The rule of a cycle's end.
 fn of_finish(hint: Hint) -> Rule
     ensures { result ≡ finish_rule hint.entry }
 {

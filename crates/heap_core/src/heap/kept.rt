@@ -13,9 +13,6 @@ impl Core {
         ensures some { IfSome result (λ found. IsKeptAt self.now word found) }
         ensures none { IfNone result (KeepsNothingAt self.now word) }
     {
-        let Some(found) = self.objects.find(&self.marker, word) else {
-            return None;
-        };
-        Some(found)
+        self.objects.find(&self.marker, word)
     }
 }

@@ -91,6 +91,7 @@ impl Core {
         };
         Ok(u64::from(found.len))
     }
+
     /// Allocates an object of at least so many words, all 0, and puts its base into `into`.
     ///
     /// # Errors

@@ -3,6 +3,7 @@
 ghost use Rattle.std.specs.Prelude.{◌≡◌, ◌+◌, ◌*◌, ◌<◌, Bool, true, false, [], length, slice_index_or, slice_set, vec_len, IfOk, MatchOption};
 ghost use Rattle.words.specs.Bits.{IsEmptyFrom, IsFirstFrom};
 ghost use Rattle.words.specs.Classes.{IsSizeClass};
+ghost use Rattle.object_space.specs.declared.space.available_pages.TheConstants.{ROWS};
 ghost use Rattle.object_space.specs.AvailableRows.{row_number, row_of, AreClear, IsBitSet};
 
 use super::available_row::AvailableRow;
@@ -21,12 +22,13 @@ pub struct AvailablePages {
 
 impl Model for AvailablePages {
     ghost use Rattle.std.specs.Prelude.{◌≡◌, List, Bool, vec_len};
+    ghost use Rattle.object_space.specs.declared.space.available_pages.TheConstants.{ROWS};
 
     ghost Value = { List (List Bool) };
 
     ghost view = { λ o. o.rows.items };
 
-    ghost invariant = { λ o. vec_len o.rows ≡ 26 };
+    ghost invariant = { λ o. vec_len o.rows ≡ ROWS };
 }
 
 // The number of the row of a class and a kind.
@@ -34,7 +36,7 @@ impl Model for AvailablePages {
 #[tactic(auto, using(crate::proofs::AvailableRows::rows))]
 fn number_of(class: Class, kind: Kind) -> usize
     ensures number { result ≡ row_number class kind }
-    ensures inside { result < 26 }
+    ensures inside { result < ROWS }
     ensures listed { IsSizeClass class }
 {
     let first = 2 * class.index();

@@ -13,6 +13,7 @@ use roots::Mutator;
 use words::limits::{FIRST_ADDRESS, WORD_BYTES};
 use words::{Global, Kind, Refusal, Reg, Slot, class_of};
 
+// What a push would be answered.
 fn push_answer(mutator: &Mutator) -> Reply
     ensures { (c : Contents) (from : ℕ) → MayAnswer c mutator.now (Call.Push from) result }
 {
@@ -22,6 +23,7 @@ fn push_answer(mutator: &Mutator) -> Reply
     Reply::Done
 }
 
+// What a pop would be answered.
 fn pop_answer(mutator: &Mutator) -> Reply
     ensures { (c : Contents) (into : ℕ) → MayAnswer c mutator.now (Call.Pop into) result }
 {
@@ -69,6 +71,7 @@ impl Core {
         Some(self.words[((address - FIRST_ADDRESS) / WORD_BYTES) as usize])
     }
 
+    // What a load would be answered.
     fn load_answer(&self, mutator: &Mutator, at: Reg, offset: u64) -> Reply
         ensures { (into : ℕ) → MayAnswer self.now mutator.now (Call.Load into at offset) result }
     {
@@ -82,6 +85,7 @@ impl Core {
         Reply::Word(word)
     }
 
+    // What a store would be answered.
     fn store_answer(&self, mutator: &Mutator, at: Reg, offset: u64) -> Reply
         ensures { (from : ℕ) → MayAnswer self.now mutator.now (Call.Store at offset from) result }
     {
@@ -95,6 +99,7 @@ impl Core {
         Reply::Done
     }
 
+    // What a request for an object would be answered.
     fn alloc_answer(&self, words: u64, kind: Kind) -> Reply
         ensures { (m : HeapMutator) (into : ℕ) → MayAnswer self.now m (Call.Alloc into words kind) result }
     {
@@ -107,6 +112,7 @@ impl Core {
         Reply::Done
     }
 
+    // What the freeing of an object would be answered.
     fn free_answer(&self, mutator: &Mutator, at: Reg) -> Reply
         ensures { MayAnswer self.now mutator.now (Call.Free at) result }
     {
@@ -120,6 +126,7 @@ impl Core {
         Reply::Done
     }
 
+    // What a question for a base would be answered.
     fn base_answer(&self, mutator: &Mutator, from: Reg) -> Reply
         ensures { (into : ℕ) → MayAnswer self.now mutator.now (Call.Base into from) result }
     {
@@ -130,6 +137,7 @@ impl Core {
         Reply::Word(object.base)
     }
 
+    // What a question for a length would be answered.
     fn size_answer(&self, mutator: &Mutator, at: Reg) -> Reply
         ensures { MayAnswer self.now mutator.now (Call.Size at) result }
     {
@@ -140,12 +148,14 @@ impl Core {
         Reply::Count(object.length)
     }
 
+    // What a question for a global would be answered.
     fn global_answer(&self, global: Global) -> Reply
         ensures { (m : HeapMutator) (into : ℕ) → MayAnswer self.now m (Call.GlobalGet into global) result }
     {
         Reply::Word(self.roots.global(global))
     }
 
+    // What a call of an attached mutator would be answered.
     fn mutator_answer(&self, mutator: &Mutator, call: Call) -> Reply
         ensures { MayAnswer self.now mutator.now call result }
     {
