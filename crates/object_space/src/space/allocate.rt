@@ -48,6 +48,7 @@ fn cut_page(
 }
 
 // Takes the first free cell of a page that has one, and writes 0 into its words.
+#[inline(always)]
 fn take_cell(
     memory: &mut Memory,
     map: &mut BlockMap,
