@@ -22,6 +22,7 @@ mod free;
 mod free_page;
 mod mark;
 mod sweep;
+mod taking;
 
 use self::available_pages::AvailablePages;
 use block_map::{BlockMap, Found};

@@ -2,80 +2,17 @@
 //! or onto pages of its own.
 ghost use Rattle.std.specs.Prelude.{◌≡◌, ℕ, ◌<◌, ◌⊎◌, false, IfNone, IfSome, MatchOption, length};
 ghost use Rattle.words.specs.Bits.{Has};
-ghost use Rattle.words.specs.Classes.{IsSizeClass};
-ghost use Rattle.pages.specs.Runs.{HasNoFreeRun};
 ghost use Rattle.block_map.specs.States.{state_at};
-ghost use Rattle.block_map.specs.Listed.{first_on, AreListed};
-ghost use Rattle.object_space.specs.Store.{Agree};
-ghost use Rattle.object_space.specs.AvailableRows.{IsBlockFor, IsExact, IsAvailable};
-ghost use Rattle.object_space.specs.Rooms.{IsRequest, IsFreeCell, HasNoFreeCell, TakesCell, CutsPage, HasRoomAt, HasNoRoom};
+ghost use Rattle.object_space.specs.AvailableRows.{IsBlockFor, IsAvailable};
+ghost use Rattle.object_space.specs.Rooms.{IsRequest, HasNoFreeCell, HasRoomAt, HasNoRoom};
 ghost use Rattle.object_space.specs.Sweeps.{Allocates, FindsNoPlace, FindsNoRoom, Gains, Sweeps};
 
 use super::ObjectSpace;
-use super::available_pages::AvailablePages;
+use super::taking::{cut_page, take_cell};
 use block_map::BlockMap;
 use marker::Marker;
-use pages::{Memory, PagePool};
 use words::limits::PAGE_WORDS;
 use words::{Class, Kind, PageNo, Placement, page_start};
-
-// Takes a free page, and cuts it.
-fn cut_page(
-    memory: &mut Memory,
-    pool: &mut PagePool,
-    map: &mut BlockMap,
-    available: &mut AvailablePages,
-    class: Class,
-    kind: Kind,
-) -> Option<PageNo>
-    requires agree { Agree pool.old map.old }
-    requires listed { AreListed memory.old map.old }
-    requires exact { IsExact available.old map.old }
-    ensures some { IfSome result (λ page. CutsPage memory.old memory.new pool.old pool.new map.old map.new class kind page) }
-    ensures none { IfNone result (HasNoFreeRun pool.old 1 × (memory.new ≡ memory.old) × (pool.new ≡ pool.old) × (map.new ≡ map.old)) }
-    ensures listed { AreListed memory.new map.new }
-    ensures exact { IsExact available.new map.new }
-    ensures class { IsSizeClass class }
-{
-    // Its clauses tell that the class is one.
-    let _words = class.words();
-    let Some(page) = pool.take_run(1) else {
-        return None;
-    };
-    map.cut(memory, page, class, kind);
-    available.enter(class, kind, page);
-    Some(page)
-}
-
-// Takes the first free cell of a page that has one, and writes 0 into its words.
-#[inline(always)]
-fn take_cell(
-    memory: &mut Memory,
-    map: &mut BlockMap,
-    available: &mut AvailablePages,
-    page: PageNo,
-    class: Class,
-    kind: Kind,
-) -> u64
-    requires cell { IsAvailable (state_at map.old page) class kind }
-    requires listed { AreListed memory.old map.old }
-    requires exact { IsExact available.old map.old }
-    ensures cell { IsFreeCell map.old class kind page (first_on (state_at map.old page)) }
-    ensures takes { TakesCell memory.old memory.new map.old map.new page (first_on (state_at map.old page)) result }
-    ensures listed { AreListed memory.new map.new }
-    ensures exact { IsExact available.new map.new }
-{
-    // Its clauses tell what is true of the map.
-    let _pages = map.len();
-    let Some(taken) = map.take(memory, page) else {
-        unreachable!();
-    };
-    memory.zero(taken.object.base, taken.object.len);
-    if taken.was_last {
-        available.leave(class, kind, page);
-    }
-    taken.object.base
-}
 
 // Whether the page is cut for the class and the kind.
 fn is_cut_for(map: &BlockMap, page: PageNo, class: Class, kind: Kind) -> bool

@@ -1,6 +1,6 @@
 use Rattle.object_space.proofs.Allocations.{first_words, first_zeroed}
 use Rattle.object_space.proofs.AvailablePages.{available_cell, available_class, available_inside, exact_filled, exact_taken}
-use Rattle.object_space.proofs.space.allocate.take_cell.Goals as goal
+use Rattle.object_space.proofs.space.taking.take_cell.Goals as goal
 
 pub zero-requires-clause-address : goal.zero-requires-clause-address
 zero-requires-clause-address c =

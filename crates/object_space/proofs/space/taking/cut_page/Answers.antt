@@ -1,7 +1,7 @@
 use Rattle.std.proofs.Common.{subst, arith}
 use Rattle.words.specs.Classes.{IsSizeClass}
 use Rattle.object_space.proofs.AvailablePages.{exact_cut}
-use Rattle.object_space.proofs.space.allocate.cut_page.Goals as goal
+use Rattle.object_space.proofs.space.taking.cut_page.Goals as goal
 
 pub returns-clause-exact : goal.returns-clause-exact
 returns-clause-exact c =
