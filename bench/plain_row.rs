@@ -38,3 +38,39 @@ pub fn next(row: &[u64], low: usize, wanted: bool) -> Option<usize> {
     }
     Some(64 * word + rest.trailing_zeros() as usize)
 }
+
+/// A row that keeps its lowest set bit, or the number of all bits where none is set.
+pub struct LowestRow {
+    row: Vec<u64>,
+    lowest: usize,
+}
+
+impl LowestRow {
+    /// A row of at least so many bits, none of them set.
+    pub fn new(bits: usize) -> LowestRow {
+        let row = vec![0; bits.div_ceil(64)];
+        LowestRow { lowest: 64 * row.len(), row }
+    }
+
+    /// The lowest set bit.
+    #[inline]
+    pub fn first(&self) -> Option<usize> {
+        (self.lowest < 64 * self.row.len()).then_some(self.lowest)
+    }
+
+    /// Sets a bit.
+    #[inline]
+    pub fn set(&mut self, i: usize) {
+        set(&mut self.row, i);
+        if i < self.lowest {
+            self.lowest = i;
+        }
+    }
+
+    /// Clears a bit.
+    #[inline]
+    pub fn clear(&mut self, i: usize) {
+        clear(&mut self.row, i);
+        self.lowest = next(&self.row, self.lowest, true).unwrap_or(64 * self.row.len());
+    }
+}

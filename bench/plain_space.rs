@@ -9,7 +9,7 @@ use crate::plain_class::{CLASSES, Class, Placement};
 use crate::plain_map::{Block, Found, Kind, LIST_END, Page, START, find};
 use crate::plain_marker::Marker;
 use crate::plain_pool::{give, take_run};
-use crate::plain_row::{clear, is_set, next, set};
+use crate::plain_row::{LowestRow, clear, is_set, next, set};
 
 const PAGE_WORDS: usize = 512;
 
@@ -18,7 +18,7 @@ pub struct Space {
     words: Vec<u64>,
     map: Vec<Page>,
     free: Vec<u64>,
-    available: Vec<Vec<u64>>,
+    available: Vec<LowestRow>,
     pending: Vec<u64>,
 }
 
@@ -60,7 +60,7 @@ impl Space {
             words: vec![0; PAGE_WORDS * pages],
             map: (0..pages).map(|_| Page::Free).collect(),
             free,
-            available: vec![vec![0; pages.div_ceil(64)]; 2 * CLASSES],
+            available: (0..2 * CLASSES).map(|_| LowestRow::new(pages)).collect(),
             pending: vec![0; pages.div_ceil(64)],
         }
     }
@@ -100,7 +100,7 @@ impl Space {
     // A page with a free cell for the class and the kind.
     #[inline(always)]
     fn page_for(&self, class: Class, kind: Kind) -> Option<usize> {
-        next(&self.available[row_of(class, kind)], 0, true)
+        self.available[row_of(class, kind)].first()
     }
 
     // Takes the first free cell of a page that has one. Its first word has the number of the next one.
@@ -117,7 +117,7 @@ impl Space {
         set(&mut block.taken, cell);
         zero(&mut self.words[start..start + words]);
         if next == LIST_END {
-            clear(&mut self.available[row_of(class, kind)], page);
+            self.available[row_of(class, kind)].clear(page);
         }
         START + 8 * start as u64
     }
@@ -138,7 +138,7 @@ impl Space {
         let page = take_run(&mut self.free, 1)?;
         self.link_all(page, class);
         self.map[page] = Page::Cut(Block::new(class, kind));
-        set(&mut self.available[row_of(class, kind)], page);
+        self.available[row_of(class, kind)].set(page);
         Some(self.take_cell(page, class, kind))
     }
 
@@ -213,7 +213,7 @@ impl Space {
         block.first = found.cell;
         clear(&mut block.taken, usize::from(found.cell));
         if block.taken != [0; 4] {
-            set(&mut self.available[row], page);
+            self.available[row].set(page);
         } else {
             self.free_block(page, row);
         }
@@ -223,7 +223,7 @@ impl Space {
     fn free_block(&mut self, page: usize, row: usize) {
         self.map[page] = Page::Free;
         give(&mut self.free, page, 1);
-        clear(&mut self.available[row], page);
+        self.available[row].clear(page);
         clear(&mut self.pending, page);
     }
 
