@@ -1,9 +1,9 @@
 -- The lowest member of a row, as pages come and go.
-use Rattle.std.proofs.Common.{◌≡◌, ℕ, ◌<◌, ◌≤◌, Bool, true, false, List, length, get_or, set, Option, None, Some, sym, ◌∙◌, subst, ⊎_elim, arith, length-set, get_or-set_same, get_or-set_other}
+use Rattle.std.proofs.Common.{◌≡◌, ℕ, ◌<◌, ◌≤◌, ◌⊎◌, Bool, true, false, List, length, get_or, set, Option, None, Some, sym, ◌∙◌, subst, ⊎_elim, arith, length-set, get_or-set_same, get_or-set_other}
 use Rattle.std.specs.Prelude.{MatchOption}
 use Rattle.std.proofs.lemmas.Bool.{cases_eq, cases_lt}
 use Rattle.words.specs.Bits.{IsClear, IsEmptyFrom, IsFirstFrom}
-use Rattle.object_space.specs.AvailableRows.{IsLowest}
+use Rattle.object_space.specs.PageRows.{IsLowest}
 
 -- a row with no member
 pub lowest_none : (row : List Bool) (pages : ℕ) → IsClear row pages → IsLowest row pages
@@ -15,6 +15,23 @@ lowest_is row lowest is lt = record { from = omega arith; inside = lt; member = 
 
 pub lowest_past : (row : List Bool) (lowest : ℕ) → IsLowest row lowest → length row ≤ lowest → IsEmptyFrom row 0
 lowest_past row lowest is past k from inside = is.below k (omega arith)
+
+-- a look from a page on begins at the lowest member
+module _ (row : List Bool) (lowest low from : ℕ) (is : IsLowest row lowest) (least : (low ≤ from) × (lowest ≤ from) × ((from ≡ low) ⊎ (from ≡ lowest))) where
+  not_before : (k : ℕ) → low ≤ k → k < from → get_or row k false ≡ false
+  not_before k above below = ⊎_elim
+      (λ (e : from ≡ low). absurd (omega arith))
+      (λ (e : from ≡ lowest). is.below k (omega arith))
+      least.2
+
+  pub lowest_next : (next : Option ℕ) → MatchOption next (IsEmptyFrom row from) (λ i. IsFirstFrom row from i) → MatchOption next (IsEmptyFrom row low) (λ i. IsFirstFrom row low i)
+  lowest_next None empty = λ k above inside. ⊎_elim (not_before k above) (λ ge. empty k ge inside) (cases_lt k from)
+  lowest_next (Some i) next = record {
+    member = next.member;
+    inside = next.inside;
+    from = let x = next.from in let y = least.0 in omega arith;
+    least = λ k above below. ⊎_elim (not_before k above) (λ ge. next.least k ge below) (cases_lt k from);
+  }
 
 -- a page comes
 module _ (row : List Bool) (lowest page : ℕ) (is : IsLowest row lowest) (inside : page < length row) where
@@ -55,4 +72,4 @@ module _ (row : List Bool) (lowest page : ℕ) (is : IsLowest row lowest) (insid
     member = λ _. subst (λ i. get_or (set row page false) i false ≡ true) (sym e) next.member;
   }
 
-pub ruleset lowest = (lowest_none, lowest_is, lowest_past, lowest_entered, lowest_stays, lowest_left)
+pub ruleset lowest = (lowest_none, lowest_is, lowest_past, lowest_entered, lowest_stays, lowest_left, lowest_next)

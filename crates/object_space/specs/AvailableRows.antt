@@ -1,5 +1,5 @@
 -- Rows of bits over the pages, one for each class and kind: a bit is set where the page has a free cell for them.
-use Rattle.std.specs.Prelude.{◌≡◌, ◌==◌, ℕ, ◌+◌, ◌*◌, ◌<◌, ◌≤◌, Bool, true, false, List, [], length, slice_index_or}
+use Rattle.std.specs.Prelude.{◌≡◌, ◌==◌, ℕ, ◌+◌, ◌*◌, ◌<◌, Bool, true, false, List, [], length, slice_index_or}
 use Rattle.std.specs.List.{position_or_len}
 use Rattle.words.specs.declared.class.Kind.{Kind}
 use Rattle.words.specs.declared.class.Kind.TheVariants.{Normal, PointerFree}
@@ -59,9 +59,3 @@ pub record IsBitSet (old new : List (List Bool)) (class : ℕ) (kind : Kind) (pa
   pub long : (c : ℕ) (k : Kind) → IsSizeClass c → length (row_of new c k) ≡ length (row_of old c k)
   pub here : slice_index_or (row_of new class kind) page false ≡ b
   pub others : (c : ℕ) (k : Kind) (p : ℕ) → IsSizeClass c → (c ≡ class → k ≡ kind → p ≡ page → ⊥) → slice_index_or (row_of new c k) p false ≡ slice_index_or (row_of old c k) p false
-
--- The place is that of the row's lowest member, or its number of bits where it has none.
-pub record IsLowest (row : List Bool) (lowest : ℕ) : Type 0 where
-  pub inside : lowest ≤ length row
-  pub below : (i : ℕ) → i < lowest → slice_index_or row i false ≡ false
-  pub member : lowest < length row → slice_index_or row lowest false ≡ true

@@ -1,3 +1,4 @@
+pub mod PageRows
 pub mod AvailableRows
 pub mod Store
 pub mod Kept

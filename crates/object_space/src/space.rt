@@ -15,22 +15,23 @@ ghost use Rattle.object_space.specs.Stores.{Stores};
 
 mod allocate;
 mod available_pages;
-mod available_row;
 mod close;
 mod forget;
 mod free;
 mod free_page;
 mod mark;
+mod page_row;
 mod sweep;
 mod taking;
 
 use self::available_pages::AvailablePages;
+use self::page_row::PageRow;
 use block_map::{BlockMap, Found};
 use marker::Marker;
 use pages::{Memory, PagePool};
 use std::alloc::Global;
 use std::marker::Model;
-use words::{BitRow, OpenError};
+use words::OpenError;
 
 /// The objects of a heap.
 #[derive(Drop)]
@@ -39,7 +40,7 @@ pub struct ObjectSpace {
     pool: PagePool,
     map: BlockMap,
     available: AvailablePages,
-    pending: BitRow,
+    pending: PageRow,
 }
 
 impl Model for ObjectSpace {
@@ -63,7 +64,7 @@ impl ObjectSpace {
         let Ok(available) = AvailablePages::new(alloc, pages) else {
             return Err(OpenError::Memory);
         };
-        let Ok(pending) = BitRow::new(alloc, pages as usize) else {
+        let Ok(pending) = PageRow::new(alloc, pages as usize) else {
             return Err(OpenError::Memory);
         };
         Ok(ObjectSpace {

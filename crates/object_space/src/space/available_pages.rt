@@ -6,7 +6,7 @@ ghost use Rattle.words.specs.Classes.{IsSizeClass};
 ghost use Rattle.object_space.specs.declared.space.available_pages.TheConstants.{ROWS};
 ghost use Rattle.object_space.specs.AvailableRows.{row_number, row_of, AreClear, IsBitSet};
 
-use super::available_row::AvailableRow;
+use super::page_row::PageRow;
 use std::alloc::{AllocError, Global};
 use std::marker::Model;
 use words::{CLASSES, Class, Kind, PageNo};
@@ -17,7 +17,7 @@ const ROWS: usize = 2 * CLASSES.len();
 /// The pages of each class and kind that have a free cell.
 #[derive(Drop)]
 pub struct AvailablePages {
-    rows: Vec<AvailableRow>,
+    rows: Vec<PageRow>,
 }
 
 impl Model for AvailablePages {
@@ -48,7 +48,7 @@ fn number_of(class: Class, kind: Kind) -> usize
 
 // Sets the bit of a page in a row.
 #[inline]
-fn set_bit(rows: &mut Vec<AvailableRow>, number: usize, page: PageNo)
+fn set_bit(rows: &mut Vec<PageRow>, number: usize, page: PageNo)
     requires row { number < vec_len rows.old }
     requires page { page < length (slice_index_or rows.old.items number []) }
     ensures rows { rows.new.items ≡ slice_set rows.old.items number (slice_set (slice_index_or rows.old.items number []) page true) }
@@ -59,7 +59,7 @@ fn set_bit(rows: &mut Vec<AvailableRow>, number: usize, page: PageNo)
 
 // Clears it.
 #[inline]
-fn clear_bit(rows: &mut Vec<AvailableRow>, number: usize, page: PageNo)
+fn clear_bit(rows: &mut Vec<PageRow>, number: usize, page: PageNo)
     requires row { number < vec_len rows.old }
     requires page { page < length (slice_index_or rows.old.items number []) }
     ensures rows { rows.new.items ≡ slice_set rows.old.items number (slice_set (slice_index_or rows.old.items number []) page false) }
@@ -76,7 +76,7 @@ impl AvailablePages {
     {
         let mut rows = Vec::with_capacity(alloc, ROWS)?;
         for _ in 0..ROWS {
-            rows.push(AvailableRow::new(alloc, pages as usize)?)?;
+            rows.push(PageRow::new(alloc, pages as usize)?)?;
         }
         Ok(AvailablePages { rows })
     }

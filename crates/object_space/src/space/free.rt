@@ -15,10 +15,11 @@ ghost use Rattle.object_space.specs.Sweeps.{Loses};
 
 use super::ObjectSpace;
 use super::available_pages::AvailablePages;
+use super::page_row::PageRow;
 use block_map::{BlockMap, Found};
 use pages::{Memory, PagePool};
 use words::limits::PAGE_WORDS;
-use words::{BitRow, Class, Kind, PageNo};
+use words::{Class, Kind, PageNo};
 
 // Makes the page of a block that has no object left free.
 #[inline(never)]
@@ -26,7 +27,7 @@ fn give_page(
     pool: &mut PagePool,
     map: &mut BlockMap,
     available: &mut AvailablePages,
-    pending: &mut BitRow,
+    pending: &mut PageRow,
     page: PageNo,
     class: Class,
     kind: Kind,
@@ -58,7 +59,7 @@ fn free_cell(
     pool: &mut PagePool,
     map: &mut BlockMap,
     available: &mut AvailablePages,
-    pending: &mut BitRow,
+    pending: &mut PageRow,
     page: PageNo,
     cell: u16,
 )

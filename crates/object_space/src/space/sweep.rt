@@ -107,7 +107,7 @@ impl ObjectSpace {
     {
         // Its clauses tell that there are few.
         let _pages = self.map.len();
-        let Some(page) = self.pending.next(0) else {
+        let Some(page) = self.pending.first() else {
             return false;
         };
         self.sweep_page(marker, page as PageNo);

@@ -1,5 +1,5 @@
-//! The pages with a free cell for one class and kind: a row of bits, and the lowest of them, which no search has to find.
-ghost use Rattle.std.specs.Prelude.{◌≡◌, ◌<◌, ◌^◌, true, false, length, slice_set, IfOk, MatchOption};
+//! Some of the pages: a row of bits, and the lowest of them, which no search has to find.
+ghost use Rattle.std.specs.Prelude.{◌≡◌, ◌<◌, ◌^◌, true, false, length, slice_index_or, slice_set, IfOk, MatchOption};
 ghost use Rattle.words.specs.Bits.{IsClear, IsEmptyFrom, IsFirstFrom};
 
 use std::alloc::{AllocError, Global};
@@ -8,15 +8,15 @@ use words::BitRow;
 
 /// A row of pages, seen as the row of their bits.
 #[derive(Drop)]
-pub(super) struct AvailableRow {
+pub(super) struct PageRow {
     row: BitRow,
     // The lowest member, or the number of bits where there is none.
     lowest: usize,
 }
 
-impl Model for AvailableRow {
+impl Model for PageRow {
     ghost use Rattle.std.specs.Prelude.{List, Bool};
-    ghost use Rattle.object_space.specs.AvailableRows.{IsLowest};
+    ghost use Rattle.object_space.specs.PageRows.{IsLowest};
 
     ghost Value = { List Bool };
 
@@ -26,14 +26,14 @@ impl Model for AvailableRow {
 }
 
 #[tactic(auto, using(crate::proofs::Lowest::lowest))]
-impl AvailableRow {
+impl PageRow {
     /// A row over so many pages, with no member.
-    pub(super) fn new(alloc: Global, pages: usize) -> Result<AvailableRow, AllocError>
+    pub(super) fn new(alloc: Global, pages: usize) -> Result<PageRow, AllocError>
         requires { pages < 2 ^ 32 }
         ensures { IfOk result (λ row. IsClear row pages) }
     {
         let row = BitRow::new(alloc, pages)?;
-        Ok(AvailableRow { row, lowest: pages })
+        Ok(PageRow { row, lowest: pages })
     }
 
     /// The lowest member.
@@ -46,6 +46,23 @@ impl AvailableRow {
         } else {
             None
         }
+    }
+
+    /// The lowest member from a page on.
+    #[inline]
+    pub(super) fn next(&self, low: usize) -> Option<usize>
+        ensures { MatchOption result (IsEmptyFrom self.now low) (λ page. IsFirstFrom self.now low page) }
+    {
+        self.row.next(low.max(self.lowest))
+    }
+
+    /// Whether a page is a member.
+    #[inline]
+    pub(super) fn is_set(&self, page: usize) -> bool
+        requires { page < length self.now }
+        ensures { result ≡ slice_index_or self.now page false }
+    {
+        self.row.is_set(page)
     }
 
     /// Enters a page.
