@@ -58,6 +58,18 @@ impl LowestRow {
         (self.lowest < 64 * self.row.len()).then_some(self.lowest)
     }
 
+    /// The lowest set bit from `low` on.
+    #[inline]
+    pub fn next(&self, low: usize) -> Option<usize> {
+        next(&self.row, low.max(self.lowest), true)
+    }
+
+    /// Whether a bit is set.
+    #[inline]
+    pub fn is_set(&self, i: usize) -> bool {
+        is_set(&self.row, i)
+    }
+
     /// Sets a bit.
     #[inline]
     pub fn set(&mut self, i: usize) {

@@ -9,7 +9,7 @@ use crate::plain_class::{CLASSES, Class, Placement};
 use crate::plain_map::{Block, Found, Kind, LIST_END, Page, START, find};
 use crate::plain_marker::Marker;
 use crate::plain_pool::{give, take_run};
-use crate::plain_row::{LowestRow, clear, is_set, next, set};
+use crate::plain_row::{LowestRow, clear, set};
 
 const PAGE_WORDS: usize = 512;
 
@@ -19,7 +19,7 @@ pub struct Space {
     map: Vec<Page>,
     free: Vec<u64>,
     available: Vec<LowestRow>,
-    pending: Vec<u64>,
+    pending: LowestRow,
 }
 
 #[inline]
@@ -61,7 +61,7 @@ impl Space {
             map: (0..pages).map(|_| Page::Free).collect(),
             free,
             available: (0..2 * CLASSES).map(|_| LowestRow::new(pages)).collect(),
-            pending: vec![0; pages.div_ceil(64)],
+            pending: LowestRow::new(pages),
         }
     }
 
@@ -69,7 +69,7 @@ impl Space {
     #[inline(always)]
     pub fn find(&self, marker: &Marker, word: u64) -> Option<Found> {
         let found = find(&self.map, word)?;
-        (!is_set(&self.pending, found.page as usize) || marker.is_marked(found.base)).then_some(found)
+        (!self.pending.is_set(found.page as usize) || marker.is_marked(found.base)).then_some(found)
     }
 
     /// The word at an address.
@@ -89,7 +89,7 @@ impl Space {
     fn pending_for(&self, class: Class, kind: Kind) -> Option<usize> {
         let mut from = 0;
         loop {
-            let page = next(&self.pending, from, true)?;
+            let page = self.pending.next(from)?;
             if matches!(&self.map[page], Page::Cut(block) if block.class == class && block.kind == kind) {
                 return Some(page);
             }
@@ -159,7 +159,7 @@ impl Space {
     #[inline(never)]
     fn make_place(&mut self, marker: &Marker, class: Class, kind: Kind, mut found: Option<usize>) -> Option<u64> {
         while let Some(page) = found.or_else(|| self.pending_for(class, kind)) {
-            if !is_set(&self.pending, page) {
+            if !self.pending.is_set(page) {
                 return Some(self.take_cell(page, class, kind));
             }
             self.sweep_page(marker, page);
@@ -171,7 +171,7 @@ impl Space {
     #[inline(always)]
     fn place_small(&mut self, marker: &Marker, class: Class, kind: Kind) -> Option<u64> {
         match self.page_for(class, kind) {
-            Some(page) if !is_set(&self.pending, page) => Some(self.take_cell(page, class, kind)),
+            Some(page) if !self.pending.is_set(page) => Some(self.take_cell(page, class, kind)),
             found => self.make_place(marker, class, kind, found),
         }
     }
@@ -224,7 +224,7 @@ impl Space {
         self.map[page] = Page::Free;
         give(&mut self.free, page, 1);
         self.available[row].clear(page);
-        clear(&mut self.pending, page);
+        self.pending.clear(page);
     }
 
     // Frees the pages of a large object.

@@ -2,7 +2,7 @@
 use super::{Space, row_of, start_of};
 use crate::plain_map::{Page, next_on_page};
 use crate::plain_marker::Marker;
-use crate::plain_row::{clear, next, ones, set};
+use crate::plain_row::ones;
 
 impl Space {
     // Sweeps a page. One without a mark keeps no object, and is free at once.
@@ -20,12 +20,12 @@ impl Space {
                 self.release(found);
             }
         }
-        clear(&mut self.pending, page);
+        self.pending.clear(page);
     }
 
     /// Sweeps one page, if one is still to be swept. Answers whether one was.
     pub fn sweep(&mut self, marker: &Marker) -> bool {
-        let Some(page) = next(&self.pending, 0, true) else {
+        let Some(page) = self.pending.first() else {
             return false;
         };
         self.sweep_page(marker, page);
@@ -45,7 +45,7 @@ impl Space {
             Page::Cut(block) => {
                 let unmarked = ones(&block.taken) - ones(marker.marks_on(page));
                 if unmarked > 0 {
-                    set(&mut self.pending, page);
+                    self.pending.set(page);
                 }
                 unmarked
             }
