@@ -84,6 +84,7 @@ pub record Keeps (f : Found) (old new : Helper) : Type 0 where
   pub entries : (b : ℕ) → Contains new.stack.items b → Contains old.stack.items b ⊎ ((b ≡ f.base) × (f.kind ≡ Normal))
   pub size : length new.stack.items ≤ length old.stack.items + 1
 
+-- 1 for a granule that isn't known to be marked, and 0 for one that is
 abbrev pub unseen : Bool → ℕ
 unseen b = if b then 0 else 1
 

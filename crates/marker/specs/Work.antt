@@ -12,6 +12,7 @@ abbrev pub read_of : Kind → ℕ → ℕ
 read_of Normal n = n
 read_of PointerFree n = 0
 
+-- the words that an entry has left in this object, if its base is the entry's
 abbrev pub left_in : Option Found → Entry → ℕ
 left_in None e = 0
 left_in (Some f) e = if f.base == e.base then read_of f.kind (f.len - e.next) else 0
@@ -22,6 +23,7 @@ left_in (Some f) e = if f.base == e.base then read_of f.kind (f.len - e.next) el
 unfoldable pub left : (ℕ → Option Found) → Entry → ℕ
 left found e = left_in (found e.base) e
 
+-- the words that the entry being read has left, and 0 if there is none
 abbrev pub left_of : (ℕ → Option Found) → Option Entry → ℕ
 left_of found None = 0
 left_of found (Some e) = left found e
@@ -30,6 +32,7 @@ left_of found (Some e) = left found e
 abbrev pub entry_words : (ℕ → Option Found) → Marking → ℕ
 entry_words found m = left_of found m.current + sum_by (left found) m.stack
 
+-- the number of pages that the object covers, if its base is this one
 abbrev pub span_in : Option Found → ℕ → ℕ
 span_in None base = 0
 span_in (Some f) base = if f.base == base then pages_of f else 0
@@ -44,6 +47,7 @@ unmarked_from found k [] = 0
 unmarked_from found k (true ∷ row) = unmarked_from found (k + 1) row
 unmarked_from found k (false ∷ row) = span found k + unmarked_from found (k + 1) row
 
+-- the sum over all unmarked objects of the pages that each covers
 abbrev pub unmarked : (ℕ → Option Found) → Marking → ℕ
 unmarked found m = unmarked_from found 0 m.marks
 
@@ -55,6 +59,7 @@ newly_from found k (true ∷ old) (b ∷ new) = newly_from found (k + 1) old new
 newly_from found k (false ∷ old) (false ∷ new) = newly_from found (k + 1) old new
 newly_from found k (false ∷ old) (true ∷ new) = span found k + newly_from found (k + 1) old new
 
+-- the sum over all newly marked objects of the pages that each covers
 abbrev pub newly_pages : (ℕ → Option Found) → Marking → Marking → ℕ
 newly_pages found old new = newly_from found 0 old.marks new.marks
 
@@ -62,6 +67,7 @@ newly_pages found old new = newly_from found 0 old.marks new.marks
 abbrev pub dirty_pages : Marking → ℕ
 dirty_pages m = count_by (λ b. b) m.dirty
 
+-- a page's words if it is dirty, and else none
 abbrev pub page_words : Bool → ℕ
 page_words b = if b then PAGE_WORDS else 0
 
