@@ -9,3 +9,5 @@ mod orders;
 mod runs;
 #[cfg(test)]
 mod stress;
+#[cfg(test)]
+mod verdicts;
