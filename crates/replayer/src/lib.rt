@@ -8,6 +8,7 @@
 
 mod collector;
 mod hint;
+pub mod laws;
 mod replayer;
 
 pub use hint::Hint;

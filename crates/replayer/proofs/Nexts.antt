@@ -1,0 +1,225 @@
+-- A replay has one next run.
+use Rattle.std.proofs.Common.{◌≡◌, ℕ, ◌+◌, ◌<◌, Bool, true, false, List, length, replicate, cond, eqb, refl, sym, ap, ◌∙◌, subst, arith, ⊎_elim}
+use Rattle.std.specs.Prelude.{Contains, Option, Some, None}
+use Rattle.std.specs.List.{list_any}
+use Rattle.std.proofs.lemmas.Bool.{eqb-true, eq-eqb}
+use Rattle.std.proofs.lemmas.List.Folds.{Any-from_list_any, list_any-from_Any}
+use Rattle.std.proofs.lemmas.List.Elements.{All-contains}
+use Rattle.std.proofs.lemmas.Option.{none-some, same_Some}
+use mathlib.Core.Path.{fun_ext}
+use Rattle.words.specs.declared.class.Kind.{Kind}
+use Rattle.words.specs.declared.class.Placement.{Placement}
+use Rattle.heap_spec.specs.declared.call.Call.{Call}
+use Rattle.heap_spec.specs.declared.call.Call.TheVariants.{Detach, Set, Copy, Add, Sub, Get, Push, Pop, Load, Store, Alloc, Free, Base, Size, GlobalGet, GlobalPut}
+use Rattle.heap_spec.specs.declared.event.Event.{Event}
+use Rattle.heap_spec.specs.declared.event.Event.TheVariants.{Attach, Mutator, Begin, Roots, Mark, Retrace, Finish, Sweep, Collect, Number}
+use Rattle.heap_spec.specs.declared.reply.Reply.{Reply}
+use Rattle.heap_spec.specs.declared.reply.Reply.TheVariants.{Done, Count, Refused}
+use Rattle.words.specs.declared.refusal.Refusal.TheVariants.{WrongPhase}
+use Rattle.heap_spec.specs.Heap.{Heap, Object, Mutator as HeapMutator, HasObject, IsAttached, without, without_at}
+use Rattle.heap_spec.specs.Room.{HasRoom, length_of}
+use Rattle.heap_spec.specs.Ranges.{InRange}
+use Rattle.heap_spec.specs.Sound.{IsSound}
+use Rattle.heap_spec.specs.Laws.{IsLegible}
+use Rattle.heap_spec.specs.Closure.{Reached}
+use Rattle.heap_spec.specs.Cycles.{TakesOut, CollectsFully}
+use Rattle.heap_spec.specs.Runs.{Start, Run, heap_after, is_marking, goes_on, AllTouched}
+use Rattle.heap_spec.specs.Histories.{Happens}
+use Rattle.heap_spec.specs.Steps.{Acts, Calls, acts, vacant, Attaches, with_new, with_register}
+use Rattle.heap_spec.specs.Transcripts.{LineOf, IsWrongPhase}
+use Rattle.heap_spec.proofs.Loads.{same_mutator}
+use Rattle.heap_spec.proofs.Outcomes.{calls_refused, calls_same}
+use Rattle.heap_spec.proofs.Objects.{at_cases, one_read, object_lies}
+use Rattle.heap_spec.proofs.Calls.{calls_kept, attaches_kept, takes_out_kept}
+use Rattle.plain_core.specs.Answering.{IsBornAt}
+use Rattle.replayer.specs.declared.hint.Hint.{Hint}
+use Rattle.replayer.specs.declared.hint.Hint.TheVariants.{Nothing, Place, Forgot}
+use Rattle.replayer.specs.Replays.{NamesPlace, NamesBases, MayNameBases, IsReplay}
+use Rattle.replayer.specs.Laws.{SayTheSame, ReplaysAlike}
+
+legible : (s : Heap) → IsSound s → IsLegible s
+legible s h = record { one = one_read s h; some = λ base o has. (object_lies s h base o has).some }
+
+-- an object that was born is where the request was granted
+born_here : (s : Heap) → IsSound s → (slot d a base : ℕ) (m : HeapMutator) (kind : Kind) (place : Placement) → IsBornAt s base (with_register (with_new s a kind place) slot m d a) → base ≡ a
+born_here s h slot d a base m kind place born =
+    ⊎_elim (λ same. same.0) (λ other. let old = h.objects.born base born.object other.1 in let new = born.newest in absurd (omega (arith, old, new)))
+    (at_cases s.objects a (Some (record { birth = s.births + 1; kind = kind; words = replicate (length_of place) 0 })) base (Some born.object) born.there)
+
+-- An object is born at one base in both heaps.
+abbrev BothBorn : Heap → Heap → Heap → Type 0
+BothBorn s t t' = (base : ℕ) × IsBornAt s base t × IsBornAt s base t'
+
+both_born : (hint hint' : Hint) → SayTheSame hint hint' → (s t t' : Heap) → NamesPlace hint s t → NamesPlace hint' s t' → BothBorn s t t'
+both_born (Place a) (Place b) e s t t' x y = (a, x, subst (λ z. IsBornAt s z t') (sym e) y)
+both_born (Place a) Nothing e s t t' x y = absurd e
+both_born (Place a) (Forgot b) e s t t' x y = absurd e
+both_born Nothing hint e s t t' x y = absurd x
+both_born (Forgot a) hint e s t t' x y = absurd x
+
+-- a request that is granted at one base
+module _ (s : Heap) (h : IsSound s) (slot d n : ℕ) (kind : Kind) where
+  granted : (m : HeapMutator) {t t' : Heap} → Acts s slot m (Alloc d n kind) Done t → Acts s slot m (Alloc d n kind) Done t' → BothBorn s t t' → t ≡ t'
+  granted m (Acts.allocated {place = p} a e room) (Acts.allocated {place = q} b e' room') born =
+      let at : born.0 ≡ a = born_here s h slot d a born.0 m kind p born.1 in
+      let at' : born.0 ≡ b = born_here s h slot d b born.0 m kind q born.2 in
+      ap (λ z. with_register (with_new s z kind p) slot m d z) (sym at ∙ at') ∙ ap (λ z. with_register (with_new s b kind z) slot m d b) (same_Some p q (sym e ∙ e'))
+
+  requested : (m : HeapMutator) → IsAttached s slot m → (t' : Heap) {reply : Reply} {t : Heap} → Acts s slot m (Alloc d n kind) reply t → Calls s slot (Alloc d n kind) reply t' → (reply ≡ Done → BothBorn s t t') → t ≡ t'
+  requested m at t' (Acts.bad_size e) other born = sym (calls_refused s slot (Alloc d n kind) other)
+  requested m at t' (Acts.full e none) other born = sym (calls_refused s slot (Alloc d n kind) other)
+  requested m at t' (Acts.allocated {place = p} a e room) (acts {m = k} at' act) born =
+      granted m (Acts.allocated a e room) (subst (λ x. Acts s slot x (Alloc d n kind) Done t') (sym (same_mutator s slot m k at at')) act) (born refl)
+
+  request_next : (t' : Heap) {reply : Reply} {t : Heap} → Calls s slot (Alloc d n kind) reply t → Calls s slot (Alloc d n kind) reply t' → (reply ≡ Done → BothBorn s t t') → t ≡ t'
+  request_next t' (acts {m = m} at act) other born = requested m at t' act other born
+  request_next t' (vacant none) other born = sym (calls_refused s slot (Alloc d n kind) other)
+
+-- a call of a mutator, by whether it is a request
+call_next : (s : Heap) → IsSound s → (slot : ℕ) (call : Call) (reply : Reply) (t t' : Heap) → Calls s slot call reply t → Calls s slot call reply t'
+    → ((into words : ℕ) (kind : Kind) → call ≡ Alloc into words kind → reply ≡ Done → BothBorn s t t') → t ≡ t'
+call_next s h slot (Alloc d n kind) reply t t' one other born = request_next s h slot d n kind t' one other (λ done. born d n kind refl done)
+call_next s h slot Detach reply t t' one other born = (calls_same s (legible s h) slot Detach reply reply t t' one other).1 tt
+call_next s h slot (Set r w) reply t t' one other born = (calls_same s (legible s h) slot (Set r w) reply reply t t' one other).1 tt
+call_next s h slot (Copy d a) reply t t' one other born = (calls_same s (legible s h) slot (Copy d a) reply reply t t' one other).1 tt
+call_next s h slot (Add d a n) reply t t' one other born = (calls_same s (legible s h) slot (Add d a n) reply reply t t' one other).1 tt
+call_next s h slot (Sub d a b) reply t t' one other born = (calls_same s (legible s h) slot (Sub d a b) reply reply t t' one other).1 tt
+call_next s h slot (Get r) reply t t' one other born = (calls_same s (legible s h) slot (Get r) reply reply t t' one other).1 tt
+call_next s h slot (Push r) reply t t' one other born = (calls_same s (legible s h) slot (Push r) reply reply t t' one other).1 tt
+call_next s h slot (Pop r) reply t t' one other born = (calls_same s (legible s h) slot (Pop r) reply reply t t' one other).1 tt
+call_next s h slot (Load d a n) reply t t' one other born = (calls_same s (legible s h) slot (Load d a n) reply reply t t' one other).1 tt
+call_next s h slot (Store a n r) reply t t' one other born = (calls_same s (legible s h) slot (Store a n r) reply reply t t' one other).1 tt
+call_next s h slot (Free r) reply t t' one other born = (calls_same s (legible s h) slot (Free r) reply reply t t' one other).1 tt
+call_next s h slot (Base d a) reply t t' one other born = (calls_same s (legible s h) slot (Base d a) reply reply t t' one other).1 tt
+call_next s h slot (Size r) reply t t' one other born = (calls_same s (legible s h) slot (Size r) reply reply t t' one other).1 tt
+call_next s h slot (GlobalGet d g) reply t t' one other born = (calls_same s (legible s h) slot (GlobalGet d g) reply reply t t' one other).1 tt
+call_next s h slot (GlobalPut g r) reply t t' one other born = (calls_same s (legible s h) slot (GlobalPut g r) reply reply t t' one other).1 tt
+
+attach_next : (s : Heap) {reply : Reply} {t t' : Heap} → Attaches s reply t → Attaches s reply t' → t ≡ t'
+attach_next s (Attaches.attached low) (Attaches.attached low') = refl
+attach_next s (Attaches.no_slot none) (Attaches.no_slot none') = refl
+
+-- what two lists of bases take out, which name the same
+named_next : (hint hint' : Hint) → SayTheSame hint hint' → (n : ℕ) (s t t' : Heap) → NamesBases hint n s t → NamesBases hint' n s t' → t ≡ t'
+named_next (Forgot a) (Forgot b) e n s t t' x y = x.after ∙ ap (without s) e ∙ sym y.after
+named_next (Forgot a) Nothing e n s t t' x y = absurd e
+named_next (Forgot a) (Place b) e n s t t' x y = absurd e
+named_next Nothing hint e n s t t' x y = absurd x
+named_next (Place a) hint e n s t t' x y = absurd x
+
+-- full collections take the same objects out
+module _ (s : Heap) (reply : Reply) where
+  has_base : (bases : List ℕ) (base : ℕ) → list_any (λ b. eqb b base) bases ≡ true → Contains bases base
+  has_base bases base e = let any = Any-from_list_any (λ b. eqb b base) bases e in subst (Contains bases) (eqb-true any.1 base any.4) (any.0, any.2, any.3)
+
+  in_other : {t t' : Heap} (one : CollectsFully s reply t) (other : CollectsFully s reply t') (base : ℕ) → list_any (λ b. eqb b base) one.bases ≡ true → list_any (λ b. eqb b base) other.bases ≡ true
+  in_other one other base e =
+      let here = has_base one.bases base e in
+      let object = All-contains (λ b. (o : Object) × HasObject s b o) one.bases base one.takes.objects here in
+      let among = other.all base object.0 object.1 (All-contains (λ b. Reached s b → ⊥) one.bases base one.takes.unreached here) in
+      list_any-from_Any (λ b. eqb b base) other.bases (among.0, base, among.1, among.2, eq-eqb base base refl)
+
+  both_ways : (a b : Bool) → (a ≡ true → b ≡ true) → (b ≡ true → a ≡ true) → a ≡ b
+  both_ways true b to from = sym (to refl)
+  both_ways false true to from = from refl
+  both_ways false false to from = refl
+
+  collect_next : {t t' : Heap} → CollectsFully s reply t → CollectsFully s reply t' → t ≡ t'
+  collect_next one other =
+      let objects : without_at s.objects one.bases ≡ without_at s.objects other.bases = fun_ext (λ q. ap (λ b. cond b None (s.objects q)) (both_ways (list_any (λ b. eqb b q) one.bases) (list_any (λ b. eqb b q) other.bases) (in_other one other q) (in_other other one q))) in
+      one.takes.after ∙ ap (λ (f : ℕ → Option Object). record s { objects = f }) objects ∙ sym other.takes.after
+
+-- a refusal is another reply
+refused_done : Refused WrongPhase ≡ Done → ⊥
+refused_done e = cc
+
+refused_count : (n : ℕ) → Refused WrongPhase ≡ Count n → ⊥
+refused_count n e = cc
+
+-- what happens next
+module _ (start : Start) (run : Run) (h : IsSound (heap_after start run)) where
+  -- What the hints say of two heaps after an event.
+  record SaidOf (event : Event) (reply : Reply) (t t' : Heap) : Type 0 where
+    born : (slot into words : ℕ) (kind : Kind) → event ≡ Mutator slot (Alloc into words kind) → reply ≡ Done → BothBorn (heap_after start run) t t'
+    ended : (n : ℕ) → event ≡ Finish → reply ≡ Count n → t ≡ t'
+
+  happens_next : (event : Event) (reply : Reply) (t t' : Heap) → Happens AllTouched start run event reply t → Happens AllTouched start run event reply t' → SaidOf event reply t t' → t ≡ t'
+  happens_next Attach reply t t' one other said = attach_next (heap_after start run) one other
+  happens_next (Mutator slot call) reply t t' one other said = call_next (heap_after start run) h slot call reply t t' one other (λ into words kind e done. said.born slot into words kind (ap (Mutator slot) e) done)
+  happens_next Begin reply t t' one other said = one.1.1 ∙ sym other.1.1
+  happens_next Finish reply t t' one other said = said.ended (length one.1.bases) refl one.1.takes.number
+  happens_next Collect reply t t' one other said = collect_next (heap_after start run) reply one other
+  happens_next Roots reply t t' one other said = absurd one
+  happens_next (Mark n) reply t t' one other said = absurd one
+  happens_next Retrace reply t t' one other said = absurd one
+  happens_next Sweep reply t t' one other said = absurd one
+  happens_next Number reply t t' one other said = absurd one
+
+  -- what happens is no refusal by the phase
+  not_refused : (event : Event) (t : Heap) → Happens AllTouched start run event (Refused WrongPhase) t → IsWrongPhase (is_marking start run) event → ⊥
+  not_refused Attach t one wrong = wrong
+  not_refused (Mutator slot call) t one wrong = wrong
+  not_refused Begin t one wrong = refused_done one.1.0
+  not_refused Finish t one wrong = refused_count (length one.1.bases) one.1.takes.number
+  not_refused Collect t one wrong = wrong
+  not_refused Roots t one wrong = one
+  not_refused (Mark n) t one wrong = one
+  not_refused Retrace t one wrong = one
+  not_refused Sweep t one wrong = one
+  not_refused Number t one wrong = one
+
+  happens_kept : (event : Event) → InRange event → (reply : Reply) (t : Heap) → Happens AllTouched start run event reply t → IsSound t
+  happens_kept Attach range reply t step = attaches_kept (heap_after start run) h step
+  happens_kept (Mutator slot call) range reply t step = calls_kept (heap_after start run) slot call h range.1 step
+  happens_kept Begin range reply t step = subst IsSound (sym step.1.1) h
+  happens_kept Finish range reply t step = takes_out_kept (heap_after start run) step.1.bases reply t h step.1.takes
+  happens_kept Collect range reply t step = takes_out_kept (heap_after start run) step.bases reply t h step.takes
+  happens_kept Roots range reply t step = absurd step
+  happens_kept (Mark n) range reply t step = absurd step
+  happens_kept Retrace range reply t step = absurd step
+  happens_kept Sweep range reply t step = absurd step
+  happens_kept Number range reply t step = absurd step
+
+  line_kept : (event : Event) → InRange event → {reply : Reply} {next : Run} → LineOf AllTouched start run event reply next → IsSound (heap_after start next)
+  line_kept event range (LineOf.happens {reply = reply} {s' = t} step) = happens_kept event range reply t step
+  line_kept event range (LineOf.refused wrong) = h
+  line_kept event range (LineOf.roots m) = h
+  line_kept event range (LineOf.mark m few) = h
+  line_kept event range (LineOf.retrace m one) = h
+  line_kept event range (LineOf.sweep one) = h
+  line_kept event range LineOf.number = h
+
+  number_stays : {reply : Reply} {next : Run} → LineOf AllTouched start run Number reply next → next ≡ run
+  number_stays (LineOf.happens one) = absurd one
+  number_stays (LineOf.refused wrong) = absurd wrong
+  number_stays LineOf.number = refl
+
+  line_next : {event : Event} {reply : Reply} {next next' : Run} → LineOf AllTouched start run event reply next → LineOf AllTouched start run event reply next' → SaidOf event reply (heap_after start next) (heap_after start next') → next ≡ next'
+  line_next (LineOf.happens {event = event} {reply = reply} {s' = t} one) (LineOf.happens {s' = t'} other) said = ap (goes_on run event reply) (happens_next event reply t t' one other said)
+  line_next (LineOf.happens {event = event} {s' = t} one) (LineOf.refused wrong) said = absurd (not_refused event t one wrong)
+  line_next (LineOf.happens one) (LineOf.roots m) said = absurd one
+  line_next (LineOf.happens one) (LineOf.mark m few) said = absurd one
+  line_next (LineOf.happens one) (LineOf.retrace m few) said = absurd one
+  line_next (LineOf.happens one) (LineOf.sweep few) said = absurd one
+  line_next (LineOf.happens one) LineOf.number said = absurd one
+  line_next (LineOf.refused {event = event} wrong) (LineOf.happens {s' = t} one) said = absurd (not_refused event t one wrong)
+  line_next (LineOf.refused wrong) (LineOf.refused wrong') said = refl
+  line_next (LineOf.roots m) (LineOf.happens other) said = absurd other
+  line_next (LineOf.roots m) (LineOf.roots m') said = refl
+  line_next (LineOf.mark m few) (LineOf.happens other) said = absurd other
+  line_next (LineOf.mark m few) (LineOf.mark m' few') said = refl
+  line_next (LineOf.retrace m few) (LineOf.happens other) said = absurd other
+  line_next (LineOf.retrace m few) (LineOf.retrace m' few') said = refl
+  line_next (LineOf.sweep few) (LineOf.happens other) said = absurd other
+  line_next (LineOf.sweep few) (LineOf.sweep few') said = refl
+  line_next LineOf.number other said = sym (number_stays other)
+
+pub one_next : (start : Start) (run : Run) → IsSound (heap_after start run) → (event : Event) → InRange event → (reply : Reply) (hint hint' : Hint) → SayTheSame hint hint' → (next next' : Run)
+    → IsReplay hint start run event reply next → IsReplay hint' start run event reply next' → ReplaysAlike start run next next'
+one_next start run h event range reply hint hint' same next next' one other = record {
+  same = line_next start run h one.line other.line (record {
+    born = λ slot into words kind is done. both_born hint hint' same (heap_after start run) (heap_after start next) (heap_after start next') (one.place slot into words kind is done) (other.place slot into words kind is done);
+    ended = λ n is counts. named_next hint hint' same n (heap_after start run) (heap_after start next) (heap_after start next') (one.finished n is counts) (other.finished n is counts);
+  });
+  sound = line_kept start run h event range one.line;
+}
