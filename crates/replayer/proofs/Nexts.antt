@@ -1,11 +1,11 @@
 -- A replay has one next run.
-use Rattle.std.proofs.Common.{◌≡◌, ℕ, ◌+◌, ◌<◌, Bool, true, false, List, length, replicate, cond, eqb, refl, sym, ap, ◌∙◌, subst, arith, ⊎_elim}
+use Rattle.std.proofs.Common.{◌≡◌, ℕ, ◌+◌, Bool, true, false, List, length, replicate, cond, eqb, refl, sym, ap, ◌∙◌, subst, arith, ⊎_elim}
 use Rattle.std.specs.Prelude.{Contains, Option, Some, None}
 use Rattle.std.specs.List.{list_any}
 use Rattle.std.proofs.lemmas.Bool.{eqb-true, eq-eqb}
 use Rattle.std.proofs.lemmas.List.Folds.{Any-from_list_any, list_any-from_Any}
 use Rattle.std.proofs.lemmas.List.Elements.{All-contains}
-use Rattle.std.proofs.lemmas.Option.{none-some, same_Some}
+use Rattle.std.proofs.lemmas.Option.{same_Some}
 use mathlib.Core.Path.{fun_ext}
 use Rattle.words.specs.declared.class.Kind.{Kind}
 use Rattle.words.specs.declared.class.Placement.{Placement}
@@ -17,12 +17,12 @@ use Rattle.heap_spec.specs.declared.reply.Reply.{Reply}
 use Rattle.heap_spec.specs.declared.reply.Reply.TheVariants.{Done, Count, Refused}
 use Rattle.words.specs.declared.refusal.Refusal.TheVariants.{WrongPhase}
 use Rattle.heap_spec.specs.Heap.{Heap, Object, Mutator as HeapMutator, HasObject, IsAttached, without, without_at}
-use Rattle.heap_spec.specs.Room.{HasRoom, length_of}
+use Rattle.heap_spec.specs.Room.{length_of}
 use Rattle.heap_spec.specs.Ranges.{InRange}
 use Rattle.heap_spec.specs.Sound.{IsSound}
 use Rattle.heap_spec.specs.Laws.{IsLegible}
 use Rattle.heap_spec.specs.Closure.{Reached}
-use Rattle.heap_spec.specs.Cycles.{TakesOut, CollectsFully}
+use Rattle.heap_spec.specs.Cycles.{CollectsFully}
 use Rattle.heap_spec.specs.Runs.{Start, Run, heap_after, is_marking, goes_on, AllTouched}
 use Rattle.heap_spec.specs.Histories.{Happens}
 use Rattle.heap_spec.specs.Steps.{Acts, Calls, acts, vacant, Attaches, with_new, with_register}
@@ -34,8 +34,8 @@ use Rattle.heap_spec.proofs.Calls.{calls_kept, attaches_kept, takes_out_kept}
 use Rattle.plain_core.specs.Answering.{IsBornAt}
 use Rattle.replayer.specs.declared.hint.Hint.{Hint}
 use Rattle.replayer.specs.declared.hint.Hint.TheVariants.{Nothing, Place, Forgot}
-use Rattle.replayer.specs.Replays.{NamesPlace, NamesBases, MayNameBases, IsReplay}
-use Rattle.replayer.specs.Laws.{SayTheSame, ReplaysAlike}
+use Rattle.replayer.specs.Replays.{NamesPlace, NamesBases, IsReplay}
+use Rattle.replayer.specs.Laws.{SayTheSame, AreOneNext}
 
 legible : (s : Heap) → IsSound s → IsLegible s
 legible s h = record { one = one_read s h; some = λ base o has. (object_lies s h base o has).some }
@@ -215,7 +215,7 @@ module _ (start : Start) (run : Run) (h : IsSound (heap_after start run)) where
   line_next LineOf.number other said = sym (number_stays other)
 
 pub one_next : (start : Start) (run : Run) → IsSound (heap_after start run) → (event : Event) → InRange event → (reply : Reply) (hint hint' : Hint) → SayTheSame hint hint' → (next next' : Run)
-    → IsReplay hint start run event reply next → IsReplay hint' start run event reply next' → ReplaysAlike start run next next'
+    → IsReplay hint start run event reply next → IsReplay hint' start run event reply next' → AreOneNext start next next'
 one_next start run h event range reply hint hint' same next next' one other = record {
   same = line_next start run h one.line other.line (record {
     born = λ slot into words kind is done. both_born hint hint' same (heap_after start run) (heap_after start next) (heap_after start next') (one.place slot into words kind is done) (other.place slot into words kind is done);

@@ -1,6 +1,6 @@
 -- How a run goes on, as a replayer follows it.
 use Rattle.std.proofs.Common.{◌≡◌, ◌⊎◌, ℕ, ◌+◌, ◌%◌, ◌<◌, ◌≤◌, Bool, true, false, List, Bor, length, cond, eqb, refl, sym, ap, ◌∙◌, subst, arith, inl, inr, ⊎_elim}
-use Rattle.std.specs.Prelude.{Contains, Some, None}
+use Rattle.std.specs.Prelude.{Contains, None}
 use Rattle.std.specs.List.{list_any}
 use Rattle.std.proofs.lemmas.Bool.{eqb-true, eq-eqb, cond-true}
 use Rattle.std.proofs.lemmas.List.Folds.{Any-from_list_any, list_any-from_Any}
@@ -15,10 +15,9 @@ use Rattle.heap_spec.specs.declared.reply.Reply.{Reply}
 use Rattle.heap_spec.specs.declared.reply.Reply.TheVariants.{Done, Count, Refused}
 use Rattle.heap_spec.specs.Layout.{word_end}
 use Rattle.heap_spec.specs.Heap.{Heap, Object, Mutator as HeapMutator, HasObject, without}
-use Rattle.heap_spec.specs.Cycles.{TakesOut, Forgets, CollectsFully}
+use Rattle.heap_spec.specs.Cycles.{TakesOut, CollectsFully}
 use Rattle.heap_spec.specs.Replies.{IsStep}
 use Rattle.heap_spec.specs.Runs.{Start, Run, heap_after, is_marking, count, goes_on, AllTouched, marking_after, counted}
-use Rattle.heap_spec.specs.Histories.{Happens}
 use Rattle.heap_spec.specs.Steps.{Acts, Calls, acts, vacant, Attaches}
 use Rattle.heap_spec.specs.Transcripts.{LineOf, IsWrongPhase}
 use Rattle.plain_core.specs.Contents.{Contents as PlainContents}
@@ -28,7 +27,7 @@ use Rattle.plain_core.specs.Collections.{IsCollected, CantCollect, IsTaken, Cant
 use Rattle.replayer.specs.declared.hint.Hint.{Hint}
 use Rattle.replayer.specs.declared.hint.Hint.TheVariants.{Nothing, Place, Forgot}
 use Rattle.replayer.specs.Contents.{Contents, Follows}
-use Rattle.replayer.specs.Replays.{NamesPlace, NamesBases, MayNameBases, IsReplay, IsReplayed, IsNoReplay}
+use Rattle.replayer.specs.Replays.{NamesPlace, NamesBases, MayNameBases, IsReplayed, IsNoReplay}
 
 -- the call is a granted request
 abbrev pub IsGrant : Call → Reply → Type 0

@@ -1,5 +1,5 @@
 -- The law of replays, a statement of its own.
-use Rattle.std.specs.Prelude.{◌≡◌, ℕ}
+use Rattle.std.specs.Prelude.{◌≡◌}
 use Rattle.heap_spec.specs.declared.event.Event.{Event}
 use Rattle.heap_spec.specs.declared.reply.Reply.{Reply}
 use Rattle.heap_spec.specs.Ranges.{InRange}
@@ -21,12 +21,13 @@ SayTheSame (Forgot bases) Nothing = ⊥
 SayTheSame (Forgot bases) (Place base) = ⊥
 SayTheSame (Forgot bases) (Forgot others) = bases.now ≡ others.now
 
--- From a run that leads to a sound heap, an event with its reply and a hint replays to one run, and the heap stays sound.
-pub record ReplaysAlike (start : Start) (run : Run) (next other : Run) : Type 0 where
-  pub same : next ≡ other
+-- Two runs after one are the same, and lead to a sound heap.
+pub record AreOneNext (start : Start) (next next' : Run) : Type 0 where
+  pub same : next ≡ next'
   pub sound : IsSound (heap_after start next)
 
+-- from a run that leads to a sound heap, an event with its reply and what a hint says has one next run
 abbrev pub ReplaysHaveOneNext : Type 0
 ReplaysHaveOneNext = (start : Start) (run : Run) → IsSound (heap_after start run) → (event : Event) → InRange event
     → (reply : Reply) (hint hint' : Hint) → SayTheSame hint hint' → (next next' : Run)
-    → IsReplay hint start run event reply next → IsReplay hint' start run event reply next' → ReplaysAlike start run next next'
+    → IsReplay hint start run event reply next → IsReplay hint' start run event reply next' → AreOneNext start next next'

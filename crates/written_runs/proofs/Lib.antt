@@ -9,3 +9,8 @@ pub mod Hints
 pub mod Unwritten
 pub mod Judged
 pub mod Arguments
+pub mod Events
+pub mod SameReplies
+pub mod Readings
+pub mod Rereading
+pub mod Verdicts

@@ -20,7 +20,7 @@ hint_from Nothing = tt
 hint_from (Place base) = refl
 hint_from (Forgot bases) = refl
 
-parts_of : (line : List ℕ) (event : Event) (reply : Reply) (hint : Hint) (w : IsWritten line event reply hint) → IsParted line w.parts.command (answer_of reply ++ hint_text hint)
+pub parts_of : (line : List ℕ) (event : Event) (reply : Reply) (hint : Hint) (w : IsWritten line event reply hint) → IsParted line w.parts.command (answer_of reply ++ hint_text hint)
 parts_of line event reply hint w = record { whole = w.parts.is_line; lacks = line_lacks w.parts.command event w.parts.is_command }
 
 -- it has no ` => ` behind a command

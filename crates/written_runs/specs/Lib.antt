@@ -4,3 +4,4 @@ pub mod Reading
 pub mod Rules
 pub mod Judging
 pub mod Arguments
+pub mod Laws

@@ -5,6 +5,7 @@
 mod behind;
 mod command;
 mod cut;
+pub mod laws;
 mod line;
 mod reply;
 mod rules;

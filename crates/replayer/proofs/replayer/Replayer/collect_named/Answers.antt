@@ -1,8 +1,6 @@
-use Rattle.std.proofs.Common.{◌≡◌, ◌<◌, ◌+◌, ℕ, refl, subst, sym, ap, ◌∙◌}
-use Rattle.std.proofs.lemmas.Bool.{true≢false}
+use Rattle.std.proofs.Common.{◌<◌, refl, subst, sym}
 use Rattle.heap_spec.specs.Layout.{word_end}
 use Rattle.replayer.specs.Contents.{Contents}
-use Rattle.heap_spec.specs.declared.event.Event.TheVariants.{Collect}
 use Rattle.replayer.proofs.Steps.{collects, collect_unnamed, collect_untaken}
 use Rattle.replayer.proofs.replayer.Replayer.collect_named.Goals as goal
 

@@ -1,6 +1,4 @@
-use Rattle.std.proofs.Common.{subst, sym, ◌∙◌}
-use Rattle.replayer.specs.Contents.{Contents}
-use Rattle.replayer.specs.Replays.{IsReplayed}
+use Rattle.std.proofs.Common.{◌∙◌}
 use Rattle.replayer.proofs.Steps.{number_stays}
 use Rattle.replayer.proofs.replayer.Replayer.count.Goals as goal
 

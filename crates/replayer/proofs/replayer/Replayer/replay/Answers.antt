@@ -1,8 +1,7 @@
-use Rattle.std.proofs.Common.{◌≡◌, ◌<◌, ◌+◌, ℕ, subst, sym, ap, ◌∙◌}
-use Rattle.std.proofs.lemmas.Bool.{true≢false}
+use Rattle.std.proofs.Common.{◌<◌, subst, sym}
 use Rattle.heap_spec.specs.Layout.{word_end}
 use Rattle.replayer.specs.Contents.{Contents}
-use Rattle.replayer.proofs.Steps.{attaches, no_attach}
+use Rattle.replayer.proofs.Steps.{attaches}
 use Rattle.replayer.proofs.replayer.Replayer.replay.Goals as goal
 
 pub returns-in-Attach-clause-yes : goal.returns-in-Attach-clause-yes

@@ -1,6 +1,4 @@
-use Rattle.std.proofs.Common.{subst, sym, ◌∙◌, arith}
-use Rattle.replayer.specs.Contents.{Contents}
-use Rattle.replayer.specs.Replays.{IsReplayed}
+use Rattle.std.proofs.Common.{sym, ◌∙◌, arith}
 use Rattle.heap_spec.specs.declared.event.Event.TheVariants.{Retrace}
 use Rattle.replayer.proofs.Steps.{refuses, retrace_stays}
 use Rattle.replayer.proofs.replayer.Replayer.retrace.Goals as goal

@@ -1,6 +1,4 @@
-use Rattle.std.proofs.Common.{subst, sym, ◌∙◌}
-use Rattle.replayer.specs.Contents.{Contents}
-use Rattle.replayer.specs.Replays.{IsReplayed}
+use Rattle.std.proofs.Common.{sym, ◌∙◌}
 use Rattle.heap_spec.specs.declared.event.Event.TheVariants.{Roots}
 use Rattle.replayer.proofs.Steps.{refuses, roots_stay}
 use Rattle.replayer.proofs.replayer.Replayer.roots.Goals as goal

@@ -1,6 +1,4 @@
-use Rattle.std.proofs.Common.{subst, sym, ◌∙◌, arith}
-use Rattle.replayer.specs.Contents.{Contents}
-use Rattle.replayer.specs.Replays.{IsReplayed}
+use Rattle.std.proofs.Common.{arith}
 use Rattle.replayer.proofs.Steps.{sweep_stays}
 use Rattle.replayer.proofs.replayer.Replayer.sweep.Goals as goal
 

@@ -1,0 +1,132 @@
+-- Of the lines of a run one verdict is true.
+use Rattle.std.proofs.Common.{◌≡◌, ◌⊎◌, ℕ, ◌+◌, ◌≤◌, List, [], ◌∷◌, ◌++◌, length, refl, sym, ap, ◌∙◌, subst, inl, inr, ⊎_elim}
+use Rattle.words.specs.declared.limits.TheConstants.{MAX_PAGES}
+use Rattle.heap_spec.specs.Runs.{Start, Run, fresh, heap_after}
+use Rattle.heap_spec.specs.Sound.{IsSound}
+use Rattle.heap_spec.proofs.Calls.{opening_is}
+use Rattle.written_runs.specs.declared.rules.Rule.{Rule}
+use Rattle.written_runs.specs.declared.verdict.Verdict.{Verdict}
+use Rattle.written_runs.specs.declared.verdict.Verdict.TheVariants.{Legal, Bad, Breaks}
+use Rattle.written_runs.specs.Written.{IsWritten}
+use Rattle.written_runs.specs.Rules.{rule_of}
+use Rattle.written_runs.specs.Judging.{Leads, ends, on, IsUnwritten, IsBroken, HasFault, IsJudged}
+use Rattle.written_runs.specs.Laws.{AreOneReading}
+use Rattle.written_runs.proofs.Readings.{one_reading, one_rule}
+use Rattle.written_runs.proofs.Rereading.{back_alike, replay_alike, reread, step_alike}
+
+-- The run after some lines goes on by those behind them.
+record GoesOn (start : Start) (run : Run) (lines : List (List ℕ)) (last : Run) : Type 0 where
+  sound : IsSound (heap_after start run)
+  leads : Leads start run lines last
+
+goes_on : (start : Start) (run : Run) → IsSound (heap_after start run) → (front back : List (List ℕ)) (mid last : Run) → Leads start run front mid → Leads start run (front ++ back) last → GoesOn start mid back last
+goes_on start run h [] back mid last ends whole = record { sound = h; leads = whole }
+goes_on start run h (line ∷ front) back mid last (on {mid = near} {event = event} {reply = reply} {hint = hint} w r rest) (on {mid = near'} {event = event'} {reply = reply'} {hint = hint'} w' r' rest') =
+    let next = step_alike start run h line event event' reply reply' hint hint' near near' w r w' r' in
+    goes_on start near next.sound front back mid last rest (subst (λ x. Leads start x (front ++ back) last) (sym next.same) rest')
+
+-- A fault stops a run: no run goes on by a line with it.
+abbrev StopsRuns : Start → (Run → List ℕ → Type 0) → Type 0
+StopsRuns start Fault = (run last : Run) (line : List ℕ) (behind : List (List ℕ)) → IsSound (heap_after start run) → Fault run line → Leads start run (line ∷ behind) last → ⊥
+
+unwritten_stops : (start : Start) → StopsRuns start (λ run line. IsUnwritten line)
+unwritten_stops start run last line behind h fault (on {event = event} {reply = reply} {hint = hint} w r rest) = fault event reply hint w
+
+broken_stops : (start : Start) (rule : Rule) → StopsRuns start (IsBroken start rule)
+broken_stops start rule run last line behind h b (on {mid = mid} {event = event} {reply = reply} {hint = hint} w r rest) =
+    let same = one_reading line b.event event b.reply reply b.hint hint b.is_written w in
+    b.no_replay mid (replay_alike start run mid b.event b.reply hint b.hint (back_alike b.hint hint same.hints) (reread start run mid b.event event b.reply reply hint same.events same.replies r))
+
+-- Where two lists are one that was parted twice.
+record ArePartedAlike (front front' : List (List ℕ)) (line line' : List ℕ) : Type 0 where
+  fronts : front ≡ front'
+  lines : line ≡ line'
+
+abbrev IsPartedEarlier : List (List ℕ) → List (List ℕ) → List ℕ → Type 0
+IsPartedEarlier front front' line = (between : List (List ℕ)) × (front' ≡ front ++ line ∷ between)
+
+-- whether two lists are one that was parted twice, or where one of them was parted earlier
+abbrev HowParted : List (List ℕ) → List (List ℕ) → List ℕ → List ℕ → Type 0
+HowParted front front' line line' = IsPartedEarlier front front' line ⊎ (IsPartedEarlier front' front line' ⊎ ArePartedAlike front front' line line')
+
+both : (x y : List ℕ) (xs ys : List (List ℕ)) → x ≡ y → xs ≡ ys → x ∷ xs ≡ y ∷ ys
+both x y xs ys first rest = ap (λ l. l ∷ xs) first ∙ ap (λ ls. y ∷ ls) rest
+
+parted_behind : (x y : List ℕ) (front front' : List (List ℕ)) (line line' : List ℕ) → x ≡ y → HowParted front front' line line' → HowParted (x ∷ front) (y ∷ front') line line'
+parted_behind x y front front' line line' same how =
+    ⊎_elim (λ early. inl (early.0, both y x front' (front ++ line ∷ early.0) (sym same) early.1))
+    (λ rest. inr (⊎_elim (λ early. inl (early.0, both x y front (front' ++ line' ∷ early.0) same early.1))
+    (λ alike. inr (record { fronts = both x y front front' same alike.fronts; lines = alike.lines })) rest))
+    how
+
+parted : (front front' : List (List ℕ)) (line line' : List ℕ) (behind behind' : List (List ℕ)) → front ++ line ∷ behind ≡ front' ++ line' ∷ behind'
+    → HowParted front front' line line'
+parted [] [] line line' behind behind' e = let same : line ≡ line' = cc in inr (inr (record { fronts = refl; lines = same }))
+parted [] (x ∷ front') line line' behind behind' e = let same : line ≡ x = cc in inl (front', ap (λ l. l ∷ front') (sym same))
+parted (x ∷ front) [] line line' behind behind' e = let same : x ≡ line' = cc in inr (inl (front, ap (λ l. l ∷ front) same))
+parted (x ∷ front) (y ∷ front') line line' behind behind' e =
+    let more : front ++ line ∷ behind ≡ front' ++ line' ∷ behind' = cc in
+    let same : x ≡ y = cc in
+    parted_behind x y front front' line line' same (parted front front' line line' behind behind' more)
+
+module _ (start : Start) (opens : IsSound (heap_after start [])) (lines : List (List ℕ)) where
+  -- lines with a fault lead to no run
+  no_run : (Fault : Run → List ℕ → Type 0) → StopsRuns start Fault → (number : ℕ) → HasFault Fault start lines number → (last : Run) → Leads start [] lines last → ⊥
+  no_run Fault stops number f last leads =
+      let after = goes_on start [] opens f.before (f.line ∷ f.behind) f.run last f.leads (subst (λ ls. Leads start [] ls last) f.are leads) in
+      stops f.run last f.line f.behind after.sound f.fault after.leads
+
+  -- Two faults of the lines are at one place.
+  module _ (Fault Other : Run → List ℕ → Type 0) (stops : StopsRuns start Fault) (stops' : StopsRuns start Other) (n k : ℕ) (f : HasFault Fault start lines n) (g : HasFault Other start lines k) where
+    not_earlier : IsPartedEarlier f.before g.before f.line → ⊥
+    not_earlier early =
+        let after = goes_on start [] opens f.before (f.line ∷ early.0) f.run g.run f.leads (subst (λ ls. Leads start [] ls g.run) early.1 g.leads) in
+        stops f.run g.run f.line early.0 after.sound f.fault after.leads
+
+    not_later : IsPartedEarlier g.before f.before g.line → ⊥
+    not_later early =
+        let after = goes_on start [] opens g.before (g.line ∷ early.0) g.run f.run g.leads (subst (λ ls. Leads start [] ls f.run) early.1 f.leads) in
+        stops' g.run f.run g.line early.0 after.sound g.fault after.leads
+
+    one_place : ArePartedAlike f.before g.before f.line g.line
+    one_place = ⊎_elim (λ early. absurd (not_earlier early)) (λ rest. ⊎_elim (λ early. absurd (not_later early)) (λ alike. alike) rest) (parted f.before g.before f.line g.line f.behind g.behind (sym f.are ∙ g.are))
+
+    one_number : n ≡ k
+    one_number = f.counted ∙ ap (λ ls. length ls + 1) one_place.fronts ∙ sym g.counted
+
+  -- the rules of two breaks of one line are one
+  broken_alike : (rule rule' : Rule) (n k : ℕ) → HasFault (IsBroken start rule) start lines n → HasFault (IsBroken start rule') start lines k → Breaks n rule ≡ Breaks k rule'
+  broken_alike rule rule' n k f g =
+      let place = one_place (IsBroken start rule) (IsBroken start rule') (broken_stops start rule) (broken_stops start rule') n k f g in
+      let number = one_number (IsBroken start rule) (IsBroken start rule') (broken_stops start rule) (broken_stops start rule') n k f g in
+      let a = f.fault in
+      let b = g.fault in
+      let same = one_reading g.line a.event b.event a.reply b.reply a.hint b.hint (subst (λ l. IsWritten l a.event a.reply a.hint) place.lines a.is_written) b.is_written in
+      let rules : rule ≡ rule' = a.named ∙ ap (λ e. rule_of e a.reply a.hint) same.events ∙ ap (λ r. rule_of b.event r a.hint) same.replies ∙ one_rule b.event b.reply a.hint b.hint same.hints ∙ sym b.named in
+      ap (λ m. Breaks m rule) number ∙ ap (λ r. Breaks k r) rules
+
+  not_both : (rule : Rule) (n k : ℕ) → HasFault (λ run line. IsUnwritten line) start lines n → HasFault (IsBroken start rule) start lines k → ⊥
+  not_both rule n k f g =
+      let place = one_place (λ run line. IsUnwritten line) (IsBroken start rule) (unwritten_stops start) (broken_stops start rule) n k f g in
+      let b = g.fault in
+      f.fault b.event b.reply b.hint (subst (λ l. IsWritten l b.event b.reply b.hint) (sym place.lines) b.is_written)
+
+pub one_verdict : (pages : ℕ) → 1 ≤ pages → pages ≤ MAX_PAGES → (lines : List (List ℕ)) (verdict verdict' : Verdict) → IsJudged pages lines verdict → IsJudged pages lines verdict' → verdict ≡ verdict'
+one_verdict pages some few lines verdict verdict' is is' = by_verdicts verdict verdict' is is'
+  where
+    start : Start
+    start = fresh pages
+
+    opens : IsSound (heap_after start [])
+    opens = opening_is pages some few
+
+    by_verdicts : (v w : Verdict) → IsJudged pages lines v → IsJudged pages lines w → v ≡ w
+    by_verdicts Legal Legal x y = refl
+    by_verdicts Legal (Bad k) x y = absurd (no_run start opens lines (λ run line. IsUnwritten line) (unwritten_stops start) k y x.0 x.1)
+    by_verdicts Legal (Breaks k rule) x y = absurd (no_run start opens lines (IsBroken start rule) (broken_stops start rule) k y x.0 x.1)
+    by_verdicts (Bad n) Legal x y = absurd (no_run start opens lines (λ run line. IsUnwritten line) (unwritten_stops start) n x y.0 y.1)
+    by_verdicts (Breaks n rule) Legal x y = absurd (no_run start opens lines (IsBroken start rule) (broken_stops start rule) n x y.0 y.1)
+    by_verdicts (Bad n) (Bad k) x y = ap Bad (one_number start opens lines (λ run line. IsUnwritten line) (λ run line. IsUnwritten line) (unwritten_stops start) (unwritten_stops start) n k x y)
+    by_verdicts (Bad n) (Breaks k rule) x y = absurd (not_both start opens lines rule n k x y)
+    by_verdicts (Breaks n rule) (Bad k) x y = absurd (not_both start opens lines rule k n y x)
+    by_verdicts (Breaks n rule) (Breaks k rule') x y = broken_alike start opens lines rule rule' n k x y

@@ -1,0 +1,26 @@
+-- The laws of written runs, each a statement of its own.
+use Rattle.std.specs.Prelude.{◌≡◌, ℕ, ◌≤◌, List}
+use Rattle.words.specs.declared.limits.TheConstants.{MAX_PAGES}
+use Rattle.heap_spec.specs.declared.event.Event.{Event}
+use Rattle.heap_spec.specs.declared.reply.Reply.{Reply}
+use Rattle.replayer.specs.declared.hint.Hint.{Hint}
+use Rattle.replayer.specs.Laws.{SayTheSame}
+use Rattle.written_runs.specs.declared.verdict.Verdict.{Verdict}
+use Rattle.written_runs.specs.Written.{IsWritten}
+use Rattle.written_runs.specs.Judging.{IsJudged}
+
+-- Two readings of a line are the same.
+pub record AreOneReading (event event' : Event) (reply reply' : Reply) (hint hint' : Hint) : Type 0 where
+  pub events : event ≡ event'
+  pub replies : reply ≡ reply'
+  pub hints : SayTheSame hint hint'
+
+-- a line is written of one event, its reply and a hint
+abbrev pub LinesHaveOneReading : Type 0
+LinesHaveOneReading = (line : List ℕ) (event event' : Event) (reply reply' : Reply) (hint hint' : Hint)
+    → IsWritten line event reply hint → IsWritten line event' reply' hint' → AreOneReading event event' reply reply' hint hint'
+
+-- of the lines of a run one verdict is true
+abbrev pub RunsHaveOneVerdict : Type 0
+RunsHaveOneVerdict = (pages : ℕ) → 1 ≤ pages → pages ≤ MAX_PAGES → (lines : List (List ℕ)) (verdict verdict' : Verdict)
+    → IsJudged pages lines verdict → IsJudged pages lines verdict' → verdict ≡ verdict'
