@@ -1,5 +1,5 @@
 -- A text is that of one reply to an event, and of one hint.
-use Rattle.std.proofs.Common.{◌≡◌, ℕ, ◌<◌, ◌^◌, Bool, true, false, List, [], ◌∷◌, ◌++◌, cond, eqb, true≢false, refl, sym, ap, ◌∙◌, subst, arith}
+use Rattle.std.proofs.Common.{◌≡◌, ℕ, ◌<◌, ◌^◌, List, [], ◌∷◌, cond, eqb, true≢false, refl, sym, ap, ◌∙◌, arith}
 use Rattle.std.specs.Prelude.{All, codes, decimal}
 use Rattle.std.proofs.lemmas.Fmt.{decimal_injective}
 use Rattle.std.proofs.lemmas.List.{append_cancel_left}
@@ -16,8 +16,8 @@ use Rattle.replayer.specs.declared.hint.Hint.TheVariants.{Nothing, Place, Forgot
 use Rattle.replayer.specs.Laws.{SayTheSame}
 use Rattle.written_runs.specs.Cuts.{IsEmptyOrFrom}
 use Rattle.written_runs.specs.Written.{bases_text, hint_text, IsAnswer, NamesWords}
-use Rattle.written_runs.specs.Reading.{IsNumberAt, IsRefusalAt, IsReplyAt}
-use Rattle.written_runs.proofs.Cutting.{IsSameCut, same_cut, lead, second}
+use Rattle.written_runs.specs.Reading.{IsReplyAt}
+use Rattle.written_runs.proofs.Cutting.{IsSameCut, same_cut, second}
 use Rattle.written_runs.proofs.Digits.{not_decimal, same_number, bases_from}
 use Rattle.written_runs.proofs.Refusals.{code_at}
 use Rattle.written_runs.proofs.Replies.{first_word, behind_word, reply_words, first_lacks, behind_from}
@@ -90,7 +90,7 @@ one_bases [] (b ∷ others) x y e = let f : ⊥ = cc in absurd f
 one_bases (a ∷ bases) [] x y e = let f : ⊥ = cc in absurd f
 one_bases (a ∷ bases) (b ∷ others) x y e =
     let both = same_number (bases_text (a ∷ bases)) a b (bases_text bases) (bases_text others)
-        (record { whole = refl; word = All-head IsWord a bases x; from = bases_from bases }) (record { whole = e; word = All-head IsWord b others y; from = bases_from others }) in
+    (record { whole = refl; word = All-head IsWord a bases x; from = bases_from bases }) (record { whole = e; word = All-head IsWord b others y; from = bases_from others }) in
     ap (λ z. z ∷ bases) both.number ∙ ap (λ zs. b ∷ zs) (one_bases bases others (All-tail IsWord a bases x) (All-tail IsWord b others y) both.rest)
 
 -- hints that are written alike

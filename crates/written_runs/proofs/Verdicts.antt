@@ -10,7 +10,6 @@ use Rattle.written_runs.specs.declared.verdict.Verdict.TheVariants.{Legal, Bad, 
 use Rattle.written_runs.specs.Written.{IsWritten}
 use Rattle.written_runs.specs.Rules.{rule_of}
 use Rattle.written_runs.specs.Judging.{Leads, ends, on, IsUnwritten, IsBroken, HasFault, IsJudged}
-use Rattle.written_runs.specs.Laws.{AreOneReading}
 use Rattle.written_runs.proofs.Readings.{one_reading, one_rule}
 use Rattle.written_runs.proofs.Rereading.{back_alike, replay_alike, reread, step_alike}
 
