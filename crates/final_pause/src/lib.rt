@@ -33,6 +33,7 @@
 #![tactic(auto)]
 
 mod balance;
+mod busy;
 mod crew;
 mod gate;
 mod helper;
