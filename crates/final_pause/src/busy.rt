@@ -19,7 +19,7 @@ impl Busy {
     }
 }
 
-/// Whether one helper has work, as the count of all has it.
+/// One helper's part of the count: it is counted exactly while it has work.
 pub(crate) struct Duty<'a> {
     busy: &'a Busy,
     has_work: bool,
@@ -35,7 +35,7 @@ impl<'a> Drop for Duty<'a> {
 }
 
 impl<'a> Duty<'a> {
-    /// A helper has work.
+    /// A helper that has work, or will have it once it starts.
     pub(crate) fn new(busy: &'a Busy) -> Duty<'a> {
         busy.count.fetch_add(1, Ordering::SeqCst);
         Duty {
