@@ -12,7 +12,7 @@ passed=0
 failed=0
 
 # refuse K WORDS..: the words, where the K-th start of a thread fails; how they end, and what they write. Nobody waits for a helper
-# that never starts: strace makes each look for its work slow, and 100,000 of them take longer than these 10 seconds.
+# that never starts: strace makes each look for its work slow, and those of several helpers take longer than these 10 seconds.
 refuse() {
     at=$1
     shift
