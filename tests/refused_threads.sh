@@ -11,11 +11,12 @@ trap 'rm -rf "$room"' EXIT
 passed=0
 failed=0
 
-# refuse K WORDS..: the words, where the K-th start of a thread fails; how they end, and what they write.
+# refuse K WORDS..: the words, where the K-th start of a thread fails; how they end, and what they write. Nobody waits for a helper
+# that never starts: strace makes each look for its work slow, and those of several helpers take longer than these 10 seconds.
 refuse() {
     at=$1
     shift
-    out=$(timeout 60 strace -f -o "$room/starts" -e trace=clone3 -e inject=clone3:error=EAGAIN:when="$at" \
+    out=$(timeout 10 strace -f -o "$room/starts" -e trace=clone3 -e inject=clone3:error=EAGAIN:when="$at" \
         "$@" 2>"$room/err")
     status=$?
     said="$out|$(cat "$room/err")"

@@ -18,6 +18,7 @@ use Rattle.marker.specs.Closure.{word}
 use Rattle.block_map.specs.Walks.{IsNextObject, IsNoObject}
 use Rattle.marker.proofs.Closures.{at_base}
 use Rattle.marker.proofs.Rescanning.{next_is, reads_own}
+use Rattle.final_pause.specs.declared.busy.Duty.{Duty}
 use Rattle.final_pause.specs.declared.helper.Helper.{Helper}
 use Rattle.final_pause.specs.declared.share.Pause.{Pause}
 use Rattle.final_pause.specs.Helping.{found, word_in, won_of, Fits, Extends, IsTargetKnown, IsAwaited, IsPointedInto, ClaimsOnly, IsWordOf, ReadsWords}
@@ -66,6 +67,21 @@ module _ (p : Pause) where
 
   pub serves_refl : (h : Helper) → IsServing p h → Serves p h h
   serves_refl h s = record { serving = s; share = refl; learns = record { parts = refl; known = λ k e. e } }
+
+  -- whether a helper has work is no part of what it owes
+  pub serves_duty : (h : Helper) (d : Duty) → IsServing p h → Serves p h (record h { duty = d })
+  serves_duty h d s = record {
+    serving = record {
+      fits = record { ready = s.fits.ready; of = s.fits.of; dirty = s.fits.dirty };
+      one = s.one;
+      won = s.won;
+      dirtied = s.dirtied;
+      queued = s.queued;
+      within = s.within;
+    };
+    share = refl;
+    learns = record { parts = refl; known = λ k e. e };
+  }
 
   pub serves_trans : (a b c : Helper) → Serves p a b → Serves p b c → Serves p a c
   serves_trans a b c x y = record {

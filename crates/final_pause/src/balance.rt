@@ -13,7 +13,8 @@ use crate::share::Pause;
 use arrayvec::ArrayVec;
 use std::thread;
 
-// How often a helper with no work looks for some. On an idle machine that takes longer than the largest pause.
+// How often a helper with no work looks for some, so that it ends whatever the others do. On an idle machine that takes longer
+// than the largest pause.
 const LOOKS: u32 = 100_000;
 
 // Offers the lowest entry that was not offered before, where nothing is on offer and another one is left. Answers how many
@@ -73,9 +74,9 @@ impl<'a> Pause<'a> {
             return;
         };
         helper.stack.push(base);
-        offer.work();
+        helper.duty.work();
         self.read_stack(gate, offer, helper);
-        offer.rest();
+        helper.duty.rest();
     }
 
     /// Reads what other helpers offer, until none of them has work.
@@ -91,9 +92,9 @@ impl<'a> Pause<'a> {
         ensures serves { Serves self.now helper.old helper.new }
         ensures empty { helper.new.stack.items ≡ [] }
     {
-        offer.rest();
+        helper.duty.rest();
         for _ in 0..LOOKS {
-            if offer.all_rest() {
+            if helper.duty.all_rest() {
                 return;
             }
             self.read_offered(gate, offer, helper);

@@ -8,6 +8,7 @@ ghost use Rattle.final_pause.specs.declared.helper.Helper.{Helper as HelperValue
 ghost use Rattle.final_pause.specs.Serving.{IsHired, HasServed};
 ghost use Rattle.final_pause.specs.Gathering.{AreNumbered, HasGathered};
 
+use crate::busy::{Busy, Duty};
 use crate::gate::FIRST_HELPER;
 use crate::helper::Helper;
 use crate::share::Pause;
@@ -19,13 +20,14 @@ use words::PageNo;
 use words::limits::{MAX_HELPERS, MAX_PAGES};
 
 // A helper with nothing to do yet.
-fn new_helper(
+fn new_helper<'a>(
     alloc: Global,
     table: &MarkTable,
     pages: PageNo,
     first: &mut Claimer,
+    busy: &'a Busy,
     share: u8,
-) -> Result<Helper, AllocError>
+) -> Result<Helper<'a>, AllocError>
     requires of { IsOf table.now first.old }
     requires parts { 1 < (view first.old).parts }
     requires pages { pages ≤ MAX_PAGES }
@@ -43,19 +45,21 @@ fn new_helper(
         stack: ArrayVec::new(),
         dirty,
         share: share as usize,
+        duty: Duty::new(busy),
         actor: FIRST_HELPER + share,
         call: 0,
     })
 }
 
-/// Cuts off a claimer for each helper, and takes all their memory.
-pub(crate) fn hire(
+/// Cuts off a claimer for each helper, and takes all their memory. Each counts as having work.
+pub(crate) fn hire<'a>(
     alloc: Global,
     table: &MarkTable,
     pages: PageNo,
     first: &mut Claimer,
+    busy: &'a Busy,
     helpers: u8,
-) -> Result<Vec<Helper>, AllocError>
+) -> Result<Vec<Helper<'a>>, AllocError>
     requires of { IsOf table.now first.old }
     requires parts { helpers < (view first.old).parts }
     requires pages { pages ≤ MAX_PAGES }
@@ -68,7 +72,7 @@ pub(crate) fn hire(
 {
     let mut crew = Vec::with_capacity(alloc, helpers as usize)?;
     for i in 0..helpers {
-        crew.push(new_helper(alloc, table, pages, first, i)?)?;
+        crew.push(new_helper(alloc, table, pages, first, busy, i)?)?;
     }
     Ok(crew)
 }
@@ -79,17 +83,18 @@ fn take_in(table: &MarkTable, first: &mut Claimer, dirty: &mut DirtyPages, helpe
     requires helper { IsOf table.now helper.claimer }
     requires size { length helper.dirty ≡ length dirty.old }
     ensures of { IsOf table.now first.new }
-    ensures joined { view first.new ≡ joined (view first.old) (view helper.claimer) }
+    ensures joined { view first.new ≡ joined (view first.old) (view helper.entry.claimer) }
     ensures size { length dirty.new ≡ length dirty.old }
-    ensures each { (q : ℕ) → Has dirty.new q → Has dirty.old q ⊎ Has helper.dirty q }
+    ensures each { (q : ℕ) → Has dirty.new q → Has dirty.old q ⊎ Has helper.entry.dirty q }
     ensures old { (q : ℕ) → Has dirty.old q → Has dirty.new q }
-    ensures more { (q : ℕ) → Has helper.dirty q → Has dirty.new q }
+    ensures more { (q : ℕ) → Has helper.entry.dirty q → Has dirty.new q }
 {
     let Helper {
         claimer,
         stack: _,
         dirty: more,
         share: _,
+        duty: _,
         actor: _,
         call: _,
     } = helper;

@@ -6,6 +6,7 @@ ghost use Rattle.mark_bits.specs.Claims.{knows, LearnsMore};
 ghost use Rattle.block_map.specs.Objects.{IsPlaced};
 ghost use Rattle.final_pause.specs.Helping.{Keeps};
 
+use crate::busy::Duty;
 use crate::gate::Gate;
 use arrayvec::ArrayVec;
 use block_map::Found;
@@ -19,13 +20,14 @@ use words::limits::MARK_STACK_ENTRIES;
 pub(crate) const ENTRIES: usize = MARK_STACK_ENTRIES as usize;
 
 /// What one helper marks with: its claimer, the bases of the objects that it still has to read, the pages of those that
-/// found no room, its place among the helpers, its number for the gate, and how many claims it has made.
+/// found no room, its place among the helpers, whether it has work, its number for the gate, and how many claims it has made.
 #[derive(Drop)]
-pub(crate) struct Helper {
+pub(crate) struct Helper<'a> {
     pub(crate) claimer: Claimer,
     pub(crate) stack: ArrayVec<u64, ENTRIES>,
     pub(crate) dirty: DirtyPages,
     pub(crate) share: usize,
+    pub(crate) duty: Duty<'a>,
     pub(crate) actor: u8,
     pub(crate) call: u32,
 }

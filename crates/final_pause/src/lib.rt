@@ -28,11 +28,15 @@
 //! the same: it comes to that entry last. What is on offer is always a reached Normal object. So a heap that hangs from one
 //! root is marked by all, while each helper still answers for what it won.
 //!
+//! **Ending.** A helper that has no work looks for some on offer until none has work. Each counts as having work before its
+//! thread starts, and no longer once it rests or is dropped, as it is where its thread is refused.
+//!
 //! **Joining.** What helpers know, won and made dirty is put together: the table's bits become the marks, the rows the dirty
 //! pages, and no entry is left. The invariant holds then, and the calling thread reads what found no room.
 #![tactic(auto)]
 
 mod balance;
+mod busy;
 mod crew;
 mod gate;
 mod helper;

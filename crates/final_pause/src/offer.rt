@@ -2,7 +2,7 @@
 ghost use Rattle.std.specs.Prelude.{IfSome};
 
 use std::marker::{Brand, PhantomData};
-use std::sync::atomic::{AtomicIn, AtomicU64, Ordering, Rule};
+use std::sync::atomic::{AtomicIn, Ordering, Rule};
 
 /// Which objects may be offered. A function that is generic in it is called at `Brand`, and its caller's proof picks the
 /// objects of its pause.
@@ -30,19 +30,17 @@ impl<J: Offering> Rule for Offered<J> {
     ghost invariant = { λ n. (n ≡ 0) ⊎ J.offered n };
 }
 
-/// One object that a helper has to read and leaves to others as well, if any, and how many helpers have work of their own.
+/// One object that a helper has to read and leaves to others as well, if any.
 #[derive(Drop)]
 pub(crate) struct Offer<J: Offering> {
     base: AtomicIn<Offered<J>>,
-    busy: AtomicU64,
 }
 
 impl<J: Offering> Offer<J> {
-    /// Nothing is on offer, and so many helpers have work.
-    pub(crate) fn new(helpers: usize) -> Offer<J> {
+    /// Nothing is on offer.
+    pub(crate) fn new() -> Offer<J> {
         Offer {
             base: AtomicIn::new(0),
-            busy: AtomicU64::new(helpers as u64),
         }
     }
 
@@ -69,20 +67,5 @@ impl<J: Offering> Offer<J> {
         }
         let base = self.base.swap(0, Ordering::SeqCst);
         if base == 0 { None } else { Some(base) }
-    }
-
-    /// A helper has no work of its own any more.
-    pub(crate) fn rest(&self) {
-        self.busy.fetch_sub(1, Ordering::SeqCst);
-    }
-
-    /// A helper has work again.
-    pub(crate) fn work(&self) {
-        self.busy.fetch_add(1, Ordering::SeqCst);
-    }
-
-    /// Whether no helper has work.
-    pub(crate) fn all_rest(&self) -> bool {
-        self.busy.load(Ordering::SeqCst) == 0
     }
 }

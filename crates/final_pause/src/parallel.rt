@@ -10,6 +10,7 @@ ghost use Rattle.marker.specs.Growth.{Traces};
 ghost use Rattle.each_law.specs.Jobs.{HaveRun};
 ghost use Rattle.final_pause.specs.Serving.{IsServing, AreOffered, HasServed};
 
+use crate::busy::Busy;
 use crate::crew::{gather, hire};
 use crate::gate::Gate;
 use crate::helper::Helper;
@@ -27,28 +28,28 @@ use std::marker::{Brand, Sync};
 use std::sync::Wait;
 use std::thread::Threads;
 
-impl<'a> Law<Helper> for Pause<'a> {
+impl<'a, 'b> Law<Helper<'b>> for Pause<'a> {
     ghost use Rattle.final_pause.specs.Serving.{HasServed};
 
     ghost does = { λ p old new. HasServed p old.share new };
 }
 
 // All helpers do their shares, each in a thread of its own. The error is that memory or a thread could not be had.
-fn help_each<R: Threads + Wait + Sync, G: Gate, J: Offering + Sync>(
+fn help_each<'b, R: Threads + Wait + Sync, G: Gate, J: Offering + Sync>(
     rt: &R,
     alloc: Global,
     pause: Pause,
     gate: &G,
-    crew: Vec<Helper>,
-) -> Result<Vec<Helper>, AllocError>
+    crew: Vec<Helper<'b>>,
+) -> Result<Vec<Helper<'b>>, AllocError>
     requires crew { All (λ h. IsServing pause h) crew.items }
     requires offered { AreOffered pause J.offered }
-    ensures { IfOk result (λ v. HaveRun (λ old new. HasServed pause.entry old.share new) crew.items v.items) }
+    ensures { IfOk result (λ v. HaveRun (λ old new. HasServed pause.entry old.share new) crew.entry.items v.items) }
 {
-    let offer = Offer::<J>::new(crew.len());
-    let work = |helper: Helper| -> Helper
+    let offer = Offer::<J>::new();
+    let work = |helper|
         requires { IsServing pause helper × AreOffered pause J.offered }
-        ensures { HasServed pause.entry helper.share result }
+        ensures { HasServed pause.entry helper.entry.share result }
     {
         let mut helper = helper;
         pause.help(gate, &offer, &mut helper);
@@ -82,7 +83,15 @@ fn mark_with_helpers<R: Threads + Wait + Sync, G: Gate>(
     let Ok(mut dirty) = DirtyPages::new(alloc, map.len()) else {
         return false;
     };
-    let Ok(crew) = hire(alloc, &table, map.len(), &mut first, helpers.number()) else {
+    let busy = Busy::new();
+    let Ok(crew) = hire(
+        alloc,
+        &table,
+        map.len(),
+        &mut first,
+        &busy,
+        helpers.number(),
+    ) else {
         return false;
     };
     let pause = Pause {

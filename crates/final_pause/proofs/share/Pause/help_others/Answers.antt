@@ -1,8 +1,8 @@
-use Rattle.final_pause.proofs.Serving.{serves_refl, serves_trans}
+use Rattle.final_pause.proofs.Serving.{serves_duty, serves_trans}
 use Rattle.final_pause.proofs.share.Pause.help_others.Goals as goal
 
 pub loop-init : goal.loop-init
-loop-init g c = (serves_refl c.args.self.now c.args.helper.now c.requires.serving, c.requires.empty)
+loop-init g c = (serves_duty c.args.self.now c.args.helper.now c.rest.new.self c.requires.serving, c.requires.empty)
 
 pub read_offered-requires-clause-serving : goal.read_offered-requires-clause-serving
 read_offered-requires-clause-serving g c κs within = c.loop.invariant.0.serving
