@@ -4,7 +4,7 @@ use Rattle.words.specs.declared.limits.TheConstants.{MAX_PAGES}
 use Rattle.words.specs.declared.class.Kind.TheVariants.{Normal}
 use Rattle.words.specs.declared.refusal.Refusal.{Refusal}
 use Rattle.heap_spec.specs.declared.call.Call.{Call}
-use Rattle.heap_spec.specs.declared.call.Call.TheVariants.{Detach, Set, Copy, Add, Sub, Get, Push, Pop, Load, Store, Alloc, Free, Base, Size, GlobalGet, GlobalPut}
+use Rattle.heap_spec.specs.declared.call.Call.TheVariants.{Load, Store, Alloc}
 use Rattle.heap_spec.specs.declared.event.Event.{Event}
 use Rattle.heap_spec.specs.declared.event.Event.TheVariants.{Finish, Collect}
 use Rattle.heap_spec.specs.declared.reply.Reply.{Reply}
@@ -110,22 +110,8 @@ RefusedChangesNothing = (s : Heap) (slot : ℕ) (call : Call) (why : Refusal) (s
 
 -- the call is no allocation
 abbrev pub IsNoAlloc : Call → Type 0
-IsNoAlloc Detach = Unit {0}
-IsNoAlloc (Set r w) = Unit {0}
-IsNoAlloc (Copy d a) = Unit {0}
-IsNoAlloc (Add d a n) = Unit {0}
-IsNoAlloc (Sub d a b) = Unit {0}
-IsNoAlloc (Get r) = Unit {0}
-IsNoAlloc (Push r) = Unit {0}
-IsNoAlloc (Pop r) = Unit {0}
-IsNoAlloc (Load d a n) = Unit {0}
-IsNoAlloc (Store a n r) = Unit {0}
 IsNoAlloc (Alloc d n kind) = ⊥
-IsNoAlloc (Free r) = Unit {0}
-IsNoAlloc (Base d a) = Unit {0}
-IsNoAlloc (Size r) = Unit {0}
-IsNoAlloc (GlobalGet d g) = Unit {0}
-IsNoAlloc (GlobalPut g r) = Unit {0}
+IsNoAlloc _ = Unit {0}
 
 -- No word points into two objects, and each object has words, as in every sound heap.
 pub record IsLegible (s : Heap) : Type 0 where
