@@ -1,11 +1,11 @@
 -- What a workload is, and the first of its lines that breaks a rule.
-use Rattle.std.specs.Prelude.{◌≡◌, ℕ, ◌-◌, ◌<◌, ◌≤◌, ◌⊎◌, ◌==◌, ◌≢◌, if◌then◌else◌, Bool, true, false, Option, Some, None, List, [], ◌++◌, length, take, replicate, filter, filter_map, All, slice_get, slice_index_or}
+use Rattle.std.specs.Prelude.{◌≡◌, ℕ, ◌-◌, ◌<◌, ◌≤◌, ◌⊎◌, ◌==◌, if◌then◌else◌, Bool, true, false, Option, Some, None, List, [], ◌++◌, length, take, replicate, filter, filter_map, All, slice_get, slice_index_or}
 use Rattle.std.specs.List.{AllZip}
 use Rattle.words.specs.declared.limits.TheConstants.{SLOTS}
 use Rattle.heap_spec.specs.declared.call.Call.{Call}
-use Rattle.heap_spec.specs.declared.call.Call.TheVariants.{Detach}
 use Rattle.heap_spec.specs.declared.event.Event.{Event}
 use Rattle.heap_spec.specs.declared.event.Event.TheVariants.{Attach, Mutator}
+use Rattle.shared.specs.Calls.{IsNoDetach}
 use Rattle.scripts.specs.declared.limits.TheConstants.{LAST_LINE}
 use Rattle.scripts.specs.Grammar.{IsLineOf, IsBad}
 
@@ -28,13 +28,13 @@ is_collectors _ = true
 -- Lists that threads can run: at most one for each slot, no mutator detaches, and the collector's commands are its own.
 pub record CanBeRun (lists : ActorLines) : Type 0 where
   pub slots : length lists.mutators ≤ SLOTS
-  pub calls : All (λ calls. All (λ call. call ≢ Detach) calls) lists.mutators
+  pub calls : All (λ calls. All IsNoDetach calls) lists.mutators
   pub commands : All (λ command. is_collectors command ≡ true) lists.collector
 
 -- A command that may stand behind the attaches of so many mutators: a call of one of these that is no detach, or a command of the collector.
 abbrev pub MayRun : ℕ → Event → Type 0
 MayRun mutators Attach = ⊥
-MayRun mutators (Mutator slot call) = (slot < mutators) × (call ≢ Detach)
+MayRun mutators (Mutator slot call) = (slot < mutators) × IsNoDetach call
 MayRun mutators _ = Unit {0}
 
 -- Lines that are a workload: first an attach for each mutator, at most one for each slot, and then commands that may be run. Each
