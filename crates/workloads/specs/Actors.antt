@@ -9,7 +9,7 @@ use Rattle.heap_history.specs.Passes.{Entry, HeapPass, IsFine}
 use Rattle.heap_history.specs.Headline.{Begun}
 use Rattle.shared.specs.Calls.{IsNoDetach}
 use Rattle.workloads.specs.Workloads.{is_collectors}
-use Rattle.workloads.specs.OneHistory.{events_of, is_event, left_by, left_by_all, IsAnsweredAmong, AreAnswered}
+use Rattle.workloads.specs.OneHistory.{events_of, is_in_history, left_by, left_by_all, IsAnsweredAmong, AreAnswered}
 use Rattle.workloads.specs.declared.mutator_job.MutatorJob.{MutatorJob}
 use Rattle.workloads.specs.declared.collector_job.CollectorJob.{CollectorJob}
 
@@ -23,7 +23,7 @@ pub record Commanded (pages : ℕ) (old : HeapPass) (command : Event) (reply : R
   pub slot : new.slot ≡ old.slot
   pub seen : IsPrefix old.seen new.seen
   pub mine : new.mine ≡ old.mine ++ left_by command reply
-  pub answered : is_event command reply ≡ false → IsAnsweredAmong pages new.seen old.mine command reply
+  pub answered : is_in_history command reply ≡ false → IsAnsweredAmong pages new.seen old.mine command reply
 
 -- the collector gave these commands in this order, with these replies, and no others
 pub record CommandedAll (pages : ℕ) (old : HeapPass) (commands : List Event) (replies : List Reply) (new : HeapPass) : Type 0 where
