@@ -55,7 +55,7 @@ pub record MarksOn (roots : List ℕ) (old new : Contents) : Type 0 where
   pub within : (s : Heap) → StandsFor old s → (base : ℕ) (o : Object) → HasObject s base o → IsMarked new.cycle.marking base → Closure s (IsMarkedBirth s old.cycle.marking) base
   pub traces : Traces (found_in old.store.states) old.store.words roots old.cycle.marking new.cycle.marking
 
--- The roots were read, word by word: what they read is marked. No page has become clean.
+-- The roots were read, word by word: what they point into is marked. No page has become clean.
 pub record ReadsRoots (old new : Contents) : Type 0 where
   pub marks : MarksOn (root_words_of old.roots) old new
   pub words : MarksWords (found_in old.store.states) old.cycle.marking (root_words_of old.roots) new.cycle.marking

@@ -3,7 +3,7 @@ use crate::heap::Core;
 use history::Quiet;
 use words::Refusal;
 
-/// [`Core::roots`]: marks what root words read.
+/// [`Core::roots`]: marks what root words point into.
 #[derive(Drop)]
 pub struct Roots;
 

@@ -21,8 +21,8 @@ use Rattle.heap_spec.specs.Sound.{IsSound, HaveDistinctBirths, LieInHeap}
 abbrev pub IsIn : (ℕ → Bool) → ℕ → Type 0
 IsIn set n = set n ≡ true
 
--- The rules of a closure keep a set of bases: it has the objects of the births, those that root words read, and with a
--- Normal object those that its words read.
+-- The rules of a closure keep a set of bases: it has the objects of the births, those that root words point into,
+-- and with a Normal object those that its words point into.
 pub record KeepsRules (s : Heap) (births bases : ℕ → Type 0) : Type 0 where
   pub given : (base : ℕ) (o : Object) → HasObject s base o → births o.birth → bases base
   pub root : (w base : ℕ) (o : Object) → Contains (root_words s) w → ReadsObject s w base o → bases base
@@ -58,7 +58,7 @@ RunsAreSound = (pages : ℕ) (run : Run) → IsFreshRun pages run → IsSound (h
 abbrev pub ObjectsLieInHeap : Type 0
 ObjectsLieInHeap = (s : Heap) → IsSound s → (base : ℕ) (o : Object) → HasObject s base o → LieInHeap s.pages base (length o.words)
 
--- a word reads at most one object of a sound heap
+-- a word points into at most one object of a sound heap
 abbrev pub ReadsAtMostOne : Type 0
 ReadsAtMostOne = (s : Heap) → IsSound s → (w a b : ℕ) (o p : Object) → ReadsObject s w a o → ReadsObject s w b p → a ≡ b
 

@@ -16,7 +16,7 @@ pub enum Event {
     /// Begins a cycle.
     Begin,
 
-    /// Marks what root words read.
+    /// Marks what root words point into.
     Roots,
 
     /// Marks on, over at most so many words.

@@ -27,7 +27,7 @@ impl Core {
         Ok(())
     }
 
-    /// Marks what root words read.
+    /// Marks what root words point into.
     pub fn roots(&mut self) -> Result<(), Refusal>
         ensures { IsGrantedIn true self.old result self.new (λ _. ReadsRoots self.old self.new) }
     {
