@@ -1,14 +1,14 @@
--- Changes of a map, as changes of the function from words to the objects that they read.
+-- Changes of a map, as changes of the function from words to the objects that they point into.
 use Rattle.std.specs.Prelude.{◌≡◌, ℕ, ◌<◌, ◌≤◌, ◌⊎◌, false, Bool, List, slice_index_or, Option, Some, None}
 use Rattle.block_map.specs.Objects.{Reads, large_object}
 use Rattle.block_map.specs.States.{PageState, free, cut, head, body}
 use Rattle.block_map.specs.declared.found.Found.{Found}
 
--- each word reads what it read before
+-- each word points into what it pointed into before
 pub record IsSameMap (old new : ℕ → Option Found) : Type 0 where
   pub same : (w : ℕ) → new w ≡ old w
 
--- there is one object more, at words that read nothing before, and nothing else has changed
+-- there is one object more, at words that pointed into nothing before, and nothing else has changed
 pub record IsAdded (old new : ℕ → Option Found) (f : Found) : Type 0 where
   pub before : (w : ℕ) → Reads w f → old w ≡ None
   pub after : (w : ℕ) → Reads w f → new w ≡ Some f
@@ -18,7 +18,7 @@ pub record IsAdded (old new : ℕ → Option Found) (f : Found) : Type 0 where
 abbrev pub IsRemoved : (ℕ → Option Found) → (ℕ → Option Found) → Found → Type 0
 IsRemoved old new f = IsAdded new old f
 
--- words from one address up to another read nothing, and nothing else has changed
+-- words from one address up to another point into nothing, and nothing else has changed
 pub record IsCleared (old new : ℕ → Option Found) (low high : ℕ) : Type 0 where
   pub inside : (w : ℕ) → low ≤ w → w < high → new w ≡ None
   pub others : (w : ℕ) → (w < low) ⊎ (high ≤ w) → new w ≡ old w

@@ -1,4 +1,4 @@
--- The allocated objects of a map, and the one that a word reads.
+-- The allocated objects of a map, and the one that a word points into.
 use Rattle.std.specs.Prelude.{◌≡◌, ℕ, ◌+◌, ◌*◌, ◌%◌, ◌<◌, ◌≤◌, true, false, List, length, slice_index_or, MatchOption, Option, Some}
 use Rattle.words.specs.declared.class.Kind.{Kind}
 use Rattle.words.specs.declared.class.Kind.TheVariants.{Normal}
@@ -40,7 +40,7 @@ pub record Reads (w : ℕ) (f : Found) : Type 0 where
   pub from : f.base ≤ w
   pub below : w < f.base + WORD_BYTES * f.len
 
--- the object that the word reads and the only one that it reads, or None exactly where it reads none
+-- the object that the word points into and the only such one, or None exactly where it points into none
 abbrev pub IsAnswer : List PageState → ℕ → Option Found → Type 0
 IsAnswer states w r =
     MatchOption r ((f : Found) → IsObject states f → Reads w f → ⊥)
@@ -53,8 +53,8 @@ pub record IsPlaced (pages : ℕ) (f : Found) : Type 0 where
   pub below : f.base + WORD_BYTES * f.len ≤ page_start pages
   pub some : 0 < f.len
 
--- What the collector knows of a map as the function from each word to the object that it reads: an object that is found
--- reads the word, each word of an object finds that same object, and objects lie in the heap.
+-- What the collector knows of a map as the function from each word to the object that it points into: a word
+-- points into the object that it finds, each word of an object finds that same object, and objects lie in the heap.
 pub record IsMap (pages : ℕ) (found : ℕ → Option Found) : Type 0 where
   pub reads : (w : ℕ) (f : Found) → found w ≡ Some f → Reads w f
   pub whole : (w v : ℕ) (f : Found) → found w ≡ Some f → Reads v f → found v ≡ Some f

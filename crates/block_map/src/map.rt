@@ -69,7 +69,7 @@ impl BlockMap {
         self.pages.len() as u32
     }
 
-    /// Cuts a free page into cells of a class, and makes them a list. No word reads another object than before.
+    /// Cuts a free page into cells of a class, and makes them a list. No word points into another object than before.
     #[tactic(auto, using(crate::proofs::Laid::laid, crate::proofs::Changing::changing))]
     pub fn cut(&mut self, memory: &mut Memory, page: PageNo, class: Class, kind: Kind)
         requires inside { page < length self.old }

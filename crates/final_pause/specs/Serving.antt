@@ -89,8 +89,8 @@ pub record IsShareRead (p : Pause) (v : ClaimerView) (share : ℕ) : Type 0 wher
   pub current : IsCurrentRead p v share
   pub pages : ArePagesRead p v share (length p.map.now)
 
--- A helper that is done: its share is read, and each word of a Normal object that it won points into what is known to be
--- marked, or stands on a page of its row.
+-- A helper that is done: it serves, nothing is on its stack, and its share is read; so each word of a Normal object that it
+-- won points into what is known to be marked, or stands on a page of its row.
 pub record HasServed (p : Pause) (share : ℕ) (h : Helper) : Type 0 where
   pub serving : IsServing p h
   pub empty : h.stack.items ≡ []

@@ -55,9 +55,9 @@ MaySweep c _ p = ⊥
 -- A call of a mutator is a step of the heap. It leaves the phase and the count as they are, and the work of the marker too,
 -- but for its own part of it: no object that is there before and after is newly marked or loses its mark, an object that
 -- comes while a cycle is marking is marked, and of the pages exactly the one that it has stored to becomes dirty, while a
--- cycle is marking. No page becomes one that is to be swept, few calls sweep, and an allocation for which there was no place
--- has left none to be swept. The forgotten objects are those of before whose pages are still to be swept. Unless it
--- reaches the pages it changes nothing but the roots.
+-- cycle is marking. No page becomes pending, few calls sweep, and an allocation for which there was no place has left none
+-- pending. The forgotten objects are those of before whose pages are still pending. Unless it reaches the pages it changes
+-- nothing but the roots.
 pub record IsCall (old : Contents) (event : Event) (reply : Reply) (new : Contents) : Type 0 where
   pub steps : IsStep (StandsFor old) event reply (StandsFor new)
   pub phase : new.cycle.is_marking ≡ old.cycle.is_marking

@@ -35,7 +35,7 @@ abbrev pub IsAlwaysGranted : {A : Type 0} → Result A Refusal → (A → Type 0
 IsAlwaysGranted (Ok x) P = P x
 IsAlwaysGranted (Err refusal) P = ⊥
 
--- A cycle begins: the core is marking, with no mark, no dirty page, no entry, and nothing to be swept.
+-- A cycle begins: the core is marking, with no mark, no dirty page, no entry, and no pending page.
 pub record BeginsCycle (old new : Contents) : Type 0 where
   pub stands : (s : Heap) → StandsFor old s → StandsFor new s
   pub roots : new.roots ≡ old.roots
@@ -55,7 +55,7 @@ pub record MarksOn (roots : List ℕ) (old new : Contents) : Type 0 where
   pub within : (s : Heap) → StandsFor old s → (base : ℕ) (o : Object) → HasObject s base o → IsMarked new.cycle.marking base → Closure s (IsMarkedBirth s old.cycle.marking) base
   pub traces : Traces (found_in old.store.states) old.store.words roots old.cycle.marking new.cycle.marking
 
--- The roots were read, word by word: what they read is marked. No page has become clean.
+-- The roots were read, word by word: what they point into is marked. No page has become clean.
 pub record ReadsRoots (old new : Contents) : Type 0 where
   pub marks : MarksOn (root_words_of old.roots) old new
   pub words : MarksWords (found_in old.store.states) old.cycle.marking (root_words_of old.roots) new.cycle.marking
@@ -106,21 +106,21 @@ pub record EndsMarking (old new : Contents) : Type 0 where
   pub marked : (f : Found) → objects_of new f.base ≡ Some f → IsMarked new.cycle.marking f.base
 
 -- A cycle ends: exactly the objects outside of the closure of the marks go, so many, the small ones only when their pages are
--- swept. The pages that are still to be swept are then the blocks with an unmarked allocated object.
+-- swept. The pending pages are then the blocks with an unmarked allocated object.
 pub record EndsCycle (old : Contents) (n : ℕ) (new : Contents) : Type 0 where
   pub ends : EndsMarking old new
   pub forgets : (s : Heap) → StandsFor old s → (s' : Heap) × ForgetsOutside s (IsMarkedBirth s old.cycle.marking) (Count n) s' × StandsFor new s'
   pub cells : KeepsCells old.store new.store
   pub pending : IsPendingAfter new.store.states new.cycle.marking.marks new.store.pending
 
--- A full collection: exactly the objects that are not reached go, so many, and nothing is left to be swept.
+-- A full collection: exactly the objects that are not reached go, so many, and no page is pending.
 pub record CollectsAll (old : Contents) (n : ℕ) (new : Contents) : Type 0 where
   pub ends : EndsMarking old new
   pub swept : IsSwept new.store
   pub collects : (s : Heap) → StandsFor old s → (s' : Heap) × CollectsFully s (Count n) s' × StandsFor new s'
 
--- One page was swept if one was to be swept: its unmarked objects are gone, no other page has changed, and one fewer is to be
--- swept, none of them new. Else nothing has changed. The core stands for what it stood for.
+-- One page was swept if one was pending: its unmarked objects are gone, no other page has changed, and one fewer is pending,
+-- none of them new. Else nothing has changed. The core stands for what it stood for.
 pub record SweepsOne (old : Contents) (n : ℕ) (new : Contents) : Type 0 where
   pub stands : (s : Heap) → StandsFor old s → StandsFor new s
   pub roots : new.roots ≡ old.roots

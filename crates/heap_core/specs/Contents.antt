@@ -19,7 +19,7 @@ pub record Contents : Type 0 where
   pub cycle : Cycle
 
 -- What is true of each core: its marker is one of its pages, each mark is that of an allocated object, and while a cycle is
--- marking nothing is to be swept and the dirty-page invariant holds.
+-- marking no page is pending and the dirty-page invariant holds.
 pub record IsTraced (t : Store) (y : Cycle) : Type 0 where
   pub pages : length y.marking.dirty ≡ length t.states
   pub objects : AreMarksObjects (found_in t.states) y.marking

@@ -6,8 +6,8 @@ use Rattle.object_space.specs.Store.{IsSwept}
 use Rattle.heap_core.specs.Contents.{Contents}
 use Rattle.heap_core.specs.Standing.{StandsFor}
 
--- The core is new: it stands for the heap of so many pages as it opens, no cycle is marking and none is counted, nothing
--- is to be swept, and its marker has no mark, no dirty page and no entry.
+-- The core is new: it stands for the heap of so many pages as it opens, no cycle is marking and none is counted, no page
+-- is pending, and its marker has no mark, no dirty page and no entry.
 pub record IsNew (pages : ℕ) (c : Contents) : Type 0 where
   pub stands : StandsFor c (opening pages)
   pub phase : c.cycle.is_marking ≡ false

@@ -11,12 +11,12 @@ use Rattle.heap_core.specs.Contents.{Contents}
 abbrev pub keeps : Contents → Found → Bool
 keeps c = is_kept c.store.pending c.cycle.marking.marks
 
--- The object that a word reads, of those that are kept.
+-- The object that a word points into, of those that are kept.
 abbrev pub objects_of : Contents → ℕ → Option Found
 objects_of c = restrict (keeps c) (found_in c.store.states)
 
--- The object that the word reads is allocated and not kept: the end of a cycle has forgotten it, and its page is still
--- to be swept.
+-- The object that the word points into is allocated and not kept: the end of a cycle has forgotten it, and its page is
+-- pending.
 abbrev pub IsForgotten : Contents → ℕ → Found → Type 0
 IsForgotten c w f = (found_in c.store.states w ≡ Some f) × (keeps c f ≡ false)
 

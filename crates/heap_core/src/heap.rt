@@ -66,8 +66,8 @@ impl Core {
     }
 
     /// What is true of every core, whatever calls made it. Of its pages: free are exactly those on which no object lies,
-    /// and those that are still to be swept are cut. Of its collector: each mark is that of an allocated object, and while
-    /// a cycle is marking nothing is to be swept and the dirty-page invariant holds.
+    /// and the pending ones are cut. Of its collector: each mark is that of an allocated object, and while
+    /// a cycle is marking no page is pending and the dirty-page invariant holds.
     pub fn laws(&self)
         ensures sound { IsSound self.now.store }
         ensures pending { IsPendingRow self.now.store }

@@ -3,7 +3,7 @@ use crate::heap::Core;
 use history::Quiet;
 use words::Refusal;
 
-/// [`Core::roots`]: marks what root words read.
+/// [`Core::roots`]: marks what root words point into.
 #[derive(Drop)]
 pub struct Roots;
 
@@ -54,7 +54,7 @@ impl Quiet<Core> for Retrace {
     }
 }
 
-/// [`Core::sweep`]: sweeps one page, if one is still to be swept. Answers 1 if one was, and else 0.
+/// [`Core::sweep`]: sweeps one page, if one is pending. Answers 1 if one was, and else 0.
 #[derive(Drop)]
 pub struct Sweep;
 

@@ -5,7 +5,7 @@ use Rattle.history.specs.Histories.{count}
 use Rattle.heap_spec.specs.declared.call.Call.{Call}
 use Rattle.heap_spec.specs.declared.call.Call.TheVariants.{Detach, Set, Copy, Add, Sub, Get, Push, Pop, Load, Store, Alloc, Free, Base, Size, GlobalGet, GlobalPut}
 use Rattle.heap_spec.specs.declared.event.Event.{Event}
-use Rattle.heap_spec.specs.declared.event.Event.TheVariants.{Attach, Mutator, Begin, Roots, Mark, Retrace, Finish, Sweep, Collect, Number}
+use Rattle.heap_spec.specs.declared.event.Event.TheVariants.{Mutator, Finish, Collect}
 use Rattle.heap_spec.specs.declared.reply.Reply.{Reply}
 use Rattle.heap_spec.specs.declared.reply.Reply.TheVariants.{Done, Word}
 use Rattle.heap_spec.specs.Runs.{Told}
@@ -27,80 +27,30 @@ SeenIsLegal = (pages : ℕ) (pass : HeapPass) → IsFine pages pass → LegalHis
 
 -- a call that frees no object
 abbrev pub IsNoFreeCall : Call → Type 0
-IsNoFreeCall Detach = Unit {0}
-IsNoFreeCall (Set r w) = Unit {0}
-IsNoFreeCall (Copy d a) = Unit {0}
-IsNoFreeCall (Add d a n) = Unit {0}
-IsNoFreeCall (Sub d a b) = Unit {0}
-IsNoFreeCall (Get r) = Unit {0}
-IsNoFreeCall (Push r) = Unit {0}
-IsNoFreeCall (Pop d) = Unit {0}
-IsNoFreeCall (Load d a n) = Unit {0}
-IsNoFreeCall (Store a n r) = Unit {0}
-IsNoFreeCall (Alloc d n kind) = Unit {0}
 IsNoFreeCall (Free r) = ⊥
-IsNoFreeCall (Base d a) = Unit {0}
-IsNoFreeCall (Size r) = Unit {0}
-IsNoFreeCall (GlobalGet d g) = Unit {0}
-IsNoFreeCall (GlobalPut g r) = Unit {0}
+IsNoFreeCall _ = Unit {0}
 
 -- and an event that does not: a cycle may be one
 abbrev pub IsNoFree : Event → Type 0
-IsNoFree Attach = Unit {0}
 IsNoFree (Mutator slot call) = IsNoFreeCall call
-IsNoFree Begin = Unit {0}
-IsNoFree Roots = Unit {0}
-IsNoFree (Mark n) = Unit {0}
-IsNoFree Retrace = Unit {0}
-IsNoFree Finish = Unit {0}
-IsNoFree Sweep = Unit {0}
-IsNoFree Collect = Unit {0}
-IsNoFree Number = Unit {0}
+IsNoFree _ = Unit {0}
 
 -- a call that stores nothing and frees nothing
 abbrev pub LeavesWordsCall : Call → Type 0
-LeavesWordsCall Detach = Unit {0}
-LeavesWordsCall (Set r w) = Unit {0}
-LeavesWordsCall (Copy d a) = Unit {0}
-LeavesWordsCall (Add d a n) = Unit {0}
-LeavesWordsCall (Sub d a b) = Unit {0}
-LeavesWordsCall (Get r) = Unit {0}
-LeavesWordsCall (Push r) = Unit {0}
-LeavesWordsCall (Pop d) = Unit {0}
-LeavesWordsCall (Load d a n) = Unit {0}
 LeavesWordsCall (Store a n r) = ⊥
-LeavesWordsCall (Alloc d n kind) = Unit {0}
 LeavesWordsCall (Free r) = ⊥
-LeavesWordsCall (Base d a) = Unit {0}
-LeavesWordsCall (Size r) = Unit {0}
-LeavesWordsCall (GlobalGet d g) = Unit {0}
-LeavesWordsCall (GlobalPut g r) = Unit {0}
+LeavesWordsCall _ = Unit {0}
 
 -- and an event that does neither: a cycle may be one
 abbrev pub LeavesWords : Event → Type 0
-LeavesWords Attach = Unit {0}
 LeavesWords (Mutator slot call) = LeavesWordsCall call
-LeavesWords Begin = Unit {0}
-LeavesWords Roots = Unit {0}
-LeavesWords (Mark n) = Unit {0}
-LeavesWords Retrace = Unit {0}
-LeavesWords Finish = Unit {0}
-LeavesWords Sweep = Unit {0}
-LeavesWords Collect = Unit {0}
-LeavesWords Number = Unit {0}
+LeavesWords _ = Unit {0}
 
 -- an event that is no collection
 abbrev pub IsNoCollection : Event → Type 0
-IsNoCollection Attach = Unit {0}
-IsNoCollection (Mutator slot call) = Unit {0}
-IsNoCollection Begin = Unit {0}
-IsNoCollection Roots = Unit {0}
-IsNoCollection (Mark n) = Unit {0}
-IsNoCollection Retrace = Unit {0}
 IsNoCollection Finish = ⊥
-IsNoCollection Sweep = Unit {0}
 IsNoCollection Collect = ⊥
-IsNoCollection Number = Unit {0}
+IsNoCollection _ = Unit {0}
 
 -- A call with no store and no free between it and what its caller had seen, whatever else others did.
 pub record MakesAfterNoWrite (pages : ℕ) (old : HeapPass) (call : Call) (reply : Reply) (new : HeapPass) : Type 0 where

@@ -4,7 +4,7 @@ use Rattle.words.specs.declared.class.Kind.TheVariants.{Normal}
 use Rattle.heap_spec.specs.Heap.{Heap, Object, HasObject, ReadsObject, root_words}
 
 -- The closure of some births: the least set of bases that holds the objects of those births, each object that a root
--- word reads, and with each Normal object every object that one of its words reads.
+-- word points into, and with each Normal object every object that one of its words points into.
 pub data Closure (s : Heap) (births : ℕ → Type 0) : ℕ → Type 0 where
   given : {base : ℕ} {o : Object} → HasObject s base o → births o.birth → Closure s births base
   root : {w base : ℕ} {o : Object} → Contains (root_words s) w → ReadsObject s w base o → Closure s births base

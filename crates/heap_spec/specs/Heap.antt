@@ -47,11 +47,11 @@ IsAttached s slot m = slice_get s.mutators slot ≡ Some (Some m)
 abbrev pub IsVacant : Heap → ℕ → Type 0
 IsVacant s slot = slice_get s.mutators slot ≡ Some None
 
--- a word reads the object with this base
+-- a word points into the object with this base
 abbrev pub ReadsObject : Heap → ℕ → ℕ → Object → Type 0
 ReadsObject s w base o = HasObject s base o × Reads w base (length o.words)
 
--- a word reads no object
+-- a word points into no object
 abbrev pub ReadsNothing : Heap → ℕ → Type 0
 ReadsNothing s w = (base : ℕ) (o : Object) → ReadsObject s w base o → ⊥
 

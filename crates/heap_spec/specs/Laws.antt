@@ -4,7 +4,7 @@ use Rattle.words.specs.declared.limits.TheConstants.{MAX_PAGES}
 use Rattle.words.specs.declared.class.Kind.TheVariants.{Normal}
 use Rattle.words.specs.declared.refusal.Refusal.{Refusal}
 use Rattle.heap_spec.specs.declared.call.Call.{Call}
-use Rattle.heap_spec.specs.declared.call.Call.TheVariants.{Detach, Set, Copy, Add, Sub, Get, Push, Pop, Load, Store, Alloc, Free, Base, Size, GlobalGet, GlobalPut}
+use Rattle.heap_spec.specs.declared.call.Call.TheVariants.{Load, Store, Alloc}
 use Rattle.heap_spec.specs.declared.event.Event.{Event}
 use Rattle.heap_spec.specs.declared.event.Event.TheVariants.{Finish, Collect}
 use Rattle.heap_spec.specs.declared.reply.Reply.{Reply}
@@ -21,8 +21,8 @@ use Rattle.heap_spec.specs.Sound.{IsSound, HaveDistinctBirths, LieInHeap}
 abbrev pub IsIn : (ℕ → Bool) → ℕ → Type 0
 IsIn set n = set n ≡ true
 
--- The rules of a closure keep a set of bases: it has the objects of the births, those that root words read, and with a
--- Normal object those that its words read.
+-- The rules of a closure keep a set of bases: it has the objects of the births, those that root words point into,
+-- and with a Normal object those that its words point into.
 pub record KeepsRules (s : Heap) (births bases : ℕ → Type 0) : Type 0 where
   pub given : (base : ℕ) (o : Object) → HasObject s base o → births o.birth → bases base
   pub root : (w base : ℕ) (o : Object) → Contains (root_words s) w → ReadsObject s w base o → bases base
@@ -58,7 +58,7 @@ RunsAreSound = (pages : ℕ) (run : Run) → IsFreshRun pages run → IsSound (h
 abbrev pub ObjectsLieInHeap : Type 0
 ObjectsLieInHeap = (s : Heap) → IsSound s → (base : ℕ) (o : Object) → HasObject s base o → LieInHeap s.pages base (length o.words)
 
--- a word reads at most one object of a sound heap
+-- a word points into at most one object of a sound heap
 abbrev pub ReadsAtMostOne : Type 0
 ReadsAtMostOne = (s : Heap) → IsSound s → (w a b : ℕ) (o p : Object) → ReadsObject s w a o → ReadsObject s w b p → a ≡ b
 
@@ -110,22 +110,8 @@ RefusedChangesNothing = (s : Heap) (slot : ℕ) (call : Call) (why : Refusal) (s
 
 -- the call is no allocation
 abbrev pub IsNoAlloc : Call → Type 0
-IsNoAlloc Detach = Unit {0}
-IsNoAlloc (Set r w) = Unit {0}
-IsNoAlloc (Copy d a) = Unit {0}
-IsNoAlloc (Add d a n) = Unit {0}
-IsNoAlloc (Sub d a b) = Unit {0}
-IsNoAlloc (Get r) = Unit {0}
-IsNoAlloc (Push r) = Unit {0}
-IsNoAlloc (Pop r) = Unit {0}
-IsNoAlloc (Load d a n) = Unit {0}
-IsNoAlloc (Store a n r) = Unit {0}
 IsNoAlloc (Alloc d n kind) = ⊥
-IsNoAlloc (Free r) = Unit {0}
-IsNoAlloc (Base d a) = Unit {0}
-IsNoAlloc (Size r) = Unit {0}
-IsNoAlloc (GlobalGet d g) = Unit {0}
-IsNoAlloc (GlobalPut g r) = Unit {0}
+IsNoAlloc _ = Unit {0}
 
 -- No word points into two objects, and each object has words, as in every sound heap.
 pub record IsLegible (s : Heap) : Type 0 where

@@ -11,7 +11,7 @@ word_end = 2 ^ 64
 abbrev pub heap_end : ℕ → ℕ
 heap_end pages = page_start pages
 
--- A word reads what lies at a base and is so many words long: it is the address of one of its bytes, aligned or not.
+-- A word points into what lies at a base and is so many words long: it is the address of one of its bytes, aligned or not.
 abbrev pub Reads : ℕ → ℕ → ℕ → Type 0
 Reads w base len = (base ≤ w) × (w < base + WORD_BYTES * len)
 

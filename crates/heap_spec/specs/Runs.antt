@@ -1,7 +1,7 @@
 -- Runs: what happened so far, from a start.
 use Rattle.std.specs.Prelude.{◌≡◌, ℕ, ◌+◌, ◌%◌, ◌<◌, Bool, true, false, List, [], ◌∷◌, ◌⊎◌}
 use Rattle.heap_spec.specs.declared.event.Event.{Event}
-use Rattle.heap_spec.specs.declared.event.Event.TheVariants.{Attach, Mutator, Begin, Roots, Mark, Retrace, Finish, Sweep, Collect, Number}
+use Rattle.heap_spec.specs.declared.event.Event.TheVariants.{Begin, Finish, Collect}
 use Rattle.heap_spec.specs.declared.reply.Reply.{Reply}
 use Rattle.heap_spec.specs.Layout.{word_end}
 use Rattle.heap_spec.specs.Heap.{Heap, opening}
@@ -42,16 +42,10 @@ heap_after start (m ∷ run) = m.heap
 
 -- whether the heap is marking after an event, from whether it was before
 abbrev pub marking_after : Event → Bool → Bool
-marking_after Attach before = before
-marking_after (Mutator slot call) before = before
 marking_after Begin before = true
-marking_after Roots before = before
-marking_after (Mark n) before = before
-marking_after Retrace before = before
 marking_after Finish before = false
-marking_after Sweep before = before
 marking_after Collect before = false
-marking_after Number before = before
+marking_after _ before = before
 
 -- The heap is marking if the last of the run's Begin, Finish and Collect is a Begin.
 abbrev pub is_marking : Start → Run → Bool
@@ -60,16 +54,9 @@ is_marking start (m ∷ run) = marking_after m.told.event (is_marking start run)
 
 -- what an event adds to the count of collections
 abbrev pub counted : Event → ℕ
-counted Attach = 0
-counted (Mutator slot call) = 0
-counted Begin = 0
-counted Roots = 0
-counted (Mark n) = 0
-counted Retrace = 0
 counted Finish = 1
-counted Sweep = 0
 counted Collect = 1
-counted Number = 0
+counted _ = 0
 
 -- the count of collections, modulo 2 ^ 64
 abbrev pub count : Start → Run → ℕ
@@ -86,16 +73,8 @@ StaysTouched before old new = IsInClosure new (λ birth. before birth ⊎ IsBorn
 
 -- the births that are touched after an event, from those before it and the heaps before and after
 abbrev pub touched_after : Event → (ℕ → Type 0) → Heap → Heap → ℕ → Type 0
-touched_after Attach before old new = StaysTouched before old new
-touched_after (Mutator slot call) before old new = StaysTouched before old new
 touched_after Begin before old new = IsReachedBirth new
-touched_after Roots before old new = StaysTouched before old new
-touched_after (Mark n) before old new = StaysTouched before old new
-touched_after Retrace before old new = StaysTouched before old new
-touched_after Finish before old new = StaysTouched before old new
-touched_after Sweep before old new = StaysTouched before old new
-touched_after Collect before old new = StaysTouched before old new
-touched_after Number before old new = StaysTouched before old new
+touched_after _ before old new = StaysTouched before old new
 
 -- A rule says which births are touched after a run from a start: the end of a cycle forgets the objects of all others.
 abbrev pub TouchRule : Type 1

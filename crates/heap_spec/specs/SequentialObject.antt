@@ -2,7 +2,7 @@
 use Rattle.std.specs.Prelude.{◌≡◌, ℕ, ◌<◌, ◌≤◌, []}
 use Rattle.words.specs.declared.limits.TheConstants.{SLOTS, MAX_PAGES}
 use Rattle.heap_spec.specs.declared.event.Event.{Event}
-use Rattle.heap_spec.specs.declared.event.Event.TheVariants.{Attach, Mutator, Begin, Roots, Mark, Retrace, Finish, Sweep, Collect, Number}
+use Rattle.heap_spec.specs.declared.event.Event.TheVariants.{Attach, Mutator, Begin, Finish, Collect}
 use Rattle.heap_spec.specs.declared.reply.Reply.{Reply}
 use Rattle.heap_spec.specs.Heap.{Heap, Mutator as HeapMutator, IsAttached}
 use Rattle.heap_spec.specs.Steps.{IsLowestVacant}
@@ -39,13 +39,9 @@ abbrev pub Fits : Heap → ℕ → Event → Type 0
 Fits s who Attach = (who < SLOTS) × IsLowestVacant s who
 Fits s who (Mutator slot call) = IsCaller s who slot
 Fits s who Begin = who ≡ SLOTS
-Fits s who Roots = ⊥
-Fits s who (Mark n) = ⊥
-Fits s who Retrace = ⊥
 Fits s who Finish = who ≡ SLOTS
-Fits s who Sweep = ⊥
 Fits s who Collect = who ≡ SLOTS
-Fits s who Number = ⊥
+Fits s who _ = ⊥
 
 -- One step of a state: who makes the event fits it, its numbers are in range, and the run goes on by it.
 pub record StateStep (state : HeapState) (who : ℕ) (event : Event) (reply : Reply) (next : HeapState) : Type 0 where

@@ -1,4 +1,4 @@
--- What holds of a heap in every run.
+-- Laws that every heap of a run keeps, and the parts of which they are made.
 use Rattle.std.specs.Prelude.{◌≡◌, ℕ, ◌+◌, ◌*◌, ◌%◌, ◌<◌, ◌≤◌, Option, Some, None, List, length, All, ◌⊎◌}
 use Rattle.words.specs.declared.limits.TheConstants.{WORD_BYTES, GRANULE_BYTES, PAGE_WORDS, FIRST_ADDRESS, MAX_PAGES, SLOTS, REGISTERS, STACK_WORDS, GLOBALS}
 use Rattle.words.specs.Classes.{IsSizeClass}

@@ -3,7 +3,8 @@
 use crate::call::Call;
 use words::Slot;
 
-/// What may be asked of a heap.
+/// What may be asked of a heap, as a line of a script. Roots, Mark, Retrace, Sweep and Number are never events of a
+/// history.
 #[derive(Clone, Copy, Debug, PartialEq, Eq)]
 pub enum Event {
     /// A mutator comes.
@@ -15,7 +16,7 @@ pub enum Event {
     /// Begins a cycle.
     Begin,
 
-    /// Marks what root words read.
+    /// Marks what root words point into.
     Roots,
 
     /// Marks on, over at most so many words.

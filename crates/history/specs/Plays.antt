@@ -16,55 +16,56 @@ module _ {C R : Type 0} where
     pub add_is : add ≡ weight (rank e.call)
     pub is_legal : legal (keeper.log ++ e ∷ [])
 
-  -- An event of the keeper's guest
+  -- An event of the keeper's guest.
   abbrev pub acted : List (Event C R) → View C R → View C R
   acted said v = record v { log = v.log ++ said; guest = record { slot = v.guest.slot; seen = v.log ++ said; mine = v.guest.mine ++ said } }
 
-  -- The step of such an event: what came since the guest last saw is all of others, and its own events are then exactly its slot's
+  -- The step of such an event: what came since the guest last saw is all of others, and its own events are then exactly its slot's.
   pub record Acted (rank : C → Rank) (said : List (Event C R)) (v w : Me Unit (View C R)) : Type 0 where
     pub before : GrowsByOthers v.0.guest.slot v.0.guest.seen v.0.log
     pub owned : Owned rank v.0.guest.slot (v.0.log ++ said) (v.0.guest.mine ++ said)
     pub view_is : w ≡ (acted said v.0, v.1)
 
-  -- The first event of a slot, which makes its pass the keeper's guest
+  -- the slot of the first of these events, and 0 of none
   abbrev pub slot_of : List (Event C R) → ℕ
   slot_of [] = 0
   slot_of (e ∷ es) = e.who
 
-  -- what the seat is then: the guest has seen the whole history with this event, which is its only one
+  -- The first event of a slot, which makes its pass the keeper's guest: the guest has seen the whole history with this event,
+  -- which is its only one.
   abbrev pub began : List (Event C R) → View C R → View C R
   began said v = record v { log = v.log ++ said; hosts = true; guest = record { slot = slot_of said; seen = v.log ++ said; mine = said } }
 
-  -- The step of such an event: the guest's own events are exactly this one
+  -- The step of such an event: the guest's own events are exactly this one.
   pub record Began (rank : C → Rank) (said : List (Event C R)) (v w : Me Unit (View C R)) : Type 0 where
     pub owned : Owned rank (slot_of said) (v.0.log ++ said) said
     pub view_is : w ≡ (began said v.0, v.1)
 
-  -- The last event of the keeper's guest, which is spent
+  -- The last event of the keeper's guest, which is spent.
   abbrev pub ended : List (Event C R) → View C R → View C R
   ended said v = record v { log = v.log ++ said; hosts = false; guest = no_pass }
 
-  -- The step of such an event: what came since the guest last saw is all of others, and up to it the guest's own events were exactly its slot's
+  -- The step of such an event: what came since the guest last saw is all of others, and up to it the guest's own events were exactly its slot's.
   pub record Ended (rank : C → Rank) (said : List (Event C R)) (v w : Me Unit (View C R)) : Type 0 where
     pub before : GrowsByOthers v.0.guest.slot v.0.guest.seen v.0.log
     pub owned : Owned rank v.0.guest.slot v.0.log v.0.guest.mine
     pub view_is : w ≡ (ended said v.0, v.1)
 
-  -- The keeper's guest learns the whole history
+  -- The keeper's guest learns the whole history.
   abbrev pub learnt : View C R → View C R
   learnt v = record v { guest = record { slot = v.guest.slot; seen = v.log; mine = v.guest.mine } }
 
-  -- The step of that: what the guest learns is all of others, and its own events are still exactly its slot's
+  -- The step of that: what the guest learns is all of others, and its own events are still exactly its slot's.
   pub record Learnt (rank : C → Rank) (v w : Me Unit (View C R)) : Type 0 where
     pub before : GrowsByOthers v.0.guest.slot v.0.guest.seen v.0.log
     pub owned : Owned rank v.0.guest.slot v.0.log v.0.guest.mine
     pub view_is : w ≡ (learnt v.0, v.1)
 
-  -- A pass sees the history as it is, and its word
+  -- A pass sees the history as it is, and its word.
   abbrev pub saw : List (Event C R) → View C R → View C R
   saw log v = record v { pass = record { slot = v.pass.slot; seen = log; mine = v.pass.mine } }
 
-  -- The step of that: the word is the count of a legal history, modulo 2^64, in which what is new to the pass is all of others
+  -- The step of that: the word is the count of a legal history, modulo 2^64, in which what is new to the pass is all of others.
   pub record Saw (rank : C → Rank) (legal : List (Event C R) → Type 0) (v : Me Unit (View C R)) (found : ℕ) (w : Me Unit (View C R)) : Type 0 where
     pub log : List (Event C R)
     pub before : GrowsByOthers v.0.pass.slot v.0.pass.seen log
@@ -73,7 +74,7 @@ module _ {C R : Type 0} where
     pub found_is : found ≡ count rank log % 2 ^ 64
     pub view_is : w ≡ (saw log v.0, v.1)
 
-  -- A pass and its guest take the longer of what the two have seen
+  -- A pass and its guest take the longer of what the two have seen.
   abbrev pub met : View C R → View C R
   met v = record v {
     pass = record { slot = v.pass.slot; seen = longer v.pass.seen v.guest.seen; mine = v.pass.mine };
@@ -81,7 +82,7 @@ module _ {C R : Type 0} where
   }
 
   -- The step of that: the two are of different slots, one of them had seen what the other had and then events that are all of others, and the own
-  -- events of both are still exactly their slots'
+  -- events of both are still exactly their slots'.
   pub record Met (rank : C → Rank) (v w : Me Unit (View C R)) : Type 0 where
     pub one : GrowsByOthers v.0.pass.slot v.0.pass.seen v.0.guest.seen ⊎ GrowsByOthers v.0.guest.slot v.0.guest.seen v.0.pass.seen
     pub apart : v.0.pass.slot ≡ v.0.guest.slot → ⊥

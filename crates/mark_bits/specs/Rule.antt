@@ -20,7 +20,7 @@ pub record IsTrueOf (start : List Bool) (words : List ℕ) (v : ClaimerView) : T
   pub known : (k : ℕ) → knows v k ≡ true → bit words k ≡ true
   pub idle : v.parts ≡ 0 → v.won ≡ []
 
--- Each set bit was set at the start or was won once.
+-- The rule: the table's words, its parts and its won lists agree.
 pub record IsWonOnce (start : List Bool) (s : State (Unit {0}) ClaimerView) : Type 0 where
   pub size : 64 * length s.words ≡ length start
   pub parts : total (λ v. v.parts) s.views ≡ all_parts

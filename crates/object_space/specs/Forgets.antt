@@ -24,8 +24,8 @@ pub record AreUnmarkedOn (states : List PageState) (marks : List Bool) (page : �
   pub each : All (IsUnmarkedOn states marks page) bases
   pub all : (f : Found) → found_in states f.base ≡ Some f → f.page ≡ page → (Has marks (granule f.base) → ⊥) → Contains bases f.base
 
--- What it is to the page that the objects with these bases are forgotten: nothing where there are none, a block is to be
--- swept, and a large object is gone.
+-- What it is to the page that the objects with these bases are forgotten: nothing where there are none, a block becomes
+-- pending, and a large object is gone.
 pub data ForgetsBases (old : Store) (page : ℕ) (bases : List ℕ) (new : Store) : Type 0 where
   nothing : bases ≡ [] → new ≡ old → ForgetsBases old page bases new
   unswept : IsCut (state_at old.states page) → page < length old.pending → (base : ℕ) → Contains bases base → new ≡ record old { pending = slice_set old.pending page true } → ForgetsBases old page bases new

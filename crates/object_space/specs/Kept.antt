@@ -1,4 +1,4 @@
--- Which objects are kept while pages are still to be swept.
+-- Which objects are kept while pages are pending.
 use Rattle.std.specs.Prelude.{◌≡◌, ℕ, Bool, true, false, if◌then◌else◌, List, slice_index_or, Option, Some, None}
 use Rattle.words.specs.Bits.{Has}
 use Rattle.words.specs.Layout.{granule}
@@ -15,7 +15,7 @@ keep_if keep (Some f) = if keep f then Some f else None
 abbrev pub restrict : (Found → Bool) → (ℕ → Option Found) → ℕ → Option Found
 restrict keep found w = keep_if keep (found w)
 
--- An object is kept if it is allocated and, on a page that is still to be swept, marked.
+-- An object is kept if it is allocated and, on a pending page, marked.
 abbrev pub is_kept : List Bool → List Bool → Found → Bool
 is_kept pending marks f = if slice_index_or pending f.page false then slice_index_or marks (granule f.base) false else true
 
@@ -23,7 +23,7 @@ is_kept pending marks f = if slice_index_or pending f.page false then slice_inde
 abbrev pub kept_in : List PageState → List Bool → List Bool → ℕ → Option Found
 kept_in states pending marks = restrict (is_kept pending marks) (found_in states)
 
--- The pages that are still to be swept after a cycle: the blocks with an allocated object that is not marked.
+-- The pages that are pending after a cycle: the blocks with an allocated object that is not marked.
 pub record IsPendingAfter (states : List PageState) (marks pending : List Bool) : Type 0 where
   pub unmarked : (w : ℕ) (f : Found) → found_in states w ≡ Some f → IsCut (state_at states f.page) → (Has marks (granule f.base) → ⊥) → Has pending f.page
   pub only : (page : ℕ) → Has pending page → (w : ℕ) × (f : Found) × (found_in states w ≡ Some f) × (f.page ≡ page) × IsCut (state_at states page) × (Has marks (granule f.base) → ⊥)

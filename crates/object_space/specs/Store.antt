@@ -10,7 +10,7 @@ use Rattle.block_map.specs.declared.found.Found.{Found}
 use Rattle.object_space.specs.AvailableRows.{IsExact}
 
 -- Where the objects are: the words of the memory, the row of the pool, in which true is a free page, what stands on
--- each page, and the row of the pages that are still to be swept.
+-- each page, and the row of the pending pages, which are still to be swept.
 pub record Store : Type 0 where
   pub words : List ℕ
   pub free : List Bool
@@ -37,12 +37,12 @@ pub record IsSound (t : Store) : Type 0 where
   pub agree : Agree t.free t.states
   pub used : HasObjects t.states
 
--- The pages that are still to be swept are cut.
+-- The pending pages are cut.
 pub record IsPendingRow (t : Store) : Type 0 where
   pub size : length t.pending ≡ length t.states
   pub cut : (page : ℕ) → Has t.pending page → IsCut (state_at t.states page)
 
--- While a page changes, the row of those that are still to be swept keeps to pages that are cut, and for the page of each
+-- While a page changes, the row of the pending ones keeps to pages that are cut, and for the page of each
 -- object says what it said.
 pub record KeepsPending (page : ℕ) (states states' : List PageState) (row row' : List Bool) : Type 0 where
   pub rest : (p : ℕ) → p ≢ page → slice_index_or row' p false ≡ slice_index_or row p false
@@ -51,12 +51,12 @@ pub record KeepsPending (page : ℕ) (states states' : List PageState) (row row'
   pub less : (p : ℕ) → Has row' p → Has row p
   pub same : (w : ℕ) (g : Found) → found_in states' w ≡ Some g → slice_index_or row' g.page false ≡ slice_index_or row g.page false
 
--- nothing is to be swept
+-- no page is pending
 abbrev pub IsSwept : Store → Type 0
 IsSwept t = (page : ℕ) → Has t.pending page → ⊥
 
 -- What is true of the objects of each heap: their store is sound, the lists of free cells stand in its words, the rows of
--- pages with a free cell are exact, and the pages that are still to be swept are cut.
+-- pages with a free cell are exact, and the pending pages are cut.
 pub record IsKept (t : Store) (rows : List (List Bool)) : Type 0 where
   pub sound : IsSound t
   pub listed : AreListed t.words t.states

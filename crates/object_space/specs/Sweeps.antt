@@ -28,7 +28,7 @@ pub record IsWithout (found after : ℕ → Option Found) (bases : List ℕ) : T
   pub left : (w : ℕ) (f : Found) → after w ≡ Some f → (found w ≡ Some f) × (Contains bases f.base → ⊥)
   pub kept : (w : ℕ) (f : Found) → found w ≡ Some f → (Contains bases f.base → ⊥) → after w ≡ Some f
 
--- The store has lost one object, and nothing else. The words of the others stay, and of their pages the same are to be swept.
+-- The store has lost one object, and nothing else. The words of the others stay, and of their pages the same are pending.
 pub record Loses (old : Store) (f : Found) (new : Store) : Type 0 where
   pub words : KeepsWords (found_in new.states) old.words new.words
   pub pages : length new.states ≡ length old.states
@@ -72,7 +72,7 @@ pub record ForgetsUnreached (old : Store) (roots : List ℕ) (marking : Marking)
   pub outside : (f : Found) → found_in old.states f.base ≡ Some f → Contains bases f.base ↔ (Closure (found_in old.states) old.words roots (IsMarked marking) f → ⊥)
   pub marked : (f : Found) → kept_in new.states new.pending marks f.base ≡ Some f → Has marks (granule f.base)
 
--- A page was swept: its unmarked objects are gone, and it is not to be swept any more. The words of all others stay, and
+-- A page was swept: its unmarked objects are gone, and it is not pending any more. The words of all others stay, and
 -- nothing else has changed.
 pub record SweepsPage (old : Store) (marks : List Bool) (page : ℕ) (new : Store) : Type 0 where
   pub words : KeepsWords (found_in new.states) old.words new.words
@@ -82,11 +82,11 @@ pub record SweepsPage (old : Store) (marks : List Bool) (page : ℕ) (new : Stor
   pub marked : (w : ℕ) (f : Found) → found_in old.states w ≡ Some f → f.page ≡ page → Has marks (granule f.base) → found_in new.states w ≡ Some f
   pub only : (w : ℕ) (f : Found) → found_in new.states w ≡ Some f → (found_in old.states w ≡ Some f) × (f.page ≡ page → Has marks (granule f.base))
 
--- one of the pages that are to be swept was swept
+-- one of the pending pages was swept
 abbrev pub SweepsAny : Store → List Bool → Store → Type 0
 SweepsAny old marks new = (page : ℕ) × Has old.pending page × SweepsPage old marks page new
 
--- Pages were swept: the kept objects are the same, no object has come, and those of a page that is still to be swept are all
+-- Pages were swept: the kept objects are the same, no object has come, and those of a page that is still pending are all
 -- there. The words of the objects that are left stay.
 pub record Sweeps (old : Store) (marks : List Bool) (new : Store) : Type 0 where
   pub before : IsMap (length old.states) (found_in old.states)
@@ -121,8 +121,8 @@ pub record KeepsCells (old new : Store) : Type 0 where
   pub less : (w : ℕ) (f : Found) → found_in new.states w ≡ Some f → found_in old.states w ≡ Some f
   pub small : (w : ℕ) (f : Found) → found_in old.states w ≡ Some f → f.len < PAGE_WORDS → found_in new.states w ≡ Some f
 
--- Each unmarked object is forgotten, so many: the large ones are gone from the map, and the pages of the others are to be
--- swept. The words of the objects of the map stay, and nothing else has changed.
+-- Each unmarked object is forgotten, so many: the large ones are gone from the map, and the pages of the others are
+-- pending. The words of the objects of the map stay, and nothing else has changed.
 pub record ForgetsLazily (old : Store) (marks : List Bool) (n : ℕ) (new : Store) : Type 0 where
   pub words : KeepsWords (found_in new.states) old.words new.words
   pub pages : length new.states ≡ length old.states

@@ -76,8 +76,8 @@ impl ObjectSpace {
         })
     }
 
-    /// What is true of every store: its free pages are exactly those on which no object lies, and those that are still
-    /// to be swept are cut.
+    /// What is true of every store: its free pages are exactly those on which no object lies, and the pending
+    /// ones are cut.
     #[inline]
     pub fn laws(&self)
         ensures sound { IsSound self.now }
@@ -89,7 +89,7 @@ impl ObjectSpace {
         let _pages = self.map.len();
     }
 
-    /// The kept object that a word reads. On a page that is still to be swept only marked objects are kept.
+    /// The kept object that a word points into. On a pending page only marked objects are kept.
     #[inline(always)]
     pub fn find(&self, marker: &Marker, word: u64) -> Option<Found>
         requires pages { length marker.now.dirty ≡ length self.now.states }

@@ -45,7 +45,7 @@ IsPlaced e = IsCell e ⊎ HasPages e
 abbrev pub granule : Extent → ℕ
 granule e = (e.base - FIRST_ADDRESS) / GRANULE_BYTES
 
--- What is true of every plain core. No address reads two objects, and no two begin at one granule, so that there are
+-- What is true of every plain core. No address points into two objects, and no two begin at one granule, so that there are
 -- never more objects than granules.
 pub record IsSound (c : Contents) : Type 0 where
   pub pages : c.pages ≤ MAX_PAGES

@@ -1,4 +1,4 @@
-//! What words read, against the objects that were put into the map.
+//! What words point into, against the objects that were put into the map.
 use block_map::{BlockMap, Found};
 use fixtures::BlockSpace;
 use std::alloc::Global;

@@ -2,19 +2,12 @@
 use Rattle.std.proofs.Common.{◌≡◌, ℕ, zero, suc, ◌+◌, ◌<◌, List, [], ◌∷◌, ◌++◌, length, take, set, get_or, refl, sym, ap, ◌∙◌, subst, arith, append_assoc, add-one}
 use Rattle.history.specs.Histories.{event}
 use Rattle.heap_spec.specs.declared.call.Call.{Call}
-use Rattle.heap_spec.specs.declared.call.Call.TheVariants.{Detach}
 use Rattle.heap_spec.specs.declared.event.Event.TheVariants.{Mutator}
 use Rattle.heap_spec.specs.declared.reply.Reply.{Reply}
 use Rattle.heap_history.specs.Passes.{Entry, HeapPass}
 use Rattle.heap_history.specs.Headline.{Makes}
-use Rattle.shared.specs.Calls.{IsNoDetach}
-use Rattle.workloads.specs.Actors.{IsPlain, Called}
+use Rattle.workloads.specs.Actors.{Called}
 use Rattle.workloads.specs.OneHistory.{events_of}
-
--- a call of the shared heap
-pub no_detach : (call : Call) → IsPlain call → IsNoDetach call
-no_detach Detach plain = absurd (plain refl)
-no_detach _ plain = tt
 
 -- one call more
 pub events_more : (slot : ℕ) (calls : List Call) (replies : List Reply) (i : ℕ) (c : Call) (r : Reply) → i < length calls → length replies ≡ length calls

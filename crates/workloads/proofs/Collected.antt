@@ -22,7 +22,7 @@ use Rattle.heap_history.specs.Headline.{Extends, Looks, IsGrantedIn}
 use Rattle.heap_history.proofs.Passing.{phase_is}
 use Rattle.heap_core.specs.Contents.{Contents}
 use Rattle.heap_core.specs.Collections.{IsGrantedIn as IsGiven, IsAlwaysGranted, ReadsRoots, TakesWords, ReadsPage, RetracesPage, SweepsOne}
-use Rattle.workloads.specs.OneHistory.{is_event, left_by, left_by_all, IsAnsweredAmong, AreAnswered}
+use Rattle.workloads.specs.OneHistory.{is_in_history, left_by, left_by_all, IsAnsweredAmong, AreAnswered}
 use Rattle.workloads.specs.Actors.{Commanded, CommandedAll}
 use Rattle.workloads.proofs.Counted.{count_is}
 
@@ -31,7 +31,7 @@ extends_seen pages old new asked reply x =
     subst (λ (l : List Entry). IsPrefix old.seen l) (sym x.seen) (prefix_more old.seen (old.seen ++ x.between) (event old.slot asked reply ∷ []) (x.between, refl))
 
 -- a command that is an event
-pub made : (pages : ℕ) (old new : HeapPass) (asked : Event) (reply : Reply) → old.slot ≡ COLLECTOR → is_event asked reply ≡ true → Extends pages old asked reply new → Commanded pages old asked reply new
+pub made : (pages : ℕ) (old new : HeapPass) (asked : Event) (reply : Reply) → old.slot ≡ COLLECTOR → is_in_history asked reply ≡ true → Extends pages old asked reply new → Commanded pages old asked reply new
 made pages old new asked reply slot is x = record {
   slot = x.slot;
   seen = extends_seen pages old new asked reply x;
@@ -56,7 +56,7 @@ module _ (pages : ℕ) (old new : HeapPass) (slot : old.slot ≡ COLLECTOR) (loo
   pub number : collections (fresh state.pages) state.run ≡ count rank_of old.mine % 2 ^ 64
   number = count_is new.seen state looks.fine.legal.1 ∙ ap (λ (l : List Entry). count rank_of l % 2 ^ 64) own_is
 
-  pub looked : (asked : Event) (reply : Reply) → is_event asked reply ≡ false → LineOf Touched (fresh state.pages) state.run asked reply state.run → Commanded pages old asked reply new
+  pub looked : (asked : Event) (reply : Reply) → is_in_history asked reply ≡ false → LineOf Touched (fresh state.pages) state.run asked reply state.run → Commanded pages old asked reply new
   looked asked reply quiet allowed = record {
     slot = looks.slot;
     seen = prefix_of old.slot old.seen new.seen looks.seen;
@@ -66,7 +66,7 @@ module _ (pages : ℕ) (old new : HeapPass) (slot : old.slot ≡ COLLECTOR) (loo
 
 module _ (pages : ℕ) (old new : HeapPass) (asked : Event) (reply : Reply) (slot : old.slot ≡ COLLECTOR) where
   -- refused in the wrong phase
-  refused : (command : Event) (why : Refusal) (looks : Looks pages old new) → is_event command (Refused why) ≡ false → why ≡ WrongPhase → IsWrongPhase (is_marking (fresh (state pages old new slot looks).pages) (state pages old new slot looks).run) command
+  refused : (command : Event) (why : Refusal) (looks : Looks pages old new) → is_in_history command (Refused why) ≡ false → why ≡ WrongPhase → IsWrongPhase (is_marking (fresh (state pages old new slot looks).pages) (state pages old new slot looks).run) command
       → Commanded pages old command (Refused why) new
   refused command why looks quiet is wrong =
       let t = state pages old new slot looks in
@@ -157,7 +157,7 @@ answered_longer pages history longer mine (x ∷ xs) (y ∷ ys) p a =
 
 pub answered_more : (pages : ℕ) (history mine : List Entry) (commands : List Event) (replies : List Reply) (i : ℕ) (c : Event) (r : Reply) → i < length commands → length replies ≡ length commands
     → AreAnswered pages history mine (take i commands) (take i replies)
-    → (is_event (get_or commands i c) r ≡ false → IsAnsweredAmong pages history (mine ++ left_by_all (take i commands) (take i replies)) (get_or commands i c) r)
+    → (is_in_history (get_or commands i c) r ≡ false → IsAnsweredAmong pages history (mine ++ left_by_all (take i commands) (take i replies)) (get_or commands i c) r)
     → AreAnswered pages history mine (take (i + 1) commands) (take (i + 1) (set replies i r))
 answered_more pages history mine [] replies i c r lt len before one = absurd (omega (arith, lt))
 answered_more pages history mine (x ∷ xs) [] i c r lt len before one = absurd (omega (arith, len))

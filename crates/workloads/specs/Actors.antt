@@ -1,15 +1,15 @@
 -- What actors do in threads of their own, before and after.
-use Rattle.std.specs.Prelude.{◌≡◌, ◌≢◌, ℕ, ◌<◌, true, false, All, List, [], ◌++◌, length, slice_index_or}
+use Rattle.std.specs.Prelude.{◌≡◌, ℕ, ◌<◌, true, false, All, List, [], ◌++◌, length, slice_index_or}
 use mathlib.Core.List.{IsPrefix}
 use Rattle.history.specs.declared.object.TheConstants.{COLLECTOR}
 use Rattle.heap_spec.specs.declared.call.Call.{Call}
-use Rattle.heap_spec.specs.declared.call.Call.TheVariants.{Detach}
 use Rattle.heap_spec.specs.declared.event.Event.{Event}
 use Rattle.heap_spec.specs.declared.reply.Reply.{Reply}
 use Rattle.heap_history.specs.Passes.{Entry, HeapPass, IsFine}
 use Rattle.heap_history.specs.Headline.{Begun}
+use Rattle.shared.specs.Calls.{IsNoDetach}
 use Rattle.workloads.specs.Workloads.{is_collectors}
-use Rattle.workloads.specs.OneHistory.{events_of, is_event, left_by, left_by_all, IsAnsweredAmong, AreAnswered}
+use Rattle.workloads.specs.OneHistory.{events_of, is_in_history, left_by, left_by_all, IsAnsweredAmong, AreAnswered}
 use Rattle.workloads.specs.declared.mutator_job.MutatorJob.{MutatorJob}
 use Rattle.workloads.specs.declared.collector_job.CollectorJob.{CollectorJob}
 
@@ -23,7 +23,7 @@ pub record Commanded (pages : ℕ) (old : HeapPass) (command : Event) (reply : R
   pub slot : new.slot ≡ old.slot
   pub seen : IsPrefix old.seen new.seen
   pub mine : new.mine ≡ old.mine ++ left_by command reply
-  pub answered : is_event command reply ≡ false → IsAnsweredAmong pages new.seen old.mine command reply
+  pub answered : is_in_history command reply ≡ false → IsAnsweredAmong pages new.seen old.mine command reply
 
 -- the collector gave these commands in this order, with these replies, and no others
 pub record CommandedAll (pages : ℕ) (old : HeapPass) (commands : List Event) (replies : List Reply) (new : HeapPass) : Type 0 where
@@ -31,10 +31,6 @@ pub record CommandedAll (pages : ℕ) (old : HeapPass) (commands : List Event) (
   pub seen : IsPrefix old.seen new.seen
   pub mine : new.mine ≡ old.mine ++ left_by_all commands replies
   pub answered : AreAnswered pages new.seen old.mine commands replies
-
--- a call that a mutator may make between its attach and its detach
-abbrev pub IsPlain : Call → Type 0
-IsPlain call = call ≢ Detach
 
 -- a pass and what it knows of its own events stay, whatever it has seen since
 pub record Keeps (old new : HeapPass) : Type 0 where
@@ -44,7 +40,7 @@ pub record Keeps (old new : HeapPass) : Type 0 where
 module _ {J R : Type 0} where
   -- none of a mutator's calls is its last, and there is room for each reply
   pub record CanCall (job : MutatorJob J R) : Type 0 where
-    pub plain : All IsPlain job.calls.now
+    pub plain : All IsNoDetach job.calls.now
     pub room : length job.replies.items ≡ length job.calls.now
 
   -- a job's mutator made all its calls in their order, and the job has each reply

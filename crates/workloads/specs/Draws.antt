@@ -31,7 +31,8 @@ drawn_calls p q x =
 abbrev pub drawn_collections : ℕ → List Event
 drawn_collections x = Begin ∷ Roots ∷ Mark (1 + x % 64) ∷ Mark (1 + x % 64) ∷ Retrace ∷ Finish ∷ Sweep ∷ Collect ∷ []
 
--- The command that four words draw: a call of one of the mutators, or a command of the collector.
+-- The command that four words draw: a call of one of the mutators, or a command of the collector. The lists have 16 and 8
+-- entries, so the last argument of `slice_index_or` is never taken.
 abbrev pub drawn : ℕ → ℕ → ℕ → ℕ → ℕ → Event
 drawn mutators x0 x1 x2 x3 =
     if nat_lt (x0 % (mutators + 1)) mutators

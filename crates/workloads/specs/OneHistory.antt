@@ -36,21 +36,21 @@ is_refusal (Count n) = false
 is_refusal (Refused why) = true
 
 -- Whether a command of the collector that has this reply is an event: a begin, finish or collect that is granted.
-abbrev pub is_event : Event → Reply → Bool
-is_event Attach reply = false
-is_event (Mutator slot call) reply = false
-is_event Begin reply = not (is_refusal reply)
-is_event Roots reply = false
-is_event (Mark n) reply = false
-is_event Retrace reply = false
-is_event Finish reply = not (is_refusal reply)
-is_event Sweep reply = false
-is_event Collect reply = not (is_refusal reply)
-is_event Number reply = false
+abbrev pub is_in_history : Event → Reply → Bool
+is_in_history Attach reply = false
+is_in_history (Mutator slot call) reply = false
+is_in_history Begin reply = not (is_refusal reply)
+is_in_history Roots reply = false
+is_in_history (Mark n) reply = false
+is_in_history Retrace reply = false
+is_in_history Finish reply = not (is_refusal reply)
+is_in_history Sweep reply = false
+is_in_history Collect reply = not (is_refusal reply)
+is_in_history Number reply = false
 
 -- what a command of the collector with this reply leaves in the history
 abbrev pub left_by : Event → Reply → List Entry
-left_by command reply = if is_event command reply then event COLLECTOR command reply ∷ [] else []
+left_by command reply = if is_in_history command reply then event COLLECTOR command reply ∷ [] else []
 
 -- and what commands with their replies leave, in their order
 abbrev pub left_by_all : List Event → List Reply → List Entry
@@ -75,7 +75,7 @@ AreAnswered pages history mine [] [] = Unit {0}
 AreAnswered pages history mine [] (reply ∷ replies) = ⊥
 AreAnswered pages history mine (command ∷ commands) [] = ⊥
 AreAnswered pages history mine (command ∷ commands) (reply ∷ replies) =
-    (is_event command reply ≡ false → IsAnsweredAmong pages history mine command reply) × AreAnswered pages history (mine ++ left_by command reply) commands replies
+    (is_in_history command reply ≡ false → IsAnsweredAmong pages history mine command reply) × AreAnswered pages history (mine ++ left_by command reply) commands replies
 
 -- The collector's part of a history: its events are its granted begins, finishes and collects with these replies, in their order, and
 -- its other commands are answered between them.

@@ -1,11 +1,11 @@
 -- What a workload is, and the first of its lines that breaks a rule.
-use Rattle.std.specs.Prelude.{◌≡◌, ℕ, ◌-◌, ◌<◌, ◌≤◌, ◌⊎◌, ◌==◌, ◌≢◌, if◌then◌else◌, Bool, true, false, Option, Some, None, List, [], ◌++◌, length, take, replicate, filter, filter_map, All, slice_get, slice_index_or}
+use Rattle.std.specs.Prelude.{◌≡◌, ℕ, ◌-◌, ◌<◌, ◌≤◌, ◌⊎◌, ◌==◌, if◌then◌else◌, Bool, true, false, Option, Some, None, List, [], ◌++◌, length, take, replicate, filter, filter_map, All, slice_get, slice_index_or}
 use Rattle.std.specs.List.{AllZip}
 use Rattle.words.specs.declared.limits.TheConstants.{SLOTS}
 use Rattle.heap_spec.specs.declared.call.Call.{Call}
-use Rattle.heap_spec.specs.declared.call.Call.TheVariants.{Detach}
 use Rattle.heap_spec.specs.declared.event.Event.{Event}
-use Rattle.heap_spec.specs.declared.event.Event.TheVariants.{Attach, Mutator, Begin, Roots, Mark, Retrace, Finish, Sweep, Collect, Number}
+use Rattle.heap_spec.specs.declared.event.Event.TheVariants.{Attach, Mutator}
+use Rattle.shared.specs.Calls.{IsNoDetach}
 use Rattle.scripts.specs.declared.limits.TheConstants.{LAST_LINE}
 use Rattle.scripts.specs.Grammar.{IsLineOf, IsBad}
 
@@ -16,48 +16,26 @@ pub record ActorLines : Type 0 where
 
 -- the call that a command is of this mutator
 abbrev pub call_of : ℕ → Event → Option Call
-call_of slot Attach = None
 call_of slot (Mutator who call) = if who == slot then Some call else None
-call_of slot Begin = None
-call_of slot Roots = None
-call_of slot (Mark n) = None
-call_of slot Retrace = None
-call_of slot Finish = None
-call_of slot Sweep = None
-call_of slot Collect = None
-call_of slot Number = None
+call_of slot _ = None
 
 -- whether a command is the collector's
 abbrev pub is_collectors : Event → Bool
 is_collectors Attach = false
 is_collectors (Mutator who call) = false
-is_collectors Begin = true
-is_collectors Roots = true
-is_collectors (Mark n) = true
-is_collectors Retrace = true
-is_collectors Finish = true
-is_collectors Sweep = true
-is_collectors Collect = true
-is_collectors Number = true
+is_collectors _ = true
 
 -- Lists that threads can run: at most one for each slot, no mutator detaches, and the collector's commands are its own.
 pub record CanBeRun (lists : ActorLines) : Type 0 where
   pub slots : length lists.mutators ≤ SLOTS
-  pub calls : All (λ calls. All (λ call. call ≢ Detach) calls) lists.mutators
+  pub calls : All (λ calls. All IsNoDetach calls) lists.mutators
   pub commands : All (λ command. is_collectors command ≡ true) lists.collector
 
 -- A command that may stand behind the attaches of so many mutators: a call of one of these that is no detach, or a command of the collector.
 abbrev pub MayRun : ℕ → Event → Type 0
 MayRun mutators Attach = ⊥
-MayRun mutators (Mutator slot call) = (slot < mutators) × (call ≢ Detach)
-MayRun mutators Begin = Unit {0}
-MayRun mutators Roots = Unit {0}
-MayRun mutators (Mark n) = Unit {0}
-MayRun mutators Retrace = Unit {0}
-MayRun mutators Finish = Unit {0}
-MayRun mutators Sweep = Unit {0}
-MayRun mutators Collect = Unit {0}
-MayRun mutators Number = Unit {0}
+MayRun mutators (Mutator slot call) = (slot < mutators) × IsNoDetach call
+MayRun mutators _ = Unit {0}
 
 -- Lines that are a workload: first an attach for each mutator, at most one for each slot, and then commands that may be run. Each
 -- mutator's calls, and the collector's commands, are those of the lines, in their order.
@@ -73,15 +51,7 @@ pub record AreWorkload (lines : List (List ℕ)) (lists : ActorLines) : Type 0 w
 -- A command breaks no rule behind so many lines, which are a workload of so many mutators: an attach stands before all other lines.
 abbrev pub MayFollow : ℕ → ℕ → Event → Type 0
 MayFollow lines mutators Attach = (lines ≡ mutators) × (mutators < SLOTS)
-MayFollow lines mutators (Mutator slot call) = MayRun mutators (Mutator slot call)
-MayFollow lines mutators Begin = Unit {0}
-MayFollow lines mutators Roots = Unit {0}
-MayFollow lines mutators (Mark n) = Unit {0}
-MayFollow lines mutators Retrace = Unit {0}
-MayFollow lines mutators Finish = Unit {0}
-MayFollow lines mutators Sweep = Unit {0}
-MayFollow lines mutators Collect = Unit {0}
-MayFollow lines mutators Number = Unit {0}
+MayFollow lines mutators command = MayRun mutators command
 
 -- a line breaks a rule behind so many lines: it is bad, or it is a command that may not follow
 abbrev pub BreaksRule : ℕ → ℕ → List ℕ → Type 0

@@ -3,7 +3,8 @@ ghost use Rattle.std.specs.Prelude.{◌≡◌, ◌%◌, ◌^◌, All, length};
 ghost use mathlib.Core.List.{IsPrefix};
 ghost use Rattle.heap_history.specs.Headline.{Makes};
 ghost use Rattle.heap_history.specs.Passes.{IsFine};
-ghost use Rattle.workloads.specs.Actors.{IsPlain, Called, Keeps, CanCall, HasCalled};
+ghost use Rattle.shared.specs.Calls.{IsNoDetach};
+ghost use Rattle.workloads.specs.Actors.{Called, Keeps, CanCall, HasCalled};
 
 use each_law::Law;
 use final_pause::Gate;
@@ -84,7 +85,7 @@ fn make_call<J: Naming, R: Wait, G: Gate>(
     me: &mut Mutator<J>,
     call: Call,
 ) -> Reply
-    requires { IsPlain call }
+    requires { IsNoDetach call }
     ensures { Makes J.origin me.old call result me.new }
 {
     let actor = me.slot().number();
@@ -103,7 +104,7 @@ fn make_calls<J: Naming, R: Wait, G: Gate>(
     calls: &[Call],
     replies: &mut [Reply],
 )
-    requires plain { All IsPlain calls.now }
+    requires plain { All IsNoDetach calls.now }
     requires room { length replies.old ≡ length calls.now }
     ensures room { length replies.new ≡ length calls.now }
     ensures called { Called me.old calls.now replies.new me.new }
@@ -136,7 +137,7 @@ impl<'a, J: Naming, R: Wait> Attached<'a, J, R> {
 
     // Makes the calls in their order, and notes their replies.
     fn make<G: Gate>(&mut self, gate: &G, calls: &[Call], replies: &mut [Reply])
-        requires plain { All IsPlain calls.now }
+        requires plain { All IsNoDetach calls.now }
         requires room { length replies.old ≡ length calls.now }
         ensures room { length replies.new ≡ length calls.now }
         ensures called { Called self.old calls.now replies.new self.new }

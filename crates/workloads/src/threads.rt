@@ -3,7 +3,8 @@ ghost use Rattle.std.specs.Prelude.{◌≡◌, ◌≤◌, ◌<◌, [], All, IfSo
 ghost use Rattle.std.specs.Vec.{vec_capacity};
 ghost use Rattle.words.specs.declared.limits.TheConstants.{MAX_PAGES, SLOTS};
 ghost use Rattle.each_law.specs.Jobs.{HaveRun};
-ghost use Rattle.workloads.specs.Actors.{IsPlain, CanCall, HasCalled, IsAttached, AreAttached, AreReplies, CanCommand, HasCommanded};
+ghost use Rattle.shared.specs.Calls.{IsNoDetach};
+ghost use Rattle.workloads.specs.Actors.{CanCall, HasCalled, IsAttached, AreAttached, AreReplies, CanCommand, HasCommanded};
 ghost use Rattle.workloads.specs.OneHistory.{HaveOneHistory};
 
 use crate::collector_job::{CollectorJob, GivesCommands, run_collector};
@@ -32,7 +33,7 @@ fn attach_one<'a, J: Naming, R: Wait>(
     calls: &'a [Call],
     replies: Vec<Reply>,
 ) -> Option<MutatorJob<'a, J, R>>
-    requires plain { All IsPlain calls.now }
+    requires plain { All IsNoDetach calls.now }
     requires room { length replies.items ≡ length calls.now }
     ensures { IfSome result (λ job. IsAttached J.origin calls.now slot job) }
 {

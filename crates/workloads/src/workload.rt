@@ -1,5 +1,6 @@
 //! Workloads, as they are read line by line.
-ghost use Rattle.std.specs.Prelude.{◌≡◌, ◌≢◌, ℕ, List, ◌-◌, ◌+◌, ◌<◌, ◌≤◌, true, [], ◌∷◌, ◌++◌, Some, All, length, slice_set, slice_index_or, OnOk, OnErr, MatchBool};
+ghost use Rattle.std.specs.Prelude.{◌≡◌, ℕ, List, ◌-◌, ◌+◌, ◌<◌, ◌≤◌, true, [], ◌∷◌, ◌++◌, Some, All, length, slice_set, slice_index_or, OnOk, OnErr, MatchBool};
+ghost use Rattle.shared.specs.Calls.{IsNoDetach};
 ghost use Rattle.scripts.specs.declared.limits.TheConstants.{LINE_BYTES};
 ghost use Rattle.scripts.specs.Ends.{read_faults, write_faults};
 ghost use Rattle.workloads.specs.Workloads.{MayFollow, is_collectors};
@@ -71,7 +72,7 @@ impl Workload {
     pub fn calls(&self, mutator: usize) -> &[Call]
         requires { mutator < length self.now.mutators }
         ensures value { result.now ≡ slice_index_or self.now.mutators mutator [] }
-        ensures plain { All (λ call. call ≢ Call.Detach) result.now }
+        ensures plain { All IsNoDetach result.now }
     {
         self.mutators[mutator].as_slice()
     }

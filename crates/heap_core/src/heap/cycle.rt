@@ -27,7 +27,7 @@ impl Core {
         Ok(())
     }
 
-    /// Marks what root words read.
+    /// Marks what root words point into.
     pub fn roots(&mut self) -> Result<(), Refusal>
         ensures { IsGrantedIn true self.old result self.new (λ _. ReadsRoots self.old self.new) }
     {
@@ -96,7 +96,7 @@ impl Core {
         Ok(count)
     }
 
-    /// Sweeps one page, if one is still to be swept. Answers 1 if one was, and else 0. It is never refused.
+    /// Sweeps one page, if one is pending. Answers 1 if one was, and else 0. It is never refused.
     pub fn sweep(&mut self) -> Result<u64, Refusal>
         ensures { IsAlwaysGranted result (λ n. SweepsOne self.old n self.new) }
     {

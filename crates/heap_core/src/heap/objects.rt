@@ -13,7 +13,7 @@ impl Core {
     ///
     /// # Errors
     /// [`Refusal::NoSlot`] if the slot has no mutator, else [`Refusal::Misaligned`] if the address isn't that of a word,
-    /// and else [`Refusal::NoObject`] if it reads no object.
+    /// and else [`Refusal::NoObject`] if it points into no object.
     #[inline]
     pub fn load(&mut self, slot: Slot, into: Reg, at: Reg, offset: u64) -> Result<u64, Refusal>
         ensures { IsCall self.old (Event.Mutator slot (Call.Load into at offset)) (word_reply result) self.new }
@@ -57,10 +57,10 @@ impl Core {
         Ok(())
     }
 
-    /// Puts the base of the object that `from` reads into `into`.
+    /// Sets `into` to the base of the object that `from` points into.
     ///
     /// # Errors
-    /// [`Refusal::NoSlot`] if the slot has no mutator, and else [`Refusal::NoObject`] if the word reads no object.
+    /// [`Refusal::NoSlot`] if the slot has no mutator, and else [`Refusal::NoObject`] if the word points into no object.
     pub fn base(&mut self, slot: Slot, into: Reg, from: Reg) -> Result<u64, Refusal>
         ensures { IsCall self.old (Event.Mutator slot (Call.Base into from)) (word_reply result) self.new }
     {
@@ -75,7 +75,7 @@ impl Core {
         Ok(found.base)
     }
 
-    /// The words of the object that a register reads.
+    /// The words of the object that a register points into.
     ///
     /// # Errors
     /// As [`Core::base`].
@@ -117,8 +117,8 @@ impl Core {
     /// Frees the object whose base a register has.
     ///
     /// # Errors
-    /// [`Refusal::NoSlot`] if the slot has no mutator, else [`Refusal::NoObject`] if the word reads no object, and else
-    /// [`Refusal::NotBase`] if it isn't the object's base.
+    /// [`Refusal::NoSlot`] if the slot has no mutator, else [`Refusal::NoObject`] if the word points into no object, and
+    /// else [`Refusal::NotBase`] if it isn't the object's base.
     pub fn free(&mut self, slot: Slot, reg: Reg) -> Result<(), Refusal>
         ensures { IsCall self.old (Event.Mutator slot (Call.Free reg)) (done_reply result) self.new }
     {

@@ -26,7 +26,7 @@ fn is_cut_for(map: &BlockMap, page: PageNo, class: Class, kind: Kind) -> bool
 }
 
 impl ObjectSpace {
-    // The lowest page that is still to be swept and is cut for the class and the kind.
+    // The lowest pending page that is cut for the class and the kind.
     #[inline(never)]
     fn pending_for(&self, class: Class, kind: Kind) -> Option<PageNo>
         ensures some { IfSome result (λ page. Has self.now.pending page × (page < length self.now.states)) }
@@ -44,7 +44,7 @@ impl ObjectSpace {
         None
     }
 
-    // A page with a free cell for the class and the kind, or else one for them that is still to be swept.
+    // A page with a free cell for the class and the kind, or else a pending one for them.
     fn page_for(&self, class: Class, kind: Kind) -> Option<PageNo>
         ensures inside { IfSome result (λ page. page < length self.now.states) }
         ensures some { IfSome result (λ page. Has self.now.pending page ⊎ IsAvailable (state_at self.now.states page) class kind) }
@@ -58,8 +58,8 @@ impl ObjectSpace {
         Some(page as PageNo)
     }
 
-    // A page with a free cell for the class and the kind that is not to be swept any more. Pages for them that are still to
-    // be swept are swept first, one by one.
+    // A page with a free cell for the class and the kind that is not pending. Pending pages for them are swept
+    // first, one by one.
     #[inline(always)]
     fn swept_page(&mut self, marker: &Marker, class: Class, kind: Kind) -> Option<PageNo>
         requires pages { length marker.now.dirty ≡ length self.old.states }
@@ -160,7 +160,7 @@ impl ObjectSpace {
         Some(self.take_cell(page, class, kind))
     }
 
-    // A place for an object: of the pages that are still to be swept, only those that are cut for it are.
+    // A place for an object: of the pending pages, only those that are cut for it are swept.
     #[inline(always)]
     fn place(&mut self, marker: &Marker, placement: &Placement, kind: Kind) -> Option<u64>
         requires request { IsRequest placement.now }
@@ -175,7 +175,7 @@ impl ObjectSpace {
         }
     }
 
-    // The first free cell of the lowest page for the class and the kind, if that page is not to be swept.
+    // The first free cell of the lowest page for the class and the kind, if that page is not pending.
     #[inline(always)]
     fn take_ready(&mut self, class: Class, kind: Kind) -> Option<u64>
         ensures room { IfSome result (λ base. HasRoomAt self.old (Placement.Small class) kind base) }
@@ -215,7 +215,7 @@ impl ObjectSpace {
 
     /// Takes a place for a new object, writes 0 into its words, and answers its base. It sweeps as it needs: first pages
     /// for the class and the kind, and where there is no free page either, the others until there is a place. `None`
-    /// exactly if no address has room, and then nothing is left to be swept.
+    /// exactly if no address has room, and then no page is pending.
     pub fn allocate(&mut self, marker: &Marker, placement: Placement, kind: Kind) -> Option<u64>
         requires request { IsRequest placement }
         requires pages { length marker.now.dirty ≡ length self.old.states }

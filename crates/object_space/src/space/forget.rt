@@ -17,7 +17,7 @@ use words::PageNo;
 
 impl ObjectSpace {
     // Forgets the unmarked objects that begin on a page, and answers how many: a large one goes now, and a block that has one
-    // is to be swept.
+    // becomes pending.
     fn forget_on(&mut self, marker: &Marker, page: PageNo) -> u32
         requires pages { length marker.now.dirty ≡ length self.old.states }
         requires inside { page < length self.old.states }

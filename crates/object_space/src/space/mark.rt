@@ -13,7 +13,7 @@ use pages::Reader;
 use words::PageNo;
 
 impl ObjectSpace {
-    /// Marks what root words read.
+    /// Marks what root words point into.
     pub fn mark_roots(&self, marker: &mut Marker, roots: &[u64])
         requires pages { length marker.old.dirty ≡ length self.now.states }
         ensures traces { Traces (found_in self.now.states) self.now.words roots.now marker.old marker.new }

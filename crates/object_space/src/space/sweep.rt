@@ -97,7 +97,7 @@ impl ObjectSpace {
         self.pending.clear(page as usize);
     }
 
-    /// Sweeps one page, if one is still to be swept. Answers whether one was.
+    /// Sweeps one page, if one is pending. Answers whether one was.
     pub fn sweep(&mut self, marker: &Marker) -> bool
         requires pages { length marker.now.dirty ≡ length self.old.states }
         ensures sweeps { Sweeps self.old marker.now.marks self.new }
@@ -114,7 +114,7 @@ impl ObjectSpace {
         true
     }
 
-    /// Sweeps all pages that are still to be swept.
+    /// Sweeps all pending pages.
     pub fn sweep_all(&mut self, marker: &Marker)
         requires pages { length marker.now.dirty ≡ length self.old.states }
         ensures sweeps { Sweeps self.old marker.now.marks self.new }

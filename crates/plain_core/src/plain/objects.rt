@@ -123,7 +123,7 @@ impl Core {
         Ok(())
     }
 
-    /// Puts the base of the object that a register reads into a register.
+    /// Sets a register to the base of the object that a register points into.
     pub fn base(&mut self, slot: Slot, into: Reg, at: Reg) -> Result<u64, Refusal>
         ensures { IsStep (StandsFor self.old) (Event.Mutator slot (Call.Base into at)) (word_reply result) (StandsFor self.new) }
     {
