@@ -1,26 +1,55 @@
 //! The calls that take out what is not reached.
-ghost use Rattle.std.specs.Prelude.{◌≡◌, IsTrue, true, false};
+ghost use Rattle.std.specs.Prelude.{◌≡◌, IsTrue, All, true, false, length};
+ghost use Rattle.roots.specs.Roots.{root_words_of};
+ghost use Rattle.plain_core.specs.Standing.{LiesIn};
+ghost use Rattle.plain_core.specs.Owners.{AreOwners};
+ghost use Rattle.plain_core.specs.Reached.{AreApart, MarksReached};
+ghost use Rattle.plain_core.specs.Listing.{HasRoom, KeepsRoom};
 ghost use Rattle.plain_core.specs.Collections.{IsCollected, HasGarbage, CantCollect, IsTaken, CantTake};
 
 use super::Core;
 use crate::claims::{are_all_named, unset_flags};
-use crate::listing::list_reached;
+use crate::extent::Extent;
+use crate::listing::{Listing, list_reached};
 use crate::owners::write_owners;
 use crate::parting::{count_unflagged, keep_flagged};
+use arrayvec::ArrayVec;
+use roots::{ROOT_WORDS, Roots};
+
+// Lists the objects that are reached from the roots.
+fn list_from_roots(
+    roots: &Roots,
+    root_words: &mut ArrayVec<u64, ROOT_WORDS>,
+    words: &[u64],
+    objects: &[Extent],
+    owners: &mut [u64],
+    listing: &mut Listing,
+)
+    requires apart { AreApart objects.now }
+    requires lie { All (LiesIn words.now) objects.now }
+    requires within { All (LiesIn owners.old) objects.now }
+    requires room { HasRoom (length objects.now) listing.old }
+    ensures marks { MarksReached (root_words_of roots.now) words.now objects.now listing.new.marks.items }
+    ensures room { KeepsRoom listing.old listing.new }
+    ensures owners { AreOwners objects.now owners.new }
+{
+    roots.write_words(root_words);
+    write_owners(objects, owners);
+    let from = root_words.as_slice();
+    list_reached(from, words, objects, owners, listing);
+}
 
 impl Core {
     /// Takes out all objects that are not reached, and answers how many.
     pub fn collect(&mut self) -> u64
         ensures { IsCollected self.old result self.new }
     {
-        self.roots.write_words(&mut self.root_words);
-        let roots = self.root_words.as_slice();
-        write_owners(&self.objects, &mut self.owners);
-        list_reached(
-            roots,
+        list_from_roots(
+            &self.roots,
+            &mut self.root_words,
             &self.words,
             &self.objects,
-            &self.owners,
+            &mut self.owners,
             &mut self.listing,
         );
         keep_flagged(&mut self.objects, &self.listing.marks) as u64
@@ -31,14 +60,12 @@ impl Core {
         ensures garbage { HasGarbage self.old result }
         ensures same { self.new ≡ self.old }
     {
-        self.roots.write_words(&mut self.root_words);
-        let roots = self.root_words.as_slice();
-        write_owners(&self.objects, &mut self.owners);
-        list_reached(
-            roots,
+        list_from_roots(
+            &self.roots,
+            &mut self.root_words,
             &self.words,
             &self.objects,
-            &self.owners,
+            &mut self.owners,
             &mut self.listing,
         );
         count_unflagged(&self.objects, &self.listing.marks) as u64
@@ -64,14 +91,12 @@ impl Core {
         ensures no { result ≡ false → CantTake self.old bases.now all }
         ensures same { result ≡ false → self.new ≡ self.old }
     {
-        self.roots.write_words(&mut self.root_words);
-        let roots = self.root_words.as_slice();
-        write_owners(&self.objects, &mut self.owners);
-        list_reached(
-            roots,
+        list_from_roots(
+            &self.roots,
+            &mut self.root_words,
             &self.words,
             &self.objects,
-            &self.owners,
+            &mut self.owners,
             &mut self.listing,
         );
         self.stays.fill(true);

@@ -1,45 +1,34 @@
-use Rattle.std.proofs.Common.{length, sym, ap, ◌∙◌, arith}
-use Rattle.std.proofs.lemmas.List.{with_items_is}
+use Rattle.std.proofs.Common.{length, refl, arith}
 use Rattle.plain_core.proofs.Collects.{sound_apart, lie_in, all_lie, collects, marks_are, room_for, room_kept}
-use Rattle.plain_core.proofs.Owning.{owners_as}
 use Rattle.plain_core.proofs.Free.{rest_sound}
 use Rattle.plain_core.proofs.plain.Core.collect.Goals as goal
 
-pub write_owners-requires-clause-apart : goal.write_owners-requires-clause-apart
-write_owners-requires-clause-apart c = rw c.deref.ensures.value (sound_apart _ c.self.invariant.0)
+pub list_from_roots-requires-clause-apart : goal.list_from_roots-requires-clause-apart
+list_from_roots-requires-clause-apart c = rw c.deref-2.ensures.value (sound_apart _ c.self.invariant.0)
 
-pub write_owners-requires-clause-within : goal.write_owners-requires-clause-within
-write_owners-requires-clause-within c = rw (c.deref.ensures.value, c.deref_mut.ensures.value) (lie_in _ c.self.invariant.0 _ (let is = c.self.invariant.4 in omega (arith, c.self.inside.owners.ok.0)))
+pub list_from_roots-requires-clause-lie : goal.list_from_roots-requires-clause-lie
+list_from_roots-requires-clause-lie c = rw (c.deref.ensures.value, c.deref-2.ensures.value) (all_lie _ c.self.invariant.0)
 
-pub list_reached-requires-clause-owners : goal.list_reached-requires-clause-owners
-list_reached-requires-clause-owners c =
-    let long = c.write_owners.auto.owners ∙ ap length c.deref_mut.ensures.value in
-    owners_as _ _ _ _ (c.deref.ensures.value ∙ sym c.deref-3.ensures.value)
-    (sym (c.deref-4.ensures.value ∙ with_items_is c.self.inside.owners c.write_owners.new.owners (long ∙ sym c.self.inside.owners.ok.0))) c.write_owners.ensures
+pub list_from_roots-requires-clause-within : goal.list_from_roots-requires-clause-within
+list_from_roots-requires-clause-within c = rw (c.deref-2.ensures.value, c.deref_mut.ensures.value) (lie_in _ c.self.invariant.0 _ (let is = c.self.invariant.4 in omega (arith, c.self.inside.owners.ok.0)))
 
-pub list_reached-requires-clause-apart : goal.list_reached-requires-clause-apart
-list_reached-requires-clause-apart c = rw c.deref-3.ensures.value (sound_apart _ c.self.invariant.0)
-
-pub list_reached-requires-clause-room : goal.list_reached-requires-clause-room
-list_reached-requires-clause-room c = rw c.deref-3.ensures.value (room_for _ c.self.invariant.0 _ c.self.invariant.2)
-
-pub list_reached-requires-clause-within : goal.list_reached-requires-clause-within
-list_reached-requires-clause-within c = rw (c.deref-2.ensures.value, c.deref-3.ensures.value) (all_lie _ c.self.invariant.0)
+pub list_from_roots-requires-clause-room : goal.list_from_roots-requires-clause-room
+list_from_roots-requires-clause-room c = rw c.deref-2.ensures.value (room_for _ c.self.invariant.0 _ c.self.invariant.2)
 
 pub keep_flagged-requires : goal.keep_flagged-requires
-keep_flagged-requires c = rw c.deref-5.ensures.value (room_for _ c.self.invariant.0 _ (room_kept _ _ _ c.self.invariant.2 c.list_reached.ensures.room)).marks
+keep_flagged-requires c = rw c.deref-3.ensures.value (room_for _ c.self.invariant.0 _ (room_kept _ _ _ c.self.invariant.2 c.list_from_roots.ensures.room)).marks
 
 pub invariant_of-self : goal.invariant_of-self
 invariant_of-self c = (
   rest_sound _ c.self.invariant.0 c.keep_flagged.ensures.parts.gone _ c.keep_flagged.ensures.parts.all,
   rw c.keep_flagged.ensures.capacity c.self.invariant.1,
-  room_kept _ _ _ c.self.invariant.2 c.list_reached.ensures.room,
+  room_kept _ _ _ c.self.invariant.2 c.list_from_roots.ensures.room,
   c.self.invariant.3,
   c.self.invariant.4,
 )
 
 pub returns : goal.returns
 returns c = rw (← c.self.view_is)
-    (collects _ c.self.invariant.0 c.deref-5.result.now
-    (marks_are _ _ _ _ _ _ _ _ (c.as_slice-roots.ensures.value ∙ c.write_words.ensures) c.deref-2.ensures.value c.deref-3.ensures.value c.deref-5.ensures.value c.list_reached.ensures.marks)
+    (collects _ c.self.invariant.0 c.deref-3.result.now
+    (marks_are _ _ _ _ _ _ _ _ refl c.deref.ensures.value c.deref-2.ensures.value c.deref-3.ensures.value c.list_from_roots.ensures.marks)
     _ _ c.keep_flagged.ensures.parts)
