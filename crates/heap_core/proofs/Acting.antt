@@ -6,7 +6,7 @@ use Rattle.heap_spec.specs.declared.event.Event.TheVariants.{Attach, Mutator, Be
 use Rattle.heap_spec.specs.declared.reply.Reply.{Reply}
 use Rattle.heap_spec.specs.declared.reply.Reply.TheVariants.{Count}
 use Rattle.heap_spec.specs.Runs.{Told}
-use Rattle.heap_core.specs.Contents.{Contents}
+use Rattle.heap_core.specs.Contents.{Contents, IsCore}
 use Rattle.heap_core.specs.Acts.{IsAct, AreActs}
 use Rattle.heap_core.specs.Following.{IsLine, AreLines, told_of}
 use Rattle.heap_core.proofs.Following.{call_line, begin_result, roots_result, mark_result, retrace_result, finish_result, sweep_result, collect_result, number_line, no_lines, lines_more}
@@ -29,7 +29,7 @@ act_line old new Number reply act = line_with old new Number reply _ act.0 (subs
 
 pub acts_lines : (old : Contents) {lines : List Told} {new : Contents} → AreActs old lines new → AreLines old lines new
 acts_lines old AreActs.none = no_lines old
-acts_lines old (AreActs.more {lines = lines} {mid = mid} {new = new} told before act) =
+acts_lines old (AreActs.more {lines = lines} {mid = mid} {new = new} told before act core) =
     lines_more old mid new lines told.event told.reply (acts_lines old before) (act_line mid new told.event told.reply act)
 
 -- one event and reply more
@@ -40,9 +40,9 @@ told_more (e ∷ events) [] event reply same = absurd (omega arith)
 told_more (e ∷ events) (r ∷ replies) event reply same = ap (λ xs. record { event = e; reply = r } ∷ xs) (told_more events replies event reply (omega arith))
 
 pub run_more : (old mid new : Contents) (events : List Event) (replies : List Reply) (i : ℕ) (event : Event) (reply : Reply) → i < length events → length events ≡ length replies → event ≡ get_or events i event
-    → AreActs old (told_of (take i events) (take i replies)) mid → IsAct mid event reply new → AreActs old (told_of (take (i + 1) events) (take (i + 1) (set replies i reply))) new
-run_more old mid new events replies i event reply lt same is so next =
-    subst (λ lines. AreActs old lines new) (sym lists) (AreActs.more (record { event = event; reply = reply }) so next)
+    → AreActs old (told_of (take i events) (take i replies)) mid → IsAct mid event reply new → IsCore new → AreActs old (told_of (take (i + 1) events) (take (i + 1) (set replies i reply))) new
+run_more old mid new events replies i event reply lt same is so next core =
+    subst (λ lines. AreActs old lines new) (sym lists) (AreActs.more (record { event = event; reply = reply }) so next core)
   where
     lists : told_of (take (i + 1) events) (take (i + 1) (set replies i reply)) ≡ told_of (take i events) (take i replies) ++ record { event = event; reply = reply } ∷ []
     lists =

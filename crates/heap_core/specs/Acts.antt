@@ -7,7 +7,7 @@ use Rattle.heap_spec.specs.declared.reply.Reply.{Reply}
 use Rattle.heap_spec.specs.declared.reply.Reply.TheVariants.{Count}
 use Rattle.heap_spec.specs.Replies.{count_reply, done_reply}
 use Rattle.heap_spec.specs.Runs.{Told}
-use Rattle.heap_core.specs.Contents.{Contents}
+use Rattle.heap_core.specs.Contents.{Contents, IsCore}
 use Rattle.heap_core.specs.Calls.{IsCall}
 use Rattle.heap_core.specs.Collections.{IsGrantedIn, IsAlwaysGranted, BeginsCycle, ReadsRoots, TakesWords, RetracesPage, EndsCycle, CollectsAll, SweepsOne}
 
@@ -28,7 +28,7 @@ IsAct old Sweep reply new = Tells count_reply reply (λ r. IsAlwaysGranted r (λ
 IsAct old Collect reply new = Tells count_reply reply (λ r. IsAlwaysGranted r (λ n. CollectsAll old n new))
 IsAct old Number reply new = (reply ≡ Count old.cycle.count) × (new ≡ old)
 
--- The events with their replies are calls of the core, one after another.
+-- The events with their replies are calls of the core, one after another, and what each call leaves is a core.
 pub data AreActs (old : Contents) : List Told → Contents → Type 0 where
   none : AreActs old [] old
-  more : {lines : List Told} {mid new : Contents} (told : Told) → AreActs old lines mid → IsAct mid told.event told.reply new → AreActs old (lines ++ told ∷ []) new
+  more : {lines : List Told} {mid new : Contents} (told : Told) → AreActs old lines mid → IsAct mid told.event told.reply new → IsCore new → AreActs old (lines ++ told ∷ []) new

@@ -3,8 +3,9 @@ use Rattle.std.specs.Prelude.{◌≡◌, ℕ, true, Bool, length}
 use Rattle.roots.specs.Roots.{RootSet}
 use Rattle.marker.specs.Marking.{Marking, AreMarksObjects}
 use Rattle.marker.specs.Invariant.{DirtyPageInvariant}
-use Rattle.block_map.specs.FoundIn.{found_in}
-use Rattle.object_space.specs.Store.{Store, IsSwept}
+use Rattle.block_map.specs.FoundIn.{found_in, IsLawful}
+use Rattle.block_map.specs.States.{IsLaid}
+use Rattle.object_space.specs.Store.{Store, AreEmptyPages, IsPendingRow, IsSound, IsSwept}
 
 -- What a core has of the collector: what the marker has, whether a cycle is marking, and the count of collections.
 pub record Cycle : Type 0 where
@@ -18,10 +19,20 @@ pub record Contents : Type 0 where
   pub store : Store
   pub cycle : Cycle
 
--- What is true of each core: its marker is one of its pages, each mark is that of an allocated object, and while a cycle is
--- marking no page is pending and the dirty-page invariant holds.
+-- What is true of each core's collector: its marker is one of the store's pages, each mark is that of an allocated object,
+-- and while a cycle is marking no page is pending and the dirty-page invariant holds.
 pub record IsTraced (t : Store) (y : Cycle) : Type 0 where
   pub pages : length y.marking.dirty ≡ length t.states
   pub objects : AreMarksObjects (found_in t.states) y.marking
   pub swept : y.is_marking ≡ true → IsSwept t
   pub invariant : y.is_marking ≡ true → DirtyPageInvariant (found_in t.states) t.words y.marking
+
+-- What is true of every core, whatever calls made it: its map is that of laid-out blocks, with the laws of a map, its free
+-- pages are exactly those on which no object lies, those still to be swept are cut, and it is traced.
+pub record IsCore (c : Contents) : Type 0 where
+  pub sound : IsSound c.store
+  pub pending : IsPendingRow c.store
+  pub empty : AreEmptyPages c.store.free c.store.states
+  pub lawful : IsLawful c.store.states
+  pub laid : IsLaid c.store.states
+  pub traced : IsTraced c.store c.cycle

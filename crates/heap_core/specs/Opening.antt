@@ -3,12 +3,13 @@ use Rattle.std.specs.Prelude.{◌≡◌, ℕ, false}
 use Rattle.heap_spec.specs.Heap.{opening}
 use Rattle.marker.specs.Marking.{IsFresh}
 use Rattle.object_space.specs.Store.{IsSwept}
-use Rattle.heap_core.specs.Contents.{Contents}
+use Rattle.heap_core.specs.Contents.{Contents, IsCore}
 use Rattle.heap_core.specs.Standing.{StandsFor}
 
--- The core is new: it stands for the heap of so many pages as it opens, no cycle is marking and none is counted, no page
--- is pending, and its marker has no mark, no dirty page and no entry.
+-- The core is new: what is true of every core is true of it, it stands for the heap of so many pages as it opens, no cycle
+-- is marking and none is counted, no page is pending, and its marker has no mark, no dirty page and no entry.
 pub record IsNew (pages : ℕ) (c : Contents) : Type 0 where
+  pub core : IsCore c
   pub stands : StandsFor c (opening pages)
   pub phase : c.cycle.is_marking ≡ false
   pub count : c.cycle.count ≡ 0

@@ -1,9 +1,6 @@
 //! The core, and how it is made.
 ghost use Rattle.pages.specs.Opening.{IsOpened};
-ghost use Rattle.block_map.specs.FoundIn.{IsLawful};
-ghost use Rattle.block_map.specs.States.{IsLaid};
-ghost use Rattle.object_space.specs.Store.{AreEmptyPages, IsPendingRow, IsSound};
-ghost use Rattle.heap_core.specs.Contents.{IsTraced};
+ghost use Rattle.heap_core.specs.Contents.{IsCore};
 ghost use Rattle.heap_core.specs.Opening.{IsNew};
 
 mod beside;
@@ -54,6 +51,7 @@ impl Core {
         ensures { IsOpened pages result (λ core. IsNew pages core) }
     {
         let objects = ObjectSpace::new(alloc, pages)?;
+        objects.laws();
         let marker = Marker::new(alloc, pages)?;
         Ok(Core {
             roots: Roots::new(),
@@ -66,15 +64,11 @@ impl Core {
     }
 
     /// What is true of every core, whatever calls made it. Of its pages: free are exactly those on which no object lies,
-    /// and the pending ones are cut. Of its collector: each mark is that of an allocated object, and while
-    /// a cycle is marking no page is pending and the dirty-page invariant holds.
+    /// and the pending ones are cut. Of its collector: each mark is that of an allocated object, and while a cycle is
+    /// marking no page is pending and the dirty-page invariant holds.
+    #[inline]
     pub fn laws(&self)
-        ensures sound { IsSound self.now.store }
-        ensures pending { IsPendingRow self.now.store }
-        ensures empty { AreEmptyPages self.now.store.free self.now.store.states }
-        ensures lawful { IsLawful self.now.store.states }
-        ensures laid { IsLaid self.now.store.states }
-        ensures traced { IsTraced self.now.store self.now.cycle }
+        ensures { IsCore self.now }
     {
         self.objects.laws();
         let _marker = &self.marker;

@@ -2,7 +2,7 @@
 use Rattle.std.proofs.Common.{◌≡◌, ℕ, false, List, [], ◌∷◌, ◌++◌, arith}
 use Rattle.heap_spec.specs.Runs.{Told, fresh}
 use Rattle.heap_core.specs.Acts.{IsAct, none, more}
-use Rattle.heap_core.specs.Contents.{Contents}
+use Rattle.heap_core.specs.Contents.{Contents, IsCore}
 use Rattle.heap_core.specs.Following.{Follows}
 use Rattle.heap_core.specs.Opening.{IsNew}
 use Rattle.scripts.specs.Cores.{AreCallsOfNew}
@@ -25,5 +25,5 @@ pub no_calls : (pages : ℕ) (core : Contents) → IsNew pages core → AreCalls
 no_calls pages core new = record { opened = core; is_new = new; acts = none }
 
 -- one call more
-pub call_on : (pages : ℕ) (old new : Contents) (told : List Told) (next : Told) → AreCallsOfNew pages told old → IsAct old next.event next.reply new → AreCallsOfNew pages (told ++ next ∷ []) new
-call_on pages old new told next calls act = record { opened = calls.opened; is_new = calls.is_new; acts = more next calls.acts act }
+pub call_on : (pages : ℕ) (old new : Contents) (told : List Told) (next : Told) → AreCallsOfNew pages told old → IsAct old next.event next.reply new → IsCore new → AreCallsOfNew pages (told ++ next ∷ []) new
+call_on pages old new told next calls act core = record { opened = calls.opened; is_new = calls.is_new; acts = more next calls.acts act core }

@@ -59,7 +59,7 @@ run_on pages old new lines out line o r plain turn =
       plain = All-push IsPlain lines line r.plain plain;
       commands = subst (λ es. AllZip IsLineOf (lines ++ line ∷ []) es) (sym (map_push (λ (t : Told). t.event) r.told told)) (zip_push IsLineOf lines (map (λ (t : Told). t.event) r.told) line turn.command r.commands turn.is_line);
       legal = legal_on (fresh pages) told r.legal next.1;
-      calls = call_on pages old new r.told told r.calls turn.acts;
+      calls = call_on pages old new r.told told r.calls turn.acts turn.core;
       prints = ap (λ x. x ++ o) r.prints ∙ ap (λ x. printed pages r.told ++ x) turn.prints ∙ sym (printed-push pages r.told told);
       follows = next.2;
     }

@@ -4,7 +4,7 @@ use Rattle.std.specs.Io.KnownBytes.{Appends}
 use Rattle.heap_spec.specs.declared.event.Event.{Event}
 use Rattle.heap_spec.specs.declared.reply.Reply.{Reply}
 use Rattle.heap_core.specs.Acts.{IsAct}
-use Rattle.heap_core.specs.Contents.{Contents}
+use Rattle.heap_core.specs.Contents.{Contents, IsCore}
 use Rattle.heap_core.specs.Following.{IsLine}
 use Rattle.scripts.specs.declared.errors.ScriptError.{ScriptError}
 use Rattle.scripts.specs.declared.errors.ScriptError.TheVariants.{BadLine, Read, Write, Memory}
@@ -12,12 +12,13 @@ use Rattle.scripts.specs.Grammar.{IsLineOf, IsBad}
 use Rattle.scripts.specs.Lines.{newline}
 use Rattle.scripts.specs.Printing.{reply_line}
 
--- The line is a command's, the core was called so, and its reply prints so.
+-- The line is a command's, the core was called so, what the call left is a core, and its reply prints so.
 pub record IsRun (pages : ℕ) (line : List ℕ) (old new : Contents) (out : List ℕ) : Type 0 where
   pub command : Event
   pub reply : Reply
   pub is_line : IsLineOf line command
   pub acts : IsAct old command reply new
+  pub core : IsCore new
   pub does : IsLine old command reply new
   pub prints : out ≡ reply_line pages reply
 

@@ -29,6 +29,7 @@ pub fn answer_line<W: Sink>(
         return Err(ScriptError::BadLine(number));
     };
     let reply = core.act(command);
+    core.laws();
     match print_reply(sink, pages, reply) {
         Ok(()) => Ok(()),
         Err(_) => Err(ScriptError::Write),

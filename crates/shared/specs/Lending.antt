@@ -3,15 +3,15 @@ use Rattle.std.specs.Prelude.{ℕ, List}
 use Rattle.history.specs.Histories.{Reaches}
 use Rattle.heap_spec.specs.SequentialObject.{HeapState, Opens, StateStep}
 use Rattle.heap_history.specs.Passes.{Entry}
-use Rattle.heap_core.specs.Contents.{Contents, IsTraced}
+use Rattle.heap_core.specs.Contents.{Contents, IsCore}
 use Rattle.heap_core.specs.AsObject.{Stands}
 
 -- Before the work and after it the core stands for where the history leads, from a new heap of so many pages, and what is
--- true of every core is true of it: the dirty-page invariant too, while a cycle is marking.
+-- true of every core is true of it: so the dirty-page invariant too, while a cycle is marking.
 pub record IsLent (pages : ℕ) (history : List Entry) (before after : Contents) : Type 0 where
   pub state : HeapState
   pub reached : Reaches (Opens pages) StateStep history state
   pub stood_for : Stands before state
   pub still : Stands after state
-  pub traced : IsTraced before.store before.cycle
-  pub traced_after : IsTraced after.store after.cycle
+  pub core : IsCore before
+  pub core_after : IsCore after

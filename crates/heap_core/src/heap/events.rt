@@ -71,6 +71,7 @@ impl Core {
     {
         for i in 0..events.len() {
             out[i] = self.act(events[i]);
+            self.laws();
         }
     }
 }

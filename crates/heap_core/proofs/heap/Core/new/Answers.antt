@@ -7,6 +7,14 @@ pub returns : goal.returns
 returns c = (
   c.in_ok-objects.ensures.0,
   record {
+    core = record {
+      sound = c.laws.ensures.sound;
+      pending = c.laws.ensures.pending;
+      empty = c.laws.ensures.empty;
+      lawful = c.laws.ensures.lawful;
+      laid = c.laws.ensures.laid;
+      traced = let pages = (c.in_ok-objects.ensures.1.1 (λ _. true)).pages in let fresh = c.in_ok-marker.ensures.1 in traced_ended _ _ _ (fresh.dirty.size ∙ pages) (fresh_objects _ _ _ fresh);
+    };
     stands = record {
       mutators = sym (ap (λ (r : RootSet). r.mutators) c.new-3.ensures);
       globals = sym (ap (λ (r : RootSet). r.globals) c.new-3.ensures);

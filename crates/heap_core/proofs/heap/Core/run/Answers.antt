@@ -7,7 +7,7 @@ pub loop-i-init : goal.loop-i-init
 loop-i-init c = AreActs.none
 
 pub loop-i-preserved : goal.loop-i-preserved
-loop-i-preserved c = run_more _ _ _ _ _ _ _ _ (omega arith) (omega arith) c.index-events-i.is c.loop-i.invariant c.act.ensures.acts
+loop-i-preserved c = run_more _ _ _ _ _ _ _ _ (omega arith) (omega arith) c.index-events-i.is c.loop-i.invariant c.act.ensures.acts c.laws.ensures
 
 pub returns-clause-acts : goal.returns-clause-acts
 returns-clause-acts c = run_all _ _ _ _ c.loop-i.i (omega arith) (omega arith) c.loop-i.invariant

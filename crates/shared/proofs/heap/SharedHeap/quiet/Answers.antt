@@ -2,7 +2,7 @@ use Rattle.std.proofs.Common.{sym, ap, subst, ◌∙◌}
 use Rattle.history.specs.Histories.{Reaches}
 use Rattle.heap_spec.specs.SequentialObject.{Opens, StateStep}
 use Rattle.heap_history.specs.Passes.{HeapPass, is_marking as marks}
-use Rattle.heap_core.specs.Contents.{Contents, IsTraced}
+use Rattle.heap_core.specs.Contents.{Contents, IsCore}
 use Rattle.shared.specs.Lending.{IsLent}
 use Rattle.shared.proofs.Passing.{phase_is}
 use Rattle.shared.proofs.heap.SharedHeap.quiet.Goals as goal
@@ -19,7 +19,7 @@ returns-clause-gives g c =
       reached = subst (λ h. Reaches (Opens g.J.Naming.origin) StateStep h st.state) seen st.reached;
       stood_for = st.stood_for;
       still = c.quiet-answer.ensures.keeps st.state st.stood_for;
-      traced = subst (λ (x : Contents). IsTraced x.store x.cycle) c.object.ensures.object c.laws.ensures.traced;
-      traced_after = subst (λ (x : Contents). IsTraced x.store x.cycle) c.object-2.ensures.object c.laws-2.ensures.traced;
+      core = subst IsCore c.object.ensures.object c.laws.ensures;
+      core_after = subst IsCore c.object-2.ensures.object c.laws-2.ensures;
     } in
     (c.learn.new.logged.object, c.quiet-answer.new.self.object, c.quiet-answer.ensures.gives, phase ∙ ap (λ (p : HeapPass). marks p.mine) c.me.view_is, lent)
