@@ -1,4 +1,4 @@
-//! Cores that are marking: by each number of helpers the pause keeps what the pause alone keeps, and leaves nothing to mark.
+//! Cores that are marking: by each number of helpers the pause marks what the pause alone marks, and leaves nothing to read.
 use final_pause::{Helpers, Open};
 use heap_core::Core;
 use heap_spec::{Call, Event, Reply};
