@@ -48,3 +48,21 @@ fn heaps_of_no_or_too_many_pages_are_refused(rt: HostRuntime) {
         assert_eq!(rt; refused, Some(OpenError::BadPages), "{pages} pages");
     }
 }
+
+// A heap of four pages, opened again where memory is refused.
+fn open_again(alloc: Global) -> Result<Core, OpenError> {
+    match Core::new(alloc, 4) {
+        Err(OpenError::Memory) => Core::new(alloc, 4),
+        answer => answer,
+    }
+}
+
+/// Where memory is refused, at whichever request, the answer is that, and the same call made again opens a heap. By itself this runs
+/// with ample memory; `rt try --test --fail-alloc N` refuses the N-th request.
+#[test]
+fn a_refused_heap_can_be_opened_again(rt: HostRuntime) -> Result<(), Fail> {
+    let core = open_again(rt.alloc()).ok().ok_or("a heap")?;
+    let mut scene = Scene::of(core)?;
+    is_filled_by_pages(&rt, &mut scene, 4);
+    Ok(())
+}

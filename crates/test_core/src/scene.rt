@@ -31,7 +31,12 @@ pub(crate) fn reg(number: u8) -> Reg {
 impl Scene {
     /// A new heap of so many pages, with a mutator.
     pub(crate) fn open(alloc: Global, pages: u32) -> Result<Scene, Fail> {
-        let mut core = Core::new(alloc, pages).ok().ok_or("a heap")?;
+        let core = Core::new(alloc, pages).ok().ok_or("a heap")?;
+        Scene::of(core)
+    }
+
+    /// A heap without mutators, with one.
+    pub(crate) fn of(mut core: Core) -> Result<Scene, Fail> {
         let slot = core.attach().ok().ok_or("a mutator")?;
         Ok(Scene { core, slot })
     }

@@ -77,15 +77,30 @@ fn short_reads(rt: HostRuntime) {
     assert_eq!(rt; mutators_of(rt.alloc(), &mut input), Ok(2));
 }
 
-/// Where memory is refused, at whichever request, the answer is that, and else the usual one. By itself this runs with
-/// ample memory; `rt try --test --fail-alloc N` refuses the N-th request.
-#[test]
-fn refused_memory(rt: HostRuntime) {
-    let mut input = Script::new(WORKLOAD.as_bytes());
-    let answer = mutators_of(rt.alloc(), &mut input);
-    assert!(rt; answer == Ok(2) || answer == Err(ScriptError::Memory));
-    match make_stress(rt.alloc(), 1, 2, 100) {
-        Ok(text) => assert_eq!(rt; lines_of(text.as_slice()), 102),
-        Err(fault) => assert_eq!(rt; fault, RunError::Memory),
+// The number of mutators, asked for again where memory is refused.
+fn mutators_again(alloc: Global) -> Result<usize, ScriptError> {
+    match mutators_of(alloc, &mut Script::new(WORKLOAD.as_bytes())) {
+        Err(ScriptError::Memory) => mutators_of(alloc, &mut Script::new(WORKLOAD.as_bytes())),
+        answer => answer,
     }
+}
+
+// A drawn script, drawn again where memory is refused.
+fn draw_again(alloc: Global) -> Result<Vec<u8>, RunError> {
+    match make_stress(alloc, 1, 2, 100) {
+        Err(RunError::Memory) => make_stress(alloc, 1, 2, 100),
+        answer => answer,
+    }
+}
+
+/// Where memory is refused, at whichever request, the answer is that, and the same call made again gives the usual one. By itself this
+/// runs with ample memory; `rt try --test --fail-alloc N` refuses the N-th request.
+#[test]
+fn refused_memory(rt: HostRuntime) -> Result<(), Fail> {
+    assert_eq!(&rt; mutators_again(rt.alloc()), Ok(2));
+    let first = draw_again(rt.alloc()).ok().ok_or("a script")?;
+    let second = draw_again(rt.alloc()).ok().ok_or("a script")?;
+    assert_eq!(&rt; lines_of(first.as_slice()), 102);
+    assert!(&rt; first.as_slice() == second.as_slice());
+    Ok(())
 }

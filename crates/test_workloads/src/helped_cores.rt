@@ -1,7 +1,7 @@
-//! Cores that are marking: by each number of helpers the pause keeps what the pause alone keeps, and leaves nothing to mark.
+//! Cores that are marking: by each number of helpers the pause marks what the pause alone marks, and leaves nothing to read.
 use final_pause::{Helpers, Open};
 use heap_core::Core;
-use heap_spec::{Event, Reply};
+use heap_spec::{Call, Event, Reply};
 use scripts::command;
 use scripts::limits::LINE_BYTES;
 use std::alloc::Global;
@@ -9,8 +9,8 @@ use std::process::Abort;
 use std::sync::Wait;
 use std::test::Fail;
 use std::thread::Threads;
-use words::Refusal;
-use words::limits::{FIRST_ADDRESS, GRANULE_BYTES, MAX_HELPERS, PAGE_GRANULES};
+use words::limits::{FIRST_ADDRESS, GLOBALS, GRANULE_BYTES, MAX_HELPERS, PAGE_GRANULES};
+use words::{Refusal, Reg, Slot};
 use workloads::make_stress;
 
 const PAGES: u32 = 8;
@@ -49,11 +49,29 @@ pub(crate) fn close_with(
     core.close_with(rt, alloc, helpers, &Open)
 }
 
-// The helped core has nothing left to mark, and then both forget as many objects and keep the same.
-fn compare(rt: &impl Abort, helped: &mut Core, alone: &mut Core) {
-    assert_eq!(rt; ask(helped, Event::Roots), Reply::Done);
+// No global points into an object any more.
+fn clear_globals(core: &mut Core) -> Result<(), Fail> {
+    let slot = Slot::new(0).ok_or("a slot")?;
+    let zero = Reg::new(1).ok_or("a register")?;
+    run(core, b"0 set 1 0\n")?;
+    for number in 0..GLOBALS {
+        let global = words::Global::new(number).ok_or("a global")?;
+        let _reply = ask(core, Event::Mutator(slot, Call::GlobalPut(global, zero)));
+    }
+    Ok(())
+}
+
+// Lets go of every root, after which the end of a cycle keeps what is marked and no more.
+pub(crate) fn drop_roots(core: &mut Core) -> Result<(), Fail> {
+    clear_globals(core)?;
+    run(core, b"0 detach\n1 detach\n2 detach\n")
+}
+
+// The helped core has nothing left to read, and its marks alone keep what the other one keeps.
+fn compare(rt: &impl Abort, helped: &mut Core, alone: &mut Core) -> Result<(), Fail> {
     assert_eq!(rt; ask(helped, Event::Mark(u64::MAX)), Reply::Count(0));
     assert_eq!(rt; ask(helped, Event::Retrace), Reply::Count(0));
+    drop_roots(helped)?;
     assert_eq!(rt; ask(helped, Event::Finish), ask(alone, Event::Finish));
     for granule in 0..PAGE_GRANULES * u64::from(PAGES) {
         let address = FIRST_ADDRESS + GRANULE_BYTES * granule;
@@ -62,6 +80,7 @@ fn compare(rt: &impl Abort, helped: &mut Core, alone: &mut Core) {
             "at {address}"
         );
     }
+    Ok(())
 }
 
 // Two cores to which the same calls were made, one of them with so many helpers.
@@ -77,8 +96,7 @@ fn check(
     run(alone, text)?;
     let helpers = Helpers::new(number).ok_or("a number of helpers")?;
     assert_eq!(rt; close_with(rt, alloc, helped, helpers), Ok(()));
-    compare(rt, helped, alone);
-    Ok(())
+    compare(rt, helped, alone)
 }
 
 // The same on new cores.

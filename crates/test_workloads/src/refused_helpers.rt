@@ -1,6 +1,6 @@
 //! A pause with helpers where memory or a thread is refused. By itself this runs with ample memory and threads enough; `rt try
 //! --test --fail-alloc N` refuses the N-th request, and `tests/refused_threads.sh` refuses each thread in turn.
-use crate::helped_cores::{ask, close_with, run};
+use crate::helped_cores::{ask, close_with, drop_roots, run};
 use final_pause::Helpers;
 use heap_core::Core;
 use heap_spec::{Event, Reply};
@@ -21,14 +21,15 @@ fn is_kept(core: &Core, address: u64) -> bool {
     core.kept_at(address).is_some()
 }
 
-// Nothing is left to mark, and the third object alone goes.
-fn ends(rt: &impl Abort, core: &mut Core) {
-    assert_eq!(rt; ask(core, Event::Roots), Reply::Done);
+// Nothing is left to read, and the third object alone isn't marked.
+fn ends(rt: &impl Abort, core: &mut Core) -> Result<(), Fail> {
     assert_eq!(rt; ask(core, Event::Mark(1)), Reply::Count(0));
+    drop_roots(core)?;
     assert_eq!(rt; ask(core, Event::Finish), Reply::Count(1));
     assert!(rt; is_kept(core, FIRST_ADDRESS));
     assert!(rt; is_kept(core, FIRST_ADDRESS + 16));
     assert!(rt; !is_kept(core, FIRST_ADDRESS + 32));
+    Ok(())
 }
 
 fn close(
@@ -39,8 +40,7 @@ fn close(
     run(core, MARKING.as_bytes())?;
     let helpers = Helpers::new(MAX_HELPERS).ok_or("eight helpers")?;
     assert_eq!(rt; close_with(rt, alloc, core, helpers), Ok(()));
-    ends(rt, core);
-    Ok(())
+    ends(rt, core)
 }
 
 /// What is refused once the core is there, memory or a thread, changes no reply.
