@@ -1,5 +1,5 @@
 #!/usr/bin/env bash
-# Tests of the script `mpheap` at the top of the repository, over a copy of the tree. What the script alone decides is tested
+# Tests of the wrapper `mpheap` at the top of the repository, over a copy of the tree. What the wrapper alone decides is tested
 # with a stand-in for rt, which notes how it was called and answers as it is told; two runs at the end are of the real rt,
 # so that the stand-in's answers are known to be rt's, and one more runs examples/. It takes about two minutes, and leaves nothing
 # behind.
@@ -41,7 +41,7 @@ lacks() {
     esac
 }
 
-# call WORDS..: runs the script in the current folder, and keeps its status, output and errors.
+# call WORDS..: runs the wrapper in the current folder, and keeps its status, output and errors.
 call() {
     rm -f "$room"/seen/*
     status=0
