@@ -1,8 +1,8 @@
 #!/usr/bin/env bash
 # Tests of the wrapper `mpheap` at the top of the repository, over a copy of the tree. What the wrapper alone decides is tested
 # with a stand-in for rt, which notes how it was called and answers as it is told; two runs at the end are of the real rt,
-# so that the stand-in's answers are known to be rt's, and one more runs examples/. It takes about two minutes, and leaves nothing
-# behind.
+# so that the stand-in's answers are known to be rt's, and one more runs examples/. At the end it calls tests/replay.sh. It takes
+# about two minutes, and leaves nothing behind.
 set -uo pipefail
 top=$(dirname "$(dirname "$(readlink -f "${BASH_SOURCE[0]}")")")
 room=$(mktemp -d)
@@ -389,6 +389,7 @@ failed_builds_prove_nothing
 found_from_everywhere
 real_runs
 examples_have_their_replies
+is "replay and record end as they are to" "" "$("$top/tests/replay.sh" 2>&1)"
 is "no folder is left behind" "" "$(ls -A "$TMPDIR")"
 echo "wrapper: $passed passed, $failed failed"
 [ "$failed" = 0 ]
