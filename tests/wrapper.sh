@@ -1,8 +1,8 @@
 #!/usr/bin/env bash
-# Tests of the script `mpheap` at the top of the repository, over a copy of the tree. What the script alone decides is tested
+# Tests of the wrapper `mpheap` at the top of the repository, over a copy of the tree. What the wrapper alone decides is tested
 # with a stand-in for rt, which notes how it was called and answers as it is told; two runs at the end are of the real rt,
-# so that the stand-in's answers are known to be rt's, one more runs examples/, and one the program `replay`. It takes about
-# two minutes, and leaves nothing behind.
+# so that the stand-in's answers are known to be rt's, and one more runs examples/. At the end it calls tests/replay.sh. It takes
+# about two minutes, and leaves nothing behind.
 set -uo pipefail
 top=$(dirname "$(dirname "$(readlink -f "${BASH_SOURCE[0]}")")")
 room=$(mktemp -d)
@@ -41,7 +41,7 @@ lacks() {
     esac
 }
 
-# call WORDS..: runs the script in the current folder, and keeps its status, output and errors.
+# call WORDS..: runs the wrapper in the current folder, and keeps its status, output and errors.
 call() {
     rm -f "$room"/seen/*
     status=0
@@ -376,37 +376,6 @@ examples_have_their_replies() {
     done
 }
 
-# example_block N: the lines of the Nth block of the example in docs/REPLAY.md.
-example_block() {
-    awk -v wanted="$1" '/^## An example/ { here = 1 } here && /^```/ { fence++; next } fence == 2 * wanted - 1' "$top/docs/REPLAY.md"
-}
-
-# run_is NAME STATUS ANSWER WORDS..: a written run is standard input, and with these words `replay` is to end so.
-run_is() {
-    cat >"$runs/$1"
-    printf '%s' "${3:+$3$'\n'}" >"$runs/$1.stdout"
-    lines "${@:4}" >"$runs/$1.args"
-    echo "case=$1 run=ended status=$2 runners=1 output=expected proved=no" >>"$room/wanted"
-}
-
-# The program `replay` on the example of docs/REPLAY.md, and on what isn't legal, by an unproved build: what it prints, and
-# each of its statuses.
-written_runs_are_judged() {
-    runs=$room/runs
-    mkdir "$runs"
-    example_block 1 | run_is legal 0 legal --pages 1 {}
-    example_block 1 | sed '7s/ - .*//' | run_is unnamed 0 legal --pages 1 {}
-    example_block 1 | sed '7s/=>.*/=> 0 -/' | run_is breaks 1 "$(example_block 2)" --pages 1 {}
-    example_block 1 | sed '7s/=>.*//' | run_is broken 2 "line 7: not a line of a run" --pages 1 {}
-    printf 'attach => mutator 0\n\377\n' | run_is no_text 1 "" --pages 1 {}
-    run_is no_file 1 "" --pages 1 no.replay </dev/null
-    run_is no_page 2 "" --pages 0 {} </dev/null
-    run_is many_pages 2 "" --pages 1025 {} </dev/null
-    run_is no_words 2 "" --pages 1 </dev/null
-    (cd "$tree/crates/replay" && rt try --cases "$runs") >"$room/out" 2>&1
-    is "replay answers written runs" "$(sort "$room/wanted")" "$(grep ^case= "$room/out" | sort)"
-}
-
 open_room
 usage_comes_first
 words_stay_as_they_are
@@ -420,7 +389,7 @@ failed_builds_prove_nothing
 found_from_everywhere
 real_runs
 examples_have_their_replies
-written_runs_are_judged
+is "replay and record end as they are to" "" "$("$top/tests/replay.sh" 2>&1)"
 is "no folder is left behind" "" "$(ls -A "$TMPDIR")"
 echo "wrapper: $passed passed, $failed failed"
 [ "$failed" = 0 ]

@@ -15,15 +15,15 @@ use std::{io, thread};
 use words::limits::MAX_PAGES;
 use words::{Kind, Reg};
 
-/// The calls of each mutator.
+// The calls of each mutator.
 const CALLS: u64 = 200_000;
 
 const ROUNDS: u8 = 10;
 
-/// The most mutators at once.
+// The most mutators at once.
 const CREW: usize = 4;
 
-/// A mutator with an object of its own. It is detached where it is dropped.
+// A mutator with an object of its own. It is detached where it is dropped.
 struct Caller<'a, J: Naming, R: Wait> {
     rt: &'a R,
     heap: &'a SharedHeap<J>,

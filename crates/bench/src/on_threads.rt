@@ -12,7 +12,7 @@ use std::time::Instant;
 use workloads::limits::MAX_STEPS;
 use workloads::{Workload, make_stress, run_threads};
 
-/// A store and a load of each mutator.
+// A store and a load of each mutator.
 const PAIRS: u32 = 50_000;
 
 const LINES: u64 = 100_000;
@@ -21,13 +21,13 @@ const ROUNDS: u8 = 5;
 
 const PAGES: u32 = 8;
 
-/// A store and a load.
+// A store and a load.
 fn put_pair(lines: &mut String, slot: u32) -> Result<(), AllocError> {
     write!(lines, "{slot} store 1 0 2\n{slot} load 3 1 0\n")?;
     Ok(())
 }
 
-/// A mutator's lines: it has an object of its own, which it stores to and loads from.
+// A mutator's lines: it has an object of its own, which it stores to and loads from.
 fn put_lines(lines: &mut String, slot: u32) -> Result<(), AllocError> {
     write!(lines, "{slot} alloc 1 2 normal\n")?;
     for _ in 0..PAIRS {
@@ -36,7 +36,7 @@ fn put_lines(lines: &mut String, slot: u32) -> Result<(), AllocError> {
     Ok(())
 }
 
-/// So many mutators, each with its lines.
+// So many mutators, each with its lines.
 fn put_all(lines: &mut String, mutators: u32) -> Result<(), AllocError> {
     for _ in 0..mutators {
         lines.push_str("attach\n")?;
@@ -47,7 +47,7 @@ fn put_all(lines: &mut String, mutators: u32) -> Result<(), AllocError> {
     Ok(())
 }
 
-/// Nanoseconds of a run, the replies of which are not printed. A run that memory is refused to tells nothing.
+// Nanoseconds of a run, the replies of which are not printed. A run that memory is refused to tells nothing.
 fn cost<R: Threads + Wait + Sync + Clock>(
     rt: &R,
     alloc: Global,
@@ -92,7 +92,7 @@ fn time_lines<R: Threads + Wait + Sync + Eprint + Clock>(
     time_workload(rt, alloc, name, &workload, LINES * u64::from(mutators))
 }
 
-/// A line of a random script, read as a line of a workload.
+// A line of a random script, read as a line of a workload.
 fn time_read<R: Eprint + Clock>(rt: &R, alloc: Global, text: &[u8]) -> io::Result<()> {
     let start = Instant::now(rt)?;
     let Ok(_workload) = Workload::read(alloc, &mut Std::new(text)) else {
@@ -102,7 +102,7 @@ fn time_read<R: Eprint + Clock>(rt: &R, alloc: Global, text: &[u8]) -> io::Resul
     report(rt, "workload_line_read", read, u64::from(MAX_STEPS), 0)
 }
 
-/// A line of a random script, made, and read.
+// A line of a random script, made, and read.
 fn time_random<R: Eprint + Clock>(rt: &R, alloc: Global) -> io::Result<()> {
     let start = Instant::now(rt)?;
     let Ok(text) = make_stress(alloc, 1, 16, MAX_STEPS) else {

@@ -4,67 +4,80 @@
 //! collection forgot; the heap is asked for both by calls that are no events ([`recording::Recorder`]).
 #![tactic(auto)]
 
+use commands::{Fault, end, own_words};
 use heap_core::Core;
 use recording::Recorder;
-use scripts::command;
 use scripts::limits::LINE_BYTES;
-use std::alloc::{AllocError, Global};
+use scripts::{Std, command};
+use std::alloc::Global;
+use std::fs;
 use std::process::ExitCode;
-use std::{env, fs};
 use written_runs::{line_text, words_given};
 
-// The line that is written of a command, if it is one.
+// The line that is written of a command, which is the line of this number in its script.
 fn written(
     alloc: Global,
     recorder: &mut Recorder,
+    number: u64,
     line: &str,
-) -> Result<Option<String>, AllocError> {
+) -> Result<String, Fault> {
     if line.len() > LINE_BYTES {
-        return Ok(None);
+        return Err(Fault::BadLine(number));
     }
     let Some(event) = command(line.as_bytes()) else {
-        return Ok(None);
+        return Err(Fault::BadLine(number));
     };
-    let reply = recorder.act(&event)?;
-    let text = line_text(alloc, line, &reply, recorder.hint())?;
-    Ok(Some(text))
+    let Ok(reply) = recorder.act(&event) else {
+        return Err(Fault::Memory);
+    };
+    match line_text(alloc, line, &reply, recorder.hint()) {
+        Ok(text) => Ok(text),
+        Err(_) => Err(Fault::Memory),
+    }
 }
 
-// Prints the lines that are written of a script's commands, and answers the program's status.
-fn print_run(rt: &HostRuntime, recorder: &mut Recorder, script: &str) -> u8 {
+// Prints the lines that are written of a script's commands.
+fn print_run(rt: &HostRuntime, recorder: &mut Recorder, script: &str) -> Result<(), Fault> {
+    let mut number = 0u64;
     for line in script.split_inclusive('\n') {
+        number = number.wrapping_add(1);
         let line = line.strip_suffix('\n').unwrap_or(line);
-        let Ok(Some(text)) = written(rt.alloc(), recorder, line) else {
-            return 2;
-        };
+        let text = written(rt.alloc(), recorder, number, line)?;
         let Ok(()) = println!(rt; "{text}") else {
-            return 1;
+            return Err(Fault::Write);
         };
     }
-    0
+    Ok(())
 }
 
-// Runs the script of a file on a new heap, and answers the program's status.
-fn record(rt: &HostRuntime, pages: u32, file: &str) -> u8 {
+// Runs the script of a file on a new heap.
+fn record(rt: &HostRuntime, pages: u32, file: &str) -> Result<(), Fault> {
     let Ok(script) = fs::read_to_string(rt, file) else {
-        return 1;
+        return Err(Fault::Read);
     };
     let Ok(core) = Core::new(rt.alloc(), pages) else {
-        return 2;
+        return Err(Fault::Memory);
     };
     let mut recorder = Recorder::new(rt.alloc(), core);
     print_run(rt, &mut recorder, script.as_str())
 }
 
-fn main(rt: HostRuntime) -> ExitCode {
-    let Ok(words) = env::args(&rt) else {
-        return ExitCode::from(2);
-    };
-    let Ok(words) = words.skip(1).collect::<Vec<String>>(rt.alloc()) else {
-        return ExitCode::from(1);
-    };
+// Does what the words say.
+fn obey(rt: &HostRuntime) -> Result<(), Fault> {
+    let words = own_words(rt)?;
     let Some((pages, file)) = words_given(words.as_slice()) else {
-        return ExitCode::from(2);
+        return Err(Fault::BadCommand);
     };
-    ExitCode::from(record(&rt, pages, file))
+    record(rt, pages, file)
+}
+
+fn main(rt: HostRuntime) -> ExitCode {
+    let status = match obey(&rt) {
+        Err(Fault::BadCommand) => {
+            let _ = eprintln!(rt; "record --pages N FILE");
+            Fault::BadCommand.status()
+        }
+        answer => end(answer, &mut Std::new(rt.stderr())),
+    };
+    ExitCode::from(status)
 }

@@ -90,7 +90,7 @@ pub fn run_script<R: Source, W: Sink>(
     run_lines(&mut core, &mut buffer, reader, writer, pages)
 }
 
-/// The answer where replies go into a vector: it takes all bytes, unless it gets no memory.
+// The answer where replies go into a vector: it takes all bytes, unless it gets no memory.
 fn in_memory(answer: Result<(), ScriptError>) -> Result<(), ScriptError>
     ensures write { answer ≡ Err Write → result ≡ Err Memory }
     ensures other { (answer ≡ Err Write → ⊥) → result ≡ answer }

@@ -84,7 +84,7 @@ pub fn open(alloc: Global, value: u64) -> Result<Opened<Register>, AllocError>
     history::open(alloc, value, Register::new(value))
 }
 
-/// The lowest slot that isn't attached.
+// The lowest slot that isn't attached.
 fn free_slot(register: &Register) -> Option<u8>
     ensures { IfSome result (λ k. (k < collector) × (slice_index_or register.now.attached k false ≡ false)) }
 {

@@ -17,15 +17,15 @@ use std::thread::Threads;
 use words::limits::MAX_HELPERS;
 use words::{Kind, Refusal};
 
-/// How many nodes are in the list before the cycle begins, and how many come while it is marking.
+// How many nodes are in the list before the cycle begins, and how many come while it is marking.
 const FIRST: u64 = 40;
 
 const MORE: u64 = 20;
 
-/// How many nodes leave the list before the next cycle begins.
+// How many nodes leave the list before the next cycle begins.
 const FEWER: u64 = 10;
 
-/// What the ends of cycles answered, and the words of the list at last.
+// What the ends of cycles answered, and the words of the list at last.
 #[derive(Clone, Copy, Debug, PartialEq, Eq)]
 struct Outcome {
     early: Result<u64, Refusal>,

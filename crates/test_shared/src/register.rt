@@ -16,7 +16,7 @@ use std::thread::Threads;
 
 const CALLS: usize = 10_000;
 
-/// Calls, and room for their replies.
+// Calls, and room for their replies.
 #[derive(Drop)]
 struct Lines {
     calls: Vec<Call>,

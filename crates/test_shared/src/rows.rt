@@ -13,7 +13,7 @@ use std::test::Fail;
 use words::limits::FIRST_ADDRESS;
 use words::{Kind, Refusal, Slot};
 
-/// What a command is to be answered.
+// What a command is to be answered.
 #[derive(Clone, Copy)]
 enum Wanted {
     Is(Reply),

@@ -63,8 +63,8 @@ fn two_collections_are_counted_by_all(rt: HostRuntime) -> Result<(), Fail> {
     Ok(())
 }
 
-/// Where memory is refused, at whichever request, the answer is that, and the same call made again opens a heap. By itself
-/// this runs with ample memory; `rt try --test --fail-alloc N` refuses the N-th request.
+// Where memory is refused, at whichever request, the answer is that, and the same call made again opens a heap. By itself
+// this runs with ample memory; `rt try --test --fail-alloc N` refuses the N-th request.
 #[test]
 fn a_refused_open_can_be_made_again(rt: HostRuntime) -> Result<(), Fail> {
     let opened = match open(rt.alloc(), 4) {

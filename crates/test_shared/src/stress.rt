@@ -27,16 +27,16 @@ const PAGES: u32 = 8;
 /// Each actor makes at least so many calls.
 pub(crate) const CALLS: u64 = 100_000;
 
-/// The most turns of a mutator: one in five may make no call, where the heap has no room and the list is empty.
+// The most turns of a mutator: one in five may make no call, where the heap has no room and the list is empty.
 const TURNS: u64 = 2 * CALLS;
 
-/// The longest list that a mutator keeps.
+// The longest list that a mutator keeps.
 const LONGEST: usize = 24;
 
 // How many nodes the heap has room for: whoever reads more has seen cells used again.
 const NODES: u64 = 8 * 256;
 
-/// Calls, words that were read back, and words that were lost.
+// Calls, words that were read back, and words that were lost.
 #[derive(Clone, Copy)]
 struct Tally {
     calls: u64,
@@ -44,7 +44,7 @@ struct Tally {
     lost: u64,
 }
 
-/// A mutator with its list: what it pushed is what it is to pop.
+// A mutator with its list: what it pushed is what it is to pop.
 #[derive(Drop)]
 struct Player<'a, J: Naming, R: Wait> {
     me: Attached<'a, J, R>,
@@ -113,8 +113,8 @@ fn play<'a, J: Naming, R: Wait>(player: Player<'a, J, R>) -> Player<'a, J, R> {
     player
 }
 
-/// What the test looks at: calls of the mutator that made fewest, words of all that were read back or lost, and cycles that
-/// ended.
+// What the test looks at: calls of the mutator that made fewest, words of all that were read back or lost, and cycles that
+// ended.
 #[derive(Clone, Copy)]
 struct Found {
     all: Tally,

@@ -21,7 +21,7 @@ use words::limits::SLOTS;
 // How often a mutator looks for the other's flag before it gives up.
 const TURNS: u64 = 1_000_000_000;
 
-/// A mutator in a thread, and what it found.
+// A mutator in a thread, and what it found.
 #[derive(Drop)]
 struct Job<'a, J: Naming, R: Wait> {
     me: Attached<'a, J, R>,

@@ -6,7 +6,7 @@ use scripts::ScriptError;
 use std::process::Abort;
 use std::test::Fail;
 
-/// A line is bad as the first of its script, and as the second.
+// A line is bad as the first of its script, and as the second.
 fn check_bad(rt: &impl Abort, scene: &mut Scene, name: &str, line: &str) -> Result<(), Fail> {
     let first = format!(in scene.alloc; "{line}\nattach\n")?;
     let mut input = Script::new(first.as_bytes());
@@ -29,7 +29,7 @@ fn bad_lines_end_the_script(rt: HostRuntime) -> Result<(), Fail> {
     Ok(())
 }
 
-/// A byte above 127 makes its line bad.
+// A byte above 127 makes its line bad.
 #[test]
 fn byte_255(rt: HostRuntime) -> Result<(), Fail> {
     let mut scene = Scene::new(rt.alloc())?;
@@ -39,7 +39,7 @@ fn byte_255(rt: HostRuntime) -> Result<(), Fail> {
     Ok(())
 }
 
-/// A line is bad once its 256th byte was read, and the reader isn't asked again, which would fail.
+// A line is bad once its 256th byte was read, and the reader isn't asked again, which would fail.
 #[test]
 fn line_too_long(rt: HostRuntime) -> Result<(), Fail> {
     let mut scene = Scene::new(rt.alloc())?;
@@ -53,7 +53,7 @@ fn line_too_long(rt: HostRuntime) -> Result<(), Fail> {
     Ok(())
 }
 
-/// A line of 255 bytes is read to its end before it is judged.
+// A line of 255 bytes is read to its end before it is judged.
 #[test]
 fn longest_line(rt: HostRuntime) -> Result<(), Fail> {
     let mut scene = Scene::new(rt.alloc())?;
@@ -64,7 +64,7 @@ fn longest_line(rt: HostRuntime) -> Result<(), Fail> {
     Ok(())
 }
 
-/// Names and lines, without their newlines.
+// Names and lines, without their newlines.
 const BAD_LINES: [(&str, &str); 68] = [
     ("bad_line_empty_line", ""),
     ("bad_line_trailing_space", "attach "),

@@ -19,20 +19,20 @@ const PAGES: u32 = 8;
 
 const CYCLE: &str = "gc begin\ngc roots\ngc mark 8\ngc retrace\ngc finish\n";
 
-/// A number that is stored and loaded.
+// A number that is stored and loaded.
 fn put_number(lines: &mut String, slot: u32, number: u32) -> Result<(), AllocError> {
     write!(lines, "{slot} set 2 {number}\n")?;
     write!(lines, "{slot} store 1 0 2\n{slot} load 3 1 0\n")?;
     Ok(())
 }
 
-/// The replies to it.
+// The replies to it.
 fn put_replies(replies: &mut String, number: u32) -> Result<(), AllocError> {
     write!(replies, "ok\nok\n{number}\n")?;
     Ok(())
 }
 
-/// The lines of a mutator, and its replies behind them.
+// The lines of a mutator, and its replies behind them.
 fn put_mutator(lines: &mut String, replies: &mut String, slot: u32) -> Result<(), AllocError> {
     write!(lines, "{slot} alloc 1 2 normal\n")?;
     write!(replies, "mutator {slot}\nok\n")?;

@@ -16,7 +16,7 @@ use workloads::{RunError, make_stress};
 
 const WORKLOAD: &str = "attach\nattach\n0 alloc 1 3 normal\ngc begin\n1 set 2 77\ngc finish\n";
 
-/// A reader that fails at one of its calls is asked no more.
+// A reader that fails at one of its calls is asked no more.
 fn check_read_fault(rt: &impl Abort, alloc: Global, input: &mut Script<'_>, call: usize) {
     assert_eq!(rt; mutators_of(alloc, input), Err(ScriptError::Read));
     assert_eq!(rt; input.calls, call.saturating_add(1));
@@ -32,7 +32,7 @@ fn every_read_fails(rt: HostRuntime) {
     }
 }
 
-/// A workload that isn't read to its end is not run: no call begins, and nothing is written.
+// A workload that isn't read to its end is not run: no call begins, and nothing is written.
 fn check_not_run<R: Threads + Wait + Abort + Sync>(
     rt: &R,
     alloc: Global,
@@ -70,7 +70,7 @@ fn no_thread_starts_before_all_is_read(rt: HostRuntime) -> Result<(), Fail> {
     Ok(())
 }
 
-/// One byte a call is read as all at once.
+// One byte a call is read as all at once.
 #[test]
 fn short_reads(rt: HostRuntime) {
     let mut input = Script::failing_at(WORKLOAD.as_bytes(), 1, usize::MAX);
@@ -93,8 +93,8 @@ fn draw_again(alloc: Global) -> Result<Vec<u8>, RunError> {
     }
 }
 
-/// Where memory is refused, at whichever request, the answer is that, and the same call made again gives the usual one. By itself this
-/// runs with ample memory; `rt try --test --fail-alloc N` refuses the N-th request.
+// Where memory is refused, at whichever request, the answer is that, and the same call made again gives the usual one. By itself this
+// runs with ample memory; `rt try --test --fail-alloc N` refuses the N-th request.
 #[test]
 fn refused_memory(rt: HostRuntime) -> Result<(), Fail> {
     assert_eq!(&rt; mutators_again(rt.alloc()), Ok(2));

@@ -4,10 +4,10 @@ use final_pause::{COLLECTOR, FIRST_HELPER, Gate};
 use std::sync::atomic::{AtomicU64, Ordering};
 use std::thread;
 
-/// How often an actor looks for the others before it gives up.
+// How often an actor looks for the others before it gives up.
 const TURNS: u64 = 10_000_000;
 
-/// Waits until as many have come as are awaited, or notes that it gave up.
+// Waits until as many have come as are awaited, or notes that it gave up.
 fn await_all(there: &AtomicU64, awaited: u64, missed: &AtomicU64) {
     for _ in 0..TURNS {
         if there.load(Ordering::SeqCst) >= awaited {

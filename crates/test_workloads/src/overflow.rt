@@ -34,7 +34,7 @@ fn push_loads(script: &mut String, replies: &mut String) -> Result<(), Fail> {
     Ok(())
 }
 
-/// The objects, lines of the collector by which none of them goes, and the numbers again.
+// The objects, lines of the collector by which none of them goes, and the numbers again.
 fn check_targets(
     rt: &impl Abort,
     scene: &mut Scene,

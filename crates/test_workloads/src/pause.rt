@@ -13,7 +13,7 @@ use std::thread::Threads;
 
 const PAGES: u32 = 4;
 
-/// Two of the three objects stay in registers, so a pause has two claims.
+// Two of the three objects stay in registers, so a pause has two claims.
 const LINES: &str =
     "attach\n0 alloc 1 2 normal\n0 alloc 2 2 normal\n0 alloc 3 2 normal\n0 set 3 0\n0 load 4 1 0\ngc begin\ngc finish\n";
 
@@ -39,7 +39,7 @@ fn check_pause<R: Threads + Wait + Abort + Sync>(
     assert_eq!(rt; output.text(), Some(REPLIES), "{helpers} helpers");
 }
 
-/// The registers that hold objects are read by two helpers, where there are two or more.
+// The registers that hold objects are read by two helpers, where there are two or more.
 #[test]
 fn parallel_pause(rt: HostRuntime) -> Result<(), Fail> {
     let mut output = Taken::new(rt.alloc())?;
@@ -73,9 +73,9 @@ fn check_memory<R: Threads + Wait + Abort + Sync>(rt: &R, alloc: Global, output:
     assert_eq!(rt; output.text(), Some(REPLIES));
 }
 
-/// Where memory or a thread is refused, the answer is that, nothing is printed, and the same call made again prints the replies; where
-/// only the helpers' is, the pause goes on without them. By itself this runs with ample memory; `rt try --test --fail-alloc N` refuses
-/// the N-th request.
+// Where memory or a thread is refused, the answer is that, nothing is printed, and the same call made again prints the replies; where
+// only the helpers' is, the pause goes on without them. By itself this runs with ample memory; `rt try --test --fail-alloc N` refuses
+// the N-th request.
 #[test]
 fn refused_memory(rt: HostRuntime) {
     let Ok(mut output) = Taken::new(rt.alloc()) else {

@@ -8,14 +8,14 @@ use scripts::number;
 use words::limits::{PAGE_GRANULES, STACK_WORDS};
 use workloads::Workload;
 
-/// Printed lines that are still to be compared.
+// Printed lines that are still to be compared.
 #[derive(Drop)]
 struct Printed<'a> {
     rest: &'a str,
 }
 
 impl<'a> Printed<'a> {
-    /// The next line; where there is none an empty one, which is no reply.
+    // The next line; where there is none an empty one, which is no reply.
     fn line(&mut self) -> &'a str {
         let Some((line, rest)) = self.rest.split_once('\n') else {
             return "";
@@ -33,13 +33,13 @@ fn is_no_object(line: &str) -> bool {
     line == "refused 3 NoObject"
 }
 
-/// A count of at most so many.
+// A count of at most so many.
 fn is_count(line: &str, most: u64) -> bool {
     number(line.as_bytes()).is_some_and(|count| count <= most)
 }
 
-/// What lines told so far: the depth of a mutator's stack, which nobody else changes, how many objects came and went, and the phase and
-/// the number of the collector, which nobody else changes either.
+// What lines told so far: the depth of a mutator's stack, which nobody else changes, how many objects came and went, and the phase and
+// the number of the collector, which nobody else changes either.
 #[derive(Drop)]
 struct Told {
     stack: u16,
@@ -74,7 +74,7 @@ impl Told {
         line == "ok"
     }
 
-    /// A register may keep the address of a freed object, where another one may have come since.
+    // A register may keep the address of a freed object, where another one may have come since.
     fn free(&mut self, line: &str) -> bool {
         if is_no_object(line) || line == "refused 4 NotBase" {
             return true;
@@ -83,7 +83,7 @@ impl Told {
         line == "ok"
     }
 
-    /// Whether a mutator's call may be answered this line.
+    // Whether a mutator's call may be answered this line.
     fn may_answer(&mut self, call: Call, line: &str) -> bool {
         match call {
             Call::Copy(_, _) | Call::Set(_, _) | Call::GlobalPut(_, _) => line == "ok",
@@ -98,7 +98,7 @@ impl Told {
         }
     }
 
-    /// The end of a cycle, which forgets objects that were made.
+    // The end of a cycle, which forgets objects that were made.
     fn collect(&mut self, line: &str) -> bool {
         self.is_marking = false;
         self.collections = self.collections.saturating_add(1);
@@ -114,7 +114,7 @@ impl Told {
         line == "ok"
     }
 
-    /// Whether a command is refused in this phase.
+    // Whether a command is refused in this phase.
     fn is_refused(&self, command: &Event) -> bool {
         match command {
             Event::Begin => self.is_marking,
@@ -124,7 +124,7 @@ impl Told {
         }
     }
 
-    /// Whether the collector's command may be answered this line.
+    // Whether the collector's command may be answered this line.
     fn may_be_told(&mut self, command: Event, line: &str) -> bool {
         if self.is_refused(&command) {
             return line == "refused 9 WrongPhase";
@@ -140,7 +140,7 @@ impl Told {
         }
     }
 
-    /// No object went twice, and there was room for those that stayed.
+    // No object went twice, and there was room for those that stayed.
     fn has_room(&self, pages: u32) -> bool {
         let room = u64::from(pages).saturating_mul(PAGE_GRANULES);
         let kept = self.made.checked_sub(self.gone);
@@ -148,7 +148,7 @@ impl Told {
     }
 }
 
-/// A mutator's line with its slot, and its replies.
+// A mutator's line with its slot, and its replies.
 fn may_be_mutators(
     told: &mut Told,
     slot: usize,
@@ -170,7 +170,7 @@ fn may_be_mutators(
     true
 }
 
-/// The collector's line, and its replies.
+// The collector's line, and its replies.
 fn may_be_collectors(told: &mut Told, commands: &[Event], printed: &mut Printed<'_>) -> bool {
     if printed.line() != "collector" {
         return false;

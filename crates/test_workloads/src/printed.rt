@@ -12,7 +12,7 @@ use workloads::{Lines, Replies, print_replies};
 const TEXT: &str =
     "mutator 0\nok\nptr\n268439552\nmutator 1\nmutator 2\nrefused 6 Full\ncollector\n7\n";
 
-/// The replies that print as the text, on one page.
+// The replies that print as the text, on one page.
 fn replies(alloc: Global) -> Result<Replies, AllocError> {
     let mut first = Lines::new(alloc);
     first.push(Reply::Done)?;
@@ -37,7 +37,7 @@ fn replies_are_printed(rt: HostRuntime) -> Result<(), Fail> {
     Ok(())
 }
 
-/// An empty workload prints one line.
+// An empty workload prints one line.
 #[test]
 fn no_replies(rt: HostRuntime) -> Result<(), Fail> {
     let replies = Replies::new(Vec::new(rt.alloc()), Lines::new(rt.alloc()));
@@ -47,7 +47,7 @@ fn no_replies(rt: HostRuntime) -> Result<(), Fail> {
     Ok(())
 }
 
-/// What the writer took before its fault stands, and no call of it follows.
+// What the writer took before its fault stands, and no call of it follows.
 fn check_fault(rt: &impl Abort, alloc: Global, replies: &Replies, call: usize) -> Result<(), Fail> {
     let mut output = Taken::limited(alloc, 1, Some(call))?;
     assert_eq!(rt;

@@ -13,10 +13,10 @@ use std::thread::Threads;
 use words::limits::MAX_PAGES;
 use workloads::{RunError, Workload, make_stress};
 
-/// So many random lines behind the attaches.
+// So many random lines behind the attaches.
 const STEPS: u32 = 300;
 
-/// The lines, and behind each of the collector's a question for its number.
+// The lines, and behind each of the collector's a question for its number.
 fn with_numbers(alloc: Global, text: &[u8]) -> Result<Vec<u8>, AllocError> {
     let mut lines = Vec::new(alloc);
     for line in text.split_inclusive(|byte| *byte == b'\n') {
@@ -28,14 +28,14 @@ fn with_numbers(alloc: Global, text: &[u8]) -> Result<Vec<u8>, AllocError> {
     Ok(lines)
 }
 
-/// The lines of a seed, with questions for the collector's number.
+// The lines of a seed, with questions for the collector's number.
 fn drawn(rt: &impl Abort, alloc: Global, seed: u64, mutators: u8) -> Result<Vec<u8>, RunError> {
     assert!(rt; 1 <= mutators && mutators <= 16);
     let text = make_stress(alloc, seed, mutators, STEPS)?;
     Ok(with_numbers(alloc, text.as_slice())?)
 }
 
-/// What a workload of drawn calls prints is possible.
+// What a workload of drawn calls prints is possible.
 fn check_text<R: Threads + Wait + Abort + Sync>(
     rt: &R,
     alloc: Global,
@@ -50,7 +50,7 @@ fn check_text<R: Threads + Wait + Abort + Sync>(
     Ok(())
 }
 
-/// Each seed with its pages, mutators and helpers; twelve seeds on end have all pairs of the first two.
+// Each seed with its pages, mutators and helpers; twelve seeds on end have all pairs of the first two.
 fn check_seeds<R: Threads + Wait + Abort + Sync>(rt: &R, alloc: Global, output: &mut Taken) {
     for seed in 1..201u64 {
         let pages = [1u32, 2, 8, 64][(seed % 4) as usize];
@@ -70,7 +70,7 @@ fn replies_are_possible(rt: HostRuntime) -> Result<(), Fail> {
     Ok(())
 }
 
-/// The lines of a seed's only mutator.
+// The lines of a seed's only mutator.
 fn alone(alloc: Global, seed: u64) -> Result<Vec<u8>, RunError> {
     let text = make_stress(alloc, seed, 1, STEPS)?;
     let mut kept = Vec::new(alloc);
@@ -82,7 +82,7 @@ fn alone(alloc: Global, seed: u64) -> Result<Vec<u8>, RunError> {
     Ok(kept)
 }
 
-/// One mutator alone is answered on a thread as it is by the script.
+// One mutator alone is answered on a thread as it is by the script.
 fn check_alone<R: Threads + Wait + Abort + Sync>(
     rt: &R,
     alloc: Global,

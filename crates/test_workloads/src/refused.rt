@@ -20,7 +20,7 @@ const SETTING: Setting = Setting {
 // One of each mutator, and three of the collector, beside those of helpers.
 const CALLS: u64 = 19;
 
-/// Each mutator allocates what its register keeps, and a cycle ends: so each reply is the same in every order.
+// Each mutator allocates what its register keeps, and a cycle ends: so each reply is the same in every order.
 fn put_all(lines: &mut String, replies: &mut String) -> Result<(), AllocError> {
     for _ in 0..SLOTS {
         lines.push_str("attach\n")?;
@@ -76,8 +76,8 @@ fn texts(alloc: Global) -> Result<(String, String, Taken), AllocError> {
     Ok((lines, replies, output))
 }
 
-/// Where memory or an actor's thread is refused, the answer is that, nothing is printed, and the same call made again gives the usual
-/// replies; where only the helpers' is, so does the first. Either way each call that began has ended.
+// Where memory or an actor's thread is refused, the answer is that, nothing is printed, and the same call made again gives the usual
+// replies; where only the helpers' is, so does the first. Either way each call that began has ended.
 #[test]
 fn refused_thread(rt: HostRuntime) {
     let Ok((lines, replies, mut output)) = texts(rt.alloc()) else {

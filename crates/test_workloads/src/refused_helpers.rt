@@ -43,7 +43,7 @@ fn close(
     ends(rt, core)
 }
 
-/// What is refused once the core is there, memory or a thread, changes no reply.
+// What is refused once the core is there, memory or a thread, changes no reply.
 #[test]
 fn refused_thread(rt: HostRuntime) -> Result<(), Fail> {
     let Ok(mut core) = Core::new(rt.alloc(), PAGES) else {

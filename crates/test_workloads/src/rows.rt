@@ -17,7 +17,7 @@ const SETTING: Setting = Setting {
     helpers: 1,
 };
 
-/// Workloads, what they answer, and what they print.
+// Workloads, what they answer, and what they print.
 const ROWS: [(&str, Result<(), ScriptError>, &str); 5] = [
     ("", Ok(()), "collector\n"),
     (
@@ -77,7 +77,7 @@ fn check_two<R: Threads + Wait + Abort + Sync>(rt: &R, alloc: Global, output: &m
     );
 }
 
-/// Two mutators that wait for each other's flag, and the second reads what the first has put.
+// Two mutators that wait for each other's flag, and the second reads what the first has put.
 #[test]
 fn two_threads(rt: HostRuntime) -> Result<(), Fail> {
     let mut output = Taken::new(rt.alloc())?;
@@ -96,7 +96,7 @@ fn check_meeting<R: Threads + Wait + Abort + Sync>(rt: &R, alloc: Global, output
     assert_eq!(rt; gate.there.load(Ordering::SeqCst), 17);
 }
 
-/// Sixteen mutators and the collector are all there before one of them makes its first call.
+// Sixteen mutators and the collector are all there before one of them makes its first call.
 #[test]
 fn seventeen_actors_meet(rt: HostRuntime) -> Result<(), Fail> {
     let mut output = Taken::new(rt.alloc())?;

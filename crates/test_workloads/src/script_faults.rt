@@ -8,13 +8,13 @@ use std::alloc::Global;
 use std::process::Abort;
 use std::test::Fail;
 
-/// How many lines the script has, each with a reply of one line.
+// How many lines the script has, each with a reply of one line.
 const LINES: usize = 18;
 
-/// So many bytes a call, and how many calls it takes to read the script and see its end.
+// So many bytes a call, and how many calls it takes to read the script and see its end.
 const READS: [(usize, usize); 3] = [(1, 229), (7, 34), (4_096, 2)];
 
-/// The replies to so many first lines.
+// The replies to so many first lines.
 fn replies_to(lines: usize) -> &'static str {
     let mut left = lines;
     for (i, byte) in REPLIES.as_bytes().iter().enumerate() {
@@ -28,7 +28,7 @@ fn replies_to(lines: usize) -> &'static str {
     REPLIES
 }
 
-/// The complete lines before the fault are answered, and no call of the reader follows it.
+// The complete lines before the fault are answered, and no call of the reader follows it.
 fn check_read_fault(rt: &impl Abort, scene: &mut Scene, most: usize, call: usize) {
     let read = SCRIPT.as_bytes().iter().take(call.saturating_mul(most));
     let lines = read.filter(|b| **b == b'\n').count();
@@ -49,7 +49,7 @@ fn every_read_fails(rt: HostRuntime) -> Result<(), Fail> {
     Ok(())
 }
 
-/// One byte a call is read as all at once.
+// One byte a call is read as all at once.
 #[test]
 fn short_reads(rt: HostRuntime) -> Result<(), Fail> {
     let mut scene = Scene::new(rt.alloc())?;
@@ -61,7 +61,7 @@ fn short_reads(rt: HostRuntime) -> Result<(), Fail> {
     Ok(())
 }
 
-/// The script gets this answer from the writer, which has taken so much of the replies.
+// The script gets this answer from the writer, which has taken so much of the replies.
 fn check_written(
     rt: &impl Abort,
     output: &mut Taken,
@@ -75,7 +75,7 @@ fn check_written(
     assert_eq!(rt; output.text(), written);
 }
 
-/// What the writer took before stands, and no call of it follows the fault.
+// What the writer took before stands, and no call of it follows the fault.
 fn check_write_fault(
     rt: &impl Abort,
     output: &mut Taken,
@@ -87,7 +87,7 @@ fn check_write_fault(
     assert_eq!(rt; output.calls, call.saturating_add(1));
 }
 
-/// A writer that takes one byte a call, and one that takes all, fail at this call, or take none.
+// A writer that takes one byte a call, and one that takes all, fail at this call, or take none.
 fn check_call(
     rt: &impl Abort,
     output: &mut Taken,
@@ -107,7 +107,7 @@ fn check_call(
     check_write_fault(rt, output, call, written, alloc);
 }
 
-/// Where a writer fails, and where it takes none of some bytes, that call is the last.
+// Where a writer fails, and where it takes none of some bytes, that call is the last.
 #[test]
 fn every_write_fails(rt: HostRuntime) -> Result<(), Fail> {
     let mut output = Taken::new(rt.alloc())?;
@@ -121,7 +121,7 @@ fn every_write_fails(rt: HostRuntime) -> Result<(), Fail> {
     Ok(())
 }
 
-/// A writer that takes one byte a call gets all.
+// A writer that takes one byte a call gets all.
 #[test]
 fn short_writes(rt: HostRuntime) -> Result<(), Fail> {
     let mut slow = Taken::limited(rt.alloc(), 1, None)?;
@@ -130,8 +130,8 @@ fn short_writes(rt: HostRuntime) -> Result<(), Fail> {
     Ok(())
 }
 
-/// Where memory is refused, at whichever request, nothing was written, and the same script run again prints its replies. By
-/// itself this runs with ample memory; `rt try --test --fail-alloc N` refuses the N-th request.
+// Where memory is refused, at whichever request, nothing was written, and the same script run again prints its replies. By
+// itself this runs with ample memory; `rt try --test --fail-alloc N` refuses the N-th request.
 #[test]
 fn refused_memory(rt: HostRuntime) -> Result<(), Fail> {
     let Ok(mut output) = Taken::new(rt.alloc()) else {

@@ -27,7 +27,7 @@ fn edges_print_their_replies(rt: HostRuntime) -> Result<(), Fail> {
     Ok(())
 }
 
-/// Lines between others, each so many times.
+// Lines between others, each so many times.
 fn check_repeated(rt: &impl Abort, scene: &mut Scene, row: &Repeated) -> Result<(), Fail> {
     let mut script = String::from_str(scene.alloc, row.before.0)?;
     let mut replies = String::from_str(scene.alloc, row.before.1)?;
@@ -59,7 +59,7 @@ fn collections_print_their_replies(rt: HostRuntime) -> Result<(), Fail> {
     check_repeated(&rt, &mut scene, &THOUSAND_LONG_LIST)
 }
 
-/// Three hundred objects that one object points into, each with its number, which are more than the mark stack holds.
+// Three hundred objects that one object points into, each with its number, which are more than the mark stack holds.
 fn check_overflow(
     rt: &impl Abort,
     scene: &mut Scene,
@@ -94,7 +94,7 @@ fn an_overflowing_mark_stack_loses_nothing(rt: HostRuntime) -> Result<(), Fail> 
     check_overflow(&rt, &mut scene, "mark_stack_overflow_in_collect", full)
 }
 
-/// Runs a row from bytes to bytes.
+// Runs a row from bytes to bytes.
 fn check_bytes(rt: &impl Abort, alloc: Global, row: &Row) {
     let name = row.name;
     assert!(rt; 1 <= row.pages && row.pages <= MAX_PAGES, "{name}");

@@ -5,7 +5,7 @@ use std::alloc::Global;
 use std::io::{self, ErrorKind, Read, Write};
 use std::process::Abort;
 
-/// Fails at its first call, and counts its calls.
+// Fails at its first call, and counts its calls.
 #[derive(Drop)]
 struct Flaky {
     kind: ErrorKind,
@@ -17,7 +17,7 @@ impl Flaky {
         Flaky { kind, calls: 0 }
     }
 
-    /// Whether this call, the first, is to fail.
+    // Whether this call, the first, is to fail.
     fn fails(&mut self) -> bool {
         self.calls = self.calls.saturating_add(1);
         self.calls == 1
@@ -46,7 +46,7 @@ impl Write for Flaky {
     }
 }
 
-/// How many calls a reader and a writer get that first fail so, and what the script is answered.
+// How many calls a reader and a writer get that first fail so, and what the script is answered.
 const ROWS: [(
     ErrorKind,
     usize,
@@ -62,7 +62,7 @@ const ROWS: [(
     ),
 ];
 
-/// An empty script from a reader whose first call fails so.
+// An empty script from a reader whose first call fails so.
 fn check_reader(
     rt: &impl Abort,
     alloc: Global,
@@ -76,7 +76,7 @@ fn check_reader(
     assert_eq!(rt; reader.inner.calls, calls);
 }
 
-/// A script of one line into a writer whose first call fails so.
+// A script of one line into a writer whose first call fails so.
 fn check_writer(
     rt: &impl Abort,
     alloc: Global,

@@ -41,7 +41,7 @@ pub fn lines_of(text: &[u8]) -> usize {
     text.iter().filter(|byte| **byte == b'\n').count()
 }
 
-/// All lines of a script of 2,003 are answered, and it is a workload of three mutators.
+// All lines of a script of 2,003 are answered, and it is a workload of three mutators.
 fn check_lines(rt: &impl Abort, alloc: Global, text: &[u8]) {
     assert_eq!(rt; lines_of(text), 2_003);
     let (replies, answer) = run_bytes(alloc, text, 8);

@@ -7,7 +7,7 @@ use scripts::{Failed, Sink, Source, run_script};
 use std::cell::Cell;
 use std::test::Fail;
 
-/// Lines with their replies.
+// Lines with their replies.
 const TALK: [(&str, &str); 6] = [
     ("attach\n", "mutator 0\n"),
     ("0 alloc 1 3 normal\n", "ok\n"),
@@ -17,7 +17,7 @@ const TALK: [(&str, &str); 6] = [
     ("0 detach\n", "ok\n"),
 ];
 
-/// Gives a line a call, and looks first at how much was written.
+// Gives a line a call, and looks first at how much was written.
 #[derive(Drop)]
 struct Asking<'a> {
     next: usize,
@@ -47,7 +47,7 @@ impl Source for Asking<'_> {
     }
 }
 
-/// Takes bytes, and tells how many so far.
+// Takes bytes, and tells how many so far.
 #[derive(Drop)]
 struct Telling<'a> {
     taken: Taken,

@@ -35,7 +35,7 @@ impl Core {
         }
     }
 
-    // Makes the call that an event is.
+    // Apart from `act`, so that its one clause is proved by arms and `act`'s line follows from it.
     #[inline(always)]
     fn serve(&mut self, event: Event) -> Reply
         ensures { IsAct self.old event result self.new }
