@@ -15,8 +15,8 @@ none_in e h = let l = h.1 in omega arith
 
 not_entry : (m : Marking) → IsDone m → (e : Entry) → IsEntry m e → ⊥
 not_entry m d e one =
-    ⊎_elim (λ (h : m.current ≡ Some e). let n : None ≡ Some e = sym d.current ∙ h in absurd (cc n))
-    (λ h. none_in e (subst (λ s. Contains s e) d.stack h)) one
+    ⊎_elim (λ (h : m.current ≡ Some e). let n : None ≡ Some e = sym d.empty.current ∙ h in absurd (cc n))
+    (λ h. none_in e (subst (λ s. Contains s e) d.empty.stack h)) one
 
 not_awaited : (m : Marking) → IsDone m → (f : Found) (i : ℕ) → IsAwaited m f i → ⊥
 not_awaited m d f i a = ⊎_elim (λ h. d.clean _ h) (λ (p : IsPending m f.base i). not_entry m d p.entry p.one) a

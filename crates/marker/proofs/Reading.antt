@@ -38,7 +38,7 @@ module _ (pages : ℕ) (found : ℕ → Option Found) (map : IsMap pages found) 
 
   -- the object of the entry that is being read is the one that has its base
   same : (g : Found) → found g.base ≡ Some g → g.base ≡ x.live.entry.base → x.object ≡ g
-  same g is b = same_Some x.object g (sym x.live.object ∙ ap found (x.live.base ∙ sym b) ∙ is)
+  same g is b = same_Some x.object g (sym x.live.unread.object ∙ ap found (x.live.unread.base ∙ sym b) ∙ is)
 
   went_on : (g : Found) → found g.base ≡ Some g → (i : ℕ) → i < g.len → IsPending x.mid g.base i → IsTargetMarked found new (word_at words (word_address g i)) ⊎ IsAwaited new g i
   went_on g is i lt p =
@@ -65,7 +65,7 @@ module _ (pages : ℕ) (found : ℕ → Option Found) (map : IsMap pages found) 
     dirty_len = extends.dirty_len;
     marks = extends.marks;
     objects = extends.objects;
-    within = λ g is k. words_within pages found map old size words x.object x.live.entry.next n x.live.object x.live.normal x.live.marked x.fits x.reads g is k;
+    within = λ g is k. words_within pages found map old size words x.object x.live.entry.next n x.live.unread.object x.live.unread.normal x.live.unread.marked x.fits x.reads g is k;
     dirtied = extends.dirtied;
     keeps = read_traced;
   }
@@ -75,8 +75,8 @@ module _ (pages : ℕ) (found : ℕ → Option Found) (map : IsMap pages found) 
   less =
       let a = extends.cost in
       let f = x.fits in
-      let c : left found next ≡ x.object.len - next.next = left_new found x.object next x.live.object x.live.normal (sym x.live.base) in
-      let m : left_of found x.mid.current ≡ x.object.len - x.live.entry.next = ap (left_of found) mid_current ∙ left_new found x.object x.live.entry x.live.object x.live.normal (sym x.live.base) in
+      let c : left found next ≡ x.object.len - next.next = left_new found x.object next x.live.unread.object x.live.unread.normal (sym x.live.unread.base) in
+      let m : left_of found x.mid.current ≡ x.object.len - x.live.entry.next = ap (left_of found) mid_current ∙ left_new found x.object x.live.entry x.live.unread.object x.live.unread.normal (sym x.live.unread.base) in
       omega arith
 
   taken : TakesOff found words old new

@@ -24,11 +24,7 @@ pub record IsUnread (found : ℕ → Option Found) (m : Marking) (e : Entry) (f 
 pub record IsLive (found : ℕ → Option Found) (m : Marking) (f : Found) : Type 0 where
   pub entry : Entry
   pub current : m.current ≡ Some entry
-  pub object : found f.base ≡ Some f
-  pub base : f.base ≡ entry.base
-  pub normal : f.kind ≡ Normal
-  pub marked : IsMarked m f.base
-  pub left : entry.next < f.len
+  pub unread : IsUnread found m entry f
 
 -- Entries that have no word to read are dropped, the one that is being read first and then from the top of the stack.
 -- The one that is then on top is the one that is being read; nothing else changes.

@@ -96,13 +96,11 @@ IsClean m = (p : ℕ) → Has m.dirty p → ⊥
 
 -- no page is dirty and no entry is left
 pub record IsDone (m : Marking) : Type 0 where
-  pub clean : (p : ℕ) → Has m.dirty p → ⊥
-  pub current : m.current ≡ None
-  pub stack : m.stack ≡ []
+  pub clean : IsClean m
+  pub empty : IsEmpty m
 
 -- nothing is marked, no page is dirty and no entry is left
 pub record IsFresh (pages : ℕ) (m : Marking) : Type 0 where
   pub marks : IsClear m.marks (PAGE_GRANULES * pages)
   pub dirty : IsClear m.dirty pages
-  pub current : m.current ≡ None
-  pub stack : m.stack ≡ []
+  pub empty : IsEmpty m

@@ -74,4 +74,4 @@ page_words b = if b then PAGE_WORDS else 0
 -- The words that the marker may still have to read: those of dirty pages, those that entries have left, and those of
 -- the pages of objects that are not marked yet.
 unfoldable pub cost : (ℕ → Option Found) → Marking → ℕ
-cost found m = sum_by page_words m.dirty + (left_of found m.current + sum_by (left found) m.stack) + PAGE_WORDS * unmarked found m
+cost found m = sum_by page_words m.dirty + entry_words found m + PAGE_WORDS * unmarked found m

@@ -11,7 +11,7 @@ pub returns-clause-read : goal.returns-clause-read
 returns-clause-read c =
     let e : c.requires.live.entry ≡ c.in-Some.entry = same_Some _ _ (sym c.requires.live.current ∙ sym (ap (λ (m : Marking). m.current) c.self.view_is) ∙ c.in-Some.is) in
     let n = ap (λ (x : Entry). x.next) e in
-    let l = c.requires.live.left in let f = c.from.ensures in let m = c.min-count.ensures in
+    let l = c.requires.live.unread.left in let f = c.from.ensures in let m = c.min-count.ensures in
     record {
       object = c.args.found;
       live = c.requires.live;
