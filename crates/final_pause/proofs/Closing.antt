@@ -7,7 +7,7 @@ use Rattle.words.specs.declared.limits.TheConstants.{FIRST_ADDRESS, GRANULE_BYTE
 use Rattle.words.specs.Layout.{granule}
 use Rattle.marker.specs.Marking.{Marking, IsMarked, IsDone}
 use Rattle.marker.specs.Work.{cost, dirty_pages, newly_pages, entry_words}
-use Rattle.marker.specs.Closure.{Closure}
+use Rattle.marker.specs.Closure.{AreClosed}
 use Rattle.marker.specs.Invariant.{DirtyPageInvariant, AreRootsMarked}
 use Rattle.marker.specs.Growth.{Traces}
 use Rattle.final_pause.proofs.Final.{closure_marked}
@@ -36,7 +36,7 @@ closes_step found words roots reads old mid_reads mid now_reads now c t less = r
 
 pub closed : (pages : ℕ) (found : ℕ → Option Found) (words roots : List ℕ) (reads : ℕ) (old : Marking) (now_reads : ℕ) (now : Marking) → IsMap pages found → DirtyPageInvariant found words old
     → Closes found words roots reads old now_reads now → IsDone now
-    → (f : Found) → found f.base ≡ Some f → (IsMarked now f.base → Closure found words roots (IsMarked old) f) × (Closure found words roots (IsMarked old) f → IsMarked now f.base)
+    → AreClosed found words roots old now
 closed pages found words roots reads old now_reads now map t c d f e = (
   c.traces.within f e,
   (λ k. closure_marked pages found words roots (IsMarked old) now map (c.traces.keeps t) d c.scanned c.traces.marks k),

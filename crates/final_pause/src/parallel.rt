@@ -1,11 +1,10 @@
 //! Closing the marks with helpers.
-ghost use Rattle.std.specs.Prelude.{◌≡◌, ◌*◌, ◌<◌, ◌↔◌, All, IfOk, Some, true, false, length};
+ghost use Rattle.std.specs.Prelude.{◌≡◌, ◌*◌, ◌<◌, All, IfOk, true, false, length};
 ghost use Rattle.words.specs.declared.limits.TheConstants.{PAGE_WORDS};
-ghost use Rattle.block_map.specs.declared.found.Found.{Found};
 ghost use Rattle.block_map.specs.FoundIn.{found_in};
-ghost use Rattle.marker.specs.Marking.{IsMarked, IsDone};
+ghost use Rattle.marker.specs.Marking.{IsDone};
 ghost use Rattle.marker.specs.Invariant.{DirtyPageInvariant, AreRootsMarked};
-ghost use Rattle.marker.specs.Closure.{Closure};
+ghost use Rattle.marker.specs.Closure.{AreClosed};
 ghost use Rattle.marker.specs.Growth.{Traces};
 ghost use Rattle.each_law.specs.Jobs.{HaveRun};
 ghost use Rattle.final_pause.specs.Serving.{IsServing, AreOffered, HasServed};
@@ -125,7 +124,7 @@ pub fn close_marks_with<R: Threads + Wait + Sync, G: Gate>(
     requires pages { length marker.old.dirty ≡ length map.now }
     requires memory { length memory.now ≡ PAGE_WORDS * length map.now }
     requires invariant { DirtyPageInvariant (found_in map.now) memory.now marker.old }
-    ensures closure { (f : Found) → found_in map.now f.base ≡ Some f → (IsMarked marker.new f.base ↔ Closure (found_in map.now) memory.now roots.now (IsMarked marker.old) f) }
+    ensures closure { AreClosed (found_in map.now) memory.now roots.now marker.old marker.new }
     ensures done { IsDone marker.new }
     ensures traces { Traces (found_in map.now) memory.now roots.now marker.old marker.new }
 {

@@ -1,12 +1,11 @@
 //! Closing the marks.
-ghost use Rattle.std.specs.Prelude.{◌≡◌, ◌+◌, ◌*◌, ◌<◌, ◌≤◌, ◌↔◌, [], Some, true, false, length};
+ghost use Rattle.std.specs.Prelude.{◌≡◌, ◌+◌, ◌*◌, ◌<◌, ◌≤◌, [], true, false, length};
 ghost use Rattle.words.specs.declared.limits.TheConstants.{PAGE_WORDS};
-ghost use Rattle.block_map.specs.declared.found.Found.{Found};
 ghost use Rattle.block_map.specs.FoundIn.{found_in};
-ghost use Rattle.marker.specs.Marking.{IsMarked, IsDone};
+ghost use Rattle.marker.specs.Marking.{IsDone};
 ghost use Rattle.marker.specs.Work.{cost, dirty_pages, newly_pages, entry_words};
 ghost use Rattle.marker.specs.Invariant.{DirtyPageInvariant};
-ghost use Rattle.marker.specs.Closure.{Closure};
+ghost use Rattle.marker.specs.Closure.{AreClosed};
 ghost use Rattle.marker.specs.Growth.{Traces};
 
 use block_map::BlockMap;
@@ -18,7 +17,7 @@ pub fn close_marks(marker: &mut Marker, map: &BlockMap, reader: &mut Reader, roo
     requires pages { length marker.old.dirty ≡ length map.now }
     requires memory { length reader.old.words ≡ PAGE_WORDS * length map.now }
     requires invariant { DirtyPageInvariant (found_in map.now) reader.old.words marker.old }
-    ensures closure { (f : Found) → found_in map.now f.base ≡ Some f → (IsMarked marker.new f.base ↔ Closure (found_in map.now) reader.old.words roots.now (IsMarked marker.old) f) }
+    ensures closure { AreClosed (found_in map.now) reader.old.words roots.now marker.old marker.new }
     ensures done { IsDone marker.new }
     ensures traces { Traces (found_in map.now) reader.old.words roots.now marker.old marker.new }
     ensures words { reader.new.words ≡ reader.old.words }

@@ -15,7 +15,7 @@ use Rattle.block_map.specs.declared.found.Found.{Found}
 use Rattle.block_map.specs.FoundIn.{found_in}
 use Rattle.block_map.specs.Objects.{IsMap}
 use Rattle.marker.specs.Marking.{Marking, IsMarked, IsFresh}
-use Rattle.marker.specs.Closure.{Closure}
+use Rattle.marker.specs.Closure.{Closure, AreClosed}
 use Rattle.marker.specs.Growth.{Traces}
 use Rattle.marker.proofs.Closures.{closure_more}
 use Rattle.heap_view.specs.Shows.{ShowsHeap, IsMarkedBirth}
@@ -62,7 +62,7 @@ module _ (c : Contents) (map : IsMap (length c.store.states) (found_in c.store.s
       subst (heap.Closure s (IsMarkedBirth s c.cycle.marking)) f.2 ((closures f.0 there).0 outer)
 
   -- marks that are the marker's closure hold the heap's
-  pub all_marked : (m : Marking) → ((f : Found) → found_in c.store.states f.base ≡ Some f → IsMarked m f.base ↔ Closure (found_in c.store.states) c.store.words (root_words_of c.roots) (IsMarked c.cycle.marking) f)
+  pub all_marked : (m : Marking) → AreClosed (found_in c.store.states) c.store.words (root_words_of c.roots) c.cycle.marking m
       → (base : ℕ) (o : Object) → HasObject s base o → heap.Closure s (IsMarkedBirth s c.cycle.marking) base → IsMarked m base
   all_marked m closed base o has inside =
       let f = found_at base o has in

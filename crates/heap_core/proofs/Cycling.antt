@@ -1,13 +1,12 @@
 -- The calls of the collector, over the core as a whole.
 use Rattle.std.proofs.Common.{◌≡◌, ℕ, ◌+◌, ◌≤◌, ◌%◌, true, false, List, [], length, Contains, refl, sym, ap, ◌∙◌, arith}
-use Rattle.std.specs.Prelude.{count_by, ◌↔◌, Some}
-use Rattle.block_map.specs.declared.found.Found.{Found}
+use Rattle.std.specs.Prelude.{count_by}
 use Rattle.block_map.specs.FoundIn.{found_in}
 use Rattle.block_map.specs.Objects.{IsMap}
 use Rattle.heap_spec.specs.Heap.{Heap}
 use Rattle.heap_spec.specs.Layout.{word_end}
-use Rattle.marker.specs.Closure.{Closure}
-use Rattle.marker.specs.Marking.{Marking, IsMarked, IsFresh, IsDone}
+use Rattle.marker.specs.Closure.{AreClosed}
+use Rattle.marker.specs.Marking.{Marking, IsFresh, IsDone}
 use Rattle.marker.specs.Growth.{Traces}
 use Rattle.roots.specs.Roots.{root_words_of}
 use Rattle.object_space.specs.Store.{Store, IsSwept}
@@ -77,7 +76,7 @@ pub marks_more : (c : Contents) (m : Marking) → IsMap (length c.store.states) 
 marks_more c m map swept traces = marks_on c [] m map swept (λ w h. absurd (none_in w h)) traces
 
 pub closes_marks : (c : Contents) (m : Marking) → IsMap (length c.store.states) (found_in c.store.states) → IsSwept c.store → Traces (found_in c.store.states) c.store.words (root_words_of c.roots) c.cycle.marking m → IsDone m
-    → ((f : Found) → found_in c.store.states f.base ≡ Some f → IsMarked m f.base ↔ Closure (found_in c.store.states) c.store.words (root_words_of c.roots) (IsMarked c.cycle.marking) f) → ClosesMarks c (record c { cycle = record c.cycle { marking = m } })
+    → AreClosed (found_in c.store.states) c.store.words (root_words_of c.roots) c.cycle.marking m → ClosesMarks c (record c { cycle = record c.cycle { marking = m } })
 closes_marks c m map swept traces done closed = record {
   marks = marks_on c (root_words_of c.roots) m map swept (λ w h. h) traces;
   done = done;

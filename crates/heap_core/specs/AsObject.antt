@@ -15,7 +15,7 @@ use Rattle.heap_core.specs.Following.{Follows}
 abbrev pub Stands : Contents → HeapState → Type 0
 Stands c state = Follows c (fresh state.pages) state.run
 
--- The slot is the caller's own, and a mutator is attached there.
+-- The same of a core as `IsCaller` of a heap: the slot is the caller's own, and a mutator is attached there.
 pub record HasCaller (c : Contents) (who slot : ℕ) : Type 0 where
   pub range : who < SLOTS
   pub own : who ≡ slot

@@ -1,13 +1,12 @@
 -- What is closed and then forgotten.
 use Rattle.std.proofs.Common.{◌≡◌, ℕ, ◌⊎◌, ⊎_elim, subst, sym, refl, ◌∙◌, Bool, true, false, List, get_or, Option, Some}
-use Rattle.std.specs.Prelude.{◌↔◌}
 use Rattle.std.proofs.lemmas.Bool.{false≢true}
 use Rattle.words.specs.Bits.{Has}
 use Rattle.words.specs.Layout.{granule}
 use Rattle.block_map.specs.declared.found.Found.{Found}
 use Rattle.block_map.specs.FoundIn.{found_in}
 use Rattle.marker.specs.Marking.{Marking, IsMarked, IsObjectGranule, AreMarksObjects}
-use Rattle.marker.specs.Closure.{Closure}
+use Rattle.marker.specs.Closure.{AreClosed}
 use Rattle.object_space.specs.Store.{Store}
 use Rattle.object_space.specs.Kept.{is_kept}
 use Rattle.object_space.specs.Sweeps.{ForgetsUnreached, ForgetsLazily, Sweeps}
@@ -23,7 +22,7 @@ marked_not marks k not = by (get_or marks k false) refl
 
 -- lazily
 pub forgets_lazily : (old : Store) (roots : List ℕ) (m m' : Marking) (n : ℕ) (new : Store) → ForgetsLazily old m'.marks n new
-    → ((f : Found) → found_in old.states f.base ≡ Some f → IsMarked m' f.base ↔ Closure (found_in old.states) old.words roots (IsMarked m) f) → ForgetsUnreached old roots m n m'.marks new
+    → AreClosed (found_in old.states) old.words roots m m' → ForgetsUnreached old roots m n m'.marks new
 forgets_lazily old roots m m' n new x closes = record {
   words = λ f i there lt. x.words f i (kept_cases (is_kept new.pending m'.marks) (found_in new.states) f.base f there).0 lt;
   pages = x.pages;

@@ -1,11 +1,10 @@
 //! Closing the marks, by the calling thread or with helpers.
-ghost use Rattle.std.specs.Prelude.{◌≡◌, ◌↔◌, Some, length};
+ghost use Rattle.std.specs.Prelude.{◌≡◌, length};
 ghost use Rattle.block_map.specs.FoundIn.{found_in, IsLawful};
-ghost use Rattle.block_map.specs.declared.found.Found.{Found};
-ghost use Rattle.marker.specs.Closure.{Closure};
+ghost use Rattle.marker.specs.Closure.{AreClosed};
 ghost use Rattle.marker.specs.Growth.{Traces};
 ghost use Rattle.marker.specs.Invariant.{DirtyPageInvariant};
-ghost use Rattle.marker.specs.Marking.{IsDone, IsMarked};
+ghost use Rattle.marker.specs.Marking.{IsDone};
 
 use super::ObjectSpace;
 use final_pause::{Gate, Helpers, close_marks, close_marks_with};
@@ -20,7 +19,7 @@ impl ObjectSpace {
     pub(super) fn close(&self, marker: &mut Marker, roots: &[u64])
         requires pages { length marker.old.dirty ≡ length self.now.states }
         requires invariant { DirtyPageInvariant (found_in self.now.states) self.now.words marker.old }
-        ensures closure { (f : Found) → found_in self.now.states f.base ≡ Some f → (IsMarked marker.new f.base ↔ Closure (found_in self.now.states) self.now.words roots.now (IsMarked marker.old) f) }
+        ensures closure { AreClosed (found_in self.now.states) self.now.words roots.now marker.old marker.new }
         ensures done { IsDone marker.new }
         ensures traces { Traces (found_in self.now.states) self.now.words roots.now marker.old marker.new }
     {
@@ -40,7 +39,7 @@ impl ObjectSpace {
     )
         requires pages { length marker.old.dirty ≡ length self.now.states }
         requires invariant { DirtyPageInvariant (found_in self.now.states) self.now.words marker.old }
-        ensures closure { (f : Found) → found_in self.now.states f.base ≡ Some f → (IsMarked marker.new f.base ↔ Closure (found_in self.now.states) self.now.words roots.now (IsMarked marker.old) f) }
+        ensures closure { AreClosed (found_in self.now.states) self.now.words roots.now marker.old marker.new }
         ensures done { IsDone marker.new }
         ensures traces { Traces (found_in self.now.states) self.now.words roots.now marker.old marker.new }
         ensures lawful { IsLawful self.now.states }

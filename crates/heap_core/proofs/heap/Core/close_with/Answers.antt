@@ -1,10 +1,7 @@
 use Rattle.std.proofs.Common.{◌≡◌, subst, ◌∙◌}
-use Rattle.std.specs.Prelude.{◌↔◌, Some}
-use Rattle.block_map.specs.declared.found.Found.{Found}
 use Rattle.block_map.specs.FoundIn.{found_in}
-use Rattle.marker.specs.Closure.{Closure}
+use Rattle.marker.specs.Closure.{AreClosed}
 use Rattle.marker.specs.Growth.{Traces}
-use Rattle.marker.specs.Marking.{IsMarked}
 use Rattle.roots.specs.Roots.{root_words_of}
 use Rattle.heap_core.proofs.Tracing.{traced_on}
 use Rattle.heap_core.proofs.Cycling.{closes_marks}
@@ -21,5 +18,5 @@ returns g c =
       c.if-not-self.false,
       closes_marks _ _ closes.lawful.map (c.self.invariant.swept c.if-not-self.false)
           (subst (λ rs. Traces (found_in c.self.inside.objects.states) c.self.inside.objects.words rs c.self.inside.marker c.close_with.new.marker) e closes.traces) closes.done
-          (subst (λ rs. (f : Found) → found_in c.self.inside.objects.states f.base ≡ Some f → IsMarked c.close_with.new.marker f.base ↔ Closure (found_in c.self.inside.objects.states) c.self.inside.objects.words rs (IsMarked c.self.inside.marker) f) e closes.closure),
+          (subst (λ rs. AreClosed (found_in c.self.inside.objects.states) c.self.inside.objects.words rs c.self.inside.marker c.close_with.new.marker) e closes.closure),
     )
