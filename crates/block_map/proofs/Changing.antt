@@ -8,7 +8,7 @@ use Rattle.words.proofs.Addresses.{on_its_page}
 use Rattle.blocks.specs.Cells.{Cells, IsCells}
 use Rattle.words.specs.Layout.{page_start, page_of, IsOnPage}
 use Rattle.block_map.specs.States.{PageState, free, cut, head, body, state_at, span_of, LaidAt, IsLaid, HasCell, with_cell, IsSpanSet, large_states, all_free}
-use Rattle.block_map.specs.Objects.{cell_object, large_object, object_on, IsObjectOn, Reads}
+use Rattle.block_map.specs.Objects.{cell_object, large_object, object_on, IsObjectOn, IsInside}
 use Rattle.block_map.specs.FoundIn.{cell_at, found_in, found_in_block, found_on, found_large}
 use Rattle.block_map.specs.Changes.{IsSameMap, IsAdded, IsCleared, IsUncut, HasNoObject}
 use Rattle.block_map.proofs.Seen.{laid_at}
@@ -69,26 +69,26 @@ module _ (s t : List PageState) (p i : ℕ) (b : Cells) (taken : List Bool) (n :
     (inside : i < PAGE_WORDS / b.class)
     (was_free : get_or b.taken i false ≡ false) (is_taken : get_or taken i false ≡ true)
     (same : (k : ℕ) → k ≢ i → get_or taken k false ≡ get_or b.taken k false) where
-  before : (w : ℕ) → Reads w (cell_object p b i) → found_in s w ≡ None
+  before : (w : ℕ) → IsInside w (cell_object p b i) → found_in s w ≡ None
   before w reads =
       let r = read_cell p i w b inside reads in
       found_as s p w (cut b) r.0 is
       ∙ cond-false (get_or b.taken (cell_at b w) false) (Some (cell_object p b (cell_at b w))) None (ap (λ k. get_or b.taken k false) r.1 ∙ was_free)
 
-  after : (w : ℕ) → Reads w (cell_object p b i) → found_in t w ≡ Some (cell_object p b i)
+  after : (w : ℕ) → IsInside w (cell_object p b i) → found_in t w ≡ Some (cell_object p b i)
   after w reads =
       let r = read_cell p i w b inside reads in
       found_as t p w (cut (record b { taken = taken; first = n })) r.0 now
       ∙ cond-true (get_or taken (cell_at b w) false) (Some (cell_object p b (cell_at b w))) None (ap (λ k. get_or taken k false) r.1 ∙ is_taken)
       ∙ ap (λ k. Some (cell_object p b k)) r.1
 
-  elsewhere : (w : ℕ) → (Reads w (cell_object p b i) → ⊥) → found_in t w ≡ found_in s w
+  elsewhere : (w : ℕ) → (IsInside w (cell_object p b i) → ⊥) → found_in t w ≡ found_in s w
   elsewhere w not_read =
       same_but s t p 1 others (closed_one s p (subst IsPlain (sym is) (cut_plain (cut b) tt))) laid w
       (λ q a c at.
       let e : q ≡ p = omega arith in
       let at' : IsOnPage p w = subst (λ x. IsOnPage x w) e at in
-      let ne : cell_at b w ≢ i = λ h. not_read (subst (λ k. Reads w (cell_object p b k)) h (cell_read p w b cells.class at')) in
+      let ne : cell_at b w ≢ i = λ h. not_read (subst (λ k. IsInside w (cell_object p b k)) h (cell_read p w b cells.class at')) in
       found_as t p w (cut (record b { taken = taken; first = n })) at' now
       ∙ ap (λ x. cond x (Some (cell_object p b (cell_at b w))) None) (same (cell_at b w) ne)
       ∙ sym (found_as s p w (cut b) at' is))

@@ -3,7 +3,7 @@ use Rattle.std.proofs.Common.{◌≡◌, ℕ, ◌+◌, ◌<◌, List, [], ◌∷
 use Rattle.std.proofs.lemmas.List.{map-set, get_or-map, get_or_past, length-map, length-append}
 use Rattle.block_map.specs.declared.page.Page.{Page}
 use Rattle.block_map.specs.declared.page.Page.TheVariants.{Free}
-use Rattle.block_map.specs.States.{free, state_at, AreAllFree}
+use Rattle.block_map.specs.States.{free, state_at, AreFreePages}
 use Rattle.block_map.specs.Shown.{shown}
 use Rattle.block_map.proofs.Spans.{span_start, span_more, large_here, large_else}
 
@@ -18,7 +18,7 @@ set_state items p x lt = ap (λ xs. state_at xs p) (put_states items p x) ∙ ge
 
 pub ruleset put = (put_states, state_of)
 
-pub no_pages : AreAllFree [] 0
+pub no_pages : AreFreePages [] 0
 no_pages = record { size = refl; each = λ k. get_or_past [] k free (omega arith) }
 
 each_more : (items : List Page) → ((k : ℕ) → state_at (map shown items) k ≡ free) → (k : ℕ) → state_at (map shown (items ++ Free ∷ [])) k ≡ free
@@ -27,7 +27,7 @@ each_more [] all (suc k) = refl
 each_more (y ∷ ys) all zero = all 0
 each_more (y ∷ ys) all (suc k) = each_more ys (λ j. all (suc j)) k
 
-pub one_more_free : (items : List Page) (n : ℕ) → AreAllFree (map shown items) n → AreAllFree (map shown (items ++ Free ∷ [])) (n + 1)
+pub one_more_free : (items : List Page) (n : ℕ) → AreFreePages (map shown items) n → AreFreePages (map shown (items ++ Free ∷ [])) (n + 1)
 one_more_free items n all = record {
   size = length-map (items ++ Free ∷ []) shown ∙ length-append items (Free ∷ []) ∙ ap (λ m. m + 1) (sym (length-map items shown) ∙ all.size);
   each = each_more items all.each;

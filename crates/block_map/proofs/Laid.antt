@@ -4,7 +4,7 @@ use Rattle.std.proofs.lemmas.Bool.{cases_eq}
 use Rattle.words.specs.declared.class.Kind.{Kind}
 use Rattle.words.specs.declared.limits.TheConstants.{MAX_PAGES, PAGE_WORDS}
 use Rattle.blocks.specs.Cells.{IsCells}
-use Rattle.block_map.specs.States.{PageState, free, cut, head, body, state_at, span_of, LaidAt, IsLaid, IsCut, HasCell, with_cell, IsSpanSet, large_states, all_free, AreAllFree}
+use Rattle.block_map.specs.States.{PageState, free, cut, head, body, state_at, span_of, LaidAt, IsLaid, IsCut, HasCell, with_cell, IsSpanSet, large_states, all_free, AreFreePages}
 use Rattle.block_map.proofs.Spans.{Out, place_of, IsClosed, IsPlain, free_plain, cut_plain, closed_one, closed_free, closed_head, span_one, large_here, large_else}
 
 module _ (old new : List PageState) (first n : ℕ) (size : length new ≡ length old)
@@ -53,7 +53,7 @@ pub laid_cell : (s : List PageState) (p i : ℕ) (a b : Bool) (n : ℕ) → IsLa
 laid_cell s p i a b n laid lt h =
     let is = cell_cut (state_at s p) i a h in set_one s p _ laid lt (cut_plain _ is) (celled s (state_at s p) p i b n is (laid.each p lt))
 
-pub laid_free : (s : List PageState) (n : ℕ) → AreAllFree s n → n ≤ MAX_PAGES → IsLaid s
+pub laid_free : (s : List PageState) (n : ℕ) → AreFreePages s n → n ≤ MAX_PAGES → IsLaid s
 laid_free s n all few = record {
   few = let size = all.size in omega arith;
   each = λ k lt. subst (LaidAt s k) (sym (all.each k)) tt;

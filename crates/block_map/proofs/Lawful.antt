@@ -11,25 +11,25 @@ use Rattle.blocks.specs.Cells.{Cells, IsCells}
 use Rattle.blocks.proofs.Places.{class_bounds}
 use Rattle.words.specs.Layout.{page_of, IsOnPage}
 use Rattle.block_map.specs.States.{PageState, free, cut, head, body, state_at, LaidAt, IsLaid}
-use Rattle.block_map.specs.Objects.{cell_object, large_object, IsObjectOn, IsObject, Reads, IsAnswer, IsPlaced}
+use Rattle.block_map.specs.Objects.{cell_object, large_object, IsObjectOn, IsObject, IsInside, IsFoundOrNone, IsPlaced}
 use Rattle.block_map.specs.FoundIn.{cell_at, found_in, found_in_block, found_on, found_large, IsLawful}
 use Rattle.block_map.specs.declared.found.Found.{Found}
 use Rattle.block_map.proofs.Words.{read_cell, cell_read, cells_end}
 use Rattle.block_map.proofs.Finding.{found_low, found_as}
 
 -- ---- an object is found by each of its words
-object_cut : (s : List PageState) (g : Found) (w : ℕ) (b : Cells) → IsCells b → state_at s g.page ≡ cut b → IsObjectOn (cut b) g → Reads w g → found_in s w ≡ Some g
+object_cut : (s : List PageState) (g : Found) (w : ℕ) (b : Cells) → IsCells b → state_at s g.page ≡ cut b → IsObjectOn (cut b) g → IsInside w g → found_in s w ≡ Some g
 object_cut s g w b cells is on reads =
     let size = cells.size in let inside = on.1 in
-    let r = read_cell g.page g.cell w b (omega arith) (subst (Reads w) on.0 reads) in
+    let r = read_cell g.page g.cell w b (omega arith) (subst (IsInside w) on.0 reads) in
     let t : get_or b.taken (cell_at b w) false ≡ true = ap (λ j. get_or b.taken j false) r.1 ∙ on.2 in
     found_as s g.page w (cut b) r.0 is
     ∙ cond-true (get_or b.taken (cell_at b w) false) (Some (cell_object g.page b (cell_at b w))) None t
     ∙ ap (λ j. Some (cell_object g.page b j)) r.1 ∙ ap Some (sym on.0)
 
-object_head : (s : List PageState) (g : Found) (w n : ℕ) (k : Kind) → LaidAt s g.page (head n k) → state_at s g.page ≡ head n k → IsObjectOn (head n k) g → Reads w g → found_in s w ≡ Some g
+object_head : (s : List PageState) (g : Found) (w n : ℕ) (k : Kind) → LaidAt s g.page (head n k) → state_at s g.page ≡ head n k → IsObjectOn (head n k) g → IsInside w g → found_in s w ≡ Some g
 object_head s g w n k laid is on reads =
-    let r : Reads w (large_object g.page n k) = subst (Reads w) on reads in
+    let r : IsInside w (large_object g.page n k) = subst (IsInside w) on reads in
     let from = r.from in let below = r.below in
     let at : IsOnPage (page_of w) w = on_its_page w (omega arith) in
     ⊎_elim
@@ -39,18 +39,18 @@ object_head s g w n k laid is on reads =
     ∙ ap (found_large g.page) is ∙ ap Some (sym on))
     (cases_eq (page_of w) g.page)
 
-object_on_state : (s : List PageState) (st : PageState) (g : Found) (w : ℕ) → LaidAt s g.page st → state_at s g.page ≡ st → IsObjectOn st g → Reads w g → found_in s w ≡ Some g
+object_on_state : (s : List PageState) (st : PageState) (g : Found) (w : ℕ) → LaidAt s g.page st → state_at s g.page ≡ st → IsObjectOn st g → IsInside w g → found_in s w ≡ Some g
 object_on_state s free g w laid is on reads = absurd on
 object_on_state s (cut b) g w laid is on reads = object_cut s g w b laid is on reads
 object_on_state s (head n k) g w laid is on reads = object_head s g w n k laid is on reads
 object_on_state s (body q) g w laid is on reads = absurd on
 
-pub found_object : (s : List PageState) (g : Found) (w : ℕ) → IsLaid s → IsObject s g → Reads w g → found_in s w ≡ Some g
+pub found_object : (s : List PageState) (g : Found) (w : ℕ) → IsLaid s → IsObject s g → IsInside w g → found_in s w ≡ Some g
 found_object s g w laid o reads = object_on_state s (state_at s g.page) g w (laid.each g.page o.page) refl o.on reads
 
 -- ---- what is found is an object that reads the word
 IsRead : List PageState → ℕ → Found → Type 0
-IsRead s w f = IsObject s f × Reads w f
+IsRead s w f = IsObject s f × IsInside w f
 
 none_some : (f : Found) → None ≡ Some f → ⊥
 none_some f e = cc
@@ -69,7 +69,7 @@ read_block s p w b f cells is lt at e =
     (λ (t : get_or b.taken (cell_at b w) false ≡ true).
     let same : cell_object p b (cell_at b w) ≡ f = same_Some _ _ (sym (cond-true (get_or b.taken (cell_at b w) false) (Some (cell_object p b (cell_at b w))) None t) ∙ e) in
     let inside : cell_at b w < length b.taken = ⊎_elim (λ (h : cell_at b w < length b.taken). h) (λ past. absurd (let z : false ≡ true = sym (get_or_past b.taken (cell_at b w) false past) ∙ t in cc)) (cases_lt (cell_at b w) (length b.taken)) in
-    subst (λ g. IsObject s g × Reads w g) same
+    subst (λ g. IsObject s g × IsInside w g) same
     (object_of s (cut b) (cell_object p b (cell_at b w)) is lt (refl, inside, t), cell_read p w b cells.class at))
     (λ (t : get_or b.taken (cell_at b w) false ≡ false).
     absurd (none_some f (sym (cond-false (get_or b.taken (cell_at b w) false) (Some (cell_object p b (cell_at b w))) None t) ∙ e)))
@@ -79,7 +79,7 @@ read_large : (s : List PageState) (p q w n : ℕ) (k : Kind) (f : Found) → sta
 unfolding IsRead
 read_large s p q w n k f is lt at low high same =
     let from = at.from in let below = at.below in
-    subst (λ g. IsObject s g × Reads w g) same
+    subst (λ g. IsObject s g × IsInside w g) same
     (object_of s (head n k) (large_object q n k) is lt refl, record { from = omega arith; below = omega arith })
 
 read_on : (s : List PageState) (st : PageState) (p w : ℕ) (f : Found) → IsLaid s → state_at s p ≡ st → LaidAt s p st → (p < length s) ⊎ (st ≡ free) → IsOnPage p w → found_on s p st w ≡ Some f → IsRead s w f
@@ -108,18 +108,18 @@ read_found s w f laid e =
     (λ high. read_at s (page_of w) w f laid (on_its_page w high) e)
     (cases_lt w FIRST_ADDRESS)
 
-pub object_found : (s : List PageState) (w : ℕ) (f : Found) → IsLaid s → found_in s w ≡ Some f → IsObject s f × Reads w f
+pub object_found : (s : List PageState) (w : ℕ) (f : Found) → IsLaid s → found_in s w ≡ Some f → IsObject s f × IsInside w f
 unfolding IsRead
 object_found s w f laid e = read_found s w f laid e
 
 -- ---- so it is the one object that the word reads
-answer_of : (s : List PageState) (w : ℕ) (r : Option Found) → IsLaid s → found_in s w ≡ r → IsAnswer s w r
+answer_of : (s : List PageState) (w : ℕ) (r : Option Found) → IsLaid s → found_in s w ≡ r → IsFoundOrNone s w r
 answer_of s w None laid e = λ g o reads. none_some g (sym e ∙ found_object s g w laid o reads)
 answer_of s w (Some f) laid e =
     let o = object_found s w f laid e in
     (o.0, o.1, (λ g p reads. same_Some _ _ (sym (found_object s g w laid p reads) ∙ e)))
 
-pub answer_is : (s : List PageState) (w : ℕ) (r : Option Found) → IsLaid s → r ≡ found_in s w → IsAnswer s w r
+pub answer_is : (s : List PageState) (w : ℕ) (r : Option Found) → IsLaid s → r ≡ found_in s w → IsFoundOrNone s w r
 answer_is s w r laid e = answer_of s w r laid (sym e)
 
 -- ---- where objects lie

@@ -4,7 +4,7 @@ use Rattle.std.specs.Prelude.{◌≢◌, IfNone, IfSome}
 use Rattle.std.proofs.lemmas.Bool.{cases_eq}
 use Rattle.words.specs.declared.limits.TheConstants.{PAGE_WORDS}
 use Rattle.blocks.specs.Cells.{Cells}
-use Rattle.blocks.specs.Lists.{link_of, ChangesPage, HasPage, IsFree}
+use Rattle.blocks.specs.Lists.{link_of, ChangesPage, HasPage, IsFreeCellOf}
 use Rattle.blocks.proofs.Lists.{changes_none, listed_elsewhere, listed_kept}
 use Rattle.block_map.specs.States.{PageState, free, cut, head, body, state_at, LaidAt, IsLaid, IsSpanSet}
 use Rattle.block_map.specs.Listed.{first_object, first_on, link_on, with_taken, AreListed, HasFirst, IsListedOn}
@@ -50,7 +50,7 @@ listed_span words old new first n state span uncut listed = record {
 
 -- Where the links of free cells stay, the lists do.
 pub listed_words : (words words' : List ℕ) (states : List PageState) → length words' ≡ length words
-    → ((page : ℕ) (b : Cells) (i : ℕ) → page < length states → state_at states page ≡ cut b → IsFree b.taken i → link_of words' page b.class i ≡ link_of words page b.class i) → AreListed words states → AreListed words' states
+    → ((page : ℕ) (b : Cells) (i : ℕ) → page < length states → state_at states page ≡ cut b → IsFreeCellOf b.taken i → link_of words' page b.class i ≡ link_of words page b.class i) → AreListed words states → AreListed words' states
 listed_words words words' states size same listed = record {
   size = size ∙ listed.size;
   each = λ q lt. by q lt (state_at states q) refl (listed.each q lt);

@@ -5,7 +5,7 @@ use Rattle.std.proofs.lemmas.Bool.{cases_lt}
 use Rattle.words.specs.declared.limits.TheConstants.{WORD_BYTES}
 use Rattle.pages.specs.Memory.{IsWordAddress, IsZeroed, place, word_at, with_word_at}
 use Rattle.blocks.specs.Cells.{Cells, IsCells}
-use Rattle.blocks.specs.Lists.{cell_start, IsFree}
+use Rattle.blocks.specs.Lists.{cell_start, IsFreeCellOf}
 use Rattle.blocks.proofs.Lists.{cell_address}
 use Rattle.blocks.proofs.Places.{class_bounds}
 use Rattle.block_map.specs.States.{PageState, cut, state_at, IsLaid}
@@ -19,7 +19,7 @@ use Rattle.block_map.proofs.Lawful.{map_laws}
 use Rattle.block_map.proofs.Listed.{has_page, listed_words}
 
 -- no object reads the first word of a free cell
-pub cell_unread : (states : List PageState) (page i : ℕ) (b : Cells) → IsLaid states → page < length states → state_at states page ≡ cut b → IsFree b.taken i → found_in states (cell_start page b.class i) ≡ None
+pub cell_unread : (states : List PageState) (page i : ℕ) (b : Cells) → IsLaid states → page < length states → state_at states page ≡ cut b → IsFreeCellOf b.taken i → found_in states (cell_start page b.class i) ≡ None
 cell_unread states page i b laid lt is free =
     let cells : IsCells b = laid_at states page (cut b) laid is lt in
     let some = (class_bounds b.class cells.class).0 in

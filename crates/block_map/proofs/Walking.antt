@@ -11,7 +11,7 @@ use Rattle.blocks.specs.Cells.{Cells, IsCells, IsInCell, IsLeftOver}
 use Rattle.blocks.proofs.Places.{class_bounds, divided}
 use Rattle.words.specs.Layout.{page_start, IsOnPage}
 use Rattle.block_map.specs.States.{PageState, free, cut, head, body, state_at, IsLaid}
-use Rattle.block_map.specs.Objects.{cell_object, large_object, Reads}
+use Rattle.block_map.specs.Objects.{cell_object, large_object, IsInside}
 use Rattle.block_map.specs.FoundIn.{cell_at, found_in, found_large}
 use Rattle.block_map.specs.Walks.{IsNextObject, IsNoObject, IsNextCell}
 use Rattle.block_map.specs.declared.found.Found.{Found}
@@ -74,7 +74,7 @@ next_cell s p from i b cells at is first later =
     let pos = class_pos s p b cells in
     let size = cells.size in let inside = first.inside in
     let base : ℕ = page_start p + i * (8 * b.class) in
-    let reads : Reads base (cell_object p b i) = record { from = omega arith; below = omega arith } in
+    let reads : IsInside base (cell_object p b i) = record { from = omega arith; below = omega arith } in
     let r = read_cell p i base b (omega arith) reads in
     let onpage = r.0 in let below = onpage.below in let onbelow = at.below in
     let rest = byte_of_page p from at in

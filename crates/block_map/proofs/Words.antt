@@ -9,7 +9,7 @@ use Rattle.words.proofs.Addresses.{byte_of_page}
 use Rattle.blocks.specs.Cells.{Cells}
 use Rattle.blocks.proofs.Places.{class_bounds, divided}
 use Rattle.words.specs.Layout.{IsOnPage}
-use Rattle.block_map.specs.Objects.{cell_object, Reads}
+use Rattle.block_map.specs.Objects.{cell_object, IsInside}
 use Rattle.block_map.specs.FoundIn.{cell_at}
 
 not_later : (d i j o : ℕ) → i < j → j * d ≤ o → o < i * d + d → ⊥
@@ -38,7 +38,7 @@ cells_end c i h =
     omega (arith, m, e)
 
 -- a word that reads the object in a cell is one of the page, and has that cell
-pub read_cell : (p i w : ℕ) (b : Cells) → i < PAGE_WORDS / b.class → Reads w (cell_object p b i) → IsOnPage p w × (cell_at b w ≡ i)
+pub read_cell : (p i w : ℕ) (b : Cells) → i < PAGE_WORDS / b.class → IsInside w (cell_object p b i) → IsOnPage p w × (cell_at b w ≡ i)
 read_cell p i w b lt reads =
     let from = reads.from in let below = reads.below in
     let ends = cells_end b.class i lt in
@@ -46,7 +46,7 @@ read_cell p i w b lt reads =
     let r = byte_of_page p w at in
     (at, quotient_is (8 * b.class) (w % PAGE_BYTES) i (omega arith) (omega arith))
 
-pub cell_read : (p w : ℕ) (b : Cells) → IsSizeClass b.class → IsOnPage p w → Reads w (cell_object p b (cell_at b w))
+pub cell_read : (p w : ℕ) (b : Cells) → IsSizeClass b.class → IsOnPage p w → IsInside w (cell_object p b (cell_at b w))
 cell_read p w b class at =
     let bounds = class_bounds b.class class in
     let pos : 0 < 8 * b.class = omega (arith, bounds.0) in

@@ -1,6 +1,6 @@
 -- Changes of a map, as changes of the function from words to the objects that they point into.
 use Rattle.std.specs.Prelude.{◌≡◌, ℕ, ◌<◌, ◌≤◌, ◌⊎◌, false, Bool, List, slice_index_or, Option, Some, None}
-use Rattle.block_map.specs.Objects.{Reads, large_object}
+use Rattle.block_map.specs.Objects.{IsInside, large_object}
 use Rattle.block_map.specs.States.{PageState, free, cut, head, body}
 use Rattle.block_map.specs.declared.found.Found.{Found}
 
@@ -10,9 +10,9 @@ pub record IsSameMap (old new : ℕ → Option Found) : Type 0 where
 
 -- there is one object more, at words that pointed into nothing before, and nothing else has changed
 pub record IsAdded (old new : ℕ → Option Found) (f : Found) : Type 0 where
-  pub before : (w : ℕ) → Reads w f → old w ≡ None
-  pub after : (w : ℕ) → Reads w f → new w ≡ Some f
-  pub others : (w : ℕ) → (Reads w f → ⊥) → new w ≡ old w
+  pub before : (w : ℕ) → IsInside w f → old w ≡ None
+  pub after : (w : ℕ) → IsInside w f → new w ≡ Some f
+  pub others : (w : ℕ) → (IsInside w f → ⊥) → new w ≡ old w
 
 -- there is one object less, and nothing else has changed
 abbrev pub IsRemoved : (ℕ → Option Found) → (ℕ → Option Found) → Found → Type 0

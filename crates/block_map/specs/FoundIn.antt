@@ -4,7 +4,7 @@ use Rattle.words.specs.declared.limits.TheConstants.{FIRST_ADDRESS, PAGE_BYTES, 
 use Rattle.blocks.specs.Cells.{Cells}
 use Rattle.words.specs.Layout.{page_of}
 use Rattle.block_map.specs.States.{PageState, free, cut, head, body, state_at}
-use Rattle.block_map.specs.Objects.{cell_object, large_object, IsObject, IsMap, Reads}
+use Rattle.block_map.specs.Objects.{cell_object, large_object, IsObject, IsMap, IsInside}
 use Rattle.block_map.specs.declared.found.Found.{Found}
 
 -- the cell of a block that has a byte of its page
@@ -37,4 +37,4 @@ found_in states w = if nat_lt w FIRST_ADDRESS then None else found_on states (pa
 pub record IsLawful (states : List PageState) : Type 0 where
   pub map : IsMap (length states) (found_in states)
   pub object : (w : ℕ) (f : Found) → found_in states w ≡ Some f → IsObject states f
-  pub found : (w : ℕ) (f : Found) → IsObject states f → Reads w f → found_in states w ≡ Some f
+  pub found : (w : ℕ) (f : Found) → IsObject states f → IsInside w f → found_in states w ≡ Some f

@@ -36,15 +36,15 @@ pub record IsObject (states : List PageState) (f : Found) : Type 0 where
   pub on : IsObjectOn (state_at states f.page) f
 
 -- the word is an address inside the object
-pub record Reads (w : ℕ) (f : Found) : Type 0 where
+pub record IsInside (w : ℕ) (f : Found) : Type 0 where
   pub from : f.base ≤ w
   pub below : w < f.base + WORD_BYTES * f.len
 
 -- the object that the word points into and the only such one, or None exactly where it points into none
-abbrev pub IsAnswer : List PageState → ℕ → Option Found → Type 0
-IsAnswer states w r =
-    MatchOption r ((f : Found) → IsObject states f → Reads w f → ⊥)
-    (λ f. IsObject states f × Reads w f × ((g : Found) → IsObject states g → Reads w g → g ≡ f))
+abbrev pub IsFoundOrNone : List PageState → ℕ → Option Found → Type 0
+IsFoundOrNone states w r =
+    MatchOption r ((f : Found) → IsObject states f → IsInside w f → ⊥)
+    (λ f. IsObject states f × IsInside w f × ((g : Found) → IsObject states g → IsInside w g → g ≡ f))
 
 -- where an object lies in a heap of so many pages
 pub record IsPlaced (pages : ℕ) (f : Found) : Type 0 where
@@ -56,6 +56,6 @@ pub record IsPlaced (pages : ℕ) (f : Found) : Type 0 where
 -- What the collector knows of a map as the function from each word to the object that it points into: a word
 -- points into the object that it finds, each word of an object finds that same object, and objects lie in the heap.
 pub record IsMap (pages : ℕ) (found : ℕ → Option Found) : Type 0 where
-  pub reads : (w : ℕ) (f : Found) → found w ≡ Some f → Reads w f
-  pub whole : (w v : ℕ) (f : Found) → found w ≡ Some f → Reads v f → found v ≡ Some f
+  pub reads : (w : ℕ) (f : Found) → found w ≡ Some f → IsInside w f
+  pub whole : (w v : ℕ) (f : Found) → found w ≡ Some f → IsInside v f → found v ≡ Some f
   pub placed : (w : ℕ) (f : Found) → found w ≡ Some f → IsPlaced pages f

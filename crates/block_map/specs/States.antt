@@ -65,7 +65,7 @@ abbrev pub large_states : ℕ → ℕ → Kind → ℕ → PageState
 large_states first n kind k = if k == first then head n kind else body first
 
 -- n pages, each of them free
-pub record AreAllFree (states : List PageState) (n : ℕ) : Type 0 where
+pub record AreFreePages (states : List PageState) (n : ℕ) : Type 0 where
   pub size : length states ≡ n
   pub each : (k : ℕ) → state_at states k ≡ free
 

@@ -3,8 +3,8 @@ ghost use Rattle.std.specs.Prelude.{◌≡◌, ◌+◌, ◌<◌, ◌≤◌, true
 ghost use Rattle.words.specs.declared.limits.TheConstants.{MAX_PAGES};
 ghost use Rattle.pages.specs.Memory.{with_word_at};
 ghost use Rattle.words.specs.Bits.{IsFullRow};
-ghost use Rattle.blocks.specs.Lists.{link_of, ChangesPage, HasPage, IsFree, IsListed};
-ghost use Rattle.block_map.specs.States.{free, state_at, large_states, with_cell, HasCell, IsCut, IsSpanSet, AreAllFree};
+ghost use Rattle.blocks.specs.Lists.{link_of, ChangesPage, HasPage, IsFreeCellOf, IsListed};
+ghost use Rattle.block_map.specs.States.{free, state_at, large_states, with_cell, HasCell, IsCut, IsSpanSet, AreFreePages};
 ghost use Rattle.block_map.specs.Listed.{first_object, first_on, with_taken, HasFirst, IsFullOn, IsListedOn};
 ghost use Rattle.block_map.specs.Objects.{cell_object, object_on};
 ghost use Rattle.block_map.specs.Shown.{shown};
@@ -20,7 +20,7 @@ use words::{Kind, PageNo};
 // So many free pages.
 #[tactic(auto, using(crate::proofs::Filling::filling))]
 pub(crate) fn free_pages(alloc: Global, count: u32) -> Result<Vec<Page>, AllocError>
-    ensures { IfOk result (λ v. AreAllFree (map shown v.items) count) }
+    ensures { IfOk result (λ v. AreFreePages (map shown v.items) count) }
 {
     let mut pages = Vec::with_capacity(alloc, count as usize)?;
     for k in 0..count {
@@ -78,9 +78,9 @@ fn take_in(block: &mut Block, memory: &Memory, page: PageNo) -> Option<Taken>
     requires listed { IsListed memory.now page block.old }
     ensures none { IfNone result (IsFullRow block.old.taken × (block.new ≡ block.old)) }
     ensures object { IfSome result (λ t. t.object ≡ cell_object page block.old block.old.first) }
-    ensures free { IfSome result (λ _. IsFree block.old.taken block.old.first) }
+    ensures free { IfSome result (λ _. IsFreeCellOf block.old.taken block.old.first) }
     ensures block { IfSome result (λ _. block.new ≡ record block.old { taken = slice_set block.old.taken block.old.first true; first = link_of memory.now page block.old.class block.old.first }) }
-    ensures last { IfSome result (λ t. MatchBool t.was_last (IsFullRow block.new.taken) (IsFree block.new.taken block.new.first)) }
+    ensures last { IfSome result (λ t. MatchBool t.was_last (IsFullRow block.new.taken) (IsFreeCellOf block.new.taken block.new.first)) }
     ensures listed { IsListed memory.now page block.new }
 {
     let Some(cell) = block.take(memory, page) else {

@@ -4,7 +4,7 @@ ghost use Rattle.words.specs.declared.class.Kind.{Kind};
 ghost use Rattle.words.specs.declared.limits.TheConstants.{MAX_PAGES};
 ghost use Rattle.words.specs.Layout.{IsOnPage, IsOutside};
 ghost use Rattle.block_map.specs.States.{head, state_at};
-ghost use Rattle.block_map.specs.Objects.{IsAnswer, cell_object, large_object};
+ghost use Rattle.block_map.specs.Objects.{IsFoundOrNone, cell_object, large_object};
 ghost use Rattle.block_map.specs.FoundIn.{found_in, found_in_block, found_large, IsLawful};
 
 use crate::found::Found;
@@ -21,7 +21,7 @@ impl BlockMap {
     #[inline]
     pub fn find(&self, w: u64) -> Option<Found>
         ensures found { result ≡ found_in self.now w }
-        ensures answer { IsAnswer self.now w result }
+        ensures answer { IsFoundOrNone self.now w result }
         ensures lawful { IsLawful self.now }
     {
         self.look_up(w)

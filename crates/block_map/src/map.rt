@@ -6,7 +6,7 @@ ghost use Rattle.pages.specs.Opening.{IsOpened};
 ghost use Rattle.words.specs.Layout.{page_start};
 ghost use Rattle.pages.specs.Memory.{with_word_at};
 ghost use Rattle.blocks.specs.Lists.{ChangesPage};
-ghost use Rattle.block_map.specs.States.{free, state_at, all_free, large_states, with_cell, span_of, HasCell, IsCut, AreAllFree, IsSpanSet};
+ghost use Rattle.block_map.specs.States.{free, state_at, all_free, large_states, with_cell, span_of, HasCell, IsCut, AreFreePages, IsSpanSet};
 ghost use Rattle.block_map.specs.Listed.{first_object, first_on, with_taken, AreListed, HasFirst, IsFullOn};
 ghost use Rattle.block_map.specs.Objects.{object_on, large_object};
 ghost use Rattle.block_map.specs.FoundIn.{found_in, IsLawful};
@@ -47,7 +47,7 @@ impl BlockMap {
     /// So many pages, each of them free.
     #[tactic(auto, using(crate::proofs::Laid::laid, crate::proofs::Changing::changing))]
     pub fn new(alloc: Global, pages: u32) -> Result<BlockMap, OpenError>
-        ensures { IsOpened pages result (λ m. AreAllFree m pages) }
+        ensures { IsOpened pages result (λ m. AreFreePages m pages) }
     {
         if !is_page_count(pages) {
             return Err(OpenError::BadPages);

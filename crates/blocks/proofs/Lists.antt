@@ -10,11 +10,11 @@ use Rattle.words.specs.Classes.{IsSizeClass}
 use Rattle.pages.specs.Memory.{IsWordAddress, place, with_word_at}
 use Rattle.blocks.specs.Cells.{Cells, IsCells}
 use Rattle.blocks.specs.declared.list.TheConstants.{LIST_END}
-use Rattle.blocks.specs.Lists.{cell_start, link_of, ends, goes_on, ChangesPage, HasPage, IsFree, IsListed, IsTaken, Lists}
+use Rattle.blocks.specs.Lists.{cell_start, link_of, ends, goes_on, ChangesPage, HasPage, IsFreeCellOf, IsListed, IsTakenCellOf, Lists}
 use Rattle.blocks.proofs.Places.{class_bounds, divided}
 
 -- where a list begins
-pub first_free : (link : ℕ → ℕ) (row : List Bool) (first : ℕ) → Lists link row first → first ≢ LIST_END → IsFree row first
+pub first_free : (link : ℕ → ℕ) (row : List Bool) (first : ℕ) → Lists link row first → first ≢ LIST_END → IsFreeCellOf row first
 first_free link row first (ends _ _ end full) more = absurd (more end)
 first_free link row first (goes_on _ _ inside free rest) more = record { inside = inside; free = free }
 
@@ -22,10 +22,10 @@ pub full_at_end : (link : ℕ → ℕ) (row : List Bool) (first : ℕ) → lengt
 full_at_end link row first few (ends _ _ end full) at = full
 full_at_end link row first few (goes_on _ _ inside free rest) at = absurd (omega arith)
 
-pub full_or_free : (link : ℕ → ℕ) (row : List Bool) (first : ℕ) → length row ≤ PAGE_GRANULES → Lists link row first → MatchBool (first == LIST_END) (IsFullRow row) (IsFree row first)
+pub full_or_free : (link : ℕ → ℕ) (row : List Bool) (first : ℕ) → length row ≤ PAGE_GRANULES → Lists link row first → MatchBool (first == LIST_END) (IsFullRow row) (IsFreeCellOf row first)
 full_or_free link row first few lists = by (first == LIST_END) refl
   where
-    by : (b : Bool) → (first == LIST_END) ≡ b → MatchBool b (IsFullRow row) (IsFree row first)
+    by : (b : Bool) → (first == LIST_END) ≡ b → MatchBool b (IsFullRow row) (IsFreeCellOf row first)
     by true e = full_at_end link row first few lists (eqb-true first LIST_END e)
     by false e = first_free link row first lists (λ at. false≢true (sym e ∙ eq-eqb first LIST_END at))
 
@@ -42,7 +42,7 @@ pub next_small : (link : ℕ → ℕ) (row : List Bool) (first : ℕ) → length
 next_small link row first few lists more = let size = length-set row first true in first_small link (set row first true) (link first) (omega arith) (next_listed link row first lists more)
 
 -- the links of free cells stay
-pub lists_same : (link link' : ℕ → ℕ) (row : List Bool) (first : ℕ) → ((i : ℕ) → IsFree row i → link' i ≡ link i) → Lists link row first → Lists link' row first
+pub lists_same : (link link' : ℕ → ℕ) (row : List Bool) (first : ℕ) → ((i : ℕ) → IsFreeCellOf row i → link' i ≡ link i) → Lists link row first → Lists link' row first
 lists_same link link' row first same (ends _ _ end full) = ends row first end full
 lists_same link link' row first same (goes_on _ _ inside free rest) =
     goes_on row first inside free (subst (Lists link' (set row first true)) (sym (same first (record { inside = inside; free = free })))
@@ -115,7 +115,7 @@ pub link_other : (words : List ℕ) (page class cell i w : ℕ) → IsSizeClass 
 link_other words page class cell i w is ne = get_or-set_other words (place (cell_start page class cell)) (place (cell_start page class i)) w 0 (apart page class i cell (let b = class_bounds class is in omega arith) ne)
 
 -- a cell is given back
-pub put_listed : (words words' : List ℕ) (page class : ℕ) (row row' : List Bool) (first cell address word : ℕ) → IsSizeClass class → HasPage words page → length row ≡ PAGE_WORDS / class → IsTaken row cell → Lists (link_of words page class) row first
+pub put_listed : (words words' : List ℕ) (page class : ℕ) (row row' : List Bool) (first cell address word : ℕ) → IsSizeClass class → HasPage words page → length row ≡ PAGE_WORDS / class → IsTakenCellOf row cell → Lists (link_of words page class) row first
     → address ≡ cell_start page class cell → word ≡ first → words' ≡ with_word_at words address word → row' ≡ set row cell false → Lists (link_of words' page class) row' cell
 put_listed words words' page class row row' first cell address word is has size taken lists at says written cleared =
     rw (cleared, written, at, says)
@@ -137,7 +137,7 @@ link_changes words page class cell w is lt = record {
         ⊎_elim (λ below. omega arith) (λ past. omega arith) out
 
 -- The list stays where the links of its free cells do.
-pub listed_kept : (words words' : List ℕ) (page : ℕ) (b : Cells) → ((i : ℕ) → IsFree b.taken i → link_of words' page b.class i ≡ link_of words page b.class i) → IsListed words page b → IsListed words' page b
+pub listed_kept : (words words' : List ℕ) (page : ℕ) (b : Cells) → ((i : ℕ) → IsFreeCellOf b.taken i → link_of words' page b.class i ≡ link_of words page b.class i) → IsListed words page b → IsListed words' page b
 listed_kept words words' page b same lists = lists_same (link_of words page b.class) (link_of words' page b.class) b.taken b.first same lists
 
 -- so it does while another page changes

@@ -35,11 +35,11 @@ pub record ChangesPage (old new : List ℕ) (page : ℕ) : Type 0 where
   pub others : (k : ℕ) → k < PAGE_WORDS * page ⊎ PAGE_WORDS * page + PAGE_WORDS ≤ k → slice_index new k ≡ slice_index old k
 
 -- a free cell of the row
-pub record IsFree (row : List Bool) (cell : ℕ) : Type 0 where
+pub record IsFreeCellOf (row : List Bool) (cell : ℕ) : Type 0 where
   pub inside : cell < length row
   pub free : slice_index_or row cell false ≡ false
 
 -- a cell of the row that is allocated
-pub record IsTaken (row : List Bool) (cell : ℕ) : Type 0 where
+pub record IsTakenCellOf (row : List Bool) (cell : ℕ) : Type 0 where
   pub inside : cell < length row
   pub taken : slice_index_or row cell false ≡ true

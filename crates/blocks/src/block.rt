@@ -6,7 +6,7 @@ ghost use Rattle.words.specs.Bits.{members, IsFullRow, IsEmptyFrom, IsFirstFrom}
 ghost use Rattle.words.specs.Classes.{IsSizeClass};
 ghost use Rattle.pages.specs.Memory.{with_word_at};
 ghost use Rattle.blocks.specs.Cells.{IsCells, IsInCell, IsLeftOver};
-ghost use Rattle.blocks.specs.Lists.{cell_start, link_of, ChangesPage, HasPage, IsFree, IsListed, IsTaken};
+ghost use Rattle.blocks.specs.Lists.{cell_start, link_of, ChangesPage, HasPage, IsFreeCellOf, IsListed, IsTakenCellOf};
 ghost use Rattle.blocks.specs.declared.list.TheConstants.{LIST_END};
 
 use crate::list::{LIST_END, link_all, start_of};
@@ -117,7 +117,7 @@ impl Block {
     #[inline]
     pub fn is_full(&self) -> bool
         ensures first { result ≡ (self.now.first == LIST_END) }
-        ensures full { (words : List ℕ) (page : ℕ) → IsListed words page self.now → MatchBool result (IsFullRow self.now.taken) (IsFree self.now.taken self.now.first) }
+        ensures full { (words : List ℕ) (page : ℕ) → IsListed words page self.now → MatchBool result (IsFullRow self.now.taken) (IsFreeCellOf self.now.taken self.now.first) }
     {
         self.first == LIST_END
     }
@@ -136,7 +136,7 @@ impl Block {
         requires has { HasPage memory.now page }
         requires listed { IsListed memory.now page self.old }
         ensures none { IfNone result (IsFullRow self.old.taken × (self.new ≡ self.old)) }
-        ensures some { IfSome result (λ i. (i ≡ self.old.first) × IsFree self.old.taken i × (self.new ≡ record self.old { taken = slice_set self.old.taken i true; first = link_of memory.now page self.old.class i })) }
+        ensures some { IfSome result (λ i. (i ≡ self.old.first) × IsFreeCellOf self.old.taken i × (self.new ≡ record self.old { taken = slice_set self.old.taken i true; first = link_of memory.now page self.old.class i })) }
         ensures listed { IsListed memory.now page self.new }
     {
         let cell = self.first;
@@ -154,7 +154,7 @@ impl Block {
         requires page { page < MAX_PAGES }
         requires has { HasPage memory.old page }
         requires listed { IsListed memory.old page self.old }
-        requires taken { IsTaken self.old.taken cell }
+        requires taken { IsTakenCellOf self.old.taken cell }
         ensures block { self.new ≡ record self.old { taken = slice_set self.old.taken cell false; first = cell } }
         ensures memory { memory.new ≡ with_word_at memory.old (cell_start page self.old.class cell) self.old.first }
         ensures changes { ChangesPage memory.old memory.new page }

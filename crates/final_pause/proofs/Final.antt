@@ -5,7 +5,7 @@ use Rattle.block_map.specs.declared.found.Found.{Found}
 use Rattle.block_map.specs.Objects.{IsMap}
 use Rattle.pages.specs.Memory.{word_at}
 use Rattle.marker.specs.declared.entry.Entry.{Entry}
-use Rattle.marker.specs.Marking.{Marking, IsMarked, IsEntry, IsPending, word_address, IsDone}
+use Rattle.marker.specs.Marking.{Marking, IsMarked, IsEntry, IsLeftToEntry, word_address, IsDone}
 use Rattle.marker.specs.Closure.{Closure, held, root, word}
 use Rattle.marker.proofs.Closures.{is_object}
 use Rattle.marker.specs.Invariant.{DirtyPageInvariant, IsTargetMarked, IsAwaited, AreRootsMarked}
@@ -19,7 +19,7 @@ not_entry m d e one =
     (λ h. none_in e (subst (λ s. Contains s e) d.empty.stack h)) one
 
 not_awaited : (m : Marking) → IsDone m → (f : Found) (i : ℕ) → IsAwaited m f i → ⊥
-not_awaited m d f i a = ⊎_elim (λ h. d.clean _ h) (λ (p : IsPending m f.base i). not_entry m d p.entry p.one) a
+not_awaited m d f i a = ⊎_elim (λ h. d.clean _ h) (λ (p : IsLeftToEntry m f.base i). not_entry m d p.entry p.one) a
 
 -- the words of a marked Normal object read marked objects
 pub all_read : (found : ℕ → Option Found) (words : List ℕ) (m : Marking) → DirtyPageInvariant found words m → IsDone m

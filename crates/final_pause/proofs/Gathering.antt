@@ -16,7 +16,7 @@ use Rattle.mark_bits.proofs.Words.{shows-left, shows-right}
 use Rattle.mark_bits.proofs.Gathered.{gathered-each, gathered-start, gathered-won}
 use Rattle.block_map.specs.declared.found.Found.{Found}
 use Rattle.block_map.specs.Objects.{IsMap}
-use Rattle.marker.specs.Marking.{Marking, IsMarked, IsPending, word_address}
+use Rattle.marker.specs.Marking.{Marking, IsMarked, IsLeftToEntry, word_address}
 use Rattle.marker.specs.Closure.{held}
 use Rattle.marker.specs.Invariant.{AreRootsMarked, IsTargetMarked}
 use Rattle.marker.specs.Growth.{Traces}
@@ -25,7 +25,7 @@ use Rattle.each_law.specs.Jobs.{HaveRun}
 use Rattle.final_pause.specs.declared.helper.Helper.{Helper}
 use Rattle.final_pause.specs.declared.share.Pause.{Pause}
 use Rattle.final_pause.specs.Helping.{found, word_in, IsTargetKnown}
-use Rattle.final_pause.specs.Serving.{IsReached, IsEntryRead, IsShareRead, HasServed}
+use Rattle.final_pause.specs.Serving.{IsReachable, IsEntryRead, IsShareRead, HasServed}
 use Rattle.final_pause.specs.Gathering.{AreNumbered, HasGathered}
 use Rattle.final_pause.proofs.Knowing.{none_in}
 use Rattle.final_pause.proofs.Growing.{target_more}
@@ -96,7 +96,7 @@ module _ {p : Pause} (first : Claimer) (dirty : List Bool) (new : Marking) (g : 
   target : (w : ℕ) → IsTargetKnown p (view first) w → IsTargetMarked (found p) new w
   target w k f e = known (granule f.base) (k f e)
 
-  read_pending : (f : Found) → found p f.base ≡ Some f → f.kind ≡ Normal → IsMarked old f.base → (i : ℕ) → i < f.len → IsPending old f.base i → IsTargetKnown p (view first) (word_in p f i)
+  read_pending : (f : Found) → found p f.base ≡ Some f → f.kind ≡ Normal → IsMarked old f.base → (i : ℕ) → i < f.len → IsLeftToEntry old f.base i → IsTargetKnown p (view first) (word_in p f i)
   read_pending f o n m i lt q =
       ⊎_elim
       (λ (c : old.current ≡ Some q.entry). (g.shares 0 (omega arith) some).current refl q.entry c f o (sym q.same) n m i q.left lt)
@@ -120,7 +120,7 @@ module _ {p : Pause} (first : Claimer) (dirty : List Bool) (new : Marking) (g : 
     objects = λ k h. ⊎_elim (λ e. inl e) (λ c. let r = g.within k c in inr (record { object = r.object; is = r.is; first = r.first })) (either k h);
     within = λ f o h. ⊎_elim
         (λ e. held o e)
-        (λ c. let r = g.within (granule f.base) c in subst (IsReached p) (same_object (length p.map.now) (found p) map r.object f r.is o r.first) r.reached)
+        (λ c. let r = g.within (granule f.base) c in subst (IsReachable p) (same_object (length p.map.now) (found p) map r.object f r.is o r.first) r.reached)
         (either (granule f.base) h);
     dirtied = λ q h. let w = g.dirtied q (subst (λ d. Has d q) row h) in let n = is_new (granule w.0.base) w.2 in inr (w.0, (w.1, n.0, n.1), w.3);
     keeps = λ inv f o n h i lt. ⊎_elim

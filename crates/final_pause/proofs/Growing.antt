@@ -15,11 +15,11 @@ use Rattle.marker.proofs.Closures.{at_base, same_object}
 use Rattle.marker.proofs.MarkWord.{markable}
 use Rattle.final_pause.specs.declared.helper.Helper.{Helper}
 use Rattle.final_pause.specs.declared.share.Pause.{Pause}
-use Rattle.final_pause.specs.Helping.{found, word_in, won_of, Keeps, Extends, IsTargetKnown, IsAwaited, IsPageOfWon, IsPointedInto, ClaimsOnly, Visits, IsWordOf, ReadsWords}
+use Rattle.final_pause.specs.Helping.{found, word_in, won_of, QueuesObject, HelperGrows, IsTargetKnown, IsAwaitedBy, IsPageOfWon, IsPointedInto, ClaimsOnly, Visits, IsWordOf, ReadsWords}
 use Rattle.final_pause.proofs.Knowing.{unknown_le, unknown_lt, contains_cons, contains_more, contains_here}
 
 module _ (p : Pause) where
-  pub extends_refl : (h : Helper) → IsOf p.table.now h.claimer → Extends p h h
+  pub extends_refl : (h : Helper) → IsOf p.table.now h.claimer → HelperGrows p h h
   extends_refl h of = record {
     of = of;
     share = refl;
@@ -33,7 +33,7 @@ module _ (p : Pause) where
     left = omega arith;
   }
 
-  pub awaited_more : (a b : Helper) → Extends p a b → (f : Found) (i : ℕ) → IsAwaited a f i → IsAwaited b f i
+  pub awaited_more : (a b : Helper) → HelperGrows p a b → (f : Found) (i : ℕ) → IsAwaitedBy a f i → IsAwaitedBy b f i
   awaited_more a b x f i h = ⊎_elim (λ d. inl (x.dirty _ d)) (λ s. inr (x.stack _ s)) h
 
   pub target_more : (v w : ClaimerView) → ((k : ℕ) → knows v k ≡ true → knows w k ≡ true) → (n : ℕ) → IsTargetKnown p v n → IsTargetKnown p w n
@@ -42,7 +42,7 @@ module _ (p : Pause) where
   pub page_more : (a b : Helper) → ((k : ℕ) → Contains (won_of a) k → Contains (won_of b) k) → (q : ℕ) → IsPageOfWon p a q → IsPageOfWon p b q
   page_more a b more q (f, is, c, k) = (f, is, more (granule f.base) c, k)
 
-  pub extends_trans : (a b c : Helper) → Extends p a b → Extends p b c → Extends p a c
+  pub extends_trans : (a b c : Helper) → HelperGrows p a b → HelperGrows p b c → HelperGrows p a c
   extends_trans a b c x y = record {
     of = y.of;
     share = y.share ∙ x.share;
@@ -113,7 +113,7 @@ module _ (p : Pause) where
   pub visit_new : (w : ℕ) (g : Found) (old mid new : Helper) → IsMap (length p.map.now) (found p) → length (start_of p.table.now) ≡ PAGE_GRANULES * length p.map.now → found p w ≡ Some g
       → IsOf p.table.now mid.claimer → mid.stack ≡ old.stack → mid.dirty ≡ old.dirty → mid.share ≡ old.share
       → LearnsMore (view old.claimer) (view mid.claimer) → knows (view mid.claimer) (granule g.base) ≡ true → knows (view old.claimer) (granule g.base) ≡ false → won_of mid ≡ granule g.base ∷ won_of old
-      → Keeps g mid new → Visits p w old new
+      → QueuesObject g mid new → Visits p w old new
   visit_new w g old mid new map size e of st di sh le kn un wo keep =
       let base = at_base (length p.map.now) (found p) map w g e in
       let inside = (markable (length p.map.now) (found p) w g (start_of p.table.now) map e size).1 in
@@ -135,7 +135,7 @@ module _ (p : Pause) where
           stack = λ k h. keep.stack k (subst (λ s. Contains s.items k) (sym st) h);
           fresh = λ f o c. ⊎_elim
               (λ (b : granule g.base ≡ granule f.base).
-              inr (subst (λ (h : Found). h.kind ≡ Normal → (i : ℕ) → i < h.len → IsAwaited new h i) (same_object (length p.map.now) (found p) map g f base o b) keep.awaited))
+              inr (subst (λ (h : Found). h.kind ≡ Normal → (i : ℕ) → i < h.len → IsAwaitedBy new h i) (same_object (length p.map.now) (found p) map g f base o b) keep.awaited))
               (λ h. inl h)
               (contains_cons (granule g.base) (granule f.base) (won_of old) (subst (λ l. Contains l (granule f.base)) same c));
           left = omega (arith, u, s, z);

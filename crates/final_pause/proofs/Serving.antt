@@ -21,24 +21,24 @@ use Rattle.marker.proofs.Rescanning.{next_is, reads_own}
 use Rattle.final_pause.specs.declared.busy.Duty.{Duty}
 use Rattle.final_pause.specs.declared.helper.Helper.{Helper}
 use Rattle.final_pause.specs.declared.share.Pause.{Pause}
-use Rattle.final_pause.specs.Helping.{found, word_in, won_of, Fits, Extends, IsTargetKnown, IsAwaited, IsPointedInto, ClaimsOnly, IsWordOf, ReadsWords}
-use Rattle.final_pause.specs.Serving.{IsReached, IsReachedAt, IsQueuedAt, IsServing, Serves, AreRootsRead, AreEntriesRead, IsCurrentRead, AreWordsRead, ArePagesRead, IsShareRead}
+use Rattle.final_pause.specs.Helping.{found, word_in, won_of, IsHelperOf, HelperGrows, IsTargetKnown, IsAwaitedBy, IsPointedInto, ClaimsOnly, IsWordOf, ReadsWords}
+use Rattle.final_pause.specs.Serving.{IsReachable, IsReachedAt, IsQueuedAt, IsServing, GoesOnServing, AreRootsRead, AreEntriesRead, IsCurrentRead, AreWordsRead, ArePagesRead, IsShareRead}
 use Rattle.final_pause.proofs.Knowing.{contains_one}
 use Rattle.final_pause.proofs.Growing.{target_more, awaited_more, page_more}
 
 module _ (p : Pause) where
   -- what the words of a reached Normal object point into is reached
-  pub reached_word : (f : Found) → IsReached p f → f.kind ≡ Normal → (w : ℕ) → IsWordOf p f w → (g : Found) → found p w ≡ Some g → IsReached p g
+  pub reached_word : (f : Found) → IsReachable p f → f.kind ≡ Normal → (w : ℕ) → IsWordOf p f w → (g : Found) → found p w ≡ Some g → IsReachable p g
   reached_word f r n w (i, lt, is) g e = word {p = f} i r n lt (subst (λ (v : ℕ). found p v ≡ Some g) is e)
 
-  pub fits_more : (a b : Helper) → Extends p a b → Fits p a → Fits p b
+  pub fits_more : (a b : Helper) → HelperGrows p a b → IsHelperOf p a → IsHelperOf p b
   fits_more a b x f = record {
     ready = f.ready;
     of = x.of;
     dirty = x.dirty_len ∙ f.dirty;
   }
 
-  module _ (map : IsMap (length p.map.now) (found p)) (P : ℕ → Type 0) (reach : (w : ℕ) → P w → (g : Found) → found p w ≡ Some g → IsReached p g) (a b : Helper) (only : ClaimsOnly p P a b) where
+  module _ (map : IsMap (length p.map.now) (found p)) (P : ℕ → Type 0) (reach : (w : ℕ) → P w → (g : Found) → found p w ≡ Some g → IsReachable p g) (a b : Helper) (only : ClaimsOnly p P a b) where
     pub queued_more : ((k : ℕ) → Contains a.stack.items k → IsQueuedAt p k) → (k : ℕ) → Contains b.stack.items k → IsQueuedAt p k
     queued_more q k c = ⊎_elim (λ h. q k h)
         (λ (r : (f : Found) × IsPointedInto p P f × (f.base ≡ k) × (f.kind ≡ Normal)).
@@ -53,7 +53,7 @@ module _ (p : Pause) where
         record { object = r.0; is = at_base (length p.map.now) (found p) map t.word r.0 t.points; first = r.2; reached = reach t.word t.one r.0 t.points })
         (only.won k c)
 
-    pub serves_more : Extends p a b → IsServing p a → IsServing p b
+    pub serves_more : HelperGrows p a b → IsServing p a → IsServing p b
     serves_more x s = record {
       fits = fits_more a b x s.fits;
       one = x.learns.parts ∙ s.one;
@@ -65,11 +65,11 @@ module _ (p : Pause) where
       within = within_more s.within;
     }
 
-  pub serves_refl : (h : Helper) → IsServing p h → Serves p h h
+  pub serves_refl : (h : Helper) → IsServing p h → GoesOnServing p h h
   serves_refl h s = record { serving = s; share = refl; learns = record { parts = refl; known = λ k e. e } }
 
   -- whether a helper has work is no part of what it owes
-  pub serves_duty : (h : Helper) (d : Duty) → IsServing p h → Serves p h (record h { duty = d })
+  pub serves_duty : (h : Helper) (d : Duty) → IsServing p h → GoesOnServing p h (record h { duty = d })
   serves_duty h d s = record {
     serving = record {
       fits = record { ready = s.fits.ready; of = s.fits.of; dirty = s.fits.dirty };
@@ -83,7 +83,7 @@ module _ (p : Pause) where
     learns = record { parts = refl; known = λ k e. e };
   }
 
-  pub serves_trans : (a b c : Helper) → Serves p a b → Serves p b c → Serves p a c
+  pub serves_trans : (a b c : Helper) → GoesOnServing p a b → GoesOnServing p b c → GoesOnServing p a c
   serves_trans a b c x y = record {
     serving = y.serving;
     share = y.share ∙ x.share;
@@ -91,7 +91,7 @@ module _ (p : Pause) where
   }
 
   -- words of a reached Normal object were read
-  pub serves_words : IsMap (length p.map.now) (found p) → (f : Found) (first n : ℕ) (a b : Helper) → IsReached p f → f.kind ≡ Normal → ReadsWords p f first n a b → IsServing p a → Serves p a b
+  pub serves_words : IsMap (length p.map.now) (found p) → (f : Found) (first n : ℕ) (a b : Helper) → IsReachable p f → f.kind ≡ Normal → ReadsWords p f first n a b → IsServing p a → GoesOnServing p a b
   serves_words map f first n a b reached normal r s = record {
     serving = serves_more map (IsWordOf p f) (reached_word f reached normal) a b r.only r.extends s;
     share = r.extends.share;
@@ -102,7 +102,7 @@ module _ (p : Pause) where
   module _ (map : IsMap (length p.map.now) (found p)) (a m b : Helper) (base : ℕ) (f : Found)
       (claimer : m.claimer ≡ a.claimer) (dirty : m.dirty ≡ a.dirty) (share : m.share ≡ a.share) (stack : a.stack.items ≡ m.stack.items ++ base ∷ [])
       (is : found p base ≡ Some f) (s : IsServing p a) (r : ReadsWords p f 0 f.len m b) where
-    x : Extends p m b
+    x : HelperGrows p m b
     x = r.extends
 
     here : IsQueuedAt p base
@@ -111,8 +111,8 @@ module _ (p : Pause) where
     same : here.object ≡ f
     same = same_Some here.object f (sym here.is ∙ (ap (found p) here.base_is ∙ is))
 
-    reached : IsReached p f
-    reached = subst (IsReached p) same here.reached
+    reached : IsReachable p f
+    reached = subst (IsReachable p) same here.reached
 
     normal : f.kind ≡ Normal
     normal = ap (λ (g : Found). g.kind) (sym same) ∙ here.normal
@@ -155,7 +155,7 @@ module _ (p : Pause) where
       within = within_more map (IsWordOf p f) (reached_word f reached normal) m b r.only (λ k c. s.within k (won_before k c));
     }
 
-    pub serves_pop : Serves p a b
+    pub serves_pop : GoesOnServing p a b
     serves_pop = record {
       serving = serving_pop;
       share = x.share ∙ share;
@@ -170,7 +170,7 @@ module _ (p : Pause) where
     won_on : (k : ℕ) → Contains (won_of a) k → Contains (won_of m) k
     won_on k c = subst (λ h. Contains (view h).won k) (sym claimer) c
 
-    awaited_on : (f : Found) (i : ℕ) → IsAwaited a f i → IsAwaited m f i
+    awaited_on : (f : Found) (i : ℕ) → IsAwaitedBy a f i → IsAwaitedBy m f i
     awaited_on f i w = ⊎_elim
         (λ d. inl (subst (λ d. Has d (page_of (word_address f i))) (sym dirty) d))
         (λ c. inr (subst (λ l. Contains l f.base) (sym stack) (Contains-append_left a.stack.items (base ∷ []) f.base c))) w

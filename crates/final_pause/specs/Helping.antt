@@ -25,7 +25,7 @@ abbrev pub word_in : Pause → Found → ℕ → ℕ
 word_in p f i = word_at p.memory.now (word_address f i)
 
 -- a word points into the object
-pub record IsFound (p : Pause) (f : Found) : Type 0 where
+pub record IsObjectOf (p : Pause) (f : Found) : Type 0 where
   pub word : ℕ
   pub points : found p word ≡ Some f
 
@@ -45,7 +45,7 @@ won_of h = (view h.claimer).won
 
 -- What is true of each pause while helpers are at work: the table began with the marker's marks, and marks, dirty pages and
 -- memory are those of the map's pages.
-pub record IsReady (p : Pause) : Type 0 where
+pub record IsReadyPause (p : Pause) : Type 0 where
   pub start : start_of p.table.now ≡ p.marker.now.marks
   pub granules : length (start_of p.table.now) ≡ PAGE_GRANULES * length p.map.now
   pub pages : length p.marker.now.dirty ≡ length p.map.now
@@ -55,8 +55,8 @@ pub record IsReady (p : Pause) : Type 0 where
   pub map : IsMap (length p.map.now) (found p)
 
 -- the helper is one of this pause
-pub record Fits (p : Pause) (h : Helper) : Type 0 where
-  pub ready : IsReady p
+pub record IsHelperOf (p : Pause) (h : Helper) : Type 0 where
+  pub ready : IsReadyPause p
   pub of : IsOf p.table.now h.claimer
   pub dirty : length h.dirty ≡ length p.map.now
 
@@ -65,22 +65,22 @@ abbrev pub IsTargetKnown : Pause → ClaimerView → ℕ → Type 0
 IsTargetKnown p v w = (g : Found) → found p w ≡ Some g → knows v (granule g.base) ≡ true
 
 -- the word i of the object will be read: by this helper, or after the join
-abbrev pub IsAwaited : Helper → Found → ℕ → Type 0
-IsAwaited h f i = Has h.dirty (page_of (word_address f i)) ⊎ Contains h.stack.items f.base
+abbrev pub IsAwaitedBy : Helper → Found → ℕ → Type 0
+IsAwaitedBy h f i = Has h.dirty (page_of (word_address f i)) ⊎ Contains h.stack.items f.base
 
 -- the page is one of an object that the helper won
 abbrev pub IsPageOfWon : Pause → Helper → ℕ → Type 0
 IsPageOfWon p h q = (f : Found) × (found p f.base ≡ Some f) × Contains (won_of h) (granule f.base) × Covers f q
 
 -- an object waits to be read, and nothing else has changed
-pub record Keeps (f : Found) (old new : Helper) : Type 0 where
+pub record QueuesObject (f : Found) (old new : Helper) : Type 0 where
   pub claimer : new.claimer ≡ old.claimer
   pub share : new.share ≡ old.share
   pub dirty_len : length new.dirty ≡ length old.dirty
   pub dirty : (q : ℕ) → Has old.dirty q → Has new.dirty q
   pub covered : (q : ℕ) → Has new.dirty q → Has old.dirty q ⊎ Covers f q
   pub stack : (b : ℕ) → Contains old.stack.items b → Contains new.stack.items b
-  pub awaited : f.kind ≡ Normal → (i : ℕ) → i < f.len → IsAwaited new f i
+  pub awaited : f.kind ≡ Normal → (i : ℕ) → i < f.len → IsAwaitedBy new f i
   pub entries : (b : ℕ) → Contains new.stack.items b → Contains old.stack.items b ⊎ ((b ≡ f.base) × (f.kind ≡ Normal))
   pub size : length new.stack.items ≤ length old.stack.items + 1
 
@@ -94,12 +94,12 @@ unknown zero v = 0
 unknown (suc n) v = unseen (knows v n) + unknown n v
 
 -- what bounds the objects that the helper will read yet
-abbrev pub left : Pause → Helper → ℕ
-left p h = 2 * unknown (length (start_of p.table.now)) (view h.claimer) + length h.stack.items
+abbrev pub reads_left : Pause → Helper → ℕ
+reads_left p h = 2 * unknown (length (start_of p.table.now)) (view h.claimer) + length h.stack.items
 
 -- What the helper knows, its dirty pages and its entries only grow; each word of a newly won object is awaited, and only
 -- pages of these have become dirty.
-pub record Extends (p : Pause) (old new : Helper) : Type 0 where
+pub record HelperGrows (p : Pause) (old new : Helper) : Type 0 where
   pub of : IsOf p.table.now new.claimer
   pub share : new.share ≡ old.share
   pub learns : LearnsMore (view old.claimer) (view new.claimer)
@@ -109,8 +109,8 @@ pub record Extends (p : Pause) (old new : Helper) : Type 0 where
   pub dirtied : (q : ℕ) → Has new.dirty q → Has old.dirty q ⊎ IsPageOfWon p new q
   pub stack : (b : ℕ) → Contains old.stack.items b → Contains new.stack.items b
   pub fresh : (f : Found) → found p f.base ≡ Some f → Contains (won_of new) (granule f.base)
-      → Contains (won_of old) (granule f.base) ⊎ (f.kind ≡ Normal → (i : ℕ) → i < f.len → IsAwaited new f i)
-  pub left : left p new ≤ left p old
+      → Contains (won_of old) (granule f.base) ⊎ (f.kind ≡ Normal → (i : ℕ) → i < f.len → IsAwaitedBy new f i)
+  pub left : reads_left p new ≤ reads_left p old
 
 -- one of these words points into an object
 pub record IsPointedInto (p : Pause) (P : ℕ → Type 0) (object : Found) : Type 0 where
@@ -125,7 +125,7 @@ pub record ClaimsOnly (p : Pause) (P : ℕ → Type 0) (old new : Helper) : Type
 
 -- what the word points into is known to be marked, and nothing else was won
 pub record Visits (p : Pause) (w : ℕ) (old new : Helper) : Type 0 where
-  pub extends : Extends p old new
+  pub extends : HelperGrows p old new
   pub target : IsTargetKnown p (view new.claimer) w
   pub only : ClaimsOnly p (λ v. v ≡ w) old new
 
@@ -135,6 +135,6 @@ IsWordOf p f w = (i : ℕ) × (i < f.len) × (w ≡ word_in p f i)
 
 -- what n words of an object point into, from its word `first` on, is known to be marked, and nothing else was won
 pub record ReadsWords (p : Pause) (f : Found) (first n : ℕ) (old new : Helper) : Type 0 where
-  pub extends : Extends p old new
+  pub extends : HelperGrows p old new
   pub targets : (i : ℕ) → first ≤ i → i < first + n → IsTargetKnown p (view new.claimer) (word_in p f i)
   pub only : ClaimsOnly p (IsWordOf p f) old new

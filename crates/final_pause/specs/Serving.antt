@@ -13,18 +13,18 @@ use Rattle.marker.specs.Marking.{IsMarked, word_address}
 use Rattle.marker.specs.Closure.{Closure}
 use Rattle.final_pause.specs.declared.helper.Helper.{Helper}
 use Rattle.final_pause.specs.declared.share.Pause.{Pause}
-use Rattle.final_pause.specs.Helping.{Fits, IsTargetKnown, IsAwaited, IsPageOfWon, found, word_in, won_of}
+use Rattle.final_pause.specs.Helping.{IsHelperOf, IsTargetKnown, IsAwaitedBy, IsPageOfWon, found, word_in, won_of}
 
 -- what the marks before and the roots reach
-abbrev pub IsReached : Pause → Found → Type 0
-IsReached p f = Closure (found p) p.memory.now p.roots.now (IsMarked p.marker.now) f
+abbrev pub IsReachable : Pause → Found → Type 0
+IsReachable p f = Closure (found p) p.memory.now p.roots.now (IsMarked p.marker.now) f
 
 -- a reached object begins at this granule
 pub record IsReachedAt (p : Pause) (k : ℕ) : Type 0 where
   pub object : Found
   pub is : found p object.base ≡ Some object
   pub first : granule object.base ≡ k
-  pub reached : IsReached p object
+  pub reached : IsReachable p object
 
 -- a reached Normal object has this base
 pub record IsQueuedAt (p : Pause) (base : ℕ) : Type 0 where
@@ -32,7 +32,7 @@ pub record IsQueuedAt (p : Pause) (base : ℕ) : Type 0 where
   pub is : found p object.base ≡ Some object
   pub base_is : object.base ≡ base
   pub normal : object.kind ≡ Normal
-  pub reached : IsReached p object
+  pub reached : IsReachable p object
 
 -- the objects that helpers may offer to each other are the reached Normal ones
 pub record AreOffered (p : Pause) (offered : ℕ → Type 0) : Type 0 where
@@ -42,10 +42,10 @@ pub record AreOffered (p : Pause) (offered : ℕ → Type 0) : Type 0 where
 -- A helper at work, between two objects. Each word of a Normal object that it won: what it points into is known to be
 -- marked, or the helper will come to it, or its page is in the helper's row.
 pub record IsServing (p : Pause) (h : Helper) : Type 0 where
-  pub fits : Fits p h
+  pub fits : IsHelperOf p h
   pub one : (view h.claimer).parts ≡ 1
   pub won : (f : Found) → found p f.base ≡ Some f → f.kind ≡ Normal → Contains (won_of h) (granule f.base) → (i : ℕ) → i < f.len
-      → IsTargetKnown p (view h.claimer) (word_in p f i) ⊎ IsAwaited h f i
+      → IsTargetKnown p (view h.claimer) (word_in p f i) ⊎ IsAwaitedBy h f i
   pub dirtied : (q : ℕ) → Has h.dirty q → IsPageOfWon p h q
   pub queued : (b : ℕ) → Contains h.stack.items b → IsQueuedAt p b
   pub within : (k : ℕ) → Contains (won_of h) k → IsReachedAt p k
@@ -97,7 +97,7 @@ pub record HasServed (p : Pause) (share : ℕ) (h : Helper) : Type 0 where
   pub read : IsShareRead p (view h.claimer) share
 
 -- a helper at work goes on, and keeps its share
-pub record Serves (p : Pause) (old new : Helper) : Type 0 where
+pub record GoesOnServing (p : Pause) (old new : Helper) : Type 0 where
   pub serving : IsServing p new
   pub share : new.share ≡ old.share
   pub learns : LearnsMore (view old.claimer) (view new.claimer)

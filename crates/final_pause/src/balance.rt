@@ -4,7 +4,7 @@
 //! stack. That entry is the last that it comes to, so what it leads to is mostly marked by then. Who reads an object twice
 //! finds its words known, and claims decide who reads what they lead to.
 ghost use Rattle.std.specs.Prelude.{◌≡◌, ℕ, [], Contains};
-ghost use Rattle.final_pause.specs.Serving.{IsServing, Serves, AreOffered};
+ghost use Rattle.final_pause.specs.Serving.{IsServing, GoesOnServing, AreOffered};
 
 use crate::gate::Gate;
 use crate::helper::{ENTRIES, Helper};
@@ -48,7 +48,7 @@ impl<'a> Pause<'a> {
     )
         requires serving { IsServing self.now helper.old }
         requires offered { AreOffered self.now J.offered }
-        ensures serves { Serves self.now helper.old helper.new }
+        ensures serves { GoesOnServing self.now helper.old helper.new }
         ensures empty { helper.new.stack.items ≡ [] }
     {
         let mut offered = 0;
@@ -66,7 +66,7 @@ impl<'a> Pause<'a> {
         requires serving { IsServing self.now helper.old }
         requires offered { AreOffered self.now J.offered }
         requires empty { helper.old.stack.items ≡ [] }
-        ensures serves { Serves self.now helper.old helper.new }
+        ensures serves { GoesOnServing self.now helper.old helper.new }
         ensures empty { helper.new.stack.items ≡ [] }
     {
         let Some(base) = offer.take() else {
@@ -89,7 +89,7 @@ impl<'a> Pause<'a> {
         requires serving { IsServing self.now helper.old }
         requires offered { AreOffered self.now J.offered }
         requires empty { helper.old.stack.items ≡ [] }
-        ensures serves { Serves self.now helper.old helper.new }
+        ensures serves { GoesOnServing self.now helper.old helper.new }
         ensures empty { helper.new.stack.items ≡ [] }
     {
         helper.duty.rest();

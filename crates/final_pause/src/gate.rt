@@ -1,13 +1,13 @@
 //! What runs around each call of an actor, so that a test can hold it back.
 //!
-//! Actors have numbers: a mutator that of its slot, the collector [`COLLECTOR`], and the helper h of a pause
+//! Actors have numbers: a mutator that of its slot, the collector [`COLLECTOR_ACTOR`], and the helper h of a pause
 //! [`FIRST_HELPER`] + h. The calls of an actor are numbered from 0, modulo 2^32. A helper's calls are its claims, and are
 //! numbered afresh in each pause.
 use std::marker::Sync;
 use words::limits::SLOTS;
 
 /// The collector's number as an actor.
-pub const COLLECTOR: u8 = SLOTS;
+pub const COLLECTOR_ACTOR: u8 = SLOTS;
 
 /// The number of the first helper as an actor.
 pub const FIRST_HELPER: u8 = 32;

@@ -4,7 +4,7 @@ ghost use Rattle.words.specs.declared.limits.TheConstants.{MAX_PAGES};
 ghost use Rattle.mark_bits.specs.Tables.{view, start_of, IsOf};
 ghost use Rattle.mark_bits.specs.Claims.{knows, LearnsMore};
 ghost use Rattle.block_map.specs.Objects.{IsPlaced};
-ghost use Rattle.final_pause.specs.Helping.{Keeps};
+ghost use Rattle.final_pause.specs.Helping.{QueuesObject};
 
 use crate::busy::Duty;
 use crate::gate::Gate;
@@ -59,10 +59,10 @@ pub(crate) fn claim<G: Gate>(
 
 // Sees to it that the words of an object that the helper won are read: it waits on the stack, or where that is full, the
 // pages that it covers become dirty.
-pub(crate) fn keep(helper: &mut Helper, found: Found)
+pub(crate) fn queue(helper: &mut Helper, found: Found)
     requires placed { IsPlaced (length helper.old.dirty) found }
     requires small { length helper.old.dirty ≤ MAX_PAGES }
-    ensures { Keeps found helper.old helper.new }
+    ensures { QueuesObject found helper.old helper.new }
 {
     if found.kind == Kind::PointerFree {
         return;

@@ -46,7 +46,7 @@ mod parallel;
 mod pause;
 mod share;
 
-pub use gate::{COLLECTOR, FIRST_HELPER, Gate, Open};
+pub use gate::{COLLECTOR_ACTOR, FIRST_HELPER, Gate, Open};
 pub use helpers::Helpers;
 pub use parallel::close_marks_with;
 pub use pause::close_marks;

@@ -6,11 +6,11 @@ ghost use Rattle.words.specs.declared.limits.TheConstants.{WORD_BYTES};
 ghost use Rattle.block_map.specs.FoundIn.{found_in};
 ghost use Rattle.block_map.specs.Walks.{IsNextObject};
 ghost use Rattle.words.specs.Bits.{Has};
-ghost use Rattle.final_pause.specs.Helping.{IsReady, IsFound, IsPartBetween, Fits, Visits, ReadsWords};
-ghost use Rattle.final_pause.specs.Serving.{IsServing, Serves, AreOffered, IsEntryRead, HasServed, AreRootsRead, AreEntriesRead, IsCurrentRead, AreWordsRead, IsPageRead, ArePagesRead};
+ghost use Rattle.final_pause.specs.Helping.{IsReadyPause, IsObjectOf, IsPartBetween, IsHelperOf, Visits, ReadsWords};
+ghost use Rattle.final_pause.specs.Serving.{IsServing, GoesOnServing, AreOffered, IsEntryRead, HasServed, AreRootsRead, AreEntriesRead, IsCurrentRead, AreWordsRead, IsPageRead, ArePagesRead};
 
 use crate::gate::Gate;
-use crate::helper::{Helper, claim, keep};
+use crate::helper::{Helper, claim, queue};
 use crate::offer::{Offer, Offering};
 use block_map::{BlockMap, Found};
 use mark_bits::{MarkTable, granule_of};
@@ -42,7 +42,7 @@ impl<'a> Pause<'a> {
     // The granule at which an object begins.
     #[inline]
     fn granule(&self, found: Found) -> usize
-        requires ready { IsReady self.now }
+        requires ready { IsReadyPause self.now }
         requires object { found_in self.now.map.now found.base ≡ Some found }
         ensures value { result ≡ granule found.base }
         ensures inside { result < length (start_of self.now.table.now) }
@@ -52,7 +52,7 @@ impl<'a> Pause<'a> {
 
     // Marks the object that a word points into. Where this helper is the first to, the object is its own to read.
     fn visit<G: Gate>(&self, gate: &G, helper: &mut Helper, word: u64)
-        requires { Fits self.now helper.old }
+        requires { IsHelperOf self.now helper.old }
         ensures { Visits self.now word helper.old helper.new }
     {
         let Some(found) = self.map.find(word) else {
@@ -64,7 +64,7 @@ impl<'a> Pause<'a> {
             return;
         }
         if claim(self.table, gate, helper, granule) {
-            keep(helper, found);
+            queue(helper, found);
         }
     }
 
@@ -77,8 +77,8 @@ impl<'a> Pause<'a> {
         first: u32,
         count: u64,
     )
-        requires fits { Fits self.now helper.old }
-        requires object { IsFound self.now found }
+        requires fits { IsHelperOf self.now helper.old }
+        requires object { IsObjectOf self.now found }
         requires inside { first + count ≤ found.len }
         ensures { ReadsWords self.now found first count helper.old helper.new }
     {
@@ -92,7 +92,7 @@ impl<'a> Pause<'a> {
     // Marks what the root words of the helper's share point into.
     fn read_roots<G: Gate>(&self, gate: &G, helper: &mut Helper)
         requires { IsServing self.now helper.old }
-        ensures serves { Serves self.now helper.old helper.new }
+        ensures serves { GoesOnServing self.now helper.old helper.new }
         ensures roots { AreRootsRead self.now (view helper.new.claimer) helper.old.share (length self.now.roots.now) }
     {
         for i in 0..self.roots.len() {
@@ -105,7 +105,7 @@ impl<'a> Pause<'a> {
     // Marks what the words that an entry has left point into.
     fn read_entry<G: Gate>(&self, gate: &G, helper: &mut Helper, entry: Entry)
         requires { IsServing self.now helper.old }
-        ensures serves { Serves self.now helper.old helper.new }
+        ensures serves { GoesOnServing self.now helper.old helper.new }
         ensures read { IsEntryRead self.now (view helper.new.claimer) entry }
     {
         let Some(found) = self.marker.unread(self.map, entry) else {
@@ -118,7 +118,7 @@ impl<'a> Pause<'a> {
     // Reads the entry that was being read, which belongs to the first share.
     fn read_current<G: Gate>(&self, gate: &G, helper: &mut Helper)
         requires { IsServing self.now helper.old }
-        ensures serves { Serves self.now helper.old helper.new }
+        ensures serves { GoesOnServing self.now helper.old helper.new }
         ensures read { IsCurrentRead self.now (view helper.new.claimer) helper.old.share }
     {
         if helper.share != 0 {
@@ -134,7 +134,7 @@ impl<'a> Pause<'a> {
     fn read_entries<G: Gate, J: Offering>(&self, gate: &G, offer: &Offer<J>, helper: &mut Helper)
         requires serving { IsServing self.now helper.old }
         requires offered { AreOffered self.now J.offered }
-        ensures serves { Serves self.now helper.old helper.new }
+        ensures serves { GoesOnServing self.now helper.old helper.new }
         ensures read { AreEntriesRead self.now (view helper.new.claimer) helper.old.share (length self.now.marker.now.stack) }
     {
         let waiting = self.marker.waiting();
@@ -148,7 +148,7 @@ impl<'a> Pause<'a> {
 
     // Which words of the next object on a page stand between two addresses.
     fn part(&self, found: Found, low: u64, high: u64) -> Part
-        requires ready { IsReady self.now }
+        requires ready { IsReadyPause self.now }
         requires next { IsNextObject (found_in self.now.map.now) low high found }
         requires low { low % WORD_BYTES ≡ 0 }
         requires high { high % WORD_BYTES ≡ 0 }
@@ -177,7 +177,7 @@ impl<'a> Pause<'a> {
         requires next { IsNextObject (found_in self.now.map.now) low high found }
         requires low { low % WORD_BYTES ≡ 0 }
         requires high { high % WORD_BYTES ≡ 0 }
-        ensures serves { Serves self.now helper.old helper.new }
+        ensures serves { GoesOnServing self.now helper.old helper.new }
         ensures read { AreWordsRead self.now (view helper.new.claimer) low result }
         ensures further { low < result }
         ensures within { result ≤ high }
@@ -198,7 +198,7 @@ impl<'a> Pause<'a> {
     fn read_page<G: Gate>(&self, gate: &G, helper: &mut Helper, page: PageNo)
         requires serving { IsServing self.now helper.old }
         requires inside { page < length self.now.map.now }
-        ensures serves { Serves self.now helper.old helper.new }
+        ensures serves { GoesOnServing self.now helper.old helper.new }
         ensures read { IsPageRead self.now (view helper.new.claimer) page }
     {
         let mut address = page_start(page);
@@ -210,7 +210,7 @@ impl<'a> Pause<'a> {
 
     // Whether the page is a dirty one of a share.
     fn has_dirty(&self, share: usize, page: PageNo) -> bool
-        requires ready { IsReady self.now }
+        requires ready { IsReadyPause self.now }
         requires inside { page < length self.now.map.now }
         ensures { page % self.now.helpers ≡ share → Has self.now.marker.now.dirty page → result ≡ true }
     {
@@ -221,7 +221,7 @@ impl<'a> Pause<'a> {
     fn read_pages<G: Gate, J: Offering>(&self, gate: &G, offer: &Offer<J>, helper: &mut Helper)
         requires serving { IsServing self.now helper.old }
         requires offered { AreOffered self.now J.offered }
-        ensures serves { Serves self.now helper.old helper.new }
+        ensures serves { GoesOnServing self.now helper.old helper.new }
         ensures read { ArePagesRead self.now (view helper.new.claimer) helper.old.share (length self.now.map.now) }
     {
         for page in 0..self.map.len() {

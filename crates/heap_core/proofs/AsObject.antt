@@ -12,16 +12,16 @@ use Rattle.heap_spec.specs.Runs.{Start, Run, TouchRule, Touched, fresh, is_marki
 use Rattle.heap_spec.specs.Histories.{Happens}
 use Rattle.heap_spec.specs.Transcripts.{LineOf, IsWrongPhase}
 use Rattle.heap_spec.specs.Ranges.{InRange}
-use Rattle.heap_spec.specs.SequentialObject.{HeapState, heap_of, Fits, StateStep}
+use Rattle.heap_spec.specs.SequentialObject.{HeapState, heap_of, MayMake, StateStep}
 use Rattle.heap_core.specs.Contents.{Contents}
 use Rattle.heap_core.specs.Standing.{StandsFor}
-use Rattle.heap_core.specs.Collections.{ClosesMarks, IsGrantedIn}
+use Rattle.heap_core.specs.Collections.{ClosesMarks, IsGrantedInPhase}
 use Rattle.heap_core.specs.Following.{Follows, IsLine}
 use Rattle.heap_core.specs.AsObject.{Stands, Can}
 use Rattle.heap_core.proofs.Following.{marks_follow}
 
 -- who may ask the core for an event fits it
-can_fits : (c : Contents) (s : Heap) (who : ℕ) (event : Event) → StandsFor c s → Can c who event → Fits s who event
+can_fits : (c : Contents) (s : Heap) (who : ℕ) (event : Event) → StandsFor c s → Can c who event → MayMake s who event
 can_fits c s who Attach stands can = (can.0, rw stands.mutators (can.1.is_vacant, can.1.lowest))
 can_fits c s who (Mutator slot call) stands can = record { range = can.range; own = can.own; mutator = can.mutator; attached = ap (λ l. slice_get l who) stands.mutators ∙ can.attached }
 can_fits c s who Begin stands can = can.0
@@ -47,7 +47,7 @@ can_right c who Collect marking is can wrong = wrong
 can_right c who Number marking is can wrong = wrong
 
 -- So its line goes on by what happens.
-happened : (touched : TouchRule) (start : Start) (run : Run) (s : Heap) (who : ℕ) {event : Event} {reply : Reply} {next : Run} → LineOf touched start run event reply next → Fits s who event → (IsWrongPhase (is_marking start run) event → ⊥)
+happened : (touched : TouchRule) (start : Start) (run : Run) (s : Heap) (who : ℕ) {event : Event} {reply : Reply} {next : Run} → LineOf touched start run event reply next → MayMake s who event → (IsWrongPhase (is_marking start run) event → ⊥)
     → (s' : Heap) × Happens touched start run event reply s' × (next ≡ goes_on run event reply s')
 happened touched start run s who (LineOf.happens {s' = s'} h) fits right = (s', h, refl)
 happened touched start run s who (LineOf.refused wrong) fits right = absurd (right wrong)
@@ -110,6 +110,6 @@ line_stays old new event reply quiet line state follows =
     subst (λ (run : Run). Follows new (fresh state.pages) run) (run_stays Touched (fresh state.pages) state.run quiet next.1) next.2
 
 -- Closing the marks is no event either.
-pub closes_stay : (old new : Contents) (r : Result ⊤ Refusal) → IsGrantedIn true old r new (λ _. ClosesMarks old new) → (state : HeapState) → Stands old state → Stands new state
+pub closes_stay : (old new : Contents) (r : Result ⊤ Refusal) → IsGrantedInPhase true old r new (λ _. ClosesMarks old new) → (state : HeapState) → Stands old state → Stands new state
 closes_stay old new (Ok done) g state follows = marks_follow (root_words_of old.roots) old new g.0 g.1.marks (fresh state.pages) state.run follows
 closes_stay old new (Err why) g state follows = subst (λ (c : Contents). Stands c state) (sym g.2) follows

@@ -12,7 +12,7 @@ use Rattle.heap_spec.specs.Heap.{Heap, Mutator as HeapMutator}
 use Rattle.heap_spec.specs.Replies.{IsStep}
 use Rattle.heap_spec.specs.Steps.{Acts, Calls, register, with_new, with_register}
 use Rattle.words.specs.Bits.{Has}
-use Rattle.block_map.specs.Objects.{Reads, IsPlaced}
+use Rattle.block_map.specs.Objects.{IsInside, IsPlaced}
 use Rattle.words.specs.declared.limits.TheConstants.{FIRST_ADDRESS}
 use Rattle.words.specs.Layout.{granule}
 use Rattle.heap_spec.specs.Heap.{with_at, without, without_at}
@@ -79,11 +79,11 @@ module _ (t t' : Store) (y y' : Cycle) (place : Placement) (kind : Kind) (base :
       clash : None ≡ Some x → ⊥
       clash e = cc
 
-      read : (Reads x.base gains.object → ⊥) → Reads x.base gains.object
+      read : (IsInside x.base gains.object → ⊥) → IsInside x.base gains.object
       read not =
           let now : found_in t'.states x.base ≡ Some x = gains.added.others x.base not ∙ was in
           let one : x ≡ gains.object = same_object (length t'.states) (found_in t'.states) gains.map x gains.object now here (same ∙ ap granule (sym gains.at)) in
-          subst (Reads x.base) one (gains.map.reads x.base x now)
+          subst (IsInside x.base) one (gains.map.reads x.base x now)
 
   keeps_same : (w : ℕ) (x : Found) → found_in t.states w ≡ Some x → is_kept t'.pending y'.marking.marks x ≡ is_kept t.pending y.marking.marks x
   keeps_same w x there =
@@ -150,7 +150,7 @@ allocated roots roots' t0 t t' y y' slot d n base kind place m at is sweeps room
     new : (f : Found) → found_in t'.states f.base ≡ Some f → granule f.base ≡ granule base → restrict (is_kept t0.pending y.marking.marks) (found_in t0.states) f.base ≡ None
     new f there same =
         let one : f ≡ gains.object = same_object (length t'.states) (found_in t'.states) gains.map f gains.object there (ap (found_in t'.states) gains.at ∙ gains.found) (same ∙ ap granule (sym gains.at)) in
-        sym (sweeps.same.same f.base) ∙ kept_none (is_kept t.pending y.marking.marks) (found_in t.states) f.base (gains.added.before f.base (subst (Reads f.base) one (gains.map.reads f.base f there)))
+        sym (sweeps.same.same f.base) ∙ kept_none (is_kept t.pending y.marking.marks) (found_in t.states) f.base (gains.added.before f.base (subst (IsInside f.base) one (gains.map.reads f.base f there)))
 
     -- an object that was not there is the one that came
     came_marked : y.is_marking ≡ true → (f : Found) → found_in t'.states f.base ≡ Some f → is_kept t'.pending y'.marking.marks f ≡ true → restrict (is_kept t0.pending y.marking.marks) (found_in t0.states) f.base ≡ None → IsMarked y'.marking f.base
@@ -159,7 +159,7 @@ allocated roots roots' t0 t t' y y' slot d n base kind place m at is sweeps room
         (λ not. absurd (none_some f (sym none ∙ sym (sweeps.same.same f.base) ∙ kept_is (is_kept t.pending y.marking.marks) (found_in t.states) f.base f (was not) (sym (keeps_same t t' y y' place kind base gains notes f.base f (was not)) ∙ kept))))
         (read_or_not f.base gains.object)
       where
-        was : (Reads f.base gains.object → ⊥) → found_in t.states f.base ≡ Some f
+        was : (IsInside f.base gains.object → ⊥) → found_in t.states f.base ≡ Some f
         was not = sym (gains.added.others f.base not) ∙ there
 
 -- a store with nothing to be swept keeps all its objects
@@ -206,12 +206,12 @@ module _ (t t' : Store) (y y' : Cycle) (f : Found) (map : IsMap (length t.states
       clash : None ≡ Some x → ⊥
       clash e = cc
 
-      read : (Reads w f → ⊥) → Reads w f
+      read : (IsInside w f → ⊥) → IsInside w f
       read not =
           let was : found_in t.states w ≡ Some x = loses.removed.others w not ∙ there in
           let gone = (kept_cases (is_kept t.pending y.marking.marks) (found_in t.states) f.base f is).0 in
           let one : x ≡ f = same_object (length t.states) (found_in t.states) map x f (at_base (found_in t.states) (length t.states) map w x was) gone same in
-          subst (Reads w) one (map.reads w x was)
+          subst (IsInside w) one (map.reads w x was)
 
   keeps_left : (w : ℕ) (x : Found) → found_in t'.states w ≡ Some x → is_kept t'.pending y'.marking.marks x ≡ is_kept t.pending y.marking.marks x
   keeps_left w x there =

@@ -26,7 +26,7 @@ use Rattle.heap_view.specs.Shows.{IsMarkedBirth}
 use Rattle.heap_core.specs.Contents.{Contents, Cycle}
 use Rattle.heap_core.specs.Standing.{StandsFor, objects_of}
 use Rattle.heap_core.specs.Calls.{IsCall}
-use Rattle.heap_core.specs.Collections.{IsGrantedIn, IsAlwaysGranted, BeginsCycle, MarksOn, ReadsRoots, TakesWords, RetracesPage, ReadsPage, EndsCycle, CollectsAll, SweepsOne}
+use Rattle.heap_core.specs.Collections.{IsGrantedInPhase, IsAlwaysGranted, BeginsCycle, MarksOn, ReadsRoots, TakesWords, RetracesPage, ReadsPage, EndsCycle, CollectsAll, SweepsOne}
 use Rattle.heap_core.specs.Following.{Follows, IsLine, AreLines}
 
 -- what a step is to a run
@@ -173,15 +173,15 @@ wrong_line : (old new : Contents) (event : Event) (why : Refusal) → why ≡ Wr
 wrong_line old new event why is same line start run follows =
     (run, subst (λ w. LineOf Touched start run event (Refused w) run) (sym is) (line start run follows), subst (λ c. Follows c start run) (sym same) follows)
 
-pub begin_result : (old new : Contents) (r : Result ⊤ Refusal) → IsGrantedIn false old r new (λ _. BeginsCycle old new) → IsLine old Begin (done_reply r) new
+pub begin_result : (old new : Contents) (r : Result ⊤ Refusal) → IsGrantedInPhase false old r new (λ _. BeginsCycle old new) → IsLine old Begin (done_reply r) new
 begin_result old new (Ok done) g = begin_line old new g.0 g.1
 begin_result old new (Err why) g = wrong_line old new Begin why g.1 g.2 (λ start run follows. LineOf.refused (sym follows.phase ∙ g.0))
 
-pub roots_result : (old new : Contents) (r : Result ⊤ Refusal) → IsGrantedIn true old r new (λ _. ReadsRoots old new) → IsLine old Roots (done_reply r) new
+pub roots_result : (old new : Contents) (r : Result ⊤ Refusal) → IsGrantedInPhase true old r new (λ _. ReadsRoots old new) → IsLine old Roots (done_reply r) new
 roots_result old new (Ok done) g = λ start run follows. (run, LineOf.roots (sym follows.phase ∙ g.0), marks_follow (root_words_of old.roots) old new g.0 g.1.marks start run follows)
 roots_result old new (Err why) g = wrong_line old new Roots why g.1 g.2 (λ start run follows. LineOf.refused (sym follows.phase ∙ g.0))
 
-pub mark_result : (old new : Contents) (asked : ℕ) (r : Result ℕ Refusal) → IsGrantedIn true old r new (λ n. TakesWords asked old n new) → IsLine old (Mark asked) (count_reply r) new
+pub mark_result : (old new : Contents) (asked : ℕ) (r : Result ℕ Refusal) → IsGrantedInPhase true old r new (λ n. TakesWords asked old n new) → IsLine old (Mark asked) (count_reply r) new
 mark_result old new asked (Ok n) g = λ start run follows. (run, LineOf.mark (sym follows.phase ∙ g.0) g.1.most, marks_follow [] old new g.0 g.1.marks start run follows)
 mark_result old new asked (Err why) g = wrong_line old new (Mark asked) why g.1 g.2 (λ start run follows. LineOf.refused (sym follows.phase ∙ g.0))
 
@@ -189,11 +189,11 @@ one_page : (old new : Contents) (n : ℕ) → ReadsPage old new n → n ≤ 1
 one_page old new n (ReadsPage.none clean same) = omega arith
 one_page old new n (ReadsPage.page p reads) = omega arith
 
-pub retrace_result : (old new : Contents) (r : Result ℕ Refusal) → IsGrantedIn true old r new (λ n. RetracesPage old n new) → IsLine old Retrace (count_reply r) new
+pub retrace_result : (old new : Contents) (r : Result ℕ Refusal) → IsGrantedInPhase true old r new (λ n. RetracesPage old n new) → IsLine old Retrace (count_reply r) new
 retrace_result old new (Ok n) g = λ start run follows. (run, LineOf.retrace (sym follows.phase ∙ g.0) (one_page old new n g.1.reads), marks_follow [] old new g.0 g.1.marks start run follows)
 retrace_result old new (Err why) g = wrong_line old new Retrace why g.1 g.2 (λ start run follows. LineOf.refused (sym follows.phase ∙ g.0))
 
-pub finish_result : (old new : Contents) (r : Result ℕ Refusal) → IsGrantedIn true old r new (λ n. EndsCycle old n new) → IsLine old Finish (count_reply r) new
+pub finish_result : (old new : Contents) (r : Result ℕ Refusal) → IsGrantedInPhase true old r new (λ n. EndsCycle old n new) → IsLine old Finish (count_reply r) new
 finish_result old new (Ok n) g = finish_line old new n g.0 g.1
 finish_result old new (Err why) g = wrong_line old new Finish why g.1 g.2 (λ start run follows. LineOf.refused (sym follows.phase ∙ g.0))
 

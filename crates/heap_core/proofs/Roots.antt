@@ -17,7 +17,7 @@ use Rattle.roots.specs.Roots.{RootSet, HasMutator, HasNoMutator, with_word, with
 use Rattle.roots.proofs.Steps.{set_mutators}
 use Rattle.object_space.specs.Store.{Store}
 use Rattle.heap_core.specs.Contents.{Contents, Cycle}
-use Rattle.heap_core.specs.Calls.{IsCall, FindsNoPlace, MakesDirty, ReachesPages}
+use Rattle.heap_core.specs.Calls.{IsCall, IsFullAlloc, MakesDirty, ReachesPages}
 use Rattle.object_space.specs.Kept.{is_kept}
 use Rattle.object_space.specs.Stores.{Stores}
 use Rattle.heap_core.specs.Standing.{StandsFor}
@@ -31,11 +31,11 @@ pub none_some : (f : Found) → None ≡ Some f → ⊥
 none_some f e = cc
 
 -- an allocation for which there is no place reaches the pages
-full_reaches : (event : Event) (reply : Reply) → FindsNoPlace event reply → ReachesPages event reply
-full_reaches event reply FindsNoPlace.full = tt
+full_reaches : (event : Event) (reply : Reply) → IsFullAlloc event reply → ReachesPages event reply
+full_reaches event reply IsFullAlloc.full = tt
 
-full_reply : (event : Event) (reply : Reply) → FindsNoPlace event reply → reply ≡ Refused Full
-full_reply event reply FindsNoPlace.full = refl
+full_reply : (event : Event) (reply : Reply) → IsFullAlloc event reply → reply ≡ Refused Full
+full_reply event reply IsFullAlloc.full = refl
 
 -- a store that was done reaches them
 dirty_reaches : (c : Contents) (event : Event) (reply : Reply) (p : ℕ) → MakesDirty c event reply p → ReachesPages event reply
@@ -49,14 +49,14 @@ pub dirty_event : (c : Contents) (event : Event) (reply : Reply) (p : ℕ) → M
 dirty_event c event reply p (MakesDirty.store {slot = slot} {a = a} {n = n} {r = r} m on at same) = (slot, a, n, r, refl)
 
 -- nor is one that was done
-pub not_done : (event : Event) → FindsNoPlace event Done → ⊥
+pub not_done : (event : Event) → IsFullAlloc event Done → ⊥
 not_done event h = other (full_reply event Done h)
   where
     other : Done ≡ Refused Full → ⊥
     other e = cc
 
 -- a call that leaves the store and the cycle as they are
-roots_change : (c : Contents) (roots : RootSet) (event : Event) (reply : Reply) → (FindsNoPlace event reply → ⊥) → ((p : ℕ) → MakesDirty c event reply p → ⊥)
+roots_change : (c : Contents) (roots : RootSet) (event : Event) (reply : Reply) → (IsFullAlloc event reply → ⊥) → ((p : ℕ) → MakesDirty c event reply p → ⊥)
     → IsStep (StandsFor c) event reply (StandsFor (record c { roots = roots })) → IsCall c event reply (record c { roots = roots })
 roots_change c roots event reply not_full not_dirty steps = record {
   steps = steps;

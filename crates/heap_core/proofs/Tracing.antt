@@ -5,7 +5,7 @@ use Rattle.std.specs.Prelude.{Bool}
 use Rattle.pages.specs.Memory.{with_word_at}
 use Rattle.block_map.specs.declared.found.Found.{Found}
 use Rattle.block_map.specs.FoundIn.{found_in}
-use Rattle.block_map.specs.Objects.{IsMap, Reads}
+use Rattle.block_map.specs.Objects.{IsMap, IsInside}
 use Rattle.block_map.specs.Changes.{IsRemoved}
 use Rattle.words.specs.Bits.{Has}
 use Rattle.words.specs.declared.class.Kind.{Kind}
@@ -58,7 +58,7 @@ traced_object t t' y y' p kind base x g notes phase = record {
         clash : None ≡ Some o.object → ⊥
         clash e = cc
 
-        apart : Reads o.object.base g.object → ⊥
+        apart : IsInside o.object.base g.object → ⊥
         apart r = clash (sym (g.added.before o.object.base r) ∙ o.is)
 
 -- an object goes

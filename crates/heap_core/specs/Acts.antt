@@ -9,7 +9,7 @@ use Rattle.heap_spec.specs.Replies.{count_reply, done_reply}
 use Rattle.heap_spec.specs.Runs.{Told}
 use Rattle.heap_core.specs.Contents.{Contents, IsCore}
 use Rattle.heap_core.specs.Calls.{IsCall}
-use Rattle.heap_core.specs.Collections.{IsGrantedIn, IsAlwaysGranted, BeginsCycle, ReadsRoots, TakesWords, RetracesPage, EndsCycle, CollectsAll, SweepsOne}
+use Rattle.heap_core.specs.Collections.{IsGrantedInPhase, IsAlwaysGranted, BeginsCycle, ReadsRoots, TakesWords, RetracesPage, EndsCycle, CollectsAll, SweepsOne}
 
 -- the reply is that of a result of which this is true
 abbrev pub Tells : {A : Type 0} → (Result A Refusal → Reply) → Reply → (Result A Refusal → Type 0) → Type 0
@@ -19,11 +19,11 @@ Tells {A = A} told reply P = (r : Result A Refusal) × (reply ≡ told r) × P r
 abbrev pub IsAct : Contents → Event → Reply → Contents → Type 0
 IsAct old Attach reply new = IsCall old Attach reply new
 IsAct old (Mutator slot call) reply new = IsCall old (Mutator slot call) reply new
-IsAct old Begin reply new = Tells done_reply reply (λ r. IsGrantedIn false old r new (λ _. BeginsCycle old new))
-IsAct old Roots reply new = Tells done_reply reply (λ r. IsGrantedIn true old r new (λ _. ReadsRoots old new))
-IsAct old (Mark most) reply new = Tells count_reply reply (λ r. IsGrantedIn true old r new (λ n. TakesWords most old n new))
-IsAct old Retrace reply new = Tells count_reply reply (λ r. IsGrantedIn true old r new (λ n. RetracesPage old n new))
-IsAct old Finish reply new = Tells count_reply reply (λ r. IsGrantedIn true old r new (λ n. EndsCycle old n new))
+IsAct old Begin reply new = Tells done_reply reply (λ r. IsGrantedInPhase false old r new (λ _. BeginsCycle old new))
+IsAct old Roots reply new = Tells done_reply reply (λ r. IsGrantedInPhase true old r new (λ _. ReadsRoots old new))
+IsAct old (Mark most) reply new = Tells count_reply reply (λ r. IsGrantedInPhase true old r new (λ n. TakesWords most old n new))
+IsAct old Retrace reply new = Tells count_reply reply (λ r. IsGrantedInPhase true old r new (λ n. RetracesPage old n new))
+IsAct old Finish reply new = Tells count_reply reply (λ r. IsGrantedInPhase true old r new (λ n. EndsCycle old n new))
 IsAct old Sweep reply new = Tells count_reply reply (λ r. IsAlwaysGranted r (λ n. SweepsOne old n new))
 IsAct old Collect reply new = Tells count_reply reply (λ r. IsAlwaysGranted r (λ n. CollectsAll old n new))
 IsAct old Number reply new = (reply ≡ Count old.cycle.count) × (new ≡ old)

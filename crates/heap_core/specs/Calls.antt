@@ -38,8 +38,8 @@ ReachesPages (Mutator slot call) reply = CallReachesPages call reply
 ReachesPages _ _ = ⊥
 
 -- the event with this reply is an allocation for which there was no place
-pub data FindsNoPlace : Event → Reply → Type 0 where
-  full : {slot d n : ℕ} {kind : Kind} → FindsNoPlace (Mutator slot (Alloc d n kind)) (Refused Full)
+pub data IsFullAlloc : Event → Reply → Type 0 where
+  full : {slot d n : ℕ} {kind : Kind} → IsFullAlloc (Mutator slot (Alloc d n kind)) (Refused Full)
 
 -- a page that a call of the slot may sweep: an allocation any, as it needs, and a free that of its object, which may become free
 abbrev pub CallMaySweep : Contents → ℕ → Call → ℕ → Type 0
@@ -73,5 +73,5 @@ pub record IsCall (old : Contents) (event : Event) (reply : Reply) (new : Conten
   pub fewer : (p : ℕ) → Has new.store.pending p → Has old.store.pending p
   pub swept : (p : ℕ) → Has old.store.pending p → Has new.store.pending p ⊎ MaySweep old event p
   pub forgotten : (w : ℕ) (f : Found) → IsForgotten new w f ↔ (IsForgotten old w f × Has new.store.pending f.page)
-  pub full : FindsNoPlace event reply → IsSwept new.store
+  pub full : IsFullAlloc event reply → IsSwept new.store
   pub roots_alone : (ReachesPages event reply → ⊥) → (new.store ≡ old.store) × (new.cycle ≡ old.cycle)

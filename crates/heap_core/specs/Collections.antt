@@ -26,9 +26,9 @@ use Rattle.heap_core.specs.Standing.{StandsFor, objects_of}
 
 -- A call of the collector in one phase alone: granted exactly in that phase, refused in the other, and refused it changes
 -- nothing.
-abbrev pub IsGrantedIn : {A : Type 0} → Bool → Contents → Result A Refusal → Contents → (A → Type 0) → Type 0
-IsGrantedIn phase old (Ok x) new P = (old.cycle.is_marking ≡ phase) × P x
-IsGrantedIn phase old (Err refusal) new P = (old.cycle.is_marking ≡ (if phase then false else true)) × (refusal ≡ WrongPhase) × (new ≡ old)
+abbrev pub IsGrantedInPhase : {A : Type 0} → Bool → Contents → Result A Refusal → Contents → (A → Type 0) → Type 0
+IsGrantedInPhase phase old (Ok x) new P = (old.cycle.is_marking ≡ phase) × P x
+IsGrantedInPhase phase old (Err refusal) new P = (old.cycle.is_marking ≡ (if phase then false else true)) × (refusal ≡ WrongPhase) × (new ≡ old)
 
 -- A call of the collector in any phase is granted.
 abbrev pub IsAlwaysGranted : {A : Type 0} → Result A Refusal → (A → Type 0) → Type 0

@@ -5,7 +5,7 @@ use Rattle.marker.specs.Marking.{Marking, AreMarksObjects}
 use Rattle.marker.specs.Invariant.{DirtyPageInvariant}
 use Rattle.block_map.specs.FoundIn.{found_in, IsLawful}
 use Rattle.block_map.specs.States.{IsLaid}
-use Rattle.object_space.specs.Store.{Store, AreEmptyPages, IsPendingRow, IsSound, IsSwept}
+use Rattle.object_space.specs.Store.{Store, AreEmptyPages, IsPendingRow, HasSoundPages, IsSwept}
 
 -- What a core has of the collector: what the marker has, whether a cycle is marking, and the count of collections.
 pub record Cycle : Type 0 where
@@ -30,7 +30,7 @@ pub record IsTraced (t : Store) (y : Cycle) : Type 0 where
 -- What is true of every core, whatever calls made it: its map is that of laid-out blocks, with the laws of a map, its free
 -- pages are exactly those on which no object lies, those still to be swept are cut, and it is traced.
 pub record IsCore (c : Contents) : Type 0 where
-  pub sound : IsSound c.store
+  pub sound : HasSoundPages c.store
   pub pending : IsPendingRow c.store
   pub empty : AreEmptyPages c.store.free c.store.states
   pub lawful : IsLawful c.store.states

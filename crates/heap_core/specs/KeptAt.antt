@@ -6,7 +6,7 @@ use Rattle.heap_core.specs.Contents.{Contents}
 use Rattle.heap_core.specs.Standing.{StandsFor}
 
 -- The word points into an object of the heap with this base, of this length and kind.
-pub record PointsInto (s : Heap) (w : ℕ) (f : Found) : Type 0 where
+pub record PointsIntoFound (s : Heap) (w : ℕ) (f : Found) : Type 0 where
   pub object : Object
   pub reads : ReadsObject s w f.base object
   pub size : length object.words ≡ f.len
@@ -14,7 +14,7 @@ pub record PointsInto (s : Heap) (w : ℕ) (f : Found) : Type 0 where
 
 -- of each heap that the core stands for the word points into this object
 abbrev pub IsKeptAt : Contents → ℕ → Found → Type 0
-IsKeptAt c w f = (s : Heap) → StandsFor c s → PointsInto s w f
+IsKeptAt c w f = (s : Heap) → StandsFor c s → PointsIntoFound s w f
 
 -- of no heap that the core stands for the word points into an object
 abbrev pub KeepsNothingAt : Contents → ℕ → Type 0

@@ -11,9 +11,9 @@ impl Quiet<Core> for Roots {
     type Answer = Result<(), Refusal>;
 
     ghost use Rattle.std.specs.Prelude.{true};
-    ghost use Rattle.heap_core.specs.Collections.{IsGrantedIn, ReadsRoots};
+    ghost use Rattle.heap_core.specs.Collections.{IsGrantedInPhase, ReadsRoots};
 
-    ghost gives = { λ work old answer after new. IsGrantedIn true old answer new (λ _. ReadsRoots old new) };
+    ghost gives = { λ work old answer after new. IsGrantedInPhase true old answer new (λ _. ReadsRoots old new) };
 
     fn run(&mut self, object: &mut Core) -> Result<(), Refusal> {
         object.roots()
@@ -28,9 +28,9 @@ impl Quiet<Core> for Mark {
     type Answer = Result<u64, Refusal>;
 
     ghost use Rattle.std.specs.Prelude.{◌≡◌, true};
-    ghost use Rattle.heap_core.specs.Collections.{IsGrantedIn, TakesWords};
+    ghost use Rattle.heap_core.specs.Collections.{IsGrantedInPhase, TakesWords};
 
-    ghost gives = { λ work old answer after new. (after ≡ work) × IsGrantedIn true old answer new (λ n. TakesWords work.0 old n new) };
+    ghost gives = { λ work old answer after new. (after ≡ work) × IsGrantedInPhase true old answer new (λ n. TakesWords work.0 old n new) };
 
     fn run(&mut self, object: &mut Core) -> Result<u64, Refusal> {
         object.mark(self.0)
@@ -45,9 +45,9 @@ impl Quiet<Core> for Retrace {
     type Answer = Result<u64, Refusal>;
 
     ghost use Rattle.std.specs.Prelude.{true};
-    ghost use Rattle.heap_core.specs.Collections.{IsGrantedIn, RetracesPage};
+    ghost use Rattle.heap_core.specs.Collections.{IsGrantedInPhase, RetracesPage};
 
-    ghost gives = { λ work old answer after new. IsGrantedIn true old answer new (λ n. RetracesPage old n new) };
+    ghost gives = { λ work old answer after new. IsGrantedInPhase true old answer new (λ n. RetracesPage old n new) };
 
     fn run(&mut self, object: &mut Core) -> Result<u64, Refusal> {
         object.retrace()

@@ -12,7 +12,7 @@ use Rattle.heap_spec.specs.declared.reply.Reply.{Reply}
 use Rattle.heap_spec.specs.Runs.{fresh, heap_after, marking_after, is_marking}
 use Rattle.heap_history.specs.Ranks.{rank_of, rank_of_call}
 use Rattle.heap_spec.specs.SequentialObject.{HeapState, heap_of, Opens, StateStep}
-use Rattle.heap_history.specs.Passes.{Entry, HeapPass, IsFine, begins, marking_from, is_marking as marks}
+use Rattle.heap_history.specs.Passes.{Entry, HeapPass, IsFine, begins_with_attach, marking_from, is_marking as marks}
 use Rattle.heap_history.proofs.Slots.{is_attached, is_there, step_other, step_here}
 
 step_live : (s u : HeapState) (e : Entry) (who : ℕ) (b : Bool) → who < 16 → StateStep s e.who e.call e.reply u → is_attached (heap_of s) who ≡ b → Dec (e.who ≡ who) → is_attached (heap_of u) who ≡ cond (e.who == who) (not (is_last (rank_of e.call))) b
@@ -127,17 +127,17 @@ call_between : (call : Call) → is_first (rank_of_call call) ≡ false
 call_between Detach = refl
 call_between _ = refl
 
-begins_more : (mine : List Entry) (e : Entry) → begins mine ≡ true → begins (mine ++ e ∷ []) ≡ true
+begins_more : (mine : List Entry) (e : Entry) → begins_with_attach mine ≡ true → begins_with_attach (mine ++ e ∷ []) ≡ true
 begins_more [] e h = absurd (true≢false (sym h))
 begins_more (x ∷ xs) e h = h
 
 -- the own events of an attached slot begin with an attach
-own_begins : (s u : HeapState) (who : ℕ) (asked : Event) (reply : Reply) (mine : List Entry) → who < 16 → StateStep s who asked reply u → (is_attached (heap_of s) who ≡ true → begins mine ≡ true)
-    → begins (cond (is_first (rank_of asked)) (event who asked reply ∷ []) (mine ++ event who asked reply ∷ [])) ≡ true
+own_begins : (s u : HeapState) (who : ℕ) (asked : Event) (reply : Reply) (mine : List Entry) → who < 16 → StateStep s who asked reply u → (is_attached (heap_of s) who ≡ true → begins_with_attach mine ≡ true)
+    → begins_with_attach (cond (is_first (rank_of asked)) (event who asked reply ∷ []) (mine ++ event who asked reply ∷ [])) ≡ true
 own_begins s u who Attach reply mine lt h before = refl
 own_begins s u who (Mutator slot call) reply mine lt h before =
     let more = begins_more mine (event who (Mutator slot call) reply) (before (ap is_there h.fits.attached)) in
-    ap (λ (b : Bool). begins (cond b (event who (Mutator slot call) reply ∷ []) (mine ++ event who (Mutator slot call) reply ∷ []))) (call_between call) ∙ more
+    ap (λ (b : Bool). begins_with_attach (cond b (event who (Mutator slot call) reply ∷ []) (mine ++ event who (Mutator slot call) reply ∷ []))) (call_between call) ∙ more
 own_begins s u who Begin reply mine lt h before = absurd (omega (arith, h.fits))
 own_begins s u who Finish reply mine lt h before = absurd (omega (arith, h.fits))
 own_begins s u who Collect reply mine lt h before = absurd (omega (arith, h.fits))
@@ -147,24 +147,24 @@ own_begins s u who Retrace reply mine lt h before = absurd h.fits
 own_begins s u who Sweep reply mine lt h before = absurd h.fits
 own_begins s u who Number reply mine lt h before = absurd h.fits
 
-step_begins : (s u : HeapState) (e : Entry) (who : ℕ) (mine : List Entry) → who < 16 → StateStep s e.who e.call e.reply u → (is_attached (heap_of s) who ≡ true → begins mine ≡ true) → Dec (e.who ≡ who)
-    → is_attached (heap_of u) who ≡ true → begins (own_with rank_of who mine e) ≡ true
+step_begins : (s u : HeapState) (e : Entry) (who : ℕ) (mine : List Entry) → who < 16 → StateStep s e.who e.call e.reply u → (is_attached (heap_of s) who ≡ true → begins_with_attach mine ≡ true) → Dec (e.who ≡ who)
+    → is_attached (heap_of u) who ≡ true → begins_with_attach (own_with rank_of who mine e) ≡ true
 step_begins s u e who mine lt h before (yes y) on =
-    ap (λ (b : Bool). begins (cond b (cond (is_first (rank_of e.call)) (e ∷ []) (mine ++ e ∷ [])) mine)) (eq-eqb e.who who y)
+    ap (λ (b : Bool). begins_with_attach (cond b (cond (is_first (rank_of e.call)) (e ∷ []) (mine ++ e ∷ [])) mine)) (eq-eqb e.who who y)
     ∙ own_begins s u e.who e.call e.reply mine (subst (λ (n : ℕ). n < 16) (sym y) lt) h (λ is. before (subst (λ (n : ℕ). is_attached (heap_of s) n ≡ true) y is))
 step_begins s u e who mine lt h before (no n) on =
-    ap (λ (b : Bool). begins (cond b (cond (is_first (rank_of e.call)) (e ∷ []) (mine ++ e ∷ [])) mine)) (ne_eqb e.who who n)
+    ap (λ (b : Bool). begins_with_attach (cond b (cond (is_first (rank_of e.call)) (e ∷ []) (mine ++ e ∷ [])) mine)) (ne_eqb e.who who n)
     ∙ before (sym (step_other s u e.who who e.call e.reply n h) ∙ on)
 
-walks_begins : (s t : HeapState) (log mine : List Entry) (who : ℕ) → who < 16 → Walks StateStep s log t → (is_attached (heap_of s) who ≡ true → begins mine ≡ true)
-    → is_attached (heap_of t) who ≡ true → begins (own_from rank_of who mine log) ≡ true
+walks_begins : (s t : HeapState) (log mine : List Entry) (who : ℕ) → who < 16 → Walks StateStep s log t → (is_attached (heap_of s) who ≡ true → begins_with_attach mine ≡ true)
+    → is_attached (heap_of t) who ≡ true → begins_with_attach (own_from rank_of who mine log) ≡ true
 walks_begins s t [] mine who lt w before on = before (ap (λ (x : HeapState). is_attached (heap_of x) who) w ∙ on)
 walks_begins s t (e ∷ es) mine who lt w before on = walks_begins w.0 t es (own_with rank_of who mine e) who lt w.2 (step_begins s w.0 e who mine lt w.1 before (ℕ_discrete e.who who)) on
 
 -- a mutator's own events begin with its attach
-pub mine_begins : (pages : ℕ) (pass : HeapPass) → IsFine pages pass → pass.slot < 16 → begins pass.mine ≡ true
+pub mine_begins : (pages : ℕ) (pass : HeapPass) → IsFine pages pass → pass.slot < 16 → begins_with_attach pass.mine ≡ true
 mine_begins pages pass fine lt =
     let r = fine.legal.1 in
-    ap begins fine.owned.own_is
+    ap begins_with_attach fine.owned.own_is
     ∙ walks_begins r.0 fine.legal.0 pass.seen [] pass.slot lt r.2 (λ is. absurd (true≢false (sym is ∙ none_at_first r.0 pass.slot r.1.nothing)))
     (attached_live pass.seen fine.legal.0 pass.slot lt r ∙ fine.owned.live)

@@ -19,7 +19,7 @@ use Rattle.heap_spec.proofs.Loads.{same_mutator}
 use Rattle.heap_spec.proofs.Objects.{object_lies, one_read}
 use Rattle.heap_history.specs.Passes.{Entry, HeapPass}
 use Rattle.heap_history.specs.Headline.{Makes}
-use Rattle.heap_history.specs.Laws.{IsNoFree, Keeps, MakesAfterNoFree, MakesAfterNoWrite}
+use Rattle.heap_history.specs.Laws.{IsNoFree, CallsLeaveRegister, MakesAfterNoFree, MakesAfterNoWrite}
 use Rattle.heap_history.proofs.Slots.{slice_get-set_same}
 use Rattle.heap_history.proofs.Stored.{set_is, walks_through, reached_fresh, reached_sound}
 use Rattle.heap_history.proofs.Owning.{Owned, walks_owned, walks_owned_mutator, before, owned_before, made_owned, kept_owned}
@@ -93,7 +93,7 @@ store_ready s slot d n k r w h lt ready calls =
     }
 
 pub own_word : (pages d n r w k e : ℕ) (kind : Kind) (reply : Reply) (start made later set stored loaded : HeapPass) → d ≢ r → k < n
-    → Makes pages start (Alloc d n kind) Done made → Keeps pages d made later → MakesAfterNoFree pages later (Set r w) Done set
+    → Makes pages start (Alloc d n kind) Done made → CallsLeaveRegister pages d made later → MakesAfterNoFree pages later (Set r w) Done set
     → MakesAfterNoFree pages set (Store d k r) Done stored → MakesAfterNoWrite pages stored (Load e d k) reply loaded → reply ≡ Word w
 own_word pages d n r w k e kind reply start made later set stored loaded ne lt first keeps second third fourth =
     let legal = fourth.makes.extends.fine.legal in

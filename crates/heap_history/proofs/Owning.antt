@@ -22,7 +22,7 @@ use Rattle.heap_spec.proofs.Objects.{with_at-same, object_lies, one_read, room_a
 use Rattle.heap_history.specs.Passes.{Entry, HeapPass}
 use Rattle.heap_history.specs.Headline.{Makes}
 use Rattle.heap_spec.specs.Laws.{IsFreshRun}
-use Rattle.heap_history.specs.Laws.{MakesAfterNoFree, IsNoFreeCall, IsNoFree, LeavesRegister, Keeps}
+use Rattle.heap_history.specs.Laws.{MakesAfterNoFree, IsNoFreeCall, IsNoFree, LeavesRegister, CallsLeaveRegister}
 use Rattle.heap_history.proofs.Slots.{slice_get-set_same, not_both}
 use Rattle.heap_history.proofs.Stored.{walks_last, walks_through, walks_mutators, reached_fresh, reached_sound}
 use Rattle.heap_history.proofs.Held.{room_none, calls_stay, walks_held}
@@ -177,9 +177,9 @@ told_owned pages d n a old new after own t r =
     (had.0, get.0, subst (λ (k : ℕ). Owned (heap_of t) k d n had.0) (sym after.makes.extends.slot) (subst (λ (x : Heap). Owned x old.slot d n had.0) (sym (ap heap_of at.step.goes)) get.1))
 
 -- and its calls that leave the register
-pub kept_owned : (pages d n : ℕ) (Is : ℕ → Type 0) (old : HeapPass) → {new : HeapPass} → Keeps pages d old new → IsOwned pages d n Is old → IsOwned pages d n Is new
-kept_owned pages d n Is old Keeps.nothing own = own
-kept_owned pages d n Is old {new = new} (Keeps.longer {now = now} {call = call} {reply = reply} keeps leaves after) own = λ t r.
+pub kept_owned : (pages d n : ℕ) (Is : ℕ → Type 0) (old : HeapPass) → {new : HeapPass} → CallsLeaveRegister pages d old new → IsOwned pages d n Is old → IsOwned pages d n Is new
+kept_owned pages d n Is old CallsLeaveRegister.nothing own = own
+kept_owned pages d n Is old {new = new} (CallsLeaveRegister.longer {now = now} {call = call} {reply = reply} keeps leaves after) own = λ t r.
     let at = before pages now new call reply after.makes t r in
     let had = owned_before pages d n Is now new call reply after (kept_owned pages d n Is old keeps own) t at in
     let sound = reached_sound pages (now.seen ++ after.makes.extends.between) at.state at.reached in
@@ -187,13 +187,13 @@ kept_owned pages d n Is old {new = new} (Keeps.longer {now = now} {call = call} 
     (had.0, had.1, subst (λ (k : ℕ). Owned (heap_of t) k d n had.0) (sym after.makes.extends.slot) (subst (λ (x : Heap). Owned x now.slot d n had.0) (sym (ap heap_of at.step.goes)) held))
 
 -- an object is owned from its allocation on
-owned_on : (pages d n a : ℕ) (kind : Kind) (start made told later : HeapPass) → Makes pages start (Alloc d n kind) Done made → MakesAfterNoFree pages made (Get d) (Word a) told → Keeps pages d told later
+owned_on : (pages d n a : ℕ) (kind : Kind) (start made told later : HeapPass) → Makes pages start (Alloc d n kind) Done made → MakesAfterNoFree pages made (Get d) (Word a) told → CallsLeaveRegister pages d told later
     → IsOwned pages d n (λ b. b ≡ a) later
 owned_on pages d n a kind start made told later first second keeps =
     kept_owned pages d n (λ b. b ≡ a) told keeps (told_owned pages d n a made told second (made_owned pages d n kind start made first))
 
 pub stays : (pages d n a e : ℕ) (kind : Kind) (reply : Reply) (start made told later asked : HeapPass)
-    → Makes pages start (Alloc d n kind) Done made → MakesAfterNoFree pages made (Get d) (Word a) told → Keeps pages d told later → MakesAfterNoFree pages later (Base e d) reply asked → reply ≡ Word a
+    → Makes pages start (Alloc d n kind) Done made → MakesAfterNoFree pages made (Get d) (Word a) told → CallsLeaveRegister pages d told later → MakesAfterNoFree pages later (Base e d) reply asked → reply ≡ Word a
 stays pages d n a e kind reply start made told later asked first second keeps third =
     let legal = third.makes.extends.fine.legal in
     let at = before pages later asked (Base e d) reply third.makes legal.0 legal.1 in
@@ -203,7 +203,7 @@ stays pages d n a e kind reply start made told later asked first second keeps th
     base_is (heap_of at.state) sound later.slot e d had.0 own.mutator own.object own.at own.holds own.has at.step.happens ∙ ap Word had.1
 
 pub apart : (pages d n a d' n' b : ℕ) (kind kind' : Kind) (start made told later more asked : HeapPass)
-    → Makes pages start (Alloc d n kind) Done made → MakesAfterNoFree pages made (Get d) (Word a) told → Keeps pages d told later
+    → Makes pages start (Alloc d n kind) Done made → MakesAfterNoFree pages made (Get d) (Word a) told → CallsLeaveRegister pages d told later
     → MakesAfterNoFree pages later (Alloc d' n' kind') Done more → Makes pages more (Get d') (Word b) asked
     → (a + 8 * n ≤ b) ⊎ (b + 8 * n' ≤ a)
 apart pages d n a d' n' b kind kind' start made told later more asked first second keeps third fourth =

@@ -10,7 +10,7 @@ use Rattle.heap_spec.specs.declared.reply.Reply.TheVariants.{Refused}
 use Rattle.heap_spec.specs.Heap.{Heap, Mutator as HeapMutator, IsAttached}
 use Rattle.heap_spec.specs.Steps.{Acts, Calls, acts, vacant}
 use Rattle.heap_spec.specs.SequentialObject.{HeapState, heap_of, StateStep}
-use Rattle.heap_history.specs.Replies.{Answers}
+use Rattle.heap_history.specs.Replies.{IsReplyKind}
 use Rattle.heap_history.proofs.Slots.{not_both}
 
 abbrev is_no_slot_refusal : Refusal → Bool
@@ -22,7 +22,7 @@ is_no_slot (Refused why) = is_no_slot_refusal why
 is_no_slot _ = false
 
 abbrev Told : Call → Reply → Type 0
-Told call reply = (is_no_slot reply ≡ false) × Answers call reply
+Told call reply = (is_no_slot reply ≡ false) × IsReplyKind call reply
 
 acts_told : (s : Heap) (slot : ℕ) (m : HeapMutator) {call : Call} {reply : Reply} {s' : Heap} → Acts s slot m call reply s' → Told call reply
 acts_told s slot m Acts.detached = (refl, tt)
@@ -66,5 +66,5 @@ pub has_slot : (s t : HeapState) (who slot : ℕ) (call : Call) (reply : Reply) 
 has_slot s t who slot call reply h e = true≢false (sym (ap is_no_slot e) ∙ (step_told s t who slot call reply h).0)
 
 -- and in the form of its call
-pub answers : (s t : HeapState) (who slot : ℕ) (call : Call) (reply : Reply) → StateStep s who (Mutator slot call) reply t → Answers call reply
+pub answers : (s t : HeapState) (who slot : ℕ) (call : Call) (reply : Reply) → StateStep s who (Mutator slot call) reply t → IsReplyKind call reply
 answers s t who slot call reply h = (step_told s t who slot call reply h).1

@@ -13,7 +13,7 @@ use Rattle.heap_spec.specs.Histories.{LegalHistory}
 use Rattle.words.specs.declared.limits.TheConstants.{SLOTS, WORD_BYTES}
 use Rattle.words.specs.declared.class.Kind.{Kind}
 use Rattle.heap_history.specs.Ranks.{rank_of}
-use Rattle.heap_history.specs.Passes.{Entry, HeapPass, IsFine, begins}
+use Rattle.heap_history.specs.Passes.{Entry, HeapPass, IsFine, begins_with_attach}
 use Rattle.heap_history.specs.Headline.{Makes}
 
 -- what these events tell after those that were told, the newest first
@@ -93,34 +93,34 @@ LeavesRegister d (GlobalGet r g) = d ≢ r
 LeavesRegister d (GlobalPut g r) = Unit {0}
 
 -- Any number of a mutator's calls that leave its register, while nobody frees.
-pub data Keeps (pages d : ℕ) (old : HeapPass) : HeapPass → Type 0 where
-  nothing : Keeps pages d old old
-  longer : {now new : HeapPass} {call : Call} {reply : Reply} → Keeps pages d old now → LeavesRegister d call → MakesAfterNoFree pages now call reply new → Keeps pages d old new
+pub data CallsLeaveRegister (pages d : ℕ) (old : HeapPass) : HeapPass → Type 0 where
+  nothing : CallsLeaveRegister pages d old old
+  longer : {now new : HeapPass} {call : Call} {reply : Reply} → CallsLeaveRegister pages d old now → LeavesRegister d call → MakesAfterNoFree pages now call reply new → CallsLeaveRegister pages d old new
 
 -- A mutator allocates an object, and its register has the base, as it is told. While its calls leave that register, the register has the
 -- base of an object, whatever others do between them, cycles and stores among it but no free.
 abbrev pub OwnObjectStays : Type 0
 OwnObjectStays = (pages d n a e : ℕ) (kind : Kind) (reply : Reply) (start made told later asked : HeapPass)
-    → Makes pages start (Alloc d n kind) Done made → MakesAfterNoFree pages made (Get d) (Word a) told → Keeps pages d told later
+    → Makes pages start (Alloc d n kind) Done made → MakesAfterNoFree pages made (Get d) (Word a) told → CallsLeaveRegister pages d told later
     → MakesAfterNoFree pages later (Base e d) reply asked → reply ≡ Word a
 
 -- A mutator allocates an object, and calls that leave its register follow. Then it puts a word into another register and stores it in
 -- the object. Its next load from there answers that word, whatever others do between, cycles among it, but stores and frees.
 abbrev pub OwnWordStays : Type 0
 OwnWordStays = (pages d n r w k e : ℕ) (kind : Kind) (reply : Reply) (start made later set stored loaded : HeapPass) → d ≢ r → k < n
-    → Makes pages start (Alloc d n kind) Done made → Keeps pages d made later → MakesAfterNoFree pages later (Set r w) Done set
+    → Makes pages start (Alloc d n kind) Done made → CallsLeaveRegister pages d made later → MakesAfterNoFree pages later (Set r w) Done set
     → MakesAfterNoFree pages set (Store d k r) Done stored → MakesAfterNoWrite pages stored (Load e d k) reply loaded → reply ≡ Word w
 
 -- Two objects that a mutator allocates, the second while a register has the first, don't overlap, if nobody frees between.
 abbrev pub OwnObjectsApart : Type 0
 OwnObjectsApart = (pages d n a d' n' b : ℕ) (kind kind' : Kind) (start made told later more asked : HeapPass)
-    → Makes pages start (Alloc d n kind) Done made → MakesAfterNoFree pages made (Get d) (Word a) told → Keeps pages d told later
+    → Makes pages start (Alloc d n kind) Done made → MakesAfterNoFree pages made (Get d) (Word a) told → CallsLeaveRegister pages d told later
     → MakesAfterNoFree pages later (Alloc d' n' kind') Done more → Makes pages more (Get d') (Word b) asked
     → (a + WORD_BYTES * n ≤ b) ⊎ (b + WORD_BYTES * n' ≤ a)
 
 -- A mutator's own events begin with its attach.
 abbrev pub MineBegins : Type 0
-MineBegins = (pages : ℕ) (pass : HeapPass) → IsFine pages pass → pass.slot < SLOTS → begins pass.mine ≡ true
+MineBegins = (pages : ℕ) (pass : HeapPass) → IsFine pages pass → pass.slot < SLOTS → begins_with_attach pass.mine ≡ true
 
 -- What a pass sees has at least as many collections as what it had seen.
 abbrev pub CountGrows : Type 0

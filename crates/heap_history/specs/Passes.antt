@@ -34,11 +34,11 @@ abbrev pub is_marking : List Entry → Bool
 is_marking es = marking_from false es
 
 -- the events begin with an attach
-abbrev pub begins : List Entry → Bool
-begins [] = false
-begins (e ∷ es) = is_first (rank_of e.call)
+abbrev pub begins_with_attach : List Entry → Bool
+begins_with_attach [] = false
+begins_with_attach (e ∷ es) = is_first (rank_of e.call)
 
 -- a mutator's pass
-pub record IsMutator (slot : ℕ) (pass : HeapPass) : Type 0 where
+pub record IsMutatorPass (slot : ℕ) (pass : HeapPass) : Type 0 where
   pub slot_is : pass.slot ≡ slot
   pub range : slot < SLOTS

@@ -9,8 +9,8 @@ use Rattle.heap_spec.specs.Layout.{LiesOn}
 use Rattle.heap_spec.specs.Heap.{Heap, Object, HasObject}
 
 -- no object lies on the page
-abbrev pub IsFree : Heap → ℕ → Type 0
-IsFree s page = (base : ℕ) (o : Object) → HasObject s base o → LiesOn base (length o.words) page → ⊥
+abbrev pub IsEmptyPage : Heap → ℕ → Type 0
+IsEmptyPage s page = (base : ℕ) (o : Object) → HasObject s base o → LiesOn base (length o.words) page → ⊥
 
 -- each object on the page has this many words and this kind
 abbrev pub IsCutFor : Heap → ℕ → ℕ → Kind → Type 0
@@ -24,14 +24,14 @@ pub record HasSmallRoom (s : Heap) (class : ℕ) (kind : Kind) (a : ℕ) : Type 
   pub in_heap : page < s.pages
   pub in_page : class * (cell + 1) ≤ PAGE_WORDS
   pub is_cell : a ≡ page_start page + WORD_BYTES * (class * cell)
-  pub cut : IsFree s page ⊎ (IsCutFor s page class kind × (s.objects a ≡ None))
+  pub cut : IsEmptyPage s page ⊎ (IsCutFor s page class kind × (s.objects a ≡ None))
 
 -- An address has room for a large request if it is the start of so many pages in a row on which no object lies.
 pub record HasLargeRoom (s : Heap) (pages a : ℕ) : Type 0 where
   pub first : ℕ
   pub in_heap : first + pages ≤ s.pages
   pub is_start : a ≡ page_start first
-  pub free : (page : ℕ) → first ≤ page → page < first + pages → IsFree s page
+  pub free : (page : ℕ) → first ≤ page → page < first + pages → IsEmptyPage s page
 
 -- the address has room for a request of this placement
 abbrev pub HasRoom : Heap → Placement → Kind → ℕ → Type 0

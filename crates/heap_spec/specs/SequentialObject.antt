@@ -35,17 +35,17 @@ pub record IsCaller (s : Heap) (who slot : ℕ) : Type 0 where
 
 -- Who may make an event: an attached mutator its own calls, and a collector, who is number 16, its own. An attach is made by
 -- the slot that it gets.
-abbrev pub Fits : Heap → ℕ → Event → Type 0
-Fits s who Attach = (who < SLOTS) × IsLowestVacant s who
-Fits s who (Mutator slot call) = IsCaller s who slot
-Fits s who Begin = who ≡ SLOTS
-Fits s who Finish = who ≡ SLOTS
-Fits s who Collect = who ≡ SLOTS
-Fits s who _ = ⊥
+abbrev pub MayMake : Heap → ℕ → Event → Type 0
+MayMake s who Attach = (who < SLOTS) × IsLowestVacant s who
+MayMake s who (Mutator slot call) = IsCaller s who slot
+MayMake s who Begin = who ≡ SLOTS
+MayMake s who Finish = who ≡ SLOTS
+MayMake s who Collect = who ≡ SLOTS
+MayMake s who _ = ⊥
 
 -- One step of a state: who makes the event fits it, its numbers are in range, and the run goes on by it.
 pub record StateStep (state : HeapState) (who : ℕ) (event : Event) (reply : Reply) (next : HeapState) : Type 0 where
-  pub fits : Fits (heap_of state) who event
+  pub fits : MayMake (heap_of state) who event
   pub in_range : InRange event
   pub heap : Heap
   pub happens : Happens Touched (fresh state.pages) state.run event reply heap

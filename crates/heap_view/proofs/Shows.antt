@@ -3,7 +3,7 @@ use Rattle.std.proofs.Common.{◌≡◌, ℕ, ◌+◌, ◌-◌, ◌*◌, ◌/◌
 use Rattle.std.specs.Prelude.{slice_index}
 use Rattle.std.proofs.lemmas.Option.{same_Some}
 use Rattle.words.specs.declared.limits.TheConstants.{FIRST_ADDRESS, PAGE_WORDS}
-use Rattle.heap_spec.specs.Layout.{Reads as IsRead}
+use Rattle.heap_spec.specs.Layout.{Reads}
 use Rattle.heap_spec.specs.Heap.{Object}
 use Rattle.pages.specs.Memory.{IsWordAddress, place, word_at}
 use Rattle.block_map.specs.Objects.{IsMap}
@@ -44,7 +44,7 @@ module _ (found : ℕ → Option Found) (pages : ℕ) (map : IsMap pages found) 
 
   module _ (words : List ℕ) (objects : ℕ → Option Object) (shows : ShowsObjects found words objects) where
     -- an address that finds an object reads the heap's
-    pub reads_object : (w : ℕ) (f : Found) → found w ≡ Some f → (o : Object) × (objects f.base ≡ Some o) × IsShown words f o × IsRead w f.base (length o.words)
+    pub reads_object : (w : ℕ) (f : Found) → found w ≡ Some f → (o : Object) × (objects f.base ≡ Some o) × IsShown words f o × Reads w f.base (length o.words)
     reads_object w f is =
         let kept = shows.kept f (at_base w f is) in
         let from = (map.reads w f is).from in let below = (map.reads w f is).below in let size = kept.2.size in
@@ -59,7 +59,7 @@ module _ (found : ℕ → Option Found) (pages : ℕ) (map : IsMap pages found) 
         (only.0, only.1, only.2, subst (IsShown words only.0) same kept.2)
 
     -- an address that finds nothing reads nothing
-    pub reads_nothing : (w : ℕ) → found w ≡ None → (base : ℕ) (o : Object) → objects base ≡ Some o → IsRead w base (length o.words) → ⊥
+    pub reads_nothing : (w : ℕ) → found w ≡ None → (base : ℕ) (o : Object) → objects base ≡ Some o → Reads w base (length o.words) → ⊥
     reads_nothing w none base o is reads =
         let only = seen base o is in
         let size = only.3.size in

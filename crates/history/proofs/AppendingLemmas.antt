@@ -12,7 +12,7 @@ use Rattle.history.specs.declared.view.View.{View}
 use Rattle.history.specs.Histories.{is_first, is_last, is_live}
 use Rattle.history.specs.Passes.{Owned}
 use Rattle.history.specs.Plays.{MayAppend, acted, Acted, began, Began, ended, Ended}
-use Rattle.history.specs.Rules.{tally, keeping, holding, Fits, Standing, Kept}
+use Rattle.history.specs.Rules.{tally, keeping, holding, IsTrueOfView, Standing, Kept}
 use Rattle.history.specs.Views.{opener}
 use Rattle.history.proofs.Fitting.{off, has_one, has_none, alone, sole, owned_whole, follows_whole, follows_longer, fits_longer, fits_set, at_keeper}
 use Rattle.history.proofs.Tallies.{tally_set, tally_one, tally_none}
@@ -20,7 +20,7 @@ use Rattle.history.proofs.Snocs.{count_snoc, own_first, own_more, live_here}
 
 module _ {C R : Type 0} (rank : C → Rank) (legal : List (Event C R) → Type 0) where
   -- the keeper appends an event of a slot of which no other seat has a pass
-  appends : (ws : List ℕ) (views : List (View C R)) (id : ℕ) (v w : View C R) (said : List (Event C R)) (e : Event C R) (k : ℕ) → Standing rank legal ws views v.log → get_elem? views id ≡ some v → MayAppend rank legal said k v e → Fits rank (v.log ++ e ∷ []) w → keeping w ≡ keeping v
+  appends : (ws : List ℕ) (views : List (View C R)) (id : ℕ) (v w : View C R) (said : List (Event C R)) (e : Event C R) (k : ℕ) → Standing rank legal ws views v.log → get_elem? views id ≡ some v → MayAppend rank legal said k v e → IsTrueOfView rank (v.log ++ e ∷ []) w → keeping w ≡ keeping v
       → ((j : ℕ) (u : View C R) → j ≢ id → get_elem? views j ≡ some u → 1 ≤ holding e.who u → ⊥)
       → ((who : ℕ) → tally (holding who) (set views id w) ≤ 1)
       → Standing rank legal (set ws 0 ((slice_index ws 0 + k) % 2 ^ 64)) (set views id w) (v.log ++ e ∷ [])
@@ -104,7 +104,7 @@ module _ {C R : Type 0} (rank : C → Rank) (legal : List (Event C R) → Type 0
       )
 
   -- nobody has a pass of a slot that isn't live
-  nobody_has : (views : List (View C R)) (log : List (Event C R)) (who : ℕ) → is_live rank who log ≡ false → ((by : ℕ) (u : View C R) → get_elem? views by ≡ some u → Fits rank log u) → (j : ℕ) (u : View C R) → get_elem? views j ≡ some u → holding who u ≡ 0
+  nobody_has : (views : List (View C R)) (log : List (Event C R)) (who : ℕ) → is_live rank who log ≡ false → ((by : ℕ) (u : View C R) → get_elem? views by ≡ some u → IsTrueOfView rank log u) → (j : ℕ) (u : View C R) → get_elem? views j ≡ some u → holding who u ≡ 0
   nobody_has views log who closed fits j u there =
       let f = fits j u there in
       let dead = λ (n : ℕ) (live : is_live rank n log ≡ true) (same : n ≡ who). true≢false (sym live ∙ (ap (λ (m : ℕ). is_live rank m log) same ∙ closed)) in
@@ -167,8 +167,8 @@ module _ {C R : Type 0} (rank : C → Rank) (legal : List (Event C R) → Type 0
     },
   )
     where
-      only : (by : ℕ) (v : View C R) → get_elem? (opener ∷ []) by ≡ some v → Fits rank [] v
-      only zero v e = subst (λ (y : View C R). Fits rank [] y) (some-injective _ _ e) (record { keeper = λ _. refl; pass = λ _. follows_whole rank [] COLLECTOR [] (record { own_is = refl; live = refl }); guest = λ t. absurd (off t) })
+      only : (by : ℕ) (v : View C R) → get_elem? (opener ∷ []) by ≡ some v → IsTrueOfView rank [] v
+      only zero v e = subst (λ (y : View C R). IsTrueOfView rank [] y) (some-injective _ _ e) (record { keeper = λ _. refl; pass = λ _. follows_whole rank [] COLLECTOR [] (record { own_is = refl; live = refl }); guest = λ t. absurd (off t) })
       only (suc by) v e = absurd (some-ne-none v (sym e))
 
       one_slot : (who : ℕ) → Dec (COLLECTOR ≡ who) → tally (holding {C = C} {R = R} who) (opener ∷ []) ≤ 1

@@ -6,7 +6,7 @@ use Rattle.history.specs.declared.event.Event.{Event}
 use Rattle.history.specs.declared.view.Known.{Known}
 use Rattle.history.specs.declared.view.View.{View}
 use Rattle.history.specs.Passes.{Owned}
-use Rattle.history.specs.Plays.{Acted, Began, Ended, slot_of}
+use Rattle.history.specs.Plays.{Acted, Began, Ended, first_slot}
 use Rattle.history.specs.Views.{with_guest, without_guest, only_guest, only_pass, with_pass}
 
 module _ {C R : Type 0} where
@@ -24,7 +24,7 @@ module _ {C R : Type 0} where
   -- a new pass has seen them, as its slot's first
   pub record New (said : List (Event C R)) (k p3 : Me Unit (View C R)) : Type 0 where
     pub holds_is : p3.0.holds ≡ true
-    pub pass_is : p3.0.pass ≡ record { slot = slot_of said; seen = k.0.log ++ said; mine = said }
+    pub pass_is : p3.0.pass ≡ record { slot = first_slot said; seen = k.0.log ++ said; mine = said }
 
   pub act_longer : (rank : C → Rank) (said : List (Event C R)) (k p k1 k2 k3 : Me Unit (View C R)) → k1 ≡ (with_guest k.0 (only_pass p.0), k.1) → Acted rank said k1 k2 → k3 ≡ (without_guest k2.0, k2.1) → Longer said k k3
   act_longer rank said k p k1 k2 k3 lent step back = record {

@@ -8,7 +8,7 @@ use Rattle.history.specs.declared.event.Event.{Event}
 use Rattle.history.specs.declared.view.Known.{Known}
 use Rattle.history.specs.declared.view.View.{View}
 use Rattle.history.specs.Passes.{Owned}
-use Rattle.history.specs.Rules.{tally, keeping, has, holding, Follows, Fits, Standing, Kept}
+use Rattle.history.specs.Rules.{tally, keeping, has, holding, HasSeenPart, IsTrueOfView, Standing, Kept}
 use Rattle.history.specs.Views.{nobody}
 use Rattle.history.proofs.Growing.{grows_self, grows_more, owned_grows}
 use Rattle.history.proofs.Tallies.{tally_two}
@@ -37,19 +37,19 @@ module _ {C R : Type 0} where
 
 module _ {C R : Type 0} (rank : C → Rank) where
   -- at the whole history the pass's own events are its slot's
-  pub owned_whole : (log : List (Event C R)) (p : Known C R) → Follows rank log p → Owned rank p.slot log p.mine
+  pub owned_whole : (log : List (Event C R)) (p : Known C R) → HasSeenPart rank log p → Owned rank p.slot log p.mine
   owned_whole log p f = owned_grows rank p.slot p.seen log p.mine f.grows f.owned
 
   -- a pass that has seen the whole history
-  pub follows_whole : (log : List (Event C R)) (slot : ℕ) (mine : List (Event C R)) → Owned rank slot log mine → Follows rank log (record { slot = slot; seen = log; mine = mine })
+  pub follows_whole : (log : List (Event C R)) (slot : ℕ) (mine : List (Event C R)) → Owned rank slot log mine → HasSeenPart rank log (record { slot = slot; seen = log; mine = mine })
   follows_whole log slot mine o = record { grows = grows_self slot log; owned = o }
 
   -- an event of another slot leaves the pass as it fits
-  pub follows_longer : (log : List (Event C R)) (e : Event C R) (p : Known C R) → Follows rank log p → e.who ≢ p.slot → Follows rank (log ++ e ∷ []) p
+  pub follows_longer : (log : List (Event C R)) (e : Event C R) (p : Known C R) → HasSeenPart rank log p → e.who ≢ p.slot → HasSeenPart rank (log ++ e ∷ []) p
   follows_longer log e p f ne = record { grows = grows_more p.slot p.seen log e ne f.grows; owned = f.owned }
 
   -- an event of a slot of which the seat has no pass leaves its view as it fits, if it doesn't keep the history
-  pub fits_longer : (log : List (Event C R)) (e : Event C R) (u : View C R) → Fits rank log u → (u.keeps ≡ true → ⊥) → (1 ≤ holding e.who u → ⊥) → Fits rank (log ++ e ∷ []) u
+  pub fits_longer : (log : List (Event C R)) (e : Event C R) (u : View C R) → IsTrueOfView rank log u → (u.keeps ≡ true → ⊥) → (1 ≤ holding e.who u → ⊥) → IsTrueOfView rank (log ++ e ∷ []) u
   fits_longer log e u f k h = record {
     keeper = λ t. absurd (k t);
     pass = λ t. follows_longer log e u.pass (f.pass t) (λ same. h (omega (arith, has_one e.who u.holds u.pass t (sym same))));
@@ -57,15 +57,15 @@ module _ {C R : Type 0} (rank : C → Rank) where
   }
 
   -- where one view changes, the others stay as they fit
-  pub fits_set : (now : List (Event C R)) (views : List (View C R)) (id : ℕ) (w : View C R) → ((j : ℕ) (u : View C R) → j ≢ id → get_elem? views j ≡ some u → Fits rank now u) → Fits rank now w
-      → (j : ℕ) (u : View C R) → get_elem? (set views id w) j ≡ some u → Fits rank now u
+  pub fits_set : (now : List (Event C R)) (views : List (View C R)) (id : ℕ) (w : View C R) → ((j : ℕ) (u : View C R) → j ≢ id → get_elem? views j ≡ some u → IsTrueOfView rank now u) → IsTrueOfView rank now w
+      → (j : ℕ) (u : View C R) → get_elem? (set views id w) j ≡ some u → IsTrueOfView rank now u
   fits_set now views id w others mine j u e =
       ⊎_elim
-      (λ (x : (j ≡ id) × (w ≡ u)). subst (λ (y : View C R). Fits rank now y) x.1 mine)
+      (λ (x : (j ≡ id) × (w ≡ u)). subst (λ (y : View C R). IsTrueOfView rank now y) x.1 mine)
       (λ (x : (j ≢ id) × (get_elem? views j ≡ some u)). others j u x.0 x.1)
       (at_set views id j w u e)
 
-  pub fits_nobody : (log : List (Event C R)) → Fits rank log nobody
+  pub fits_nobody : (log : List (Event C R)) → IsTrueOfView rank log nobody
   fits_nobody log = record { keeper = λ t. absurd (off t); pass = λ t. absurd (off t); guest = λ t. absurd (off t) }
 
   -- the keeper's history is the history

@@ -14,7 +14,7 @@ use Rattle.history.specs.declared.view.View.{View}
 use Rattle.history.specs.Histories.{GrowsByOthers}
 use Rattle.history.specs.Passes.{longer}
 use Rattle.history.specs.Plays.{learnt, Learnt, saw, Saw, met, Met}
-use Rattle.history.specs.Rules.{keeping, holding, Follows, Fits, Standing, Kept}
+use Rattle.history.specs.Rules.{keeping, holding, HasSeenPart, IsTrueOfView, Standing, Kept}
 use Rattle.history.proofs.Fronts.{prefix_self, prefix_shorter}
 use Rattle.history.proofs.Growing.{prefix_of, grows_within, owned_grows}
 use Rattle.history.proofs.Fitting.{has_one, owned_whole, follows_whole, fits_set, at_keeper}
@@ -22,7 +22,7 @@ use Rattle.history.proofs.Tallies.{tally_set, tally_one}
 
 module _ {C R : Type 0} (rank : C → Rank) (legal : List (Event C R) → Type 0) where
   -- a step that appends nothing
-  stays : (ws : List ℕ) (views : List (View C R)) (log : List (Event C R)) (id : ℕ) (v w : View C R) → Standing rank legal ws views log → get_elem? views id ≡ some v → Fits rank log w → keeping w ≡ keeping v → ((who : ℕ) → holding who w ≡ holding who v)
+  stays : (ws : List ℕ) (views : List (View C R)) (log : List (Event C R)) (id : ℕ) (v w : View C R) → Standing rank legal ws views log → get_elem? views id ≡ some v → IsTrueOfView rank log w → keeping w ≡ keeping v → ((who : ℕ) → holding who w ≡ holding who v)
       → Standing rank legal (set ws 0 (slice_index ws 0)) (set views id w) log
   stays ws views log id v w st at fw kw hw = record {
     words_are = ap (λ (x : List ℕ). set x 0 (slice_index x 0)) st.words_are;
@@ -75,17 +75,17 @@ module _ {C R : Type 0} (rank : C → Rank) (legal : List (Event C R) → Type 0
   second_begins xs ys log true e p q = subst (λ (b : Bool). IsPrefix ys (cond b ys xs)) (sym e) (prefix_self ys)
   second_begins xs ys log false e p q = let less = leb-false (length xs) (length ys) e in subst (λ (b : Bool). IsPrefix ys (cond b ys xs)) (sym e) (prefix_shorter ys xs log q p (omega (arith, less)))
 
-  shorter_grows : (log : List (Event C R)) (p q : Known C R) → Follows rank log p → Follows rank log q → length p.seen ≤ length q.seen → GrowsByOthers p.slot p.seen q.seen
+  shorter_grows : (log : List (Event C R)) (p q : Known C R) → HasSeenPart rank log p → HasSeenPart rank log q → length p.seen ≤ length q.seen → GrowsByOthers p.slot p.seen q.seen
   shorter_grows log p q f g h =
       let top = prefix_of q.slot q.seen log g.grows in
       (grows_within p.slot p.seen q.seen log (prefix_shorter p.seen q.seen log (prefix_of p.slot p.seen log f.grows) top h) top f.grows).0
 
-  one_grows : (log : List (Event C R)) (p q : Known C R) → Follows rank log p → Follows rank log q → Dec (length p.seen ≤ length q.seen) → GrowsByOthers p.slot p.seen q.seen ⊎ GrowsByOthers q.slot q.seen p.seen
+  one_grows : (log : List (Event C R)) (p q : Known C R) → HasSeenPart rank log p → HasSeenPart rank log q → Dec (length p.seen ≤ length q.seen) → GrowsByOthers p.slot p.seen q.seen ⊎ GrowsByOthers q.slot q.seen p.seen
   one_grows log p q f g (yes h) = inl (shorter_grows log p q f g h)
   one_grows log p q f g (no n) = inr (shorter_grows log q p g f (omega arith))
 
   -- a pass that has seen more of the history than before
-  follows_more : (log more : List (Event C R)) (p : Known C R) → Follows rank log p → IsPrefix p.seen more → IsPrefix more log → Follows rank log (record { slot = p.slot; seen = more; mine = p.mine })
+  follows_more : (log more : List (Event C R)) (p : Known C R) → HasSeenPart rank log p → IsPrefix p.seen more → IsPrefix more log → HasSeenPart rank log (record { slot = p.slot; seen = more; mine = p.mine })
   follows_more log more p f longer_is top =
       let both = grows_within p.slot p.seen more log longer_is top f.grows in
       record { grows = both.1; owned = owned_grows rank p.slot p.seen more p.mine both.0 f.owned }

@@ -27,18 +27,18 @@ module _ {C R : Type 0} where
     pub view_is : w ≡ (acted said v.0, v.1)
 
   -- the slot of the first of these events, and 0 of none
-  abbrev pub slot_of : List (Event C R) → ℕ
-  slot_of [] = 0
-  slot_of (e ∷ es) = e.who
+  abbrev pub first_slot : List (Event C R) → ℕ
+  first_slot [] = 0
+  first_slot (e ∷ es) = e.who
 
   -- The first event of a slot, which makes its pass the keeper's guest: the guest has seen the whole history with this event,
   -- which is its only one.
   abbrev pub began : List (Event C R) → View C R → View C R
-  began said v = record v { log = v.log ++ said; hosts = true; guest = record { slot = slot_of said; seen = v.log ++ said; mine = said } }
+  began said v = record v { log = v.log ++ said; hosts = true; guest = record { slot = first_slot said; seen = v.log ++ said; mine = said } }
 
   -- The step of such an event: the guest's own events are exactly this one.
   pub record Began (rank : C → Rank) (said : List (Event C R)) (v w : Me Unit (View C R)) : Type 0 where
-    pub owned : Owned rank (slot_of said) (v.0.log ++ said) said
+    pub owned : Owned rank (first_slot said) (v.0.log ++ said) said
     pub view_is : w ≡ (began said v.0, v.1)
 
   -- The last event of the keeper's guest, which is spent.

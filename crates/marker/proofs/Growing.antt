@@ -6,7 +6,7 @@ use Rattle.words.specs.declared.class.Kind.TheVariants.{Normal}
 use Rattle.words.specs.Bits.{Has}
 use Rattle.block_map.specs.declared.found.Found.{Found}
 use Rattle.marker.specs.declared.entry.Entry.{Entry}
-use Rattle.marker.specs.Marking.{Marking, IsMarked, IsEntry, IsPending, IsObjectGranule, Covers, IsNewlyMarked}
+use Rattle.marker.specs.Marking.{Marking, IsMarked, IsEntry, IsLeftToEntry, IsObjectGranule, Covers, IsNewlyMarked}
 use Rattle.marker.specs.Closure.{held}
 use Rattle.marker.specs.Invariant.{DirtyPageInvariant, IsTargetMarked, IsAwaited}
 use Rattle.marker.specs.Work.{cost}
@@ -54,7 +54,7 @@ module _ (found : ℕ → Option Found) where
   entry_more : (a b : Marking) → Extends found a b → (e : Entry) → IsEntry a e → IsEntry b e
   entry_more a b x e one = ⊎_elim (λ (h : a.current ≡ Some e). inl (x.current ∙ h)) (λ h. inr (below_contains a.stack b.stack e x.stack h)) one
 
-  pub pending_more : (a b : Marking) → Extends found a b → (base i : ℕ) → IsPending a base i → IsPending b base i
+  pub pending_more : (a b : Marking) → Extends found a b → (base i : ℕ) → IsLeftToEntry a base i → IsLeftToEntry b base i
   pending_more a b x base i p = record { entry = p.entry; one = entry_more a b x p.entry p.one; same = p.same; left = p.left }
 
   pub awaited_more : (a b : Marking) → Extends found a b → (f : Found) (i : ℕ) → IsAwaited a f i → IsAwaited b f i

@@ -9,7 +9,7 @@ use Rattle.blocks.specs.Lists.{ChangesPage}
 use Rattle.block_map.specs.declared.found.Found.{Found}
 use Rattle.block_map.specs.Changes.{IsRemoved}
 use Rattle.block_map.specs.FoundIn.{found_in}
-use Rattle.block_map.specs.Objects.{IsMap, Reads}
+use Rattle.block_map.specs.Objects.{IsMap, IsInside}
 use Rattle.block_map.specs.States.{PageState, free, state_at}
 use Rattle.block_map.proofs.Finding.{on_free}
 use Rattle.marker.specs.Marking.{word_address}
@@ -29,7 +29,7 @@ written_kept pages found after words v f map object removed g i e lt = get_or-se
         let c = (map.placed g.base g there).aligned in let d = (map.placed g.base g there).above in
         let is : found f.base ≡ Some g = map.whole g.base f.base g there (record { from = omega arith; below = omega arith }) in
         let s : f ≡ g = same_Some f g (sym object ∙ is) in
-        let gone : None ≡ Some g = sym (removed.before g.base (subst (λ (h : Found). Reads h.base f) s (record { from = omega arith; below = omega arith }))) ∙ e in
+        let gone : None ≡ Some g = sym (removed.before g.base (subst (λ (h : Found). IsInside h.base f) s (record { from = omega arith; below = omega arith }))) ∙ e in
         cc gone
 
 -- words of a free page change

@@ -5,20 +5,20 @@ use Rattle.std.proofs.lemmas.Option.{same_Some}
 use Rattle.std.proofs.lemmas.Bool.{false≢true, cases_eq, cases_lt}
 use Rattle.std.proofs.lemmas.List.{get_or_past}
 use Rattle.block_map.specs.declared.found.Found.{Found}
-use Rattle.block_map.specs.Objects.{Reads, IsMap}
+use Rattle.block_map.specs.Objects.{IsInside, IsMap}
 use Rattle.words.specs.declared.limits.TheConstants.{WORD_BYTES}
 use Rattle.words.specs.Bits.{Has}
 use Rattle.words.specs.Layout.{page_of, granule}
 use Rattle.pages.specs.Memory.{place, word_at, with_word_at}
-use Rattle.marker.specs.Marking.{Marking, IsFresh, IsMarked, IsPending, AreMarksObjects, word_address}
+use Rattle.marker.specs.Marking.{Marking, IsFresh, IsMarked, IsLeftToEntry, AreMarksObjects, word_address}
 use Rattle.marker.specs.Invariant.{DirtyPageInvariant}
-use Rattle.marker.specs.Mutations.{IsWritten, IsAllocated, IsFreed, HasNoNew, KeepsWords, HasZeroWords}
+use Rattle.marker.specs.Mutations.{DirtiesPage, IsAllocated, IsFreed, HasNoNew, KeepsWords, HasZeroWords}
 use Rattle.block_map.specs.Changes.{IsAdded, IsRemoved, IsSameMap}
 use Rattle.marker.proofs.Closures.{at_base, same_object}
 use Rattle.marker.proofs.Spreads.{has_set, has_set_back}
 
 -- the entries are the same
-pending_same : (a b : Marking) → b.current ≡ a.current → b.stack ≡ a.stack → (base i : ℕ) → IsPending a base i → IsPending b base i
+pending_same : (a b : Marking) → b.current ≡ a.current → b.stack ≡ a.stack → (base i : ℕ) → IsLeftToEntry a base i → IsLeftToEntry b base i
 pending_same a b c s base i p = record {
   entry = p.entry;
   one = ⊎_elim (λ (h : a.current ≡ Some p.entry). inl (c ∙ h)) (λ h. inr (subst (λ y. Contains y p.entry) (sym s) h)) p.one;
@@ -38,7 +38,7 @@ was_set row k p h =
     (cases_eq p k)
 
 -- a word is stored
-pub store_traced : (found : ℕ → Option Found) (words : List ℕ) (address w : ℕ) (old new : Marking) → IsWritten address old new → page_of address < length old.dirty
+pub store_traced : (found : ℕ → Option Found) (words : List ℕ) (address w : ℕ) (old new : Marking) → DirtiesPage address old new → page_of address < length old.dirty
     → DirtyPageInvariant found words old → DirtyPageInvariant found (with_word_at words address w) new
 store_traced found words address w old new x inside t f e n k i lt =
     ⊎_elim
@@ -54,18 +54,18 @@ store_traced found words address w old new x inside t f e n k i lt =
     (cases_eq (page_of (word_address f i)) (page_of address))
 
 -- the address is one of the object's, or it isn't
-reads_cases : (w : ℕ) (f : Found) → Reads w f ⊎ (Reads w f → ⊥)
+reads_cases : (w : ℕ) (f : Found) → IsInside w f ⊎ (IsInside w f → ⊥)
 reads_cases w f =
-    ⊎_elim (λ (lt : w < f.base). inr (λ (r : Reads w f). let a = r.from in absurd (omega arith)))
-    (λ ge. ⊎_elim (λ (lt : w < f.base + WORD_BYTES * f.len). inl (record { from = omega arith; below = lt })) (λ le. inr (λ (r : Reads w f). let b = r.below in absurd (omega arith))) (cases_lt w (f.base + WORD_BYTES * f.len)))
+    ⊎_elim (λ (lt : w < f.base). inr (λ (r : IsInside w f). let a = r.from in absurd (omega arith)))
+    (λ ge. ⊎_elim (λ (lt : w < f.base + WORD_BYTES * f.len). inl (record { from = omega arith; below = lt })) (λ le. inr (λ (r : IsInside w f). let b = r.below in absurd (omega arith))) (cases_lt w (f.base + WORD_BYTES * f.len)))
     (cases_lt w f.base)
 
 -- where an object has left, none has come
 pub removed_less : (found after : ℕ → Option Found) (f : Found) → IsRemoved found after f → HasNoNew found after
 removed_less found after f r = record {
   before = λ w g e. ⊎_elim
-      (λ (in_it : Reads w f). let x : None ≡ Some g = sym (r.before w in_it) ∙ e in absurd (cc x))
-      (λ (not : Reads w f → ⊥). r.others w not ∙ e)
+      (λ (in_it : IsInside w f). let x : None ≡ Some g = sym (r.before w in_it) ∙ e in absurd (cc x))
+      (λ (not : IsInside w f → ⊥). r.others w not ∙ e)
       (reads_cases w f);
 }
 
@@ -106,7 +106,7 @@ pub freed_objects : (found after : ℕ → Option Found) (f : Found) (old new : 
 freed_objects found after f old new object removed x all k h =
     let was = was_set old.marks (granule f.base) k (subst (λ q. Has q k) x.marks h) in
     let o = all k was.0 in
-    let apart : Reads o.object.base f → ⊥ = λ r. was.1 (sym o.first ∙ ap (λ (g : Found). granule g.base) (same_Some o.object f (sym o.is ∙ removed.after _ r))) in
+    let apart : IsInside o.object.base f → ⊥ = λ r. was.1 (sym o.first ∙ ap (λ (g : Found). granule g.base) (same_Some o.object f (sym o.is ∙ removed.after _ r))) in
     record { object = o.object; is = sym (removed.others _ apart) ∙ o.is; first = o.first }
 
 -- an object comes, with words 0
@@ -115,7 +115,7 @@ pub alloc_traced : (pages : ℕ) (found after : ℕ → Option Found) (words wor
     → DirtyPageInvariant found words old → DirtyPageInvariant after words' new
 alloc_traced pages found after words words' f old new map object added same zero x inside t g e n k i lt =
     ⊎_elim
-    (λ (r : Reads g.base f).
+    (λ (r : IsInside g.base f).
     let s : g ≡ f = same_Some g f (sym e ∙ added.after g.base r) in
     inl (λ o y. absurd (
     let z : word_at words' (word_address g i) ≡ 0 = ap (λ h. word_at words' (word_address h i)) s ∙ zero i (subst (λ (h : Found). i < h.len) s lt) in
@@ -126,13 +126,13 @@ alloc_traced pages found after words words' f old new map object added same zero
     let some = (map.placed f.base f object).some in
     let marked : IsMarked old g.base =
     ⊎_elim (λ h. h)
-    (λ (z : granule g.base ≡ granule f.base). absurd (not (subst (λ (h : Found). Reads h.base f) (sym (same_object pages after map g f e object z)) (record { from = omega arith; below = omega arith }))))
+    (λ (z : granule g.base ≡ granule f.base). absurd (not (subst (λ (h : Found). IsInside h.base f) (sym (same_object pages after map g f e object z)) (record { from = omega arith; below = omega arith }))))
     (has_set_back old.marks (granule f.base) (granule g.base) (subst (λ q. Has q (granule g.base)) x.marks k)) in
     let more = λ (o : Found) (h : IsMarked old o.base). let y : IsMarked new o.base = subst (λ q. Has q (granule o.base)) (sym x.marks) (has_set old.marks (granule f.base) (granule o.base) inside h) in y in
     let here : IsMarked new f.base = subst (λ q. Has q (granule f.base)) (sym x.marks) (get_or-set_same old.marks (granule f.base) true false inside) in
     ⊎_elim
     (λ h. inl (λ o y. ⊎_elim
-    (λ (r : Reads (word_at words' (word_address g i)) f). subst (λ (q : Found). IsMarked new q.base) (same_Some f o (sym (added.after _ r) ∙ y)) here)
+    (λ (r : IsInside (word_at words' (word_address g i)) f). subst (λ (q : Found). IsMarked new q.base) (same_Some f o (sym (added.after _ r) ∙ y)) here)
     (λ no. more o (h o (ap found (sym (same g i was lt)) ∙ sym (added.others _ no) ∙ y)))
     (reads_cases (word_at words' (word_address g i)) f)))
     (λ a. inr (⊎_elim (λ d. inl (subst (λ q. Has q (page_of (word_address g i))) (sym x.dirty) d)) (λ p. inr (pending_same old new x.current x.stack g.base i p)) a))
@@ -151,7 +151,7 @@ alloc_objects found after f old new object added x all k h =
     ⊎_elim
     (λ o.
     let y = all k o in
-    let apart : Reads y.object.base f → ⊥ = λ r. let z : None ≡ Some y.object = sym (added.before _ r) ∙ y.is in absurd (cc z) in
+    let apart : IsInside y.object.base f → ⊥ = λ r. let z : None ≡ Some y.object = sym (added.before _ r) ∙ y.is in absurd (cc z) in
     record { object = y.object; is = added.others _ apart ∙ y.is; first = y.first })
     (λ (s : k ≡ granule f.base). record { object = f; is = object; first = sym s })
     (has_set_back old.marks (granule f.base) k (subst (λ q. Has q k) x.marks h))

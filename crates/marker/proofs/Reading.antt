@@ -8,7 +8,7 @@ use Rattle.pages.specs.Memory.{word_at}
 use Rattle.block_map.specs.declared.found.Found.{Found}
 use Rattle.block_map.specs.Objects.{IsMap}
 use Rattle.marker.specs.declared.entry.Entry.{Entry}
-use Rattle.marker.specs.Marking.{Marking, IsPending, StaysDirty, with_current, word_address}
+use Rattle.marker.specs.Marking.{Marking, IsLeftToEntry, StaysDirty, with_current, word_address}
 use Rattle.marker.specs.Work.{left, left_of, cost}
 use Rattle.marker.specs.Invariant.{DirtyPageInvariant, IsTargetMarked, IsAwaited}
 use Rattle.marker.specs.Growth.{Traces}
@@ -40,7 +40,7 @@ module _ (pages : ℕ) (found : ℕ → Option Found) (map : IsMap pages found) 
   same : (g : Found) → found g.base ≡ Some g → g.base ≡ x.live.entry.base → x.object ≡ g
   same g is b = same_Some x.object g (sym x.live.unread.object ∙ ap found (x.live.unread.base ∙ sym b) ∙ is)
 
-  went_on : (g : Found) → found g.base ≡ Some g → (i : ℕ) → i < g.len → IsPending x.mid g.base i → IsTargetMarked found new (word_at words (word_address g i)) ⊎ IsAwaited new g i
+  went_on : (g : Found) → found g.base ≡ Some g → (i : ℕ) → i < g.len → IsLeftToEntry x.mid g.base i → IsTargetMarked found new (word_at words (word_address g i)) ⊎ IsAwaited new g i
   went_on g is i lt p =
       ⊎_elim
       (λ (c : x.mid.current ≡ Some p.entry).

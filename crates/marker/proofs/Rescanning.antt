@@ -12,7 +12,7 @@ use Rattle.pages.specs.Memory.{word_at}
 use Rattle.block_map.specs.declared.found.Found.{Found}
 use Rattle.block_map.specs.Objects.{IsMap}
 use Rattle.block_map.specs.Walks.{IsNextObject, IsNoObject}
-use Rattle.marker.specs.Marking.{Marking, IsMarked, IsPending, with_dirty, word_address}
+use Rattle.marker.specs.Marking.{Marking, IsMarked, IsLeftToEntry, with_dirty, word_address}
 use Rattle.marker.specs.Work.{page_words, cost}
 use Rattle.marker.specs.Closure.{held}
 use Rattle.marker.specs.Invariant.{DirtyPageInvariant}
@@ -169,7 +169,7 @@ module _ (pages : ℕ) (found : ℕ → Option Found) (map : IsMap pages found) 
         let above = (map.placed f.base f e).above in
         inl (words_targets pages found map mid size x.marks _ (x.all _ (record { object = f; is = e; normal = n; marked = o; index = i; inside = lt; word = refl; from = omega arith; below = omega arith }))))
         (λ ne. inr (inl (extends.dirty _ (still _ ne d)))) (cases_eq (page_of (word_address f i)) page))
-        (λ (p : IsPending old f.base i). inr (inr (pending_more found mid new extends f.base i (record { entry = p.entry; one = p.one; same = p.same; left = p.left })))) w)
+        (λ (p : IsLeftToEntry old f.base i). inr (inr (pending_more found mid new extends f.base i (record { entry = p.entry; one = p.one; same = p.same; left = p.left })))) w)
         (t f e n o i lt))
         (λ h. inr (h n i lt))
         (extends.fresh f e k)

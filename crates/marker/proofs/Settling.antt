@@ -11,7 +11,7 @@ use Rattle.words.specs.Bits.{Has}
 use Rattle.words.specs.Layout.{granule, page_of}
 use Rattle.block_map.specs.declared.found.Found.{Found}
 use Rattle.marker.specs.declared.entry.Entry.{Entry}
-use Rattle.marker.specs.Marking.{Marking, IsEntry, IsPending, entries, word_address}
+use Rattle.marker.specs.Marking.{Marking, IsEntry, IsLeftToEntry, entries, word_address}
 use Rattle.marker.specs.Work.{left, left_of, page_words, unmarked_from, cost}
 use Rattle.marker.specs.Invariant.{DirtyPageInvariant}
 use Rattle.marker.specs.Closure.{held}
@@ -111,7 +111,7 @@ module _ (found : ℕ → Option Found) where
     settled_traced words t f is n k i lt =
         ⊎_elim (λ g. inl (λ o e. subst (λ y. Has y (granule o.base)) (sym x.marks) (g o e)))
         (λ w. inr (⊎_elim (λ d. inl (subst (λ y. Has y (page_of (word_address f i))) (sym x.dirty) d))
-        (λ (p : IsPending a f.base i). ⊎_elim (λ one. inr (record { entry = p.entry; one = one; same = p.same; left = p.left }))
+        (λ (p : IsLeftToEntry a f.base i). ⊎_elim (λ one. inr (record { entry = p.entry; one = one; same = p.same; left = p.left }))
         (λ (s : IsSpent found a p.entry). absurd (let l = s f is (sym p.same) n (subst (λ y. Has y (granule f.base)) x.marks k) in let q = p.left in omega arith)) (settled_entry p.entry p.one)) w))
         (t f is n (subst (λ y. Has y (granule f.base)) x.marks k) i lt)
 

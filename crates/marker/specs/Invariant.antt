@@ -3,7 +3,7 @@ use Rattle.std.specs.Prelude.{◌≡◌, ℕ, ◌<◌, List, Contains, Option, S
 use Rattle.words.specs.declared.class.Kind.TheVariants.{Normal}
 use Rattle.pages.specs.Memory.{word_at}
 use Rattle.block_map.specs.declared.found.Found.{Found}
-use Rattle.marker.specs.Marking.{Marking, IsMarked, IsDirtyAt, IsPending, word_address}
+use Rattle.marker.specs.Marking.{Marking, IsMarked, IsDirtyAt, IsLeftToEntry, word_address}
 
 -- the object that the word points into, if any, is marked
 abbrev pub IsTargetMarked : (ℕ → Option Found) → Marking → ℕ → Type 0
@@ -11,7 +11,7 @@ IsTargetMarked found m w = (g : Found) → found w ≡ Some g → IsMarked m g.b
 
 -- the marker will come to the word i of the object
 abbrev pub IsAwaited : Marking → Found → ℕ → Type 0
-IsAwaited m f i = IsDirtyAt m (word_address f i) ⊎ IsPending m f.base i
+IsAwaited m f i = IsDirtyAt m (word_address f i) ⊎ IsLeftToEntry m f.base i
 
 -- For each word of a marked Normal object: what it points into is marked, or the word's page is dirty, or an entry with
 -- that object's base still has the word to read.

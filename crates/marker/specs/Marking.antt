@@ -79,7 +79,7 @@ abbrev pub IsEntry : Marking → Entry → Type 0
 IsEntry m e = (m.current ≡ Some e) ⊎ Contains m.stack e
 
 -- an entry still has the word i of the object with this base to read
-pub record IsPending (m : Marking) (base i : ℕ) : Type 0 where
+pub record IsLeftToEntry (m : Marking) (base i : ℕ) : Type 0 where
   pub entry : Entry
   pub one : IsEntry m entry
   pub same : entry.base ≡ base

@@ -6,7 +6,7 @@ use Rattle.block_map.specs.declared.found.Found.{Found}
 use Rattle.marker.specs.Marking.{Marking, word_address}
 
 -- the page of the address has become dirty
-pub record IsWritten (address : ℕ) (old new : Marking) : Type 0 where
+pub record DirtiesPage (address : ℕ) (old new : Marking) : Type 0 where
   pub marks : new.marks ≡ old.marks
   pub dirty : new.dirty ≡ slice_set old.dirty (page_of address) true
   pub current : new.current ≡ old.current

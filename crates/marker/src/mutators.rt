@@ -8,7 +8,7 @@ ghost use Rattle.block_map.specs.Changes.{IsAdded, IsRemoved};
 ghost use Rattle.pages.specs.Memory.{with_word_at};
 ghost use Rattle.marker.specs.Marking.{AreMarksObjects};
 ghost use Rattle.marker.specs.Invariant.{DirtyPageInvariant};
-ghost use Rattle.marker.specs.Mutations.{IsWritten, IsAllocated, IsFreed, KeepsWords, HasZeroWords};
+ghost use Rattle.marker.specs.Mutations.{DirtiesPage, IsAllocated, IsFreed, KeepsWords, HasZeroWords};
 
 use crate::marker::Marker;
 use mark_bits::granule_of;
@@ -21,7 +21,7 @@ impl Marker {
     pub fn written(&mut self, address: u64)
         requires low { FIRST_ADDRESS ≤ address }
         requires inside { page_of address < length self.old.dirty }
-        ensures written { IsWritten address self.old self.new }
+        ensures written { DirtiesPage address self.old self.new }
         ensures keeps { (found : ℕ → Option Found) (words : List ℕ) (w : ℕ) → DirtyPageInvariant found words self.old → DirtyPageInvariant found (with_word_at words address w) self.new }
     {
         self.dirty.set(page_of(address) as PageNo);

@@ -27,7 +27,7 @@ use Rattle.block_map.proofs.Listed.{listed_span}
 use Rattle.block_map.proofs.Unread.{listed_zeroed}
 use Rattle.marker.proofs.Keeping.{page_kept}
 use Rattle.block_map.proofs.Spans.{place_of}
-use Rattle.object_space.specs.Store.{Store, IsSound, Agree, IsPendingRow}
+use Rattle.object_space.specs.Store.{Store, HasSoundPages, Agree, IsPendingRow}
 use Rattle.heap_view.specs.Shows.{Shows}
 use Rattle.object_space.specs.Rooms.{IsFreeCell, HasNoFreeCell, HasRoomAt, HasNoRoom, TakesCell, CutsPage}
 use Rattle.object_space.specs.Sweeps.{Gains}
@@ -122,7 +122,7 @@ module _ (t : Store) (laid : IsLaid t.states) (lawful : IsLawful t.states) (clas
   other_state : (p : ℕ) → p ≢ page → state_at states' p ≡ state_at t.states p
   other_state p ne = ap (λ x. state_at x p) takes.became ∙ get_or-set_other t.states page p _ free ne
 
-  pub taken_sound : Agree t.free t.states → ((p : ℕ) (b : Cells) → p ≢ page → state_at t.states p ≡ cut b → (i : ℕ) × (get_or b.taken i false ≡ true)) → IsSound taken
+  pub taken_sound : Agree t.free t.states → ((p : ℕ) (b : Cells) → p ≢ page → state_at t.states p ≡ cut b → (i : ℕ) × (get_or b.taken i false ≡ true)) → HasSoundPages taken
   taken_sound agree used = record {
     agree = record {
       size = agree.size ∙ sym size;
@@ -157,7 +157,7 @@ module _ (t : Store) (laid : IsLaid t.states) (lawful : IsLawful t.states) (clas
       here b e = (cell, ap (λ (x : Cells). get_or x.taken cell false) (sym (same_cells _ b e)) ∙ get_or-set_same place_is.block.taken cell true false place_is.in_row)
 
 -- a free cell of a page that was cut already
-pub allocates_cell : (t : Store) (class : ℕ) (kind : Kind) (page cell base : ℕ) (words' : List ℕ) (states' : List PageState) → IsSound t → IsLaid t.states → IsLawful t.states
+pub allocates_cell : (t : Store) (class : ℕ) (kind : Kind) (page cell base : ℕ) (words' : List ℕ) (states' : List PageState) → HasSoundPages t → IsLaid t.states → IsLawful t.states
     → IsFreeCell t.states class kind page cell → TakesCell t.words words' t.states states' page cell base → HasRoomAt t (Small class) kind base
 allocates_cell t class kind page cell base words' states' sound laid lawful at takes keep s stores =
     subst (HasSmallRoom s class kind) (same ∙ sym takes.at) (room_of_cell keep t s sound laid lawful stores class kind page cell at)
@@ -170,8 +170,8 @@ allocates_cell t class kind page cell base words' states' sound laid lawful at t
         turned : cell * (8 * class) ≡ 8 * (class * cell)
         turned = omega arith
 
-pub sound_cell : (t : Store) (class : ℕ) (kind : Kind) (page cell base : ℕ) (words' : List ℕ) (states' : List PageState) → IsSound t → IsLaid t.states → IsLawful t.states
-    → IsFreeCell t.states class kind page cell → TakesCell t.words words' t.states states' page cell base → (Has t.pending page → ⊥) → IsSound (record t { words = words'; states = states' })
+pub sound_cell : (t : Store) (class : ℕ) (kind : Kind) (page cell base : ℕ) (words' : List ℕ) (states' : List PageState) → HasSoundPages t → IsLaid t.states → IsLawful t.states
+    → IsFreeCell t.states class kind page cell → TakesCell t.words words' t.states states' page cell base → (Has t.pending page → ⊥) → HasSoundPages (record t { words = words'; states = states' })
 sound_cell t class kind page cell base words' states' sound laid lawful at takes swept =
     taken_sound t laid lawful class kind page cell base words' states' at takes swept sound.agree (λ p b ne is. sound.used p b is)
 
@@ -180,7 +180,7 @@ pub gains_cell : (t : Store) (class : ℕ) (kind : Kind) (page cell base : ℕ) 
 gains_cell t class kind page cell base words' states' laid lawful at takes swept = taken_gains t laid lawful class kind page cell base words' states' at takes swept
 
 -- a page that was free is cut, and its first cell is taken
-module _ (t : Store) (sound : IsSound t) (laid : IsLaid t.states) (lawful : IsLawful t.states) (class : ℕ) (kind : Kind) (is_class : IsSizeClass class) (page : ℕ) (words : List ℕ) (free' : List Bool)
+module _ (t : Store) (sound : HasSoundPages t) (laid : IsLaid t.states) (lawful : IsLawful t.states) (class : ℕ) (kind : Kind) (is_class : IsSizeClass class) (page : ℕ) (words : List ℕ) (free' : List Bool)
     (states' : List PageState) (cuts : CutsPage t.words words t.free free' t.states states' class kind page) where
   was_free : state_at t.states page ≡ free
   was_free = sound.agree.free_in_map page (cuts.run.free page (omega arith) (omega arith))
@@ -265,16 +265,16 @@ module _ (t : Store) (sound : IsSound t) (laid : IsLaid t.states) (lawful : IsLa
           words = λ f i there lt. g.words f i (cuts.same.same f.base ∙ there) lt ∙ page_kept (length t.states) t.states t.words words page lawful.map was_free cuts.changes f i there lt;
         }
 
-    pub sound_page : IsSound (record t { words = words'; free = free'; states = states'' })
+    pub sound_page : HasSoundPages (record t { words = words'; free = free'; states = states'' })
     sound_page = taken_sound with_cut cut_laid (map_laws states' cut_laid) class kind page 0 base words' states'' first_cell takes (free_swept t page row was_free)
         cut_agree (λ p b ne is. sound.used p b (sym (other p ne) ∙ is))
 
 -- no room for a small object
-pub no_room_small : (t : Store) (class : ℕ) (kind : Kind) → IsSound t → IsLaid t.states → IsLawful t.states → IsSizeClass class → HasNoFreeCell t.states class kind → HasNoFreeRun t.free 1 → HasNoRoom t (Small class) kind
+pub no_room_small : (t : Store) (class : ℕ) (kind : Kind) → HasSoundPages t → IsLaid t.states → IsLawful t.states → IsSizeClass class → HasNoFreeCell t.states class kind → HasNoFreeRun t.free 1 → HasNoRoom t (Small class) kind
 no_room_small t class kind sound laid lawful is_class no_cell no_page s stores a = no_small_room (λ _. true) t s sound laid lawful stores (λ g. refl) class kind is_class no_cell no_page a
 
 -- a run of free pages becomes a large object
-module _ (t : Store) (sound : IsSound t) (laid : IsLaid t.states) (lawful : IsLawful t.states) (n : ℕ) (kind : Kind) (first : ℕ) (words' : List ℕ) (free' : List Bool) (states' : List PageState) (some_pages : 0 < n)
+module _ (t : Store) (sound : HasSoundPages t) (laid : IsLaid t.states) (lawful : IsLawful t.states) (n : ℕ) (kind : Kind) (first : ℕ) (words' : List ℕ) (free' : List Bool) (states' : List PageState) (some_pages : 0 < n)
     (run : IsFreeRun t.free first n) (taken_run : IsFilled t.free free' first n false) (span : IsSpanSet t.states states' first n (large_states first n kind))
     (added : IsAdded (found_in t.states) (found_in states') (large_object first n kind)) (zeroed : IsZeroed t.words words' (place (page_start first)) (PAGE_WORDS * n)) where
   abbrev pub with_large : Store
@@ -320,7 +320,7 @@ module _ (t : Store) (sound : IsSound t) (laid : IsLaid t.states) (lawful : IsLa
   large_not_cut true c e = cc
   large_not_cut false c e = cc
 
-  pub sound_large : IsSound with_large
+  pub sound_large : HasSoundPages with_large
   sound_large = record {
     agree = record {
       size = taken_run.size ∙ sound.agree.size ∙ sym span.size;
@@ -340,7 +340,7 @@ module _ (t : Store) (sound : IsSound t) (laid : IsLaid t.states) (lawful : IsLa
   }
 
 -- no room for a large object
-pub no_room_large : (t : Store) (n : ℕ) (kind : Kind) → IsSound t → IsLaid t.states → IsLawful t.states → HasNoFreeRun t.free n → HasNoRoom t (Large n) kind
+pub no_room_large : (t : Store) (n : ℕ) (kind : Kind) → HasSoundPages t → IsLaid t.states → IsLawful t.states → HasNoFreeRun t.free n → HasNoRoom t (Large n) kind
 no_room_large t n kind sound laid lawful none s stores a = no_large_room (λ _. true) t s sound laid lawful stores (λ g. refl) n none a
 
 -- the first free cell of a page was taken for an object

@@ -10,7 +10,7 @@ use Rattle.words.specs.declared.class.Kind.TheVariants.{Normal, PointerFree}
 use Rattle.words.specs.Classes.{IsSizeClass}
 use Rattle.blocks.specs.Cells.{Cells}
 use Rattle.blocks.proofs.Places.{class_bounds}
-use Rattle.block_map.specs.States.{PageState, free, cut, head, body, state_at, HasCell, AreAllFree, IsSpanSet, IsCut, all_free, with_cell, span_of, large_states, LaidAt, IsLaid}
+use Rattle.block_map.specs.States.{PageState, free, cut, head, body, state_at, HasCell, AreFreePages, IsSpanSet, IsCut, all_free, with_cell, span_of, large_states, LaidAt, IsLaid}
 use Rattle.block_map.specs.Listed.{HasFirst, IsFullOn}
 use Rattle.block_map.proofs.Seen.{within}
 use Rattle.block_map.proofs.Spans.{place_of}
@@ -94,7 +94,7 @@ exact_span rows states states' first n state exact span before after = record {
 }
 
 -- a heap that opens
-pub exact_clear : (rows : List (List Bool)) (states : List PageState) (pages : ℕ) → AreClear rows pages → AreAllFree states pages → IsExact rows states
+pub exact_clear : (rows : List (List Bool)) (states : List PageState) (pages : ℕ) → AreClear rows pages → AreFreePages states pages → IsExact rows states
 exact_clear rows states pages clear all = record {
   long = λ c k is. (clear.each c k is).size ∙ sym all.size;
   entered = λ c k p is has. absurd (subst (λ st. IsAvailable st c k) (all.each p) has);

@@ -9,7 +9,7 @@ use Rattle.words.specs.declared.class.Kind.{Kind}
 use Rattle.heap_spec.specs.Heap.{Object, with_at, without_at}
 use Rattle.pages.specs.Memory.{place, with_word_at}
 use Rattle.marker.specs.Mutations.{KeepsWords, HasZeroWords}
-use Rattle.block_map.specs.Objects.{IsMap, Reads}
+use Rattle.block_map.specs.Objects.{IsMap, IsInside}
 use Rattle.block_map.specs.Changes.{IsAdded, IsRemoved}
 use Rattle.block_map.specs.declared.found.Found.{Found}
 use Rattle.heap_view.specs.Shows.{IsShown, Shows}
@@ -86,7 +86,7 @@ module _ (found : ℕ → Option Found) (pages : ℕ) (map : IsMap pages found) 
 -- an object goes
 module _ (found after : ℕ → Option Found) (pages : ℕ) (map : IsMap pages found) (words : List ℕ) (objects : ℕ → Option Object) (births : ℕ) (shows : Shows found words objects births)
     (f : Found) (is : found f.base ≡ Some f) (gone : IsRemoved found after f) where
-  base_read : Reads f.base f
+  base_read : IsInside f.base f
   base_read = map.reads f.base f is
 
   pub shows_removed : Shows after words (without_at objects (f.base ∷ [])) births
@@ -102,7 +102,7 @@ module _ (found after : ℕ → Option Found) (pages : ℕ) (map : IsMap pages f
     distinct = λ a b p q x y same. shows.distinct a b p q (without_one objects f.base a p x).1 (without_one objects f.base b q y).1 same;
   }
     where
-      one : (b : ℕ) (g : Found) → found b ≡ Some g → Reads b f → g ≡ f
+      one : (b : ℕ) (g : Found) → found b ≡ Some g → IsInside b f → g ≡ f
       one b g there r = same_Some _ _ (sym there ∙ gone.after b r)
 
       other : (g : Found) → after g.base ≡ Some g → g.base ≢ f.base
@@ -118,7 +118,7 @@ module _ (found after : ℕ → Option Found) (pages : ℕ) (map : IsMap pages f
   abbrev pub fresh : Object
   fresh = record { birth = births + 1; kind = kind; words = replicate len 0 }
 
-  new_base_read : Reads f.base f
+  new_base_read : IsInside f.base f
   new_base_read = record { from = omega arith; below = omega arith }
 
   fresh_shown : IsShown zeroed f fresh

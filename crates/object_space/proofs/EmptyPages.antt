@@ -8,10 +8,10 @@ use Rattle.block_map.specs.declared.found.Found.{Found}
 use Rattle.block_map.specs.FoundIn.{found_in, IsLawful}
 use Rattle.block_map.specs.Objects.{cell_object, large_object}
 use Rattle.block_map.specs.States.{free, state_at, IsLaid}
-use Rattle.object_space.specs.Store.{Store, IsSound, AreEmptyPages}
+use Rattle.object_space.specs.Store.{Store, HasSoundPages, AreEmptyPages}
 use Rattle.object_space.proofs.Rooms.{free_cut, free_head, free_body, Lies, in_cell, in_large, lies_cases, large_page, Used, by_none, by_cell, by_large, used_by}
 
-pub empty_pages : (t : Store) → IsLaid t.states → IsLawful t.states → IsSound t → AreEmptyPages t.free t.states
+pub empty_pages : (t : Store) → IsLaid t.states → IsLawful t.states → HasSoundPages t → AreEmptyPages t.free t.states
 empty_pages t laid lawful sound = record {
   all = λ page lt none. unused page lt none (used_by t.states laid page (state_at t.states page) lt refl (laid.each page lt) (sound.used page));
   only = λ page has w f there lies. apart f page (lawful.object w f there).page (sound.agree.free_in_map page has) (lies_cases t.states laid f page (lawful.object w f there) lies);

@@ -17,7 +17,7 @@ use Rattle.blocks.specs.Cells.{Cells}
 use Rattle.marker.specs.Marking.{Marking, IsConsistent, AreMarksObjects}
 use Rattle.block_map.specs.declared.found.Found.{Found}
 use Rattle.block_map.specs.FoundIn.{found_in, found_large, IsLawful}
-use Rattle.block_map.specs.Objects.{IsObjectOn, IsMap, Reads, large_object}
+use Rattle.block_map.specs.Objects.{IsObjectOn, IsMap, IsInside, large_object}
 use Rattle.block_map.specs.States.{PageState, free, cut, head, body, state_at, IsCut, LaidAt, IsLaid}
 use Rattle.marker.specs.Mutations.{KeepsWords}
 use Rattle.object_space.specs.Store.{Store, IsSwept, IsPendingRow}
@@ -287,7 +287,7 @@ module _ (old : Store) (marks : List Bool) (page n : ℕ) (mid : Store) (before 
           less : (w : ℕ) (g : Found) → found_in new.states w ≡ Some g → found_in mid.states w ≡ Some g
           less w g e = ⊎_elim (λ r. absurd (none_some g (sym (loses.removed.before w r) ∙ e))) (λ not. loses.removed.others w not ∙ e) (read_or_not w f)
 
-          apart : (w : ℕ) (g : Found) → found_in mid.states w ≡ Some g → Reads w f → Has marks (granule g.base) ⊎ (page + 1 ≤ g.page) → ⊥
+          apart : (w : ℕ) (g : Found) → found_in mid.states w ≡ Some g → IsInside w f → Has marks (granule g.base) ⊎ (page + 1 ≤ g.page) → ⊥
           apart w g there r y =
               let same : g ≡ f = same_Some g f (sym there ∙ loses.removed.after w r) in
               ⊎_elim (λ marked. dead.unmarked (subst (λ (z : Found). Has marks (granule z.base)) same marked)) (λ past. let at = ap (λ (z : Found). z.page) same ∙ its_page in omega arith) y
@@ -301,7 +301,7 @@ module _ (old : Store) (marks : List Bool) (page n : ℕ) (mid : Store) (before 
               (λ (none : Contains [] g.base). let lt = none.1 in absurd (omega arith))
               (λ (same : f.base ≡ g.base).
               let object : g ≡ f = one_at_base (found_in mid.states) (length mid.states) map f g there_f there (sym same) in
-              none_some g (sym (loses.removed.before w (subst (Reads w) object (map.reads w g was))) ∙ e))
+              none_some g (sym (loses.removed.before w (subst (IsInside w) object (map.reads w g was))) ∙ e))
               (Contains-push_cases [] f.base g.base has)
 
 -- ---- all pages

@@ -18,7 +18,7 @@ use Rattle.block_map.specs.declared.found.Found.{Found}
 use Rattle.block_map.proofs.Spans.{place_of}
 use Rattle.marker.specs.Mutations.{KeepsWords}
 use Rattle.marker.proofs.Keeping.{written_kept}
-use Rattle.object_space.specs.Store.{Store, IsSound, Agree, KeepsPending, IsPendingRow}
+use Rattle.object_space.specs.Store.{Store, HasSoundPages, Agree, KeepsPending, IsPendingRow}
 use Rattle.object_space.specs.Rooms.{FreesCell, EmptiesCell, keeps, gives, without_cell}
 use Rattle.object_space.specs.Sweeps.{Loses}
 
@@ -43,15 +43,15 @@ module _ (row row' : List Bool) (states states' : List PageState) (first n : ℕ
       no_block b z = cc
 
 -- all pages of a large object
-pub sound_large_gone : (t : Store) (row' : List Bool) (states' : List PageState) (first n : ℕ) → IsSound t → IsFilled t.free row' first n true → IsSpanSet t.states states' first n (λ _. free)
-    → IsSound (record t { free = row'; states = states' })
+pub sound_large_gone : (t : Store) (row' : List Bool) (states' : List PageState) (first n : ℕ) → HasSoundPages t → IsFilled t.free row' first n true → IsSpanSet t.states states' first n (λ _. free)
+    → HasSoundPages (record t { free = row'; states = states' })
 sound_large_gone t row' states' first n sound given span = record {
   agree = agree_given t.free row' t.states states' first n given span sound.agree.size (λ p out is. sound.agree.free_in_map p is) (λ p out lt is. sound.agree.free_in_pool p lt is);
   used = used_given t.free row' t.states states' first n given span (λ p b out is. sound.used p b is);
 }
 
 -- a cell of a page that keeps another object
-module _ (t : Store) (sound : IsSound t) (page cell : ℕ) (b : Cells) (is : state_at t.states page ≡ cut b) (inside : page < length t.states) (states' : List PageState)
+module _ (t : Store) (sound : HasSoundPages t) (page cell : ℕ) (b : Cells) (is : state_at t.states page ≡ cut b) (inside : page < length t.states) (states' : List PageState)
     (put : states' ≡ set t.states page (with_cell (state_at t.states page) cell false cell)) where
   abbrev pub emptied : Cells
   emptied = record b { taken = set b.taken cell false; first = cell }
@@ -74,7 +74,7 @@ module _ (t : Store) (sound : IsSound t) (page cell : ℕ) (b : Cells) (is : sta
   same_cells : (c d : Cells) → cut c ≡ cut d → c ≡ d
   same_cells c d e = cc
 
-  pub sound_kept : (i : ℕ) → get_or emptied.taken i false ≡ true → IsSound (record t { states = states' })
+  pub sound_kept : (i : ℕ) → get_or emptied.taken i false ≡ true → HasSoundPages (record t { states = states' })
   sound_kept i bit = record {
     agree = record {
       size = sound.agree.size ∙ sym size_after;
@@ -97,7 +97,7 @@ module _ (t : Store) (sound : IsSound t) (page cell : ℕ) (b : Cells) (is : sta
   ne_of p out = ⊎_elim (λ a (h : p ≡ page). omega arith) (λ a (h : p ≡ page). omega arith) out
 
   -- and of a page that keeps none, which becomes free
-  pub sound_emptied : (row' : List Bool) (states'' : List PageState) → IsFilled t.free row' page 1 true → IsSpanSet states' states'' page 1 (λ _. free) → IsSound (record t { free = row'; states = states'' })
+  pub sound_emptied : (row' : List Bool) (states'' : List PageState) → IsFilled t.free row' page 1 true → IsSpanSet states' states'' page 1 (λ _. free) → HasSoundPages (record t { free = row'; states = states'' })
   sound_emptied row' states'' given span = record {
     agree = agree_given t.free row' states' states'' page 1 given span (sound.agree.size ∙ sym size_after)
         (λ p out h. other p (ne_of p out) ∙ sound.agree.free_in_map p h)
@@ -134,11 +134,11 @@ frees_last row row' states mid states' page cell b became is empty removed span 
     same = subst (λ st. IsUncut page st (found_in mid) (found_in states')) is uncut
 
 -- a store whose cell was freed
-module _ (t : Store) (sound : IsSound t) (page cell : ℕ) (b : Cells) (is : state_at t.states page ≡ cut b) (inside : page < length t.states) (row' : List Bool) (states' : List PageState) where
-  pub sound_freed : EmptiesCell t.free row' t.states states' page cell → IsSound (record t { free = row'; states = states' })
+module _ (t : Store) (sound : HasSoundPages t) (page cell : ℕ) (b : Cells) (is : state_at t.states page ≡ cut b) (inside : page < length t.states) (row' : List Bool) (states' : List PageState) where
+  pub sound_freed : EmptiesCell t.free row' t.states states' page cell → HasSoundPages (record t { free = row'; states = states' })
   sound_freed (keeps c i at bit row became) =
       let same : c ≡ emptied t sound page cell b is inside states' became = cells_same c _ (sym at ∙ state_after t sound page cell b is inside states' became) in
-      subst (λ r. IsSound (record t { free = r; states = states' })) (sym row)
+      subst (λ r. HasSoundPages (record t { free = r; states = states' })) (sym row)
       (sound_kept t sound page cell b is inside states' became i (ap (λ (x : Cells). get_or x.taken i false) (sym same) ∙ bit))
     where
       cells_same : (x y : Cells) → cut x ≡ cut y → x ≡ y

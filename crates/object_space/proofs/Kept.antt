@@ -8,7 +8,7 @@ use Rattle.std.proofs.lemmas.List.{get_or_past}
 use Rattle.words.specs.Bits.{Has}
 use Rattle.words.specs.Layout.{granule}
 use Rattle.block_map.specs.declared.found.Found.{Found}
-use Rattle.block_map.specs.Objects.{IsMap, Reads}
+use Rattle.block_map.specs.Objects.{IsMap, IsInside}
 use Rattle.block_map.specs.Changes.{IsAdded, IsRemoved, IsSameMap}
 use Rattle.object_space.specs.Kept.{keep_if, restrict, is_kept}
 
@@ -81,7 +81,7 @@ kept_removed keep keep' found after f gone k same = record {
 
 -- an object that is not kept goes: to the heap nothing changes
 pub dead_removed : (keep keep' : Found → Bool) (found after : ℕ → Option Found) (f : Found) → IsRemoved found after f → keep f ≡ false → ((w : ℕ) (g : Found) → after w ≡ Some g → keep' g ≡ keep g)
-    → (w : ℕ) → (Reads w f ⊎ (Reads w f → ⊥)) → restrict keep' after w ≡ restrict keep found w
+    → (w : ℕ) → (IsInside w f ⊎ (IsInside w f → ⊥)) → restrict keep' after w ≡ restrict keep found w
 dead_removed keep keep' found after f gone k same w (inl r) = kept_none keep' after w (gone.before w r) ∙ sym (kept_not keep found w f (gone.after w r) k)
 dead_removed keep keep' found after f gone k same w (inr not) = (kept_same keep keep' after same).same w ∙ sym (ap (keep_if keep) (gone.others w not))
 

@@ -10,7 +10,7 @@ use Rattle.words.specs.declared.limits.TheConstants.{PAGE_BYTES}
 use Rattle.words.specs.Bits.{Has}
 use Rattle.block_map.specs.declared.found.Found.{Found}
 use Rattle.block_map.specs.FoundIn.{found_in}
-use Rattle.block_map.specs.Objects.{IsMap, Reads}
+use Rattle.block_map.specs.Objects.{IsMap, IsInside}
 use Rattle.block_map.specs.Walks.{IsNextObject}
 use Rattle.pages.specs.Memory.{word_at}
 use Rattle.marker.specs.Marking.{Marking, IsMarked, word_address}
@@ -70,7 +70,7 @@ none_some f e = cc
 
 module _ (old : Store) (m : Marking) (from limit address n : ℕ) (mid : Store) (before : IsMap (length old.states) (found_in old.states)) (map : IsMap (length mid.states) (found_in mid.states)) (h : HasPassed old m from limit address n mid) (few : page_start (page_of address + 1) ≤ limit) where
   -- from the address on, up to the end of the next object, only that one is found
-  only_next : (f : Found) (high : ℕ) → IsNextObject (found_in mid.states) address high f → (w : ℕ) → address ≤ w → w < f.base + 8 * f.len → (found_in mid.states w ≡ None) ⊎ Reads w f
+  only_next : (f : Found) (high : ℕ) → IsNextObject (found_in mid.states) address high f → (w : ℕ) → address ≤ w → w < f.base + 8 * f.len → (found_in mid.states w ≡ None) ⊎ IsInside w f
   only_next f high next w from below =
       ⊎_elim (λ lt. inl (next.least w from lt))
       (λ ge. let low = (map.reads next.at f next.reads).from in inr (record { from = omega arith; below = below }))
@@ -144,10 +144,10 @@ module _ (old : Store) (m : Marking) (from limit address n : ℕ) (mid : Store) 
       still : (w : ℕ) (g : Found) → found_in new.states w ≡ Some g → found_in mid.states w ≡ Some g
       still w g e = ⊎_elim (λ r. absurd (none_some g (sym (loses.removed.before w r) ∙ e))) (λ not. loses.removed.others w not ∙ e) (read_or_not w f)
         where
-          read_or_not : (w : ℕ) (f : Found) → Reads w f ⊎ (Reads w f → ⊥)
+          read_or_not : (w : ℕ) (f : Found) → IsInside w f ⊎ (IsInside w f → ⊥)
           read_or_not w f =
-              ⊎_elim (λ (lt : w < f.base). inr (λ (r : Reads w f). let a = r.from in absurd (omega arith)))
-              (λ ge. ⊎_elim (λ (lt : w < f.base + 8 * f.len). inl (record { from = omega arith; below = lt })) (λ le. inr (λ (r : Reads w f). let b = r.below in absurd (omega arith))) (cases_lt w (f.base + 8 * f.len)))
+              ⊎_elim (λ (lt : w < f.base). inr (λ (r : IsInside w f). let a = r.from in absurd (omega arith)))
+              (λ ge. ⊎_elim (λ (lt : w < f.base + 8 * f.len). inl (record { from = omega arith; below = lt })) (λ le. inr (λ (r : IsInside w f). let b = r.below in absurd (omega arith))) (cases_lt w (f.base + 8 * f.len)))
               (cases_lt w f.base)
 
 -- an object that an address of a cut page reads is one of the page

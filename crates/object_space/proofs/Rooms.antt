@@ -10,7 +10,7 @@ use Rattle.words.specs.Classes.{IsSizeClass}
 use Rattle.words.specs.Layout.{page_start}
 use Rattle.heap_spec.specs.Layout.{LiesOn}
 use Rattle.heap_spec.specs.Heap.{Heap, Object}
-use Rattle.heap_spec.specs.Room.{IsFree, IsCutFor, HasSmallRoom, HasLargeRoom}
+use Rattle.heap_spec.specs.Room.{IsEmptyPage, IsCutFor, HasSmallRoom, HasLargeRoom}
 use Rattle.pages.specs.Runs.{IsFreeRun, HasNoFreeRun}
 use Rattle.blocks.specs.Cells.{Cells, IsCells}
 use Rattle.blocks.proofs.Places.{class_bounds}
@@ -19,7 +19,7 @@ use Rattle.block_map.specs.Objects.{cell_object, large_object, IsObjectOn, IsObj
 use Rattle.block_map.specs.FoundIn.{found_in, IsLawful}
 use Rattle.block_map.specs.declared.found.Found.{Found}
 use Rattle.block_map.proofs.Words.{cells_end}
-use Rattle.object_space.specs.Store.{Store, IsSound}
+use Rattle.object_space.specs.Store.{Store, HasSoundPages}
 use Rattle.object_space.specs.Stores.{Stores}
 use Rattle.object_space.specs.Kept.{restrict}
 use Rattle.object_space.proofs.Kept.{kept_cases, kept_is}
@@ -125,7 +125,7 @@ module _ (states : List PageState) (laid : IsLaid states) where
       let less = here.0 in let reach = here.4 in
       by_large q here.1 here.2 (omega arith) (record { page = omega arith; on = subst (λ x. IsObjectOn x (large_object q here.1 here.2)) (sym here.3) refl }) (omega arith, omega arith)
 
-module _ (keep : Found → Bool) (t : Store) (s : Heap) (sound : IsSound t) (laid : IsLaid t.states) (lawful : IsLawful t.states) (stores : Stores keep t s) where
+module _ (keep : Found → Bool) (t : Store) (s : Heap) (sound : HasSoundPages t) (laid : IsLaid t.states) (lawful : IsLawful t.states) (stores : Stores keep t s) where
   -- the heap's object is one of the store's
   pub heap_object : (base : ℕ) (o : Object) → s.objects base ≡ Some o → (f : Found) × IsObject t.states f × (f.base ≡ base) × (f.len ≡ length o.words) × (f.kind ≡ o.kind) × (0 < f.len)
   heap_object base o is =
@@ -141,7 +141,7 @@ module _ (keep : Found → Bool) (t : Store) (s : Heap) (sound : IsSound t) (lai
       let kept = stores.shows.shown.kept f (kept_is keep (found_in t.states) f.base f (lawful.found f.base f is (record { from = omega arith; below = omega arith })) (all f)) in
       (kept.0, kept.1, kept.2.size, kept.2.kind)
 
-  pub free_page : (page : ℕ) → state_at t.states page ≡ free → IsFree s page
+  pub free_page : (page : ℕ) → state_at t.states page ≡ free → IsEmptyPage s page
   free_page page is base o has lies =
       let f = heap_object base o has in
       none f.0 f.1 (lies_cases t.states laid f.0 page f.1 (subst (λ l. LiesOn f.0.base l page) (sym f.3) (subst (λ b. LiesOn b (length o.words) page) (sym f.2) lies)))
@@ -153,7 +153,7 @@ module _ (keep : Found → Bool) (t : Store) (s : Heap) (sound : IsSound t) (lai
   used : (page : ℕ) → page < length t.states → Used t.states laid page (state_at t.states page)
   used page lt = used_by t.states laid page (state_at t.states page) lt refl (laid.each page lt) (sound.used page)
 
-  pub page_free : ((g : Found) → keep g ≡ true) → (page : ℕ) → page < length t.states → IsFree s page → state_at t.states page ≡ free
+  pub page_free : ((g : Found) → keep g ≡ true) → (page : ℕ) → page < length t.states → IsEmptyPage s page → state_at t.states page ≡ free
   page_free all page lt none = by (used page lt)
     where
       by : Used t.states laid page (state_at t.states page) → state_at t.states page ≡ free

@@ -13,7 +13,7 @@ use Rattle.std.proofs.lemmas.Map.Views.{Contains-from_any}
 use Rattle.std.proofs.lemmas.Option.{same_Some}
 use Rattle.heap_spec.specs.Heap.{Object}
 use Rattle.block_map.specs.declared.found.Found.{Found}
-use Rattle.block_map.specs.Objects.{IsMap, Reads}
+use Rattle.block_map.specs.Objects.{IsMap, IsInside}
 use Rattle.block_map.specs.Changes.{IsRemoved}
 use Rattle.heap_view.specs.Shows.{Shows}
 use Rattle.object_space.specs.Sweeps.{IsWithout}
@@ -37,10 +37,10 @@ without_none found = record {
   kept = λ w f e n. e;
 }
 
-pub read_or_not : (w : ℕ) (f : Found) → Reads w f ⊎ (Reads w f → ⊥)
+pub read_or_not : (w : ℕ) (f : Found) → IsInside w f ⊎ (IsInside w f → ⊥)
 read_or_not w f =
-    ⊎_elim (λ (lt : w < f.base). inr (λ (r : Reads w f). let a = r.from in absurd (omega arith)))
-    (λ ge. ⊎_elim (λ (lt : w < f.base + 8 * f.len). inl (record { from = omega arith; below = lt })) (λ le. inr (λ (r : Reads w f). let b = r.below in absurd (omega arith))) (cases_lt w (f.base + 8 * f.len)))
+    ⊎_elim (λ (lt : w < f.base). inr (λ (r : IsInside w f). let a = r.from in absurd (omega arith)))
+    (λ ge. ⊎_elim (λ (lt : w < f.base + 8 * f.len). inl (record { from = omega arith; below = lt })) (λ le. inr (λ (r : IsInside w f). let b = r.below in absurd (omega arith))) (cases_lt w (f.base + 8 * f.len)))
     (cases_lt w f.base)
 
 -- whether a list of numbers has one
@@ -94,7 +94,7 @@ without_more pages found mid after bases f map so is gone = record {
     other w g e same =
         let was = (so.left w g (before w g e)).0 in
         let one : g ≡ f = one_at_base found pages map f g (so.left f.base f is).0 (at_base found pages map w g was) (sym same) in
-        none_some g (sym (gone.before w (subst (Reads w) one (map.reads w g was))) ∙ e)
+        none_some g (sym (gone.before w (subst (IsInside w) one (map.reads w g was))) ∙ e)
 
 -- what is left of the objects of a heap
 pub shows_without : (pages : ℕ) (found after : ℕ → Option Found) (words : List ℕ) (objects : ℕ → Option Object) (births : ℕ) (bases : List ℕ) → Shows found words objects births → IsWithout found after bases

@@ -4,7 +4,7 @@ use Rattle.std.proofs.lemmas.Bool.{cases_lt}
 use Rattle.words.specs.declared.limits.TheConstants.{FIRST_ADDRESS}
 use Rattle.heap_spec.specs.Heap.{Object}
 use Rattle.pages.specs.Memory.{IsZeroed, place, word_at}
-use Rattle.block_map.specs.Objects.{IsMap, IsPlaced, Reads}
+use Rattle.block_map.specs.Objects.{IsMap, IsPlaced, IsInside}
 use Rattle.block_map.specs.Changes.{IsAdded}
 use Rattle.block_map.specs.declared.found.Found.{Found}
 use Rattle.marker.specs.Marking.{word_address}
@@ -55,7 +55,7 @@ others_kept found after pages words words' f map placed added z g i there lt = z
         ⊎_elim (λ before. inl before)
         (λ from. ⊎_elim
         (λ inside. absurd (
-        let r : Reads w f = record { from = omega arith; below = omega arith } in
+        let r : IsInside w f = record { from = omega arith; below = omega arith } in
         let some : found w ≡ Some g = map.whole g.base w g there (record { from = omega arith; below = omega arith }) in
         clash (sym (added.before w r) ∙ some)))
         (λ past. inr past)

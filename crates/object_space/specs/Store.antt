@@ -33,7 +33,7 @@ pub record AreEmptyPages (row : List Bool) (states : List PageState) : Type 0 wh
   pub only : (page : ℕ) → Has row page → (w : ℕ) (f : Found) → found_in states w ≡ Some f → LiesOn f.base f.len page → ⊥
 
 -- What is true of the pages of each store.
-pub record IsSound (t : Store) : Type 0 where
+pub record HasSoundPages (t : Store) : Type 0 where
   pub agree : Agree t.free t.states
   pub used : HasObjects t.states
 
@@ -57,8 +57,8 @@ IsSwept t = (page : ℕ) → Has t.pending page → ⊥
 
 -- What is true of the objects of each heap: their store is sound, the lists of free cells stand in its words, the rows of
 -- pages with a free cell are exact, and the pending pages are cut.
-pub record IsKept (t : Store) (rows : List (List Bool)) : Type 0 where
-  pub sound : IsSound t
+pub record IsWholeSpace (t : Store) (rows : List (List Bool)) : Type 0 where
+  pub sound : HasSoundPages t
   pub listed : AreListed t.words t.states
   pub exact : IsExact rows t.states
   pub pending : IsPendingRow t

@@ -9,7 +9,7 @@ ghost use Rattle.pages.specs.Opening.{IsOpened};
 ghost use Rattle.block_map.specs.FoundIn.{found_in, IsLawful};
 ghost use Rattle.block_map.specs.States.{IsLaid};
 ghost use Rattle.block_map.specs.declared.found.Found.{Found};
-ghost use Rattle.object_space.specs.Store.{AreEmptyPages, IsPendingRow, IsSound, IsSwept};
+ghost use Rattle.object_space.specs.Store.{AreEmptyPages, IsPendingRow, HasSoundPages, IsSwept};
 ghost use Rattle.object_space.specs.Kept.{kept_in};
 ghost use Rattle.object_space.specs.Stores.{Stores};
 
@@ -44,13 +44,13 @@ pub struct ObjectSpace {
 }
 
 impl Model for ObjectSpace {
-    ghost use Rattle.object_space.specs.Store.{Store, IsKept};
+    ghost use Rattle.object_space.specs.Store.{Store, IsWholeSpace};
 
     ghost Value = { Store };
 
     ghost view = { λ o. record { words = o.memory; free = o.pool; states = o.map; pending = o.pending } };
 
-    ghost invariant = { λ o. IsKept (record { words = o.memory; free = o.pool; states = o.map; pending = o.pending }) o.available };
+    ghost invariant = { λ o. IsWholeSpace (record { words = o.memory; free = o.pool; states = o.map; pending = o.pending }) o.available };
 }
 
 impl ObjectSpace {
@@ -80,7 +80,7 @@ impl ObjectSpace {
     /// ones are cut.
     #[inline]
     pub fn laws(&self)
-        ensures sound { IsSound self.now }
+        ensures sound { HasSoundPages self.now }
         ensures pending { IsPendingRow self.now }
         ensures empty { AreEmptyPages self.now.free self.now.states }
         ensures lawful { IsLawful self.now.states }

@@ -20,8 +20,8 @@ use Rattle.heap_spec.specs.Steps.{Acts, Calls, acts, with_register, with_object,
 use Rattle.heap_spec.proofs.Objects.{with_at-same, with_at-other}
 use Rattle.roots.specs.Roots.{RootSet, HasMutator, HasNoMutator, SetsWord}
 use Rattle.plain_core.specs.declared.extent.Extent.{Extent}
-use Rattle.plain_core.specs.Contents.{Contents, IsSound, IsInHeap, IsPlaced}
-use Rattle.plain_core.specs.Answering.{Fits, IsPut, IsBornAt, IsAllocatedAt, CantAllocateAt}
+use Rattle.plain_core.specs.Contents.{Contents, IsLaidOut, IsInHeap, IsPlacedExtent}
+use Rattle.plain_core.specs.Answering.{MayBePut, IsPut, IsBornAt, IsAllocatedAt, CantAllocateAt}
 use Rattle.plain_core.specs.Places.{IsPlace, IsSized}
 use Rattle.plain_core.specs.Standing.{StandsFor, IsShown, place, words_at}
 use Rattle.plain_core.proofs.Stands.{StepsCall, mutator_at, set_is}
@@ -33,12 +33,12 @@ use Rattle.plain_core.proofs.Rooms.{room_of, place_of}
 
 -- a new core
 pub new_sound : (pages : ℕ) (words : List ℕ) (objects : List Extent) (roots : RootSet) → pages ≤ MAX_PAGES → length words ≡ PAGE_WORDS * pages → objects ≡ []
-    → IsSound (record { pages = pages; words = words; objects = objects; roots = roots })
+    → IsLaidOut (record { pages = pages; words = words; objects = objects; roots = roots })
 new_sound pages words objects roots p w o = record {
   pages = p;
   words = w;
   in_heap = rw o (All-nil (IsInHeap pages));
-  placed = rw o (All-nil IsPlaced);
+  placed = rw o (All-nil IsPlacedExtent);
   distinct = distinct_none objects o;
   apart = λ e f x he hf re rf. absurd (All-contains (λ (g : Extent). ⊥) objects e (rw o (All-nil (λ (g : Extent). ⊥))) he);
 }
@@ -58,11 +58,11 @@ new_in_heap pages row (Large count) kind e sized l p =
     let i = p.is_start in let q = p.in_heap in
     record { start = omega arith; aligned = omega arith; some = omega arith; ends = omega arith }
 
-pub new_placed : (pages : ℕ) (row : List Extent) (place : Placement) (kind : Kind) (e : Extent) → IsSized place → e.length ≡ length_of place → IsPlace row pages place kind e.base → IsPlaced e
+pub new_placed : (pages : ℕ) (row : List Extent) (place : Placement) (kind : Kind) (e : Extent) → IsSized place → e.length ≡ length_of place → IsPlace row pages place kind e.base → IsPlacedExtent e
 new_placed pages row (Small class) kind e sized l p = inl (record { page = p.page; cell = p.on.cell; few = omega arith; in_page = rw l p.on.in_page; is_cell = rw l p.on.is_cell })
 new_placed pages row (Large count) kind e sized l p = inr (record { first = p.first; count = count; some = sized; whole = l; is_start = p.is_start })
 
-pub new_fresh : (pages : ℕ) (row : List Extent) (place : Placement) (kind : Kind) (e : Extent) → All IsPlaced row → IsSized place → e.length ≡ length_of place → IsPlace row pages place kind e.base → IsFresh row e
+pub new_fresh : (pages : ℕ) (row : List Extent) (place : Placement) (kind : Kind) (e : Extent) → All IsPlacedExtent row → IsSized place → e.length ≡ length_of place → IsPlace row pages place kind e.base → IsFresh row e
 new_fresh pages row (Small class) kind e placed sized l p = fresh_small p.page kind row e placed (omega arith) (rw l p.on)
 new_fresh pages row (Large count) kind e placed sized l p = fresh_large pages count row e l p
 
@@ -98,7 +98,7 @@ other_words old new pages e g l ie ig z apart =
     outside : (k : ℕ) → k < g.length → (place g.base + k < place e.base) ⊎ (place e.base + e.length ≤ place g.base + k)
     outside k h = ⊎_elim (λ before. inl before) (λ from. ⊎_elim (λ inside. absurd (apart (g.base + WORD_BYTES * k) (omega arith, omega arith) (omega arith, omega arith))) (λ past. inr past) (cases_lt (place g.base + k) (place e.base + e.length))) (cases_lt (place g.base + k) (place e.base))
 
-pub allocates : (c : Contents) (roots : RootSet) (k d n : ℕ) (kind : Kind) (m : Mutator) (place : Placement) (e : Extent) (row : List ℕ) → IsSound c → HasMutator c.roots k m → placement_of n ≡ Some place → IsPlace c.objects c.pages place kind e.base → e.kind ≡ kind → e.length ≡ length_of place
+pub allocates : (c : Contents) (roots : RootSet) (k d n : ℕ) (kind : Kind) (m : Mutator) (place : Placement) (e : Extent) (row : List ℕ) → IsLaidOut c → HasMutator c.roots k m → placement_of n ≡ Some place → IsPlace c.objects c.pages place kind e.base → e.kind ≡ kind → e.length ≡ length_of place
     → IsInHeap c.pages e → IsFresh c.objects e → IsZeroed c.words row e → SetsWord c.roots k d e.base roots
     → IsAllocatedAt c k d n kind e.base (record c { words = row; objects = c.objects ++ e ∷ []; roots = roots })
 allocates c roots k d n kind m place e row sound at is room same_kind same_length new fresh zeroed sets s h = (
@@ -146,13 +146,13 @@ allocates c roots k d n kind m place e row sound at is room same_kind same_lengt
     too_late b q x has is same = let r = h.born b q has in let l = r.1 in omega arith
 
 -- the core stays sound
-pub sound_after : (c : Contents) (roots : RootSet) (e : Extent) (row : List ℕ) → IsSound c → IsInHeap c.pages e → IsPlaced e → IsFresh c.objects e → length row ≡ length c.words
-    → IsSound (record c { words = row; objects = c.objects ++ e ∷ []; roots = roots })
+pub sound_after : (c : Contents) (roots : RootSet) (e : Extent) (row : List ℕ) → IsLaidOut c → IsInHeap c.pages e → IsPlacedExtent e → IsFresh c.objects e → length row ≡ length c.words
+    → IsLaidOut (record c { words = row; objects = c.objects ++ e ∷ []; roots = roots })
 sound_after c roots e row sound new placed fresh long = record {
   pages = sound.pages;
   words = long ∙ sound.words;
   in_heap = All-push (IsInHeap c.pages) c.objects e sound.in_heap new;
-  placed = All-push IsPlaced c.objects e sound.placed placed;
+  placed = All-push IsPlacedExtent c.objects e sound.placed placed;
   distinct = distinct_push c.pages c.objects e sound.in_heap new fresh sound.distinct;
   apart = λ f g w hf hg rf rg. ⊎_elim
       (λ x. ⊎_elim (λ y. sound.apart f g w x y rf rg) (λ y. absurd (fresh f w x (subst (λ (z : Extent). Reads w z.base z.length) (sym y) rg) rf)) (Contains-push_cases c.objects e g hg))
@@ -161,7 +161,7 @@ sound_after c roots e row sound new placed fresh long = record {
 }
 
 -- there is room for one more
-pub has_room : (c : Contents) (e : Extent) → IsSound c → IsInHeap c.pages e → IsFresh c.objects e → length c.objects < PAGE_GRANULES * c.pages
+pub has_room : (c : Contents) (e : Extent) → IsLaidOut c → IsInHeap c.pages e → IsFresh c.objects e → length c.objects < PAGE_GRANULES * c.pages
 has_room c e sound new fresh =
     let l : length (c.objects ++ e ∷ []) ≤ PAGE_GRANULES * c.pages = few_objects c.pages (c.objects ++ e ∷ []) (All-push (IsInHeap c.pages) c.objects e sound.in_heap new) (distinct_push c.pages c.objects e sound.in_heap new fresh sound.distinct) in
     let m : length c.objects + 1 ≤ PAGE_GRANULES * c.pages = rw length_push at l in
@@ -172,7 +172,7 @@ pub pushed_items : {A T E : Type 0} (r : Result T E) (xs ys zs : List A) → IsO
 pushed_items (Ok v) xs ys zs ok is = is
 pushed_items (Err e) xs ys zs ok is = absurd (cc)
 
-module _ (c : Contents) (placement : Placement) (kind : Kind) (e : Extent) (sound : IsSound c) (sized : IsSized placement) (long : e.length ≡ length_of placement) (room : IsPlace c.objects c.pages placement kind e.base) where
+module _ (c : Contents) (placement : Placement) (kind : Kind) (e : Extent) (sound : IsLaidOut c) (sized : IsSized placement) (long : e.length ≡ length_of placement) (room : IsPlace c.objects c.pages placement kind e.base) where
   new : IsInHeap c.pages e
   new = new_in_heap c.pages c.objects placement kind e sized long room
 
@@ -189,11 +189,11 @@ module _ (c : Contents) (placement : Placement) (kind : Kind) (e : Extent) (soun
       → SetsWord c.roots k d e.base roots → (n : ℕ) → placement_of n ≡ Some placement → IsAllocatedAt c k d n kind e.base (record c { words = row; objects = objects; roots = roots })
   puts roots k d m row objects at same zeroed pushed sets n is = rw pushed (allocates c roots k d n kind m placement e row sound at is room same long new fresh zeroed sets)
 
-  pub alloc_sound : (roots : RootSet) (row : List ℕ) (objects : List Extent) → length row ≡ length c.words → objects ≡ c.objects ++ e ∷ [] → IsSound (record c { words = row; objects = objects; roots = roots })
+  pub alloc_sound : (roots : RootSet) (row : List ℕ) (objects : List Extent) → length row ≡ length c.words → objects ≡ c.objects ++ e ∷ [] → IsLaidOut (record c { words = row; objects = objects; roots = roots })
   alloc_sound roots row objects l pushed = rw pushed (sound_after c roots e row sound new (new_placed c.pages c.objects placement kind e sized long room) fresh l)
 
 -- where an object was born there was room for it
-pub born_where : (c : Contents) → IsSound c → (s : Heap) → StandsFor c s → (k d n base : ℕ) (kind : Kind) (place : Placement) → placement_of n ≡ Some place → {s' : Heap} → Calls s k (Alloc d n kind) Done s' → IsBornAt s base s'
+pub born_where : (c : Contents) → IsLaidOut c → (s : Heap) → StandsFor c s → (k d n base : ℕ) (kind : Kind) (place : Placement) → placement_of n ≡ Some place → {s' : Heap} → Calls s k (Alloc d n kind) Done s' → IsBornAt s base s'
     → IsPlace c.objects c.pages place kind base
 born_where c sound s h k d n base kind place is (acts at (Acts.allocated {place = other} a is' room)) born =
     ⊎_elim
@@ -202,7 +202,7 @@ born_where c sound s h k d n base kind place is (acts at (Acts.allocated {place 
     (λ old. let b = h.born base born.object old.1 in let newest = born.newest in absurd (omega (arith, b.1)))
     (after_cases s a _ base born.object born.there)
 
-pub cant_place : (c : Contents) → IsSound c → (k d n base : ℕ) (kind : Kind) (place : Placement) → placement_of n ≡ Some place → (IsPlace c.objects c.pages place kind base → ⊥) → CantAllocateAt c k d n kind base
+pub cant_place : (c : Contents) → IsLaidOut c → (k d n base : ℕ) (kind : Kind) (place : Placement) → placement_of n ≡ Some place → (IsPlace c.objects c.pages place kind base → ⊥) → CantAllocateAt c k d n kind base
 cant_place c sound k d n base kind place is none s h s' calls born = none (born_where c sound s h k d n base kind place is calls born)
 
 -- a request of no size, and one of no mutator, are granted nowhere
@@ -220,8 +220,8 @@ place_from row pages (Large count) kind a p = let is = p.is_start in omega arith
 
 -- what was found for a request fits
 pub found_fits : (c now : Contents) → c ≡ now → (row : List Extent) → row ≡ c.objects → (n : ℕ) (kind : Kind) (placement : Placement) (e : Extent) → placement_of n ≡ Some placement → e.kind ≡ kind → e.length ≡ length_of placement
-    → IsPlace row c.pages placement kind e.base → Fits now placement e
-found_fits c now view row rows n kind placement e is same long room = subst (λ (x : Contents). Fits x placement e) view (record {
+    → IsPlace row c.pages placement kind e.base → MayBePut now placement e
+found_fits c now view row rows n kind placement e is same long room = subst (λ (x : Contents). MayBePut x placement e) view (record {
   sized = sized n placement is;
   size = long;
   place = subst (λ k. IsPlace c.objects c.pages placement k e.base) (sym same) (subst (λ r. IsPlace r c.pages placement kind e.base) rows room);

@@ -19,15 +19,15 @@ use Rattle.heap_spec.specs.Steps.{Acts, Calls, acts, vacant, Attaches, IsLowestV
 use Rattle.heap_spec.proofs.Outcomes.{calls_same, calls_refused}
 use Rattle.roots.specs.Roots.{HasMutator, HasNoMutator, HasNoSlot, IsNextSlot}
 use Rattle.plain_core.specs.declared.extent.Extent.{Extent}
-use Rattle.plain_core.specs.Contents.{Contents, IsSound, IsInHeap}
+use Rattle.plain_core.specs.Contents.{Contents, IsLaidOut, IsInHeap}
 use Rattle.plain_core.specs.Standing.{StandsFor, place}
-use Rattle.plain_core.specs.Answering.{IsFound, HoldsWord, MayAnswer, CanAnswer, CanAttach, IsNoStep, MakesCall}
+use Rattle.plain_core.specs.Answering.{FindsExtent, HoldsWord, MayAnswer, CanAnswer, CanAttach, IsNoStep, MakesCall}
 use Rattle.plain_core.proofs.Stands.{StepsCall, mutator_at}
 use Rattle.plain_core.proofs.Memory.{word_in}
 use Rattle.plain_core.proofs.Objects.{in_heap, in_row, extent_of, length_shown}
 
 -- a heap that a core stands for is legible
-pub legible : (c : Contents) → IsSound c → (s : Heap) → StandsFor c s → IsLegible s
+pub legible : (c : Contents) → IsLaidOut c → (s : Heap) → StandsFor c s → IsLegible s
 legible c sound s h = record {
   one = λ w a b o p r q.
       let e = extent_of c sound s h a o r.0 in
@@ -42,7 +42,7 @@ legible c sound s h = record {
 }
 
 -- the word of an object's row is that of the object
-pub holds_word : (c : Contents) (a w : ℕ) (e : Extent) → IsSound c → Contains c.objects e → Reads a e.base e.length → w ≡ get_or c.words (place a) w → HoldsWord c a w
+pub holds_word : (c : Contents) (a w : ℕ) (e : Extent) → IsLaidOut c → Contains c.objects e → Reads a e.base e.length → w ≡ get_or c.words (place a) w → HoldsWord c a w
 holds_word c a w e sound has reads is s h =
     let kept = h.kept e has in (
       e.base,
@@ -63,12 +63,12 @@ pub made : (old new : Contents) (k : ℕ) (call : Call) (reply : Reply) → Step
 made old new k call reply steps s h = let x = steps s h in (reply, x.0, x.1, x.2)
 
 -- a call is answered what it may be answered, and nothing else
-pub one_answer : (c : Contents) → IsSound c → (k : ℕ) (call : Call) (reply other : Reply) → CanAnswer c k call reply → (reply ≡ other → ⊥) → IsNoStep c (Mutator k call) other
+pub one_answer : (c : Contents) → IsLaidOut c → (k : ℕ) (call : Call) (reply other : Reply) → CanAnswer c k call reply → (reply ≡ other → ⊥) → IsNoStep c (Mutator k call) other
 one_answer c sound k call reply other can ne s h s' step =
     let x = can s h in ne (calls_same s (legible c sound s h) k call reply other x.0 s' x.1 step).0
 
 -- a call that was made has the answer that it may be given
-pub makes_step : (old new : Contents) → IsSound old → (k : ℕ) (call : Call) (answer reply : Reply) → CanAnswer old k call answer → answer ≡ reply → MakesCall old k call new → StepsCall old k call reply new
+pub makes_step : (old new : Contents) → IsLaidOut old → (k : ℕ) (call : Call) (answer reply : Reply) → CanAnswer old k call answer → answer ≡ reply → MakesCall old k call new → StepsCall old k call reply new
 makes_step old new sound k call answer reply can is makes s h =
     let x = can s h in
     let y = makes s h in
@@ -123,10 +123,10 @@ may_load c m d r n w al holds s h slot =
     let x = holds s h in
     (with_register s slot m d w, subst (λ v. Acts s slot m (Load d r n) (Word v) (with_register s slot m d v)) x.3 (Acts.loaded al x.2))
 
-pub may_size : (c : Contents) (m : HeapMutator) (r : ℕ) (e : Extent) → IsFound c (register m r) e → MayAnswer c m (Size r) (Count e.length)
+pub may_size : (c : Contents) (m : HeapMutator) (r : ℕ) (e : Extent) → FindsExtent c (register m r) e → MayAnswer c m (Size r) (Count e.length)
 may_size c m r e found s h slot = let x = found s h in (s, subst (λ n. Acts s slot m (Size r) (Count n) s) x.2 (Acts.sized x.1))
 
-pub may_free : (c : Contents) (m : HeapMutator) (r : ℕ) (e : Extent) → e.base ≡ register m r → IsFound c (register m r) e → MayAnswer c m (Free r) Done
+pub may_free : (c : Contents) (m : HeapMutator) (r : ℕ) (e : Extent) → e.base ≡ register m r → FindsExtent c (register m r) e → MayAnswer c m (Free r) Done
 may_free c m r e is found s h slot = let x = found s h in (without s (register m r ∷ []), Acts.freed {o = x.0} (ap s.objects (sym is) ∙ x.1.0))
 
 pub may_get : (c : Contents) (m : HeapMutator) (d g : ℕ) → MayAnswer c m (GlobalGet d g) (Word (get_or c.roots.globals g 0))

@@ -20,12 +20,12 @@ use Rattle.heap_spec.specs.Closure.{given, root, word, Reached}
 use Rattle.heap_spec.specs.Cycles.{TakesOut, CollectsFully}
 use Rattle.roots.specs.Roots.{root_words_of}
 use Rattle.plain_core.specs.declared.extent.Extent.{Extent}
-use Rattle.plain_core.specs.Contents.{Contents, IsSound, IsInHeap, granule}
+use Rattle.plain_core.specs.Contents.{Contents, IsLaidOut, IsInHeap, granule}
 use Rattle.plain_core.specs.Collections.{IsCollected}
 use Rattle.plain_core.specs.Standing.{StandsFor, LiesIn, words_at}
-use Rattle.plain_core.specs.Reached.{PointsInto, AreApart, IsReached, by_root, by_link, MarksReached, read_words}
+use Rattle.plain_core.specs.Reached.{PointsIntoPlace, AreApart, IsReachedPlace, by_root, by_link, MarksReached, read_words}
 use Rattle.plain_core.specs.declared.listing.Listing.{Listing}
-use Rattle.plain_core.specs.Listing.{HasRoom, KeepsRoom}
+use Rattle.plain_core.specs.Listing.{HasListRoom, KeepsRoom}
 use Rattle.plain_core.specs.Parting.{Parts}
 use Rattle.plain_core.proofs.Freshness.{few_objects}
 use Rattle.plain_core.proofs.Objects.{extent_of, reads_object, reads_base}
@@ -56,7 +56,7 @@ once (g ∷ row) d (suc i) zero e at at' = absurd (first_apart row g d i e at (s
 once (g ∷ row) d (suc i) (suc j) e at at' = ap suc (once row (IsDistinct-tail nat_eq (granule g) (map granule row) d) i j e at at')
 
 -- no word points into two objects of a sound core
-pub sound_apart : (c : Contents) → IsSound c → AreApart c.objects
+pub sound_apart : (c : Contents) → IsLaidOut c → AreApart c.objects
 sound_apart c sound = record {
   one = λ w i j p q.
       let same : q.0 ≡ p.0 = sound.apart q.0 p.0 w (in_row c.objects j q.0 q.1) (in_row c.objects i p.0 p.1) q.2 p.2 in
@@ -83,16 +83,16 @@ mapped_from gone b has = All-contains (λ y. (e : Extent) × Contains gone e × 
 pub are_bases : (gone : List Extent) → AreBases gone (map (λ (e : Extent). e.base) gone)
 are_bases gone = record { of = mapped_from gone; all = mapped gone }
 
-module _ (c : Contents) (sound : IsSound c) (s : Heap) (h : StandsFor c s) where
+module _ (c : Contents) (sound : IsLaidOut c) (s : Heap) (h : StandsFor c s) where
   roots_are : root_words s ≡ root_words_of c.roots
   roots_are = ap (λ ms. flat_map words_of ms ++ s.globals) h.mutators ∙ ap (λ gs. flat_map words_of c.roots.mutators ++ gs) h.globals
 
   -- where a word points into, the heap has an object that it reads
-  reads_at : (w i : ℕ) (p : PointsInto c.objects w i) → (e : Extent) → slice_get c.objects i ≡ Some e → (o : Object) × ReadsObject s w e.base o
+  reads_at : (w i : ℕ) (p : PointsIntoPlace c.objects w i) → (e : Extent) → slice_get c.objects i ≡ Some e → (o : Object) × ReadsObject s w e.base o
   reads_at w i p e at =
       let o = reads_object c sound s h e (in_row c.objects i e at) w (subst (λ (x : Extent). Reads w x.base x.length) (same_Some p.0 e (sym p.1 ∙ at)) p.2) in (o.0, o.1)
 
-  pub reached_out : (i : ℕ) (e : Extent) → IsReached (root_words_of c.roots) c.words c.objects i → slice_get c.objects i ≡ Some e → Reached s e.base
+  pub reached_out : (i : ℕ) (e : Extent) → IsReachedPlace (root_words_of c.roots) c.words c.objects i → slice_get c.objects i ≡ Some e → Reached s e.base
   reached_out i e (by_root {w = w} among p) at = root (subst (λ ws. Contains ws w) (sym roots_are) among) (reads_at w i p e at).1
   reached_out i e (by_link {i = from} {w = w} {e = f} r there among p) at =
       let kept = h.kept f (in_row c.objects from f there) in
@@ -106,7 +106,7 @@ module _ (c : Contents) (sound : IsSound c) (s : Heap) (h : StandsFor c s) where
       let i = at_place c.objects e.0 e.1 in
       (i.0, e.0, i.1, e.2, subst (λ b. Reads w b e.0.length) (sym e.2) (subst (λ n. Reads w base n) (sym e.3) r.1))
 
-  pub reached_in : (base : ℕ) → Reached s base → (i : ℕ) × (e : Extent) × (slice_get c.objects i ≡ Some e) × (e.base ≡ base) × IsReached (root_words_of c.roots) c.words c.objects i
+  pub reached_in : (base : ℕ) → Reached s base → (i : ℕ) × (e : Extent) × (slice_get c.objects i ≡ Some e) × (e.base ≡ base) × IsReachedPlace (root_words_of c.roots) c.words c.objects i
   reached_in base (given has none) = absurd none
   reached_in base (root {w = w} {o = o} among r) =
       let p = points_at w base o r in (p.0, p.1, p.2, p.3, by_root (subst (λ ws. Contains ws w) roots_are among) (p.1, p.2, p.4))
@@ -161,17 +161,17 @@ module _ (c : Contents) (sound : IsSound c) (s : Heap) (h : StandsFor c s) where
       rest_stands c sound parts.gone stay parts.all bases (are_bases parts.gone) s h,
     )
 
-pub collects : (c : Contents) → IsSound c → (marks : List Bool) → MarksReached (root_words_of c.roots) c.words c.objects marks → (stay : List Extent) (n : ℕ) → Parts c.objects marks stay n → IsCollected c n (record c { objects = stay })
+pub collects : (c : Contents) → IsLaidOut c → (marks : List Bool) → MarksReached (root_words_of c.roots) c.words c.objects marks → (stay : List Extent) (n : ℕ) → Parts c.objects marks stay n → IsCollected c n (record c { objects = stay })
 collects c sound marks m stay n parts s h = collected c sound s h marks m stay n parts
 
 -- each object's words are in a row of all words
-pub lie_in : (c : Contents) → IsSound c → (row : List ℕ) → length row ≡ PAGE_WORDS * c.pages → All (LiesIn row) c.objects
+pub lie_in : (c : Contents) → IsLaidOut c → (row : List ℕ) → length row ≡ PAGE_WORDS * c.pages → All (LiesIn row) c.objects
 lie_in c sound row long k d lt =
     let e : Extent = get_or c.objects k d in
     let i : IsInHeap c.pages e = sound.in_heap k d lt in
     record { start = i.start; aligned = let whole = i.aligned in omega arith; some = i.some; ends = omega (arith, i.start, i.aligned, i.ends) }
 
-pub all_lie : (c : Contents) → IsSound c → All (LiesIn c.words) c.objects
+pub all_lie : (c : Contents) → IsLaidOut c → All (LiesIn c.words) c.objects
 all_lie c sound = lie_in c sound c.words sound.words
 
 -- the same marks, by equations
@@ -180,10 +180,10 @@ marks_are roots roots' words words' row row' marks marks' er ew eo em m =
     subst (MarksReached roots' words' row') (sym em) (subst (λ o. MarksReached roots' words' o marks) eo (subst (λ w. MarksReached roots' w row marks) ew (subst (λ r. MarksReached r words row marks) er m)))
 
 -- there is room for all objects, before and after
-pub room_for : (c : Contents) → IsSound c → (l : Listing) → HasRoom (PAGE_GRANULES * c.pages) l → HasRoom (length c.objects) l
+pub room_for : (c : Contents) → IsLaidOut c → (l : Listing) → HasListRoom (PAGE_GRANULES * c.pages) l → HasListRoom (length c.objects) l
 room_for c sound l room =
     let few : length c.objects ≤ PAGE_GRANULES * c.pages = few_objects c.pages c.objects sound.in_heap sound.distinct in
     let marks = room.marks in let order = room.order in record { marks = omega arith; order = omega arith }
 
-pub room_kept : (n : ℕ) (l l' : Listing) → HasRoom n l → KeepsRoom l l' → HasRoom n l'
+pub room_kept : (n : ℕ) (l l' : Listing) → HasListRoom n l → KeepsRoom l l' → HasListRoom n l'
 room_kept n l l' room kept = let marks = room.marks in let order = room.order in let same = kept.marks in let more = kept.order in record { marks = omega arith; order = omega arith }

@@ -19,9 +19,9 @@ use Rattle.heap_spec.specs.Closure.{Reached}
 use Rattle.heap_spec.specs.Cycles.{CollectsFully}
 use Rattle.roots.specs.Roots.{root_words_of}
 use Rattle.plain_core.specs.declared.extent.Extent.{Extent}
-use Rattle.plain_core.specs.Contents.{Contents, IsSound}
+use Rattle.plain_core.specs.Contents.{Contents, IsLaidOut}
 use Rattle.plain_core.specs.Standing.{StandsFor}
-use Rattle.plain_core.specs.Collections.{HasUnreached, IsTaken, CantTake}
+use Rattle.plain_core.specs.Collections.{HasUnreached, TakesBases, CantTake}
 use Rattle.plain_core.specs.Claims.{HasOneEach, IsFreeToGo, AreFreeToGo, AreUnset, AreAllUnset}
 use Rattle.plain_core.specs.Reached.{MarksReached}
 use Rattle.plain_core.specs.Parting.{Parts}
@@ -32,7 +32,7 @@ use Rattle.plain_core.proofs.Lists.{nothing_in}
 use Rattle.plain_core.proofs.Collects.{at_place, in_row, sound_apart, not_reached, reached_out}
 
 -- no base is that of two objects of a sound core
-pub one_each : (c : Contents) → IsSound c → HasOneEach c.objects
+pub one_each : (c : Contents) → IsLaidOut c → HasOneEach c.objects
 one_each c sound = record {
   one = λ i j e f at at' same.
       let here : Reads e.base e.base e.length = reads_base c sound e (in_row c.objects i e at) e.base refl in
@@ -41,7 +41,7 @@ one_each c sound = record {
 }
 
 -- where all flags are set no object is named
-pub all_set : (c : Contents) → IsSound c → (flags : List Bool) (n : ℕ) → flags ≡ replicate n true → PAGE_GRANULES * c.pages ≤ n → AreUnset c.objects [] flags
+pub all_set : (c : Contents) → IsLaidOut c → (flags : List Bool) (n : ℕ) → flags ≡ replicate n true → PAGE_GRANULES * c.pages ≤ n → AreUnset c.objects [] flags
 all_set c sound flags n is room = record {
   size = long;
   unset = λ i e at among. absurd (nothing_in e.base among);
@@ -62,12 +62,12 @@ get_at : (row : List Extent) (i : ℕ) → i < length row → (e : Extent) × (s
 get_at row i lt = let e : Extent = get_or row i (record { base = 0; kind = Normal; length = 0 }) in (e, slice_get-get_or row i _ lt)
 
 -- what is not reached is not marked
-unmarked : (c : Contents) (sound : IsSound c) (marks : List Bool) (m : MarksReached (root_words_of c.roots) c.words c.objects marks) (s : Heap) (h : StandsFor c s) (b : Bool) (i : ℕ) (e : Extent)
+unmarked : (c : Contents) (sound : IsLaidOut c) (marks : List Bool) (m : MarksReached (root_words_of c.roots) c.words c.objects marks) (s : Heap) (h : StandsFor c s) (b : Bool) (i : ℕ) (e : Extent)
     → slice_get c.objects i ≡ Some e → (Reached s e.base → ⊥) → get_or marks i false ≡ b → get_or marks i false ≡ false
 unmarked c sound marks m s h true i e at out is = absurd (out (reached_out c sound s h i e (m.reached i is) at))
 unmarked c sound marks m s h false i e at out is = is
 
-module _ (c : Contents) (sound : IsSound c) (marks : List Bool) (m : MarksReached (root_words_of c.roots) c.words c.objects marks) (bases : List ℕ) where
+module _ (c : Contents) (sound : IsLaidOut c) (marks : List Bool) (m : MarksReached (root_words_of c.roots) c.words c.objects marks) (bases : List ℕ) where
   module _ (free : AreFreeToGo c.objects marks bases) (flags : List Bool) (unset : AreUnset c.objects bases flags) (stay : List Extent) (n : ℕ) (parts : Parts c.objects flags stay n) where
     are : AreBases parts.gone bases
     are = record {
@@ -89,7 +89,7 @@ module _ (c : Contents) (sound : IsSound c) (marks : List Bool) (m : MarksReache
         subst (Contains bases) e.2 (unset.only i.0 e.0 i.1 (rest.unset i.0 lt
         (unmarked c sound marks m s h (get_or marks i.0 false) i.0 e.0 i.1 (λ r. out (subst (Reached s) e.2 r)) refl)))
 
-    pub takes : (all : Bool) → (all ≡ true → AreAllUnset (length c.objects) marks flags) → IsTaken c bases all (record c { objects = stay })
+    pub takes : (all : Bool) → (all ≡ true → AreAllUnset (length c.objects) marks flags) → TakesBases c bases all (record c { objects = stay })
     takes all rest s h = (
       without s bases,
       record {

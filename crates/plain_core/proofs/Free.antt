@@ -16,7 +16,7 @@ use Rattle.heap_spec.specs.Steps.{Acts, acts, register}
 use Rattle.heap_spec.proofs.Objects.{without_some, without_other}
 use Rattle.roots.specs.Roots.{HasMutator}
 use Rattle.plain_core.specs.declared.extent.Extent.{Extent}
-use Rattle.plain_core.specs.Contents.{Contents, IsSound, IsInHeap, IsPlaced, granule}
+use Rattle.plain_core.specs.Contents.{Contents, IsLaidOut, IsInHeap, IsPlacedExtent, granule}
 use Rattle.plain_core.specs.Standing.{StandsFor, IsShown}
 use Rattle.plain_core.proofs.Stands.{StepsCall, mutator_at, keeps_all}
 use Rattle.plain_core.proofs.Lists.{the_one}
@@ -58,7 +58,7 @@ pub record AreBases (gone : List Extent) (bases : List ℕ) : Type 0 where
   pub all : (e : Extent) → Contains gone e → Contains bases e.base
 
 -- the rest of a row without some of its objects
-module _ (c : Contents) (sound : IsSound c) (gone rest : List Extent) (perm : IsPermutation c.objects (gone ++ rest)) where
+module _ (c : Contents) (sound : IsLaidOut c) (gone rest : List Extent) (perm : IsPermutation c.objects (gone ++ rest)) where
   pub was_in : (f : Extent) → Contains rest f → Contains c.objects f
   was_in f has = Contains-permutation (gone ++ rest) c.objects f (IsPermutation-sym c.objects (gone ++ rest) perm) (Contains-append_right gone rest f has)
 
@@ -74,12 +74,12 @@ module _ (c : Contents) (sound : IsSound c) (gone rest : List Extent) (perm : Is
   other_base : (e f : Extent) → Contains gone e → Contains rest f → e.base ≢ f.base
   other_base e f there has same = rest_apart gone rest distinct_all e f there has (ap (λ (b : ℕ). (b - FIRST_ADDRESS) / GRANULE_BYTES) same)
 
-  pub rest_sound : IsSound (record c { objects = rest })
+  pub rest_sound : IsLaidOut (record c { objects = rest })
   rest_sound = record {
     pages = sound.pages;
     words = sound.words;
     in_heap = λ k d lt. All-contains (IsInHeap c.pages) c.objects (get_or rest k d) sound.in_heap (was_in (get_or rest k d) (Contains-get_or rest k d lt));
-    placed = λ k d lt. All-contains IsPlaced c.objects (get_or rest k d) sound.placed (was_in (get_or rest k d) (Contains-get_or rest k d lt));
+    placed = λ k d lt. All-contains IsPlacedExtent c.objects (get_or rest k d) sound.placed (was_in (get_or rest k d) (Contains-get_or rest k d lt));
     distinct = rest_distinct gone rest distinct_all;
     apart = λ f g w hf hg rf rg. sound.apart f g w (was_in f hf) (was_in g hg) rf rg;
   }
@@ -110,7 +110,7 @@ one_base e = record {
 }
 
 -- an object is freed
-pub frees : (c : Contents) (sound : IsSound c) (e : Extent) (rest : List Extent) → IsPermutation c.objects (e ∷ rest) → (k r : ℕ) (m : Mutator) → HasMutator c.roots k m → Contains c.objects e → e.base ≡ register m r
+pub frees : (c : Contents) (sound : IsLaidOut c) (e : Extent) (rest : List Extent) → IsPermutation c.objects (e ∷ rest) → (k r : ℕ) (m : Mutator) → HasMutator c.roots k m → Contains c.objects e → e.base ≡ register m r
     → StepsCall c k (Free r) Done (record c { objects = rest })
 frees c sound e rest perm k r m at has same s h = (
   without s (e.base ∷ []),
@@ -122,7 +122,7 @@ frees c sound e rest perm k r m at has same s h = (
     kept = h.kept e has
 
 -- an address inside an object that is not its base
-pub refuses_inside : (c : Contents) (sound : IsSound c) (i : ℕ) (e x : Extent) (k r : ℕ) (m : Mutator) → HasMutator c.roots k m
+pub refuses_inside : (c : Contents) (sound : IsLaidOut c) (i : ℕ) (e x : Extent) (k r : ℕ) (m : Mutator) → HasMutator c.roots k m
     → slice_get c.objects i ≡ Some e → x ≡ get_or c.objects i x → Reads (register m r) e.base e.length → x.base ≢ register m r
     → StepsCall c k (Free r) (Refused NotBase) c
 refuses_inside c sound i e x k r m at there is reads apart =
@@ -133,8 +133,8 @@ refuses_inside c sound i e x k r m at there is reads apart =
     Acts.free_inside o.1 (λ same. apart (ap (λ (y : Extent). y.base) (is ∙ get_or_from_slice_get c.objects i e x there) ∙ same)))
 
 -- the object at a place goes, and the last one takes the place
-module _ (c : Contents) (sound : IsSound c) (i : ℕ) (e : Extent) (objects : List Extent) (lt : i < length c.objects) (is : e ≡ get_or c.objects i e) (removed : objects ≡ swap_remove c.objects i e) where
-  pub remove_sound : IsSound (record c { objects = objects })
+module _ (c : Contents) (sound : IsLaidOut c) (i : ℕ) (e : Extent) (objects : List Extent) (lt : i < length c.objects) (is : e ≡ get_or c.objects i e) (removed : objects ≡ swap_remove c.objects i e) where
+  pub remove_sound : IsLaidOut (record c { objects = objects })
   remove_sound = rw removed (rest_sound c sound (e ∷ []) (swap_remove c.objects i e) (IsPermutation-swap_remove c.objects i e lt is))
 
   pub removes : (k r : ℕ) (m : Mutator) → HasMutator c.roots k m → e.base ≡ register m r → StepsCall c k (Free r) Done (record c { objects = objects })

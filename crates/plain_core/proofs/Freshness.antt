@@ -15,7 +15,7 @@ use Rattle.words.specs.declared.limits.TheConstants.{WORD_BYTES, PAGE_BYTES, PAG
 use Rattle.words.specs.Layout.{page_start}
 use Rattle.heap_spec.specs.Layout.{Reads, LiesOn}
 use Rattle.plain_core.specs.declared.extent.Extent.{Extent}
-use Rattle.plain_core.specs.Contents.{IsInHeap, IsCell, HasPages, IsPlaced, granule}
+use Rattle.plain_core.specs.Contents.{IsInHeap, IsCellExtent, HasPages, IsPlacedExtent, granule}
 use Rattle.plain_core.specs.Places.{IsPlaceOn, IsLargePlace, IsCutPage, IsNoBase}
 
 -- two cells of one length that have a word in common are one
@@ -35,7 +35,7 @@ same_cell length i j x a b c d =
 abbrev pub IsFresh : List Extent → Extent → Type 0
 IsFresh row e = (f : Extent) (w : ℕ) → Contains row f → Reads w e.base e.length → Reads w f.base f.length → ⊥
 
-pub fresh_small : (page : ℕ) (kind : Kind) (row : List Extent) (e : Extent) → All (IsPlaced) row → e.length ≤ MAX_SMALL_WORDS → IsPlaceOn row page e.length kind e.base → IsFresh row e
+pub fresh_small : (page : ℕ) (kind : Kind) (row : List Extent) (e : Extent) → All (IsPlacedExtent) row → e.length ≤ MAX_SMALL_WORDS → IsPlaceOn row page e.length kind e.base → IsFresh row e
 fresh_small page kind row e placed few p f w has re rf =
     ⊎_elim (λ free. All-contains (λ (g : Extent). LiesOn g.base g.length page → ⊥) row f free has lies) (λ cut. in_cut cut.0 cut.1) p.cut
   where
@@ -52,7 +52,7 @@ fresh_small page kind row e placed few p f w has re rf =
     lies = (omega arith, omega arith)
 
     in_cut : IsCutPage row page e.length kind → IsNoBase row e.base → ⊥
-    in_cut cut none = ⊎_elim small large (All-contains (IsPlaced) row f placed has)
+    in_cut cut none = ⊎_elim small large (All-contains (IsPlacedExtent) row f placed has)
       where
         agrees : (f.length ≡ e.length) × (f.kind ≡ kind)
         agrees = All-contains (λ (g : Extent). LiesOn g.base g.length page → (g.length ≡ e.length) × (g.kind ≡ kind)) row f cut has lies
@@ -60,7 +60,7 @@ fresh_small page kind row e placed few p f w has re rf =
         large : HasPages f → ⊥
         large l = let a = agrees.0 in let s = l.some in let h = l.whole in omega arith
 
-        small : IsCell f → ⊥
+        small : IsCellExtent f → ⊥
         small s =
             let a = agrees.0 in
             let g : f.base ≡ page_start s.page + WORD_BYTES * (e.length * s.cell) = rw (← a) s.is_cell in

@@ -15,8 +15,8 @@ use Rattle.std.proofs.lemmas.Map.Steps.{length-le_from_distinct_below}
 use Rattle.heap_spec.specs.Layout.{Reads}
 use Rattle.plain_core.specs.declared.extent.Extent.{Extent}
 use Rattle.plain_core.specs.declared.listing.Listing.{Listing}
-use Rattle.plain_core.specs.Reached.{PointsInto, AreApart}
-use Rattle.plain_core.specs.Listing.{HasRoom, IsListed, IsReady, GoesOn, ListsAll}
+use Rattle.plain_core.specs.Reached.{PointsIntoPlace, AreApart}
+use Rattle.plain_core.specs.Listing.{HasListRoom, IsListOf, IsListing, ListGrows, ListsAll}
 
 pub nothing_in : {A : Type 0} (x : A) → Contains [] x → ⊥
 nothing_in x h = let lt = h.1 in omega arith
@@ -30,15 +30,15 @@ listed_few n order distinct below = length-le_from_distinct_below order n distin
     (λ q any. let a = Any-from_list_any (eqb q) order any in subst (λ x. x < n) (sym (eqb-true q a.1 a.4)) (below a.1 (a.0, a.2, a.3)))
 
 -- the object that is next on a list is one of the row
-pub listed_below : (row : List Extent) (l : Listing) (next index : ℕ) → IsReady row l → next < length l.order.items → index ≡ get_or l.order.items next index → index < length row
+pub listed_below : (row : List Extent) (l : Listing) (next index : ℕ) → IsListing row l → next < length l.order.items → index ≡ get_or l.order.items next index → index < length row
 listed_below row l next index ready lt is = ready.listed.below index (next, lt, sym is)
 
 -- an object more
-module _ (n : ℕ) (order : List ℕ) (marks : List Bool) (h : IsListed n order marks) (index : ℕ) (lt : index < n) (room : n ≤ length marks) (new : get_or marks index false ≡ false) where
+module _ (n : ℕ) (order : List ℕ) (marks : List Bool) (h : IsListOf n order marks) (index : ℕ) (lt : index < n) (room : n ≤ length marks) (new : get_or marks index false ≡ false) where
   apart : (i : ℕ) → Contains order i → i ≢ index
   apart i has same = true≢false (sym (h.marked i has) ∙ ap (λ k. get_or marks k false) same ∙ new)
 
-  pub listed_more : IsListed n (order ++ index ∷ []) (set marks index true)
+  pub listed_more : IsListOf n (order ++ index ∷ []) (set marks index true)
   listed_more = record {
     below = λ i has. ⊎_elim (λ old. h.below i old) (λ same. subst (λ k. k < n) same lt) (Contains-push_cases order index i has);
     distinct = IsDistinct-push nat_eq_equiv order index h.distinct
@@ -58,10 +58,10 @@ module _ (n : ℕ) (order : List ℕ) (marks : List Bool) (h : IsListed n order 
 
 module _ (row : List Extent) where
   -- no word, and words one after another
-  pub goes_none : (order : List ℕ) → GoesOn row [] order order
+  pub goes_none : (order : List ℕ) → ListGrows row [] order order
   goes_none order = record { more = []; goes_on = sym (append-nil order); only = λ i has. absurd (nothing_in i has); all = λ w i among p. absurd (nothing_in w among) }
 
-  pub goes_more : (words later a b c : List ℕ) → GoesOn row words a b → GoesOn row later b c → GoesOn row (words ++ later) a c
+  pub goes_more : (words later a b c : List ℕ) → ListGrows row words a b → ListGrows row later b c → ListGrows row (words ++ later) a c
   goes_more words later a b c x y = record {
     more = x.more ++ y.more;
     goes_on = y.goes_on ∙ ap (λ l. l ++ y.more) x.goes_on ∙ append_assoc a x.more y.more;
@@ -75,7 +75,7 @@ module _ (row : List Extent) where
         (Contains-append_cases words later w among);
   }
 
-  pub lists_none : (l : Listing) → IsReady row l → ListsAll row [] l l
+  pub lists_none : (l : Listing) → IsListing row l → ListsAll row [] l l
   lists_none l ready = record { ready = ready; goes = goes_none l.order.items; room = record { marks = refl; order = omega arith } }
 
   pub lists_more : (words later : List ℕ) (a b c : Listing) → ListsAll row words a b → ListsAll row later b c → ListsAll row (words ++ later) a c
@@ -86,42 +86,42 @@ module _ (row : List Extent) where
   }
 
   -- a word that points into nothing, or into what is listed
-  lists_same : (w : ℕ) (l : Listing) → IsReady row l → ((i : ℕ) → PointsInto row w i → Contains l.order.items i) → ListsAll row (w ∷ []) l l
+  lists_same : (w : ℕ) (l : Listing) → IsListing row l → ((i : ℕ) → PointsIntoPlace row w i → Contains l.order.items i) → ListsAll row (w ∷ []) l l
   lists_same w l ready has = record {
     ready = ready;
     goes = record {
       more = [];
       goes_on = sym (append-nil l.order.items);
       only = λ i none. absurd (nothing_in i none);
-      all = λ v i among p. has i (subst (λ x. PointsInto row x i) (sym (the_one w v among)) p);
+      all = λ v i among p. has i (subst (λ x. PointsIntoPlace row x i) (sym (the_one w v among)) p);
     };
     room = record { marks = refl; order = omega arith };
   }
 
-  pub lists_listed : (w index : ℕ) (l : Listing) → IsReady row l → PointsInto row w index → get_or l.marks.items index false ≡ true → ListsAll row (w ∷ []) l l
+  pub lists_listed : (w index : ℕ) (l : Listing) → IsListing row l → PointsIntoPlace row w index → get_or l.marks.items index false ≡ true → ListsAll row (w ∷ []) l l
   lists_listed w index l ready here is = lists_same w l ready (λ i p. ready.listed.only i (ap (λ k. get_or l.marks.items k false) (ready.apart.one w i index p here) ∙ is))
 
   -- a word that points into nothing
-  pub lists_nothing : (w : ℕ) (l : Listing) → IsReady row l → All (λ (e : Extent). Reads w e.base e.length → ⊥) row → ListsAll row (w ∷ []) l l
+  pub lists_nothing : (w : ℕ) (l : Listing) → IsListing row l → All (λ (e : Extent). Reads w e.base e.length → ⊥) row → ListsAll row (w ∷ []) l l
   lists_nothing w l ready none = lists_same w l ready
       (λ i p. absurd (none i p.0 (slice_get_within row i p.0 p.1) (subst (λ (x : Extent). Reads w x.base x.length) (sym (get_or_from_slice_get row i p.0 p.0 p.1)) p.2)))
 
   -- a word that points into what is not listed
-  pub lists_new : (w index : ℕ) (l l' : Listing) → IsReady row l → PointsInto row w index → get_or l.marks.items index false ≡ false → l'.marks.items ≡ set l.marks.items index true → l'.order.items ≡ l.order.items ++ index ∷ []
+  pub lists_new : (w index : ℕ) (l l' : Listing) → IsListing row l → PointsIntoPlace row w index → get_or l.marks.items index false ≡ false → l'.marks.items ≡ set l.marks.items index true → l'.order.items ≡ l.order.items ++ index ∷ []
       → vec_capacity l.order ≤ vec_capacity l'.order → ListsAll row (w ∷ []) l l'
   lists_new w index l l' ready here new marks order same = record {
     ready = record {
       apart = ready.apart;
       room = record { marks = let room = ready.room.marks in let size = long in omega arith; order = let room = ready.room.order in omega arith };
-      listed = subst (λ o. IsListed (length row) o l'.marks.items) (sym order) (subst (IsListed (length row) (l.order.items ++ index ∷ [])) (sym marks)
+      listed = subst (λ o. IsListOf (length row) o l'.marks.items) (sym order) (subst (IsListOf (length row) (l.order.items ++ index ∷ [])) (sym marks)
           (listed_more (length row) l.order.items l.marks.items ready.listed index (slice_get_within row index here.0 here.1) ready.room.marks new));
     };
     goes = record {
       more = index ∷ [];
       goes_on = order;
-      only = λ i has. (w, Contains-push [] w, subst (PointsInto row w) (the_one index i has) here);
+      only = λ i has. (w, Contains-push [] w, subst (PointsIntoPlace row w) (the_one index i has) here);
       all = λ v i among p.
-          let same : i ≡ index = ready.apart.one w i index (subst (λ x. PointsInto row x i) (sym (the_one w v among)) p) here in
+          let same : i ≡ index = ready.apart.one w i index (subst (λ x. PointsIntoPlace row x i) (sym (the_one w v among)) p) here in
           subst (λ o. Contains o i) (sym order) (subst (Contains (l.order.items ++ index ∷ [])) (sym same) (Contains-push l.order.items index));
     };
     room = record { marks = long; order = same };
@@ -142,11 +142,11 @@ none_set n i is = true≢false (sym is ∙ ⊎_elim
     (cases_lt i n))
 
 -- an empty list
-pub nothing_listed : (row : List Extent) (l : Listing) → AreApart row → HasRoom (length row) l → l.order.items ≡ [] → (n : ℕ) → l.marks.items ≡ replicate n false → IsReady row l
+pub nothing_listed : (row : List Extent) (l : Listing) → AreApart row → HasListRoom (length row) l → l.order.items ≡ [] → (n : ℕ) → l.marks.items ≡ replicate n false → IsListing row l
 nothing_listed row l apart room none n clear = record {
   apart = apart;
   room = room;
-  listed = subst (λ o. IsListed (length row) o l.marks.items) (sym none) (record {
+  listed = subst (λ o. IsListOf (length row) o l.marks.items) (sym none) (record {
     below = λ i has. absurd (nothing_in i has);
     distinct = IsDistinct-from_count nat_eq_equiv [] refl;
     marked = λ i has. absurd (nothing_in i has);

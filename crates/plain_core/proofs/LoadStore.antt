@@ -13,13 +13,13 @@ use Rattle.heap_spec.specs.Steps.{Acts, acts, with_object, with_register, regist
 use Rattle.heap_spec.proofs.Objects.{with_at-same, with_at-other}
 use Rattle.roots.specs.Roots.{RootSet, HasMutator, SetsWord}
 use Rattle.plain_core.specs.declared.extent.Extent.{Extent}
-use Rattle.plain_core.specs.Contents.{Contents, IsSound, IsInHeap}
+use Rattle.plain_core.specs.Contents.{Contents, IsLaidOut, IsInHeap}
 use Rattle.plain_core.specs.Standing.{IsShown, place}
 use Rattle.plain_core.proofs.Stands.{StepsCall, mutator_at, keeps_all, sets_register}
 use Rattle.plain_core.proofs.Memory.{word_in, written_in, written_out}
 use Rattle.plain_core.proofs.Objects.{in_heap, reads_base, in_row, length_shown, reads_object}
 
-pub loads : (c : Contents) (roots : RootSet) (k d r n w : ℕ) (m : Mutator) (e : Extent) → IsSound c → HasMutator c.roots k m → Contains c.objects e
+pub loads : (c : Contents) (roots : RootSet) (k d r n w : ℕ) (m : Mutator) (e : Extent) → IsLaidOut c → HasMutator c.roots k m → Contains c.objects e
     → Reads (address m r n) e.base e.length → address m r n % WORD_BYTES ≡ 0 → w ≡ get_or c.words (place (address m r n)) w
     → SetsWord c.roots k d w roots → StepsCall c k (Load d r n) (Word w) (record c { roots = roots })
 loads c roots k d r n w m e sound at has reads al is sets =
@@ -33,7 +33,7 @@ loads c roots k d r n w m e sound at has reads al is sets =
     ∙ sym (get_or_read c.words (place a) w (in_row c sound e has a reads) is 0) in
     subst (λ v. Acts s k m (Load d r n) (Word v) (with_register s k m d v)) word (Acts.loaded al (kept.1, rw (length_shown c sound e has kept.0 kept.2) reads)))
 
-pub sizes : (c : Contents) (k r : ℕ) (m : Mutator) (e : Extent) → IsSound c → HasMutator c.roots k m → Contains c.objects e → Reads (register m r) e.base e.length
+pub sizes : (c : Contents) (k r : ℕ) (m : Mutator) (e : Extent) → IsLaidOut c → HasMutator c.roots k m → Contains c.objects e → Reads (register m r) e.base e.length
     → StepsCall c k (Size r) (Count e.length) c
 sizes c k r m e sound at has reads =
     keeps_all c k (Size r) (Count e.length) m at
@@ -49,7 +49,7 @@ module _ (s : Heap) (base : ℕ) (o o' : Object) (has : HasObject s base o) (bir
       (λ other. (p, sym (with_at-other s.objects base (Some o') b other) ∙ is, refl))
       (cases_eq b base)
 
-pub stores : (c : Contents) (k r n f : ℕ) (m : Mutator) (e : Extent) → IsSound c → HasMutator c.roots k m → Contains c.objects e
+pub stores : (c : Contents) (k r n f : ℕ) (m : Mutator) (e : Extent) → IsLaidOut c → HasMutator c.roots k m → Contains c.objects e
     → Reads (address m r n) e.base e.length → address m r n % WORD_BYTES ≡ 0
     → StepsCall c k (Store r n f) Done (record c { words = set c.words (place (address m r n)) (register m f) })
 stores c k r n f m e sound at has reads al s h = (

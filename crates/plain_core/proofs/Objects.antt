@@ -6,7 +6,7 @@ use Rattle.std.proofs.lemmas.Option.{same_Some, none-some}
 use Rattle.heap_spec.specs.Layout.{Reads}
 use Rattle.heap_spec.specs.Heap.{Heap, Object, HasObject, ReadsObject, ReadsNothing}
 use Rattle.plain_core.specs.declared.extent.Extent.{Extent}
-use Rattle.plain_core.specs.Contents.{Contents, IsSound, IsInHeap}
+use Rattle.plain_core.specs.Contents.{Contents, IsLaidOut, IsInHeap}
 use Rattle.plain_core.specs.Places.{IsNoBase}
 use Rattle.plain_core.specs.Standing.{StandsFor, IsShown, place}
 use Rattle.plain_core.proofs.Memory.{length_words}
@@ -15,7 +15,7 @@ none_of : {A : Type 0} (o : Option A) → ((x : A) → o ≡ Some x → ⊥) →
 none_of None h = refl
 none_of (Some x) h = absurd (h x refl)
 
-module _ (c : Contents) (sound : IsSound c) where
+module _ (c : Contents) (sound : IsLaidOut c) where
   pub in_heap : (e : Extent) → Contains c.objects e → IsInHeap c.pages e
   in_heap e has = All-contains (IsInHeap c.pages) c.objects e sound.in_heap has
 
@@ -31,7 +31,7 @@ module _ (c : Contents) (sound : IsSound c) where
   pub in_row : (e : Extent) → Contains c.objects e → (a : ℕ) → Reads a e.base e.length → place a < length c.words
   in_row e has a r = let i : IsInHeap c.pages e = in_heap e has in let w = sound.words in omega arith
 
-module _ (c : Contents) (sound : IsSound c) (s : Heap) (h : StandsFor c s) where
+module _ (c : Contents) (sound : IsLaidOut c) (s : Heap) (h : StandsFor c s) where
   -- the object of the heap that lies there
   pub object_of : (e : Extent) → Contains c.objects e → (o : Object) × HasObject s e.base o × (length o.words ≡ e.length) × (o.kind ≡ e.kind)
   object_of e has =

@@ -7,7 +7,7 @@ use Rattle.words.specs.declared.limits.TheConstants.{FIRST_ADDRESS}
 use Rattle.heap_spec.specs.Layout.{Reads}
 use Rattle.plain_core.specs.declared.extent.Extent.{Extent}
 use Rattle.plain_core.specs.Standing.{LiesIn, place}
-use Rattle.plain_core.specs.Reached.{PointsInto, AreApart}
+use Rattle.plain_core.specs.Reached.{PointsIntoPlace, AreApart}
 use Rattle.plain_core.specs.Owners.{AreOwners}
 
 -- the object at a place of the row lies in it
@@ -24,7 +24,7 @@ reads_in words e w lies low from until = let s = lies.start in let a = lies.alig
 
 -- So far each word of one of the first objects has that object's place.
 pub record OwnSoFar (row : List Extent) (count : ℕ) (owners : List ℕ) : Type 0 where
-  pub owned : (w i : ℕ) → i < count → PointsInto row w i → get_or owners (place w) 0 ≡ i
+  pub owned : (w i : ℕ) → i < count → PointsIntoPlace row w i → get_or owners (place w) 0 ≡ i
 
 module _ (row : List Extent) (apart : AreApart row) (words : List ℕ) (lie : All (LiesIn words) row) where
   pub own_none : (owners : List ℕ) → OwnSoFar row 0 owners
@@ -48,7 +48,7 @@ module _ (row : List Extent) (apart : AreApart row) (words : List ℕ) (lie : Al
       here : (w i : ℕ) → i ≡ n → Reads w e.base e.length → get_or new (place w) 0 ≡ i
       here w i same reads = let in_it = placed_in words e w lies reads in filled (place w) (let b = begins in omega (arith, in_it.1)) (let b = begins in omega (arith, in_it.2)) ∙ sym same
 
-      outside : (w i : ℕ) → (i ≡ n → ⊥) → PointsInto row w i → (place w < start) ⊎ (start + e.length ≤ place w)
+      outside : (w i : ℕ) → (i ≡ n → ⊥) → PointsIntoPlace row w i → (place w < start) ⊎ (start + e.length ≤ place w)
       outside w i ne p =
           let low = (placed_in words p.0 w (lies_at row words lie i p.0 p.1) p.2).0 in
           ⊎_elim (λ under. inl under)
@@ -72,7 +72,7 @@ pub owners_as : (row row' : List Extent) (owners owners' : List ℕ) → row ≡
 owners_as row row' owners owners' er eo own = subst (λ r. AreOwners r owners') er (subst (AreOwners row) eo own)
 
 module _ (row : List Extent) (owners : List ℕ) (own : AreOwners row owners) (w : ℕ) where
-  abbrev points : (k : ℕ) (d : Extent) → k < length row → Reads w (get_or row k d).base (get_or row k d).length → PointsInto row w k
+  abbrev points : (k : ℕ) (d : Extent) → k < length row → Reads w (get_or row k d).base (get_or row k d).length → PointsIntoPlace row w k
   points k d lt reads = (get_or row k d, slice_get-get_or row k d lt, reads)
 
   -- no object has a word before the first, or past the last

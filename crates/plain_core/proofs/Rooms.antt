@@ -6,20 +6,20 @@ use Rattle.words.specs.declared.class.Placement.{Placement}
 use Rattle.words.specs.declared.class.Placement.TheVariants.{Small, Large}
 use Rattle.heap_spec.specs.Layout.{LiesOn}
 use Rattle.heap_spec.specs.Heap.{Heap}
-use Rattle.heap_spec.specs.Room.{IsFree, IsCutFor, HasRoom}
+use Rattle.heap_spec.specs.Room.{IsEmptyPage, IsCutFor, HasRoom}
 use Rattle.plain_core.specs.declared.extent.Extent.{Extent}
-use Rattle.plain_core.specs.Contents.{Contents, IsSound}
+use Rattle.plain_core.specs.Contents.{Contents, IsLaidOut}
 use Rattle.plain_core.specs.Places.{IsPlace, IsFreePage, IsCutPage}
 use Rattle.plain_core.specs.Standing.{StandsFor}
 use Rattle.plain_core.proofs.Objects.{object_of, extent_of, none_at, none_in}
 
-module _ (c : Contents) (sound : IsSound c) (s : Heap) (h : StandsFor c s) where
-  free_of : (page : ℕ) → IsFreePage c.objects page → IsFree s page
+module _ (c : Contents) (sound : IsLaidOut c) (s : Heap) (h : StandsFor c s) where
+  free_of : (page : ℕ) → IsFreePage c.objects page → IsEmptyPage s page
   free_of page free base o has lies =
       let e = extent_of c sound s h base o has in
       All-contains (λ (g : Extent). LiesOn g.base g.length page → ⊥) c.objects e.0 free e.1 (rw (e.2, e.3) lies)
 
-  free_in : (page : ℕ) → IsFree s page → IsFreePage c.objects page
+  free_in : (page : ℕ) → IsEmptyPage s page → IsFreePage c.objects page
   free_in page free k d lt lies =
       let o = object_of c sound s h (get_or c.objects k d) (Contains-get_or c.objects k d lt) in
       free _ o.0 o.1 (rw o.2 lies)

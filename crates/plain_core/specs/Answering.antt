@@ -18,8 +18,8 @@ use Rattle.plain_core.specs.Places.{IsPlace, IsSized}
 use Rattle.plain_core.specs.Standing.{StandsFor}
 
 -- the address points into this object of each heap that the core stands for
-abbrev pub IsFound : Contents → ℕ → Extent → Type 0
-IsFound c a e = (s : Heap) → StandsFor c s → (o : Object) × ReadsObject s a e.base o × (length o.words ≡ e.length)
+abbrev pub FindsExtent : Contents → ℕ → Extent → Type 0
+FindsExtent c a e = (s : Heap) → StandsFor c s → (o : Object) × ReadsObject s a e.base o × (length o.words ≡ e.length)
 
 -- the word at the address of an object
 abbrev pub HoldsWord : Contents → ℕ → ℕ → Type 0
@@ -56,7 +56,7 @@ pub record IsBornAt (s : Heap) (base : ℕ) (s' : Heap) : Type 0 where
   pub newest : s.births < object.birth
 
 -- There is room for an object of this placement.
-pub record Fits (c : Contents) (placement : Placement) (e : Extent) : Type 0 where
+pub record MayBePut (c : Contents) (placement : Placement) (e : Extent) : Type 0 where
   pub sized : IsSized placement
   pub size : e.length ≡ length_of placement
   pub place : IsPlace c.objects c.pages placement e.kind e.base

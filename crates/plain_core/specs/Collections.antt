@@ -25,8 +25,8 @@ HasUnreached s bases = (base : ℕ) (o : Object) → HasObject s base o → (Rea
 
 -- Of each heap that the core stood for the objects with these bases are gone, none of which is reached: if they had to be
 -- all such objects, they are.
-abbrev pub IsTaken : Contents → List ℕ → Bool → Contents → Type 0
-IsTaken old bases all new = (s : Heap) → StandsFor old s → (s' : Heap) × TakesOut s bases (Count (length bases)) s' × (all ≡ true → HasUnreached s bases) × StandsFor new s'
+abbrev pub TakesBases : Contents → List ℕ → Bool → Contents → Type 0
+TakesBases old bases all new = (s : Heap) → StandsFor old s → (s' : Heap) × TakesOut s bases (Count (length bases)) s' × (all ≡ true → HasUnreached s bases) × StandsFor new s'
 
 -- Of no heap that the core stands for these can be taken out: they are not the bases of distinct objects, or one is
 -- reached, or they had to be all that are not reached, and are not.

@@ -22,7 +22,7 @@ pub record IsInHeap (pages : ℕ) (e : Extent) : Type 0 where
   pub ends : e.base + WORD_BYTES * e.length ≤ heap_end pages
 
 -- a cell of its page
-pub record IsCell (e : Extent) : Type 0 where
+pub record IsCellExtent (e : Extent) : Type 0 where
   pub page : ℕ
   pub cell : ℕ
   pub few : e.length ≤ MAX_SMALL_WORDS
@@ -38,8 +38,8 @@ pub record HasPages (e : Extent) : Type 0 where
   pub is_start : e.base ≡ page_start first
 
 -- the object lies where objects are placed
-abbrev pub IsPlaced : Extent → Type 0
-IsPlaced e = IsCell e ⊎ HasPages e
+abbrev pub IsPlacedExtent : Extent → Type 0
+IsPlacedExtent e = IsCellExtent e ⊎ HasPages e
 
 -- the number of the granule at which an object begins
 abbrev pub granule : Extent → ℕ
@@ -47,10 +47,10 @@ granule e = (e.base - FIRST_ADDRESS) / GRANULE_BYTES
 
 -- What is true of every plain core. No address points into two objects, and no two begin at one granule, so that there are
 -- never more objects than granules.
-pub record IsSound (c : Contents) : Type 0 where
+pub record IsLaidOut (c : Contents) : Type 0 where
   pub pages : c.pages ≤ MAX_PAGES
   pub words : length c.words ≡ PAGE_WORDS * c.pages
   pub in_heap : All (IsInHeap c.pages) c.objects
-  pub placed : All IsPlaced c.objects
+  pub placed : All IsPlacedExtent c.objects
   pub distinct : IsDistinct nat_eq (map granule c.objects)
   pub apart : (e f : Extent) (w : ℕ) → Contains c.objects e → Contains c.objects f → Reads w e.base e.length → Reads w f.base f.length → e ≡ f

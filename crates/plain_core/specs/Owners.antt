@@ -3,12 +3,12 @@ use Rattle.std.specs.Prelude.{◌≡◌, ℕ, ◌≤◌, ◌<◌, List, All, len
 use Rattle.words.specs.declared.limits.TheConstants.{FIRST_ADDRESS}
 use Rattle.plain_core.specs.declared.extent.Extent.{Extent}
 use Rattle.plain_core.specs.Standing.{place}
-use Rattle.plain_core.specs.Reached.{PointsInto}
+use Rattle.plain_core.specs.Reached.{PointsIntoPlace}
 
 -- Each word of an object has the place of that object in the row, and each object has a word. What the other words have is
 -- open.
 pub record AreOwners (row : List Extent) (owners : List ℕ) : Type 0 where
   pub some : All (λ e. 0 < e.length) row
-  pub start : (w i : ℕ) → PointsInto row w i → FIRST_ADDRESS ≤ w
-  pub within : (w i : ℕ) → PointsInto row w i → place w < length owners
-  pub owned : (w i : ℕ) → PointsInto row w i → slice_index owners (place w) ≡ i
+  pub start : (w i : ℕ) → PointsIntoPlace row w i → FIRST_ADDRESS ≤ w
+  pub within : (w i : ℕ) → PointsIntoPlace row w i → place w < length owners
+  pub owned : (w i : ℕ) → PointsIntoPlace row w i → slice_index owners (place w) ≡ i

@@ -7,12 +7,12 @@ use Rattle.plain_core.specs.declared.extent.Extent.{Extent}
 use Rattle.plain_core.specs.Standing.{words_at}
 
 -- the word points into the object at this place of the row
-abbrev pub PointsInto : List Extent → ℕ → ℕ → Type 0
-PointsInto row w i = (e : Extent) × (slice_get row i ≡ Some e) × Reads w e.base e.length
+abbrev pub PointsIntoPlace : List Extent → ℕ → ℕ → Type 0
+PointsIntoPlace row w i = (e : Extent) × (slice_get row i ≡ Some e) × Reads w e.base e.length
 
 -- No word points into two objects.
 pub record AreApart (row : List Extent) : Type 0 where
-  pub one : (w i j : ℕ) → PointsInto row w i → PointsInto row w j → i ≡ j
+  pub one : (w i j : ℕ) → PointsIntoPlace row w i → PointsIntoPlace row w j → i ≡ j
 
 -- the words that are read of an object of a kind
 abbrev pub read_words : Kind → List ℕ → List ℕ
@@ -24,11 +24,11 @@ abbrev pub links_of : List ℕ → Extent → List ℕ
 links_of words e = read_words e.kind (words_at words e)
 
 -- The reached objects: those that root words point into, and with each of them those that its words point into.
-pub data IsReached (roots words : List ℕ) (row : List Extent) : ℕ → Type 0 where
-  by_root : {w i : ℕ} → Contains roots w → PointsInto row w i → IsReached roots words row i
-  by_link : {i w j : ℕ} {e : Extent} → IsReached roots words row i → slice_get row i ≡ Some e → Contains (links_of words e) w → PointsInto row w j → IsReached roots words row j
+pub data IsReachedPlace (roots words : List ℕ) (row : List Extent) : ℕ → Type 0 where
+  by_root : {w i : ℕ} → Contains roots w → PointsIntoPlace row w i → IsReachedPlace roots words row i
+  by_link : {i w j : ℕ} {e : Extent} → IsReachedPlace roots words row i → slice_get row i ≡ Some e → Contains (links_of words e) w → PointsIntoPlace row w j → IsReachedPlace roots words row j
 
 -- A row marks exactly the reached objects.
 pub record MarksReached (roots words : List ℕ) (row : List Extent) (marks : List Bool) : Type 0 where
-  pub marked : (i : ℕ) → IsReached roots words row i → slice_index_or marks i false ≡ true
-  pub reached : (i : ℕ) → slice_index_or marks i false ≡ true → IsReached roots words row i
+  pub marked : (i : ℕ) → IsReachedPlace roots words row i → slice_index_or marks i false ≡ true
+  pub reached : (i : ℕ) → slice_index_or marks i false ≡ true → IsReachedPlace roots words row i

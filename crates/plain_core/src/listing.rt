@@ -3,7 +3,7 @@ ghost use Rattle.std.specs.Prelude.{◌≡◌, ◌<◌, [], ◌∷◌, Some, IfO
 ghost use Rattle.plain_core.specs.Reached.{AreApart, MarksReached, links_of};
 ghost use Rattle.plain_core.specs.Owners.{AreOwners};
 ghost use Rattle.plain_core.specs.Standing.{LiesIn};
-ghost use Rattle.plain_core.specs.Listing.{HasRoom, IsReady, ListsAll, KeepsRoom};
+ghost use Rattle.plain_core.specs.Listing.{HasListRoom, IsListing, ListsAll, KeepsRoom};
 
 use crate::extent::Extent;
 use crate::owners::owner_at;
@@ -21,7 +21,7 @@ pub struct Listing {
 impl Listing {
     /// An empty list with room for so many objects.
     pub fn new(alloc: Global, count: usize) -> Result<Listing, AllocError>
-        ensures { IfOk result (λ listing. HasRoom count listing) }
+        ensures { IfOk result (λ listing. HasListRoom count listing) }
     {
         let marks = vec![in alloc; false; count]?;
         let order = Vec::with_capacity(alloc, count)?;
@@ -32,8 +32,8 @@ impl Listing {
 // Takes all objects off the list.
 fn clear(objects: &[Extent], listing: &mut Listing)
     requires apart { AreApart objects.now }
-    requires room { HasRoom (length objects.now) listing.old }
-    ensures ready { IsReady objects.now listing.new }
+    requires room { HasListRoom (length objects.now) listing.old }
+    ensures ready { IsListing objects.now listing.new }
     ensures none { listing.new.order.items ≡ [] }
     ensures room { KeepsRoom listing.old listing.new }
 {
@@ -43,7 +43,7 @@ fn clear(objects: &[Extent], listing: &mut Listing)
 
 // Lists the object that a word points into, unless it is listed.
 fn list_one(word: u64, objects: &[Extent], owners: &[u64], listing: &mut Listing)
-    requires ready { IsReady objects.now listing.old }
+    requires ready { IsListing objects.now listing.old }
     requires owners { AreOwners objects.now owners.now }
     ensures { ListsAll objects.now (word ∷ []) listing.old listing.new }
 {
@@ -59,7 +59,7 @@ fn list_one(word: u64, objects: &[Extent], owners: &[u64], listing: &mut Listing
 
 // Lists the objects that some words point into.
 fn list_all(words: &[u64], objects: &[Extent], owners: &[u64], listing: &mut Listing)
-    requires ready { IsReady objects.now listing.old }
+    requires ready { IsListing objects.now listing.old }
     requires owners { AreOwners objects.now owners.now }
     ensures { ListsAll objects.now words.now listing.old listing.new }
 {
@@ -84,7 +84,7 @@ fn list_links(
     owners: &[u64],
     listing: &mut Listing,
 )
-    requires ready { IsReady objects.now listing.old }
+    requires ready { IsListing objects.now listing.old }
     requires owners { AreOwners objects.now owners.now }
     requires within { LiesIn words.now object }
     ensures { ListsAll objects.now (links_of words.now object) listing.old listing.new }
@@ -107,7 +107,7 @@ pub fn list_reached(
 )
     requires apart { AreApart objects.now }
     requires owners { AreOwners objects.now owners.now }
-    requires room { HasRoom (length objects.now) listing.old }
+    requires room { HasListRoom (length objects.now) listing.old }
     requires within { All (LiesIn words.now) objects.now }
     ensures marks { MarksReached roots.now words.now objects.now listing.new.marks.items }
     ensures room { KeepsRoom listing.old listing.new }

@@ -23,7 +23,7 @@ use Rattle.heap_spec.specs.Transcripts.{LineOf, IsWrongPhase}
 use Rattle.plain_core.specs.Contents.{Contents as PlainContents}
 use Rattle.plain_core.specs.Standing.{StandsFor}
 use Rattle.plain_core.specs.Answering.{IsNoStep, IsBornAt, IsAllocatedAt, CantAllocateAt}
-use Rattle.plain_core.specs.Collections.{IsCollected, CantCollect, IsTaken, CantTake, HasUnreached}
+use Rattle.plain_core.specs.Collections.{IsCollected, CantCollect, TakesBases, CantTake, HasUnreached}
 use Rattle.replayer.specs.declared.hint.Hint.{Hint}
 use Rattle.replayer.specs.declared.hint.Hint.TheVariants.{Nothing, Place, Forgot}
 use Rattle.replayer.specs.Contents.{Contents, Follows}
@@ -372,7 +372,7 @@ module _ (old : Contents) (small : old.number < word_end) (few : old.births < wo
   named : (n : ℕ) (s s' : Heap) → TakesOut s bases.now (Count (length bases.now)) s' → Count n ≡ Count (length bases.now) → TakesOut s bases.now (Count n) s'
   named n s s' takes is = subst (λ q. TakesOut s bases.now q s') (sym is) takes
 
-  pub finishes : IsTaken old.core bases.now false new → old.marking ≡ true → (n : ℕ) → n ≡ length bases.now → IsReplayed old Finish (Count n) (Forgot bases) ended
+  pub finishes : TakesBases old.core bases.now false new → old.marking ≡ true → (n : ℕ) → n ≡ length bases.now → IsReplayed old Finish (Count n) (Forgot bases) ended
   finishes takes m n long start run f =
       let x = takes (heap_after start run) f.stands in
       let counts : Count n ≡ Count (length bases.now) = ap Count long in (
@@ -387,7 +387,7 @@ module _ (old : Contents) (small : old.number < word_end) (few : old.births < wo
         follows start run f x.0 Finish (Count n) refl refl x.1.after x.3,
       )
 
-  pub collects : IsTaken old.core bases.now true new → (n : ℕ) → n ≡ length bases.now → IsReplayed old Collect (Count n) (Forgot bases) ended
+  pub collects : TakesBases old.core bases.now true new → (n : ℕ) → n ≡ length bases.now → IsReplayed old Collect (Count n) (Forgot bases) ended
   collects takes n long start run f =
       let x = takes (heap_after start run) f.stands in
       let counts : Count n ≡ Count (length bases.now) = ap Count long in (

@@ -8,7 +8,7 @@ use Rattle.std.proofs.lemmas.List.Elements.{All-nil, All-cons, All-append}
 use Rattle.heap_spec.specs.declared.event.Event.{Event}
 use Rattle.scripts.specs.Grammar.{IsLineOf}
 use Rattle.scripts.specs.Lines.{newline, IsShort, lines_of}
-use Rattle.scripts.specs.Reading.{left_of, IsPlain}
+use Rattle.scripts.specs.Reading.{left_of, IsPlainLine}
 use Rattle.scripts.specs.Turns.{text_of}
 use Rattle.scripts.proofs.Texts.{lines_of-text, lines_of-line, lines_of-last}
 
@@ -50,7 +50,7 @@ no_left [] left e = e
 no_left (b ∷ buffer) left e = let h : ⊥ = cc in absurd h
 
 -- the lines of an input that begins with some lines and one more
-pub more_lines : (lines : List (List ℕ)) (line buffer left : List ℕ) → All IsPlain lines → IsPlain line → lines_of (((text_of lines ++ (line ++ newline ∷ [])) ++ buffer) ++ left) ≡ lines ++ line ∷ lines_of (buffer ++ left)
+pub more_lines : (lines : List (List ℕ)) (line buffer left : List ℕ) → All IsPlainLine lines → IsPlainLine line → lines_of (((text_of lines ++ (line ++ newline ∷ [])) ++ buffer) ++ left) ≡ lines ++ line ∷ lines_of (buffer ++ left)
 more_lines lines line buffer left plain p =
     ap lines_of (append_assoc (text_of lines ++ (line ++ newline ∷ [])) buffer left ∙ append_assoc (text_of lines) (line ++ newline ∷ []) (buffer ++ left))
     ∙ lines_of-text lines ((line ++ newline ∷ []) ++ (buffer ++ left)) plain
@@ -58,7 +58,7 @@ more_lines lines line buffer left plain p =
     ∙ ap (λ ls. lines ++ ls) (lines_of-line line (buffer ++ left) p)
 
 -- the same, where the last line lacks its newline
-pub last_line : (lines : List (List ℕ)) (line buffer left : List ℕ) → All IsPlain lines → IsPlain line → 0 < length line → buffer ++ left ≡ [] → lines_of (((text_of lines ++ line) ++ buffer) ++ left) ≡ lines ++ line ∷ []
+pub last_line : (lines : List (List ℕ)) (line buffer left : List ℕ) → All IsPlainLine lines → IsPlainLine line → 0 < length line → buffer ++ left ≡ [] → lines_of (((text_of lines ++ line) ++ buffer) ++ left) ≡ lines ++ line ∷ []
 last_line lines line buffer left plain p some end =
     ap lines_of (append_assoc (text_of lines ++ line) buffer left ∙ ap (λ t. (text_of lines ++ line) ++ t) end ∙ append-nil (text_of lines ++ line))
     ∙ lines_of-text lines line plain ∙ ap (λ ls. lines ++ ls) (lines_of-last line p some)
@@ -70,13 +70,13 @@ commands_short [] (e ∷ events) are = absurd are
 commands_short (line ∷ lines) [] are = absurd are
 commands_short (line ∷ lines) (e ∷ events) are = All-cons IsShort line lines are.0.short (commands_short lines events are.1)
 
-part_short : (part : List ℕ) → IsPlain part → IsShort part → All IsShort (lines_of part)
+part_short : (part : List ℕ) → IsPlainLine part → IsShort part → All IsShort (lines_of part)
 part_short [] plain short = All-nil IsShort
 part_short (b ∷ part) plain short =
     subst (All IsShort) (sym (lines_of-last (b ∷ part) plain (omega arith))) (All-cons IsShort (b ∷ part) [] short (All-nil IsShort))
 
 -- no line of what was read is too long, where the lines before a part are commands'
-pub all_short : (lines : List (List ℕ)) (events : List Event) (part buffer : List ℕ) → AllZip IsLineOf lines events → All IsPlain lines → IsPlain part → IsShort part → buffer ≡ []
+pub all_short : (lines : List (List ℕ)) (events : List Event) (part buffer : List ℕ) → AllZip IsLineOf lines events → All IsPlainLine lines → IsPlainLine part → IsShort part → buffer ≡ []
     → All IsShort (lines_of ((text_of lines ++ part) ++ buffer))
 all_short lines events part buffer are plain p short empty =
     let text : lines_of ((text_of lines ++ part) ++ buffer) ≡ lines ++ lines_of part

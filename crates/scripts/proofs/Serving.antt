@@ -16,10 +16,10 @@ use Rattle.scripts.specs.declared.line.LineRead.{LineRead}
 use Rattle.scripts.specs.declared.line.LineRead.TheVariants.{Line, Last, End, TooLong}
 use Rattle.scripts.specs.Grammar.{IsLineOf, IsBad}
 use Rattle.scripts.specs.Lines.{newline, IsShort, lines_of, whole_lines_of}
-use Rattle.scripts.specs.Reading.{left_of, IsPlain, IsLineRead}
+use Rattle.scripts.specs.Reading.{left_of, IsPlainLine, IsLineRead}
 use Rattle.scripts.specs.Printing.{reply_line, printed}
 use Rattle.scripts.specs.Answers.{Answers, BeginsAnswer, IsAnswered, Serves}
-use Rattle.scripts.specs.Turns.{IsRun, IsTurn, text_of}
+use Rattle.scripts.specs.Turns.{IsLineRun, IsTurn, text_of}
 use Rattle.scripts.proofs.Turns.{HasRun, IsUpTo}
 use Rattle.scripts.proofs.Cores.{follows_fresh, no_calls, call_on}
 use Rattle.scripts.proofs.Bytes.{Appends-none, Appends-more, Consumes-none, Consumes-more}
@@ -40,7 +40,7 @@ none_run : (pages : ℕ) (core : Contents) → IsNew pages core → HasRun pages
 none_run pages core new = record {
   told = [];
   last = [];
-  plain = All-nil IsPlain;
+  plain = All-nil IsPlainLine;
   commands = tt;
   legal = ends;
   calls = no_calls pages core new;
@@ -49,14 +49,14 @@ none_run pages core new = record {
 }
 
 -- one line more
-pub run_on : (pages : ℕ) (old new : Contents) (lines : List (List ℕ)) (out line o : List ℕ) → HasRun pages old lines out → IsPlain line → IsRun pages line old new o → HasRun pages new (lines ++ line ∷ []) (out ++ o)
+pub run_on : (pages : ℕ) (old new : Contents) (lines : List (List ℕ)) (out line o : List ℕ) → HasRun pages old lines out → IsPlainLine line → IsLineRun pages line old new o → HasRun pages new (lines ++ line ∷ []) (out ++ o)
 run_on pages old new lines out line o r plain turn =
     let next = turn.does (fresh pages) r.last r.follows in
     let told : Told = record { event = turn.command; reply = turn.reply } in
     record {
       told = r.told ++ told ∷ [];
       last = next.0;
-      plain = All-push IsPlain lines line r.plain plain;
+      plain = All-push IsPlainLine lines line r.plain plain;
       commands = subst (λ es. AllZip IsLineOf (lines ++ line ∷ []) es) (sym (map_push (λ (t : Told). t.event) r.told told)) (zip_push IsLineOf lines (map (λ (t : Told). t.event) r.told) line turn.command r.commands turn.is_line);
       legal = legal_on (fresh pages) told r.legal next.1;
       calls = call_on pages old new r.told told r.calls turn.acts turn.core;
@@ -110,12 +110,12 @@ bad_answered pages number core lines more bad out read left few count run is why
 
 -- a line that is too long
 pub too_long_serves : (pages number : ℕ) (core : Contents) (input b0 buffer buffer' line : List ℕ) (rem0 rem rem' w0 w : Option (List ℕ)) → number ≤ LAST_LINE → b0 ≡ [] → rem0 ≡ Some input
-    → IsUpTo pages number core (left_of b0 rem0) (left_of buffer rem) w0 w → IsPlain line → IsLineRead TooLong line (left_of buffer rem) (left_of buffer' rem') → Serves pages input rem' w0 w (Err (BadLine number))
+    → IsUpTo pages number core (left_of b0 rem0) (left_of buffer rem) w0 w → IsPlainLine line → IsLineRead TooLong line (left_of buffer rem) (left_of buffer' rem') → Serves pages input rem' w0 w (Err (BadLine number))
 too_long_serves pages number core input b0 buffer buffer' line rem0 rem rem' w0 w few none tells u plain found =
     let lines = u.lines in
     let front : List ℕ = line ++ found.0 ∷ [] in
     let long : length front ≡ LINE_BYTES + 1 = length-push line found.0 ∙ ap (λ n. n + 1) found.3 in
-    let no : IsPlain front = All-push (λ b. b ≡ newline → ⊥) line found.0 plain found.2 in
+    let no : IsPlainLine front = All-push (λ b. b ≡ newline → ⊥) line found.0 plain found.2 in
     serves pages input b0 buffer' (text_of lines ++ front) u.out rem0 rem' w0 w (Err (BadLine number)) none tells
     (Consumes-more _ _ _ (text_of lines) front u.read found.1) u.wrote
     (λ left is. let first = first_line front (buffer' ++ left) no (omega (arith, long)) in
@@ -125,7 +125,7 @@ too_long_serves pages number core input b0 buffer buffer' line rem0 rem rem' w0 
 
 -- the reader failed within a line
 pub read_serves : (pages number : ℕ) (core : Contents) (input b0 buffer buffer' part : List ℕ) (rem0 rem rem' w0 w : Option (List ℕ)) → IsShort part → number ≤ LAST_LINE → b0 ≡ [] → rem0 ≡ Some input
-    → IsUpTo pages number core (left_of b0 rem0) (left_of buffer rem) w0 w → IsPlain part → buffer' ≡ [] → Consumes (left_of buffer rem) (left_of buffer' rem') part → Serves pages input rem' w0 w (Err Read)
+    → IsUpTo pages number core (left_of b0 rem0) (left_of buffer rem) w0 w → IsPlainLine part → buffer' ≡ [] → Consumes (left_of buffer rem) (left_of buffer' rem') part → Serves pages input rem' w0 w (Err Read)
 read_serves pages number core input b0 buffer buffer' part rem0 rem rem' w0 w short few none tells u plain empty reads =
     let lines = u.lines in
     serves pages input b0 buffer' (text_of lines ++ part) u.out rem0 rem' w0 w (Err Read) none tells
@@ -136,8 +136,8 @@ read_serves pages number core input b0 buffer buffer' part rem0 rem rem' w0 w sh
     (subst P (sym all) (answers pages core lines u.out u.run (let c = u.count in omega (arith, c))), all_short lines _ part buffer' u.run.commands u.run.plain plain short empty))
 
 -- a line was answered, and there are more
-pub line_on : (pages number : ℕ) (old new : Contents) (line : List ℕ) (input left left' w0 w w' : Option (List ℕ)) → IsUpTo pages number old input left w0 w → IsPlain line → IsLineRead Line line left left'
-    → (out : List ℕ) × IsRun pages line old new out × Appends w w' out → IsUpTo pages (number + 1) new input left' w0 w'
+pub line_on : (pages number : ℕ) (old new : Contents) (line : List ℕ) (input left left' w0 w w' : Option (List ℕ)) → IsUpTo pages number old input left w0 w → IsPlainLine line → IsLineRead Line line left left'
+    → (out : List ℕ) × IsLineRun pages line old new out × Appends w w' out → IsUpTo pages (number + 1) new input left' w0 w'
 line_on pages number old new line input left left' w0 w w' u plain reads turn = record {
   lines = u.lines ++ line ∷ [];
   out = u.out ++ turn.0;
@@ -152,8 +152,8 @@ take-on [] ys n = let same : 0 + n ≡ n = omega arith in ap (λ k. take k ys) (
 take-on (x ∷ xs) ys n = let same : length (x ∷ xs) + n ≡ suc (length xs + n) = omega arith in ap (λ zs. x ∷ zs) (take-on xs ys n) ∙ ap (λ k. take k (x ∷ (xs ++ ys))) (sym same)
 
 -- the front of the answer to a line was written
-write_answered : (pages number : ℕ) (old new : Contents) (lines more : List (List ℕ)) (line out o whole : List ℕ) (n : ℕ) → number < LAST_LINE → length lines + 1 ≡ number → HasRun pages old lines out → IsPlain line
-    → IsRun pages line old new o → lines_of whole ≡ lines ++ line ∷ more → BeginsAnswer pages (lines_of whole) (out ++ take n o)
+write_answered : (pages number : ℕ) (old new : Contents) (lines more : List (List ℕ)) (line out o whole : List ℕ) (n : ℕ) → number < LAST_LINE → length lines + 1 ≡ number → HasRun pages old lines out → IsPlainLine line
+    → IsLineRun pages line old new o → lines_of whole ≡ lines ++ line ∷ more → BeginsAnswer pages (lines_of whole) (out ++ take n o)
 write_answered pages number old new lines more line out o whole n few count run plain turn is =
     let front : take number (lines_of whole) ≡ lines ++ line ∷ []
     = ap (λ k. take k (lines_of whole)) (sym (length-push lines line ∙ count)) ∙ ap (take (length (lines ++ line ∷ []))) (is ∙ sym (append_assoc lines (line ∷ []) more)) ∙ take-front (lines ++ line ∷ []) more in
@@ -168,7 +168,7 @@ write_answered pages number old new lines more line out o whole n few count run 
 
 -- a line that was not answered in full
 pub fault_serves : (pages number : ℕ) (old new : Contents) (input b0 buffer buffer' line : List ℕ) (rem0 rem rem' w0 w w' : Option (List ℕ)) (fault : ScriptError) → number < LAST_LINE → b0 ≡ [] → rem0 ≡ Some input
-    → IsUpTo pages number old (left_of b0 rem0) (left_of buffer rem) w0 w → IsPlain line → IsLineRead Line line (left_of buffer rem) (left_of buffer' rem') → IsTurn pages number line old new w w' (Err fault)
+    → IsUpTo pages number old (left_of b0 rem0) (left_of buffer rem) w0 w → IsPlainLine line → IsLineRead Line line (left_of buffer rem) (left_of buffer' rem') → IsTurn pages number line old new w w' (Err fault)
     → Serves pages input rem' w0 w' (Err fault)
 fault_serves pages number old new input b0 buffer buffer' line rem0 rem rem' w0 w w' (BadLine n) few none tells u plain reads turn =
     let P : ℕ → Type 0 = λ k. Serves pages input rem' w0 w' (Err (BadLine k)) in
@@ -187,7 +187,7 @@ fault_serves pages number old new input b0 buffer buffer' line rem0 rem rem' w0 
 
 -- the last line, which lacks its newline
 pub last_serves : (pages number : ℕ) (old new : Contents) (input b0 buffer buffer' line : List ℕ) (rem0 rem rem' w0 w w' : Option (List ℕ)) (result : Result ⊤ ScriptError) → number < LAST_LINE → b0 ≡ [] → rem0 ≡ Some input
-    → IsUpTo pages number old (left_of b0 rem0) (left_of buffer rem) w0 w → IsPlain line → IsLineRead Last line (left_of buffer rem) (left_of buffer' rem') → IsTurn pages number line old new w w' result
+    → IsUpTo pages number old (left_of b0 rem0) (left_of buffer rem) w0 w → IsPlainLine line → IsLineRead Last line (left_of buffer rem) (left_of buffer' rem') → IsTurn pages number line old new w w' result
     → Serves pages input rem' w0 w' result
 last_serves pages number old new input b0 buffer buffer' line rem0 rem rem' w0 w w' (Ok done) few none tells u plain found turn =
     serves pages input b0 buffer' (text_of u.lines ++ line) (u.out ++ turn.0) rem0 rem' w0 w' (Ok done) none tells
@@ -212,7 +212,7 @@ last_serves pages number old new input b0 buffer buffer' line rem0 rem rem' w0 w
 
 -- a line of the last number
 pub last_number_serves : (pages : ℕ) (core : Contents) (input b0 buffer buffer' line : List ℕ) (rem0 rem rem' w0 w : Option (List ℕ)) (found : LineRead) → b0 ≡ [] → rem0 ≡ Some input
-    → IsUpTo pages LAST_LINE core (left_of b0 rem0) (left_of buffer rem) w0 w → IsPlain line → IsLineRead found line (left_of buffer rem) (left_of buffer' rem') → (found ≡ End → ⊥) → Serves pages input rem' w0 w (Err (BadLine LAST_LINE))
+    → IsUpTo pages LAST_LINE core (left_of b0 rem0) (left_of buffer rem) w0 w → IsPlainLine line → IsLineRead found line (left_of buffer rem) (left_of buffer' rem') → (found ≡ End → ⊥) → Serves pages input rem' w0 w (Err (BadLine LAST_LINE))
 last_number_serves pages core input b0 buffer buffer' line rem0 rem rem' w0 w Line none tells u plain reads more =
     serves pages input b0 buffer' (text_of u.lines ++ (line ++ newline ∷ [])) u.out rem0 rem' w0 w (Err (BadLine LAST_LINE)) none tells
     (Consumes-more _ _ _ (text_of u.lines) (line ++ newline ∷ []) u.read reads) u.wrote

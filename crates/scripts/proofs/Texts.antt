@@ -7,7 +7,7 @@ use Rattle.std.proofs.lemmas.List.{append-nil}
 use Rattle.std.proofs.lemmas.List.Sums.{sum_by-cons}
 use Rattle.std.proofs.lemmas.List.Elements.{All-head, All-tail}
 use Rattle.scripts.specs.Lines.{newline, lines_of, whole_lines_of}
-use Rattle.scripts.specs.Reading.{IsPlain}
+use Rattle.scripts.specs.Reading.{IsPlainLine}
 use Rattle.scripts.specs.Turns.{text_of}
 
 -- a byte that is no newline
@@ -15,7 +15,7 @@ no_newline : (b : ℕ) → b ≢ newline → eqb b newline ≡ false
 no_newline b ne = ne_eqb b newline ne
 
 -- a plain line before a newline
-pub lines_of-line : (line rest : List ℕ) → IsPlain line → lines_of (line ++ newline ∷ rest) ≡ line ∷ lines_of rest
+pub lines_of-line : (line rest : List ℕ) → IsPlainLine line → lines_of (line ++ newline ∷ rest) ≡ line ∷ lines_of rest
 lines_of-line [] rest plain = refl
 lines_of-line (b ∷ line) rest plain =
     let others : cond (eqb b newline) ([] ∷ lines_of (line ++ newline ∷ rest)) (onto_first b (lines_of (line ++ newline ∷ rest))) ≡ onto_first b (lines_of (line ++ newline ∷ rest))
@@ -23,12 +23,12 @@ lines_of-line (b ∷ line) rest plain =
     others ∙ ap (onto_first b) (lines_of-line line rest (All-tail (λ x. x ≢ newline) b line plain))
 
 -- whole lines before a rest
-pub lines_of-text : (lines : List (List ℕ)) (rest : List ℕ) → All IsPlain lines → lines_of (text_of lines ++ rest) ≡ lines ++ lines_of rest
+pub lines_of-text : (lines : List (List ℕ)) (rest : List ℕ) → All IsPlainLine lines → lines_of (text_of lines ++ rest) ≡ lines ++ lines_of rest
 lines_of-text [] rest plain = refl
 lines_of-text (line ∷ lines) rest plain =
     ap lines_of (append_assoc (line ++ newline ∷ []) (text_of lines) rest ∙ append_assoc line (newline ∷ []) (text_of lines ++ rest))
-    ∙ lines_of-line line (text_of lines ++ rest) (All-head IsPlain line lines plain)
-    ∙ ap (λ ls. line ∷ ls) (lines_of-text lines rest (All-tail IsPlain line lines plain))
+    ∙ lines_of-line line (text_of lines ++ rest) (All-head IsPlainLine line lines plain)
+    ∙ ap (λ ls. line ∷ ls) (lines_of-text lines rest (All-tail IsPlainLine line lines plain))
 
 -- the first line of a text that begins with plain bytes begins with these
 pub record FirstLine (front text : List ℕ) : Type 0 where
@@ -44,7 +44,7 @@ onto_any : (b : ℕ) (text : List ℕ) (parts : List (List ℕ)) → lines_of (b
 onto_any b text [] e = record { line = b ∷ []; lines = []; are = e; long = omega arith }
 onto_any b text (part ∷ parts) e = record { line = b ∷ part; lines = parts; are = e; long = omega arith }
 
-pub first_line : (front more : List ℕ) → IsPlain front → 0 < length front → FirstLine front (front ++ more)
+pub first_line : (front more : List ℕ) → IsPlainLine front → 0 < length front → FirstLine front (front ++ more)
 first_line [] more plain some = absurd (omega arith)
 first_line (b ∷ []) more plain some = onto_any b more (lines_of more) (onto_line b more (All-head (λ x. x ≢ newline) b [] plain))
 first_line (b ∷ c ∷ front) more plain some =
@@ -57,7 +57,7 @@ first_line (b ∷ c ∷ front) more plain some =
     }
 
 -- a last line, which lacks its newline
-pub lines_of-last : (line : List ℕ) → IsPlain line → 0 < length line → lines_of line ≡ line ∷ []
+pub lines_of-last : (line : List ℕ) → IsPlainLine line → 0 < length line → lines_of line ≡ line ∷ []
 lines_of-last [] plain some = absurd (omega arith)
 lines_of-last (b ∷ []) plain some = onto_line b [] (All-head (λ x. x ≢ newline) b [] plain)
 lines_of-last (b ∷ c ∷ line) plain some =
@@ -77,31 +77,31 @@ counted v n e = ap (λ w. cond w 1 0 + n) e ∙ none n
 one_more : (n : ℕ) → 1 + n ≡ n + 1
 one_more n = omega arith
 
-newlines-plain : (line : List ℕ) → IsPlain line → count_by (λ b. eqb b newline) line ≡ 0
+newlines-plain : (line : List ℕ) → IsPlainLine line → count_by (λ b. eqb b newline) line ≡ 0
 newlines-plain [] plain = refl
 newlines-plain (b ∷ line) plain =
     newlines-cons b line ∙ counted (eqb b newline) (count_by (λ x. eqb x newline) line) (no_newline b (All-head (λ x. x ≢ newline) b line plain))
     ∙ newlines-plain line (All-tail (λ x. x ≢ newline) b line plain)
 
-newlines-line : (line rest : List ℕ) → IsPlain line → count_by (λ b. eqb b newline) (line ++ newline ∷ rest) ≡ count_by (λ b. eqb b newline) rest + 1
+newlines-line : (line rest : List ℕ) → IsPlainLine line → count_by (λ b. eqb b newline) (line ++ newline ∷ rest) ≡ count_by (λ b. eqb b newline) rest + 1
 newlines-line [] rest plain = newlines-cons newline rest ∙ one_more (count_by (λ x. eqb x newline) rest)
 newlines-line (b ∷ line) rest plain =
     newlines-cons b (line ++ newline ∷ rest) ∙ counted (eqb b newline) (count_by (λ x. eqb x newline) (line ++ newline ∷ rest)) (no_newline b (All-head (λ x. x ≢ newline) b line plain))
     ∙ newlines-line line rest (All-tail (λ x. x ≢ newline) b line plain)
 
-newlines-text : (lines : List (List ℕ)) (part : List ℕ) → All IsPlain lines → IsPlain part → count_by (λ b. eqb b newline) (text_of lines ++ part) ≡ length lines
+newlines-text : (lines : List (List ℕ)) (part : List ℕ) → All IsPlainLine lines → IsPlainLine part → count_by (λ b. eqb b newline) (text_of lines ++ part) ≡ length lines
 newlines-text [] part plain p = newlines-plain part p
 newlines-text (line ∷ lines) part plain p =
     ap (count_by (λ b. eqb b newline)) (append_assoc (line ++ newline ∷ []) (text_of lines) part ∙ append_assoc line (newline ∷ []) (text_of lines ++ part))
-    ∙ newlines-line line (text_of lines ++ part) (All-head IsPlain line lines plain)
-    ∙ (let rest = newlines-text lines part (All-tail IsPlain line lines plain) p in omega (arith, rest))
+    ∙ newlines-line line (text_of lines ++ part) (All-head IsPlainLine line lines plain)
+    ∙ (let rest = newlines-text lines part (All-tail IsPlainLine line lines plain) p in omega (arith, rest))
 
 pub take-front : {A : Type 0} (xs ys : List A) → take (length xs) (xs ++ ys) ≡ xs
 take-front [] ys = refl
 take-front (x ∷ xs) ys = ap (λ zs. x ∷ zs) (take-front xs ys)
 
 -- the whole lines before a part of a line
-pub whole_lines_of-text : (lines : List (List ℕ)) (part : List ℕ) → All IsPlain lines → IsPlain part → whole_lines_of (text_of lines ++ part) ≡ lines
+pub whole_lines_of-text : (lines : List (List ℕ)) (part : List ℕ) → All IsPlainLine lines → IsPlainLine part → whole_lines_of (text_of lines ++ part) ≡ lines
 whole_lines_of-text lines part plain p =
     ap (λ n. take n (lines_of (text_of lines ++ part))) (newlines-text lines part plain p)
     ∙ ap (take (length lines)) (lines_of-text lines part plain)

@@ -9,7 +9,7 @@ use Rattle.heap_core.specs.Contents.{Contents}
 use Rattle.heap_core.specs.Following.{Follows}
 use Rattle.scripts.specs.Cores.{AreCallsOfNew}
 use Rattle.scripts.specs.Grammar.{IsLineOf}
-use Rattle.scripts.specs.Reading.{IsPlain}
+use Rattle.scripts.specs.Reading.{IsPlainLine}
 use Rattle.scripts.specs.Printing.{printed}
 use Rattle.scripts.specs.Turns.{text_of}
 
@@ -17,7 +17,7 @@ use Rattle.scripts.specs.Turns.{text_of}
 pub record HasRun (pages : ℕ) (core : Contents) (lines : List (List ℕ)) (out : List ℕ) : Type 0 where
   pub told : List Told
   pub last : Run
-  pub plain : All IsPlain lines
+  pub plain : All IsPlainLine lines
   pub commands : AllZip IsLineOf lines (map (λ (t : Told). t.event) told)
   pub legal : LegalTranscript Touched (fresh pages) [] told last
   pub calls : AreCallsOfNew pages told core

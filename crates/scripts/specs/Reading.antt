@@ -11,8 +11,8 @@ abbrev pub left_of : List ℕ → Option (List ℕ) → Option (List ℕ)
 left_of buffer remaining = prepend_known buffer remaining
 
 -- no byte is a newline
-abbrev pub IsPlain : List ℕ → Type 0
-IsPlain line = All (λ b. b ≢ newline) line
+abbrev pub IsPlainLine : List ℕ → Type 0
+IsPlainLine line = All (λ b. b ≢ newline) line
 
 -- What a line was read from what was left.
 abbrev pub IsLineRead : LineRead → List ℕ → Option (List ℕ) → Option (List ℕ) → Type 0

@@ -13,7 +13,7 @@ use Rattle.scripts.specs.Lines.{newline}
 use Rattle.scripts.specs.Printing.{reply_line}
 
 -- The line is a command's, the core was called so, what the call left is a core, and its reply prints so.
-pub record IsRun (pages : ℕ) (line : List ℕ) (old new : Contents) (out : List ℕ) : Type 0 where
+pub record IsLineRun (pages : ℕ) (line : List ℕ) (old new : Contents) (out : List ℕ) : Type 0 where
   pub command : Event
   pub reply : Reply
   pub is_line : IsLineOf line command
@@ -24,9 +24,9 @@ pub record IsRun (pages : ℕ) (line : List ℕ) (old new : Contents) (out : Lis
 
 -- What a line of some number leads to: it is run and answered, or it is bad, or a front of its answer was written.
 abbrev pub IsTurn : ℕ → ℕ → List ℕ → Contents → Contents → Option (List ℕ) → Option (List ℕ) → Result ⊤ ScriptError → Type 0
-IsTurn pages number line old new wrote writes (Ok done) = (out : List ℕ) × IsRun pages line old new out × Appends wrote writes out
+IsTurn pages number line old new wrote writes (Ok done) = (out : List ℕ) × IsLineRun pages line old new out × Appends wrote writes out
 IsTurn pages number line old new wrote writes (Err (BadLine n)) = (n ≡ number) × IsBad line × Appends wrote writes []
-IsTurn pages number line old new wrote writes (Err Write) = (out : List ℕ) × (n : ℕ) × IsRun pages line old new out × Appends wrote writes (take n out)
+IsTurn pages number line old new wrote writes (Err Write) = (out : List ℕ) × (n : ℕ) × IsLineRun pages line old new out × Appends wrote writes (take n out)
 IsTurn pages number line old new wrote writes (Err Read) = ⊥
 IsTurn pages number line old new wrote writes (Err Memory) = ⊥
 

@@ -2,7 +2,7 @@
 ghost use Rattle.std.specs.Prelude.{◌≡◌, ◌+◌, [], IfOk, OnOk, OnErr};
 ghost use Rattle.std.specs.Io.KnownBytes.{Consumes};
 ghost use Rattle.scripts.specs.Lines.{IsShort};
-ghost use Rattle.scripts.specs.Reading.{left_of, IsPlain, IsLineRead};
+ghost use Rattle.scripts.specs.Reading.{left_of, IsPlainLine, IsLineRead};
 
 use crate::input_buffer::InputBuffer;
 use crate::limits::LINE_BYTES;
@@ -32,7 +32,7 @@ pub fn next_line<R: Source>(
     line: &mut ArrayVec<u8, LINE_BYTES>,
 ) -> Result<LineRead, Failed>
     ensures ok { IfOk result (λ found. IsLineRead found line.new.items (left_of buffer.old (R.remaining source.old)) (left_of buffer.new (R.remaining source.new))) }
-    ensures plain { IsPlain line.new.items }
+    ensures plain { IsPlainLine line.new.items }
     ensures short { IsShort line.new.items }
     ensures none { OnOk result (R.faults source.new ≡ R.faults source.old) }
     ensures err { OnErr result ((buffer.new ≡ []) × Consumes (left_of buffer.old (R.remaining source.old)) (left_of buffer.new (R.remaining source.new)) line.new.items) }

@@ -7,7 +7,7 @@ use Rattle.heap_spec.specs.SequentialObject.{HeapState, Opens, StateStep}
 use Rattle.pages.specs.Opening.{IsPageCount}
 use Rattle.roots.specs.Roots.{IsNextSlot}
 use Rattle.heap_history.specs.Ranks.{rank_of}
-use Rattle.heap_history.specs.Passes.{Entry, HeapPass, IsMutator, is_marking as marks}
+use Rattle.heap_history.specs.Passes.{Entry, HeapPass, IsMutatorPass, is_marking as marks}
 use Rattle.heap_history.proofs.Passing as pass
 use Rattle.heap_core.specs.Contents.{Contents}
 use Rattle.heap_core.specs.Opening.{IsNew}
@@ -26,7 +26,7 @@ abbrev pub Learns : HeapPass → HeapPass → List Entry → Type 0
 Learns old new log = new ≡ record { slot = old.slot; seen = log; mine = old.mine }
 
 -- a slot with a pass has its mutator in the core
-pub caller_can : {pages : ℕ} → (c : Contents) (t : HeapState) (old new : HeapPass) (log log1 : List Entry) (slot : ℕ) → Learns old new log → log1 ≡ log → IsMutator slot old
+pub caller_can : {pages : ℕ} → (c : Contents) (t : HeapState) (old new : HeapPass) (log log1 : List Entry) (slot : ℕ) → Learns old new log → log1 ≡ log → IsMutatorPass slot old
     → Owned rank_of new.slot new.seen new.mine → Reaches (Opens pages) StateStep log1 t → Stands c t → HasCaller c new.slot slot
 caller_can c t old new log log1 slot learns same own o r st =
     let is = ap (λ (p : HeapPass). p.slot) learns ∙ own.slot_is in

@@ -3,7 +3,7 @@ ghost use Rattle.std.specs.Prelude.{◌≡◌, [], MatchResult};
 ghost use Rattle.words.specs.declared.limits.TheConstants.{SLOTS};
 ghost use Rattle.words.specs.declared.refusal.Refusal.TheVariants.{NoSlot};
 ghost use Rattle.heap_history.specs.Headline.{Begun, Makes};
-ghost use Rattle.heap_history.specs.Replies.{Answers};
+ghost use Rattle.heap_history.specs.Replies.{IsReplyKind};
 ghost use Rattle.shared.specs.Calls.{IsNoDetach};
 
 use crate::tokens::{Collector, Mutator};
@@ -65,7 +65,7 @@ impl<J: Naming> SharedHeap<J> {
     pub fn call(&self, rt: &impl Wait, me: &mut Mutator<J>, call: Call) -> Reply
         requires { IsNoDetach call }
         ensures makes { Makes J.origin me.old call result me.new }
-        ensures answers { Answers call result }
+        ensures answers { IsReplyKind call result }
     {
         let event = Event::Mutator(me.slot, call);
         let mut guard = self.lock.lock(rt);

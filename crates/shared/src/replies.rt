@@ -1,14 +1,14 @@
 //! Replies as the results of calls.
 ghost use Rattle.std.specs.Prelude.{◌≡◌};
 ghost use Rattle.heap_spec.specs.Replies.{count_reply, done_reply, word_reply};
-ghost use Rattle.heap_history.specs.Replies.{IsDone, IsWord, IsCount};
+ghost use Rattle.heap_history.specs.Replies.{IsDoneReply, IsWordReply, IsCountReply};
 
 use heap_spec::Reply;
 use words::Refusal;
 
 /// Of a call that answers nothing more than that it is done.
 pub fn done(reply: Reply) -> Result<(), Refusal>
-    requires { IsDone reply }
+    requires { IsDoneReply reply }
     ensures { done_reply result ≡ reply }
 {
     match reply {
@@ -20,7 +20,7 @@ pub fn done(reply: Reply) -> Result<(), Refusal>
 
 /// Of a call that answers a word.
 pub fn word(reply: Reply) -> Result<u64, Refusal>
-    requires { IsWord reply }
+    requires { IsWordReply reply }
     ensures { word_reply result ≡ reply }
 {
     match reply {
@@ -32,7 +32,7 @@ pub fn word(reply: Reply) -> Result<u64, Refusal>
 
 /// Of a call that answers a number of things.
 pub fn count(reply: Reply) -> Result<u64, Refusal>
-    requires { IsCount reply }
+    requires { IsCountReply reply }
     ensures { count_reply result ≡ reply }
 {
     match reply {

@@ -14,13 +14,13 @@ pub struct Mutator<J: Naming> {
 }
 
 impl<J: Naming> Model for Mutator<J> {
-    ghost use Rattle.heap_history.specs.Passes.{HeapPass, IsMutator};
+    ghost use Rattle.heap_history.specs.Passes.{HeapPass, IsMutatorPass};
 
     ghost Value = { HeapPass };
 
     ghost view = { λ m. m.pass };
 
-    ghost invariant = { λ m. IsMutator m.slot m.pass };
+    ghost invariant = { λ m. IsMutatorPass m.slot m.pass };
 }
 
 /// The collector's right to call.

@@ -5,7 +5,7 @@ use Rattle.std.proofs.lemmas.Option.{same_Some}
 use Rattle.words.specs.declared.limits.TheConstants.{FIRST_ADDRESS, GRANULE_BYTES, PAGE_GRANULES, PAGE_WORDS, WORD_BYTES}
 use Rattle.words.specs.Layout.{granule}
 use Rattle.pages.specs.Memory.{IsWordAddress, IsZeroed, place}
-use Rattle.block_map.specs.Objects.{IsMap, IsPlaced, Reads}
+use Rattle.block_map.specs.Objects.{IsMap, IsPlaced, IsInside}
 use Rattle.block_map.specs.Changes.{IsAdded}
 use Rattle.block_map.specs.declared.found.Found.{Found}
 use Rattle.marker.specs.Marking.{word_address}
@@ -38,7 +38,7 @@ others_kept pages before after words words' f map object added z g i e lt =
     placed : IsPlaced pages f
     placed = map.placed f.base f object
 
-    apart : Reads g.base f → ⊥
+    apart : IsInside g.base f → ⊥
     apart r = let x : None ≡ Some g = sym (added.before g.base r) ∙ e in cc x
 
     there : after g.base ≡ Some g
@@ -47,9 +47,9 @@ others_kept pages before after words words' f map object added z g i e lt =
     even : (f.base % GRANULE_BYTES ≡ 0) × (g.base % GRANULE_BYTES ≡ 0) × (FIRST_ADDRESS ≤ f.base) × (FIRST_ADDRESS ≤ g.base)
     even = let p = placed in let q = map.placed g.base g there in (p.aligned, q.aligned, p.above, q.above)
 
-    not_inside : Reads (word_address g i) f → ⊥
+    not_inside : IsInside (word_address g i) f → ⊥
     not_inside r =
         let some = placed.some in let a = even.0 in let b = even.1 in
         let w : after (word_address g i) ≡ Some g = map.whole g.base (word_address g i) g there (record { from = omega arith; below = omega arith }) in
         let s : g ≡ f = same_Some g f (sym w ∙ added.after (word_address g i) r) in
-        apart (subst (λ (h : Found). Reads h.base f) (sym s) (record { from = omega arith; below = omega arith }))
+        apart (subst (λ (h : Found). IsInside h.base f) (sym s) (record { from = omega arith; below = omega arith }))

@@ -11,7 +11,7 @@ pub record IsReady (t : MarkTable) (c : Claimer) : Type 0 where
   pub one : (view c).parts ≡ 1
 
 -- and knows that the first n bits are set
-pub record IsDone (t : MarkTable) (n : ℕ) (c : Claimer) : Type 0 where
+pub record IsDoneClaiming (t : MarkTable) (n : ℕ) (c : Claimer) : Type 0 where
   pub of : IsOf t c
   pub one : (view c).parts ≡ 1
   pub all : (k : ℕ) → k < n → knows (view c) k ≡ true

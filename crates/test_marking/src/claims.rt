@@ -4,7 +4,7 @@ ghost use Rattle.words.specs.Bits.{IsFullRow};
 ghost use Rattle.words.specs.declared.limits.TheConstants.{MAX_HELPERS};
 ghost use Rattle.mark_bits.specs.Claims.{knows};
 ghost use Rattle.mark_bits.specs.Tables.{view, start_of, IsOf};
-ghost use Rattle.test_marking.specs.Crew.{IsReady, IsDone};
+ghost use Rattle.test_marking.specs.Crew.{IsReady, IsDoneClaiming};
 
 use mark_bits::{Claimer, MarkTable, Marks};
 use std::alloc::{AllocError, Global};
@@ -27,7 +27,7 @@ struct Helper {
 fn claim_each(table: &MarkTable, granules: usize, helper: &mut Helper)
     requires granules { granules ≡ length (start_of table.now) }
     requires ready { IsReady table.now helper.old.claimer }
-    ensures { IsDone table.now granules helper.new.claimer }
+    ensures { IsDoneClaiming table.now granules helper.new.claimer }
 {
     for bit in 0..granules {
         if table.claim(&mut helper.claimer, bit) {
@@ -45,12 +45,12 @@ fn claim_side_by_side<R: Threads + Sync>(
 )
     requires granules { granules ≡ length (start_of table.now) }
     requires crew { All (λ h. IsReady table.now h.claimer) crew.old }
-    ensures done { All (λ h. IsDone table.now granules h.claimer) crew.new }
+    ensures done { All (λ h. IsDoneClaiming table.now granules h.claimer) crew.new }
     ensures len { length crew.new ≡ length crew.old }
 {
     let work = |_: usize, helper: &mut Helper|
         requires { (granules ≡ length (start_of table.now)) × IsReady table.now helper.now.claimer }
-        ensures { IsDone table.entry.now granules helper.exit.now.claimer }
+        ensures { IsDoneClaiming table.entry.now granules helper.exit.now.claimer }
     {
         claim_each(table, granules, helper);
     };
@@ -80,7 +80,7 @@ fn hire(
 // Joins one helper, and answers how many of its claims were the first.
 fn take_in(table: &MarkTable, first: &mut Claimer, helper: Helper) -> usize
     requires of { IsOf table.now first.old }
-    requires done { IsDone table.now (length (start_of table.now)) helper.claimer }
+    requires done { IsDoneClaiming table.now (length (start_of table.now)) helper.claimer }
     ensures of { IsOf table.now first.new }
     ensures parts { (view first.new).parts ≡ (view first.old).parts + 1 }
     ensures known { (k : ℕ) → k < length (start_of table.now) → knows (view first.new) k ≡ true }
@@ -93,7 +93,7 @@ fn take_in(table: &MarkTable, first: &mut Claimer, helper: Helper) -> usize
 // Joins all helpers, and answers how many claims were the first.
 fn gather(table: &MarkTable, first: &mut Claimer, mut crew: Vec<Helper>) -> usize
     requires of { IsOf table.now first.old }
-    requires crew { All (λ h. IsDone table.now (length (start_of table.now)) h.claimer) crew.items }
+    requires crew { All (λ h. IsDoneClaiming table.now (length (start_of table.now)) h.claimer) crew.items }
     ensures of { IsOf table.now first.new }
     ensures parts { (view first.new).parts ≡ (view first.old).parts + vec_len crew }
     ensures known { 0 < vec_len crew → (k : ℕ) → k < length (start_of table.now) → knows (view first.new) k ≡ true }

@@ -1,6 +1,6 @@
 //! Gates that hold actors back until others have come, for a bounded time, and one that counts.
 
-use final_pause::{COLLECTOR, FIRST_HELPER, Gate};
+use final_pause::{COLLECTOR_ACTOR, FIRST_HELPER, Gate};
 use std::sync::atomic::{AtomicU64, Ordering};
 use std::thread;
 
@@ -137,7 +137,7 @@ impl Gate for HeldPause {
     fn before(&self, actor: u8, call: u32) {
         match (actor, call) {
             (0, 4) => await_all(&self.ended, 1, &self.missed),
-            (COLLECTOR, 0) => await_all(&self.made, 1, &self.missed),
+            (COLLECTOR_ACTOR, 0) => await_all(&self.made, 1, &self.missed),
             (FIRST_HELPER.., 0) => {
                 self.claiming.fetch_add(1, Ordering::SeqCst);
                 await_all(&self.claiming, self.claimers, &self.missed);
@@ -151,7 +151,7 @@ impl Gate for HeldPause {
             (0, 3) => {
                 self.made.fetch_add(1, Ordering::SeqCst);
             }
-            (COLLECTOR, 1) => {
+            (COLLECTOR_ACTOR, 1) => {
                 self.ended.fetch_add(1, Ordering::SeqCst);
             }
             _ => {}
@@ -185,7 +185,7 @@ impl<'a> InTurn<'a> {
 impl Gate for InTurn<'_> {
     fn before(&self, actor: u8, _call: u32) {
         for _ in 0..TURNS {
-            if COLLECTOR < actor || self.is_turn_of(actor) {
+            if COLLECTOR_ACTOR < actor || self.is_turn_of(actor) {
                 return;
             }
             thread::yield_now();
@@ -194,7 +194,7 @@ impl Gate for InTurn<'_> {
     }
 
     fn after(&self, actor: u8, _call: u32) {
-        if actor <= COLLECTOR {
+        if actor <= COLLECTOR_ACTOR {
             self.made.fetch_add(1, Ordering::SeqCst);
         }
     }

@@ -18,10 +18,10 @@ use Rattle.heap_spec.specs.Transcripts.{LineOf, IsWrongPhase}
 use Rattle.heap_spec.specs.SequentialObject.{HeapState}
 use Rattle.heap_history.specs.Ranks.{rank_of}
 use Rattle.heap_history.specs.Passes.{Entry, HeapPass, is_marking as marks}
-use Rattle.heap_history.specs.Headline.{Extends, Looks, IsGrantedIn}
+use Rattle.heap_history.specs.Headline.{Extends, Looks, IsGrantedByMine}
 use Rattle.heap_history.proofs.Passing.{phase_is}
 use Rattle.heap_core.specs.Contents.{Contents}
-use Rattle.heap_core.specs.Collections.{IsGrantedIn as IsGiven, IsAlwaysGranted, ReadsRoots, TakesWords, ReadsPage, RetracesPage, SweepsOne}
+use Rattle.heap_core.specs.Collections.{IsGrantedInPhase, IsAlwaysGranted, ReadsRoots, TakesWords, ReadsPage, RetracesPage, SweepsOne}
 use Rattle.workloads.specs.OneHistory.{is_in_history, left_by, left_by_all, IsAnsweredAmong, AreAnswered}
 use Rattle.workloads.specs.Actors.{Commanded, CommandedAll}
 use Rattle.workloads.proofs.Counted.{count_is}
@@ -75,18 +75,18 @@ module _ (pages : ℕ) (old new : HeapPass) (asked : Event) (reply : Reply) (slo
   as_asked : (command : Event) (told : Reply) → asked ≡ command → reply ≡ told → Commanded pages old command told new → Commanded pages old asked reply new
   as_asked command told is said c = subst (λ (a : Event). Commanded pages old a reply new) (sym is) (subst (λ (t : Reply). Commanded pages old command t new) (sym said) c)
 
-  begun : (r : Result ⊤ Refusal) → IsGrantedIn false pages old Begin (λ _. Done) r new → Commanded pages old Begin (done_reply r) new
+  begun : (r : Result ⊤ Refusal) → IsGrantedByMine false pages old Begin (λ _. Done) r new → Commanded pages old Begin (done_reply r) new
   begun (Ok done) g = made pages old new Begin Done slot refl g.1
   begun (Err why) g = refused Begin why g.2 refl g.1 (phase pages old new slot g.2 ∙ g.0)
 
-  pub begins : (r : Result ⊤ Refusal) → asked ≡ Begin → reply ≡ done_reply r → IsGrantedIn false pages old Begin (λ _. Done) r new → Commanded pages old asked reply new
+  pub begins : (r : Result ⊤ Refusal) → asked ≡ Begin → reply ≡ done_reply r → IsGrantedByMine false pages old Begin (λ _. Done) r new → Commanded pages old asked reply new
   begins r is said g = as_asked Begin (done_reply r) is said (begun r g)
 
-  finished : (r : Result ℕ Refusal) → IsGrantedIn true pages old Finish Count r new → Commanded pages old Finish (count_reply r) new
+  finished : (r : Result ℕ Refusal) → IsGrantedByMine true pages old Finish Count r new → Commanded pages old Finish (count_reply r) new
   finished (Ok n) g = made pages old new Finish (Count n) slot refl g.1
   finished (Err why) g = refused Finish why g.2 refl g.1 (phase pages old new slot g.2 ∙ g.0)
 
-  pub finishes : (r : Result ℕ Refusal) → asked ≡ Finish → reply ≡ count_reply r → IsGrantedIn true pages old Finish Count r new → Commanded pages old asked reply new
+  pub finishes : (r : Result ℕ Refusal) → asked ≡ Finish → reply ≡ count_reply r → IsGrantedByMine true pages old Finish Count r new → Commanded pages old asked reply new
   finishes r is said g = as_asked Finish (count_reply r) is said (finished r g)
 
   pub collects : (n : ℕ) → asked ≡ Collect → reply ≡ Count n → Extends pages old Collect (Count n) new → Commanded pages old asked reply new
@@ -103,29 +103,29 @@ module _ (pages : ℕ) (old new : HeapPass) (asked : Event) (reply : Reply) (slo
     phase_now : before.cycle.is_marking ≡ is_marking (fresh (state pages old new slot looks).pages) (state pages old new slot looks).run
     phase_now = same ∙ sym (phase pages old new slot looks)
 
-    rooted : (r : Result ⊤ Refusal) → IsGiven true before r after (λ _. ReadsRoots before after) → Commanded pages old Roots (done_reply r) new
+    rooted : (r : Result ⊤ Refusal) → IsGrantedInPhase true before r after (λ _. ReadsRoots before after) → Commanded pages old Roots (done_reply r) new
     rooted (Ok done) g = looked pages old new slot looks Roots Done refl (LineOf.roots (sym phase_now ∙ g.0))
     rooted (Err why) g = refused Roots why looks refl g.1 (sym phase_now ∙ g.0)
 
-    pub roots : (r : Result ⊤ Refusal) → asked ≡ Roots → reply ≡ done_reply r → IsGiven true before r after (λ _. ReadsRoots before after) → Commanded pages old asked reply new
+    pub roots : (r : Result ⊤ Refusal) → asked ≡ Roots → reply ≡ done_reply r → IsGrantedInPhase true before r after (λ _. ReadsRoots before after) → Commanded pages old asked reply new
     roots r is said g = as_asked Roots (done_reply r) is said (rooted r g)
 
-    marked : (most : ℕ) (r : Result ℕ Refusal) → IsGiven true before r after (λ n. TakesWords most before n after) → Commanded pages old (Mark most) (count_reply r) new
+    marked : (most : ℕ) (r : Result ℕ Refusal) → IsGrantedInPhase true before r after (λ n. TakesWords most before n after) → Commanded pages old (Mark most) (count_reply r) new
     marked most (Ok n) g = looked pages old new slot looks (Mark most) (Count n) refl (LineOf.mark (sym phase_now ∙ g.0) g.1.most)
     marked most (Err why) g = refused (Mark most) why looks refl g.1 (sym phase_now ∙ g.0)
 
-    pub marking : (most : ℕ) (r : Result ℕ Refusal) → asked ≡ Mark most → reply ≡ count_reply r → IsGiven true before r after (λ n. TakesWords most before n after) → Commanded pages old asked reply new
+    pub marking : (most : ℕ) (r : Result ℕ Refusal) → asked ≡ Mark most → reply ≡ count_reply r → IsGrantedInPhase true before r after (λ n. TakesWords most before n after) → Commanded pages old asked reply new
     marking most r is said g = as_asked (Mark most) (count_reply r) is said (marked most r g)
 
     one_page : (n : ℕ) → ReadsPage before after n → n ≤ 1
     one_page n (ReadsPage.none clean still) = omega arith
     one_page n (ReadsPage.page p read) = omega arith
 
-    read_again : (r : Result ℕ Refusal) → IsGiven true before r after (λ n. RetracesPage before n after) → Commanded pages old Retrace (count_reply r) new
+    read_again : (r : Result ℕ Refusal) → IsGrantedInPhase true before r after (λ n. RetracesPage before n after) → Commanded pages old Retrace (count_reply r) new
     read_again (Ok n) g = looked pages old new slot looks Retrace (Count n) refl (LineOf.retrace (sym phase_now ∙ g.0) (one_page n g.1.reads))
     read_again (Err why) g = refused Retrace why looks refl g.1 (sym phase_now ∙ g.0)
 
-    pub retraces : (r : Result ℕ Refusal) → asked ≡ Retrace → reply ≡ count_reply r → IsGiven true before r after (λ n. RetracesPage before n after) → Commanded pages old asked reply new
+    pub retraces : (r : Result ℕ Refusal) → asked ≡ Retrace → reply ≡ count_reply r → IsGrantedInPhase true before r after (λ n. RetracesPage before n after) → Commanded pages old asked reply new
     retraces r is said g = as_asked Retrace (count_reply r) is said (read_again r g)
 
     swept : (r : Result ℕ Refusal) → IsAlwaysGranted r (λ n. SweepsOne before n after) → Commanded pages old Sweep (count_reply r) new

@@ -12,7 +12,7 @@ use Rattle.each_law.specs.Jobs.{HaveRun}
 use Rattle.workloads.specs.Workloads.{ActorLines}
 use Rattle.workloads.specs.Printing.{ActorReplies}
 use Rattle.workloads.specs.OneHistory.{events_of, left_by_all, AreAnswered, IsMutatorsPart, IsCollectorsPart, HaveOneHistory}
-use Rattle.workloads.specs.Actors.{CommandedAll, Keeps, HasCalled, IsAttached, AreAttached, AllSettled, Settled, AreReplies}
+use Rattle.workloads.specs.Actors.{CommandedAll, Keeps, HasCalled, IsAttachedJob, AreAttached, AllSettled, Settled, AreReplies}
 use Rattle.workloads.specs.declared.mutator_job.MutatorJob.{MutatorJob}
 use Rattle.workloads.proofs.Collected.{answered_longer}
 use mathlib.Core.List.{IsPrefix}
@@ -22,7 +22,7 @@ any_of [] i lt = absurd (omega arith)
 any_of (x ∷ xs) i lt = x
 
 -- one mutator: it came, made its calls, and then saw all of the history
-module _ {J R : Type 0} (pages : ℕ) (calls : List Call) (slot : ℕ) (a b c : MutatorJob J R) (history : List Entry) (attached : IsAttached pages calls slot a) (ran : HasCalled a b) (settled : Settled pages history b c) where
+module _ {J R : Type 0} (pages : ℕ) (calls : List Call) (slot : ℕ) (a b c : MutatorJob J R) (history : List Entry) (attached : IsAttachedJob pages calls slot a) (ran : HasCalled a b) (settled : Settled pages history b c) where
   slot_is : c.attached.slot ≡ slot
   slot_is = settled.keeps.slot ∙ (ran.called.slot ∙ attached.slot_is)
 

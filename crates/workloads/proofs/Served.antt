@@ -7,7 +7,7 @@ use Rattle.scripts.specs.declared.errors.ScriptError.TheVariants.{BadLine, Read,
 use Rattle.scripts.specs.Ends.{read_faults}
 use Rattle.scripts.proofs.Bytes.{Appends-none}
 use Rattle.workloads.specs.Workloads.{ActorLines}
-use Rattle.workloads.specs.Reading.{IsReadAs, Reads}
+use Rattle.workloads.specs.Reading.{IsReadAs, ReadsWorkload}
 use Rattle.workloads.specs.Printing.{ActorReplies, all_text}
 use Rattle.workloads.specs.OneHistory.{HaveOneHistory}
 use Rattle.workloads.specs.Serving.{IsServedAs, ServesWorkload}
@@ -19,15 +19,15 @@ as_read pages read left Write a = absurd a
 as_read pages read left Memory a = refl
 
 -- nothing is written where the workload can't be read
-pub unread : (pages : ℕ) (input : List ℕ) (reader writer : Option (List ℕ)) (fault : ScriptError) → Reads input reader (Err fault) → ServesWorkload pages input reader writer writer (Err fault)
+pub unread : (pages : ℕ) (input : List ℕ) (reader writer : Option (List ℕ)) (fault : ScriptError) → ReadsWorkload input reader (Err fault) → ServesWorkload pages input reader writer writer (Err fault)
 unread pages input reader writer fault r = record { read = r.read; left = r.left; written = []; is_input = r.is_input; is_left = r.is_left; is_written = Appends-none writer; answer = as_read pages r.read r.left fault r.answer }
 
 -- nor where it can't be run
-pub no_room : (pages : ℕ) (input : List ℕ) (reader writer : Option (List ℕ)) (lists : ActorLines) → Reads input reader (Ok lists) → ServesWorkload pages input reader writer writer (Err Memory)
+pub no_room : (pages : ℕ) (input : List ℕ) (reader writer : Option (List ℕ)) (lists : ActorLines) → ReadsWorkload input reader (Ok lists) → ServesWorkload pages input reader writer writer (Err Memory)
 no_room pages input reader writer lists r = record { read = r.read; left = r.left; written = []; is_input = r.is_input; is_left = r.is_left; is_written = Appends-none writer; answer = refl }
 
 -- the replies were printed, or a beginning of them
-pub printed : (pages : ℕ) (input : List ℕ) (reader old new : Option (List ℕ)) (lists : ActorLines) (replies : ActorReplies) (result : Result ⊤ ScriptError) → Reads input reader (Ok lists) → HaveOneHistory pages lists replies
+pub printed : (pages : ℕ) (input : List ℕ) (reader old new : Option (List ℕ)) (lists : ActorLines) (replies : ActorReplies) (result : Result ⊤ ScriptError) → ReadsWorkload input reader (Ok lists) → HaveOneHistory pages lists replies
     → OnOk result (Appends old new (all_text pages replies)) → OnErr result ((n : ℕ) × Appends old new (take n (all_text pages replies))) → OnErr result (result ≡ Err Write) → ServesWorkload pages input reader old new result
 printed pages input reader old new lists replies (Ok done) r one whole part write = record {
   read = r.read;

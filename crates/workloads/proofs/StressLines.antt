@@ -15,7 +15,7 @@ use Rattle.heap_spec.specs.declared.event.Event.TheVariants.{Attach, Mutator}
 use Rattle.heap_spec.specs.Ranges.{CallInRange, InRange}
 use Rattle.scripts.specs.Grammar.{IsLineOf}
 use Rattle.scripts.specs.Lines.{lines_of}
-use Rattle.scripts.specs.Reading.{IsPlain}
+use Rattle.scripts.specs.Reading.{IsPlainLine}
 use Rattle.scripts.proofs.Texts.{lines_of-text}
 use Rattle.workloads.specs.declared.limits.TheConstants.{MAX_STEPS}
 use Rattle.workloads.specs.Draws.{drawn, drawn_calls, drawn_collections}
@@ -104,8 +104,8 @@ lines_are : (commands : List Event) → All InRange commands → AllZip IsLineOf
 lines_are [] r = tt
 lines_are (c ∷ cs) r = ((good_line c (All-head InRange c cs r)).0, lines_are cs (All-tail InRange c cs r))
 
-lines_plain : (commands : List Event) → All InRange commands → All IsPlain (map command_line commands)
-lines_plain commands r = All-map IsPlain command_line commands (λ k d lt. (good_line _ (r k d lt)).1)
+lines_plain : (commands : List Event) → All InRange commands → All IsPlainLine (map command_line commands)
+lines_plain commands r = All-map IsPlainLine command_line commands (λ k d lt. (good_line _ (r k d lt)).1)
 
 pub stress_workload : (seed m steps : ℕ) → m ≤ SLOTS → steps ≤ MAX_STEPS → IsStressWorkload seed m steps
 stress_workload seed m steps few most =

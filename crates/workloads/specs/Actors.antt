@@ -50,7 +50,7 @@ module _ {J R : Type 0} where
     pub called : Called old.attached old.calls.now new.replies.items new.attached
 
   -- a mutator that has just come to this slot, with these calls to make
-  pub record IsAttached (pages : ℕ) (calls : List Call) (slot : ℕ) (job : MutatorJob J R) : Type 0 where
+  pub record IsAttachedJob (pages : ℕ) (calls : List Call) (slot : ℕ) (job : MutatorJob J R) : Type 0 where
     pub slot_is : job.attached.slot ≡ slot
     pub calls_are : job.calls.now ≡ calls
     pub can : CanCall job
@@ -59,7 +59,7 @@ module _ {J R : Type 0} where
   -- there is a job for each list of calls, and its mutator has just come to the slot of that number
   pub record AreAttached (pages : ℕ) (lists : List (List Call)) (jobs : List (MutatorJob J R)) : Type 0 where
     pub size : length jobs ≡ length lists
-    pub each : (i : ℕ) (d : MutatorJob J R) → i < length lists → IsAttached pages (slice_index_or lists i []) i (slice_index_or jobs i d)
+    pub each : (i : ℕ) (d : MutatorJob J R) → i < length lists → IsAttachedJob pages (slice_index_or lists i []) i (slice_index_or jobs i d)
 
   -- a job's mutator has seen this history, and the job is otherwise as it was
   pub record Settled (pages : ℕ) (history : List Entry) (old new : MutatorJob J R) : Type 0 where

@@ -23,7 +23,7 @@ IsReadAs read left (Err Write) = ⊥
 IsReadAs read left (Err Memory) = Unit {0}
 
 -- A reading of a reader that tells that its bytes are the input: what was read and what is left are the input.
-pub record Reads (input : List ℕ) (reader : Option (List ℕ)) (result : Result ActorLines ScriptError) : Type 0 where
+pub record ReadsWorkload (input : List ℕ) (reader : Option (List ℕ)) (result : Result ActorLines ScriptError) : Type 0 where
   pub read : List ℕ
   pub left : List ℕ
   pub is_input : input ≡ read ++ left

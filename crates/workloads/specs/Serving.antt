@@ -10,7 +10,7 @@ use Rattle.workloads.specs.Printing.{ActorReplies, all_text}
 use Rattle.workloads.specs.OneHistory.{HaveOneHistory}
 
 -- a beginning of a text
-pub record Begins (text written : List ℕ) : Type 0 where
+pub record BeginsText (text written : List ℕ) : Type 0 where
   pub bytes : ℕ
   pub begins : written ≡ take bytes text
 
@@ -31,7 +31,7 @@ IsServedAs pages read left written (Err (BadLine n)) = BreaksAt (lines_of (read 
 -- a read fault, before anything is run
 IsServedAs pages read left written (Err Read) = BreakNoRule (whole_lines_of read) × All IsShort (lines_of read) × (written ≡ [])
 -- a beginning of an outcome
-IsServedAs pages read left written (Err Write) = (text : List ℕ) × IsOutcome pages read text × Begins text written × (left ≡ [])
+IsServedAs pages read left written (Err Write) = (text : List ℕ) × IsOutcome pages read text × BeginsText text written × (left ≡ [])
 -- memory was refused
 IsServedAs pages read left written (Err Memory) = written ≡ []
 

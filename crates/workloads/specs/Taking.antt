@@ -18,12 +18,12 @@ with_command (Mutator slot call) lists = record lists { mutators = slice_set lis
 with_command command lists = record lists { collector = lists.collector ++ command ∷ [] }
 
 -- What the line of some number leads to: it is taken, or it breaks a rule, or memory was refused.
-abbrev pub IsTurn : ℕ → List ℕ → ActorLines → ActorLines → Result ⊤ ScriptError → Type 0
-IsTurn number line old new (Ok done) = (command : Event) × IsLineOf line command × MayFollow (number - 1) (length old.mutators) command × (new ≡ with_command command old)
-IsTurn number line old new (Err (BadLine n)) = (n ≡ number) × BreaksRule (number - 1) (length old.mutators) line
-IsTurn number line old new (Err Read) = ⊥
-IsTurn number line old new (Err Write) = ⊥
-IsTurn number line old new (Err Memory) = Unit {0}
+abbrev pub IsLineTaken : ℕ → List ℕ → ActorLines → ActorLines → Result ⊤ ScriptError → Type 0
+IsLineTaken number line old new (Ok done) = (command : Event) × IsLineOf line command × MayFollow (number - 1) (length old.mutators) command × (new ≡ with_command command old)
+IsLineTaken number line old new (Err (BadLine n)) = (n ≡ number) × BreaksRule (number - 1) (length old.mutators) line
+IsLineTaken number line old new (Err Read) = ⊥
+IsLineTaken number line old new (Err Write) = ⊥
+IsLineTaken number line old new (Err Memory) = Unit {0}
 
 -- the answer of a reading that leaves these lists
 abbrev pub answered : Result ⊤ ScriptError → ActorLines → Result ActorLines ScriptError

@@ -6,7 +6,7 @@ ghost use Rattle.workloads.specs.Actors.{Commanded, CommandedAll, CanCommand, Ha
 
 use crate::mutator_job::call_number;
 use each_law::Law;
-use final_pause::{COLLECTOR, Gate, Helpers};
+use final_pause::{COLLECTOR_ACTOR, Gate, Helpers};
 use heap_core::quiet::{Mark, Retrace, Roots, Sweep};
 use heap_spec::answers::{count, done};
 use heap_spec::{Event, Reply};
@@ -76,9 +76,9 @@ fn give_command<J: Naming, R: Threads + Wait + Sync, G: Gate>(
     requires own { is_collectors given ≡ true }
     ensures { Commanded J.origin me.old given result me.new }
 {
-    gate.before(COLLECTOR, number);
+    gate.before(COLLECTOR_ACTOR, number);
     let reply = command(rt, alloc, heap, helpers, gate, me, given);
-    gate.after(COLLECTOR, number);
+    gate.after(COLLECTOR_ACTOR, number);
     reply
 }
 

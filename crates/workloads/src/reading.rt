@@ -2,7 +2,7 @@
 ghost use Rattle.std.specs.Prelude.{◌≡◌, ℕ, ◌+◌, List, [], Some};
 ghost use Rattle.scripts.specs.Ends.{read_faults, write_faults};
 ghost use Rattle.workloads.specs.Taking.{no_lines, answered};
-ghost use Rattle.workloads.specs.Reading.{Reads};
+ghost use Rattle.workloads.specs.Reading.{ReadsWorkload};
 
 use crate::workload::Workload;
 use arrayvec::ArrayVec;
@@ -19,7 +19,7 @@ pub fn read_lines<R: Source>(
 ) -> Result<(), ScriptError>
     requires new { workload.old ≡ no_lines }
     requires empty { buffer.old ≡ [] }
-    ensures reads { (input : List ℕ) → R.remaining reader.old ≡ Some input → Reads input (R.remaining reader.new) (answered result workload.new) }
+    ensures reads { (input : List ℕ) → R.remaining reader.old ≡ Some input → ReadsWorkload input (R.remaining reader.new) (answered result workload.new) }
     ensures faults { R.faults reader.new ≡ R.faults reader.old + read_faults result }
     ensures writes_nothing { write_faults result ≡ 0 }
 {

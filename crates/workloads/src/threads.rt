@@ -4,7 +4,7 @@ ghost use Rattle.std.specs.Vec.{vec_capacity};
 ghost use Rattle.words.specs.declared.limits.TheConstants.{MAX_PAGES, SLOTS};
 ghost use Rattle.each_law.specs.Jobs.{HaveRun};
 ghost use Rattle.shared.specs.Calls.{IsNoDetach};
-ghost use Rattle.workloads.specs.Actors.{CanCall, HasCalled, IsAttached, AreAttached, AreReplies, CanCommand, HasCommanded};
+ghost use Rattle.workloads.specs.Actors.{CanCall, HasCalled, IsAttachedJob, AreAttached, AreReplies, CanCommand, HasCommanded};
 ghost use Rattle.workloads.specs.OneHistory.{HaveOneHistory};
 
 use crate::collector_job::{CollectorJob, GivesCommands, run_collector};
@@ -35,7 +35,7 @@ fn attach_one<'a, J: Naming, R: Wait>(
 ) -> Option<MutatorJob<'a, J, R>>
     requires plain { All IsNoDetach calls.now }
     requires room { length replies.items ≡ length calls.now }
-    ensures { IfSome result (λ job. IsAttached J.origin calls.now slot job) }
+    ensures { IfSome result (λ job. IsAttachedJob J.origin calls.now slot job) }
 {
     let Ok(me) = heap.attach(rt) else {
         return None;

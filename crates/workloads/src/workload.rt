@@ -4,8 +4,8 @@ ghost use Rattle.shared.specs.Calls.{IsNoDetach};
 ghost use Rattle.scripts.specs.declared.limits.TheConstants.{LINE_BYTES};
 ghost use Rattle.scripts.specs.Ends.{read_faults, write_faults};
 ghost use Rattle.workloads.specs.Workloads.{MayFollow, is_collectors};
-ghost use Rattle.workloads.specs.Reading.{Reads};
-ghost use Rattle.workloads.specs.Taking.{with_command, no_lines, IsTurn};
+ghost use Rattle.workloads.specs.Reading.{ReadsWorkload};
+ghost use Rattle.workloads.specs.Taking.{with_command, no_lines, IsLineTaken};
 
 use crate::lines::Lines;
 use crate::reading::read_lines;
@@ -133,7 +133,7 @@ impl Workload {
     ) -> Result<(), ScriptError>
         requires number { 1 ≤ number }
         requires short { length line.now ≤ LINE_BYTES }
-        ensures turn { IsTurn number line.now self.old self.new result }
+        ensures turn { IsLineTaken number line.now self.old self.new result }
         ensures writes_nothing { write_faults result ≡ 0 }
     {
         let Some(command) = command(line) else {
@@ -150,7 +150,7 @@ impl Workload {
 
     /// Reads a workload. The first fault ends it: a line that breaks a rule, the reader's, or memory's.
     pub fn read<R: Source>(alloc: Global, reader: &mut R) -> Result<Workload, ScriptError>
-        ensures reads { (input : List ℕ) → R.remaining reader.old ≡ Some input → Reads input (R.remaining reader.new) result }
+        ensures reads { (input : List ℕ) → R.remaining reader.old ≡ Some input → ReadsWorkload input (R.remaining reader.new) result }
         ensures faults { R.faults reader.new ≡ R.faults reader.old + read_faults result }
         ensures writes_nothing { write_faults result ≡ 0 }
     {

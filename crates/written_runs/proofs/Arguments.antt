@@ -4,10 +4,10 @@ use Rattle.std.specs.Prelude.{codes, decimal}
 use Rattle.std.proofs.lemmas.Fmt.{decimal_injective}
 use Rattle.words.specs.declared.limits.TheConstants.{MAX_PAGES}
 use Rattle.heap_spec.specs.Ranges.{IsWord}
-use Rattle.written_runs.specs.Arguments.{IsPageCount, AreGiven}
+use Rattle.written_runs.specs.Arguments.{IsPageCountText, AreGiven}
 
 -- a number that is out of range is no number of pages
-pub out_of_range : (text bytes : List ℕ) (n : ℕ) → bytes ≡ text → bytes ≡ decimal n → IsWord n → (1 ≤ n → n ≤ MAX_PAGES → ⊥) → (pages : ℕ) → IsPageCount text pages → ⊥
+pub out_of_range : (text bytes : List ℕ) (n : ℕ) → bytes ≡ text → bytes ≡ decimal n → IsWord n → (1 ≤ n → n ≤ MAX_PAGES → ⊥) → (pages : ℕ) → IsPageCountText text pages → ⊥
 out_of_range text bytes n same is small out pages count =
     let some = count.some in
     let few = count.few in
@@ -25,7 +25,7 @@ three f (x ∷ y ∷ z ∷ w ∷ items) a b c d e g low high p q r = absurd (ome
 
 -- an option, a number of pages, and a file
 pub given : {A : Type 0} (f : A → List ℕ) (items : List A) (a b c d e g : A) → 3 ≤ length items → length items < 4 → a ≡ get_or items 0 d → b ≡ get_or items 1 e → c ≡ get_or items 2 g
-    → f a ≡ codes "--pages" → (text : List ℕ) → text ≡ f b → (pages : ℕ) → IsPageCount text pages → (file : List ℕ) → file ≡ f c → AreGiven (map f items) pages file
+    → f a ≡ codes "--pages" → (text : List ℕ) → text ≡ f b → (pages : ℕ) → IsPageCountText text pages → (file : List ℕ) → file ≡ f c → AreGiven (map f items) pages file
 given f items a b c d e g low high p q r option text is pages count file last = record {
   count = text;
   words_are = three f items a b c d e g low high p q r ∙ ap (λ o. o ∷ f b ∷ f c ∷ []) option ∙ ap (λ t. codes "--pages" ∷ t ∷ f c ∷ []) (sym is) ∙ ap (λ t. codes "--pages" ∷ text ∷ t ∷ []) (sym last);

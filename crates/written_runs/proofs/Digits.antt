@@ -7,7 +7,7 @@ use Rattle.std.proofs.lemmas.Fmt.{decimal_is_IsNumeral, decimal_injective}
 use Rattle.std.proofs.lemmas.List.{append_cancel_left}
 use Rattle.std.proofs.lemmas.List.Elements.{All-nil, All-cons}
 use Rattle.words.specs.declared.limits.TheConstants.{SLOTS}
-use Rattle.written_runs.specs.Cuts.{Lacks, IsEmptyOrFrom, IsCut}
+use Rattle.written_runs.specs.Cuts.{Lacks, IsEmptyOrFrom, IsTextCut}
 use Rattle.written_runs.specs.Reading.{IsNumberAt}
 use Rattle.written_runs.proofs.Cutting.{same_cut}
 
@@ -43,7 +43,7 @@ same_number text m n r s a b =
     record { number = decimal_injective m n a.word b.word c.front; rest = c.rest }
 
 -- a text without a number behind its space
-pub no_number_here : (text more word r : List ℕ) → text ≡ codes " " ++ more → IsCut 32 more word r → ((n : ℕ) → n < 2 ^ 64 → word ≡ decimal n → ⊥) → (n : ℕ) (rest : List ℕ) → IsNumberAt text n rest → ⊥
+pub no_number_here : (text more word r : List ℕ) → text ≡ codes " " ++ more → IsTextCut 32 more word r → ((n : ℕ) → n < 2 ^ 64 → word ≡ decimal n → ⊥) → (n : ℕ) (rest : List ℕ) → IsNumberAt text n rest → ⊥
 no_number_here text more word r e cut none n rest at =
     let whole = append_cancel_left (codes " ") more (decimal n ++ rest) (sym e ∙ at.whole) in
     none n at.word (same_cut 32 word r (decimal n) rest (sym cut.whole ∙ whole) cut.lacks cut.from (decimal_lacks 32 n (omega arith) at.word) at.from).front

@@ -8,7 +8,7 @@ use Rattle.heap_spec.specs.Ranges.{IsWord}
 use Rattle.replayer.specs.declared.hint.Hint.{Hint}
 use Rattle.replayer.specs.declared.hint.Hint.TheVariants.{Nothing, Place, Forgot}
 use Rattle.written_runs.specs.Written.{bases_text}
-use Rattle.written_runs.specs.Reading.{IsNumberAt, AreBases, IsHint}
+use Rattle.written_runs.specs.Reading.{IsNumberAt, AreBases, IsHintText}
 use Rattle.written_runs.proofs.Digits.{bases_from, same_number}
 use Rattle.written_runs.proofs.Cutting.{lead, second}
 
@@ -56,17 +56,17 @@ read_all text bases [] read none = record { whole = read.whole ∙ append-nil (b
 read_all text bases (b ∷ rest) read none = absurd (omega arith)
 
 -- where a text that isn't empty is the text of a hint
-pub no_place : (text place : List ℕ) → text ≡ codes " @ " ++ place → ((n : ℕ) → IsWord n → place ≡ decimal n → ⊥) → (hint : Hint) → IsHint text hint → ⊥
+pub no_place : (text place : List ℕ) → text ≡ codes " @ " ++ place → ((n : ℕ) → IsWord n → place ≡ decimal n → ⊥) → (hint : Hint) → IsHintText text hint → ⊥
 no_place text place e none Nothing is = let h : 32 ≡ 0 = ap lead (sym e ∙ is.whole) in omega (arith, h)
 no_place text place e none (Place base) is = none base is.words (append_cancel_left (codes " @ ") place (decimal base) (sym e ∙ is.whole))
 no_place text place e none (Forgot bases) is = let h : 64 ≡ 45 = ap second (sym e ∙ is.whole) in omega (arith, h)
 
-pub no_bases : (text rest : List ℕ) → text ≡ codes " -" ++ rest → ((bases : List ℕ) → AreBases rest bases → ⊥) → (hint : Hint) → IsHint text hint → ⊥
+pub no_bases : (text rest : List ℕ) → text ≡ codes " -" ++ rest → ((bases : List ℕ) → AreBases rest bases → ⊥) → (hint : Hint) → IsHintText text hint → ⊥
 no_bases text rest e none Nothing is = let h : 32 ≡ 0 = ap lead (sym e ∙ is.whole) in omega (arith, h)
 no_bases text rest e none (Place base) is = let h : 45 ≡ 64 = ap second (sym e ∙ is.whole) in omega (arith, h)
 no_bases text rest e none (Forgot bases) is = none bases.now (record { whole = append_cancel_left (codes " -") rest (bases_text bases.now) (sym e ∙ is.whole); words = is.words })
 
-pub neither : (text : List ℕ) → 0 < length text → ((rest : List ℕ) → text ≡ codes " @ " ++ rest → ⊥) → ((rest : List ℕ) → text ≡ codes " -" ++ rest → ⊥) → (hint : Hint) → IsHint text hint → ⊥
+pub neither : (text : List ℕ) → 0 < length text → ((rest : List ℕ) → text ≡ codes " @ " ++ rest → ⊥) → ((rest : List ℕ) → text ≡ codes " -" ++ rest → ⊥) → (hint : Hint) → IsHintText text hint → ⊥
 neither text some place bases Nothing is = let h : length text ≡ 0 = ap length is.whole in omega (arith, h)
 neither text some place bases (Place base) is = place (decimal base) is.whole
 neither text some place bases (Forgot forgotten) is = bases (bases_text forgotten.now) is.whole

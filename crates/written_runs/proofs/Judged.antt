@@ -12,9 +12,9 @@ use Rattle.scripts.specs.Lines.{newline, lines_of}
 use Rattle.scripts.proofs.Texts.{lines_of-line, lines_of-last}
 use Rattle.written_runs.specs.declared.verdict.Verdict.{Verdict}
 use Rattle.written_runs.specs.declared.verdict.Verdict.TheVariants.{Legal, Bad, Breaks}
-use Rattle.written_runs.specs.Cuts.{IsEmptyOrFrom, IsCut}
+use Rattle.written_runs.specs.Cuts.{IsEmptyOrFrom, IsTextCut}
 use Rattle.written_runs.specs.Written.{IsWritten}
-use Rattle.written_runs.specs.Judging.{Leads, ends, on, IsUnwritten, IsBroken, HasFault, IsJudged, LeadsOn, IsFound}
+use Rattle.written_runs.specs.Judging.{Leads, ends, on, IsUnwritten, IsBroken, HasFault, IsJudged, LeadsOn, IsLineVerdict}
 
 -- one line more
 leads_more : (start : Start) {run mid last : Run} {lines : List (List ℕ)} → Leads start run lines mid → (line : List ℕ) (event : Event) (reply : Reply) (hint : Hint)
@@ -62,7 +62,7 @@ fault_here Fault pages text rest behind line number old u e fault =
     record { before = u.lines; line = line; behind = lines_of behind; run = u.run; are = u.are ∙ ap (λ ls. u.lines ++ ls) e; counted = let h = u.counted in omega (arith, h); leads = u.leads; fault = fault }
 
 -- what was found of the next line is the verdict
-pub judged : (pages : ℕ) (text rest behind line : List ℕ) (number : ℕ) (old new : Contents) (verdict : Verdict) → IsUpTo pages text rest number old → lines_of rest ≡ line ∷ lines_of behind → IsFound old (number + 1) line (Some verdict) new → IsJudged pages (lines_of text) verdict
+pub judged : (pages : ℕ) (text rest behind line : List ℕ) (number : ℕ) (old new : Contents) (verdict : Verdict) → IsUpTo pages text rest number old → lines_of rest ≡ line ∷ lines_of behind → IsLineVerdict old (number + 1) line (Some verdict) new → IsJudged pages (lines_of text) verdict
 judged pages text rest behind line number old new Legal u e found = absurd found
 judged pages text rest behind line number old new (Bad n) u e found =
     subst (HasFault (λ run l. IsUnwritten l) (fresh pages) (lines_of text)) (sym found.0) (fault_here (λ run l. IsUnwritten l) pages text rest behind line number old u e found.1)
@@ -80,12 +80,12 @@ judged pages text rest behind line number old new (Breaks n rule) u e found =
     }))
 
 -- the first line of a text that was cut at its first newline
-pub line_with_newline : (text line rest behind : List ℕ) (b : ℕ) → IsCut newline text line rest → rest ≡ b ∷ behind → lines_of text ≡ line ∷ lines_of behind
+pub line_with_newline : (text line rest behind : List ℕ) (b : ℕ) → IsTextCut newline text line rest → rest ≡ b ∷ behind → lines_of text ≡ line ∷ lines_of behind
 line_with_newline text line rest behind b cut e =
     let is : b ≡ newline = subst (IsEmptyOrFrom newline) e cut.from in
     ap lines_of (cut.whole ∙ ap (λ r. line ++ r) (e ∙ ap (λ x. x ∷ behind) is)) ∙ lines_of-line line behind cut.lacks
 
-pub line_without : (text line rest : List ℕ) → IsCut newline text line rest → 0 < length text → length rest ≡ 0 → lines_of text ≡ line ∷ lines_of rest
+pub line_without : (text line rest : List ℕ) → IsTextCut newline text line rest → 0 < length text → length rest ≡ 0 → lines_of text ≡ line ∷ lines_of rest
 line_without text line [] cut some none =
     let whole : text ≡ line = cut.whole ∙ append-nil line in
     ap lines_of whole ∙ lines_of-last line cut.lacks (let h = ap length whole in omega (arith, h))

@@ -3,7 +3,7 @@ use Rattle.std.proofs.Common.{◌≡◌, ◌≢◌, ℕ, List, [], ◌∷◌, �
 use Rattle.std.specs.Prelude.{codes}
 use Rattle.std.proofs.lemmas.List.{append_cancel_left}
 use Rattle.std.proofs.lemmas.List.Elements.{All-nil, All-cons, All-head, All-tail, All-append}
-use Rattle.written_runs.specs.Cuts.{Lacks, IsCut}
+use Rattle.written_runs.specs.Cuts.{Lacks, IsTextCut}
 use Rattle.written_runs.specs.Reading.{IsParted}
 use Rattle.written_runs.proofs.Cutting.{IsSameCut, same_cut, lacks_by}
 
@@ -25,11 +25,11 @@ same_end (a ∷ xs) (b ∷ ys) x y e =
     record { front = ap (λ z. z ∷ xs) h ∙ ap (λ zs. b ∷ zs) same.front; last = same.last }
 
 -- the parts of a line, where it is cut at its first `=`
-pub parted_cut : (line front rest text answer : List ℕ) → IsCut 61 line front rest → IsParted line text answer → IsSameCut front rest (text ++ 32 ∷ []) (codes "=> " ++ answer)
+pub parted_cut : (line front rest text answer : List ℕ) → IsTextCut 61 line front rest → IsParted line text answer → IsSameCut front rest (text ++ 32 ∷ []) (codes "=> " ++ answer)
 parted_cut line front rest text answer cut is =
     same_cut 61 front rest (text ++ 32 ∷ []) (codes "=> " ++ answer) (sym cut.whole ∙ is.whole ∙ sym (append_assoc text (32 ∷ []) (codes "=> " ++ answer))) cut.lacks cut.from (All-append (λ b. b ≢ 61) text (32 ∷ []) is.lacks (lacks_by 61 (32 ∷ []) refl)) refl
 
-pub parted_here : (line front rest text answer : List ℕ) → IsCut 61 line front rest → rest ≡ codes "=> " ++ answer → front ≡ text ++ 32 ∷ [] → IsParted line text answer
+pub parted_here : (line front rest text answer : List ℕ) → IsTextCut 61 line front rest → rest ≡ codes "=> " ++ answer → front ≡ text ++ 32 ∷ [] → IsParted line text answer
 parted_here line front rest text answer cut e f =
     record {
       whole = cut.whole ∙ ap (λ t. t ++ rest) f ∙ append_assoc text (32 ∷ []) rest ∙ ap (λ t. text ++ (32 ∷ t)) e;
@@ -46,12 +46,12 @@ same_parts line text answer text' answer' a b =
     let ends = same_end text text' 32 32 c.front in
     record { front = ends.front; rest = append_cancel_left (codes "=> ") answer answer' c.rest }
   where
-    cut_of : (line text answer : List ℕ) → IsParted line text answer → IsCut 61 line (text ++ 32 ∷ []) (codes "=> " ++ answer)
+    cut_of : (line text answer : List ℕ) → IsParted line text answer → IsTextCut 61 line (text ++ 32 ∷ []) (codes "=> " ++ answer)
     cut_of line text answer is = record { whole = is.whole ∙ sym (append_assoc text (32 ∷ []) (codes "=> " ++ answer)); lacks = All-append (λ b. b ≢ 61) text (32 ∷ []) is.lacks (lacks_by 61 (32 ∷ []) refl); from = refl }
 
 -- a line whose text ends in no space before its `=`
-pub no_space : (line front rest text : List ℕ) (b : ℕ) → IsCut 61 line front rest → front ≡ text ++ b ∷ [] → (b ≡ 32 → ⊥) → (other answer : List ℕ) → IsParted line other answer → ⊥
+pub no_space : (line front rest text : List ℕ) (b : ℕ) → IsTextCut 61 line front rest → front ≡ text ++ b ∷ [] → (b ≡ 32 → ⊥) → (other answer : List ℕ) → IsParted line other answer → ⊥
 no_space line front rest text b cut e differs other answer is = differs (same_end text other b 32 (sym e ∙ (parted_cut line front rest other answer cut is).front)).last
 
-pub no_text : (line front rest : List ℕ) → IsCut 61 line front rest → length front ≡ 0 → (text answer : List ℕ) → IsParted line text answer → ⊥
+pub no_text : (line front rest : List ℕ) → IsTextCut 61 line front rest → length front ≡ 0 → (text answer : List ℕ) → IsParted line text answer → ⊥
 no_text line front rest cut none text answer is = let e = ap length (parted_cut line front rest text answer cut is).front in omega (arith, e, none, length-append text (32 ∷ []))

@@ -5,7 +5,7 @@ use Rattle.std.proofs.lemmas.List.{append_cancel_left}
 use Rattle.words.specs.declared.refusal.Refusal.{Refusal}
 use Rattle.words.specs.declared.refusal.Refusal.TheVariants.{NoSlot, Misaligned, NoObject, NotBase, BadSize, Full, StackFull, StackEmpty, WrongPhase}
 use Rattle.words.specs.Refusals.{code_of, name_of}
-use Rattle.written_runs.specs.Cuts.{Lacks, IsCut}
+use Rattle.written_runs.specs.Cuts.{Lacks, IsTextCut}
 use Rattle.written_runs.specs.Reading.{IsNumberAt, IsRefusalAt}
 use Rattle.written_runs.proofs.Cutting.{same_cut, lacks_by}
 use Rattle.written_runs.proofs.Digits.{same_number}
@@ -61,7 +61,7 @@ name_is StackEmpty = refl
 name_is WrongPhase = refl
 
 -- a code with another name behind it
-pub other_name : (text : List ℕ) (refusal : Refusal) (r more word rest : List ℕ) → IsNumberAt text (code_of refusal) r → r ≡ codes " " ++ more → IsCut 32 more word rest → (word ≡ name_of refusal → ⊥) → (other : Refusal) (s : List ℕ) → IsRefusalAt text other s → ⊥
+pub other_name : (text : List ℕ) (refusal : Refusal) (r more word rest : List ℕ) → IsNumberAt text (code_of refusal) r → r ≡ codes " " ++ more → IsTextCut 32 more word rest → (word ≡ name_of refusal → ⊥) → (other : Refusal) (s : List ℕ) → IsRefusalAt text other s → ⊥
 other_name text refusal r more word rest at e cut differs other s is =
     let same = same_number text (code_of refusal) (code_of other) r _ at (code_at text other s is) in
     let whole = append_cancel_left (codes " ") more (name_of other ++ s) (sym e ∙ same.rest) in

@@ -9,7 +9,7 @@ use Rattle.heap_spec.specs.Layout.{heap_end}
 use Rattle.words.specs.declared.limits.TheConstants.{FIRST_ADDRESS, SLOTS}
 use Rattle.words.specs.declared.refusal.Refusal.{Refusal}
 use Rattle.words.specs.Refusals.{code_of, name_of}
-use Rattle.written_runs.specs.Cuts.{Lacks, IsEmptyOrFrom, IsCut}
+use Rattle.written_runs.specs.Cuts.{Lacks, IsEmptyOrFrom, IsTextCut}
 use Rattle.written_runs.specs.Reading.{IsNumberAt, IsRefusalAt, IsReplyAt}
 use Rattle.written_runs.specs.Written.{answer_of, IsAnswer}
 use Rattle.written_runs.proofs.Cutting.{IsSameCut, same_cut, lacks_by, lead}
@@ -61,12 +61,12 @@ behind_from (Count n) s from = from
 behind_from (Refused refusal) s from = refl
 
 -- a text that begins with a reply is cut at the reply's first word
-pub at_word : (text word rest : List ℕ) (event : Event) (reply : Reply) (s : List ℕ) → IsCut 32 text word rest → IsReplyAt event text reply s → IsSameCut word rest (first_word reply) (behind_word reply s)
+pub at_word : (text word rest : List ℕ) (event : Event) (reply : Reply) (s : List ℕ) → IsTextCut 32 text word rest → IsReplyAt event text reply s → IsSameCut word rest (first_word reply) (behind_word reply s)
 at_word text word rest event reply s cut is =
     same_cut 32 word rest (first_word reply) (behind_word reply s) (sym cut.whole ∙ is.whole ∙ reply_words reply s) cut.lacks cut.from (first_lacks event reply is.answers) (behind_from reply s is.from)
 
 -- a text without its first word's reply has none
-pub no_reply : (text word rest : List ℕ) → IsCut 32 text word rest → (word ≡ codes "ok" → ⊥)
+pub no_reply : (text word rest : List ℕ) → IsTextCut 32 text word rest → (word ≡ codes "ok" → ⊥)
     → (word ≡ codes "mutator" → (slot : ℕ) (s : List ℕ) → slot < SLOTS → IsNumberAt rest slot s → ⊥)
     → (word ≡ codes "refused" → (refusal : Refusal) (s : List ℕ) → IsRefusalAt rest refusal s → ⊥)
     → ((n : ℕ) → n < 2 ^ 64 → word ≡ decimal n → ⊥)
@@ -78,12 +78,12 @@ no_reply text word rest cut ok mutator refused number event (Count n) s is = let
 no_reply text word rest cut ok mutator refused number event (Refused refusal) s is = let c = at_word text word rest event (Refused refusal) s cut is in refused c.front refusal s (record { whole = c.rest; from = is.from })
 
 -- texts whose first word is read as none
-pub no_slot_reply : (text word rest : List ℕ) → IsCut 32 text word rest → word ≡ codes "mutator" → ((slot : ℕ) (s : List ℕ) → slot < SLOTS → IsNumberAt rest slot s → ⊥) → (event : Event) (reply : Reply) (s : List ℕ) → IsReplyAt event text reply s → ⊥
+pub no_slot_reply : (text word rest : List ℕ) → IsTextCut 32 text word rest → word ≡ codes "mutator" → ((slot : ℕ) (s : List ℕ) → slot < SLOTS → IsNumberAt rest slot s → ⊥) → (event : Event) (reply : Reply) (s : List ℕ) → IsReplyAt event text reply s → ⊥
 no_slot_reply text word rest cut is none =
     no_reply text word rest cut (λ e. let h : 109 ≡ 111 = ap lead (sym is ∙ e) in omega (arith, h)) (λ e. none) (λ e. let h : 109 ≡ 114 = ap lead (sym is ∙ e) in absurd (omega (arith, h)))
     (λ n small e. not_decimal 109 n (codes "utator") (omega arith) small (sym e ∙ is))
 
-pub no_refused_reply : (text word rest : List ℕ) → IsCut 32 text word rest → word ≡ codes "refused" → ((refusal : Refusal) (s : List ℕ) → IsRefusalAt rest refusal s → ⊥) → (event : Event) (reply : Reply) (s : List ℕ) → IsReplyAt event text reply s → ⊥
+pub no_refused_reply : (text word rest : List ℕ) → IsTextCut 32 text word rest → word ≡ codes "refused" → ((refusal : Refusal) (s : List ℕ) → IsRefusalAt rest refusal s → ⊥) → (event : Event) (reply : Reply) (s : List ℕ) → IsReplyAt event text reply s → ⊥
 no_refused_reply text word rest cut is none =
     no_reply text word rest cut (λ e. let h : 114 ≡ 111 = ap lead (sym is ∙ e) in omega (arith, h)) (λ e. let h : 114 ≡ 109 = ap lead (sym is ∙ e) in absurd (omega (arith, h))) (λ e. none)
     (λ n small e. not_decimal 114 n (codes "efused") (omega arith) small (sym e ∙ is))

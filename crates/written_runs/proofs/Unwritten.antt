@@ -9,7 +9,7 @@ use Rattle.scripts.specs.declared.limits.TheConstants.{LINE_BYTES}
 use Rattle.scripts.specs.Grammar.{IsLineOf, IsBad}
 use Rattle.written_runs.specs.Cuts.{IsEmptyOrFrom}
 use Rattle.written_runs.specs.Written.{answer_of, hint_text, IsLineWith, IsWritten}
-use Rattle.written_runs.specs.Reading.{IsParted, IsReplyAt, IsHint}
+use Rattle.written_runs.specs.Reading.{IsParted, IsReplyAt, IsHintText}
 use Rattle.written_runs.specs.Judging.{IsUnwritten}
 use Rattle.written_runs.proofs.Parting.{same_parts}
 use Rattle.written_runs.proofs.Rests.{same_rest}
@@ -46,7 +46,7 @@ pub no_answer : (line text answer : List ℕ) → IsParted line text answer → 
 no_answer line text answer parted none event reply hint w = none event reply (hint_text hint) (answer_at line text answer parted event reply hint w)
 
 -- what stands behind the reply is no hint
-pub no_hint : (line text answer rest : List ℕ) (event : Event) (reply : Reply) → IsParted line text answer → IsReplyAt event answer reply rest → ((hint : Hint) → IsHint rest hint → ⊥) → IsUnwritten line
+pub no_hint : (line text answer rest : List ℕ) (event : Event) (reply : Reply) → IsParted line text answer → IsReplyAt event answer reply rest → ((hint : Hint) → IsHintText rest hint → ⊥) → IsUnwritten line
 no_hint line text answer rest event reply parted at none other reply' hint w =
     none hint (record { whole = same_rest answer event other reply reply' rest (hint_text hint) at (answer_at line text answer parted other reply' hint w); words = w.words })
 

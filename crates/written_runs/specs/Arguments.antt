@@ -3,7 +3,7 @@ use Rattle.std.specs.Prelude.{◌≡◌, ℕ, ◌≤◌, List, [], ◌∷◌, co
 use Rattle.words.specs.declared.limits.TheConstants.{MAX_PAGES}
 
 -- A text is a number of pages that a heap may have.
-pub record IsPageCount (text : List ℕ) (pages : ℕ) : Type 0 where
+pub record IsPageCountText (text : List ℕ) (pages : ℕ) : Type 0 where
   pub text_is : text ≡ decimal pages
   pub some : 1 ≤ pages
   pub few : pages ≤ MAX_PAGES
@@ -12,4 +12,4 @@ pub record IsPageCount (text : List ℕ) (pages : ℕ) : Type 0 where
 pub record AreGiven (words : List (List ℕ)) (pages : ℕ) (file : List ℕ) : Type 0 where
   pub count : List ℕ
   pub words_are : words ≡ codes "--pages" ∷ count ∷ file ∷ []
-  pub pages_are : IsPageCount count pages
+  pub pages_are : IsPageCountText count pages

@@ -11,7 +11,7 @@ IsEmptyOrFrom at [] = Unit {0}
 IsEmptyOrFrom at (b ∷ rest) = b ≡ at
 
 -- A text is cut at a byte: the front lacks it, and the rest begins with it, or is nothing.
-pub record IsCut (at : ℕ) (text front rest : List ℕ) : Type 0 where
+pub record IsTextCut (at : ℕ) (text front rest : List ℕ) : Type 0 where
   pub whole : text ≡ front ++ rest
   pub lacks : Lacks at front
   pub from : IsEmptyOrFrom at rest

@@ -72,8 +72,8 @@ pub record Stops (old : Contents) (rule : Rule) (line : List ℕ) : Type 0 where
   pub named : rule ≡ rule_of event reply hint
 
 -- what a replayer finds of the line of this number
-abbrev pub IsFound : Contents → ℕ → List ℕ → Option Verdict → Contents → Type 0
-IsFound old number line None new = LeadsOn old line new
-IsFound old number line (Some Legal) new = ⊥
-IsFound old number line (Some (Bad n)) new = (n ≡ number) × IsUnwritten line
-IsFound old number line (Some (Breaks n rule)) new = (n ≡ number) × Stops old rule line
+abbrev pub IsLineVerdict : Contents → ℕ → List ℕ → Option Verdict → Contents → Type 0
+IsLineVerdict old number line None new = LeadsOn old line new
+IsLineVerdict old number line (Some Legal) new = ⊥
+IsLineVerdict old number line (Some (Bad n)) new = (n ≡ number) × IsUnwritten line
+IsLineVerdict old number line (Some (Breaks n rule)) new = (n ≡ number) × Stops old rule line

@@ -56,6 +56,6 @@ pub record IsBehind (text : List ℕ) (behind : Behind) : Type 0 where
   pub words : HasWords behind
 
 -- a text is that of a hint
-pub record IsHint (text : List ℕ) (hint : Hint) : Type 0 where
+pub record IsHintText (text : List ℕ) (hint : Hint) : Type 0 where
   pub whole : text ≡ hint_text hint
   pub words : NamesWords hint

@@ -2,7 +2,7 @@
 ghost use Rattle.std.specs.Prelude.{◌≡◌, ℕ, List, IfOk, MatchOption};
 ghost use Rattle.replayer.specs.declared.hint.Hint.{Hint as HintValue};
 ghost use Rattle.written_runs.specs.Written.{hint_text, NamesWords};
-ghost use Rattle.written_runs.specs.Reading.{behind_text, HasWords, AreBases, IsBehind, IsHint};
+ghost use Rattle.written_runs.specs.Reading.{behind_text, HasWords, AreBases, IsBehind, IsHintText};
 
 use crate::cut::past;
 use crate::reply::number_at;
@@ -56,7 +56,7 @@ fn bases_of(alloc: Global, text: &[u8]) -> Result<Option<Vec<u64>>, AllocError>
 
 /// What a text is that stands behind a reply, and `None` exactly if it is no hint's.
 pub fn behind_of(alloc: Global, text: &[u8]) -> Result<Option<Behind>, AllocError>
-    ensures { IfOk result (λ found. MatchOption found ((hint : HintValue) → IsHint text.now hint → ⊥)
+    ensures { IfOk result (λ found. MatchOption found ((hint : HintValue) → IsHintText text.now hint → ⊥)
         (λ behind. IsBehind text.now behind)) }
 {
     if text.is_empty() {

@@ -1,7 +1,7 @@
 //! The words that the programs on written runs are given.
 ghost use Rattle.std.specs.Prelude.{ℕ, List, ◌≤◌, IfSome, MatchOption, map, string_bytes};
 ghost use Rattle.words.specs.declared.limits.TheConstants.{MAX_PAGES};
-ghost use Rattle.written_runs.specs.Arguments.{IsPageCount, AreGiven};
+ghost use Rattle.written_runs.specs.Arguments.{IsPageCountText, AreGiven};
 
 use crate::cut::is;
 use scripts::number;
@@ -9,7 +9,7 @@ use words::limits::MAX_PAGES;
 
 // The pages of a heap, as they are written.
 fn pages_given(text: &str) -> Option<u32>
-    ensures { MatchOption result ((pages : ℕ) → IsPageCount text.now pages → ⊥) (λ pages. IsPageCount text.now pages) }
+    ensures { MatchOption result ((pages : ℕ) → IsPageCountText text.now pages → ⊥) (λ pages. IsPageCountText text.now pages) }
 {
     let Some(pages) = number(text.as_bytes()) else {
         return None;

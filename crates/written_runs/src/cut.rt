@@ -1,6 +1,6 @@
 //! Texts are cut.
 ghost use Rattle.std.specs.Prelude.{◌≡◌, ◌++◌, ℕ, List, MatchOption, MatchBool};
-ghost use Rattle.written_runs.specs.Cuts.{IsCut};
+ghost use Rattle.written_runs.specs.Cuts.{IsTextCut};
 
 /// Whether the bytes are this text.
 pub fn is(bytes: &[u8], text: &str) -> bool
@@ -11,7 +11,7 @@ pub fn is(bytes: &[u8], text: &str) -> bool
 
 /// The front of a text before a byte, and the rest from there on: the whole text and nothing where the byte doesn't occur.
 pub fn cut(text: &[u8], at: u8) -> (&[u8], &[u8])
-    ensures { IsCut at text.now result.0.now result.1.now }
+    ensures { IsTextCut at text.now result.0.now result.1.now }
 {
     for i in 0..text.len() {
         if text[i] == at {

@@ -2,7 +2,7 @@
 ghost use Rattle.std.specs.Prelude.{◌≡◌, ◌<◌, ◌≤◌, ◌∷◌, length, IfOk};
 ghost use Rattle.words.specs.declared.limits.TheConstants.{MAX_PAGES};
 ghost use Rattle.scripts.specs.Lines.{lines_of};
-ghost use Rattle.written_runs.specs.Judging.{IsJudged, IsFound};
+ghost use Rattle.written_runs.specs.Judging.{IsJudged, IsLineVerdict};
 
 use crate::cut::cut;
 use crate::line::read_line;
@@ -31,7 +31,7 @@ fn judge_line(
     number: u64,
     line: &[u8],
 ) -> Result<Option<Verdict>, AllocError>
-    ensures { IfOk result (λ found. IsFound replayer.old number line.now found replayer.new) }
+    ensures { IfOk result (λ found. IsLineVerdict replayer.old number line.now found replayer.new) }
 {
     let Some(line) = read_line(alloc, line)? else {
         return Ok(Some(Verdict::Bad(number)));

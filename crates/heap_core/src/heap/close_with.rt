@@ -1,6 +1,6 @@
 //! The end of the marking by several threads.
 ghost use Rattle.std.specs.Prelude.{true};
-ghost use Rattle.heap_core.specs.Collections.{ClosesMarks, IsGrantedIn};
+ghost use Rattle.heap_core.specs.Collections.{ClosesMarks, IsGrantedInPhase};
 
 use super::Core;
 use final_pause::{Gate, Helpers};
@@ -23,7 +23,7 @@ impl Core {
         helpers: Helpers,
         gate: &G,
     ) -> Result<(), Refusal>
-        ensures { IsGrantedIn true self.old result self.new (λ _. ClosesMarks self.old self.new) }
+        ensures { IsGrantedInPhase true self.old result self.new (λ _. ClosesMarks self.old self.new) }
     {
         if !self.is_marking {
             return Err(Refusal::WrongPhase);

@@ -1,7 +1,7 @@
 //! The calls of the collector. Each is refused with [`Refusal::WrongPhase`] exactly in the wrong phase, and then changes
 //! nothing.
 ghost use Rattle.std.specs.Prelude.{◌≡◌, true, false};
-ghost use Rattle.heap_core.specs.Collections.{IsGrantedIn, IsAlwaysGranted, BeginsCycle, ReadsRoots, TakesWords, RetracesPage, EndsCycle, CollectsAll, SweepsOne};
+ghost use Rattle.heap_core.specs.Collections.{IsGrantedInPhase, IsAlwaysGranted, BeginsCycle, ReadsRoots, TakesWords, RetracesPage, EndsCycle, CollectsAll, SweepsOne};
 
 use super::Core;
 use words::Refusal;
@@ -16,7 +16,7 @@ impl Core {
 
     /// Begins a cycle.
     pub fn begin(&mut self) -> Result<(), Refusal>
-        ensures { IsGrantedIn false self.old result self.new (λ _. BeginsCycle self.old self.new) }
+        ensures { IsGrantedInPhase false self.old result self.new (λ _. BeginsCycle self.old self.new) }
     {
         if self.is_marking {
             return Err(Refusal::WrongPhase);
@@ -29,7 +29,7 @@ impl Core {
 
     /// Marks what root words point into.
     pub fn roots(&mut self) -> Result<(), Refusal>
-        ensures { IsGrantedIn true self.old result self.new (λ _. ReadsRoots self.old self.new) }
+        ensures { IsGrantedInPhase true self.old result self.new (λ _. ReadsRoots self.old self.new) }
     {
         if !self.is_marking {
             return Err(Refusal::WrongPhase);
@@ -42,7 +42,7 @@ impl Core {
 
     /// Reads words of entries, at most so many, and answers how many.
     pub fn mark(&mut self, most: u64) -> Result<u64, Refusal>
-        ensures { IsGrantedIn true self.old result self.new (λ n. TakesWords most self.old n self.new) }
+        ensures { IsGrantedInPhase true self.old result self.new (λ n. TakesWords most self.old n self.new) }
     {
         if !self.is_marking {
             return Err(Refusal::WrongPhase);
@@ -53,7 +53,7 @@ impl Core {
 
     /// Reads the lowest dirty page again. Answers 1, or 0 where no page is dirty.
     pub fn retrace(&mut self) -> Result<u64, Refusal>
-        ensures { IsGrantedIn true self.old result self.new (λ n. RetracesPage self.old n self.new) }
+        ensures { IsGrantedInPhase true self.old result self.new (λ n. RetracesPage self.old n self.new) }
     {
         if !self.is_marking {
             return Err(Refusal::WrongPhase);
@@ -66,7 +66,7 @@ impl Core {
 
     /// Ends the cycle: marks on until nothing is left to read, and forgets the objects that aren't marked. Answers how many.
     pub fn finish(&mut self) -> Result<u64, Refusal>
-        ensures { IsGrantedIn true self.old result self.new (λ n. EndsCycle self.old n self.new) }
+        ensures { IsGrantedInPhase true self.old result self.new (λ n. EndsCycle self.old n self.new) }
     {
         if !self.is_marking {
             return Err(Refusal::WrongPhase);

@@ -2,8 +2,8 @@
 ghost use Rattle.std.specs.Prelude.{ℕ, IfSome, IfNone};
 ghost use Rattle.heap_spec.specs.Heap.{Mutator as HeapMutator};
 ghost use Rattle.roots.specs.Roots.{HasMutator, HasNoMutator};
-ghost use Rattle.plain_core.specs.Contents.{Contents, IsSound};
-ghost use Rattle.plain_core.specs.Answering.{IsFound, HoldsWord, FindsNothing, MayAnswer, CanAnswer, CanAttach};
+ghost use Rattle.plain_core.specs.Contents.{Contents, IsLaidOut};
+ghost use Rattle.plain_core.specs.Answering.{FindsExtent, HoldsWord, FindsNothing, MayAnswer, CanAnswer, CanAttach};
 
 use super::Core;
 use crate::extent::{Extent, object_at};
@@ -36,7 +36,7 @@ fn pop_answer(mutator: &Mutator) -> Reply
 impl Core {
     // What is true of every core.
     pub(super) fn laws(&self)
-        ensures { IsSound self.now }
+        ensures { IsLaidOut self.now }
     {
         let _pages = &self.pages;
     }
@@ -51,7 +51,7 @@ impl Core {
 
     // The object that an address points into.
     fn found(&self, address: u64) -> Option<Extent>
-        ensures some { IfSome result (λ e. IsFound self.now address e) }
+        ensures some { IfSome result (λ e. FindsExtent self.now address e) }
         ensures none { IfNone result (FindsNothing self.now address) }
     {
         let Some(object) = object_at(&self.objects, address) else {

@@ -4,8 +4,8 @@ ghost use Rattle.roots.specs.Roots.{root_words_of};
 ghost use Rattle.plain_core.specs.Standing.{LiesIn};
 ghost use Rattle.plain_core.specs.Owners.{AreOwners};
 ghost use Rattle.plain_core.specs.Reached.{AreApart, MarksReached};
-ghost use Rattle.plain_core.specs.Listing.{HasRoom, KeepsRoom};
-ghost use Rattle.plain_core.specs.Collections.{IsCollected, HasGarbage, CantCollect, IsTaken, CantTake};
+ghost use Rattle.plain_core.specs.Listing.{HasListRoom, KeepsRoom};
+ghost use Rattle.plain_core.specs.Collections.{IsCollected, HasGarbage, CantCollect, TakesBases, CantTake};
 
 use super::Core;
 use crate::claims::{are_all_named, unset_flags};
@@ -28,7 +28,7 @@ fn list_from_roots(
     requires apart { AreApart objects.now }
     requires lie { All (LiesIn words.now) objects.now }
     requires within { All (LiesIn owners.old) objects.now }
-    requires room { HasRoom (length objects.now) listing.old }
+    requires room { HasListRoom (length objects.now) listing.old }
     ensures marks { MarksReached (root_words_of roots.now) words.now objects.now listing.new.marks.items }
     ensures room { KeepsRoom listing.old listing.new }
     ensures owners { AreOwners objects.now owners.new }
@@ -87,7 +87,7 @@ impl Core {
     // Takes out the objects with these bases, if they are distinct objects none of which is reached, and with `all` every
     // such object. Else nothing changes.
     fn take(&mut self, bases: &[u64], all: bool) -> bool
-        ensures yes { IsTrue result → IsTaken self.old bases.now all self.new }
+        ensures yes { IsTrue result → TakesBases self.old bases.now all self.new }
         ensures no { result ≡ false → CantTake self.old bases.now all }
         ensures same { result ≡ false → self.new ≡ self.old }
     {
@@ -118,7 +118,7 @@ impl Core {
 
     /// Takes out the objects with these bases, if they are distinct objects none of which is reached. Else nothing changes.
     pub fn forget(&mut self, bases: &[u64]) -> bool
-        ensures yes { IsTrue result → IsTaken self.old bases.now false self.new }
+        ensures yes { IsTrue result → TakesBases self.old bases.now false self.new }
         ensures no { result ≡ false → CantTake self.old bases.now false }
         ensures same { result ≡ false → self.new ≡ self.old }
     {
@@ -127,7 +127,7 @@ impl Core {
 
     /// Takes out all objects that are not reached, if these are their bases, each once. Else nothing changes.
     pub fn collect_as(&mut self, bases: &[u64]) -> bool
-        ensures yes { IsTrue result → IsTaken self.old bases.now true self.new }
+        ensures yes { IsTrue result → TakesBases self.old bases.now true self.new }
         ensures no { result ≡ false → CantTake self.old bases.now true }
         ensures same { result ≡ false → self.new ≡ self.old }
     {

@@ -4,7 +4,7 @@ ghost use Rattle.words.specs.declared.class.Placement.{Placement};
 ghost use Rattle.heap_spec.specs.Heap.{Mutator as HeapMutator};
 ghost use Rattle.heap_spec.specs.Replies.{IsStep, done_reply, word_reply, count_reply};
 ghost use Rattle.roots.specs.Roots.{HasMutator};
-ghost use Rattle.plain_core.specs.Answering.{Fits, IsPut, IsAllocatedAt, CantAllocateAt};
+ghost use Rattle.plain_core.specs.Answering.{MayBePut, IsPut, IsAllocatedAt, CantAllocateAt};
 
 use super::Core;
 use crate::extent::{Extent, index_at, object_at};
@@ -59,8 +59,8 @@ impl Core {
     // Puts a zeroed object where there is room for it, and its base into a register.
     fn put(&mut self, slot: Slot, into: Reg, object: Extent)
         requires mutator { (m : HeapMutator) × HasMutator self.old.roots slot m }
-        requires fits { (placement : Placement) × Fits self.old placement object }
-        ensures { (placement : Placement) → Fits self.old placement object → IsPut self.old slot into placement object self.new }
+        requires fits { (placement : Placement) × MayBePut self.old placement object }
+        ensures { (placement : Placement) → MayBePut self.old placement object → IsPut self.old slot into placement object self.new }
     {
         let start = ((object.base - FIRST_ADDRESS) / WORD_BYTES) as usize;
         fill(&mut self.words, start, object.length as usize, 0);

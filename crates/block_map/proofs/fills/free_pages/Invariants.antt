@@ -1,7 +1,7 @@
 use Rattle.std.proofs.Common.{map}
-use Rattle.block_map.specs.States.{AreAllFree}
+use Rattle.block_map.specs.States.{AreFreePages}
 use Rattle.block_map.specs.Shown.{shown}
 use Rattle.block_map.proofs.fills.free_pages.Given as goal
 
 abbrev pub invariant-loop-k : goal.invariant-loop-k
-invariant-loop-k l = AreAllFree (map shown l.pages.items) l.k
+invariant-loop-k l = AreFreePages (map shown l.pages.items) l.k

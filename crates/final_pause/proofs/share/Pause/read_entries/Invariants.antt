@@ -1,8 +1,8 @@
 use Rattle.mark_bits.specs.Tables.{view}
-use Rattle.final_pause.specs.Serving.{Serves, AreEntriesRead}
+use Rattle.final_pause.specs.Serving.{GoesOnServing, AreEntriesRead}
 use Rattle.final_pause.proofs.share.Pause.read_entries.Given as goal
 
 abbrev pub invariant-loop-i : goal.invariant-loop-i
 invariant-loop-i g l =
-    Serves l.self l.fn.helper l.helper
+    GoesOnServing l.self l.fn.helper l.helper
     × AreEntriesRead l.self (view l.helper.claimer) l.fn.helper.share l.i

@@ -2,12 +2,12 @@ use Rattle.std.proofs.Common.{◌≡◌, ◌+◌, ◌-◌, ◌%◌, ◌≤◌}
 use Rattle.words.specs.declared.limits.TheConstants.{WORD_BYTES}
 use Rattle.words.specs.Layout.{page_start}
 use Rattle.mark_bits.specs.Tables.{view}
-use Rattle.final_pause.specs.Serving.{Serves, AreWordsRead}
+use Rattle.final_pause.specs.Serving.{GoesOnServing, AreWordsRead}
 use Rattle.final_pause.proofs.share.Pause.read_page.Given as goal
 
 abbrev pub invariant-loop-found : goal.invariant-loop-found
 invariant-loop-found g l = record {
-  serves : Serves l.self l.fn.helper l.helper;
+  serves : GoesOnServing l.self l.fn.helper l.helper;
   read : AreWordsRead l.self (view l.helper.claimer) (page_start l.page) l.address;
   from : page_start l.page ≤ l.address;
   within : l.address ≤ page_start (l.page + 1);

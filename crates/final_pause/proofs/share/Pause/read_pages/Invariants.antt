@@ -1,8 +1,8 @@
 use Rattle.mark_bits.specs.Tables.{view}
-use Rattle.final_pause.specs.Serving.{Serves, ArePagesRead}
+use Rattle.final_pause.specs.Serving.{GoesOnServing, ArePagesRead}
 use Rattle.final_pause.proofs.share.Pause.read_pages.Given as goal
 
 abbrev pub invariant-loop-page : goal.invariant-loop-page
 invariant-loop-page g l =
-    Serves l.self l.fn.helper l.helper
+    GoesOnServing l.self l.fn.helper l.helper
     × ArePagesRead l.self (view l.helper.claimer) l.fn.helper.share l.page

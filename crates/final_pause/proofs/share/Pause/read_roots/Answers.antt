@@ -4,7 +4,7 @@ use Rattle.mark_bits.specs.Tables.{view}
 use Rattle.marker.specs.Closure.{root}
 use Rattle.final_pause.specs.declared.helper.Helper.{Helper}
 use Rattle.final_pause.specs.Helping.{IsTargetKnown, found}
-use Rattle.final_pause.specs.Serving.{Serves, AreRootsRead}
+use Rattle.final_pause.specs.Serving.{GoesOnServing, AreRootsRead}
 use Rattle.final_pause.proofs.Growing.{target_more}
 use Rattle.final_pause.proofs.Serving.{serves_more, serves_trans}
 use Rattle.final_pause.proofs.share.Pause.read_roots.Goals as goal
@@ -18,7 +18,7 @@ loop-i-preserved g c =
       | then-i-self w ↦
           let v = w.visit.ensures in
           let h' = w.visit.new.helper in
-          subst (λ (b : Helper). Serves p old b × AreRootsRead p (view b.claimer) old.share (i + 1)) (sym w.helper-is) (
+          subst (λ (b : Helper). GoesOnServing p old b × AreRootsRead p (view b.claimer) old.share (i + 1)) (sym w.helper-is) (
             serves_trans p old h h' inv.0 (record {
               serving = serves_more p c.requires.fits.ready.map (λ n. n ≡ get_or p.roots.now i 0)
                   (λ n is f e. root (Contains-get_or p.roots.now i 0 (let lt = c.loop-i-test.true in omega (arith, lt))) (subst (λ (m : ℕ). found p m ≡ Some f) is e))
@@ -30,7 +30,7 @@ loop-i-preserved g c =
                 (λ j low m. target_more p (view h.claimer) (view h'.claimer) v.extends.learns.known _ (inv.1 j low m)) (λ m. v.target),
           )
       | else-i-self w ↦
-          subst (λ (b : Helper). Serves p old b × AreRootsRead p (view b.claimer) old.share (i + 1)) (sym w.helper-is) (
+          subst (λ (b : Helper). GoesOnServing p old b × AreRootsRead p (view b.claimer) old.share (i + 1)) (sym w.helper-is) (
             inv.0,
             below_more (λ j. j % p.helpers ≡ old.share → IsTargetKnown p (view h.claimer) (get_or p.roots.now j 0)) i
                 (λ j low m. inv.1 j low m) (λ m. absurd (w.if-i-self.false (m ∙ sym inv.0.share))),

@@ -1,8 +1,8 @@
 use Rattle.mark_bits.specs.Tables.{view}
-use Rattle.final_pause.specs.Serving.{Serves, AreRootsRead}
+use Rattle.final_pause.specs.Serving.{GoesOnServing, AreRootsRead}
 use Rattle.final_pause.proofs.share.Pause.read_roots.Given as goal
 
 abbrev pub invariant-loop-i : goal.invariant-loop-i
 invariant-loop-i g l =
-    Serves l.self l.fn.helper l.helper
+    GoesOnServing l.self l.fn.helper l.helper
     × AreRootsRead l.self (view l.helper.claimer) l.fn.helper.share l.i

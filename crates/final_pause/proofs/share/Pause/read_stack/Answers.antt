@@ -2,7 +2,7 @@ use Rattle.std.proofs.Common.{◌≡◌, ◌∙◌, ◌∷◌, [], ℕ, List, So
 use Rattle.std.specs.Prelude.{Contains}
 use Rattle.std.proofs.lemmas.List.Elements.{Contains-append_right}
 use Rattle.final_pause.specs.Helping.{found, ReadsWords}
-use Rattle.final_pause.specs.Serving.{Serves}
+use Rattle.final_pause.specs.Serving.{GoesOnServing}
 use Rattle.final_pause.proofs.Serving.{serves_pop, serves_trans}
 use Rattle.final_pause.proofs.share.Pause.read_stack.Goals as goal
 
@@ -25,6 +25,6 @@ pub offer_lowest-offered-requires : goal.offer_lowest-offered-requires
 offer_lowest-offered-requires g c =
     let p = c.args.self.now in let h = c.loop-base.helper in let f = c.in-Some-find.found in let inv = c.loop-base.invariant in
     let m = record h { stack = c.pop.new.self } in let b = c.read_words.new.helper in
-    let s : Serves p h b = serves_pop p inv.serving.fits.ready.map h m b c.in-Some.base f refl refl refl c.in-Some.ensures.items (sym c.find.ensures.found ∙ c.in-Some-find.is) inv.serving
+    let s : GoesOnServing p h b = serves_pop p inv.serving.fits.ready.map h m b c.in-Some.base f refl refl refl c.in-Some.ensures.items (sym c.find.ensures.found ∙ c.in-Some-find.is) inv.serving
     (subst (λ (n : ℕ). ReadsWords p f 0 n m b) c.from.ensures c.read_words.ensures) in
     λ k r. c.requires.offered.queued k (s.serving.queued k r)

@@ -15,8 +15,8 @@ granule-granule-requires-clause-object g c =
     let p = c.args.self.now in
     at_base (length p.map.now) (found p) c.requires.ready.map c.args.word c.in-Some.found (sym c.find.ensures.found ∙ c.in-Some.is)
 
-pub keep-requires-clause-placed : goal.keep-requires-clause-placed
-keep-requires-clause-placed g c =
+pub queue-requires-clause-placed : goal.queue-requires-clause-placed
+queue-requires-clause-placed g c =
     subst (λ (n : ℕ). IsPlaced n c.in-Some.found) (sym (ap length c.claim.ensures.dirty ∙ c.requires.dirty))
     (c.requires.ready.map.placed c.args.word c.in-Some.found (sym c.find.ensures.found ∙ c.in-Some.is))
 
@@ -33,13 +33,13 @@ returns-then-claim g c =
     let won : List ℕ = (view c.is_set.new.me).won in
     let n : ℕ = c.granule-granule.result in
     let is : n ≡ granule c.in-Some.found.base = c.granule-granule.ensures.value in
-    visit_new c.args.self.now c.args.word c.in-Some.found c.args.helper.now c.claim.new.helper c.keep.new.helper
+    visit_new c.args.self.now c.args.word c.in-Some.found c.args.helper.now c.claim.new.helper c.queue.new.helper
     c.requires.ready.map c.requires.ready.granules (sym c.find.ensures.found ∙ c.in-Some.is) k.of k.stack k.dirty k.share
     (record { parts = k.learns.parts ∙ s.learns.parts; known = λ j e. k.learns.known j (s.learns.known j e) })
     (ap (λ (j : ℕ). knows (view c.claim.new.helper.claimer) j) (sym is) ∙ k.known)
     (ap (λ (j : ℕ). knows (view c.args.helper.now.claimer) j) (sym is) ∙ false_from_ne_true (knows (view c.args.helper.now.claimer) n) (λ e. true≢false (sym (s.known e) ∙ c.if-is_set.false)))
     (k.won ∙ (ap (λ (b : Bool). if b then n ∷ won else won) c.if-claim.true ∙ (ap (λ (j : ℕ). j ∷ won) is ∙ ap (λ (l : List ℕ). granule c.in-Some.found.base ∷ l) s.won)))
-    c.keep.ensures
+    c.queue.ensures
 
 pub returns-else-claim : goal.returns-else-claim
 returns-else-claim g c =

@@ -4,7 +4,7 @@ use Rattle.std.proofs.lemmas.List.{with_items_is}
 use Rattle.words.specs.declared.limits.TheConstants.{PAGE_GRANULES}
 use Rattle.roots.specs.Roots.{HasMutator}
 use Rattle.plain_core.specs.Contents.{Contents}
-use Rattle.plain_core.specs.Answering.{Fits}
+use Rattle.plain_core.specs.Answering.{MayBePut}
 use Rattle.plain_core.proofs.Alloc.{pushed_items, place_from, IsZeroed, room_left, fits_row, alloc_sound, puts}
 use Rattle.plain_core.proofs.plain.Core.put.Goals as goal
 
@@ -13,12 +13,12 @@ overflow_sub-start c = place_from _ _ c.requires.fits.0 _ _ c.requires.fits.1.pl
 
 pub fill-requires : goal.fill-requires
 fill-requires c =
-    let fits = subst (λ (x : Contents). Fits x c.requires.fits.0 c.args.object) (sym c.self.view_is) c.requires.fits.1 in
+    let fits = subst (λ (x : Contents). MayBePut x c.requires.fits.0 c.args.object) (sym c.self.view_is) c.requires.fits.1 in
     rw c.deref_mut.ensures.value (fits_row _ c.requires.fits.0 c.args.object.kind c.args.object c.self.invariant.0 fits.sized fits.size fits.place)
 
 pub invariant_of-self : goal.invariant_of-self
 invariant_of-self c =
-    let fits = subst (λ (x : Contents). Fits x c.requires.fits.0 c.args.object) (sym c.self.view_is) c.requires.fits.1 in
+    let fits = subst (λ (x : Contents). MayBePut x c.requires.fits.0 c.args.object) (sym c.self.view_is) c.requires.fits.1 in
     let left : length c.self.inside.objects.items < PAGE_GRANULES * c.self.inside.pages = room_left _ c.requires.fits.0 c.args.object.kind c.args.object c.self.invariant.0 fits.sized fits.size fits.place in
     let spare : PAGE_GRANULES * c.self.inside.pages ≤ vec_capacity c.self.inside.objects = c.self.invariant.1 in
     let long : length c.fill.new.row ≡ length c.self.inside.words.items = c.fill.auto.row ∙ ap length c.deref_mut.ensures.value in (
