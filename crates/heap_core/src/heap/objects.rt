@@ -97,6 +97,7 @@ impl Core {
     /// # Errors
     /// [`Refusal::NoSlot`] if the slot has no mutator, else [`Refusal::BadSize`] for a request of no words or of more than
     /// the limit, and else [`Refusal::Full`] exactly if no address has room.
+    #[inline(always)]
     pub fn alloc(&mut self, slot: Slot, into: Reg, words: u64, kind: Kind) -> Result<(), Refusal>
         ensures { IsCall self.old (Event.Mutator slot (Call.Alloc into words kind)) (done_reply result) self.new }
     {
@@ -119,6 +120,7 @@ impl Core {
     /// # Errors
     /// [`Refusal::NoSlot`] if the slot has no mutator, else [`Refusal::NoObject`] if the word points into no object, and
     /// else [`Refusal::NotBase`] if it isn't the object's base.
+    #[inline(always)]
     pub fn free(&mut self, slot: Slot, reg: Reg) -> Result<(), Refusal>
         ensures { IsCall self.old (Event.Mutator slot (Call.Free reg)) (done_reply result) self.new }
     {
