@@ -8,17 +8,17 @@ use std::sync::Wait;
 use std::test::Fail;
 use std::thread::Threads;
 
-/// Its first mutator fills four pages.
+// Its first mutator fills four pages.
 const WORKLOAD: &str =
     "attach\nattach\n0 set 1 5\n1 get 1\ngc no\ngc begin\ngc finish\n0 get 1\n0 alloc 2 1537 normal\n0 alloc 3 1 normal\n";
 
 const REPLIES: &str = "mutator 0\nok\n5\nok\nrefused 6 Full\nmutator 1\n0\ncollector\n0\nok\n0\n";
 
-/// The text was made by a program of its own in another language, over the generator's published rule.
+// The text was made by a program of its own in another language, over the generator's published rule.
 const SEED_7: &str =
     "attach\ngc sweep\n0 pop 4\ngc begin\n0 pop 10\n0 alloc 1 31 normal\n0 store 7 2 11\n";
 
-/// A workload in a file, with helpers and without, a bad line in its place, and a file that isn't there.
+// A workload in a file, with helpers and without, a bad line in its place, and a file that isn't there.
 fn check_workloads<'a, R: Abort + Files + AllocGlobal + Threads + Wait + Sync>(
     rt: &R,
     path: &'a str,

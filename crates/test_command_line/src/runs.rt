@@ -11,7 +11,7 @@ use std::sync::Wait;
 use std::test::Fail;
 use std::thread::Threads;
 
-/// It fills four pages: one with cells, and three with a large object.
+// It fills four pages: one with cells, and three with a large object.
 const SCRIPT: &str =
     "attach\n0 alloc 1 3 normal\n0 set 2 77\n0 store 1 0 2\n0 load 3 1 0\n0 alloc 4 1025 normal\n0 alloc 5 257 normal\n";
 
@@ -104,7 +104,7 @@ fn a_write_fault_ends_with_status_1(rt: HostRuntime) {
     assert_eq!(rt; status, 1);
 }
 
-/// A writer of errors that fails changes nothing else.
+// A writer of errors that fails changes nothing else.
 #[test]
 fn a_fault_that_cannot_be_told(rt: HostRuntime) {
     let mut input = Std::new("attach\n?\n".as_bytes());
@@ -115,51 +115,120 @@ fn a_fault_that_cannot_be_told(rt: HostRuntime) {
     assert_eq!(rt; status, 2);
 }
 
-/// Words that are of no row of the table, and neither the input nor a file is read.
+// Words that are of no row of the table.
+const BAD_COMMANDS: [&[&str]; 27] = [
+    &[],
+    &["run"],
+    &["walk", "--pages", "4"],
+    &["run", "--pages"],
+    &["run", "--pages", "four"],
+    &["run", "--pages", ""],
+    &["run", "--pages", "0"],
+    &["run", "--pages", "04"],
+    &["run", "--pages", "+4"],
+    &["run", "--pages", "1025"],
+    &["run", "--pages", "18446744073709551616"],
+    &["run", "--pages", "4", "--pages", "4"],
+    &["run", "--pages", "4", "a", "b"],
+    &["run", "--page", "4"],
+    &["--help"],
+    &["help"],
+    &["run", "--help"],
+    &["--version"],
+    &["threads"],
+    &["threads", "--pages", "4"],
+    &["threads", "file"],
+    &["threads", "--pages", "0", "file"],
+    &["threads", "--pages", "4", "--helpers", "0", "file"],
+    &["stress", "--seed", "1", "--mutators", "2"],
+    &[
+        "stress",
+        "--seed",
+        "18446744073709551616",
+        "--mutators",
+        "1",
+        "--steps",
+        "0",
+    ],
+    &["stress", "--seed", "1", "--mutators", "17", "--steps", "0"],
+    &[
+        "stress",
+        "--seed",
+        "1",
+        "--mutators",
+        "1",
+        "--steps",
+        "100001",
+    ],
+];
+
+// Neither the input nor a file is read.
 #[test]
 fn bad_commands(rt: HostRuntime) {
-    let commands: [&[&str]; 26] = [
-        &[],
-        &["run"],
-        &["walk", "--pages", "4"],
-        &["run", "--pages"],
-        &["run", "--pages", "four"],
-        &["run", "--pages", ""],
-        &["run", "--pages", "0"],
-        &["run", "--pages", "04"],
-        &["run", "--pages", "+4"],
-        &["run", "--pages", "1025"],
-        &["run", "--pages", "4097"],
-        &["run", "--pages", "4", "--pages", "4"],
-        &["run", "--pages", "4", "a", "b"],
-        &["run", "--page", "4"],
-        &["--help"],
-        &["help"],
-        &["run", "--help"],
-        &["--version"],
-        &["threads"],
-        &["threads", "--pages", "4"],
-        &["threads", "file"],
-        &["threads", "--pages", "0", "file"],
-        &["threads", "--pages", "4", "--helpers", "0", "file"],
-        &["stress", "--seed", "1", "--mutators", "2"],
-        &["stress", "--seed", "1", "--mutators", "17", "--steps", "0"],
-        &[
-            "stress",
-            "--seed",
-            "1",
-            "--mutators",
-            "1",
-            "--steps",
-            "100001",
-        ],
-    ];
-    for words in commands {
+    for words in BAD_COMMANDS {
         check(&rt, words, &mut Broken::new(), ("", "bad command\n", 2));
     }
 }
 
-/// A file in the place of the input, a file that isn't there, and a directory.
+// What the 16 mutators of a random script without further lines say.
+const ATTACHES: &str =
+    "attach\nattach\nattach\nattach\nattach\nattach\nattach\nattach\nattach\nattach\nattach\nattach\nattach\nattach\nattach\nattach\n";
+
+// The least and the greatest numbers are taken.
+const LIMITS: [(&[&str], &str); 3] = [
+    (&["run", "--pages", "1"], ""),
+    (&["run", "--pages", "1024"], ""),
+    (
+        &[
+            "stress",
+            "--seed",
+            "18446744073709551615",
+            "--mutators",
+            "16",
+            "--steps",
+            "0",
+        ],
+        ATTACHES,
+    ),
+];
+
+#[test]
+fn limits_are_taken(rt: HostRuntime) {
+    for (words, wanted) in LIMITS {
+        let mut input = Std::new("".as_bytes());
+        check(&rt, words, &mut input, (wanted, "", 0));
+    }
+}
+
+// As many lines as a random script may have, behind the attach of its one mutator.
+#[test]
+fn all_steps_are_written(rt: HostRuntime) {
+    let words = [
+        "stress",
+        "--seed",
+        "1",
+        "--mutators",
+        "1",
+        "--steps",
+        "100000",
+    ];
+    let mut input = Broken::new();
+    let mut output = Std::new(Vec::<u8>::new(rt.alloc()));
+    let mut errors = Std::new(Vec::<u8>::new(rt.alloc()));
+    let status = program(
+        rt.alloc(),
+        &rt,
+        &words,
+        &mut input,
+        &mut output,
+        &mut errors,
+    );
+    let text = output.inner.as_slice();
+    assert_eq!(rt; text.iter().filter(|byte| **byte == b'\n').count(), 100_001);
+    assert_eq!(rt; status, 0);
+}
+
+// A file in the place of the input, a file that isn't there, and a directory.
 fn check_files<R: Abort + Files + AllocGlobal + Threads + Wait + Sync>(rt: &R, path: &str) {
     let rows = [
         (path, REPLIES, "", 0u8),
@@ -181,8 +250,8 @@ fn files(rt: HostRuntime) -> Result<(), Fail> {
     Ok(())
 }
 
-/// Where memory is refused, at whichever request, nothing was written, and where none is refused, all is. By itself this
-/// runs with ample memory; `rt try --test --fail-alloc N` refuses the N-th request.
+// Where memory is refused, at whichever request, nothing was written, and where none is refused, all is. By itself this
+// runs with ample memory; `rt try --test --fail-alloc N` refuses the N-th request.
 #[test]
 fn refused_memory(rt: HostRuntime) -> Result<(), Fail> {
     let mut input = Std::new(SCRIPT.as_bytes());

@@ -99,14 +99,30 @@ fn is_read_on_after(
     is_read_on(rt, &mut scene, read, words, kind)
 }
 
+// The lengths and kinds of new objects.
+const NEW_OBJECTS: [(u64, Kind); 8] = [
+    (2, Kind::Normal),
+    (2, Kind::PointerFree),
+    (6, Kind::Normal),
+    (6, Kind::PointerFree),
+    (96, Kind::Normal),
+    (96, Kind::PointerFree),
+    (256, Kind::Normal),
+    (256, Kind::PointerFree),
+];
+
+// The same for each of them.
+fn each_is_read_on_after(rt: &impl Abort, alloc: Global, read: u64) -> Result<(), Fail> {
+    for (words, kind) in NEW_OBJECTS {
+        is_read_on_after(rt, alloc, read, words, kind)?;
+    }
+    Ok(())
+}
+
 #[test]
 fn an_entry_is_read_on_in_a_new_object(rt: HostRuntime) -> Result<(), Fail> {
     for read in [0, 1, 5, 100, 257, 300] {
-        for words in [2, 6, 96, 256] {
-            for kind in [Kind::Normal, Kind::PointerFree] {
-                is_read_on_after(&rt, rt.alloc(), read, words, kind)?;
-            }
-        }
+        each_is_read_on_after(&rt, rt.alloc(), read)?;
     }
     Ok(())
 }

@@ -1,10 +1,11 @@
 //! What words point into, against the objects that were put into the map.
+use crate::walking::assert_walks;
 use block_map::{BlockMap, Found};
 use fixtures::BlockSpace;
 use std::alloc::Global;
 use std::process::Abort;
 use std::test::Fail;
-use words::limits::{FIRST_ADDRESS, PAGE_BYTES, PAGE_GRANULES, PAGE_WORDS};
+use words::limits::{FIRST_ADDRESS, PAGE_GRANULES, PAGE_WORDS};
 use words::{Kind, PageNo, granule_of, page_start};
 
 // The object in a cell of so many words.
@@ -30,8 +31,8 @@ fn large(page: PageNo, pages: u16, kind: Kind) -> Found {
     }
 }
 
-// The address behind an object.
-fn end_of(found: &Found) -> u64 {
+/// The address behind an object.
+pub(crate) fn end_of(found: &Found) -> u64 {
     found.base.wrapping_add(8 * u64::from(found.len))
 }
 
@@ -73,36 +74,6 @@ fn assert_finds(rt: &impl Abort, map: &BlockMap, objects: &[Found]) {
         u64::MAX,
     ] {
         assert_eq!(rt; map.find(w), read_by(objects, w), "at {w}");
-    }
-}
-
-// The first object that has a word of a page from an address on, which lies on the page.
-fn next_from(map: &BlockMap, page: PageNo, from: u64) -> Option<Found> {
-    if page >= map.len() || from < page_start(page) {
-        return None;
-    }
-    map.next_on_page(page, from)
-}
-
-// A page gives the objects that have a word of it, in their order. The objects are given in that order.
-fn assert_walks_page(rt: &impl Abort, map: &BlockMap, objects: &[Found], page: PageNo) {
-    let start = page_start(page);
-    let mut from = start;
-    for found in objects {
-        let end = end_of(found);
-        if found.base < start.wrapping_add(PAGE_BYTES) && start < end {
-            let next = next_from(map, page, from);
-            assert_eq!(rt; next, Some(*found), "page {page} from {from}");
-            from = from.max(end);
-        }
-    }
-    assert_eq!(rt; next_from(map, page, from), None, "page {page} from {from}");
-}
-
-// So does each page.
-fn assert_walks(rt: &impl Abort, map: &BlockMap, objects: &[Found]) {
-    for page in 0..map.len() {
-        assert_walks_page(rt, map, objects, page);
     }
 }
 
@@ -172,48 +143,48 @@ fn assert_rows(rt: &impl Abort, map: &BlockMap, table: &[(u64, Option<Found>)]) 
     }
 }
 
+// What words point into where nothing was put.
+const NOTHING_PUT: [(u64, Option<Found>); 4] = [
+    (0, None),
+    (268_435_455, None),
+    (268_439_488, None),
+    (u64::MAX, None),
+];
+
+const CELL: Found = Found {
+    base: 268_439_488,
+    len: 6,
+    kind: Kind::Normal,
+    page: 0,
+    cell: 84,
+};
+
+const LARGE: Found = Found {
+    base: 268_439_552,
+    len: 1_024,
+    kind: Kind::PointerFree,
+    page: 1,
+    cell: 0,
+};
+
+// What words point into where these two were put.
+const BOTH_PUT: [(u64, Option<Found>); 9] = [
+    (268_439_487, None),
+    (268_439_488, Some(CELL)),
+    (268_439_535, Some(CELL)),
+    (268_439_536, None),
+    (268_439_551, None),
+    (268_439_552, Some(LARGE)),
+    (268_443_648, Some(LARGE)),
+    (268_447_743, Some(LARGE)),
+    (268_447_744, None),
+];
+
 fn table_of_addresses(rt: &impl Abort, space: &mut BlockSpace) {
-    assert_rows(
-        rt,
-        space.map(),
-        &[
-            (0, None),
-            (268_435_455, None),
-            (268_439_488, None),
-            (u64::MAX, None),
-        ],
-    );
+    assert_rows(rt, space.map(), &NOTHING_PUT);
     assert!(rt; cut_with(space, 0, 6, Kind::Normal, &[84]));
-    let cell = Some(Found {
-        base: 268_439_488,
-        len: 6,
-        kind: Kind::Normal,
-        page: 0,
-        cell: 84,
-    });
     assert!(rt; space.cut_large(1, 2, Kind::PointerFree));
-    let object = Some(Found {
-        base: 268_439_552,
-        len: 1_024,
-        kind: Kind::PointerFree,
-        page: 1,
-        cell: 0,
-    });
-    assert_rows(
-        rt,
-        space.map(),
-        &[
-            (268_439_487, None),
-            (268_439_488, cell),
-            (268_439_535, cell),
-            (268_439_536, None),
-            (268_439_551, None),
-            (268_439_552, object),
-            (268_443_648, object),
-            (268_447_743, object),
-            (268_447_744, None),
-        ],
-    );
+    assert_rows(rt, space.map(), &BOTH_PUT);
 }
 
 #[test]

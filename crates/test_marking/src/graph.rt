@@ -35,6 +35,15 @@ fn set(row: &mut [bool], i: usize) -> bool {
     true
 }
 
+// Marks those that are given.
+fn mark_given(reached: &mut [bool], given: &[bool]) {
+    for i in 0..given.len() {
+        if given[i] {
+            let _ = set(reached, i);
+        }
+    }
+}
+
 // Follows each arrow once. Answers whether an object was reached anew.
 fn spread(arrows: &[(usize, usize)], reached: &mut [bool]) -> bool {
     let mut is_more = false;
@@ -110,6 +119,15 @@ impl Graph {
         Ok(arrows)
     }
 
+    // Marks what the roots point into.
+    fn mark_roots(&self, reached: &mut [bool], roots: &[u64]) {
+        for root in roots {
+            if let Some(i) = pointed_to(self.objects.as_slice(), *root) {
+                let _ = set(reached, i);
+            }
+        }
+    }
+
     /// Which objects are in the closure of those that are given and those that the roots point into.
     pub(crate) fn closure(
         &self,
@@ -117,20 +135,12 @@ impl Graph {
         given: &[bool],
         roots: &[u64],
     ) -> Result<Vec<bool>, Fail> {
-        let objects = self.objects.as_slice();
+        let count = self.objects.len();
         let arrows = self.arrows(alloc)?;
-        let mut reached = vec![in alloc; false; objects.len()]?;
-        for i in 0..given.len() {
-            if given[i] {
-                let _ = set(reached.as_mut_slice(), i);
-            }
-        }
-        for root in roots {
-            if let Some(i) = pointed_to(objects, *root) {
-                let _ = set(reached.as_mut_slice(), i);
-            }
-        }
-        for _ in 0..objects.len() {
+        let mut reached = vec![in alloc; false; count]?;
+        mark_given(reached.as_mut_slice(), given);
+        self.mark_roots(reached.as_mut_slice(), roots);
+        for _ in 0..count {
             if !spread(arrows.as_slice(), reached.as_mut_slice()) {
                 break;
             }

@@ -28,3 +28,5 @@ mod shares;
 mod steps;
 #[cfg(test)]
 mod stores;
+#[cfg(test)]
+mod walking;

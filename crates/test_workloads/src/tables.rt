@@ -19,18 +19,12 @@ pub struct Repeated {
 }
 
 /// Rows of every part.
-pub const ROWS: [Row; 14] = [
+pub const ROWS: [Row; 13] = [
     Row {
         name: "empty_input",
         pages: 4,
         script: "",
         replies: "",
-    },
-    Row {
-        name: "first_run",
-        pages: 4,
-        script: "attach\n0 alloc 1 3 normal\n0 set 2 77\n0 store 1 0 2\n0 load 3 1 0\n",
-        replies: "mutator 0\nok\nok\nok\n77\n",
     },
     Row {
         name: "store_and_load",
