@@ -1,5 +1,5 @@
 -- What is closed and then forgotten.
-use Rattle.std.proofs.Common.{◌≡◌, ℕ, ◌⊎◌, ⊎_elim, subst, sym, refl, ◌∙◌, Bool, true, false, List, get_or, Option, Some}
+use Rattle.std.proofs.Common.{◌≡◌, ℕ, ◌⊎◌, ⊎_elim, subst, sym, refl, ◌∙◌, Bool, true, false, List, get_or, Option}
 use Rattle.std.proofs.lemmas.Bool.{false≢true}
 use Rattle.words.specs.Bits.{Has}
 use Rattle.words.specs.Layout.{granule}

@@ -1,4 +1,4 @@
-use Rattle.std.proofs.Common.{length, refl, arith}
+use Rattle.std.proofs.Common.{refl, arith}
 use Rattle.plain_core.proofs.Collects.{sound_apart, lie_in, all_lie, collects, marks_are, room_for, room_kept}
 use Rattle.plain_core.proofs.Free.{rest_sound}
 use Rattle.plain_core.proofs.plain.Core.collect.Goals as goal

@@ -1,4 +1,4 @@
-use Rattle.std.proofs.Common.{length, refl, subst, arith}
+use Rattle.std.proofs.Common.{refl, subst, arith}
 use Rattle.plain_core.specs.Parting.{Parts}
 use Rattle.plain_core.proofs.Collects.{sound_apart, lie_in, all_lie, collects, marks_are, room_for, room_kept}
 use Rattle.plain_core.proofs.plain.Core.count_unreached.Goals as goal

@@ -1,5 +1,4 @@
-use Rattle.std.proofs.Common.{sym, ap, subst, ◌∙◌, false, [], ◌∷◌, ◌++◌}
-use Rattle.std.specs.Prelude.{slice_index_or}
+use Rattle.std.proofs.Common.{sym, ap, subst, ◌∙◌, [], ◌∷◌, ◌++◌}
 use Rattle.history.specs.Histories.{event}
 use Rattle.history.specs.declared.view.Known.{Known}
 use Rattle.shared_register.specs.declared.register.Call.{Call}
