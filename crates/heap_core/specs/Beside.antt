@@ -1,14 +1,9 @@
 -- What calls of mutators tell the marker, while a cycle is marking.
-use Rattle.std.specs.Prelude.{◌≡◌, ◌≢◌, ℕ, ◌⊎◌, Bool, true, false, slice_index_or, List, length, Option, Some}
+use Rattle.std.specs.Prelude.{◌≡◌, ◌≢◌, ℕ, ◌⊎◌, Bool, true, false, slice_index_or, length}
 use Rattle.words.specs.Bits.{Has}
 use Rattle.words.specs.Layout.{granule, page_of}
-use Rattle.pages.specs.Memory.{with_word_at}
-use Rattle.block_map.specs.declared.found.Found.{Found}
-use Rattle.block_map.specs.Changes.{IsAdded}
-use Rattle.block_map.specs.Objects.{IsMap}
 use Rattle.marker.specs.Marking.{Marking, IsMarked}
-use Rattle.marker.specs.Invariant.{DirtyPageInvariant}
-use Rattle.marker.specs.Mutations.{KeepsWords, HasZeroWords}
+use Rattle.marker.specs.Mutations.{StaysOnWrite, StaysOnAllocation}
 
 -- A word was written at the address: while a cycle is marking its page has become dirty, no other has, and the invariant stays.
 pub record NotesWrite (is_marking : Bool) (address : ℕ) (old new : Marking) : Type 0 where
@@ -19,7 +14,7 @@ pub record NotesWrite (is_marking : Bool) (address : ℕ) (old new : Marking) : 
   pub stays_dirty : (p : ℕ) → Has old.dirty p → Has new.dirty p
   pub current : new.current ≡ old.current
   pub stack : new.stack ≡ old.stack
-  pub keeps : is_marking ≡ true → (found : ℕ → Option Found) (words : List ℕ) (w : ℕ) → DirtyPageInvariant found words old → DirtyPageInvariant found (with_word_at words address w) new
+  pub keeps : is_marking ≡ true → StaysOnWrite address old new
 
 -- An object of zero words came at the base: it at most has become marked, and the invariant stays.
 pub record NotesObject (is_marking : Bool) (base : ℕ) (old new : Marking) : Type 0 where
@@ -30,5 +25,4 @@ pub record NotesObject (is_marking : Bool) (base : ℕ) (old new : Marking) : Ty
   pub dirty : new.dirty ≡ old.dirty
   pub current : new.current ≡ old.current
   pub stack : new.stack ≡ old.stack
-  pub keeps : is_marking ≡ true → (pages : ℕ) (found after : ℕ → Option Found) (words words' : List ℕ) (f : Found) → f.base ≡ base → IsMap pages after → after base ≡ Some f → IsAdded found after f → KeepsWords found words words' → HasZeroWords words' f
-      → DirtyPageInvariant found words old → DirtyPageInvariant after words' new
+  pub keeps : is_marking ≡ true → StaysOnAllocation base old new

@@ -12,7 +12,7 @@ use Rattle.heap_spec.specs.declared.reply.Reply.{Reply}
 use Rattle.heap_spec.specs.Runs.{fresh, heap_after, marking_after, is_marking}
 use Rattle.heap_history.specs.Ranks.{rank_of, rank_of_call}
 use Rattle.heap_spec.specs.SequentialObject.{HeapState, heap_of, Opens, StateStep}
-use Rattle.heap_history.specs.Passes.{Entry, HeapPass, IsFine, begins_with_attach, marking_from, is_marking as marks}
+use Rattle.heap_history.specs.Passes.{Entry, HeapPass, IsLegalPass, begins_with_attach, marking_from, is_marking as marks}
 use Rattle.heap_history.proofs.Slots.{is_attached, is_there, step_other, step_here}
 
 step_live : (s u : HeapState) (e : Entry) (who : ℕ) (b : Bool) → who < 16 → StateStep s e.who e.call e.reply u → is_attached (heap_of s) who ≡ b → Dec (e.who ≡ who) → is_attached (heap_of u) who ≡ cond (e.who == who) (not (is_last (rank_of e.call))) b
@@ -162,7 +162,7 @@ walks_begins s t [] mine who lt w before on = before (ap (λ (x : HeapState). is
 walks_begins s t (e ∷ es) mine who lt w before on = walks_begins w.0 t es (own_with rank_of who mine e) who lt w.2 (step_begins s w.0 e who mine lt w.1 before (ℕ_discrete e.who who)) on
 
 -- a mutator's own events begin with its attach
-pub mine_begins : (pages : ℕ) (pass : HeapPass) → IsFine pages pass → pass.slot < 16 → begins_with_attach pass.mine ≡ true
+pub mine_begins : (pages : ℕ) (pass : HeapPass) → IsLegalPass pages pass → pass.slot < 16 → begins_with_attach pass.mine ≡ true
 mine_begins pages pass fine lt =
     let r = fine.legal.1 in
     ap begins_with_attach fine.owned.own_is

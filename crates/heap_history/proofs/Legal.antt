@@ -5,7 +5,7 @@ use Rattle.heap_spec.specs.Runs.{Moment, Told, Run, fresh}
 use Rattle.heap_spec.specs.Histories.{IsRun, LegalHistory}
 use Rattle.heap_spec.specs.SequentialObject.{HeapState, StateStep}
 use Rattle.history.specs.Histories.{Walks}
-use Rattle.heap_history.specs.Passes.{Entry, HeapPass, IsFine}
+use Rattle.heap_history.specs.Passes.{Entry, HeapPass, IsLegalPass}
 use Rattle.heap_history.specs.Laws.{tells}
 use Rattle.heap_history.proofs.Stored.{reached_fresh}
 
@@ -19,7 +19,7 @@ walks_tell s t (e ∷ es) w =
     let goes = w.1.goes in
     (rest.0 ∙ ap (λ (x : HeapState). x.pages) goes, rest.1 ∙ ap (λ (x : HeapState). tells (told x.run) es) goes)
 
-pub seen_is_legal : (pages : ℕ) (pass : HeapPass) → IsFine pages pass → LegalHistory pages (tells [] pass.seen)
+pub seen_is_legal : (pages : ℕ) (pass : HeapPass) → IsLegalPass pages pass → LegalHistory pages (tells [] pass.seen)
 seen_is_legal pages pass fine =
     let t = fine.legal.0 in
     let reached = fine.legal.1 in

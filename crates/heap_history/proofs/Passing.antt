@@ -9,7 +9,7 @@ use Rattle.heap_spec.specs.Heap.{Mutator as HeapMutator, IsAttached, IsVacant}
 use Rattle.heap_spec.specs.Runs.{fresh, is_marking}
 use Rattle.heap_spec.specs.SequentialObject.{HeapState, heap_of, Opens, StateStep}
 use Rattle.heap_history.specs.Ranks.{rank_of}
-use Rattle.heap_history.specs.Passes.{Entry, HeapPass, IsFine, is_marking as marks}
+use Rattle.heap_history.specs.Passes.{Entry, HeapPass, IsLegalPass, is_marking as marks}
 use Rattle.heap_history.specs.Headline.{Begun}
 use Rattle.heap_history.proofs.Slots.{is_there, found, attach_is}
 use Rattle.heap_history.proofs.Chains.{attached_live, marking_own, count_own}
@@ -32,7 +32,7 @@ own_count seen mine slot e o l = sym (count_own seen l) ∙ ap (count rank_of) (
 
 -- an attach gives a pass whose own events begin with it
 pub begun : {pages : ℕ} → (s t : HeapState) (log log2 : List Entry) (who : ℕ) (reply : Reply) (pass : HeapPass) → StateStep s who Attach reply t → is_live rank_of who log ≡ false → log2 ≡ log ++ event who Attach reply ∷ []
-    → pass ≡ record { slot = who; seen = log2; mine = event who Attach reply ∷ [] } → IsFine pages pass → Begun pages pass
+    → pass ≡ record { slot = who; seen = log2; mine = event who Attach reply ∷ [] } → IsLegalPass pages pass → Begun pages pass
 begun {pages = pages} s t log log2 who reply pass step spent log_is pass_is fine =
     let said = (attach_is (heap_of s) who step.fits.1 step.happens).0 in
     subst (λ (p : HeapPass). Begun pages p) (sym pass_is) (record {
@@ -40,5 +40,5 @@ begun {pages = pages} s t log log2 who reply pass step spent log_is pass_is fine
       spent = spent;
       seen = log_is ∙ ap (λ r. log ++ event who Attach r ∷ []) said;
       mine = ap (λ r. event who Attach r ∷ []) said;
-      fine = subst (λ (p : HeapPass). IsFine pages p) pass_is fine;
+      fine = subst (λ (p : HeapPass). IsLegalPass pages p) pass_is fine;
     })

@@ -32,6 +32,6 @@ pub record Makes (pages : ℕ) (old : HeapPass) (call : Call) (reply : Reply) (n
 
 -- A call of the collector in one phase alone, which the collector's own events tell: granted exactly in that phase it is an event, and
 -- refused it is none.
-abbrev pub IsGrantedByMine : {A : Type 0} → Bool → ℕ → HeapPass → Event → (A → Reply) → Result A Refusal → HeapPass → Type 0
-IsGrantedByMine phase pages old asked told (Ok x) new = (is_marking old.mine ≡ phase) × Extends pages old asked (told x) new
-IsGrantedByMine phase pages old asked told (Err refusal) new = (is_marking old.mine ≡ not phase) × (refusal ≡ WrongPhase) × Looks pages old new
+abbrev pub IsGrantedByOwnEvents : {A : Type 0} → Bool → ℕ → HeapPass → Event → (A → Reply) → Result A Refusal → HeapPass → Type 0
+IsGrantedByOwnEvents phase pages old asked told (Ok x) new = (is_marking old.mine ≡ phase) × Extends pages old asked (told x) new
+IsGrantedByOwnEvents phase pages old asked told (Err refusal) new = (is_marking old.mine ≡ not phase) × (refusal ≡ WrongPhase) × Looks pages old new

@@ -13,7 +13,7 @@ use Rattle.heap_spec.specs.Histories.{LegalHistory}
 use Rattle.words.specs.declared.limits.TheConstants.{SLOTS, WORD_BYTES}
 use Rattle.words.specs.declared.class.Kind.{Kind}
 use Rattle.heap_history.specs.Ranks.{rank_of}
-use Rattle.heap_history.specs.Passes.{Entry, HeapPass, IsFine, begins_with_attach}
+use Rattle.heap_history.specs.Passes.{Entry, HeapPass, IsLegalPass, begins_with_attach}
 use Rattle.heap_history.specs.Headline.{Makes}
 
 -- what these events tell after those that were told, the newest first
@@ -23,7 +23,7 @@ tells told (e ∷ es) = tells (record { event = e.call; reply = e.reply } ∷ to
 
 -- What a pass has seen is a legal history: some run of a new heap of so many pages tells it.
 abbrev pub SeenIsLegal : Type 0
-SeenIsLegal = (pages : ℕ) (pass : HeapPass) → IsFine pages pass → LegalHistory pages (tells [] pass.seen)
+SeenIsLegal = (pages : ℕ) (pass : HeapPass) → IsLegalPass pages pass → LegalHistory pages (tells [] pass.seen)
 
 -- a call that frees no object
 abbrev pub IsNoFreeCall : Call → Type 0
@@ -120,7 +120,7 @@ OwnObjectsApart = (pages d n a d' n' b : ℕ) (kind kind' : Kind) (start made to
 
 -- A mutator's own events begin with its attach.
 abbrev pub MineBegins : Type 0
-MineBegins = (pages : ℕ) (pass : HeapPass) → IsFine pages pass → pass.slot < SLOTS → begins_with_attach pass.mine ≡ true
+MineBegins = (pages : ℕ) (pass : HeapPass) → IsLegalPass pages pass → pass.slot < SLOTS → begins_with_attach pass.mine ≡ true
 
 -- What a pass sees has at least as many collections as what it had seen.
 abbrev pub CountGrows : Type 0

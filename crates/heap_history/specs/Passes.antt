@@ -21,8 +21,8 @@ HeapPass = Known Event Reply
 
 -- What holds of a pass between any two calls: what it has seen is a legal history of a heap of so many pages, in which its own events
 -- are exactly those of its slot since its attach.
-abbrev pub IsFine : ℕ → HeapPass → Type 0
-IsFine pages pass = Agrees rank_of (Opens pages) StateStep pass
+abbrev pub IsLegalPass : ℕ → HeapPass → Type 0
+IsLegalPass pages pass = Agrees rank_of (Opens pages) StateStep pass
 
 -- whether a cycle is marking after these events, from whether one was before
 abbrev pub marking_from : Bool → List Entry → Bool

@@ -1,9 +1,12 @@
 -- What mutators do to a heap that is being marked.
 use Rattle.std.specs.Prelude.{◌≡◌, ℕ, ◌<◌, true, false, List, slice_set, Option, Some}
 use Rattle.words.specs.Layout.{granule, page_of}
-use Rattle.pages.specs.Memory.{word_at}
+use Rattle.pages.specs.Memory.{word_at, with_word_at}
 use Rattle.block_map.specs.declared.found.Found.{Found}
+use Rattle.block_map.specs.Objects.{IsMap}
+use Rattle.block_map.specs.Changes.{IsAdded, IsRemoved}
 use Rattle.marker.specs.Marking.{Marking, word_address}
+use Rattle.marker.specs.Invariant.{DirtyPageInvariant}
 
 -- the page of the address has become dirty
 pub record DirtiesPage (address : ℕ) (old new : Marking) : Type 0 where
@@ -37,3 +40,19 @@ KeepsWords found words words' = (f : Found) (i : ℕ) → found f.base ≡ Some 
 -- the words of this object are 0
 abbrev pub HasZeroWords : List ℕ → Found → Type 0
 HasZeroWords words f = (i : ℕ) → i < f.len → word_at words (word_address f i) ≡ 0
+
+-- the invariant stays, whatever is written at the address
+abbrev pub StaysOnWrite : ℕ → Marking → Marking → Type 0
+StaysOnWrite address old new = (found : ℕ → Option Found) (words : List ℕ) (w : ℕ) → DirtyPageInvariant found words old → DirtyPageInvariant found (with_word_at words address w) new
+
+-- the invariant stays when an object of zero words comes at the base
+abbrev pub StaysOnAllocation : ℕ → Marking → Marking → Type 0
+StaysOnAllocation base old new = (pages : ℕ) (found after : ℕ → Option Found) (words words' : List ℕ) (f : Found) → f.base ≡ base → IsMap pages after → after base ≡ Some f
+    → IsAdded found after f → KeepsWords found words words' → HasZeroWords words' f
+    → DirtyPageInvariant found words old → DirtyPageInvariant after words' new
+
+-- the invariant stays when the object with the base leaves
+abbrev pub StaysOnFree : ℕ → Marking → Marking → Type 0
+StaysOnFree base old new = (pages : ℕ) (found after : ℕ → Option Found) (words words' : List ℕ) (f : Found) → f.base ≡ base → IsMap pages found → found base ≡ Some f
+    → IsRemoved found after f → KeepsWords after words words'
+    → DirtyPageInvariant found words old → DirtyPageInvariant after words' new

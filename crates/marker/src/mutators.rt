@@ -1,14 +1,11 @@
 //! What mutators owe to a marker that runs beside them.
-ghost use Rattle.std.specs.Prelude.{◌≡◌, ℕ, Option, Some, ◌<◌, ◌≤◌, List, length};
+ghost use Rattle.std.specs.Prelude.{◌≡◌, ℕ, Option, Some, ◌<◌, ◌≤◌, length};
 ghost use Rattle.words.specs.declared.limits.TheConstants.{FIRST_ADDRESS};
 ghost use Rattle.words.specs.Layout.{granule, page_of};
 ghost use Rattle.block_map.specs.declared.found.Found.{Found};
-ghost use Rattle.block_map.specs.Objects.{IsMap};
 ghost use Rattle.block_map.specs.Changes.{IsAdded, IsRemoved};
-ghost use Rattle.pages.specs.Memory.{with_word_at};
 ghost use Rattle.marker.specs.Marking.{AreMarksObjects};
-ghost use Rattle.marker.specs.Invariant.{DirtyPageInvariant};
-ghost use Rattle.marker.specs.Mutations.{DirtiesPage, IsAllocated, IsFreed, KeepsWords, HasZeroWords};
+ghost use Rattle.marker.specs.Mutations.{DirtiesPage, IsAllocated, IsFreed, StaysOnWrite, StaysOnAllocation, StaysOnFree};
 
 use crate::marker::Marker;
 use mark_bits::granule_of;
@@ -22,7 +19,7 @@ impl Marker {
         requires low { FIRST_ADDRESS ≤ address }
         requires inside { page_of address < length self.old.dirty }
         ensures written { DirtiesPage address self.old self.new }
-        ensures keeps { (found : ℕ → Option Found) (words : List ℕ) (w : ℕ) → DirtyPageInvariant found words self.old → DirtyPageInvariant found (with_word_at words address w) self.new }
+        ensures keeps { StaysOnWrite address self.old self.new }
     {
         self.dirty.set(page_of(address) as PageNo);
     }
@@ -33,8 +30,7 @@ impl Marker {
         requires inside { granule base < length self.old.marks }
         ensures allocated { IsAllocated base self.old self.new }
         ensures objects { (found after : ℕ → Option Found) (f : Found) → f.base ≡ base → after base ≡ Some f → IsAdded found after f → AreMarksObjects found self.old → AreMarksObjects after self.new }
-        ensures keeps { (pages : ℕ) (found after : ℕ → Option Found) (words words' : List ℕ) (f : Found) → f.base ≡ base → IsMap pages after → after base ≡ Some f → IsAdded found after f → KeepsWords found words words' → HasZeroWords words' f
-            → DirtyPageInvariant found words self.old → DirtyPageInvariant after words' self.new }
+        ensures keeps { StaysOnAllocation base self.old self.new }
     {
         self.marks.set(granule_of(base));
     }
@@ -46,8 +42,7 @@ impl Marker {
         requires inside { granule base < length self.old.marks }
         ensures freed { IsFreed base self.old self.new }
         ensures objects { (found after : ℕ → Option Found) (f : Found) → f.base ≡ base → found base ≡ Some f → IsRemoved found after f → AreMarksObjects found self.old → AreMarksObjects after self.new }
-        ensures keeps { (pages : ℕ) (found after : ℕ → Option Found) (words words' : List ℕ) (f : Found) → f.base ≡ base → IsMap pages found → found base ≡ Some f → IsRemoved found after f → KeepsWords after words words'
-            → DirtyPageInvariant found words self.old → DirtyPageInvariant after words' self.new }
+        ensures keeps { StaysOnFree base self.old self.new }
     {
         self.marks.clear(granule_of(base));
     }

@@ -96,7 +96,7 @@ module _ (old : Store) (m : Marking) (from limit address n : ℕ) (mid : Store) 
     read = h.read;
     done = λ w f low lt e. ⊎_elim (λ below. h.done w f low below e) (λ ge. absurd (none_some f (sym (empty.none w ge lt) ∙ e))) (cases_lt w address);
   })
-  passed_more next k new (marked f is at marked_f zero same) = subst (HasPassed old m from limit next (n + k)) (sym same) (record {
+  passed_more next k new (marked f here marked_f zero same) = let is = here.first in let at = here.end in subst (HasPassed old m from limit next (n + k)) (sym same) (record {
     words = h.words;
     pages = h.pages;
     pending = h.pending;
@@ -118,7 +118,7 @@ module _ (old : Store) (m : Marking) (from limit address n : ℕ) (mid : Store) 
         (only_next f (page_start (page_of address + 1)) is w ge (let bound = at in omega arith)))
         (cases_lt w address);
   })
-  passed_more next k new (forgot f is at unmarked_f one loses) = record {
+  passed_more next k new (forgot f here unmarked_f one loses) = let is = here.first in let at = here.end in record {
     words = λ g i there lt. loses.words g i there lt ∙ h.words g i (still g.base g there) lt;
     pages = loses.pages ∙ h.pages;
     pending = λ w g there. loses.pending w g there ∙ h.pending w g (still w g there);
@@ -220,5 +220,5 @@ passed_page old m page address n now new laid lawful b is past h words states pe
 -- each look gets further
 pub passes_further : (mid : Store) (m : Marking) (address next k : ℕ) (new : Store) → IsMap (length mid.states) (found_in mid.states) → Passes mid m address next k new → address < next
 passes_further mid m address next k new map (none further empty zero same) = further
-passes_further mid m address next k new map (marked f is at marked_f zero same) = let after = is.after in let below = (map.reads is.at f is.reads).below in omega arith
-passes_further mid m address next k new map (forgot f is at unmarked_f one loses) = let after = is.after in let below = (map.reads is.at f is.reads).below in omega arith
+passes_further mid m address next k new map (marked f here marked_f zero same) = let is = here.first in let at = here.end in let after = is.after in let below = (map.reads is.at f is.reads).below in omega arith
+passes_further mid m address next k new map (forgot f here unmarked_f one loses) = let is = here.first in let at = here.end in let after = is.after in let below = (map.reads is.at f is.reads).below in omega arith

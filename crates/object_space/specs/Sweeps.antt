@@ -54,12 +54,17 @@ pub record Gains (old : Store) (place : Placement) (kind : Kind) (base : ℕ) (n
   pub pending : new.pending ≡ old.pending
   pub swept : slice_index_or old.pending object.page false ≡ false
 
+-- the object is the next one at or after the address on its page, and `next` is where it ends
+pub record IsNextUpTo (old : Store) (address next : ℕ) (f : Found) : Type 0 where
+  pub first : IsNextObject (found_in old.states) address (page_start (page_of address + 1)) f
+  pub end : next ≡ f.base + WORD_BYTES * f.len
+
 -- The objects from one address up to another were looked at: there is none, or one that is marked, or one that is not and
 -- is gone now. `n` is how many are gone.
 pub data Passes (old : Store) (marking : Marking) (address next n : ℕ) (new : Store) : Type 0 where
   none : address < next → IsNoObject (found_in old.states) address next → n ≡ 0 → new ≡ old → Passes old marking address next n new
-  marked : (f : Found) → IsNextObject (found_in old.states) address (page_start (page_of address + 1)) f → next ≡ f.base + WORD_BYTES * f.len → IsMarked marking f.base → n ≡ 0 → new ≡ old → Passes old marking address next n new
-  forgot : (f : Found) → IsNextObject (found_in old.states) address (page_start (page_of address + 1)) f → next ≡ f.base + WORD_BYTES * f.len → (IsMarked marking f.base → ⊥) → n ≡ 1 → Loses old f new → Passes old marking address next n new
+  marked : (f : Found) → IsNextUpTo old address next f → IsMarked marking f.base → n ≡ 0 → new ≡ old → Passes old marking address next n new
+  forgot : (f : Found) → IsNextUpTo old address next f → (IsMarked marking f.base → ⊥) → n ≡ 1 → Loses old f new → Passes old marking address next n new
 
 -- To the heap exactly the objects outside of the closure of the marks and the roots are gone, so many. The others are marked
 -- now, and their words stay.

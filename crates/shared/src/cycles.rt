@@ -4,7 +4,7 @@ ghost use Rattle.heap_spec.specs.declared.event.Event.TheVariants.{Begin, Collec
 ghost use Rattle.heap_spec.specs.declared.reply.Reply.TheVariants.{Done, Count};
 ghost use Rattle.heap_core.specs.Contents.{Contents};
 ghost use Rattle.heap_history.specs.Passes.{is_marking};
-ghost use Rattle.heap_history.specs.Headline.{Extends, Looks, IsGrantedByMine};
+ghost use Rattle.heap_history.specs.Headline.{Extends, Looks, IsGrantedByOwnEvents};
 ghost use Rattle.shared.specs.Lending.{IsLent};
 
 use crate::heap::SharedHeap;
@@ -21,7 +21,7 @@ impl<J: Naming> SharedHeap<J> {
     /// # Errors
     /// [`Refusal::WrongPhase`] exactly while one is marking, which the collector's own events tell.
     pub fn begin(&self, rt: &impl Wait, me: &mut Collector<J>) -> Result<(), Refusal>
-        ensures { IsGrantedByMine false J.origin me.old Begin (λ _. Done) result me.new }
+        ensures { IsGrantedByOwnEvents false J.origin me.old Begin (λ _. Done) result me.new }
     {
         let mut guard = self.lock.lock(rt);
         let logged = &mut *guard;

@@ -6,7 +6,7 @@ ghost use Rattle.heap_spec.specs.declared.reply.Reply.TheVariants.{Count};
 ghost use Rattle.history.specs.Objects.{KeepsStates};
 ghost use Rattle.heap_core.specs.AsObject.{Stands};
 ghost use Rattle.heap_core.specs.Collections.{ClosesMarks, IsGrantedInPhase};
-ghost use Rattle.heap_history.specs.Headline.{IsGrantedByMine};
+ghost use Rattle.heap_history.specs.Headline.{IsGrantedByOwnEvents};
 
 use crate::heap::SharedHeap;
 use crate::replies::count;
@@ -26,7 +26,7 @@ impl<J: Naming> SharedHeap<J> {
     /// # Errors
     /// [`Refusal::WrongPhase`] exactly while none is marking, which the collector's own events tell.
     pub fn finish(&self, rt: &impl Wait, me: &mut Collector<J>) -> Result<u64, Refusal>
-        ensures { IsGrantedByMine true J.origin me.old Finish Count result me.new }
+        ensures { IsGrantedByOwnEvents true J.origin me.old Finish Count result me.new }
     {
         self.finish_after(rt, me, |_core| Ok(()))
     }
@@ -44,7 +44,7 @@ impl<J: Naming> SharedHeap<J> {
         helpers: Helpers,
         gate: &G,
     ) -> Result<u64, Refusal>
-        ensures { IsGrantedByMine true J.origin me.old Finish Count result me.new }
+        ensures { IsGrantedByOwnEvents true J.origin me.old Finish Count result me.new }
     {
         let close = |core: &mut Core| -> Result<(), Refusal>
             ensures { IsGrantedInPhase true core.old result core.new (λ _. ClosesMarks core.old core.new) }
@@ -61,7 +61,7 @@ impl<J: Naming> SharedHeap<J> {
     ) -> Result<u64, Refusal>
         requires can { F.IsAlwaysCallable work }
         requires keeps { KeepsStates Stands (FnOnceReturnsAtMut F.FnOnce work) }
-        ensures { IsGrantedByMine true J.origin me.old Finish Count result me.new }
+        ensures { IsGrantedByOwnEvents true J.origin me.old Finish Count result me.new }
     {
         let mut guard = self.lock.lock(rt);
         let logged = &mut *guard;

@@ -3,7 +3,7 @@ ghost use Rattle.std.specs.Prelude.{◌≡◌, ◌≢◌, ◌%◌, ◌^◌, ◌�
 ghost use Rattle.history.specs.Histories.{count, GrowsByOthers};
 ghost use Rattle.history.specs.Passes.{longer};
 ghost use Rattle.heap_history.specs.Ranks.{rank_of};
-ghost use Rattle.heap_history.specs.Passes.{IsFine};
+ghost use Rattle.heap_history.specs.Passes.{IsLegalPass};
 ghost use Rattle.heap_history.specs.Headline.{Looks};
 
 use crate::heap::SharedHeap;
@@ -33,8 +33,8 @@ impl<J: Naming> SharedHeap<J> {
         ensures one { GrowsByOthers a.old.slot a.old.seen b.old.seen ⊎ GrowsByOthers b.old.slot b.old.seen a.old.seen }
         ensures a { a.new ≡ record { slot = a.old.slot; seen = longer a.old.seen b.old.seen; mine = a.old.mine } }
         ensures b { b.new ≡ record { slot = b.old.slot; seen = longer a.old.seen b.old.seen; mine = b.old.mine } }
-        ensures a_fine { IsFine J.origin a.new }
-        ensures b_fine { IsFine J.origin b.new }
+        ensures a_legal { IsLegalPass J.origin a.new }
+        ensures b_legal { IsLegalPass J.origin b.new }
     {
         self.log.meet(&mut a.pass, &mut b.pass);
     }
@@ -44,8 +44,8 @@ impl<J: Naming> SharedHeap<J> {
         ensures one { GrowsByOthers me.old.slot me.old.seen collector.old.seen ⊎ GrowsByOthers collector.old.slot collector.old.seen me.old.seen }
         ensures me { me.new ≡ record { slot = me.old.slot; seen = longer me.old.seen collector.old.seen; mine = me.old.mine } }
         ensures collector { collector.new ≡ record { slot = collector.old.slot; seen = longer me.old.seen collector.old.seen; mine = collector.old.mine } }
-        ensures me_fine { IsFine J.origin me.new }
-        ensures collector_fine { IsFine J.origin collector.new }
+        ensures me_fine { IsLegalPass J.origin me.new }
+        ensures collector_fine { IsLegalPass J.origin collector.new }
     {
         self.log.meet(&mut me.pass, &mut collector.pass);
     }

@@ -1,6 +1,6 @@
 //! What the holders of a shared heap hold. Contracts see each as its pass.
 ghost use Rattle.std.specs.Prelude.{◌≡◌};
-ghost use Rattle.heap_history.specs.Passes.{IsFine};
+ghost use Rattle.heap_history.specs.Passes.{IsLegalPass};
 
 use heap_core::Core;
 use history::{Naming, Pass};
@@ -46,7 +46,7 @@ impl<J: Naming> Mutator<J> {
     pub fn slot(&self) -> Slot
         ensures slot { result ≡ self.now.slot }
         // At any time what a mutator has seen is legal, and its own events are exactly its slot's in it.
-        ensures fine { IsFine J.origin self.now }
+        ensures fine { IsLegalPass J.origin self.now }
     {
         let _slot = self.pass.slot();
         self.slot

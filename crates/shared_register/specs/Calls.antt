@@ -47,8 +47,8 @@ abbrev pub is_running : List (Event Call Reply) → Bool
 is_running es = running_from false es
 
 -- what holds of a pass between any two calls, of a register that was opened with this number
-abbrev pub IsFine : ℕ → Known Call Reply → Type 0
-IsFine start pass = Agrees rank_of (IsOpening start) Steps pass
+abbrev pub IsLegalPass : ℕ → Known Call Reply → Type 0
+IsLegalPass start pass = Agrees rank_of (IsOpening start) Steps pass
 
 -- the headline, of such a register
 abbrev pub Extends : ℕ → Known Call Reply → Call → Reply → Known Call Reply → Type 0
@@ -83,11 +83,11 @@ pub record Keeps (old new : Known Call Reply) : Type 0 where
 pub record Settled (start : ℕ) (old new : Known Call Reply) (all : List (Event Call Reply)) : Type 0 where
   pub keeps : Keeps old new
   pub seen : new.seen ≡ all
-  pub fine : IsFine start new
+  pub fine : IsLegalPass start new
 
 -- One history, `all`, was seen, in which the pass's own events are those that it had before and then these calls with these replies. They
 -- are all that its slot did since its first
 pub record StandsIn (start : ℕ) (all : List (Event Call Reply)) (old : Known Call Reply) (calls : List Call) (replies : List Reply) (new : Known Call Reply) : Type 0 where
   pub seen : new.seen ≡ all
   pub mine : new.mine ≡ old.mine ++ events old.slot calls replies
-  pub fine : IsFine start new
+  pub fine : IsLegalPass start new

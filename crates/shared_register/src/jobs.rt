@@ -1,7 +1,7 @@
 //! Mutators in threads, each with its own calls, and the one history that they leave.
 ghost use Rattle.std.specs.Prelude.{◌≡◌, All, length};
 ghost use mathlib.Core.List.{IsPrefix};
-ghost use Rattle.shared_register.specs.Calls.{IsPlainCall, IsFine, Ran, Keeps};
+ghost use Rattle.shared_register.specs.Calls.{IsPlainCall, IsLegalPass, Ran, Keeps};
 ghost use Rattle.shared_register.specs.Jobs.{CanRun, AllRan, AllSettled, AllStandIn};
 
 use crate::register::{Call, Reply};
@@ -80,7 +80,7 @@ fn meet_one<J: Naming>(shared: &SharedRegister<J>, collector: &mut Collector<J>,
     ensures both { job.new.me.seen ≡ collector.new.seen }
     ensures grows { IsPrefix collector.old.seen collector.new.seen }
     ensures stays { IsPrefix job.old.me.seen collector.old.seen → collector.new.seen ≡ collector.old.seen }
-    ensures fine { IsFine J.origin job.new.me }
+    ensures fine { IsLegalPass J.origin job.new.me }
 {
     shared.meet_collector(&mut job.me, collector);
 }

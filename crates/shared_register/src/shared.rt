@@ -4,7 +4,7 @@ ghost use Rattle.history.specs.declared.object.TheConstants.{COLLECTOR as collec
 ghost use Rattle.history.specs.Histories.{count, GrowsByOthers};
 ghost use Rattle.history.specs.Passes.{longer};
 ghost use Rattle.shared_register.specs.Steps.{rank_of};
-ghost use Rattle.shared_register.specs.Calls.{Extends, Looks, Begun, IsPlainCall, IsFine, is_running};
+ghost use Rattle.shared_register.specs.Calls.{Extends, Looks, Begun, IsPlainCall, IsLegalPass, is_running};
 ghost use Rattle.shared_register.specs.declared.register.Call.TheVariants.{Attach, Begin, Finish, Collect};
 ghost use Rattle.shared_register.specs.declared.register.Reply.TheVariants.{Slot, Done};
 ghost use Rattle.shared_register.specs.declared.register.Register.{Register as RegisterValue};
@@ -221,8 +221,8 @@ impl<J: Naming> SharedRegister<J> {
         ensures one { GrowsByOthers a.old.slot a.old.seen b.old.seen ⊎ GrowsByOthers b.old.slot b.old.seen a.old.seen }
         ensures a { a.new ≡ record { slot = a.old.slot; seen = longer a.old.seen b.old.seen; mine = a.old.mine } }
         ensures b { b.new ≡ record { slot = b.old.slot; seen = longer a.old.seen b.old.seen; mine = b.old.mine } }
-        ensures a_fine { IsFine J.origin a.new }
-        ensures b_fine { IsFine J.origin b.new }
+        ensures a_legal { IsLegalPass J.origin a.new }
+        ensures b_legal { IsLegalPass J.origin b.new }
     {
         self.log.meet(&mut a.pass, &mut b.pass);
     }
@@ -232,8 +232,8 @@ impl<J: Naming> SharedRegister<J> {
         ensures one { GrowsByOthers me.old.slot me.old.seen other.old.seen ⊎ GrowsByOthers other.old.slot other.old.seen me.old.seen }
         ensures me { me.new ≡ record { slot = me.old.slot; seen = longer me.old.seen other.old.seen; mine = me.old.mine } }
         ensures other { other.new ≡ record { slot = other.old.slot; seen = longer me.old.seen other.old.seen; mine = other.old.mine } }
-        ensures me_fine { IsFine J.origin me.new }
-        ensures other_fine { IsFine J.origin other.new }
+        ensures me_fine { IsLegalPass J.origin me.new }
+        ensures other_fine { IsLegalPass J.origin other.new }
     {
         self.log.meet(&mut me.pass, &mut other.pass);
     }

@@ -18,7 +18,7 @@ use Rattle.heap_spec.specs.Transcripts.{LineOf, IsWrongPhase}
 use Rattle.heap_spec.specs.SequentialObject.{HeapState}
 use Rattle.heap_history.specs.Ranks.{rank_of}
 use Rattle.heap_history.specs.Passes.{Entry, HeapPass, is_marking as marks}
-use Rattle.heap_history.specs.Headline.{Extends, Looks, IsGrantedByMine}
+use Rattle.heap_history.specs.Headline.{Extends, Looks, IsGrantedByOwnEvents}
 use Rattle.heap_history.proofs.Passing.{phase_is}
 use Rattle.heap_core.specs.Contents.{Contents}
 use Rattle.heap_core.specs.Collections.{IsGrantedInPhase, IsAlwaysGranted, ReadsRoots, TakesWords, ReadsPage, RetracesPage, SweepsOne}
@@ -75,18 +75,18 @@ module _ (pages : ℕ) (old new : HeapPass) (asked : Event) (reply : Reply) (slo
   as_asked : (command : Event) (told : Reply) → asked ≡ command → reply ≡ told → Commanded pages old command told new → Commanded pages old asked reply new
   as_asked command told is said c = subst (λ (a : Event). Commanded pages old a reply new) (sym is) (subst (λ (t : Reply). Commanded pages old command t new) (sym said) c)
 
-  begun : (r : Result ⊤ Refusal) → IsGrantedByMine false pages old Begin (λ _. Done) r new → Commanded pages old Begin (done_reply r) new
+  begun : (r : Result ⊤ Refusal) → IsGrantedByOwnEvents false pages old Begin (λ _. Done) r new → Commanded pages old Begin (done_reply r) new
   begun (Ok done) g = made pages old new Begin Done slot refl g.1
   begun (Err why) g = refused Begin why g.2 refl g.1 (phase pages old new slot g.2 ∙ g.0)
 
-  pub begins : (r : Result ⊤ Refusal) → asked ≡ Begin → reply ≡ done_reply r → IsGrantedByMine false pages old Begin (λ _. Done) r new → Commanded pages old asked reply new
+  pub begins : (r : Result ⊤ Refusal) → asked ≡ Begin → reply ≡ done_reply r → IsGrantedByOwnEvents false pages old Begin (λ _. Done) r new → Commanded pages old asked reply new
   begins r is said g = as_asked Begin (done_reply r) is said (begun r g)
 
-  finished : (r : Result ℕ Refusal) → IsGrantedByMine true pages old Finish Count r new → Commanded pages old Finish (count_reply r) new
+  finished : (r : Result ℕ Refusal) → IsGrantedByOwnEvents true pages old Finish Count r new → Commanded pages old Finish (count_reply r) new
   finished (Ok n) g = made pages old new Finish (Count n) slot refl g.1
   finished (Err why) g = refused Finish why g.2 refl g.1 (phase pages old new slot g.2 ∙ g.0)
 
-  pub finishes : (r : Result ℕ Refusal) → asked ≡ Finish → reply ≡ count_reply r → IsGrantedByMine true pages old Finish Count r new → Commanded pages old asked reply new
+  pub finishes : (r : Result ℕ Refusal) → asked ≡ Finish → reply ≡ count_reply r → IsGrantedByOwnEvents true pages old Finish Count r new → Commanded pages old asked reply new
   finishes r is said g = as_asked Finish (count_reply r) is said (finished r g)
 
   pub collects : (n : ℕ) → asked ≡ Collect → reply ≡ Count n → Extends pages old Collect (Count n) new → Commanded pages old asked reply new

@@ -5,7 +5,7 @@ use Rattle.heap_spec.specs.declared.call.Call.{Call}
 use Rattle.heap_spec.specs.declared.event.Event.TheVariants.{Attach}
 use Rattle.heap_spec.specs.declared.reply.Reply.TheVariants.{Slot}
 use Rattle.heap_history.specs.Ranks.{rank_of}
-use Rattle.heap_history.specs.Passes.{Entry, HeapPass, IsFine}
+use Rattle.heap_history.specs.Passes.{Entry, HeapPass, IsLegalPass}
 use Rattle.heap_history.specs.Headline.{Looks}
 use Rattle.history.proofs.Growing.{prefix_of}
 use Rattle.each_law.specs.Jobs.{HaveRun}
@@ -40,7 +40,7 @@ module _ {J R : Type 0} (pages : ℕ) (calls : List Call) (slot : ℕ) (a b c : 
 
 module _ {J R : Type 0} (pages : ℕ) (lists : ActorLines) (a b c : List (MutatorJob J R)) (opened u v w : HeapPass) (replies : ActorReplies)
     (attached : AreAttached pages lists.mutators a) (ran : HaveRun (λ old new. HasCalled old new) a b) (commanded : CommandedAll pages opened lists.collector replies.collector u)
-    (new : opened ≡ record { slot = 16; seen = []; mine = [] }) (looks : Looks pages u v) (keeps : Keeps v w) (grows : IsPrefix v.seen w.seen) (fine : IsFine pages w)
+    (new : opened ≡ record { slot = 16; seen = []; mine = [] }) (looks : Looks pages u v) (keeps : Keeps v w) (grows : IsPrefix v.seen w.seen) (fine : IsLegalPass pages w)
     (settled : AllSettled pages w.seen b c) (size : length c ≡ length b) (are : AreReplies c replies.mutators) where
   one : (slot : ℕ) → slot < length lists.mutators → IsMutatorsPart w.seen slot (get_or lists.mutators slot []) (get_or replies.mutators slot [])
   one slot lt =

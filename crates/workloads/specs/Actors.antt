@@ -5,7 +5,7 @@ use Rattle.history.specs.declared.object.TheConstants.{COLLECTOR}
 use Rattle.heap_spec.specs.declared.call.Call.{Call}
 use Rattle.heap_spec.specs.declared.event.Event.{Event}
 use Rattle.heap_spec.specs.declared.reply.Reply.{Reply}
-use Rattle.heap_history.specs.Passes.{Entry, HeapPass, IsFine}
+use Rattle.heap_history.specs.Passes.{Entry, HeapPass, IsLegalPass}
 use Rattle.heap_history.specs.Headline.{Begun}
 use Rattle.shared.specs.Calls.{IsNoDetach}
 use Rattle.workloads.specs.Workloads.{is_collectors}
@@ -67,7 +67,7 @@ module _ {J R : Type 0} where
     pub calls : new.calls ≡ old.calls
     pub replies : new.replies ≡ old.replies
     pub seen : new.attached.seen ≡ history
-    pub fine : IsFine pages new.attached
+    pub fine : IsLegalPass pages new.attached
 
   -- each job's mutator has seen this history, and the jobs are otherwise as they were
   abbrev pub AllSettled : ℕ → List Entry → List (MutatorJob J R) → List (MutatorJob J R) → Type 0

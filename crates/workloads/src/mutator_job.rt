@@ -2,7 +2,7 @@
 ghost use Rattle.std.specs.Prelude.{◌≡◌, ◌%◌, ◌^◌, All, length};
 ghost use mathlib.Core.List.{IsPrefix};
 ghost use Rattle.heap_history.specs.Headline.{Makes};
-ghost use Rattle.heap_history.specs.Passes.{IsFine};
+ghost use Rattle.heap_history.specs.Passes.{IsLegalPass};
 ghost use Rattle.shared.specs.Calls.{IsNoDetach};
 ghost use Rattle.workloads.specs.Actors.{Called, Keeps, CanCall, HasCalled};
 
@@ -129,8 +129,8 @@ impl<'a, J: Naming, R: Wait> Attached<'a, J, R> {
         ensures collector { Keeps collector.old collector.new }
         ensures grows { IsPrefix collector.old.seen collector.new.seen }
         ensures stays { IsPrefix self.old.seen collector.old.seen → collector.new.seen ≡ collector.old.seen }
-        ensures fine { IsFine J.origin self.new }
-        ensures collector_fine { IsFine J.origin collector.new }
+        ensures fine { IsLegalPass J.origin self.new }
+        ensures collector_fine { IsLegalPass J.origin collector.new }
     {
         self.heap.meet_collector(&mut self.me, collector);
     }

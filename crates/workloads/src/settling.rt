@@ -1,7 +1,7 @@
 //! How mutators and the collector come to have seen one history.
 ghost use Rattle.std.specs.Prelude.{◌≡◌};
 ghost use mathlib.Core.List.{IsPrefix};
-ghost use Rattle.heap_history.specs.Passes.{IsFine};
+ghost use Rattle.heap_history.specs.Passes.{IsLegalPass};
 ghost use Rattle.workloads.specs.Actors.{Keeps, AllSettled};
 
 use crate::mutator_job::MutatorJob;
@@ -16,8 +16,8 @@ fn meet_one<'a, J: Naming, R: Wait>(collector: &mut Collector<J>, job: &mut Muta
     ensures collector { Keeps collector.old collector.new }
     ensures grows { IsPrefix collector.old.seen collector.new.seen }
     ensures stays { IsPrefix job.old.attached.seen collector.old.seen → collector.new.seen ≡ collector.old.seen }
-    ensures fine { IsFine J.origin job.new.attached }
-    ensures collector_fine { IsFine J.origin collector.new }
+    ensures fine { IsLegalPass J.origin job.new.attached }
+    ensures collector_fine { IsLegalPass J.origin collector.new }
 {
     job.attached.meet(collector);
 }
@@ -28,10 +28,10 @@ pub(crate) fn settle<'a, J: Naming, R: Wait>(
     collector: &mut Collector<J>,
     jobs: &mut [MutatorJob<'a, J, R>],
 )
-    requires { IsFine J.origin collector.old }
+    requires { IsLegalPass J.origin collector.old }
     ensures collector { Keeps collector.old collector.new }
     ensures grows { IsPrefix collector.old.seen collector.new.seen }
-    ensures fine { IsFine J.origin collector.new }
+    ensures fine { IsLegalPass J.origin collector.new }
     ensures settled { AllSettled J.origin collector.new.seen jobs.old jobs.new }
 {
     for i in 0..jobs.len() {

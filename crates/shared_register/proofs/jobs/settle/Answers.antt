@@ -7,7 +7,7 @@ use Rattle.history.proofs.Fronts.{prefix_self, prefix_trans}
 use Rattle.shared_register.specs.declared.register.Call.{Call}
 use Rattle.shared_register.specs.declared.register.Reply.{Reply}
 use Rattle.shared_register.specs.declared.jobs.Job.{Job}
-use Rattle.shared_register.specs.Calls.{Keeps, IsFine}
+use Rattle.shared_register.specs.Calls.{Keeps, IsLegalPass}
 use Rattle.shared_register.proofs.jobs.settle.Goals as goal
 
 at_default : {A : Type 0} (l : List A) (i : ℕ) (a b : A) → i < length l → get_or l i a ≡ get_or l i b
@@ -67,7 +67,7 @@ loop-k-preserved g c =
           (λ _. subst (λ (s : List (Event Call Reply)). IsPrefix s all) (sym h.both) (prefix_self all))
           (λ ne. subst (λ (s : List (Event Call Reply)). IsPrefix (get_or l n d).me.seen s) (sym stays) (v.begins n d k))
           (ℕ_discrete n i);
-      met = λ n d k. set_each (λ (j : Job g.row.J.Denot). (j.me.seen ≡ all) × IsFine g.J.Naming.origin j.me) l i x lt n d
+      met = λ n d k. set_each (λ (j : Job g.row.J.Denot). (j.me.seen ≡ all) × IsLegalPass g.J.Naming.origin j.me) l i x lt n d
           (λ _. (h.both, h.fine))
           (λ ne. let m = v.met n d (omega arith) in (m.0 ∙ sym stays, m.1))
           (ℕ_discrete n i);

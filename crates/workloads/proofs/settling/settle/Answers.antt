@@ -4,7 +4,7 @@ use native.Mathlib.Decide.{ℕ_discrete}
 use mathlib.Core.List.{IsPrefix}
 use Rattle.history.proofs.Fronts.{prefix_self, prefix_trans}
 use Rattle.workloads.specs.declared.mutator_job.MutatorJob.{MutatorJob}
-use Rattle.heap_history.specs.Passes.{Entry, IsFine}
+use Rattle.heap_history.specs.Passes.{Entry, IsLegalPass}
 use Rattle.workloads.specs.Actors.{Keeps}
 use Rattle.workloads.proofs.settling.settle.Goals as goal
 
@@ -71,7 +71,7 @@ loop-k-preserved g c =
           (λ _. subst (λ (s : List Entry). IsPrefix s all) (sym h.both) (prefix_self all))
           (λ ne. subst (λ (s : List Entry). IsPrefix (get_or l n d).attached.seen s) (sym stays) (v.begins n d k))
           (ℕ_discrete n i);
-      met = λ n d k. set_each (λ (j : MutatorJob g.row.J.Denot g.row.R.Denot). (j.attached.seen ≡ all) × IsFine g.J.Naming.origin j.attached) l i x lt n d
+      met = λ n d k. set_each (λ (j : MutatorJob g.row.J.Denot g.row.R.Denot). (j.attached.seen ≡ all) × IsLegalPass g.J.Naming.origin j.attached) l i x lt n d
           (λ _. (h.both, h.fine))
           (λ ne. let m = v.met n d (omega arith) in (m.0 ∙ sym stays, m.1))
           (ℕ_discrete n i);

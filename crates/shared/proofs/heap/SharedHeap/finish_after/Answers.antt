@@ -6,7 +6,7 @@ use Rattle.heap_spec.specs.SequentialObject.{Opens, StateStep}
 use Rattle.history.proofs.Headlines.{extended, looked}
 use Rattle.heap_history.specs.Ranks.{rank_of}
 use Rattle.heap_history.specs.Passes.{HeapPass, is_marking as marks}
-use Rattle.heap_history.specs.Headline.{Looks, IsGrantedByMine}
+use Rattle.heap_history.specs.Headline.{Looks, IsGrantedByOwnEvents}
 use Rattle.shared.proofs.Passing.{phase_is}
 use Rattle.shared.proofs.Granting.{is_count, finished}
 use Rattle.shared.proofs.heap.SharedHeap.finish_after.Goals as goal
@@ -44,5 +44,5 @@ returns g c =
     let said = (c.act.ensures.step st.state (q.ensures.keeps st.state st.stood_for)).1.happens.1.takes.number in
     let asked = extended rank_of (Opens g.J.Naming.origin) StateStep c.me.inside.pass c.learn.new.pass c.act.new.pass c.deref_mut-logged.result.now.history q.new.self.history c.act.new.logged.history Finish c.act.result
     l.before l.pass (q.ensures.history ∙ ap (λ x. x.history) l.logged) c.act.ensures.history c.act.ensures.pass c.act.ensures.agrees in
-    subst (λ (p : HeapPass). IsGrantedByMine true g.J.Naming.origin p Finish Count c.count.result c.act.new.pass) c.me.view_is
+    subst (λ (p : HeapPass). IsGrantedByOwnEvents true g.J.Naming.origin p Finish Count c.count.result c.act.new.pass) c.me.view_is
     (finished g.J.Naming.origin c.me.inside.pass c.act.new.pass c.count.result c.act.result _ c.count.ensures said was asked)

@@ -5,7 +5,7 @@ use Rattle.shared_register.specs.declared.register.Call.{Call}
 use Rattle.shared_register.specs.declared.register.Call.TheVariants.{Attach}
 use Rattle.shared_register.specs.declared.register.Reply.{Reply}
 use Rattle.shared_register.specs.declared.register.Reply.TheVariants.{Slot}
-use Rattle.shared_register.specs.Calls.{Begun, IsFine}
+use Rattle.shared_register.specs.Calls.{Begun, IsLegalPass}
 use Rattle.shared_register.proofs.Chains.{free_slot_dead}
 use Rattle.shared_register.proofs.shared.SharedRegister.attach.Goals as goal
 
@@ -28,5 +28,5 @@ returns g c =
       spent = free_slot_dead logged.object c.object.result.now st.state old who c.object.ensures.object c.in_ok-who.ensures st.reached st.stood_for;
       seen = f.history ∙ ap (λ r. old ++ event who Attach r ∷ []) said;
       mine = ap (λ r. event who Attach r ∷ []) said;
-      fine = subst (IsFine g.J.Naming.origin) f.pass f.agrees;
+      fine = subst (IsLegalPass g.J.Naming.origin) f.pass f.agrees;
     })
