@@ -112,7 +112,7 @@ usage_comes_first() {
     has "no words: threads" "mpheap threads --pages N [--helpers H] FILE" "$err"
     has "no words: stress" "mpheap stress --seed S --mutators M --steps K" "$err"
     has "no words: build" "mpheap build" "$err"
-    has "no words: where the README is" "$tree/README.md" "$err"
+    has "no words: which page says more" "$tree/docs/SCRIPTS.md" "$err"
     is "no words: nothing is built" "" "$(calls)"
     call build now
     is "build takes no word: status" 2 "$status"

@@ -6,23 +6,26 @@ pub fn seen_is_legal()
     ensures { SeenIsLegal }
 {}
 
-/// A mutator loads the word that it stored, whatever others do, unless somebody stores, frees or collects between.
+/// A mutator loads the word that it stored, whatever others do, unless somebody stores, frees or collects anything
+/// between.
 pub fn own_load_answers()
     ensures { OwnLoadAnswers }
 {}
 
-/// An object that a mutator allocated stays while a register has it, unless somebody frees it.
+/// The register of a mutator that allocated an object still has the base of an object, while its calls leave the
+/// register and nobody frees any object.
 pub fn own_object_stays()
     ensures { OwnObjectStays }
 {}
 
-/// What a mutator stored in an object that it allocated stays there while a register has the object, whatever cycles run, unless somebody
-/// stores or frees.
+/// What a mutator stored in an object that it allocated stays there while a register has the object, whatever cycles
+/// run, unless somebody stores or frees anything.
 pub fn own_word_stays()
     ensures { OwnWordStays }
 {}
 
-/// Two objects that a mutator allocated don't overlap.
+/// Two objects that a mutator allocated, the second while a register has the first, don't overlap, if nobody frees any
+/// object between.
 pub fn own_objects_apart()
     ensures { OwnObjectsApart }
 {}

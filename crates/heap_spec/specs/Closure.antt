@@ -10,7 +10,7 @@ pub data Closure (s : Heap) (births : ℕ → Type 0) : ℕ → Type 0 where
   root : {w base : ℕ} {o : Object} → Contains (root_words s) w → ReadsObject s w base o → Closure s births base
   word : {from w base : ℕ} {p o : Object} → Closure s births from → HasObject s from p → p.kind ≡ Normal → Contains p.words w → ReadsObject s w base o → Closure s births base
 
--- An object is reached if it is in the closure of no births.
+-- An object is reached if roots lead to it: it is in the closure of the empty set of births.
 abbrev pub Reached : Heap → ℕ → Type 0
 Reached s = Closure s (λ _. ⊥)
 

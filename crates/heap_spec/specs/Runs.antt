@@ -86,6 +86,6 @@ abbrev pub Touched : TouchRule
 Touched start [] birth = start.marking ≡ true
 Touched start (m ∷ run) birth = touched_after m.told.event (Touched start run) (heap_after start run) m.heap birth
 
--- every birth is touched: the rule of one who can't tell, so that the end of a cycle may keep any object
+-- every birth is touched: the rule of one who doesn't work it out, so that the end of a cycle may keep any object
 abbrev pub AllTouched : TouchRule
 AllTouched start run birth = Unit {0}
