@@ -30,7 +30,7 @@ impl Model for DirtyPages {
 
 impl DirtyPages {
     /// No page of a heap of so many. The error is that there is no memory.
-    pub fn new(alloc: Global, pages: PageNo) -> Result<DirtyPages, AllocError>
+    pub fn new(alloc: Global, pages: u32) -> Result<DirtyPages, AllocError>
         requires { pages ≤ MAX_PAGES }
         ensures { IfOk result (λ dirty. IsClear dirty pages) }
     {

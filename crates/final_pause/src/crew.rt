@@ -16,14 +16,13 @@ use arrayvec::ArrayVec;
 use dirty_pages::DirtyPages;
 use mark_bits::{Claimer, MarkTable};
 use std::alloc::{AllocError, Global};
-use words::PageNo;
 use words::limits::{MAX_HELPERS, MAX_PAGES};
 
 // A helper with nothing to do yet.
 fn new_helper<'a>(
     alloc: Global,
     table: &MarkTable,
-    pages: PageNo,
+    pages: u32,
     first: &mut Claimer,
     busy: &'a Busy,
     share: u8,
@@ -55,7 +54,7 @@ fn new_helper<'a>(
 pub(crate) fn hire<'a>(
     alloc: Global,
     table: &MarkTable,
-    pages: PageNo,
+    pages: u32,
     first: &mut Claimer,
     busy: &'a Busy,
     helpers: u8,

@@ -13,11 +13,11 @@ use crate::gate::Gate;
 use crate::helper::{Helper, claim, queue};
 use crate::offer::{Offer, Offering};
 use block_map::{BlockMap, Found};
-use mark_bits::{MarkTable, granule_of};
+use mark_bits::MarkTable;
 use marker::{Entry, Marker};
 use pages::Memory;
 use words::limits::{PAGE_BYTES, WORD_BYTES};
-use words::{Kind, PageNo, page_start};
+use words::{Kind, PageNo, granule_of, page_start};
 
 /// What the helpers of a pause share. No helper changes any of it but the table, by claims.
 #[derive(Clone, Copy)]

@@ -13,4 +13,3 @@ pub use claimer_view::ClaimerView;
 pub use gathers::gathered_marks;
 pub use marks::Marks;
 pub use table::{Claimer, MarkTable};
-pub use words::granule_of;

@@ -29,7 +29,7 @@ impl Model for Marks {
 
 impl Marks {
     /// No mark in a heap of so many pages. The error is that there is no memory.
-    pub fn new(alloc: Global, pages: PageNo) -> Result<Marks, AllocError>
+    pub fn new(alloc: Global, pages: u32) -> Result<Marks, AllocError>
         requires some { 0 < pages }
         requires few { pages ≤ MAX_PAGES }
         ensures { IfOk result (λ marks. IsClear marks (PAGE_GRANULES * pages)) }

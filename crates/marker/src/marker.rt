@@ -16,12 +16,12 @@ use crate::spread::dirty_object;
 use arrayvec::ArrayVec;
 use block_map::{BlockMap, Found};
 use dirty_pages::DirtyPages;
-use mark_bits::{Marks, granule_of};
+use mark_bits::Marks;
 use pages::{Reader, Words, is_page_count};
 use std::alloc::Global;
 use std::marker::Model;
 use words::limits::{FIRST_ADDRESS, MARK_STACK_ENTRIES, PAGE_BYTES, WORD_BYTES};
-use words::{Kind, OpenError, PageNo};
+use words::{Kind, OpenError, granule_of};
 
 // The entries of the mark stack.
 const ENTRIES: usize = MARK_STACK_ENTRIES as usize;
@@ -56,7 +56,7 @@ pub(crate) fn heap_bytes(map: &BlockMap) -> u64
 
 impl Marker {
     /// A marker of a heap of so many pages, with no mark, no dirty page and no entry.
-    pub fn new(alloc: Global, pages: PageNo) -> Result<Marker, OpenError>
+    pub fn new(alloc: Global, pages: u32) -> Result<Marker, OpenError>
         ensures { IsOpened pages result (λ m. IsFresh pages m) }
     {
         if !is_page_count(pages) {

@@ -8,9 +8,8 @@ ghost use Rattle.marker.specs.Marking.{AreMarksObjects};
 ghost use Rattle.marker.specs.Mutations.{DirtiesPage, IsAllocated, IsFreed, StaysOnWrite, StaysOnAllocation, StaysOnFree};
 
 use crate::marker::Marker;
-use mark_bits::granule_of;
 use words::limits::FIRST_ADDRESS;
-use words::{PageNo, page_of};
+use words::{PageNo, granule_of, page_of};
 
 impl Marker {
     /// A word was written at the address. The invariant stays, whatever was written.
