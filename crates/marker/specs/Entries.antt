@@ -72,7 +72,8 @@ pub record WentOn (found : ℕ → Option Found) (words : List ℕ) (old new : M
 
 -- The entry has no word left that has not been read, if its base is the base of a marked Normal object.
 abbrev pub IsReadOut : (ℕ → Option Found) → List ℕ → Marking → Marking → Entry → Type 0
-IsReadOut found words old new e = (f : Found) → found f.base ≡ Some f → f.base ≡ e.base → f.kind ≡ Normal → IsMarked old f.base → (i : ℕ) → e.next ≤ i → i < f.len → IsTargetMarked found new (word_at words (word_address f i))
+IsReadOut found words old new e = (f : Found) → found f.base ≡ Some f → f.base ≡ e.base → f.kind ≡ Normal → IsMarked old f.base
+    → (i : ℕ) → e.next ≤ i → i < f.len → IsTargetMarked found new (word_at words (word_address f i))
 
 -- What became of each entry: it is read on or waits, or it was read to its end.
 abbrev pub TakesOff : (ℕ → Option Found) → List ℕ → Marking → Marking → Type 0
