@@ -1,7 +1,7 @@
 -- What a helper of a pause does with a word.
-use Rattle.std.specs.Prelude.{◌≡◌, ℕ, zero, suc, ◌+◌, ◌*◌, ◌%◌, ◌<◌, ◌≤◌, Bool, true, List, length, Contains, Option, Some, ◌⊎◌, if◌then◌else◌}
+use Rattle.std.specs.Prelude.{◌≡◌, ℕ, zero, suc, ◌+◌, ◌*◌, ◌<◌, ◌≤◌, Bool, true, List, length, Contains, Option, Some, ◌⊎◌, if◌then◌else◌}
 use Rattle.words.specs.declared.class.Kind.TheVariants.{Normal}
-use Rattle.words.specs.declared.limits.TheConstants.{MAX_PAGES, PAGE_GRANULES, PAGE_WORDS, WORD_BYTES}
+use Rattle.words.specs.declared.limits.TheConstants.{MAX_PAGES, PAGE_GRANULES, PAGE_WORDS}
 use Rattle.words.specs.Bits.{Has}
 use Rattle.words.specs.Layout.{page_of, granule}
 use Rattle.mark_bits.specs.declared.claimer_view.ClaimerView.{ClaimerView}
@@ -14,7 +14,6 @@ use Rattle.block_map.specs.FoundIn.{found_in}
 use Rattle.marker.specs.Marking.{Covers, word_address}
 use Rattle.final_pause.specs.declared.helper.Helper.{Helper}
 use Rattle.final_pause.specs.declared.share.Pause.{Pause}
-use Rattle.final_pause.specs.declared.share.Part.{Part}
 
 -- the object that a word points into
 abbrev pub found : Pause → ℕ → Option Found
@@ -28,16 +27,6 @@ word_in p f i = word_at p.memory.now (word_address f i)
 pub record IsObjectOf (p : Pause) (f : Found) : Type 0 where
   pub word : ℕ
   pub points : found p word ≡ Some f
-
--- the words of an object that stand between two addresses, up to the object's end or the second address
-pub record IsPartBetween (low high : ℕ) (f : Found) (part : Part) : Type 0 where
-  pub inside : part.first + part.count ≤ f.len
-  pub from : (i : ℕ) → low ≤ word_address f i → part.first ≤ i
-  pub below : (i : ℕ) → word_address f i < part.stop → i < part.first + part.count
-  pub further : low < part.stop
-  pub within : part.stop ≤ high
-  pub end : part.stop ≤ f.base + WORD_BYTES * f.len
-  pub aligned : part.stop % WORD_BYTES ≡ 0
 
 -- the granules that the helper won
 abbrev pub won_of : Helper → List ℕ

@@ -6,7 +6,7 @@ ghost use Rattle.words.specs.declared.limits.TheConstants.{WORD_BYTES};
 ghost use Rattle.block_map.specs.FoundIn.{found_in};
 ghost use Rattle.block_map.specs.Walks.{IsNextObject};
 ghost use Rattle.words.specs.Bits.{Has};
-ghost use Rattle.final_pause.specs.Helping.{IsReadyPause, IsObjectOf, IsPartBetween, IsHelperOf, Visits, ReadsWords};
+ghost use Rattle.final_pause.specs.Helping.{IsReadyPause, IsObjectOf, IsHelperOf, Visits, ReadsWords};
 ghost use Rattle.final_pause.specs.Serving.{IsServing, GoesOnServing, AreOffered, IsEntryRead, HasServed, AreRootsRead, AreEntriesRead, IsCurrentRead, AreWordsRead, IsPageRead, ArePagesRead};
 
 use crate::gate::Gate;
@@ -14,7 +14,7 @@ use crate::helper::{Helper, claim, queue};
 use crate::offer::{Offer, Offering};
 use block_map::{BlockMap, Found};
 use mark_bits::MarkTable;
-use marker::{Entry, Marker};
+use marker::{Entry, Marker, part_between};
 use pages::Memory;
 use words::limits::{PAGE_BYTES, WORD_BYTES};
 use words::{Kind, PageNo, granule_of, page_start};
@@ -28,14 +28,6 @@ pub(crate) struct Pause<'a> {
     pub(crate) memory: &'a Memory,
     pub(crate) roots: &'a [u64],
     pub(crate) helpers: usize,
-}
-
-// Some words of an object: so many, from its word `first` on, and the address at which they end.
-#[derive(Clone, Copy)]
-struct Part {
-    first: u32,
-    count: u64,
-    stop: u64,
 }
 
 impl<'a> Pause<'a> {
@@ -146,23 +138,6 @@ impl<'a> Pause<'a> {
         }
     }
 
-    // Which words of the next object on a page stand between two addresses.
-    fn part(&self, found: Found, low: u64, high: u64) -> Part
-        requires ready { IsReadyPause self.now }
-        requires next { IsNextObject (found_in self.now.map.now) low high found }
-        requires low { low % WORD_BYTES ≡ 0 }
-        requires high { high % WORD_BYTES ≡ 0 }
-        ensures { IsPartBetween low high found result }
-    {
-        let stop = (found.base + WORD_BYTES * u64::from(found.len)).min(high);
-        let first = low.saturating_sub(found.base) / WORD_BYTES;
-        Part {
-            first: first as u32,
-            count: (stop - found.base) / WORD_BYTES - first,
-            stop,
-        }
-    }
-
     // Reads the words of the next object on a page that stand between two addresses, if it was a marked Normal one before
     // the helpers started. Answers the first address past them.
     fn read_part<G: Gate>(
@@ -183,7 +158,7 @@ impl<'a> Pause<'a> {
         ensures within { result ≤ high }
         ensures aligned { result % WORD_BYTES ≡ 0 }
     {
-        let part = self.part(found, low, high);
+        let part = part_between(found, low, high);
         if found.kind == Kind::PointerFree {
             return part.stop;
         }

@@ -4,5 +4,6 @@ pub mod Invariant
 pub mod Closure
 pub mod Growth
 pub mod Entries
+pub mod Parts
 pub mod Retracing
 pub mod Mutations

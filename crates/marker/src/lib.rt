@@ -38,6 +38,7 @@ mod count;
 mod entry;
 mod marker;
 mod mutators;
+mod part;
 mod retrace;
 mod sharing;
 mod spread;
@@ -45,5 +46,6 @@ mod step;
 
 pub use entry::Entry;
 pub use marker::Marker;
+pub use part::{Part, part_between};
 pub use spread::dirty_object;
 pub use step::Marked;

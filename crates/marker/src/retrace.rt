@@ -9,9 +9,10 @@ ghost use Rattle.marker.specs.Growth.{Traces};
 ghost use Rattle.marker.specs.Retracing.{Rereads, Retraces};
 
 use crate::marker::{Marker, heap_bytes};
+use crate::part::part_between;
 use block_map::{BlockMap, Found};
 use pages::Reader;
-use words::limits::{PAGE_BYTES, WORD_BYTES};
+use words::limits::PAGE_BYTES;
 use words::{Kind, PageNo, page_start};
 
 impl Marker {
@@ -73,16 +74,14 @@ impl Marker {
         ensures reads { WORD_BYTES * reader.new.reads + low ≤ WORD_BYTES * reader.old.reads + result }
     {
         self.laws();
-        let stop = (found.base + WORD_BYTES * u64::from(found.len)).min(high);
+        let part = part_between(found, low, high);
         if found.kind == Kind::PointerFree {
-            return stop;
+            return part.stop;
         }
         if !self.is_marked(found.base) {
-            return stop;
+            return part.stop;
         }
-        let first = low.saturating_sub(found.base) / WORD_BYTES;
-        let count = (stop - found.base) / WORD_BYTES - first;
-        self.mark_words(map, heap_bytes, reader, found, first as u32, count);
-        stop
+        self.mark_words(map, heap_bytes, reader, found, part.first, part.count);
+        part.stop
     }
 }

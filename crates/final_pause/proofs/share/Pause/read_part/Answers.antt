@@ -4,9 +4,15 @@ use Rattle.mark_bits.specs.Tables.{view}
 use Rattle.marker.specs.Closure.{held}
 use Rattle.marker.proofs.Closures.{at_base}
 use Rattle.marker.proofs.MarkWord.{markable}
+use Rattle.marker.proofs.Parts.{next_has_part}
 use Rattle.final_pause.specs.Helping.{found}
 use Rattle.final_pause.proofs.Serving.{serves_words, part_read}
 use Rattle.final_pause.proofs.share.Pause.read_part.Goals as goal
+
+pub part_between-part-requires : goal.part_between-part-requires
+part_between-part-requires g c =
+    let p = c.args.self.now in let r = c.requires.serving.fits.ready in
+    next_has_part (length p.map.now) (found p) r.map r.few c.args.low c.args.high c.args.found c.requires.next c.requires.low c.requires.high
 
 pub is_marked-requires-clause-low : goal.is_marked-requires-clause-low
 is_marked-requires-clause-low g c = (c.requires.serving.fits.ready.map.placed _ _ c.requires.next.reads).above
@@ -19,12 +25,12 @@ is_marked-requires-clause-inside g c =
 pub returns-then-eq-clause-read : goal.returns-then-eq-clause-read
 returns-then-eq-clause-read g c =
     let k : c.args.found.kind ≡ PointerFree = search rules in
-    part_read c.args.self.now c.requires.serving.fits.ready.map (view c.args.helper.now.claimer) c.args.low c.args.high c.part-part.result.stop c.args.found c.requires.next c.part-part.ensures.end
+    part_read c.args.self.now c.requires.serving.fits.ready.map (view c.args.helper.now.claimer) c.args.low c.args.high c.part_between-part.result.stop c.args.found c.requires.next c.part_between-part.ensures.inside
     (λ n. let x : PointerFree ≡ Normal = sym k ∙ n in absurd (cc x))
 
 pub returns-then-not-is_marked-clause-read : goal.returns-then-not-is_marked-clause-read
 returns-then-not-is_marked-clause-read g c =
-    part_read c.args.self.now c.requires.serving.fits.ready.map (view c.args.helper.now.claimer) c.args.low c.args.high c.part-part.result.stop c.args.found c.requires.next c.part-part.ensures.end
+    part_read c.args.self.now c.requires.serving.fits.ready.map (view c.args.helper.now.claimer) c.args.low c.args.high c.part_between-part.result.stop c.args.found c.requires.next c.part_between-part.ensures.inside
     (λ n m. let t : c.is_marked.result ≡ true = c.is_marked.ensures ∙ m in grind (arith, t, c.if-not-is_marked.true))
 
 pub returns-clause-serves : goal.returns-clause-serves
@@ -37,6 +43,6 @@ returns-clause-serves g c =
 
 pub returns-clause-read : goal.returns-clause-read
 returns-clause-read g c =
-    let e = c.part-part.ensures in
-    part_read c.args.self.now c.requires.serving.fits.ready.map (view c.read_words.new.helper.claimer) c.args.low c.args.high c.part-part.result.stop c.args.found c.requires.next e.end
-    (λ n m i lt from below. c.read_words.ensures.targets i (e.from i from) (e.below i below))
+    let e = c.part_between-part.ensures in let s = e.ends in
+    part_read c.args.self.now c.requires.serving.fits.ready.map (view c.read_words.new.helper.claimer) c.args.low c.args.high c.part_between-part.result.stop c.args.found c.requires.next e.inside
+    (λ n m i lt from below. c.read_words.ensures.targets i (e.reaches i from) (omega (arith, below, s)))
