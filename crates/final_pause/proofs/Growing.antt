@@ -1,7 +1,7 @@
 -- How what a helper knows, won and awaits grows.
-use Rattle.std.proofs.Common.{◌≡◌, ℕ, ◌+◌, ◌*◌, ◌<◌, ◌∷◌, true, false, Contains, Some, length, refl, sym, ap, subst, ◌∙◌, inl, inr, ⊎_elim, arith}
+use Rattle.std.proofs.Common.{◌≡◌, ℕ, ◌+◌, ◌*◌, ◌<◌, ◌≤◌, List, [], ◌∷◌, ◌++◌, true, false, Contains, Some, length, refl, sym, ap, subst, ◌∙◌, inl, inr, ⊎_elim, arith}
 use Rattle.std.proofs.lemmas.Option.{same_Some}
-use Rattle.std.proofs.lemmas.Bool.{cases_lt}
+use Rattle.std.proofs.lemmas.List.Elements.{Contains-append_cases, Contains-append_left, Contains-append_right}
 use Rattle.words.specs.declared.class.Kind.TheVariants.{Normal}
 use Rattle.words.specs.declared.limits.TheConstants.{PAGE_GRANULES}
 use Rattle.words.specs.Bits.{Has}
@@ -11,12 +11,14 @@ use Rattle.mark_bits.specs.Tables.{view, start_of, IsOf}
 use Rattle.mark_bits.specs.Claims.{knows, LearnsMore}
 use Rattle.block_map.specs.declared.found.Found.{Found}
 use Rattle.block_map.specs.Objects.{IsMap}
+use Rattle.marker.specs.Growth.{words_of}
 use Rattle.marker.proofs.Closures.{at_base, same_object}
 use Rattle.marker.proofs.MarkWord.{markable}
+use Rattle.marker.proofs.Words.{contains_word, word_of}
 use Rattle.final_pause.specs.declared.helper.Helper.{Helper}
 use Rattle.final_pause.specs.declared.share.Pause.{Pause}
-use Rattle.final_pause.specs.Helping.{found, word_in, won_of, QueuesObject, HelperGrows, IsTargetKnown, IsAwaitedBy, IsPageOfWon, IsPointedInto, ClaimsOnly, Visits, IsWordOf, ReadsWords}
-use Rattle.final_pause.proofs.Knowing.{unknown_le, unknown_lt, contains_cons, contains_more, contains_here}
+use Rattle.final_pause.specs.Helping.{found, word_in, won_of, QueuesObject, HelperGrows, IsTargetKnown, IsAwaitedBy, IsPageOfWon, IsPointedInto, ClaimsOnly, Visits, VisitsAll, IsWordOf, ReadsWords}
+use Rattle.final_pause.proofs.Knowing.{unknown_le, unknown_lt, contains_one, contains_cons, contains_more, contains_here}
 
 module _ (p : Pause) where
   pub extends_refl : (h : Helper) → IsOf p.table.now h.claimer → HelperGrows p h h
@@ -153,19 +155,31 @@ module _ (p : Pause) where
         };
       }
 
-  pub reads_none : (f : Found) (first : ℕ) (h : Helper) → IsOf p.table.now h.claimer → ReadsWords p f first 0 h h
-  reads_none f first h of = record {
+  pub visits_none : (h : Helper) → IsOf p.table.now h.claimer → VisitsAll p [] h h
+  visits_none h of = record {
     extends = extends_refl h of;
-    targets = λ i le lt. absurd (omega (arith, le, lt));
+    targets = λ w c. let l = c.1 in absurd (omega arith);
     only = record { won = λ k c. inl c; entries = λ e c. inl c };
   }
 
-  pub reads_next : (f : Found) (first n : ℕ) (a b c : Helper) → first + n < f.len → ReadsWords p f first n a b → Visits p (word_in p f (first + n)) b c → ReadsWords p f first (n + 1) a c
-  reads_next f first n a b c lt r v = record {
+  pub visits_next : (ws : List ℕ) (w : ℕ) (a b c : Helper) → VisitsAll p ws a b → Visits p w b c → VisitsAll p (ws ++ w ∷ []) a c
+  visits_next ws w a b c r v = record {
     extends = extends_trans a b c r.extends v.extends;
-    targets = λ i le low. ⊎_elim
-        (λ (before : i < first + n). target_more (view b.claimer) (view c.claimer) v.extends.learns.known _ (r.targets i le before))
-        (λ ge. let e : first + n ≡ i = omega (arith, ge, low) in subst (λ (j : ℕ). IsTargetKnown p (view c.claimer) (word_in p f j)) e v.target)
-        (cases_lt i (first + n));
-    only = only_trans (IsWordOf p f) a b c r.only (only_more (λ v. v ≡ word_in p f (first + n)) (IsWordOf p f) b c (λ w e. (first + n, lt, e)) v.only);
+    targets = λ u h. ⊎_elim
+        (λ m. target_more (view b.claimer) (view c.claimer) v.extends.learns.known u (r.targets u m))
+        (λ (m : Contains (w ∷ []) u). subst (λ (n : ℕ). IsTargetKnown p (view c.claimer) n) (contains_one w u m) v.target)
+        (Contains-append_cases ws (w ∷ []) u h);
+    only = only_trans (λ u. Contains (ws ++ w ∷ []) u) a b c
+        (only_more (λ u. Contains ws u) (λ u. Contains (ws ++ w ∷ []) u) a b (λ u m. Contains-append_left ws (w ∷ []) u m) r.only)
+        (only_more (λ u. u ≡ w) (λ u. Contains (ws ++ w ∷ []) u) b c
+        (λ u e. subst (λ (n : ℕ). Contains (ws ++ w ∷ []) n) (sym e) (Contains-append_right ws (w ∷ []) w (contains_here w []))) v.only);
+  }
+
+  -- words of an object that lie in a row
+  pub reads_run : (f : Found) (first n : ℕ) (a b : Helper) → first + n ≤ f.len → VisitsAll p (words_of p.memory.now f first n) a b → ReadsWords p f first n a b
+  reads_run f first n a b fits v = record {
+    extends = v.extends;
+    targets = λ i le lt. v.targets (word_in p f i) (contains_word p.memory.now f first n i le lt);
+    only = only_more (λ w. Contains (words_of p.memory.now f first n) w) (IsWordOf p f) a b
+        (λ w h. let y = word_of p.memory.now f first n w h in let l = y.2 in (y.0, omega arith, y.3)) v.only;
   }

@@ -118,6 +118,12 @@ pub record Visits (p : Pause) (w : ℕ) (old new : Helper) : Type 0 where
   pub target : IsTargetKnown p (view new.claimer) w
   pub only : ClaimsOnly p (λ v. v ≡ w) old new
 
+-- what these words point into is known to be marked, and nothing else was won
+pub record VisitsAll (p : Pause) (ws : List ℕ) (old new : Helper) : Type 0 where
+  pub extends : HelperGrows p old new
+  pub targets : (w : ℕ) → Contains ws w → IsTargetKnown p (view new.claimer) w
+  pub only : ClaimsOnly p (λ w. Contains ws w) old new
+
 -- the word is one of the object
 abbrev pub IsWordOf : Pause → Found → ℕ → Type 0
 IsWordOf p f w = (i : ℕ) × (i < f.len) × (w ≡ word_in p f i)

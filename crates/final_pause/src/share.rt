@@ -6,7 +6,7 @@ ghost use Rattle.words.specs.declared.limits.TheConstants.{WORD_BYTES};
 ghost use Rattle.block_map.specs.FoundIn.{found_in};
 ghost use Rattle.block_map.specs.Walks.{IsNextObject};
 ghost use Rattle.words.specs.Bits.{Has};
-ghost use Rattle.final_pause.specs.Helping.{IsReadyPause, IsObjectOf, IsHelperOf, Visits, ReadsWords};
+ghost use Rattle.final_pause.specs.Helping.{IsReadyPause, IsObjectOf, IsHelperOf, Visits, VisitsAll, ReadsWords};
 ghost use Rattle.final_pause.specs.Serving.{IsServing, GoesOnServing, AreOffered, IsEntryRead, HasServed, AreRootsRead, AreEntriesRead, IsCurrentRead, AreWordsRead, IsPageRead, ArePagesRead};
 
 use crate::gate::Gate;
@@ -15,7 +15,7 @@ use crate::offer::{Offer, Offering};
 use block_map::{BlockMap, Found};
 use mark_bits::MarkTable;
 use marker::{Entry, Marker, part_between};
-use pages::Memory;
+use pages::{Memory, Reader, Words};
 use words::limits::{PAGE_BYTES, WORD_BYTES};
 use words::{Kind, PageNo, granule_of, page_start};
 
@@ -60,6 +60,17 @@ impl<'a> Pause<'a> {
         }
     }
 
+    // Marks what words point into.
+    #[inline]
+    fn visit_all<G: Gate>(&self, gate: &G, helper: &mut Helper, words: Words)
+        requires { IsHelperOf self.now helper.old }
+        ensures { VisitsAll self.now words.entry helper.old helper.new }
+    {
+        for word in words {
+            self.visit(gate, helper, word);
+        }
+    }
+
     // Marks what words of an object point into: so many, from its word `first` on.
     pub(crate) fn read_words<G: Gate>(
         &self,
@@ -75,10 +86,8 @@ impl<'a> Pause<'a> {
         ensures { ReadsWords self.now found first count helper.old helper.new }
     {
         let start = found.base + WORD_BYTES * u64::from(first);
-        for i in 0..count {
-            let word = self.memory.read(start + WORD_BYTES * i);
-            self.visit(gate, helper, word);
-        }
+        let mut reader = Reader::new(self.memory);
+        self.visit_all(gate, helper, reader.read_run(start, count));
     }
 
     // Marks what the root words of the helper's share point into.

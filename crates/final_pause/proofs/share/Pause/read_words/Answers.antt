@@ -1,8 +1,11 @@
-use Rattle.std.proofs.Common.{◌≡◌, ◌+◌, ◌*◌, ◌∙◌, ℕ, ap, subst, arith}
+use Rattle.std.proofs.Common.{◌≡◌, ◌+◌, ◌*◌, ◌≤◌, ◌∙◌, ℕ, List, length, ap, subst, arith}
+use Rattle.std.specs.Prelude.{slice_range}
 use Rattle.words.specs.declared.limits.TheConstants.{WORD_BYTES}
-use Rattle.pages.specs.Memory.{word_at}
-use Rattle.final_pause.specs.Helping.{Visits}
-use Rattle.final_pause.proofs.Growing.{reads_next}
+use Rattle.pages.specs.Memory.{place}
+use Rattle.marker.specs.Marking.{word_address}
+use Rattle.marker.proofs.Words.{run_words}
+use Rattle.final_pause.specs.Helping.{VisitsAll}
+use Rattle.final_pause.proofs.Growing.{reads_run}
 use Rattle.final_pause.proofs.share.Pause.read_words.Goals as goal
 
 pub overflow_add-start : goal.overflow_add-start
@@ -10,22 +13,27 @@ overflow_add-start g c =
     let f = c.from.ensures in let p = (c.requires.fits.ready.map.placed _ _ c.requires.object.points).below in
     let s = c.requires.fits.ready.few in let l = c.requires.inside in omega arith
 
-pub overflow_add-start-in-loop-i : goal.overflow_add-start-in-loop-i
-overflow_add-start-in-loop-i g c =
-    let f = c.from.ensures in let p = (c.requires.fits.ready.map.placed _ _ c.requires.object.points).below in
-    let s = c.requires.fits.ready.few in let l = c.requires.inside in let t = c.loop-i-test.true in omega arith
+pub read_run-requires-clause-above : goal.read_run-requires-clause-above
+read_run-requires-clause-above g c =
+    let q = (c.requires.fits.ready.map.placed _ _ c.requires.object.points).above in omega arith
 
-pub read-word-requires : goal.read-word-requires
-read-word-requires g c =
+pub read_run-requires-clause-inside : goal.read_run-requires-clause-inside
+read_run-requires-clause-inside g c =
     let r = c.requires.fits.ready in let at = r.map.placed _ _ c.requires.object.points in
-    let f = c.from.ensures in let p = at.below in let q = at.above in let a = at.aligned in let l = c.requires.inside in
-    let t = c.loop-i-test.true in let m = r.memory in
-    record { aligned = omega arith; above = omega arith; below = omega arith }
+    let f = c.from.ensures in let p = at.below in let q = at.above in let a = at.aligned in let l = c.requires.inside in let m = r.memory in
+    let w = ap (λ (ws : List ℕ). length ws) c.new-reader.ensures.words in
+    omega arith
 
-pub loop-i-preserved : goal.loop-i-preserved
-loop-i-preserved g c =
-    let p = c.args.self.now in let f = c.args.found in let first = c.args.first in let i = c.loop-i.i in
-    let from = c.from.ensures in let t = c.loop-i-test.true in let l = c.requires.inside in
-    let address : f.base + WORD_BYTES * c.from.result + WORD_BYTES * i ≡ f.base + WORD_BYTES * (first + i) = omega arith in
-    reads_next p f first i c.args.helper.now c.loop-i.helper c.visit.new.helper (omega arith) c.loop-i.invariant
-    (subst (λ (w : ℕ). Visits p w c.loop-i.helper c.visit.new.helper) (c.read-word.ensures ∙ ap (λ (a : ℕ). word_at p.memory.now a) address) c.visit.ensures)
+pub returns : goal.returns
+returns g c =
+    let p = c.args.self.now in let object = c.args.found in let first = c.args.first in let count = c.args.count in
+    let r = c.requires.fits.ready in let at = r.map.placed _ _ c.requires.object.points in
+    let f = c.from.ensures in let b = at.below in let q = at.above in let a = at.aligned in let l = c.requires.inside in let m = r.memory in
+    let start = object.base + WORD_BYTES * c.from.result in
+    let is : start ≡ word_address object first = omega arith in
+    let inside : place start + count ≤ length p.memory.now = omega arith in
+    let run = c.read_run.ensures.run
+    ∙ ap (λ (ws : List ℕ). slice_range ws (place start) (place start + count)) c.new-reader.ensures.words
+    ∙ run_words p.memory.now object first count start is (omega arith) inside in
+    reads_run p object first count c.args.helper.now c.visit_all.new.helper l
+    (subst (λ (ws : List ℕ). VisitsAll p ws c.args.helper.now c.visit_all.new.helper) run c.visit_all.ensures)
