@@ -1,5 +1,5 @@
 -- The walk that forgets the unmarked objects.
-use Rattle.std.proofs.Common.{inl, inr, ◌≡◌, ℕ, ◌+◌, ◌*◌, ◌<◌, ◌≤◌, ◌⊎◌, false, List, [], ◌++◌, ◌∷◌, length, set, get_or, length-set, get_or-set_same, get_or-set_other, Contains, Some, None, refl, sym, ap, ◌∙◌, subst, ⊎_elim, arith, length-append}
+use Rattle.std.proofs.Common.{inl, inr, ◌≡◌, ℕ, ◌+◌, ◌*◌, ◌<◌, ◌≤◌, ◌⊎◌, false, List, [], ◌++◌, ◌∷◌, length, set, get_or, length-set, get_or-set_same, get_or-set_other, Contains, Some, None, refl, sym, ap, ◌∙◌, subst, ⊎_elim, arith}
 use Rattle.std.specs.Prelude.{◌≢◌, All}
 use Rattle.std.proofs.lemmas.Bool.{cases_lt, cases_eq}
 use Rattle.std.proofs.lemmas.List.{ext_get_or}
@@ -28,9 +28,9 @@ use Rattle.words.specs.declared.class.Kind.{Kind}
 use Rattle.words.specs.Layout.{page_start, page_of}
 use Rattle.object_space.proofs.Sweeping.{without_none, without_more, has}
 
--- All unmarked objects that an address reads from one up to another are gone, so many, none that only addresses past the
--- limit read, and nothing else has changed. The words of those that are left stay.
-pub record HasPassed (old : Store) (marking : Marking) (from limit address n : ℕ) (now : Store) : Type 0 where
+-- All unmarked objects that an address reads from one up to another are gone, none that only addresses past the limit
+-- read, and nothing else has changed. The words of those that are left stay.
+pub record HasPassed (old : Store) (marking : Marking) (from limit address : ℕ) (now : Store) : Type 0 where
   pub words : KeepsWords (found_in now.states) old.words now.words
   pub pages : length now.states ≡ length old.states
   pub pending : (w : ℕ) (g : Found) → found_in now.states w ≡ Some g → get_or now.pending g.page false ≡ get_or old.pending g.page false
@@ -38,16 +38,14 @@ pub record HasPassed (old : Store) (marking : Marking) (from limit address n : �
   pub rest : (p : ℕ) → ((w : ℕ) (f : Found) → from ≤ w → w < limit → found_in old.states w ≡ Some f → f.page ≢ p) → get_or now.pending p false ≡ get_or old.pending p false
   pub fewer : (page : ℕ) → Has now.pending page → Has old.pending page
   pub low : from ≤ address
-  pub few : n ≤ address
   pub bases : List ℕ
-  pub number : n ≡ length bases
   pub without : IsWithout (found_in old.states) (found_in now.states) bases
   pub unmarked : All (λ b. IsMarked marking b → ⊥) bases
   pub read : All (λ b. (w : ℕ) × (f : Found) × (from ≤ w) × (w < limit) × (found_in old.states w ≡ Some f) × (f.base ≡ b)) bases
   pub done : (w : ℕ) (f : Found) → from ≤ w → w < address → found_in now.states w ≡ Some f → IsMarked marking f.base
 
 -- nothing was looked at
-pub passed_none : (old : Store) (m : Marking) (from limit : ℕ) → HasPassed old m from limit from 0 old
+pub passed_none : (old : Store) (m : Marking) (from limit : ℕ) → HasPassed old m from limit from old
 passed_none old m from limit = record {
   words = λ f i there lt. refl;
   pages = refl;
@@ -56,9 +54,7 @@ passed_none old m from limit = record {
   rest = λ p none. refl;
   fewer = λ p h. h;
   low = omega arith;
-  few = omega arith;
   bases = [];
-  number = refl;
   without = without_none (found_in old.states);
   unmarked = λ k d lt. absurd (omega arith);
   read = λ k d lt. absurd (omega arith);
@@ -68,7 +64,7 @@ passed_none old m from limit = record {
 none_some : (f : Found) → None ≡ Some f → ⊥
 none_some f e = cc
 
-module _ (old : Store) (m : Marking) (from limit address n : ℕ) (mid : Store) (before : IsMap (length old.states) (found_in old.states)) (map : IsMap (length mid.states) (found_in mid.states)) (h : HasPassed old m from limit address n mid) (few : page_start (page_of address + 1) ≤ limit) where
+module _ (old : Store) (m : Marking) (from limit address : ℕ) (mid : Store) (before : IsMap (length old.states) (found_in old.states)) (map : IsMap (length mid.states) (found_in mid.states)) (h : HasPassed old m from limit address mid) (few : page_start (page_of address + 1) ≤ limit) where
   -- from the address on, up to the end of the next object, only that one is found
   only_next : (f : Found) (high : ℕ) → IsNextObject (found_in mid.states) address high f → (w : ℕ) → address ≤ w → w < f.base + 8 * f.len → (found_in mid.states w ≡ None) ⊎ IsInside w f
   only_next f high next w from below =
@@ -79,8 +75,8 @@ module _ (old : Store) (m : Marking) (from limit address n : ℕ) (mid : Store) 
   ends_past : (f : Found) (high : ℕ) → IsNextObject (found_in mid.states) address high f → address < f.base + 8 * f.len
   ends_past f high next = let after = next.after in let below = (map.reads next.at f next.reads).below in omega arith
 
-  pub passed_more : (next k : ℕ) (new : Store) → Passes mid m address next k new → HasPassed old m from limit next (n + k) new
-  passed_more next k new (none further empty zero same) = subst (HasPassed old m from limit next (n + k)) (sym same) (record {
+  pub passed_more : (next : ℕ) (new : Store) → Passes mid m address next new → HasPassed old m from limit next new
+  passed_more next new (none further empty same) = subst (HasPassed old m from limit next) (sym same) (record {
     words = h.words;
     pages = h.pages;
     pending = h.pending;
@@ -88,15 +84,13 @@ module _ (old : Store) (m : Marking) (from limit address n : ℕ) (mid : Store) 
     rest = h.rest;
     fewer = h.fewer;
     low = let low = h.low in omega arith;
-    few = let few = h.few in omega arith;
     bases = h.bases;
-    number = let number = h.number in omega arith;
     without = h.without;
     unmarked = h.unmarked;
     read = h.read;
     done = λ w f low lt e. ⊎_elim (λ below. h.done w f low below e) (λ ge. absurd (none_some f (sym (empty.none w ge lt) ∙ e))) (cases_lt w address);
   })
-  passed_more next k new (marked f here marked_f zero same) = let is = here.first in let at = here.end in subst (HasPassed old m from limit next (n + k)) (sym same) (record {
+  passed_more next new (marked f here marked_f same) = let is = here.first in let at = here.end in subst (HasPassed old m from limit next) (sym same) (record {
     words = h.words;
     pages = h.pages;
     pending = h.pending;
@@ -104,9 +98,7 @@ module _ (old : Store) (m : Marking) (from limit address n : ℕ) (mid : Store) 
     rest = h.rest;
     fewer = h.fewer;
     low = let low = h.low in let past = ends_past f (page_start (page_of address + 1)) is in omega arith;
-    few = let few = h.few in let past = ends_past f (page_start (page_of address + 1)) is in omega arith;
     bases = h.bases;
-    number = let number = h.number in omega arith;
     without = h.without;
     unmarked = h.unmarked;
     read = h.read;
@@ -118,7 +110,7 @@ module _ (old : Store) (m : Marking) (from limit address n : ℕ) (mid : Store) 
         (only_next f (page_start (page_of address + 1)) is w ge (let bound = at in omega arith)))
         (cases_lt w address);
   })
-  passed_more next k new (forgot f here unmarked_f one loses) = let is = here.first in let at = here.end in record {
+  passed_more next new (forgot f here unmarked_f loses) = let is = here.first in let at = here.end in record {
     words = λ g i there lt. loses.words g i there lt ∙ h.words g i (still g.base g there) lt;
     pages = loses.pages ∙ h.pages;
     pending = λ w g there. loses.pending w g there ∙ h.pending w g (still w g there);
@@ -126,9 +118,7 @@ module _ (old : Store) (m : Marking) (from limit address n : ℕ) (mid : Store) 
     rest = λ p none. loses.rest p (λ e. none is.at f (let low = h.low in let after = is.after in omega arith) (let below = is.below in omega arith) (h.without.left is.at f is.reads).0 (sym e)) ∙ h.rest p none;
     fewer = λ p is. h.fewer p (loses.fewer p is);
     low = let low = h.low in let past = ends_past f (page_start (page_of address + 1)) is in omega arith;
-    few = let few = h.few in let past = ends_past f (page_start (page_of address + 1)) is in omega arith;
     bases = h.bases ++ f.base ∷ [];
-    number = let number = h.number in let long = length-append h.bases (f.base ∷ []) in omega arith;
     without = without_more (length old.states) (found_in old.states) (found_in mid.states) (found_in new.states) h.bases f before h.without (at_base (found_in mid.states) (length mid.states) map is.at f is.reads) loses.removed;
     unmarked = All-push (λ b. IsMarked m b → ⊥) h.bases f.base h.unmarked unmarked_f;
     read = All-push (λ b. (w : ℕ) × (g : Found) × (from ≤ w) × (w < limit) × (found_in old.states w ≡ Some g) × (g.base ≡ b)) h.bases f.base h.read (let low = h.low in let after = is.after in let below = is.below in (is.at, f, omega arith, omega arith, (h.without.left is.at f is.reads).0, refl));
@@ -169,9 +159,9 @@ cut_page_object states page b laid lawful is w f low high there =
     by (in_large n k at from below len) = absurd (⊎_elim (λ e. clash_head n k (sym is ∙ e)) (λ e. clash_body f.page (sym is ∙ e)) (large_page states laid f.page n k page (lawful.object w f there).page at from below))
 
 -- a page was walked
-pub passed_page : (old : Store) (m : Marking) (page address n : ℕ) (now new : Store) → IsLaid old.states → IsLawful old.states → (b : Cells) → state_at old.states page ≡ cut b → page_start (page + 1) ≤ address
-    → HasPassed old m (page_start page) (page_start (page + 1)) address n now → new.words ≡ now.words → new.states ≡ now.states → new.pending ≡ set now.pending page false → SweepsPage old m.marks page new
-passed_page old m page address n now new laid lawful b is past h words states pending = record {
+pub passed_page : (old : Store) (m : Marking) (page address : ℕ) (now new : Store) → IsLaid old.states → IsLawful old.states → (b : Cells) → state_at old.states page ≡ cut b → page_start (page + 1) ≤ address
+    → HasPassed old m (page_start page) (page_start (page + 1)) address now → new.words ≡ now.words → new.states ≡ now.states → new.pending ≡ set now.pending page false → SweepsPage old m.marks page new
+passed_page old m page address now new laid lawful b is past h words states pending = record {
   words = λ f i there lt. ap (λ ws. word_at ws (word_address f i)) words ∙ h.words f i (sym (ap (λ st. found_in st f.base) states) ∙ there) lt;
   pages = ap length states ∙ h.pages;
   pending = pending ∙ ext_get_or false (set now.pending page false) (set old.pending page false) (length-set now.pending page false ∙ h.row_size ∙ sym (length-set old.pending page false)) (λ p lt. row p (let size = length-set now.pending page false in omega arith));
@@ -218,7 +208,7 @@ passed_page old m page address n now new laid lawful b is past h words states pe
         (cases_eq p page)
 
 -- each look gets further
-pub passes_further : (mid : Store) (m : Marking) (address next k : ℕ) (new : Store) → IsMap (length mid.states) (found_in mid.states) → Passes mid m address next k new → address < next
-passes_further mid m address next k new map (none further empty zero same) = further
-passes_further mid m address next k new map (marked f here marked_f zero same) = let is = here.first in let at = here.end in let after = is.after in let below = (map.reads is.at f is.reads).below in omega arith
-passes_further mid m address next k new map (forgot f here unmarked_f one loses) = let is = here.first in let at = here.end in let after = is.after in let below = (map.reads is.at f is.reads).below in omega arith
+pub passes_further : (mid : Store) (m : Marking) (address next : ℕ) (new : Store) → IsMap (length mid.states) (found_in mid.states) → Passes mid m address next new → address < next
+passes_further mid m address next new map (none further empty same) = further
+passes_further mid m address next new map (marked f here marked_f same) = let is = here.first in let at = here.end in let after = is.after in let below = (map.reads is.at f is.reads).below in omega arith
+passes_further mid m address next new map (forgot f here unmarked_f loses) = let is = here.first in let at = here.end in let after = is.after in let below = (map.reads is.at f is.reads).below in omega arith

@@ -60,11 +60,11 @@ pub record IsNextUpTo (old : Store) (address next : ℕ) (f : Found) : Type 0 wh
   pub end : next ≡ f.base + WORD_BYTES * f.len
 
 -- The objects from one address up to another were looked at: there is none, or one that is marked, or one that is not and
--- is gone now. `n` is how many are gone.
-pub data Passes (old : Store) (marking : Marking) (address next n : ℕ) (new : Store) : Type 0 where
-  none : address < next → IsNoObject (found_in old.states) address next → n ≡ 0 → new ≡ old → Passes old marking address next n new
-  marked : (f : Found) → IsNextUpTo old address next f → IsMarked marking f.base → n ≡ 0 → new ≡ old → Passes old marking address next n new
-  forgot : (f : Found) → IsNextUpTo old address next f → (IsMarked marking f.base → ⊥) → n ≡ 1 → Loses old f new → Passes old marking address next n new
+-- is gone now.
+pub data Passes (old : Store) (marking : Marking) (address next : ℕ) (new : Store) : Type 0 where
+  none : address < next → IsNoObject (found_in old.states) address next → new ≡ old → Passes old marking address next new
+  marked : (f : Found) → IsNextUpTo old address next f → IsMarked marking f.base → new ≡ old → Passes old marking address next new
+  forgot : (f : Found) → IsNextUpTo old address next f → (IsMarked marking f.base → ⊥) → Loses old f new → Passes old marking address next new
 
 -- To the heap exactly the objects outside of the closure of the marks and the roots are gone, so many. The others are marked
 -- now, and their words stay.

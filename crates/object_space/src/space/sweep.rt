@@ -16,13 +16,6 @@ use marker::Marker;
 use words::limits::WORD_BYTES;
 use words::{PageNo, page_of, page_start};
 
-// How far a look at one object came, and how many objects it forgot.
-#[derive(Clone, Copy)]
-pub(super) struct Passed {
-    pub(super) next: u64,
-    pub(super) forgotten: u64,
-}
-
 impl ObjectSpace {
     // The first object that has a byte of the page from an address on.
     pub(super) fn next_on_page(&self, page: PageNo, from: u64) -> Option<Found>
@@ -46,29 +39,27 @@ impl ObjectSpace {
         page_start(self.map.len())
     }
 
-    // Looks at the first object of a page from an address on, and forgets it if it isn't marked.
-    fn forget_next(&mut self, marker: &Marker, address: u64) -> Passed
+    // Looks at the first object of a page from an address on, and forgets it if it isn't marked. Answers where it ends,
+    // or where the page does.
+    fn forget_next(&mut self, marker: &Marker, address: u64) -> u64
         requires pages { length marker.now.dirty ≡ length self.old.states }
         requires low { FIRST_ADDRESS ≤ address }
         requires inside { address < page_start (length self.old.states) }
-        ensures passes { Passes self.old marker.now address result.next result.forgotten self.new }
+        ensures passes { Passes self.old marker.now address result self.new }
         ensures lawful { IsLawful self.old.states }
     {
         // Its clauses tell how many marks there are.
         marker.laws();
         let page = page_of(address) as PageNo;
         let Some(found) = self.next_on_page(page, address) else {
-            return Passed {
-                next: page_start(page + 1),
-                forgotten: 0,
-            };
+            return page_start(page + 1);
         };
         let next = found.base + WORD_BYTES * u64::from(found.len);
         if marker.is_marked(found.base) {
-            return Passed { next, forgotten: 0 };
+            return next;
         }
         self.release(found);
-        Passed { next, forgotten: 1 }
+        next
     }
 
     // Sweeps a page. One without a mark keeps no object, and is free at once.
@@ -91,8 +82,7 @@ impl ObjectSpace {
         let end = page_start(page + 1);
         let mut address = page_start(page);
         while address < end {
-            let passed = self.forget_next(marker, address);
-            address = passed.next;
+            address = self.forget_next(marker, address);
         }
         self.pending.clear(page as usize);
     }

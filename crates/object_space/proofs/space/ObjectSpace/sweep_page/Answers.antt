@@ -8,25 +8,23 @@ use Rattle.object_space.proofs.FreePages.{sweeps_unmarked}
 use Rattle.object_space.proofs.space.ObjectSpace.sweep_page.Goals as goal
 
 pub loop-address-init : goal.loop-address-init
-loop-address-init c = (0, subst (λ a. HasPassed c.args.self.now c.args.marker.now (page_start c.args.page) (page_start (c.args.page + 1)) a 0 c.args.self.now) (sym c.page_start-address.ensures) (passed_none _ _ _ _))
+loop-address-init c = subst (λ a. HasPassed c.args.self.now c.args.marker.now (page_start c.args.page) (page_start (c.args.page + 1)) a c.args.self.now) (sym c.page_start-address.ensures) (passed_none _ _ _ _)
 
 pub loop-address-preserved : goal.loop-address-preserved
-loop-address-preserved c = (
-  _,
-  passed_more _ _ _ _ _ _ _ c.end-end.ensures.lawful.map c.forget_next-passed.ensures.lawful.map c.loop-address.invariant.1
-      (let end = c.page_start-end.ensures in let test = c.loop-address-test.true in let low = c.loop-address.invariant.1.low in omega arith) _ _ _ c.forget_next-passed.ensures.passes,
-)
+loop-address-preserved c =
+    passed_more _ _ _ _ _ _ c.end-end.ensures.lawful.map c.forget_next-address.ensures.lawful.map c.loop-address.invariant
+    (let end = c.page_start-end.ensures in let test = c.loop-address-test.true in let low = c.loop-address.invariant.low in omega arith) _ _ c.forget_next-address.ensures.passes
 
 pub loop-address-smaller : goal.loop-address-smaller
 loop-address-smaller c =
-    let further = passes_further _ _ _ _ _ _ c.forget_next-passed.ensures.lawful.map c.forget_next-passed.ensures.passes in
+    let further = passes_further _ _ _ _ _ c.forget_next-address.ensures.lawful.map c.forget_next-address.ensures.passes in
     let test = c.loop-address-test.true in
     omega arith
 
 pub returns-clause-sweeps : goal.returns-clause-sweeps
 returns-clause-sweeps c =
-    passed_page _ _ c.args.page c.loop-address.address _ _ _ c.end-end.ensures.laid c.end-end.ensures.lawful c.in-Some.field-0.now (sym (ap (λ (t : Store). state_at t.states c.args.page) c.self.view_is) ∙ c.in-Some.ensures)
-    (let end = c.page_start-end.ensures in let test = c.loop-address-test.false in omega arith) c.loop-address.invariant.1
+    passed_page _ _ c.args.page c.loop-address.address _ _ c.end-end.ensures.laid c.end-end.ensures.lawful c.in-Some.field-0.now (sym (ap (λ (t : Store). state_at t.states c.args.page) c.self.view_is) ∙ c.in-Some.ensures)
+    (let end = c.page_start-end.ensures in let test = c.loop-address-test.false in omega arith) c.loop-address.invariant
     (ap (λ (t : Store). t.words) c.self-2.view_is) (ap (λ (t : Store). t.states) c.self-2.view_is) (c.clear.ensures ∙ ap (λ (t : Store). slice_set t.pending c.args.page false) c.self-2.view_is)
 
 pub returns-then-marks_on-eq0-clause-sweeps : goal.returns-then-marks_on-eq0-clause-sweeps
