@@ -1,4 +1,4 @@
--- The object that a word reads, as a function of the states of the pages.
+-- The object that a word points into, as a function of the states of the pages.
 use Rattle.std.specs.Prelude.{◌≡◌, ℕ, ◌*◌, ◌/◌, ◌%◌, false, List, length, slice_index_or, if◌then◌else◌, nat_lt, Option, Some, None}
 use Rattle.words.specs.declared.limits.TheConstants.{FIRST_ADDRESS, PAGE_BYTES, WORD_BYTES}
 use Rattle.blocks.specs.Cells.{Cells}
@@ -11,7 +11,7 @@ use Rattle.block_map.specs.declared.found.Found.{Found}
 abbrev pub cell_at : Cells → ℕ → ℕ
 cell_at b w = w % PAGE_BYTES / (WORD_BYTES * b.class)
 
--- the object of a block that a word of its page reads
+-- the object of a block that a word of its page points into
 abbrev pub found_in_block : ℕ → Cells → ℕ → Option Found
 found_in_block page b w = if slice_index_or b.taken (cell_at b w) false then Some (cell_object page b (cell_at b w)) else None
 
@@ -22,14 +22,14 @@ found_large page (cut b) = None
 found_large page (head n kind) = Some (large_object page n kind)
 found_large page (body first) = None
 
--- the object that a word of a page with this state reads
+-- the object that a word of a page with this state points into
 abbrev pub found_on : List PageState → ℕ → PageState → ℕ → Option Found
 found_on states page free w = None
 found_on states page (cut b) w = found_in_block page b w
 found_on states page (head n kind) w = Some (large_object page n kind)
 found_on states page (body first) w = found_large first (state_at states first)
 
--- the object that a word reads
+-- the object that a word points into
 unfoldable pub found_in : List PageState → ℕ → Option Found
 found_in states w = if nat_lt w FIRST_ADDRESS then None else found_on states (page_of w) (state_at states (page_of w)) w
 

@@ -6,7 +6,7 @@ use Rattle.block_map.specs.Objects.{cell_object}
 use Rattle.block_map.specs.FoundIn.{cell_at}
 use Rattle.block_map.specs.declared.found.Found.{Found}
 
--- the object is the first one that a word from `low` on and below `high` reads
+-- the object is the first one that a word from `low` on and below `high` points into
 pub record IsNextObject (found : ℕ → Option Found) (low high : ℕ) (f : Found) : Type 0 where
   pub at : ℕ
   pub after : low ≤ at
@@ -14,7 +14,7 @@ pub record IsNextObject (found : ℕ → Option Found) (low high : ℕ) (f : Fou
   pub reads : found at ≡ Some f
   pub least : (w : ℕ) → low ≤ w → w < at → found w ≡ None
 
--- no word from `low` on and below `high` reads an object
+-- no word from `low` on and below `high` points into an object
 pub record IsNoObject (found : ℕ → Option Found) (low high : ℕ) : Type 0 where
   pub none : (w : ℕ) → low ≤ w → w < high → found w ≡ None
 

@@ -1,4 +1,5 @@
-//! The object that a word reads. No search: the word's page, one look at what stands there, and in a block one multiplication.
+//! The object that a word points into. No search: the word's page, one look at what stands there, and in a block one
+//! multiplication.
 ghost use Rattle.std.specs.Prelude.{◌≡◌, ℕ, ◌<◌, ◌≤◌, length, MatchOption, Option, None, Some};
 ghost use Rattle.words.specs.declared.class.Kind.{Kind};
 ghost use Rattle.words.specs.declared.limits.TheConstants.{MAX_PAGES};
@@ -17,7 +18,7 @@ use words::{PageNo, page_of, page_start};
 impl BlockMap {
     ghost use Rattle.block_map.specs.States.{IsLaid};
 
-    /// The allocated object that a word reads, and `None` exactly where it reads none.
+    /// The allocated object that a word points into, and `None` exactly where it points into none.
     #[inline]
     pub fn find(&self, w: u64) -> Option<Found>
         ensures found { result ≡ found_in self.now w }
@@ -79,7 +80,7 @@ impl BlockMap {
     }
 }
 
-// The object of a block that a word of its page reads.
+// The object of a block that a word of its page points into.
 #[inline]
 #[tactic(auto, using(crate::proofs::Finding::on_page))]
 fn find_in_block(page: PageNo, block: &Block, w: u64) -> Option<Found>

@@ -28,8 +28,8 @@ use Rattle.words.specs.declared.class.Kind.{Kind}
 use Rattle.words.specs.Layout.{page_start, page_of}
 use Rattle.object_space.proofs.Sweeping.{without_none, without_more, has}
 
--- All unmarked objects that an address reads from one up to another are gone, none that only addresses past the limit
--- read, and nothing else has changed. The words of those that are left stay.
+-- All unmarked objects that an address points into from one up to another are gone, none that only addresses past the
+-- limit point into, and nothing else has changed. The words of those that are left stay.
 pub record HasPassed (old : Store) (marking : Marking) (from limit address : ℕ) (now : Store) : Type 0 where
   pub words : KeepsWords (found_in now.states) old.words now.words
   pub pages : length now.states ≡ length old.states

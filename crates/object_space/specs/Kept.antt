@@ -19,7 +19,7 @@ restrict keep found w = keep_if keep (found w)
 abbrev pub is_kept : List Bool → List Bool → Found → Bool
 is_kept pending marks f = if slice_index_or pending f.page false then slice_index_or marks (granule f.base) false else true
 
--- the kept object that a word reads
+-- the kept object that a word points into
 abbrev pub kept_in : List PageState → List Bool → List Bool → ℕ → Option Found
 kept_in states pending marks = restrict (is_kept pending marks) (found_in states)
 
