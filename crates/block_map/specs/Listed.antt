@@ -1,11 +1,13 @@
 -- The lists of the free cells of blocks, in the words of the free cells.
-use Rattle.std.specs.Prelude.{◌≡◌, ℕ, ◌*◌, ◌<◌, false, true, List, length}
+use Rattle.std.specs.Prelude.{◌≡◌, ℕ, ◌*◌, ◌<◌, false, true, List, length, MatchBool}
 use Rattle.words.specs.declared.limits.TheConstants.{PAGE_WORDS}
-use Rattle.words.specs.Bits.{IsFullRow}
+use Rattle.words.specs.Bits.{IsEmptyFrom, IsFirstFrom, IsFullRow}
+use Rattle.words.specs.Classes.{IsSizeClass}
 use Rattle.blocks.specs.Lists.{link_of, IsListed}
-use Rattle.block_map.specs.States.{PageState, free, cut, head, body, state_at, with_cell, HasCell}
+use Rattle.block_map.specs.States.{PageState, free, cut, head, body, state_at, with_cell, HasCell, IsBlockFor}
 use Rattle.block_map.specs.Objects.{object_on}
 use Rattle.block_map.specs.declared.found.Found.{Found}
+use Rattle.block_map.specs.declared.found.Put.{Put}
 
 -- If the page is cut, the list of its free cells stands in this memory.
 abbrev pub IsListedOn : List ℕ → ℕ → PageState → Type 0
@@ -51,3 +53,25 @@ IsFullOn free = ⊥
 IsFullOn (cut b) = IsFullRow b.taken
 IsFullOn (head n kind) = ⊥
 IsFullOn (body first) = ⊥
+
+-- the page is cut, and no cell is allocated
+abbrev pub IsEmptyOn : PageState → Type 0
+IsEmptyOn free = ⊥
+IsEmptyOn (cut b) = IsEmptyFrom b.taken 0
+IsEmptyOn (head n kind) = ⊥
+IsEmptyOn (body first) = ⊥
+
+-- the page is cut, and has a lowest allocated cell
+abbrev pub HasAllocated : PageState → Type 0
+HasAllocated free = ⊥
+HasAllocated (cut b) = (i : ℕ) × IsFirstFrom b.taken 0 i
+HasAllocated (head n kind) = ⊥
+HasAllocated (body first) = ⊥
+
+-- What is told of a page on which a cell became free: the class and the kind that it is cut for, whether each cell was
+-- allocated before, and whether none is now.
+pub record TellsOf (old new : PageState) (put : Put) : Type 0 where
+  pub class : IsSizeClass put.class
+  pub block : IsBlockFor old put.class put.kind
+  pub full : MatchBool put.was_full (IsFullOn old) (HasFirst old)
+  pub empty : MatchBool put.is_empty (IsEmptyOn new) (HasAllocated new)

@@ -35,6 +35,13 @@ IsCut (cut b) = Unit {0}
 IsCut (head n kind) = ⊥
 IsCut (body first) = ⊥
 
+-- the page is cut for the class and the kind
+abbrev pub IsBlockFor : PageState → ℕ → Kind → Type 0
+IsBlockFor free class kind = ⊥
+IsBlockFor (cut b) class kind = (b.class ≡ class) × (b.kind ≡ kind)
+IsBlockFor (head n k) class kind = ⊥
+IsBlockFor (body first) class kind = ⊥
+
 -- the page is cut, and its cell i is allocated, or free
 abbrev pub HasCell : PageState → ℕ → Bool → Type 0
 HasCell free i b = ⊥

@@ -3,13 +3,13 @@ ghost use Rattle.std.specs.Prelude.{◌≡◌, ◌+◌, ◌<◌, ◌≤◌, true
 ghost use Rattle.words.specs.declared.limits.TheConstants.{MAX_PAGES};
 ghost use Rattle.pages.specs.Memory.{with_word_at};
 ghost use Rattle.words.specs.Bits.{IsFullRow};
-ghost use Rattle.blocks.specs.Lists.{link_of, ChangesPage, HasPage, IsFreeCellOf, IsListed};
-ghost use Rattle.block_map.specs.States.{free, state_at, large_states, with_cell, HasCell, IsCut, IsSpanSet, AreFreePages};
-ghost use Rattle.block_map.specs.Listed.{first_object, first_on, with_taken, HasFirst, IsFullOn, IsListedOn};
+ghost use Rattle.blocks.specs.Lists.{cell_start, link_of, ChangesPage, HasPage, IsFreeCellOf, IsListed, IsTakenCellOf};
+ghost use Rattle.block_map.specs.States.{free, cut, state_at, large_states, with_cell, HasCell, IsCut, IsSpanSet, AreFreePages};
+ghost use Rattle.block_map.specs.Listed.{first_object, first_on, with_taken, HasFirst, IsFullOn, IsListedOn, TellsOf};
 ghost use Rattle.block_map.specs.Objects.{cell_object, object_on};
 ghost use Rattle.block_map.specs.Shown.{shown};
 
-use crate::found::Taken;
+use crate::found::{Put, Taken};
 use crate::look::cell_at;
 use crate::page::Page;
 use blocks::{Block, LargeHead};
@@ -23,8 +23,7 @@ pub(crate) fn free_pages(alloc: Global, count: u32) -> Result<Vec<Page>, AllocEr
     ensures { IfOk result (λ v. AreFreePages (map shown v.items) count) }
 {
     let mut pages = Vec::with_capacity(alloc, count as usize)?;
-    for k in 0..count {
-        let _ = k;
+    for _ in 0..count {
         pages.push(Page::Free)?;
     }
     Ok(pages)
@@ -111,8 +110,33 @@ fn take_on(what: &mut Page, memory: &Memory, page: PageNo) -> Option<Taken>
     }
 }
 
+// Makes an allocated cell of a block free.
+fn put_in(block: &mut Block, memory: &mut Memory, page: PageNo, cell: u16) -> Put
+    requires cell { IsTakenCellOf block.old.taken cell }
+    requires small { page < MAX_PAGES }
+    requires has { HasPage memory.old page }
+    requires listed { IsListed memory.old page block.old }
+    ensures block { block.new ≡ record block.old { taken = slice_set block.old.taken cell false; first = cell } }
+    ensures memory { memory.new ≡ with_word_at memory.old (cell_start page block.old.class cell) block.old.first }
+    ensures changes { ChangesPage memory.old memory.new page }
+    ensures listed { IsListed memory.new page block.new }
+    ensures tells { TellsOf (cut block.old) (with_cell (cut block.old) cell false cell) result }
+{
+    let was_full = block.is_full();
+    block.put(memory, page, cell);
+    let class = block.class();
+    let kind = block.kind();
+    let is_empty = block.is_empty();
+    Put {
+        class,
+        kind,
+        was_full,
+        is_empty,
+    }
+}
+
 // Makes an allocated cell of what stands on a page free.
-fn put_on(what: &mut Page, memory: &mut Memory, page: PageNo, cell: u16)
+fn put_on(what: &mut Page, memory: &mut Memory, page: PageNo, cell: u16) -> Put
     requires cell { HasCell (shown what.old) cell true }
     requires small { page < MAX_PAGES }
     requires has { HasPage memory.old page }
@@ -121,9 +145,10 @@ fn put_on(what: &mut Page, memory: &mut Memory, page: PageNo, cell: u16)
     ensures memory { memory.new ≡ with_word_at memory.old (object_on page (shown what.old) cell).base (first_on (shown what.old)) }
     ensures changes { ChangesPage memory.old memory.new page }
     ensures listed { IsListedOn memory.new page (shown what.new) }
+    ensures tells { TellsOf (shown what.old) (with_cell (shown what.old) cell false cell) result }
 {
     match what {
-        Page::Cut(block) => block.put(memory, page, cell),
+        Page::Cut(block) => put_in(block, memory, page, cell),
         Page::Free | Page::Head(_) | Page::Body(_) => unreachable!(),
     }
 }
@@ -152,7 +177,7 @@ pub(crate) fn take_cell(pages: &mut Vec<Page>, memory: &Memory, page: PageNo) ->
 // Makes an allocated cell free, and the first free one of its page.
 #[inline]
 #[tactic(auto, using(crate::proofs::Filling::put))]
-pub(crate) fn put_cell(pages: &mut Vec<Page>, memory: &mut Memory, page: PageNo, cell: u16)
+pub(crate) fn put_cell(pages: &mut Vec<Page>, memory: &mut Memory, page: PageNo, cell: u16) -> Put
     requires page { page < vec_len pages.old }
     requires small { page < MAX_PAGES }
     requires cell { HasCell (state_at (map shown pages.old.items) page) cell true }
@@ -162,7 +187,8 @@ pub(crate) fn put_cell(pages: &mut Vec<Page>, memory: &mut Memory, page: PageNo,
     ensures memory { memory.new ≡ with_word_at memory.old (object_on page (state_at (map shown pages.old.items) page) cell).base (first_on (state_at (map shown pages.old.items) page)) }
     ensures changes { ChangesPage memory.old memory.new page }
     ensures listed { IsListedOn memory.new page (with_cell (state_at (map shown pages.old.items) page) cell false cell) }
+    ensures tells { TellsOf (state_at (map shown pages.old.items) page) (with_cell (state_at (map shown pages.old.items) page) cell false cell) result }
     ensures len { vec_len pages.new ≡ vec_len pages.old }
 {
-    put_on(&mut pages[page as usize], memory, page, cell);
+    put_on(&mut pages[page as usize], memory, page, cell)
 }

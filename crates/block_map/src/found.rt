@@ -1,5 +1,5 @@
-//! An object of the map, and one that has come.
-use words::{Kind, PageNo};
+//! An object of the map, one that has come, and what is left where one went.
+use words::{Class, Kind, PageNo};
 
 /// An allocated object.
 #[derive(Clone, Copy, Debug, PartialEq, Eq)]
@@ -28,4 +28,20 @@ pub struct Taken {
 
     /// Whether its cell was the last free one of its page.
     pub was_last: bool,
+}
+
+/// A page on which a cell became free.
+#[derive(Clone, Copy)]
+pub struct Put {
+    /// The class of its cells.
+    pub class: Class,
+
+    /// The kind of its objects.
+    pub kind: Kind,
+
+    /// Whether each of its cells was allocated.
+    pub was_full: bool,
+
+    /// Whether none is now.
+    pub is_empty: bool,
 }

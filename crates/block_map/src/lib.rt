@@ -1,6 +1,6 @@
-//! The map of the heap: what stands on each page, and the object that a word reads. This crate decides which words read
-//! which object, exactly and for every word. Of the heap's words it touches the first ones of free cells alone, which make
-//! a list of each page's.
+//! The map of the heap: what stands on each page, and the object that a word points into. This crate decides which words
+//! point into which object, exactly and for every word. Of the heap's words it touches the first ones of free cells alone,
+//! which make a list of each page's.
 #![tactic(auto)]
 
 mod fills;
@@ -11,5 +11,5 @@ mod map;
 mod page;
 mod walk;
 
-pub use found::{Found, Taken};
+pub use found::{Found, Put, Taken};
 pub use map::BlockMap;

@@ -1,5 +1,5 @@
 //! The map of a heap, seen as the list of what stands on its pages, and through `found_in` as a function from every
-//! word to the object that it reads.
+//! word to the object that it points into.
 ghost use Rattle.std.specs.Prelude.{◌≡◌, ℕ, ◌+◌, ◌<◌, ◌≤◌, true, false, length, map, slice_set, IfNone, IfSome, MatchBool};
 ghost use Rattle.words.specs.declared.limits.TheConstants.{MAX_PAGES};
 ghost use Rattle.pages.specs.Opening.{IsOpened};
@@ -7,13 +7,13 @@ ghost use Rattle.words.specs.Layout.{page_start};
 ghost use Rattle.pages.specs.Memory.{with_word_at};
 ghost use Rattle.blocks.specs.Lists.{ChangesPage};
 ghost use Rattle.block_map.specs.States.{free, state_at, all_free, large_states, with_cell, span_of, HasCell, IsCut, AreFreePages, IsSpanSet};
-ghost use Rattle.block_map.specs.Listed.{first_object, first_on, with_taken, AreListed, HasFirst, IsFullOn};
+ghost use Rattle.block_map.specs.Listed.{first_object, first_on, with_taken, AreListed, HasFirst, IsFullOn, TellsOf};
 ghost use Rattle.block_map.specs.Objects.{object_on, large_object};
 ghost use Rattle.block_map.specs.FoundIn.{found_in, IsLawful};
 ghost use Rattle.block_map.specs.Changes.{IsSameMap, IsAdded, IsRemoved, IsCleared, IsUncut};
 
 use crate::fills::{fill_free, fill_large, free_pages, put_cell, put_page, take_cell};
-use crate::found::Taken;
+use crate::found::{Put, Taken};
 use crate::page::Page;
 use blocks::Block;
 use pages::{Memory, is_page_count};
@@ -145,9 +145,9 @@ impl BlockMap {
     }
 
     /// Makes an allocated cell free, and the first free one of its page. Its first word gets the number of the one that was
-    /// first, and no other word changes.
+    /// first, and no other word changes. Answers what is left on the page.
     #[tactic(auto, using(crate::proofs::Laid::laid, crate::proofs::Changing::changing))]
-    pub fn put(&mut self, memory: &mut Memory, page: PageNo, cell: u16)
+    pub fn put(&mut self, memory: &mut Memory, page: PageNo, cell: u16) -> Put
         requires inside { page < length self.old }
         requires cell { HasCell (state_at self.old page) cell true }
         requires listed { AreListed memory.old self.old }
@@ -155,8 +155,9 @@ impl BlockMap {
         ensures removed { IsRemoved (found_in self.old) (found_in self.new) (object_on page (state_at self.old page) cell) }
         ensures memory { memory.new ≡ with_word_at memory.old (object_on page (state_at self.old page) cell).base (first_on (state_at self.old page)) }
         ensures listed { AreListed memory.new self.new }
+        ensures tells { TellsOf (state_at self.old page) (with_cell (state_at self.old page) cell false cell) result }
     {
-        put_cell(&mut self.pages, memory, page, cell);
+        put_cell(&mut self.pages, memory, page, cell)
     }
 
     // What stands on a page.

@@ -272,6 +272,20 @@ module _ (rows rows' : List (List Bool)) (states mid : List PageState) (page cel
       (λ _. subst (λ st. IsAvailable st b.class b.kind) (sym is) (record { of_class = refl; of_kind = refl; cell = cell; in_row = w.4; is_free = w.5 }))
       (λ _. refl)
 
+  -- where the page had another free cell, the rows say of it already that it has one
+  pub exact_kept : HasFirst (state_at states page) → IsExact rows mid
+  exact_kept has =
+      let w = was_cut in
+      exact_changed rows rows states mid b.class b.kind page true exact
+      (same_bit rows b.class b.kind page true (exact.entered b.class b.kind page is_class (subst (λ st. IsAvailable st b.class b.kind) (sym w.1) (first_of w.0 w.2 w.3 (subst HasFirst w.1 has)))))
+      mid_size mid_other opened
+      (subst (λ st. OffersOnly st b.class b.kind) (sym is) (cut_offers b))
+      (λ _. subst (λ st. IsAvailable st b.class b.kind) (sym is) (record { of_class = refl; of_kind = refl; cell = cell; in_row = w.4; is_free = w.5 }))
+      (λ _. refl)
+    where
+      first_of : (a : Cells) → a.class ≡ b.class → a.kind ≡ b.kind → HasFirst (cut a) → HasFreeCell a b.class b.kind
+      first_of a c k first = record { of_class = c; of_kind = k; cell = a.first; in_row = first.0; is_free = first.1 }
+
   -- and its page becomes free
   pub exact_uncut : (states' : List PageState) (class : ℕ) (kind : Kind) → class ≡ b.class → kind ≡ b.kind → IsSpanSet mid states' page (span_of (state_at mid page)) (λ _. free)
       → IsBitSet rows rows' class kind page false → IsExact rows' states'

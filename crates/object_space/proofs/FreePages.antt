@@ -14,7 +14,7 @@ use Rattle.blocks.specs.Cells.{Cells}
 use Rattle.block_map.specs.Changes.{IsCleared}
 use Rattle.block_map.specs.FoundIn.{found_in, IsLawful}
 use Rattle.block_map.specs.Objects.{IsObjectOn}
-use Rattle.block_map.specs.States.{PageState, free, cut, head, body, state_at, IsCut, IsLaid, IsSpanSet}
+use Rattle.block_map.specs.States.{PageState, free, cut, state_at, IsCut, IsLaid, IsSpanSet}
 use Rattle.block_map.specs.declared.found.Found.{Found}
 use Rattle.object_space.specs.AvailableRows.{IsAvailable, IsExact, IsBitSet}
 use Rattle.object_space.specs.Store.{Store, KeepsPending}
@@ -122,10 +122,3 @@ sweeps_unmarked old marks page new laid lawful zero x = record {
       absurd (none_there marks (PAGE_GRANULES * page) (PAGE_GRANULES * (page + 1)) (granule f.base) zero (omega arith) (omega arith) has);
   only = λ w f there. let o = x.only w f there in (o.0, λ same. absurd (nothing (granule f.base) (o.1 same)));
 }
-
--- the cells of a page that is cut
-pub cells_of : (st : PageState) → IsCut st → (b : Cells) × (st ≡ cut b)
-cells_of free is = absurd is
-cells_of (cut b) is = (b, refl)
-cells_of (head n k) is = absurd is
-cells_of (body q) is = absurd is

@@ -21,3 +21,4 @@ pub mod Forgetting
 pub mod Counting
 pub mod Forgets
 pub mod FreePages
+pub mod Putting

@@ -37,13 +37,6 @@ IsAvailable (cut b) class kind = HasFreeCell b class kind
 IsAvailable (head n k) class kind = ⊥
 IsAvailable (body first) class kind = ⊥
 
--- a page in this state is cut for the class and the kind
-abbrev pub IsBlockFor : PageState → ℕ → Kind → Type 0
-IsBlockFor free class kind = ⊥
-IsBlockFor (cut b) class kind = (b.class ≡ class) × (b.kind ≡ kind)
-IsBlockFor (head n k) class kind = ⊥
-IsBlockFor (body first) class kind = ⊥
-
 -- The rows of all classes and kinds have these pages, and the bits of exactly those that have a free cell are set.
 pub record IsExact (rows : List (List Bool)) (states : List PageState) : Type 0 where
   pub long : (class : ℕ) (kind : Kind) → IsSizeClass class → length (row_of rows class kind) ≡ length states

@@ -2,8 +2,8 @@
 //! or onto pages of its own.
 ghost use Rattle.std.specs.Prelude.{◌≡◌, ℕ, ◌<◌, ◌⊎◌, false, IfNone, IfSome, MatchOption, length};
 ghost use Rattle.words.specs.Bits.{Has};
-ghost use Rattle.block_map.specs.States.{state_at};
-ghost use Rattle.object_space.specs.AvailableRows.{IsBlockFor, IsAvailable};
+ghost use Rattle.block_map.specs.States.{state_at, IsBlockFor};
+ghost use Rattle.object_space.specs.AvailableRows.{IsAvailable};
 ghost use Rattle.object_space.specs.Rooms.{IsRequest, HasNoFreeCell, HasRoomAt, HasNoRoom};
 ghost use Rattle.object_space.specs.Sweeps.{Allocates, FindsNoPlace, FindsNoRoom, Gains, Sweeps};
 

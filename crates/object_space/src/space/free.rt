@@ -1,56 +1,26 @@
 //! How an object goes: its cell is free again, and its page too once it has no object; of a large object all pages are.
-ghost use Rattle.std.specs.Prelude.{◌≡◌, ◌+◌, ◌<◌, ◌≤◌, true, false, Some, length, slice_set};
+ghost use Rattle.std.specs.Prelude.{◌≡◌, ◌+◌, ◌<◌, ◌≤◌, true, Some, length};
 ghost use Rattle.words.specs.declared.class.Kind.{Kind};
 ghost use Rattle.pages.specs.Memory.{with_word_at};
 ghost use Rattle.pages.specs.Runs.{IsFilled};
-ghost use Rattle.block_map.specs.Changes.{IsRemoved, IsUncut};
+ghost use Rattle.block_map.specs.Changes.{IsRemoved};
 ghost use Rattle.block_map.specs.FoundIn.{found_in, IsLawful};
 ghost use Rattle.block_map.specs.Listed.{first_on, AreListed};
-ghost use Rattle.block_map.specs.States.{free, head, span_of, state_at, HasCell, IsCut, IsLaid, IsSpanSet};
+ghost use Rattle.block_map.specs.States.{free, head, state_at, HasCell, IsLaid, IsSpanSet};
 ghost use Rattle.block_map.specs.Objects.{large_object, object_on};
-ghost use Rattle.object_space.specs.AvailableRows.{row_of, IsBitSet, IsExact};
+ghost use Rattle.object_space.specs.AvailableRows.{IsExact};
 ghost use Rattle.object_space.specs.Store.{KeepsPending};
 ghost use Rattle.object_space.specs.Rooms.{FreesCell};
 ghost use Rattle.object_space.specs.Sweeps.{Loses};
 
 use super::ObjectSpace;
 use super::available_pages::AvailablePages;
+use super::free_page::free_block;
 use super::page_row::PageRow;
 use block_map::{BlockMap, Found};
 use pages::{Memory, PagePool};
+use words::PageNo;
 use words::limits::PAGE_WORDS;
-use words::{Class, Kind, PageNo};
-
-// Makes the page of a block that has no object left free.
-#[inline(never)]
-fn give_page(
-    pool: &mut PagePool,
-    map: &mut BlockMap,
-    available: &mut AvailablePages,
-    pending: &mut PageRow,
-    page: PageNo,
-    class: Class,
-    kind: Kind,
-)
-    requires inside { page < length map.old }
-    requires cut { IsCut (state_at map.old page) }
-    requires size { length pool.old ≡ length map.old }
-    requires listed { page < length (row_of available.old class kind) }
-    requires row { page < length pending.old }
-    ensures given { IsFilled pool.old pool.new page 1 true }
-    ensures states { IsSpanSet map.old map.new page (span_of (state_at map.old page)) (λ _. free) }
-    ensures uncut { IsUncut page (state_at map.old page) (found_in map.old) (found_in map.new) }
-    ensures left { IsBitSet available.old available.new class kind page false }
-    ensures pending { pending.new ≡ slice_set pending.old page false }
-    ensures lawful { IsLawful map.new }
-{
-    map.uncut(page);
-    pool.give(page, 1);
-    available.leave(class, kind, page);
-    pending.clear(page as usize);
-    // Its clauses tell what is true of the map.
-    let _pages = map.len();
-}
 
 // Frees a cell, and its page with the last one.
 #[inline(always)]
@@ -75,17 +45,15 @@ fn free_cell(
     ensures exact { IsExact available.new map.new }
     ensures pending { KeepsPending page map.old map.new pending.old pending.new }
 {
-    map.put(memory, page, cell);
-    let Some(block) = map.block(page) else {
-        unreachable!();
-    };
-    let class = block.class();
-    let kind = block.kind();
-    if !block.is_empty() {
-        available.enter(class, kind, page);
+    let left = map.put(memory, page, cell);
+    if left.is_empty {
+        free_block(pool, map, available, page, left.class, left.kind);
+        pending.clear(page as usize);
         return;
     }
-    give_page(pool, map, available, pending, page, class, kind);
+    if left.was_full {
+        available.enter(left.class, left.kind, page);
+    }
 }
 
 // Frees all pages of the large object that begins on a page.

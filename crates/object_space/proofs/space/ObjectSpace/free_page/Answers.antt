@@ -1,35 +1,47 @@
-use Rattle.std.proofs.Common.{[], ◌<◌, length, arith, subst, sym}
+use Rattle.std.proofs.Common.{[], ◌+◌, ◌<◌, length, ap, arith, subst, sym}
+use Rattle.words.specs.Classes.{IsSizeClass}
+use Rattle.words.specs.Layout.{page_start}
 use Rattle.block_map.proofs.Listed.{listed_span}
-use Rattle.block_map.specs.States.{free, state_at}
+use Rattle.block_map.specs.Changes.{IsCleared}
+use Rattle.block_map.specs.FoundIn.{found_in}
+use Rattle.block_map.specs.States.{free, span_of, IsSpanSet}
 use Rattle.object_space.specs.Store.{Store, KeepsPending}
 use Rattle.object_space.proofs.Stores.{store_of}
 use Rattle.object_space.specs.Sweeps.{SweepsPage}
 use Rattle.object_space.proofs.Frees.{pending_row, sound_large_gone}
-use Rattle.object_space.proofs.FreePages.{pending_freed, sweeps_freed, cells_of}
+use Rattle.object_space.proofs.FreePages.{exact_freed, pending_freed, sweeps_freed}
 use Rattle.object_space.proofs.space.ObjectSpace.free_page.Goals as goal
 
 pub free_block-requires-clause-cut : goal.free_block-requires-clause-cut
 free_block-requires-clause-cut c = c.self.invariant.pending.cut c.args.page (rw (← c.self.view_is) at c.requires.was)
 
+pub free_block-requires-clause-listed : goal.free_block-requires-clause-listed
+free_block-requires-clause-listed c =
+    let long = c.self.invariant.exact.long c.class-class.result c.kind-kind.result (subst IsSizeClass (sym c.class-class.ensures.class) c.class-class.ensures.cells.class) in
+    let inside : c.args.page < length c.self.inside.map = rw (← c.self.view_is) at c.requires.inside in omega arith
+
 pub invariant_of-self : goal.invariant_of-self
 invariant_of-self c =
     let t : Store = store_of c.self.inside.memory c.self.inside.pool c.self.inside.map c.self.inside.pending in
     let x = c.free_block.ensures in
-    let in_row : c.args.page < length t.pending = (let size = c.self.invariant.pending.size in let fits = x.states.fits in omega arith) in
-    let s = sound_large_gone t c.free_block.new.pool c.free_block.new.map c.args.page 1 c.self.invariant.sound x.given x.states in
+    let one : IsSpanSet t.states c.free_block.new.map c.args.page 1 (λ _. free) = subst (λ n. IsSpanSet t.states c.free_block.new.map c.args.page n (λ _. free)) (ap span_of c.in-Some.ensures) x.states in
+    let in_row : c.args.page < length t.pending = (let size = c.self.invariant.pending.size in let fits = one.fits in omega arith) in
+    let s = sound_large_gone t c.free_block.new.pool c.free_block.new.map c.args.page 1 c.self.invariant.sound x.given one in
     record {
       sound = record { agree = s.agree; used = s.used };
-      listed = listed_span _ t.states c.free_block.new.map c.args.page 1 (λ _. free) x.states (λ k. tt) c.self.invariant.listed;
-      exact = x.exact;
-      pending = pending_row t _ c.args.page c.self.invariant.pending x.states.size
-          (subst (KeepsPending c.args.page t.states c.free_block.new.map t.pending) (sym c.clear.ensures) (pending_freed t.states c.free_block.new.map c.args.page t.pending in_row x.states x.lawful));
+      listed = listed_span _ t.states c.free_block.new.map c.args.page 1 (λ _. free) one (λ k. tt) c.self.invariant.listed;
+      exact = exact_freed _ _ _ _ c.args.page c.in-Some.block.now c.self.invariant.exact c.in-Some.ensures _ _ c.class-class.ensures.class c.kind-kind.ensures one x.left;
+      pending = pending_row t _ c.args.page c.self.invariant.pending one.size
+          (subst (KeepsPending c.args.page t.states c.free_block.new.map t.pending) (sym c.clear.ensures) (pending_freed t.states c.free_block.new.map c.args.page t.pending in_row one x.lawful));
     }
 
 pub returns : goal.returns
 returns c =
     let t : Store = store_of c.self.inside.memory c.self.inside.pool c.self.inside.map c.self.inside.pending in
     let x = c.free_block.ensures in
-    let b = cells_of (state_at t.states c.args.page) (c.self.invariant.pending.cut c.args.page (rw (← c.self.view_is) at c.requires.was)) in
+    let one : IsSpanSet t.states c.free_block.new.map c.args.page 1 (λ _. free) = subst (λ n. IsSpanSet t.states c.free_block.new.map c.args.page n (λ _. free)) (ap span_of c.in-Some.ensures) x.states in
+    let cleared : IsCleared (found_in t.states) (found_in c.free_block.new.map) (page_start c.args.page) (page_start (c.args.page + 1)) =
+    subst (λ n. IsCleared (found_in t.states) (found_in c.free_block.new.map) (page_start c.args.page) (page_start (c.args.page + n))) (ap span_of c.in-Some.ensures) x.cleared in
     rw (← c.self.view_is)
     (subst (λ row. SweepsPage t [] c.args.page (store_of t.words c.free_block.new.pool c.free_block.new.map row)) (sym c.clear.ensures)
-    (sweeps_freed t c.args.page b.0 (rw (← c.self.view_is) at c.end-end.ensures.laid) (rw (← c.self.view_is) at c.end-end.ensures.lawful) b.1 c.free_block.new.pool c.free_block.new.map x.lawful x.states x.cleared))
+    (sweeps_freed t c.args.page c.in-Some.block.now (rw (← c.self.view_is) at c.end-end.ensures.laid) (rw (← c.self.view_is) at c.end-end.ensures.lawful) c.in-Some.ensures c.free_block.new.pool c.free_block.new.map x.lawful one cleared))

@@ -1,7 +1,6 @@
 use Rattle.std.proofs.Common.{ℕ, ◌<◌, ◌-◌, length}
 use Rattle.words.specs.Bits.{Has}
-use Rattle.block_map.specs.States.{state_at}
-use Rattle.object_space.specs.AvailableRows.{IsBlockFor}
+use Rattle.block_map.specs.States.{state_at, IsBlockFor}
 use Rattle.object_space.proofs.space.ObjectSpace.pending_for.Given as goal
 
 abbrev pub invariant-loop-page : goal.invariant-loop-page
