@@ -97,7 +97,6 @@ impl ObjectSpace {
         ensures lawful { IsLawful self.now.states }
         ensures long { length self.now.words ≡ PAGE_WORDS * length self.now.states }
     {
-        // Its clauses tell how many marks there are.
         marker.laws();
         let Some(found) = self.map.find(word) else {
             return None;

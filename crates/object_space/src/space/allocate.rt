@@ -67,8 +67,7 @@ impl ObjectSpace {
         ensures some { IfSome result (λ page. IsAvailable (state_at self.new.states page) class kind × (Has self.new.pending page → ⊥)) }
         ensures none { IfNone result (HasNoFreeCell self.new.states class kind) }
     {
-        // Its clauses tell what is true of the map.
-        let _end = self.end();
+        self.laws();
         while let Some(page) = self.page_for(class, kind) {
             if !self.pending.is_set(page as usize) {
                 return Some(page);
@@ -167,8 +166,7 @@ impl ObjectSpace {
         requires pages { length marker.now.dirty ≡ length self.old.states }
         ensures { MatchOption result (FindsNoPlace self.old marker.now.marks placement.now kind self.new) (λ base. Allocates self.old marker.now.marks placement.now kind base self.new) }
     {
-        // Its clauses tell what is true of the map.
-        let _end = self.end();
+        self.laws();
         match placement {
             Placement::Small(class) => self.place_small(marker, *class, kind),
             Placement::Large(pages) => self.take_run(*pages, kind),
@@ -203,8 +201,7 @@ impl ObjectSpace {
         if let Some(base) = self.place(marker, &placement, kind) {
             return Some(base);
         }
-        // Its clauses tell what is true of the map.
-        let _end = self.end();
+        self.laws();
         while self.sweep(marker) {
             if let Some(base) = self.place(marker, &placement, kind) {
                 return Some(base);
@@ -221,8 +218,7 @@ impl ObjectSpace {
         requires pages { length marker.now.dirty ≡ length self.old.states }
         ensures { MatchOption result (FindsNoRoom self.old marker.now.marks placement kind self.new) (λ base. Allocates self.old marker.now.marks placement kind base self.new) }
     {
-        // Its clauses tell what is true of the map.
-        let _end = self.end();
+        self.laws();
         if let Placement::Small(class) = &placement
             && let Some(base) = self.take_ready(*class, kind)
         {

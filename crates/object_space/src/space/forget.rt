@@ -25,8 +25,7 @@ impl ObjectSpace {
         ensures forgets { ForgetsOn self.old marker.now.marks page result self.new }
         ensures lawful { IsLawful self.old.states }
     {
-        // Its clauses tell what is true of the map, and how many marks there are.
-        let _end = self.end();
+        self.laws();
         marker.laws();
         let Some(block) = self.map.block(page) else {
             return self.forget_large(marker, page);
@@ -45,8 +44,7 @@ impl ObjectSpace {
         requires whole { IsCut (state_at self.old.states page) → ⊥ }
         ensures { ForgetsOn self.old marker.now.marks page result self.new }
     {
-        // Its clauses tell what is true of the map, and how many marks there are.
-        let _end = self.end();
+        self.laws();
         marker.laws();
         let Some(found) = self.map.large_on(page) else {
             return 0;
@@ -66,8 +64,7 @@ impl ObjectSpace {
         requires objects { AreMarksObjects (found_in self.old.states) marker.now }
         ensures { ForgetsLazily self.old marker.now.marks result self.new }
     {
-        // Its clauses tell what is true of the map.
-        let _end = self.end();
+        self.laws();
         let mut count = 0;
         for page in 0..self.map.len() {
             count += u64::from(self.forget_on(marker, page));
@@ -90,8 +87,7 @@ impl ObjectSpace {
         ensures objects { AreMarksObjects (found_in self.new.states) marker.new }
         ensures lawful { IsLawful self.old.states }
     {
-        // Its clauses tell what is true of the map.
-        let _end = self.end();
+        self.laws();
         self.close(marker, roots);
         self.forget_lazily(marker)
     }

@@ -50,8 +50,7 @@ impl ObjectSpace {
         requires was { Has self.old.pending page }
         ensures { SweepsPage self.old [] page self.new }
     {
-        // Its clauses tell what is true of the map.
-        let _end = self.end();
+        self.laws();
         let Some(block) = self.map.block(page) else {
             unreachable!();
         };

@@ -1,10 +1,9 @@
 //! Sweeping: the unmarked objects of a page go, and what is kept stays.
 ghost use Rattle.std.specs.Prelude.{◌≡◌, ◌+◌, ◌<◌, ◌≤◌, true, false, count_by, length, Some, MatchOption};
-ghost use Rattle.words.specs.declared.limits.TheConstants.{FIRST_ADDRESS, MAX_PAGES};
+ghost use Rattle.words.specs.declared.limits.TheConstants.{FIRST_ADDRESS};
 ghost use Rattle.block_map.specs.declared.found.Found.{Found};
 ghost use Rattle.block_map.specs.FoundIn.{found_in, IsLawful};
 ghost use Rattle.block_map.specs.Walks.{IsNextObject, IsNoObject};
-ghost use Rattle.block_map.specs.States.{IsLaid};
 ghost use Rattle.words.specs.Bits.{Has};
 ghost use Rattle.words.specs.Layout.{page_start};
 ghost use Rattle.object_space.specs.Store.{IsSwept};
@@ -29,16 +28,6 @@ impl ObjectSpace {
         self.map.next_on_page(page, from)
     }
 
-    // The address past the last byte.
-    pub(super) fn end(&self) -> u64
-        ensures end { result ≡ page_start (length self.now.states) }
-        ensures lawful { IsLawful self.now.states }
-        ensures few { length self.now.states ≤ MAX_PAGES }
-        ensures laid { IsLaid self.now.states }
-    {
-        page_start(self.map.len())
-    }
-
     // Looks at the first object of a page from an address on, and forgets it if it isn't marked. Answers where it ends,
     // or where the page does.
     fn forget_next(&mut self, marker: &Marker, address: u64) -> u64
@@ -48,7 +37,6 @@ impl ObjectSpace {
         ensures passes { Passes self.old marker.now address result self.new }
         ensures lawful { IsLawful self.old.states }
     {
-        // Its clauses tell how many marks there are.
         marker.laws();
         let page = page_of(address) as PageNo;
         let Some(found) = self.next_on_page(page, address) else {
@@ -70,8 +58,7 @@ impl ObjectSpace {
         ensures sweeps { SweepsPage self.old marker.now.marks page self.new }
         ensures lawful { IsLawful self.old.states }
     {
-        // Its clauses tell what is true of the map, and that the page is cut.
-        let _end = self.end();
+        self.laws();
         if marker.marks_on(page) == 0 {
             self.free_page(page);
             return;
@@ -110,8 +97,7 @@ impl ObjectSpace {
         ensures sweeps { Sweeps self.old marker.now.marks self.new }
         ensures swept { IsSwept self.new }
     {
-        // Its clauses tell what is true of the map.
-        let _end = self.end();
+        self.laws();
         while self.sweep(marker) {}
     }
 }

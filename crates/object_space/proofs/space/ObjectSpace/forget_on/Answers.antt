@@ -7,7 +7,7 @@ use Rattle.object_space.proofs.space.ObjectSpace.forget_on.Goals as goal
 
 pub overflow_sub-unmarked : goal.overflow_sub-unmarked
 overflow_sub-unmarked c =
-    let count = (counted c.args.self.now c.args.marker.now c.args.page c.in-Some.block.now _ _ c.end-end.ensures.laid c.end-end.ensures.lawful c.requires.objects c.laws.ensures c.requires.pages c.requires.inside
+    let count = (counted c.args.self.now c.args.marker.now c.args.page c.in-Some.block.now _ _ c.laws.ensures.laid c.laws.ensures.lawful c.requires.objects c.laws-2.ensures c.requires.pages c.requires.inside
     (sym (ap (λ (t : Store). state_at t.states c.args.page) c.self.view_is) ∙ c.in-Some.ensures) c.allocated.ensures.count c.marks_on.ensures).count in
     omega arith
 
@@ -17,12 +17,12 @@ returns-then-unmarked-gt0-clause-forgets c =
     let size = (subst IsPendingRow c.self.view_is c.self.invariant.pending).size in let inside = c.requires.inside in
     subst (ForgetsOn c.args.self.now c.args.marker.now.marks c.args.page (c.allocated.result - c.marks_on.result)) (ap (λ (t : Store). record t { pending = c.set.new.self }) (sym c.self.view_is))
     (some_dead c.args.self.now c.args.marker.now.marks c.args.page _ _ c.set.new.self
-    (counted c.args.self.now c.args.marker.now c.args.page c.in-Some.block.now _ _ c.end-end.ensures.laid c.end-end.ensures.lawful c.requires.objects c.laws.ensures c.requires.pages c.requires.inside is c.allocated.ensures.count c.marks_on.ensures)
+    (counted c.args.self.now c.args.marker.now c.args.page c.in-Some.block.now _ _ c.laws.ensures.laid c.laws.ensures.lawful c.requires.objects c.laws-2.ensures c.requires.pages c.requires.inside is c.allocated.ensures.count c.marks_on.ensures)
     c.if-unmarked-gt0.true (subst IsCut (sym is) tt) (omega arith) (c.set.ensures ∙ ap (λ (t : Store). set t.pending c.args.page true) c.self.view_is))
 
 pub returns-else-unmarked-gt0-clause-forgets : goal.returns-else-unmarked-gt0-clause-forgets
 returns-else-unmarked-gt0-clause-forgets c =
     none_dead c.args.self.now c.args.marker.now.marks c.args.page _ _
-    (counted c.args.self.now c.args.marker.now c.args.page c.in-Some.block.now _ _ c.end-end.ensures.laid c.end-end.ensures.lawful c.requires.objects c.laws.ensures c.requires.pages c.requires.inside
+    (counted c.args.self.now c.args.marker.now c.args.page c.in-Some.block.now _ _ c.laws.ensures.laid c.laws.ensures.lawful c.requires.objects c.laws-2.ensures c.requires.pages c.requires.inside
     (sym (ap (λ (t : Store). state_at t.states c.args.page) c.self.view_is) ∙ c.in-Some.ensures) c.allocated.ensures.count c.marks_on.ensures)
     (let none = c.if-unmarked-gt0.false in omega arith)

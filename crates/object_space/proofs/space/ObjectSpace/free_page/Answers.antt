@@ -44,4 +44,4 @@ returns c =
     subst (λ n. IsCleared (found_in t.states) (found_in c.free_block.new.map) (page_start c.args.page) (page_start (c.args.page + n))) (ap span_of c.in-Some.ensures) x.cleared in
     rw (← c.self.view_is)
     (subst (λ row. SweepsPage t [] c.args.page (store_of t.words c.free_block.new.pool c.free_block.new.map row)) (sym c.clear.ensures)
-    (sweeps_freed t c.args.page c.in-Some.block.now (rw (← c.self.view_is) at c.end-end.ensures.laid) (rw (← c.self.view_is) at c.end-end.ensures.lawful) c.in-Some.ensures c.free_block.new.pool c.free_block.new.map x.lawful one cleared))
+    (sweeps_freed t c.args.page c.in-Some.block.now (rw (← c.self.view_is) at c.laws.ensures.laid) (rw (← c.self.view_is) at c.laws.ensures.lawful) c.in-Some.ensures c.free_block.new.pool c.free_block.new.map x.lawful one cleared))

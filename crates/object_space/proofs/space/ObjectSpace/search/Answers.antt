@@ -4,7 +4,7 @@ use Rattle.object_space.proofs.Swept.{sweeps_none}
 use Rattle.object_space.proofs.space.ObjectSpace.search.Goals as goal
 
 pub loop-kind-init : goal.loop-kind-init
-loop-kind-init c = record { sweeps = sweeps_none _ _ c.end-end.ensures.lawful.map; none = c.in_default.ensures.none }
+loop-kind-init c = record { sweeps = sweeps_none _ _ c.laws.ensures.lawful.map; none = c.in_default.ensures.none }
 
 pub loop-kind-preserved : goal.loop-kind-preserved
 loop-kind-preserved c = no_place_after _ _ _ _ _ _ c.loop-kind.invariant.sweeps (no_place_after _ _ _ _ _ _ c.sweep.ensures.sweeps c.in_default-place.ensures)

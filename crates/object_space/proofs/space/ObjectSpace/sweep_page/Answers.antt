@@ -12,7 +12,7 @@ loop-address-init c = subst (λ a. HasPassed c.args.self.now c.args.marker.now (
 
 pub loop-address-preserved : goal.loop-address-preserved
 loop-address-preserved c =
-    passed_more _ _ _ _ _ _ c.end-end.ensures.lawful.map c.forget_next-address.ensures.lawful.map c.loop-address.invariant
+    passed_more _ _ _ _ _ _ c.laws.ensures.lawful.map c.forget_next-address.ensures.lawful.map c.loop-address.invariant
     (let end = c.page_start-end.ensures in let test = c.loop-address-test.true in let low = c.loop-address.invariant.low in omega arith) _ _ c.forget_next-address.ensures.passes
 
 pub loop-address-smaller : goal.loop-address-smaller
@@ -23,10 +23,10 @@ loop-address-smaller c =
 
 pub returns-clause-sweeps : goal.returns-clause-sweeps
 returns-clause-sweeps c =
-    passed_page _ _ c.args.page c.loop-address.address _ _ c.end-end.ensures.laid c.end-end.ensures.lawful c.in-Some.field-0.now (sym (ap (λ (t : Store). state_at t.states c.args.page) c.self.view_is) ∙ c.in-Some.ensures)
+    passed_page _ _ c.args.page c.loop-address.address _ _ c.laws.ensures.laid c.laws.ensures.lawful c.in-Some.field-0.now (sym (ap (λ (t : Store). state_at t.states c.args.page) c.self.view_is) ∙ c.in-Some.ensures)
     (let end = c.page_start-end.ensures in let test = c.loop-address-test.false in omega arith) c.loop-address.invariant
     (ap (λ (t : Store). t.words) c.self-2.view_is) (ap (λ (t : Store). t.states) c.self-2.view_is) (c.clear.ensures ∙ ap (λ (t : Store). slice_set t.pending c.args.page false) c.self-2.view_is)
 
 pub returns-then-marks_on-eq0-clause-sweeps : goal.returns-then-marks_on-eq0-clause-sweeps
 returns-then-marks_on-eq0-clause-sweeps c =
-    sweeps_unmarked _ _ _ _ c.end-end.ensures.laid c.end-end.ensures.lawful (sym c.marks_on.ensures ∙ c.if-marks_on-eq0.true) c.free_page.ensures
+    sweeps_unmarked _ _ _ _ c.laws.ensures.laid c.laws.ensures.lawful (sym c.marks_on.ensures ∙ c.if-marks_on-eq0.true) c.free_page.ensures
