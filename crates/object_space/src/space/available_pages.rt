@@ -16,7 +16,7 @@ const ROWS: usize = 2 * CLASSES.len();
 
 /// The pages of each class and kind that have a free cell.
 #[derive(Drop)]
-pub struct AvailablePages {
+pub(super) struct AvailablePages {
     rows: Vec<PageRow>,
 }
 
@@ -34,7 +34,7 @@ impl Model for AvailablePages {
 // The number of the row of a class and a kind.
 #[inline]
 #[tactic(auto, using(crate::proofs::AvailableRows::rows))]
-fn number_of(class: Class, kind: Kind) -> usize
+fn row_number(class: Class, kind: Kind) -> usize
     ensures number { result ≡ row_number class kind }
     ensures inside { result < ROWS }
     ensures listed { IsSizeClass class }
@@ -71,7 +71,7 @@ fn clear_bit(rows: &mut Vec<PageRow>, number: usize, page: PageNo)
 #[tactic(auto, using(crate::proofs::AvailableRows::rows))]
 impl AvailablePages {
     /// Rows over so many pages, none of which has a free cell.
-    pub fn new(alloc: Global, pages: u32) -> Result<AvailablePages, AllocError>
+    pub(super) fn new(alloc: Global, pages: u32) -> Result<AvailablePages, AllocError>
         ensures { IfOk result (λ rows. AreClear rows pages) }
     {
         let mut rows = Vec::with_capacity(alloc, ROWS)?;
@@ -83,28 +83,28 @@ impl AvailablePages {
 
     /// The lowest page of a class and a kind.
     #[inline]
-    pub fn first(&self, class: Class, kind: Kind) -> Option<usize>
+    pub(super) fn first(&self, class: Class, kind: Kind) -> Option<usize>
         ensures page { MatchOption result (IsEmptyFrom (row_of self.now class kind) 0) (λ page. IsFirstFrom (row_of self.now class kind) 0 page) }
         ensures listed { IsSizeClass class }
     {
-        self.rows[number_of(class, kind)].first()
+        self.rows[row_number(class, kind)].first()
     }
 
     /// Enters a page of a class and a kind.
     #[inline]
-    pub fn enter(&mut self, class: Class, kind: Kind, page: PageNo)
+    pub(super) fn enter(&mut self, class: Class, kind: Kind, page: PageNo)
         requires { page < length (row_of self.old class kind) }
         ensures { IsBitSet self.old self.new class kind page true }
     {
-        set_bit(&mut self.rows, number_of(class, kind), page);
+        set_bit(&mut self.rows, row_number(class, kind), page);
     }
 
     /// Takes a page out.
     #[inline]
-    pub fn leave(&mut self, class: Class, kind: Kind, page: PageNo)
+    pub(super) fn leave(&mut self, class: Class, kind: Kind, page: PageNo)
         requires { page < length (row_of self.old class kind) }
         ensures { IsBitSet self.old self.new class kind page false }
     {
-        clear_bit(&mut self.rows, number_of(class, kind), page);
+        clear_bit(&mut self.rows, row_number(class, kind), page);
     }
 }
