@@ -1,13 +1,17 @@
 //! Why the program ends with a status that isn't 0, and what it says of it.
 ghost use Rattle.std.specs.Prelude.{◌≡◌, ◌+◌, ◌<◌, ℕ, length, take, OnOk, OnErr};
+ghost use Rattle.std.specs.IoError.{error_kind};
+ghost use Rattle.std.specs.declared.io.ErrorKind.TheVariants.{OutOfMemory};
 ghost use Rattle.std.specs.Io.KnownBytes.{Appends};
 ghost use Rattle.scripts.specs.declared.limits.TheConstants.{REPLY_BYTES};
+ghost use Rattle.commands.specs.declared.fault.Fault.TheVariants.{Read, Memory};
 ghost use Rattle.commands.specs.Faults.{fault_of, status_of, fault_text, fault_line};
 
 use arrayvec::ArrayString;
 use itoa::Buffer;
 use scripts::limits::REPLY_BYTES;
 use scripts::{Failed, ScriptError, Sink, write_all};
+use std::io::{Error, ErrorKind};
 
 /// Why the program ends with a status that isn't 0.
 #[derive(Clone, Copy, Debug, PartialEq, Eq)]
@@ -38,6 +42,18 @@ impl Fault {
             ScriptError::Read => Fault::Read,
             ScriptError::Write => Fault::Write,
             ScriptError::Memory => Fault::Memory,
+        }
+    }
+
+    /// What an open or a read of a file that failed is to the program: only where memory was refused it isn't a read fault.
+    pub fn of_read(error: &Error) -> Fault
+        ensures memory { error_kind error.now ≡ OutOfMemory → result ≡ Memory }
+        ensures read { (error_kind error.now ≡ OutOfMemory → ⊥) → result ≡ Read }
+    {
+        if error.kind() == ErrorKind::OutOfMemory {
+            Fault::Memory
+        } else {
+            Fault::Read
         }
     }
 

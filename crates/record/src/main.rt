@@ -52,8 +52,9 @@ fn print_run(rt: &HostRuntime, recorder: &mut Recorder, script: &str) -> Result<
 
 // Runs the script of a file on a new heap.
 fn record(rt: &HostRuntime, pages: u32, file: &str) -> Result<(), Fault> {
-    let Ok(script) = fs::read_to_string(rt, file) else {
-        return Err(Fault::Read);
+    let script = match fs::read_to_string(rt, file) {
+        Ok(script) => script,
+        Err(error) => return Err(Fault::of_read(&error)),
     };
     let Ok(core) = Core::new(rt.alloc(), pages) else {
         return Err(Fault::Memory);

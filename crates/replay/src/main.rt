@@ -29,8 +29,9 @@ fn print_verdict(rt: &HostRuntime, verdict: Verdict) -> Result<u8, Fault> {
 fn check(rt: &HostRuntime, pages: u32, file: &str) -> Result<u8, Fault>
     requires { (1 ≤ pages) × (pages ≤ MAX_PAGES) }
 {
-    let Ok(text) = fs::read_to_string(rt, file) else {
-        return Err(Fault::Read);
+    let text = match fs::read_to_string(rt, file) {
+        Ok(text) => text,
+        Err(error) => return Err(Fault::of_read(&error)),
     };
     match judge(rt.alloc(), pages, text.as_str()) {
         Ok(verdict) => print_verdict(rt, verdict),
