@@ -1,11 +1,15 @@
 //! The words that a program is given.
+ghost use Rattle.std.specs.Prelude.{◌≡◌, ◌⊎◌, IfErr};
+ghost use Rattle.commands.specs.declared.fault.Fault.TheVariants.{BadCommand, Memory};
 
 use crate::fault::Fault;
 use std::rt::Env;
 use std::{env, io};
 
 // Why a program doesn't get its words: memory was refused, or one of them isn't UTF-8.
-fn unread(error: &io::Error) -> Fault {
+fn unread(error: &io::Error) -> Fault
+    ensures { (result ≡ Memory) ⊎ (result ≡ BadCommand) }
+{
     if error.kind() == io::ErrorKind::OutOfMemory {
         Fault::Memory
     } else {
@@ -14,7 +18,9 @@ fn unread(error: &io::Error) -> Fault {
 }
 
 /// The words that the program is given, without its own name.
-pub fn own_words<R: Env + AllocGlobal>(rt: &R) -> Result<Vec<String>, Fault> {
+pub fn own_words<R: Env + AllocGlobal>(rt: &R) -> Result<Vec<String>, Fault>
+    ensures { IfErr result (λ fault. (fault ≡ Memory) ⊎ (fault ≡ BadCommand)) }
+{
     let all = match env::args(rt) {
         Ok(all) => all,
         Err(error) => return Err(unread(&error)),
