@@ -123,6 +123,37 @@ fn pages_swept(slot: Slot) -> [(Event, Wanted); 8] {
     ]
 }
 
+// Calls of the mutator between the collector's, none of which marks, reads a page again or sweeps: the collector finds as
+// much to do as if they weren't there.
+fn no_small_step(slot: Slot) -> [(Event, Wanted); 23] {
+    let (head, tail, other) = (reg(1), reg(2), reg(3));
+    [
+        (call(slot, Call::Alloc(head, 2, Kind::Normal)), OK),
+        (call(slot, Call::Alloc(tail, 4, Kind::Normal)), OK),
+        (call(slot, Call::Store(head, 0, tail)), OK),
+        (call(slot, Call::Set(tail, 0)), OK),
+        (Event::Begin, OK),
+        (call(slot, Call::Get(head)), Wanted::Pointer),
+        (Event::Mark(8), count(0)),
+        (Event::Roots, OK),
+        (call(slot, Call::Load(other, head, 0)), Wanted::Pointer),
+        (Event::Mark(8), count(6)),
+        (call(slot, Call::Store(head, 1, tail)), OK),
+        (call(slot, Call::Get(tail)), word(0)),
+        (Event::Retrace, count(1)),
+        (Event::Finish, count(0)),
+        (call(slot, Call::Set(head, 0)), OK),
+        (call(slot, Call::Set(other, 0)), OK),
+        (Event::Begin, OK),
+        (Event::Finish, count(2)),
+        (call(slot, Call::Get(head)), word(0)),
+        (Event::Sweep, count(1)),
+        (call(slot, Call::Get(tail)), word(0)),
+        (Event::Sweep, count(1)),
+        (Event::Sweep, count(0)),
+    ]
+}
+
 // Each call of the collector in the wrong phase, which is no event, and collections that are counted.
 fn wrong_phases() -> [(Event, Wanted); 11] {
     [
@@ -161,6 +192,14 @@ fn pages_are_swept(rt: HostRuntime) -> Result<(), Fail> {
     let slot = Slot::new(0).ok_or("a slot")?;
     let opened = open(rt.alloc(), 4).ok().ok_or("a heap")?;
     check::<Brand, _>(&rt, opened, &pages_swept(slot));
+    Ok(())
+}
+
+#[test]
+fn a_call_does_no_small_step(rt: HostRuntime) -> Result<(), Fail> {
+    let slot = Slot::new(0).ok_or("a slot")?;
+    let opened = open(rt.alloc(), 4).ok().ok_or("a heap")?;
+    check::<Brand, _>(&rt, opened, &no_small_step(slot));
     Ok(())
 }
 
