@@ -19,7 +19,7 @@ use Rattle.heap_core.specs.Standing.{StandsFor}
 use Rattle.replayer.specs.declared.hint.Hint.{Hint}
 use Rattle.replayer.specs.Replays.{IsReplay, NamesPlace, NamesBases, MayNameBases}
 use Rattle.recording.specs.Contents.{Contents}
-use Rattle.recording.specs.Noting.{Knows, IsKnown, IsHint, IsNoted, NotesGone, NotesCall, NotesEvent}
+use Rattle.recording.specs.Noting.{Knows, IsKnown, IsHint, IsNoted, NotesTaken, NotesGone, NotesCall, NotesEvent}
 use Rattle.recording.proofs.Knowing.{HasIn, same_known, more_known, stay_known, gone_taken}
 use Rattle.recording.proofs.Placing.{IsPlaced, call_places}
 use Rattle.recording.proofs.Lines.{line_all, line_few, refused_same, line_leaves, IsStill, granted, freed_less, taken_less, same_heap}
@@ -127,6 +127,21 @@ module _ (before new : Contents) (start : Start) (run : Run) (k : IsKnown before
     event_tells Collect reply next fair notes line stands = collect_tells notes line stands
     event_tells event reply next fair notes line stands = still_tells event reply next tt line notes
 
+    -- what a full collection took out is noted
+    collect_notes : {reply : Reply} {next : Run} → NotesGone c before new → LineOf Touched start run Collect reply next → StandsFor c (heap_after start next)
+        → (n : ℕ) → reply ≡ Count n → NotesTaken new.note n (heap_after start run) (heap_after start next)
+    collect_notes notes (LineOf.happens {reply = reply} {s' = s'} h) stands n count = record {
+      bases = notes.0;
+      noted = notes.2;
+      takes = gone_taken c before.bases new.bases notes.0 notes.1 (heap_after start run) s' stands k.knows h.bases n (subst (λ q. TakesOut (heap_after start run) h.bases q s') count h.takes);
+    }
+    collect_notes notes (LineOf.refused wrong) stands n count = absurd wrong
+
+    pub event_notes : (event : Event) (reply : Reply) (next : Run) → NotesEvent c event before new → LineOf Touched start run event reply next → StandsFor c (heap_after start next)
+        → (n : ℕ) → event ≡ Collect → reply ≡ Count n → NotesTaken new.note n (heap_after start run) (heap_after start next)
+    event_notes event reply next notes line stands n is count =
+        collect_notes (subst (λ e. NotesEvent c e before new) is notes) (subst (λ e. LineOf Touched start run e reply next) is line) stands n count
+
 -- so a run goes on, where the event is refused
 pub noted_refused : (old new : Contents) (event : Event) (reply : Reply) (why : Refusal) → reply ≡ Refused why → new.bases ≡ old.bases → IsLine old.core event reply new.core → IsNoted old event reply new
 noted_refused old new event reply why is same line start run f =
@@ -136,6 +151,7 @@ noted_refused old new event reply why is same line start run f =
         line = x.1;
         follows = x.2;
         replay = λ k. (refused_tells old new start run k event reply x.0 why is x.1 same).0;
+        gone = λ k n which count. absurd (cc);
         knows = λ k. (refused_tells old new start run k event reply x.0 why is x.1 same).1;
       },
     )
@@ -150,6 +166,7 @@ noted old before new event reply fair same line core notes start run f =
         line = x.1;
         follows = subst (λ c. Follows c start x.0) (sym core) x.2;
         replay = λ k. (event_tells before new start run (known k) before.core event reply x.0 fair notes x.1 x.2.stands).0;
+        gone = λ k. event_notes before new start run (known k) before.core event reply x.0 notes x.1 x.2.stands;
         knows = λ k. (event_tells before new start run (known k) before.core event reply x.0 fair notes x.1 x.2.stands).1;
       },
     )

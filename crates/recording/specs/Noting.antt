@@ -8,8 +8,10 @@ use Rattle.heap_spec.specs.declared.call.Call.TheVariants.{Alloc, Free, Get}
 use Rattle.heap_spec.specs.declared.event.Event.{Event}
 use Rattle.heap_spec.specs.declared.event.Event.TheVariants.{Mutator, Finish, Collect}
 use Rattle.heap_spec.specs.declared.reply.Reply.{Reply}
+use Rattle.heap_spec.specs.declared.reply.Reply.TheVariants.{Count}
 use Rattle.heap_spec.specs.Layout.{word_end}
 use Rattle.heap_spec.specs.Heap.{Heap, Object, HasObject}
+use Rattle.heap_spec.specs.Cycles.{TakesOut}
 use Rattle.heap_spec.specs.Ranges.{IsRegister}
 use Rattle.heap_spec.specs.Replies.{word_reply}
 use Rattle.heap_spec.specs.Runs.{Start, Run, Touched, heap_after}
@@ -42,13 +44,20 @@ IsHint names_nothing hint = hint ≡ Nothing
 IsHint (names_place base) hint = hint ≡ Place base
 IsHint (names_gone bases) hint = (slice : Bor (List ℕ)) × (hint ≡ Forgot slice) × (slice.now ≡ bases)
 
+-- The bases of the objects that a collection took out are noted, so many.
+pub record NotesTaken (note : Note) (n : ℕ) (s s' : Heap) : Type 0 where
+  pub bases : List ℕ
+  pub noted : note ≡ names_gone bases
+  pub takes : TakesOut s bases (Count n) s'
+
 -- How a run goes on by an event with its reply, as it is noted: by a line of a legal transcript, to a run that the new core
--- follows. Where the objects were known it is what a yes of the checker means, with a hint that says what is noted, and they
--- are known afterwards.
+-- follows. Where the objects were known it is what a yes of the checker means, with a hint that says what is noted; what a
+-- full collection took out is noted, though the checker asks for no hint there; and the objects are known afterwards.
 pub record GoesOn (old : Contents) (event : Event) (reply : Reply) (new : Contents) (start : Start) (run next : Run) : Type 0 where
   pub line : LineOf Touched start run event reply next
   pub follows : Follows new.core start next
   pub replay : IsKnown old.bases (heap_after start run) → (hint : Hint) → IsHint new.note hint → IsReplay hint start run event reply next
+  pub gone : IsKnown old.bases (heap_after start run) → (n : ℕ) → event ≡ Collect → reply ≡ Count n → NotesTaken new.note n (heap_after start run) (heap_after start next)
   pub knows : IsKnown old.bases (heap_after start run) → Knows new.bases (heap_after start next)
 
 -- From each run that the core followed a run goes on so.
