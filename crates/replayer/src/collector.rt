@@ -125,10 +125,7 @@ impl Replayer {
         let Some(n) = count_in(reply) else {
             return false;
         };
-        if n > most {
-            return false;
-        }
-        true
+        n <= most
     }
 
     // A page is read again.
@@ -143,10 +140,7 @@ impl Replayer {
         let Some(n) = count_in(reply) else {
             return false;
         };
-        if n > 1 {
-            return false;
-        }
-        true
+        n <= 1
     }
 
     // A page is swept.
@@ -158,10 +152,7 @@ impl Replayer {
         let Some(n) = count_in(reply) else {
             return false;
         };
-        if n > 1 {
-            return false;
-        }
-        true
+        n <= 1
     }
 
     // The count of collections.
@@ -173,10 +164,7 @@ impl Replayer {
         let Some(n) = count_in(reply) else {
             return false;
         };
-        if n != self.collections() {
-            return false;
-        }
-        true
+        n == self.collections()
     }
 
     // A cycle ends, and forgets the objects of the hint.

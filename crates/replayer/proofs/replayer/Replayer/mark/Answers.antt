@@ -1,4 +1,5 @@
-use Rattle.std.proofs.Common.{sym, ◌∙◌, arith}
+use Rattle.std.proofs.Common.{sym, ◌∙◌}
+use Rattle.std.proofs.lemmas.Bool.{leb-true}
 use Rattle.heap_spec.specs.declared.event.Event.TheVariants.{Mark}
 use Rattle.replayer.proofs.Steps.{refuses, mark_stays}
 use Rattle.replayer.proofs.replayer.Replayer.mark.Goals as goal
@@ -9,4 +10,4 @@ returns-then-not-is_marking-clause-yes c done hint = rw (c.is_wrong_phase.ensure
 
 pub returns-clause-yes : goal.returns-clause-yes
 returns-clause-yes c done hint = rw c.in-Some.ensures.some
-    (mark_stays c.args.self.now c.limits.ensures.number c.limits.ensures.births c.args.most c.in-Some.n hint (sym c.is_marking.ensures ∙ c.if-not-is_marking.false) (omega arith))
+    (mark_stays c.args.self.now c.limits.ensures.number c.limits.ensures.births c.args.most c.in-Some.n hint (sym c.is_marking.ensures ∙ c.if-not-is_marking.false) (leb-true _ _ done))
