@@ -1,9 +1,10 @@
-//! The calls of mutators. Each is one event of the history, made under the lock.
+//! The calls of mutators. Each is one event of the history, made under the lock. A refused call leaves the heap as it is, and
+//! none is refused with [`Refusal::NoSlot`], since a mutator has its slot until its last call.
 ghost use Rattle.heap_spec.specs.Replies.{count_reply, done_reply, word_reply};
 ghost use Rattle.heap_history.specs.Headline.{Makes};
 
 use crate::heap::SharedHeap;
-use crate::replies::{count, done, word};
+use crate::replies::{count_result, done_result, word_result};
 use crate::tokens::Mutator;
 use heap_spec::Call;
 use history::Naming;
@@ -12,6 +13,9 @@ use words::{Global, Kind, Refusal, Reg};
 
 impl<J: Naming> SharedHeap<J> {
     /// Puts a word into a register.
+    ///
+    /// # Errors
+    /// Never.
     pub fn set(
         &self,
         rt: &impl Wait,
@@ -21,10 +25,13 @@ impl<J: Naming> SharedHeap<J> {
     ) -> Result<(), Refusal>
         ensures { Makes J.origin me.old (Call.Set into value) (done_reply result) me.new }
     {
-        done(self.call(rt, me, Call::Set(into, value)))
+        done_result(self.call(rt, me, Call::Set(into, value)))
     }
 
-    /// Puts the word of a register into another.
+    /// Puts the word of `from` into `into`.
+    ///
+    /// # Errors
+    /// Never.
     pub fn copy(
         &self,
         rt: &impl Wait,
@@ -34,10 +41,13 @@ impl<J: Naming> SharedHeap<J> {
     ) -> Result<(), Refusal>
         ensures { Makes J.origin me.old (Call.Copy into from) (done_reply result) me.new }
     {
-        done(self.call(rt, me, Call::Copy(into, from)))
+        done_result(self.call(rt, me, Call::Copy(into, from)))
     }
 
-    /// Puts the word of a register and a number, added, into a register.
+    /// Puts the word of `from` and a number, added modulo 2^64, into `into`.
+    ///
+    /// # Errors
+    /// Never.
     pub fn add(
         &self,
         rt: &impl Wait,
@@ -48,10 +58,13 @@ impl<J: Naming> SharedHeap<J> {
     ) -> Result<(), Refusal>
         ensures { Makes J.origin me.old (Call.Add into from number) (done_reply result) me.new }
     {
-        done(self.call(rt, me, Call::Add(into, from, number)))
+        done_result(self.call(rt, me, Call::Add(into, from, number)))
     }
 
-    /// Puts the word of a register less that of another into a register.
+    /// Puts the word of `from` less that of `less`, modulo 2^64, into `into`.
+    ///
+    /// # Errors
+    /// Never.
     pub fn sub(
         &self,
         rt: &impl Wait,
@@ -62,31 +75,43 @@ impl<J: Naming> SharedHeap<J> {
     ) -> Result<(), Refusal>
         ensures { Makes J.origin me.old (Call.Sub into from less) (done_reply result) me.new }
     {
-        done(self.call(rt, me, Call::Sub(into, from, less)))
+        done_result(self.call(rt, me, Call::Sub(into, from, less)))
     }
 
     /// The word of a register.
+    ///
+    /// # Errors
+    /// Never.
     pub fn get(&self, rt: &impl Wait, me: &mut Mutator<J>, from: Reg) -> Result<u64, Refusal>
         ensures { Makes J.origin me.old (Call.Get from) (word_reply result) me.new }
     {
-        word(self.call(rt, me, Call::Get(from)))
+        word_result(self.call(rt, me, Call::Get(from)))
     }
 
     /// Puts the word of a register on the stack.
+    ///
+    /// # Errors
+    /// [`Refusal::StackFull`] if the stack has no room for another word.
     pub fn push(&self, rt: &impl Wait, me: &mut Mutator<J>, from: Reg) -> Result<(), Refusal>
         ensures { Makes J.origin me.old (Call.Push from) (done_reply result) me.new }
     {
-        done(self.call(rt, me, Call::Push(from)))
+        done_result(self.call(rt, me, Call::Push(from)))
     }
 
     /// Takes the top word off the stack into a register.
+    ///
+    /// # Errors
+    /// [`Refusal::StackEmpty`] if the stack has no word.
     pub fn pop(&self, rt: &impl Wait, me: &mut Mutator<J>, into: Reg) -> Result<u64, Refusal>
         ensures { Makes J.origin me.old (Call.Pop into) (word_reply result) me.new }
     {
-        word(self.call(rt, me, Call::Pop(into)))
+        word_result(self.call(rt, me, Call::Pop(into)))
     }
 
-    /// Loads a heap word into a register.
+    /// Loads the heap word at the address of `at` and an offset in words into `into`.
+    ///
+    /// # Errors
+    /// [`Refusal::Misaligned`] if the address isn't that of a word, and else [`Refusal::NoObject`] if it points into no object.
     pub fn load(
         &self,
         rt: &impl Wait,
@@ -97,10 +122,13 @@ impl<J: Naming> SharedHeap<J> {
     ) -> Result<u64, Refusal>
         ensures { Makes J.origin me.old (Call.Load into at offset) (word_reply result) me.new }
     {
-        word(self.call(rt, me, Call::Load(into, at, offset)))
+        word_result(self.call(rt, me, Call::Load(into, at, offset)))
     }
 
-    /// Stores a register's word in the heap.
+    /// Stores the word of `from` in the heap, at the address of `at` and an offset in words.
+    ///
+    /// # Errors
+    /// As [`SharedHeap::load`].
     pub fn store(
         &self,
         rt: &impl Wait,
@@ -111,10 +139,14 @@ impl<J: Naming> SharedHeap<J> {
     ) -> Result<(), Refusal>
         ensures { Makes J.origin me.old (Call.Store at offset from) (done_reply result) me.new }
     {
-        done(self.call(rt, me, Call::Store(at, offset, from)))
+        done_result(self.call(rt, me, Call::Store(at, offset, from)))
     }
 
-    /// Allocates a zeroed object of at least so many words, and puts its base into a register.
+    /// Allocates an object of at least so many words, all 0, and puts its base into `into`.
+    ///
+    /// # Errors
+    /// [`Refusal::BadSize`] for a request of no words or of more than the limit, and else [`Refusal::Full`] exactly if no address
+    /// has room.
     pub fn alloc(
         &self,
         rt: &impl Wait,
@@ -125,17 +157,23 @@ impl<J: Naming> SharedHeap<J> {
     ) -> Result<(), Refusal>
         ensures { Makes J.origin me.old (Call.Alloc into words kind) (done_reply result) me.new }
     {
-        done(self.call(rt, me, Call::Alloc(into, words, kind)))
+        done_result(self.call(rt, me, Call::Alloc(into, words, kind)))
     }
 
     /// Frees the object whose base a register has.
+    ///
+    /// # Errors
+    /// [`Refusal::NoObject`] if the word points into no object, and else [`Refusal::NotBase`] if it isn't the object's base.
     pub fn free(&self, rt: &impl Wait, me: &mut Mutator<J>, at: Reg) -> Result<(), Refusal>
         ensures { Makes J.origin me.old (Call.Free at) (done_reply result) me.new }
     {
-        done(self.call(rt, me, Call::Free(at)))
+        done_result(self.call(rt, me, Call::Free(at)))
     }
 
-    /// Puts the base of the object that a register points into, into a register.
+    /// Puts the base of the object that `at` points into, into `into`.
+    ///
+    /// # Errors
+    /// [`Refusal::NoObject`] if the word points into no object.
     pub fn base(
         &self,
         rt: &impl Wait,
@@ -145,17 +183,23 @@ impl<J: Naming> SharedHeap<J> {
     ) -> Result<u64, Refusal>
         ensures { Makes J.origin me.old (Call.Base into at) (word_reply result) me.new }
     {
-        word(self.call(rt, me, Call::Base(into, at)))
+        word_result(self.call(rt, me, Call::Base(into, at)))
     }
 
     /// The length in words of the object that a register points into.
+    ///
+    /// # Errors
+    /// As [`SharedHeap::base`].
     pub fn size(&self, rt: &impl Wait, me: &mut Mutator<J>, at: Reg) -> Result<u64, Refusal>
         ensures { Makes J.origin me.old (Call.Size at) (count_reply result) me.new }
     {
-        count(self.call(rt, me, Call::Size(at)))
+        count_result(self.call(rt, me, Call::Size(at)))
     }
 
     /// Puts the word of a global into a register.
+    ///
+    /// # Errors
+    /// Never.
     pub fn gget(
         &self,
         rt: &impl Wait,
@@ -165,10 +209,13 @@ impl<J: Naming> SharedHeap<J> {
     ) -> Result<u64, Refusal>
         ensures { Makes J.origin me.old (Call.GlobalGet into global) (word_reply result) me.new }
     {
-        word(self.call(rt, me, Call::GlobalGet(into, global)))
+        word_result(self.call(rt, me, Call::GlobalGet(into, global)))
     }
 
     /// Puts the word of a register into a global.
+    ///
+    /// # Errors
+    /// Never.
     pub fn gput(
         &self,
         rt: &impl Wait,
@@ -178,6 +225,6 @@ impl<J: Naming> SharedHeap<J> {
     ) -> Result<(), Refusal>
         ensures { Makes J.origin me.old (Call.GlobalPut global from) (done_reply result) me.new }
     {
-        done(self.call(rt, me, Call::GlobalPut(global, from)))
+        done_result(self.call(rt, me, Call::GlobalPut(global, from)))
     }
 }

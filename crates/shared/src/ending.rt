@@ -9,7 +9,7 @@ ghost use Rattle.heap_core.specs.Collections.{ClosesMarks, IsGrantedInPhase};
 ghost use Rattle.heap_history.specs.Headline.{IsGrantedByOwnEvents};
 
 use crate::heap::SharedHeap;
-use crate::replies::count;
+use crate::replies::count_result;
 use crate::tokens::Collector;
 use final_pause::{Gate, Helpers};
 use heap_core::Core;
@@ -70,6 +70,6 @@ impl<J: Naming> SharedHeap<J> {
             return Err(Refusal::WrongPhase);
         }
         let _answer = logged.quiet_by(work);
-        count(self.log.act(logged, &mut me.pass, &Event::Finish))
+        count_result(self.log.act(logged, &mut me.pass, &Event::Finish))
     }
 }

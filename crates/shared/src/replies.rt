@@ -7,7 +7,7 @@ use heap_spec::Reply;
 use words::Refusal;
 
 /// Of a call that answers nothing more than that it is done.
-pub fn done(reply: Reply) -> Result<(), Refusal>
+pub(crate) fn done_result(reply: Reply) -> Result<(), Refusal>
     requires { IsDoneReply reply }
     ensures { done_reply result ≡ reply }
 {
@@ -19,7 +19,7 @@ pub fn done(reply: Reply) -> Result<(), Refusal>
 }
 
 /// Of a call that answers a word.
-pub fn word(reply: Reply) -> Result<u64, Refusal>
+pub(crate) fn word_result(reply: Reply) -> Result<u64, Refusal>
     requires { IsWordReply reply }
     ensures { word_reply result ≡ reply }
 {
@@ -31,7 +31,7 @@ pub fn word(reply: Reply) -> Result<u64, Refusal>
 }
 
 /// Of a call that answers a number of things.
-pub fn count(reply: Reply) -> Result<u64, Refusal>
+pub(crate) fn count_result(reply: Reply) -> Result<u64, Refusal>
     requires { IsCountReply reply }
     ensures { count_reply result ≡ reply }
 {

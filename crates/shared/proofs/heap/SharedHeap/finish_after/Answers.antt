@@ -28,8 +28,8 @@ act-requires-clause-can g c =
     let before : c.learn.new.logged.object.cycle.is_marking ≡ true = ap (λ x. x.cycle.is_marking) (sym c.object.ensures.object) ∙ (sym c.is_marking.ensures.phase ∙ c.if-not-is_marking.false) in
     (ap (λ (p : HeapPass). p.slot) c.learn.ensures.pass ∙ c.me.invariant, (c.quiet_by-answer.ensures.keeps st.state st.stood_for).phase ∙ (sym st.stood_for.phase ∙ before))
 
-pub count-requires : goal.count-requires
-count-requires g c =
+pub count_result-requires : goal.count_result-requires
+count_result-requires g c =
     let st = c.object.ensures.stands in
     is_count c.act.result _ (c.act.ensures.step st.state (c.quiet_by-answer.ensures.keeps st.state st.stood_for)).1.happens.1.takes.number
 
@@ -44,5 +44,5 @@ returns g c =
     let said = (c.act.ensures.step st.state (q.ensures.keeps st.state st.stood_for)).1.happens.1.takes.number in
     let asked = extended rank_of (Opens g.J.Naming.origin) StateStep c.me.inside.pass c.learn.new.pass c.act.new.pass c.deref_mut-logged.result.now.history q.new.self.history c.act.new.logged.history Finish c.act.result
     l.before l.pass (q.ensures.history ∙ ap (λ x. x.history) l.logged) c.act.ensures.history c.act.ensures.pass c.act.ensures.agrees in
-    subst (λ (p : HeapPass). IsGrantedByOwnEvents true g.J.Naming.origin p Finish Count c.count.result c.act.new.pass) c.me.view_is
-    (finished g.J.Naming.origin c.me.inside.pass c.act.new.pass c.count.result c.act.result _ c.count.ensures said was asked)
+    subst (λ (p : HeapPass). IsGrantedByOwnEvents true g.J.Naming.origin p Finish Count c.count_result.result c.act.new.pass) c.me.view_is
+    (finished g.J.Naming.origin c.me.inside.pass c.act.new.pass c.count_result.result c.act.result _ c.count_result.ensures said was asked)
