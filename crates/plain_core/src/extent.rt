@@ -33,7 +33,7 @@ impl Extent {
     }
 }
 
-/// The index of the object that the address reads.
+/// The index of the object that the address points into.
 pub fn index_at(objects: &[Extent], address: u64) -> Option<usize>
     ensures some { IfSome result (λ i. (e : Extent) × (slice_get objects.now i ≡ Some e) × Reads address e.base e.length) }
     ensures none { IfNone result (All (λ e. Reads address e.base e.length → ⊥) objects.now) }
@@ -46,7 +46,7 @@ pub fn index_at(objects: &[Extent], address: u64) -> Option<usize>
     None
 }
 
-/// The object that the address reads.
+/// The object that the address points into.
 pub fn object_at(objects: &[Extent], address: u64) -> Option<Extent>
     ensures some { IfSome result (λ e. Contains objects.now e × Reads address e.base e.length) }
     ensures none { IfNone result (All (λ e. Reads address e.base e.length → ⊥) objects.now) }

@@ -41,7 +41,7 @@ pub fn write_owners(objects: &[Extent], owners: &mut [u64])
     }
 }
 
-/// Where the object stands that the address reads.
+/// Where the object stands that the address points into.
 pub fn owner_at(objects: &[Extent], owners: &[u64], address: u64) -> Option<usize>
     requires { AreOwners objects.now owners.now }
     ensures some { IfSome result (λ i. (e : Extent) × (slice_get objects.now i ≡ Some e) × Reads address e.base e.length) }

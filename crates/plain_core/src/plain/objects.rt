@@ -138,7 +138,7 @@ impl Core {
         Ok(object.base)
     }
 
-    /// The length in words of the object that a register reads.
+    /// The length in words of the object that a register points into.
     pub fn size(&self, slot: Slot, at: Reg) -> Result<u64, Refusal>
         ensures { IsStep (StandsFor self.now) (Event.Mutator slot (Call.Size at)) (count_reply result) (StandsFor self.now) }
     {
