@@ -94,7 +94,9 @@ pub enum Placement {
     Large(u32),
 }
 
-/// Where a request of so many words goes, and `None` exactly for a request of no words or of too many.
+/// Where a request of so many words goes: into a cell of the least size class that holds them, and past the largest
+/// class onto pages of its own. It is named for the class, but answers a placement. `None` exactly for a request of no
+/// words or of too many.
 pub fn class_of(words: u64) -> Option<Placement>
     ensures { result ≡ placement_of words }
 {
