@@ -1,6 +1,6 @@
 -- What calls may be answered, and that they are answered nothing else.
 use Rattle.std.proofs.Common.{◌≡◌, ℕ, ◌-◌, ◌/◌, ◌%◌, get_or, [], ◌∷◌, refl, sym, ap, ◌∙◌, subst, arith, ⊎_elim}
-use Rattle.std.specs.Prelude.{Contains, slice_get}
+use Rattle.std.specs.Prelude.{Contains, slice_get, Option, Some, None, IfNone}
 use Rattle.std.proofs.lemmas.Bool.{cases_lt}
 use Rattle.std.proofs.lemmas.List.{get_or_read}
 use Rattle.words.specs.declared.limits.TheConstants.{WORD_BYTES}
@@ -25,6 +25,11 @@ use Rattle.plain_core.specs.Answering.{FindsExtent, HoldsWord, MayAnswer, CanAns
 use Rattle.plain_core.proofs.Stands.{StepsCall, mutator_at}
 use Rattle.plain_core.proofs.Memory.{word_in}
 use Rattle.plain_core.proofs.Objects.{in_heap, in_row, extent_of, length_shown}
+
+-- what follows where there is none
+pub none_then : {A P Q : Type 0} → (o : Option A) → IfNone o P → (P → Q) → IfNone o Q
+none_then None none then = then none
+none_then (Some x) none then = none
 
 -- a heap that a core stands for is legible
 pub legible : (c : Contents) → IsLaidOut c → (s : Heap) → StandsFor c s → IsLegible s

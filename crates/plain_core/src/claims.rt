@@ -6,8 +6,8 @@ ghost use Rattle.plain_core.specs.Owners.{AreOwners};
 use crate::extent::Extent;
 use crate::owners::owner_of;
 
-/// Unsets the flags of the objects with these bases, if they are distinct objects that are not marked.
-pub fn unset_flags(
+// Unsets the flags of the objects with these bases, if they are distinct objects that are not marked.
+pub(crate) fn unset_flags(
     bases: &[u64],
     objects: &[Extent],
     owners: &[u64],
@@ -52,8 +52,8 @@ fn are_all_unset(count: usize, marks: &[bool], flags: &[bool]) -> bool
     true
 }
 
-/// Whether each of the first objects that is not marked has an unset flag, if all have to.
-pub fn are_all_named(all: bool, count: usize, marks: &[bool], flags: &[bool]) -> bool
+// Whether each of the first objects that is not marked has an unset flag, if all have to.
+pub(crate) fn are_all_named(all: bool, count: usize, marks: &[bool], flags: &[bool]) -> bool
     requires marks { count ≤ length marks.now }
     requires flags { count ≤ length flags.now }
     ensures yes { IsTrue result → all ≡ true → AreAllUnset count marks.now flags.now }

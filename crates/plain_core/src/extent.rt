@@ -14,16 +14,16 @@ pub struct Extent {
 }
 
 impl Extent {
-    /// Whether the address is that of one of its bytes.
-    pub fn is_read_by(&self, address: u64) -> bool
+    // Whether the address is that of one of its bytes.
+    pub(crate) fn contains(&self, address: u64) -> bool
         ensures yes { IsTrue result → Reads address self.now.base self.now.length }
         ensures no { result ≡ false → Reads address self.now.base self.now.length → ⊥ }
     {
         self.base <= address && (address - self.base) / WORD_BYTES < self.length
     }
 
-    /// Whether one of its bytes lies on the page.
-    pub fn lies_on(&self, page: PageNo) -> bool
+    // Whether one of its bytes lies on the page.
+    pub(crate) fn lies_on(&self, page: PageNo) -> bool
         ensures yes { IsTrue result → LiesOn self.now.base self.now.length page }
         ensures no { result ≡ false → LiesOn self.now.base self.now.length page → ⊥ }
     {
@@ -33,21 +33,21 @@ impl Extent {
     }
 }
 
-/// The index of the object that the address points into.
-pub fn index_at(objects: &[Extent], address: u64) -> Option<usize>
+// The index of the object that the address points into.
+pub(crate) fn index_at(objects: &[Extent], address: u64) -> Option<usize>
     ensures some { IfSome result (λ i. (e : Extent) × (slice_get objects.now i ≡ Some e) × Reads address e.base e.length) }
     ensures none { IfNone result (All (λ e. Reads address e.base e.length → ⊥) objects.now) }
 {
     for index in 0..objects.len() {
-        if objects[index].is_read_by(address) {
+        if objects[index].contains(address) {
             return Some(index);
         }
     }
     None
 }
 
-/// The object that the address points into.
-pub fn object_at(objects: &[Extent], address: u64) -> Option<Extent>
+// The object that the address points into.
+pub(crate) fn object_at(objects: &[Extent], address: u64) -> Option<Extent>
     ensures some { IfSome result (λ e. Contains objects.now e × Reads address e.base e.length) }
     ensures none { IfNone result (All (λ e. Reads address e.base e.length → ⊥) objects.now) }
 {

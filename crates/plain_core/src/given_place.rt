@@ -89,8 +89,8 @@ fn is_large_place(objects: &[Extent], pages: u32, count: u32, address: u64) -> b
     is_free_run(objects, first, count)
 }
 
-/// A new object of a placement at this base, as the extent that it has there, if it may go there.
-pub fn place_at(
+// A new object of a placement at this base, as the extent that it has there, if it may go there.
+pub(crate) fn place_at(
     objects: &[Extent],
     pages: u32,
     placement: Placement,

@@ -6,10 +6,9 @@ ghost use Rattle.plain_core.specs.Standing.{LiesIn};
 ghost use Rattle.plain_core.specs.Listing.{HasListRoom, IsListing, ListsAll, KeepsRoom};
 
 use crate::extent::Extent;
-use crate::owners::owner_at;
+use crate::owners::{owner_at, place_of};
 use std::alloc::{AllocError, Global};
 use words::Kind;
-use words::limits::{FIRST_ADDRESS, WORD_BYTES};
 
 /// Objects by their places in a row: those that are marked, and the same in the order in which they were listed.
 #[derive(Drop)]
@@ -19,8 +18,8 @@ pub struct Listing {
 }
 
 impl Listing {
-    /// An empty list with room for so many objects.
-    pub fn new(alloc: Global, count: usize) -> Result<Listing, AllocError>
+    // An empty list with room for so many objects.
+    pub(crate) fn new(alloc: Global, count: usize) -> Result<Listing, AllocError>
         ensures { IfOk result (λ listing. HasListRoom count listing) }
     {
         let marks = vec![in alloc; false; count]?;
@@ -92,13 +91,13 @@ fn list_links(
     if object.kind == Kind::PointerFree {
         return;
     }
-    let start = ((object.base - FIRST_ADDRESS) / WORD_BYTES) as usize;
+    let start = place_of(object.base);
     let end = start + object.length as usize;
     list_all(&words[start..end], objects, owners, listing);
 }
 
-/// Lists the objects that are reached from these roots.
-pub fn list_reached(
+// Lists the objects that are reached from these roots.
+pub(crate) fn list_reached(
     roots: &[u64],
     words: &[u64],
     objects: &[Extent],

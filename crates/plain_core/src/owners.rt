@@ -9,8 +9,8 @@ ghost use Rattle.plain_core.specs.Owners.{AreOwners};
 use crate::extent::Extent;
 use words::limits::{FIRST_ADDRESS, WORD_BYTES};
 
-/// Puts a word into so many places of a row.
-pub fn fill(row: &mut [u64], start: usize, count: usize, word: u64)
+// Puts a word into so many places of a row.
+pub(crate) fn fill(row: &mut [u64], start: usize, count: usize, word: u64)
     requires { start + count ≤ length row.old }
     ensures filled { (k : ℕ) → start ≤ k → k < start + count → slice_index row.new k ≡ word }
     ensures others { (k : ℕ) → (k < start) ⊎ (start + count ≤ k) → slice_index row.new k ≡ slice_index row.old k }
@@ -21,15 +21,15 @@ pub fn fill(row: &mut [u64], start: usize, count: usize, word: u64)
 }
 
 // Where the word at an address stands in a row of all words.
-fn place_of(address: u64) -> usize
+pub(crate) fn place_of(address: u64) -> usize
     requires { FIRST_ADDRESS ≤ address }
     ensures { result ≡ place address }
 {
     ((address - FIRST_ADDRESS) / WORD_BYTES) as usize
 }
 
-/// Writes down of each word of an object where that object stands.
-pub fn write_owners(objects: &[Extent], owners: &mut [u64])
+// Writes down of each word of an object where that object stands.
+pub(crate) fn write_owners(objects: &[Extent], owners: &mut [u64])
     requires apart { AreApart objects.now }
     requires within { All (LiesIn owners.old) objects.now }
     ensures { AreOwners objects.now owners.new }
@@ -41,8 +41,8 @@ pub fn write_owners(objects: &[Extent], owners: &mut [u64])
     }
 }
 
-/// Where the object stands that the address points into.
-pub fn owner_at(objects: &[Extent], owners: &[u64], address: u64) -> Option<usize>
+// Where the object stands that the address points into.
+pub(crate) fn owner_at(objects: &[Extent], owners: &[u64], address: u64) -> Option<usize>
     requires { AreOwners objects.now owners.now }
     ensures some { IfSome result (λ i. (e : Extent) × (slice_get objects.now i ≡ Some e) × Reads address e.base e.length) }
     ensures none { IfNone result (All (λ e. Reads address e.base e.length → ⊥) objects.now) }
@@ -59,14 +59,14 @@ pub fn owner_at(objects: &[Extent], owners: &[u64], address: u64) -> Option<usiz
         return None;
     }
     // A word of no object may have an owner that was there before.
-    if !objects[index].is_read_by(address) {
+    if !objects[index].contains(address) {
         return None;
     }
     Some(index)
 }
 
-/// Where the object with this base stands.
-pub fn owner_of(objects: &[Extent], owners: &[u64], base: u64) -> Option<usize>
+// Where the object with this base stands.
+pub(crate) fn owner_of(objects: &[Extent], owners: &[u64], base: u64) -> Option<usize>
     requires { AreOwners objects.now owners.now }
     ensures some { IfSome result (λ i. (e : Extent) × (slice_get objects.now i ≡ Some e) × (e.base ≡ base)) }
     ensures none { IfNone result (All (λ e. e.base ≡ base → ⊥) objects.now) }

@@ -6,8 +6,8 @@ ghost use Rattle.plain_core.specs.Parting.{Parts};
 
 use crate::extent::Extent;
 
-/// Keeps the objects whose flag is set, in their order, and answers how many others there were.
-pub fn keep_flagged(objects: &mut Vec<Extent>, flags: &[bool]) -> usize
+// Keeps the objects whose flag is set, in their order, and answers how many others there were.
+pub(crate) fn keep_flagged(objects: &mut Vec<Extent>, flags: &[bool]) -> usize
     requires { length objects.old.items ≤ length flags.now }
     ensures parts { Parts objects.old.items flags.now objects.new.items result }
     ensures capacity { vec_capacity objects.new ≡ vec_capacity objects.old }
@@ -24,8 +24,8 @@ pub fn keep_flagged(objects: &mut Vec<Extent>, flags: &[bool]) -> usize
     count - stay
 }
 
-/// How many objects there are whose flag isn't set.
-pub fn count_unflagged(objects: &[Extent], flags: &[bool]) -> usize
+// How many objects there are whose flag isn't set.
+pub(crate) fn count_unflagged(objects: &[Extent], flags: &[bool]) -> usize
     requires { length objects.now ≤ length flags.now }
     ensures { (stay : List ExtentValue) × Parts objects.now flags.now stay result }
 {

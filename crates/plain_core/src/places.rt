@@ -11,8 +11,8 @@ use crate::taken::taken_granules;
 use words::limits::{GRANULE_WORDS, PAGE_WORDS, WORD_BYTES};
 use words::{Kind, PageNo, Placement, page_start};
 
-/// Whether no object lies on the page.
-pub fn is_free(objects: &[Extent], page: PageNo) -> bool
+// Whether no object lies on the page.
+pub(crate) fn is_free(objects: &[Extent], page: PageNo) -> bool
     ensures yes { IsTrue result → IsFreePage objects.now page }
     ensures no { result ≡ false → IsFreePage objects.now page → ⊥ }
 {
@@ -35,8 +35,8 @@ fn agrees(object: &Extent, page: PageNo, length: u64, kind: Kind) -> bool
     object.length == length && object.kind == kind
 }
 
-/// Whether each object on the page has this length and this kind.
-pub fn is_cut_for(objects: &[Extent], page: PageNo, length: u64, kind: Kind) -> bool
+// Whether each object on the page has this length and this kind.
+pub(crate) fn is_cut_for(objects: &[Extent], page: PageNo, length: u64, kind: Kind) -> bool
     ensures yes { IsTrue result → IsCutPage objects.now page length kind }
     ensures no { result ≡ false → IsCutPage objects.now page length kind → ⊥ }
 {
@@ -48,8 +48,8 @@ pub fn is_cut_for(objects: &[Extent], page: PageNo, length: u64, kind: Kind) -> 
     true
 }
 
-/// Whether an object has this base.
-pub fn is_base(objects: &[Extent], address: u64) -> bool
+// Whether an object has this base.
+pub(crate) fn is_base(objects: &[Extent], address: u64) -> bool
     ensures yes { IsTrue result → IsNoBase objects.now address → ⊥ }
     ensures no { result ≡ false → IsNoBase objects.now address }
 {
@@ -106,8 +106,8 @@ fn small_place(objects: &[Extent], pages: u32, length: u64, kind: Kind) -> Optio
     None
 }
 
-/// Whether no object lies on so many pages from the first on.
-pub fn is_free_run(objects: &[Extent], first: PageNo, count: u32) -> bool
+// Whether no object lies on so many pages from the first on.
+pub(crate) fn is_free_run(objects: &[Extent], first: PageNo, count: u32) -> bool
     requires { first + count < 2 ^ 32 }
     ensures yes { IsTrue result → (page : ℕ) → first ≤ page → page < first + count → IsFreePage objects.now page }
     ensures no { result ≡ false → ((page : ℕ) → first ≤ page → page < first + count → IsFreePage objects.now page) → ⊥ }
@@ -134,8 +134,13 @@ fn large_place(objects: &[Extent], pages: u32, count: u32) -> Option<u64>
     None
 }
 
-/// A place for a new object, as the extent that it has there.
-pub fn place_for(objects: &[Extent], pages: u32, placement: Placement, kind: Kind) -> Option<Extent>
+// A place for a new object, as the extent that it has there.
+pub(crate) fn place_for(
+    objects: &[Extent],
+    pages: u32,
+    placement: Placement,
+    kind: Kind,
+) -> Option<Extent>
     requires pages { pages ≤ MAX_PAGES }
     requires sized { IsSized placement }
     ensures some { IfSome result (λ e. (e.kind ≡ kind) × (e.length ≡ length_of placement) × IsPlace objects.now pages placement kind e.base) }

@@ -37,8 +37,8 @@ fn set_granule(taken: &mut CellRow, page: PageNo, address: u64)
     taken.set(granule);
 }
 
-/// The granules of the page at which objects begin.
-pub fn taken_granules(objects: &[Extent], page: PageNo) -> CellRow
+// The granules of the page at which objects begin.
+pub(crate) fn taken_granules(objects: &[Extent], page: PageNo) -> CellRow
     ensures { AreTaken objects.now page result }
 {
     let mut taken = CellRow::new(PAGE_GRANULES as u16);

@@ -7,10 +7,11 @@ ghost use Rattle.plain_core.specs.Answering.{FindsExtent, HoldsWord, FindsNothin
 
 use super::Core;
 use crate::extent::{Extent, object_at};
+use crate::owners::place_of;
 use crate::places::place_for;
 use heap_spec::{Call, Reply};
 use roots::Mutator;
-use words::limits::{FIRST_ADDRESS, WORD_BYTES};
+use words::limits::WORD_BYTES;
 use words::{Global, Kind, Refusal, Reg, Slot, class_of};
 
 // What a push would be answered.
@@ -54,10 +55,7 @@ impl Core {
         ensures some { IfSome result (λ e. FindsExtent self.now address e) }
         ensures none { IfNone result (FindsNothing self.now address) }
     {
-        let Some(object) = object_at(&self.objects, address) else {
-            return None;
-        };
-        Some(object)
+        object_at(&self.objects, address)
     }
 
     // The word at an address that points into an object.
@@ -68,7 +66,8 @@ impl Core {
         let Some(_object) = object_at(&self.objects, address) else {
             return None;
         };
-        Some(self.words[((address - FIRST_ADDRESS) / WORD_BYTES) as usize])
+        let place = place_of(address);
+        Some(self.words[place])
     }
 
     // What a load would be answered.

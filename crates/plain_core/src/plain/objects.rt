@@ -9,10 +9,10 @@ ghost use Rattle.plain_core.specs.Answering.{MayBePut, IsPut, IsAllocatedAt, Can
 use super::Core;
 use crate::extent::{Extent, index_at, object_at};
 use crate::given_place::place_at;
-use crate::owners::fill;
+use crate::owners::{fill, place_of};
 use crate::places::place_for;
 use heap_spec::{Call, Event};
-use words::limits::{FIRST_ADDRESS, WORD_BYTES};
+use words::limits::WORD_BYTES;
 use words::{Kind, Refusal, Reg, Slot, class_of};
 
 impl Core {
@@ -32,7 +32,8 @@ impl Core {
         let Some(_object) = object_at(&self.objects, address) else {
             return Err(Refusal::NoObject);
         };
-        let word = self.words[((address - FIRST_ADDRESS) / WORD_BYTES) as usize];
+        let place = place_of(address);
+        let word = self.words[place];
         self.roots.set_word(slot, into, word);
         Ok(word)
     }
@@ -52,7 +53,8 @@ impl Core {
         let Some(_object) = object_at(&self.objects, address) else {
             return Err(Refusal::NoObject);
         };
-        self.words[((address - FIRST_ADDRESS) / WORD_BYTES) as usize] = word;
+        let place = place_of(address);
+        self.words[place] = word;
         Ok(())
     }
 
@@ -62,7 +64,7 @@ impl Core {
         requires fits { (placement : Placement) × MayBePut self.old placement object }
         ensures { (placement : Placement) → MayBePut self.old placement object → IsPut self.old slot into placement object self.new }
     {
-        let start = ((object.base - FIRST_ADDRESS) / WORD_BYTES) as usize;
+        let start = place_of(object.base);
         fill(&mut self.words, start, object.length as usize, 0);
         let _pushed = self.objects.push(object);
         self.roots.set_word(slot, into, object.base);

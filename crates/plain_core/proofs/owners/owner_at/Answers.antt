@@ -23,14 +23,14 @@ returns-then-index-objects-clause-none c =
 abbrev blank : Extent
 blank = record { base = 0; kind = Normal; length = 0 }
 
--- the owner of a word that does not read it
+-- the owner of a word that does not point into it
 other_of : (row : List Extent) (owners : List ℕ) (w p : ℕ) → AreOwners row owners → p ≡ place w → (e : Extent) → slice_get row (get_or owners p 0) ≡ Some e → (Reads w e.base e.length → ⊥) → All (λ (x : Extent). Reads w x.base x.length → ⊥) row
 other_of row owners w p own is e at out = none_other row owners own w e (subst (λ k. slice_get row (get_or owners k 0) ≡ Some e) is at) out
 
-pub returns-then-not-is_read_by-clause-none : goal.returns-then-not-is_read_by-clause-none
-returns-then-not-is_read_by-clause-none c =
+pub returns-then-not-contains-clause-none : goal.returns-then-not-contains-clause-none
+returns-then-not-contains-clause-none c =
     other_of _ _ _ c.place_of-place.result c.requires c.place_of-place.ensures _ (slice_get-get_or c.args.objects.now _ blank c.if-index-objects.false)
-    (c.is_read_by.ensures.no c.if-not-is_read_by.true)
+    (c.contains.ensures.no c.if-not-contains.true)
 
 pub returns-clause-some : goal.returns-clause-some
-returns-clause-some c = (_, slice_get-get_or c.args.objects.now _ _ c.if-index-objects.false, c.is_read_by.ensures.yes c.if-not-is_read_by.false)
+returns-clause-some c = (_, slice_get-get_or c.args.objects.now _ _ c.if-index-objects.false, c.contains.ensures.yes c.if-not-contains.false)

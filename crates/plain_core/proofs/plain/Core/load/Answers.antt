@@ -26,4 +26,4 @@ returns c =
     (rw c.deref.ensures.value at c.in-Some-object_at.ensures.some.0)
     (rw c.address-address.ensures at c.in-Some-object_at.ensures.some.1)
     (rw c.address-address.ensures at c.if-address-ne0.false)
-    (rw c.address-address.ensures at c.index-word.ensures) c.set_word.ensures)
+    (rw (c.place_of-place.ensures, c.address-address.ensures) at c.index-word.ensures) c.set_word.ensures)

@@ -8,13 +8,13 @@ use Rattle.plain_core.specs.Answering.{MayBePut}
 use Rattle.plain_core.proofs.Alloc.{pushed_items, place_from, IsZeroed, room_left, fits_row, alloc_sound, puts}
 use Rattle.plain_core.proofs.plain.Core.put.Goals as goal
 
-pub overflow_sub-start : goal.overflow_sub-start
-overflow_sub-start c = place_from _ _ c.requires.fits.0 _ _ c.requires.fits.1.place
+pub place_of-start-requires : goal.place_of-start-requires
+place_of-start-requires c = place_from _ _ c.requires.fits.0 _ _ c.requires.fits.1.place
 
 pub fill-requires : goal.fill-requires
 fill-requires c =
     let fits = subst (λ (x : Contents). MayBePut x c.requires.fits.0 c.args.object) (sym c.self.view_is) c.requires.fits.1 in
-    rw c.deref_mut.ensures.value (fits_row _ c.requires.fits.0 c.args.object.kind c.args.object c.self.invariant.0 fits.sized fits.size fits.place)
+    rw (c.place_of-start.ensures, c.deref_mut.ensures.value) (fits_row _ c.requires.fits.0 c.args.object.kind c.args.object c.self.invariant.0 fits.sized fits.size fits.place)
 
 pub invariant_of-self : goal.invariant_of-self
 invariant_of-self c =
@@ -38,7 +38,7 @@ returns c =
     let left : length c.self.inside.objects.items < PAGE_GRANULES * c.self.inside.pages = room_left _ placement c.args.object.kind c.args.object c.self.invariant.0 fits.sized fits.size fits.place in
     let spare : PAGE_GRANULES * c.self.inside.pages ≤ vec_capacity c.self.inside.objects = c.self.invariant.1 in
     let long : length c.fill.new.row ≡ length c.self.inside.words.items = c.fill.auto.row ∙ ap length c.deref_mut.ensures.value in
-    let zeroed : IsZeroed c.self.inside.words.items c.fill.new.row c.args.object = record { long = long; zeroed = c.fill.ensures.filled; others = λ k h. c.fill.ensures.others k h ∙ ap (λ xs. get_or xs k 0) c.deref_mut.ensures.value } in
+    let zeroed : IsZeroed c.self.inside.words.items c.fill.new.row c.args.object = record { long = long; zeroed = rw c.place_of-start.ensures at c.fill.ensures.filled; others = λ k h. (rw c.place_of-start.ensures at c.fill.ensures.others) k h ∙ ap (λ xs. get_or xs k 0) c.deref_mut.ensures.value } in
     λ s h words is.
     puts _ placement c.args.object.kind c.args.object c.self.invariant.0 fits.sized fits.size fits.place _ _ _ c.requires.mutator.0 _ _ at refl
     (subst (λ r. IsZeroed c.self.inside.words.items r c.args.object) (sym (with_items_is c.self.inside.words c.fill.new.row (long ∙ sym c.self.inside.words.ok.0))) zeroed)

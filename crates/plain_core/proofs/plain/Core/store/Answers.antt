@@ -21,7 +21,7 @@ returns-in_default-object_at c =
 
 pub returns : goal.returns
 returns c =
-    rw (← c.self.view_is, c.address-address.ensures, c.word-word.ensures)
+    rw (← c.self.view_is, c.place_of-place.ensures, c.address-address.ensures, c.word-word.ensures)
     (stores _ _ _ _ _ c.in-Some.mutator.now _ c.self.invariant.0 c.in-Some.ensures.some
     (rw c.deref.ensures.value at c.in-Some-object_at.ensures.some.0)
     (rw c.address-address.ensures at c.in-Some-object_at.ensures.some.1)

@@ -7,4 +7,4 @@ returns-in_default-clause-none c = rw (← c.self.view_is) (λ s h. reads_nothin
 
 pub returns-clause-some : goal.returns-clause-some
 returns-clause-some c = rw (← c.self.view_is)
-    (holds_word _ _ _ _ c.self.invariant.0 (rw c.deref.ensures.value at c.in-Some.ensures.some.0) c.in-Some.ensures.some.1 c.index.ensures)
+    (holds_word _ _ _ _ c.self.invariant.0 (rw c.deref.ensures.value at c.in-Some.ensures.some.0) c.in-Some.ensures.some.1 (rw c.place_of-place.ensures at c.index.ensures))
