@@ -1,5 +1,6 @@
 //! A row of bits, seen as the list of its bits. Its members are the places of the bits that are set.
-ghost use Rattle.std.specs.Prelude.{◌≡◌, ◌≢◌, ◌%◌, ◌==◌, ℕ, ◌+◌, ◌/◌, ◌^◌, ◌<◌, ◌≤◌, Bool, true, false, List, length, slice_index_or, slice_set, vec_len, IfOk, MatchOption};
+ghost use Rattle.std.specs.Prelude.{◌≡◌, ◌≢◌, ◌%◌, ◌==◌, ◌+◌, ◌/◌, ◌^◌, ◌<◌, ◌≤◌};
+ghost use Rattle.std.specs.Prelude.{ℕ, Bool, true, false, List, length, slice_index_or, slice_set, vec_len, IfOk, MatchOption};
 ghost use Rattle.std.specs.Int.{bit_at};
 ghost use Rattle.words.specs.Bits.{bit, bits, members_between, IsEmptyFrom, IsFirstFrom, IsClear, IsFullFrom, IsFirstClearFrom};
 
