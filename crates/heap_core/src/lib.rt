@@ -9,4 +9,3 @@ pub mod quiet;
 mod ranges;
 
 pub use heap::Core;
-pub use heap_spec::{Event, Reply};
