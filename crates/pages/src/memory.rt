@@ -51,10 +51,8 @@ impl Memory {
         if !is_page_count(pages) {
             return Err(OpenError::BadPages);
         }
-        match vec![in alloc; 0u64; PAGE_WORDS as usize * pages as usize] {
-            Ok(words) => Ok(Memory { words }),
-            Err(_) => Err(OpenError::Memory),
-        }
+        let words = vec![in alloc; 0u64; PAGE_WORDS as usize * pages as usize]?;
+        Ok(Memory { words })
     }
 
     /// The word at an address.

@@ -93,9 +93,7 @@ impl PagePool {
         if !is_page_count(pages) {
             return Err(OpenError::BadPages);
         }
-        let Ok(mut free) = BitRow::new(alloc, pages as usize) else {
-            return Err(OpenError::Memory);
-        };
+        let mut free = BitRow::new(alloc, pages as usize)?;
         fill(&mut free, 0, pages as usize, true);
         Ok(PagePool { free })
     }
