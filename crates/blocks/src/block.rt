@@ -1,6 +1,7 @@
 //! A page that is cut into cells of one class. Contracts see the class, the kind, the row of its cells, in which true is
 //! an allocated cell, and the number of its first free cell.
-ghost use Rattle.std.specs.Prelude.{◌≡◌, ℕ, ◌*◌, ◌/◌, ◌%◌, ◌<◌, ◌==◌, true, false, List, length, replicate, slice_index_or, slice_set, MatchOption, MatchBool, IfSome, IfNone};
+ghost use Rattle.std.specs.Prelude.{◌≡◌, ◌*◌, ◌/◌, ◌%◌, ◌<◌, ◌==◌, ℕ, true, false};
+ghost use Rattle.std.specs.Prelude.{List, length, replicate, slice_index_or, slice_set, MatchOption, MatchBool, IfSome, IfNone};
 ghost use Rattle.words.specs.declared.limits.TheConstants.{PAGE_WORDS, PAGE_BYTES, MAX_PAGES};
 ghost use Rattle.words.specs.Bits.{members, IsFullRow, IsEmptyFrom, IsFirstFrom};
 ghost use Rattle.words.specs.Classes.{IsSizeClass};
@@ -136,7 +137,9 @@ impl Block {
         requires has { HasPage memory.now page }
         requires listed { IsListed memory.now page self.old }
         ensures none { IfNone result (IsFullRow self.old.taken × (self.new ≡ self.old)) }
-        ensures some { IfSome result (λ i. (i ≡ self.old.first) × IsFreeCellOf self.old.taken i × (self.new ≡ record self.old { taken = slice_set self.old.taken i true; first = link_of memory.now page self.old.class i })) }
+        ensures first { IfSome result (λ i. i ≡ self.old.first) }
+        ensures free { IfSome result (λ i. IsFreeCellOf self.old.taken i) }
+        ensures block { IfSome result (λ i. self.new ≡ record self.old { taken = slice_set self.old.taken i true; first = link_of memory.now page self.old.class i }) }
         ensures listed { IsListed memory.now page self.new }
     {
         let cell = self.first;
