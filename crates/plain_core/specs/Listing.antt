@@ -1,7 +1,8 @@
 -- A list of objects that grows.
-use Rattle.std.specs.Prelude.{◌≡◌, ℕ, ◌≤◌, ◌<◌, Bool, true, false, List, ◌++◌, length, Contains, slice_index_or, nat_eq}
+use Rattle.std.specs.Prelude.{◌≡◌, ℕ, ◌*◌, ◌≤◌, ◌<◌, Bool, true, false, List, ◌++◌, length, Contains, slice_index_or, nat_eq}
 use Rattle.std.specs.List.{IsDistinct}
 use Rattle.std.specs.Vec.{vec_capacity}
+use Rattle.words.specs.declared.limits.TheConstants.{PAGE_GRANULES, PAGE_WORDS}
 use Rattle.plain_core.specs.declared.extent.Extent.{Extent}
 use Rattle.plain_core.specs.declared.listing.Listing.{Listing}
 use Rattle.plain_core.specs.Reached.{PointsIntoPlace, AreApart}
@@ -10,6 +11,14 @@ use Rattle.plain_core.specs.Reached.{PointsIntoPlace, AreApart}
 pub record HasListRoom (count : ℕ) (l : Listing) : Type 0 where
   pub marks : count ≤ length l.marks.items
   pub order : count ≤ vec_capacity l.order
+
+-- What is taken for so many pages beside their words: room for an object at each of their granules, in the row of objects,
+-- on the list and among the flags, and a place for the owner of each of their words.
+pub record HasMemory (pages row : ℕ) (listing : Listing) (stays owners : ℕ) : Type 0 where
+  pub objects : PAGE_GRANULES * pages ≤ row
+  pub lists : HasListRoom (PAGE_GRANULES * pages) listing
+  pub flags : PAGE_GRANULES * pages ≤ stays
+  pub words : owners ≡ PAGE_WORDS * pages
 
 -- Some of so many objects are on the list, each once, and the row marks these.
 pub record IsListOf (count : ℕ) (order : List ℕ) (marks : List Bool) : Type 0 where

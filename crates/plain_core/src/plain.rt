@@ -33,17 +33,16 @@ pub struct Core {
 }
 
 impl Model for Core {
-    ghost use Rattle.std.specs.Prelude.{◌≡◌, ◌≤◌, ◌*◌};
     ghost use Rattle.std.specs.Vec.{vec_capacity, vec_len};
-    ghost use Rattle.words.specs.declared.limits.TheConstants.{PAGE_GRANULES, PAGE_WORDS};
     ghost use Rattle.plain_core.specs.Contents.{Contents, IsLaidOut};
-    ghost use Rattle.plain_core.specs.Listing.{HasListRoom};
+    ghost use Rattle.plain_core.specs.Listing.{HasMemory};
 
     ghost Value = { Contents };
 
     ghost view = { λ c. record { pages = c.pages; words = c.words.items; objects = c.objects.items; roots = c.roots } };
 
-    ghost invariant = { λ c. IsLaidOut (record { pages = c.pages; words = c.words.items; objects = c.objects.items; roots = c.roots }) × (PAGE_GRANULES * c.pages ≤ vec_capacity c.objects) × HasListRoom (PAGE_GRANULES * c.pages) c.listing × (PAGE_GRANULES * c.pages ≤ vec_len c.stays) × (vec_len c.owners ≡ PAGE_WORDS * c.pages) };
+    ghost invariant = { λ c. IsLaidOut (record { pages = c.pages; words = c.words.items; objects = c.objects.items; roots = c.roots })
+        × HasMemory c.pages (vec_capacity c.objects) c.listing (vec_len c.stays) (vec_len c.owners) };
 }
 
 impl Core {

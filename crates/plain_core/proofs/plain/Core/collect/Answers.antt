@@ -10,21 +10,18 @@ pub list_from_roots-requires-clause-lie : goal.list_from_roots-requires-clause-l
 list_from_roots-requires-clause-lie c = rw (c.deref.ensures.value, c.deref-2.ensures.value) (all_lie _ c.self.invariant.0)
 
 pub list_from_roots-requires-clause-within : goal.list_from_roots-requires-clause-within
-list_from_roots-requires-clause-within c = rw (c.deref-2.ensures.value, c.deref_mut.ensures.value) (lie_in _ c.self.invariant.0 _ (let is = c.self.invariant.4 in omega (arith, c.self.inside.owners.ok.0)))
+list_from_roots-requires-clause-within c = rw (c.deref-2.ensures.value, c.deref_mut.ensures.value) (lie_in _ c.self.invariant.0 _ (let is = c.self.invariant.1.words in omega (arith, c.self.inside.owners.ok.0)))
 
 pub list_from_roots-requires-clause-room : goal.list_from_roots-requires-clause-room
-list_from_roots-requires-clause-room c = rw c.deref-2.ensures.value (room_for _ c.self.invariant.0 _ c.self.invariant.2)
+list_from_roots-requires-clause-room c = rw c.deref-2.ensures.value (room_for _ c.self.invariant.0 _ c.self.invariant.1.lists)
 
 pub keep_flagged-requires : goal.keep_flagged-requires
-keep_flagged-requires c = rw c.deref-3.ensures.value (room_for _ c.self.invariant.0 _ (room_kept _ _ _ c.self.invariant.2 c.list_from_roots.ensures.room)).marks
+keep_flagged-requires c = rw c.deref-3.ensures.value (room_for _ c.self.invariant.0 _ (room_kept _ _ _ c.self.invariant.1.lists c.list_from_roots.ensures.room)).marks
 
 pub invariant_of-self : goal.invariant_of-self
 invariant_of-self c = (
   rest_sound _ c.self.invariant.0 c.keep_flagged.ensures.parts.gone _ c.keep_flagged.ensures.parts.all,
-  rw c.keep_flagged.ensures.capacity c.self.invariant.1,
-  room_kept _ _ _ c.self.invariant.2 c.list_from_roots.ensures.room,
-  c.self.invariant.3,
-  c.self.invariant.4,
+  record { objects = rw c.keep_flagged.ensures.capacity c.self.invariant.1.objects; lists = room_kept _ _ _ c.self.invariant.1.lists c.list_from_roots.ensures.room; flags = c.self.invariant.1.flags; words = c.self.invariant.1.words },
 )
 
 pub returns : goal.returns

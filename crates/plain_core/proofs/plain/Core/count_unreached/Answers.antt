@@ -10,13 +10,13 @@ pub list_from_roots-requires-clause-lie : goal.list_from_roots-requires-clause-l
 list_from_roots-requires-clause-lie c = rw (c.deref.ensures.value, c.deref-2.ensures.value) (all_lie _ c.self.invariant.0)
 
 pub list_from_roots-requires-clause-within : goal.list_from_roots-requires-clause-within
-list_from_roots-requires-clause-within c = rw (c.deref-2.ensures.value, c.deref_mut.ensures.value) (lie_in _ c.self.invariant.0 _ (let is = c.self.invariant.4 in omega (arith, c.self.inside.owners.ok.0)))
+list_from_roots-requires-clause-within c = rw (c.deref-2.ensures.value, c.deref_mut.ensures.value) (lie_in _ c.self.invariant.0 _ (let is = c.self.invariant.1.words in omega (arith, c.self.inside.owners.ok.0)))
 
 pub list_from_roots-requires-clause-room : goal.list_from_roots-requires-clause-room
-list_from_roots-requires-clause-room c = rw c.deref-2.ensures.value (room_for _ c.self.invariant.0 _ c.self.invariant.2)
+list_from_roots-requires-clause-room c = rw c.deref-2.ensures.value (room_for _ c.self.invariant.0 _ c.self.invariant.1.lists)
 
 pub count_unflagged-requires : goal.count_unflagged-requires
-count_unflagged-requires c = rw (c.deref-3.ensures.value, c.deref-4.ensures.value) (room_for _ c.self.invariant.0 _ (room_kept _ _ _ c.self.invariant.2 c.list_from_roots.ensures.room)).marks
+count_unflagged-requires c = rw (c.deref-3.ensures.value, c.deref-4.ensures.value) (room_for _ c.self.invariant.0 _ (room_kept _ _ _ c.self.invariant.1.lists c.list_from_roots.ensures.room)).marks
 
 pub returns-clause-garbage : goal.returns-clause-garbage
 returns-clause-garbage c = rw (← c.self.view_is)

@@ -37,12 +37,9 @@ swap_remove-freed-requires c =
 pub invariant_of-self : goal.invariant_of-self
 invariant_of-self c =
     let there = rw c.deref.ensures.value at c.in-Some-index_at.ensures.some.1 in
-    let spare : PAGE_GRANULES * c.self.inside.pages ≤ vec_capacity c.self.inside.objects = c.self.invariant.1 in (
+    let spare : PAGE_GRANULES * c.self.inside.pages ≤ vec_capacity c.self.inside.objects = c.self.invariant.1.objects in (
       remove_sound _ c.self.invariant.0 _ _ _ (slice_get_within _ _ _ there) c.swap_remove-freed.ensures.value c.swap_remove-freed.ensures.items,
-      omega (arith, c.swap_remove-freed.ensures.capacity),
-      c.self.invariant.2,
-      c.self.invariant.3,
-      c.self.invariant.4,
+      record { objects = omega (arith, c.swap_remove-freed.ensures.capacity); lists = c.self.invariant.1.lists; flags = c.self.invariant.1.flags; words = c.self.invariant.1.words },
     )
 
 pub returns : goal.returns

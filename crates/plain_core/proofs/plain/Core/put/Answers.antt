@@ -20,15 +20,12 @@ pub invariant_of-self : goal.invariant_of-self
 invariant_of-self c =
     let fits = subst (λ (x : Contents). MayBePut x c.requires.fits.0 c.args.object) (sym c.self.view_is) c.requires.fits.1 in
     let left : length c.self.inside.objects.items < PAGE_GRANULES * c.self.inside.pages = room_left _ c.requires.fits.0 c.args.object.kind c.args.object c.self.invariant.0 fits.sized fits.size fits.place in
-    let spare : PAGE_GRANULES * c.self.inside.pages ≤ vec_capacity c.self.inside.objects = c.self.invariant.1 in
+    let spare : PAGE_GRANULES * c.self.inside.pages ≤ vec_capacity c.self.inside.objects = c.self.invariant.1.objects in
     let long : length c.fill.new.row ≡ length c.self.inside.words.items = c.fill.auto.row ∙ ap length c.deref_mut.ensures.value in (
       alloc_sound _ c.requires.fits.0 c.args.object.kind c.args.object c.self.invariant.0 fits.sized fits.size fits.place _ _ _
           (ap length (with_items_is c.self.inside.words c.fill.new.row (long ∙ sym c.self.inside.words.ok.0)) ∙ long)
           (pushed_items _ _ _ _ (c.push-pushed.ensures.succeeds (let ok = c.self.inside.objects.ok in omega (arith, ok.0))) c.push-pushed.ensures.items),
-      omega (arith, c.push-pushed.ensures.capacity),
-      c.self.invariant.2,
-      c.self.invariant.3,
-      c.self.invariant.4,
+      record { objects = omega (arith, c.push-pushed.ensures.capacity); lists = c.self.invariant.1.lists; flags = c.self.invariant.1.flags; words = c.self.invariant.1.words },
     )
 
 pub returns : goal.returns
@@ -36,7 +33,7 @@ returns c =
     let at = subst (λ (x : Contents). HasMutator x.roots c.args.slot c.requires.mutator.0) (sym c.self.view_is) c.requires.mutator.1 in
     rw (← c.self.view_is) (λ placement fits.
     let left : length c.self.inside.objects.items < PAGE_GRANULES * c.self.inside.pages = room_left _ placement c.args.object.kind c.args.object c.self.invariant.0 fits.sized fits.size fits.place in
-    let spare : PAGE_GRANULES * c.self.inside.pages ≤ vec_capacity c.self.inside.objects = c.self.invariant.1 in
+    let spare : PAGE_GRANULES * c.self.inside.pages ≤ vec_capacity c.self.inside.objects = c.self.invariant.1.objects in
     let long : length c.fill.new.row ≡ length c.self.inside.words.items = c.fill.auto.row ∙ ap length c.deref_mut.ensures.value in
     let zeroed : IsZeroed c.self.inside.words.items c.fill.new.row c.args.object = record { long = long; zeroed = rw c.place_of-start.ensures at c.fill.ensures.filled; others = λ k h. (rw c.place_of-start.ensures at c.fill.ensures.others) k h ∙ ap (λ xs. get_or xs k 0) c.deref_mut.ensures.value } in
     λ s h words is.

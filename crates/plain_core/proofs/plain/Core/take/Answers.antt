@@ -17,10 +17,10 @@ pub list_from_roots-requires-clause-lie : goal.list_from_roots-requires-clause-l
 list_from_roots-requires-clause-lie c = rw (c.deref.ensures.value, c.deref-2.ensures.value) (all_lie _ c.self.invariant.0)
 
 pub list_from_roots-requires-clause-within : goal.list_from_roots-requires-clause-within
-list_from_roots-requires-clause-within c = rw (c.deref-2.ensures.value, c.deref_mut.ensures.value) (lie_in _ c.self.invariant.0 _ (let is = c.self.invariant.4 in omega (arith, c.self.inside.owners.ok.0)))
+list_from_roots-requires-clause-within c = rw (c.deref-2.ensures.value, c.deref_mut.ensures.value) (lie_in _ c.self.invariant.0 _ (let is = c.self.invariant.1.words in omega (arith, c.self.inside.owners.ok.0)))
 
 pub list_from_roots-requires-clause-room : goal.list_from_roots-requires-clause-room
-list_from_roots-requires-clause-room c = rw c.deref-2.ensures.value (room_for _ c.self.invariant.0 _ c.self.invariant.2)
+list_from_roots-requires-clause-room c = rw c.deref-2.ensures.value (room_for _ c.self.invariant.0 _ c.self.invariant.1.lists)
 
 pub unset_flags-requires-clause-owners : goal.unset_flags-requires-clause-owners
 unset_flags-requires-clause-owners c =
@@ -33,10 +33,10 @@ unset_flags-requires-clause-one c = rw c.deref-3.ensures.value (one_each _ c.sel
 
 pub unset_flags-requires-clause-marks : goal.unset_flags-requires-clause-marks
 unset_flags-requires-clause-marks c =
-    rw (c.deref-3.ensures.value, c.deref-5.ensures.value) (room_for _ c.self.invariant.0 _ (room_kept _ _ _ c.self.invariant.2 c.list_from_roots.ensures.room)).marks
+    rw (c.deref-3.ensures.value, c.deref-5.ensures.value) (room_for _ c.self.invariant.0 _ (room_kept _ _ _ c.self.invariant.1.lists c.list_from_roots.ensures.room)).marks
 
 pub unset_flags-requires-clause-flags : goal.unset_flags-requires-clause-flags
-unset_flags-requires-clause-flags c = rw c.deref-3.ensures.value (all_set _ c.self.invariant.0 _ _ (c.fill.ensures.items (λ y clone. clone)) c.self.invariant.3)
+unset_flags-requires-clause-flags c = rw c.deref-3.ensures.value (all_set _ c.self.invariant.0 _ _ (c.fill.ensures.items (λ y clone. clone)) c.self.invariant.1.flags)
 
 pub returns-then-not-unset_flags-clause-no : goal.returns-then-not-unset_flags-clause-no
 returns-then-not-unset_flags-clause-no c refused = rw (← c.self.view_is)
@@ -47,19 +47,21 @@ returns-then-not-unset_flags-clause-no c refused = rw (← c.self.view_is)
 
 pub invariant_of-self-2 : goal.invariant_of-self-2
 invariant_of-self-2 c =
-    let spare : PAGE_GRANULES * c.self.inside.pages ≤ vec_len c.self.inside.stays = c.self.invariant.3 in
+    let spare : PAGE_GRANULES * c.self.inside.pages ≤ vec_len c.self.inside.stays = c.self.invariant.1.flags in
     let size = c.unset_flags.ensures.size in
     let long = c.fill.ensures.len in (
       rest_sound _ c.self.invariant.0 c.keep_flagged-gone.ensures.parts.gone _ c.keep_flagged-gone.ensures.parts.all,
-      rw c.keep_flagged-gone.ensures.capacity c.self.invariant.1,
-      room_kept _ _ _ c.self.invariant.2 c.list_from_roots.ensures.room,
-      omega (arith, c.fill.new.self.ok.0, c.unset_flags.new.flags.ok.0),
-      c.self.invariant.4,
+      record {
+        objects = rw c.keep_flagged-gone.ensures.capacity c.self.invariant.1.objects;
+        lists = room_kept _ _ _ c.self.invariant.1.lists c.list_from_roots.ensures.room;
+        flags = omega (arith, c.fill.new.self.ok.0, c.unset_flags.new.flags.ok.0);
+        words = c.self.invariant.1.words;
+      },
     )
 
 pub are_all_named-requires-clause-marks : goal.are_all_named-requires-clause-marks
 are_all_named-requires-clause-marks c =
-    let room = (room_for _ c.self.invariant.0 _ (room_kept _ _ _ c.self.invariant.2 c.list_from_roots.ensures.room)).marks in
+    let room = (room_for _ c.self.invariant.0 _ (room_kept _ _ _ c.self.invariant.1.lists c.list_from_roots.ensures.room)).marks in
     let is = c.len.ensures in rw c.deref-6.ensures.value (omega (arith, c.self.inside.objects.ok.0))
 
 pub are_all_named-requires-clause-flags : goal.are_all_named-requires-clause-flags
