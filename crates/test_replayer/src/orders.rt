@@ -157,12 +157,12 @@ fn check_b(rt: &impl Abort, alloc: Global, seed: u64) -> Result<(), Fail> {
     if turns.is_early {
         assert_eq!(rt; turns.finished, Reply::Count(1));
     }
-    let other = if turns.finished == Reply::Count(1) {
-        0
-    } else {
-        1
-    };
-    assert_eq!(rt; collected, Reply::Count(other));
+    if turns.finished == Reply::Count(0) {
+        assert_eq!(rt; collected, Reply::Count(1));
+        return Ok(());
+    }
+    assert_eq!(rt; turns.finished, Reply::Count(1));
+    assert_eq!(rt; collected, Reply::Count(0));
     Ok(())
 }
 
