@@ -18,7 +18,7 @@ use Rattle.marker.specs.declared.entry.Entry.{Entry}
 use Rattle.marker.specs.Marking.{Marking, IsConsistent, IsMarked, word_address, last_page, pages_of, Covers}
 use Rattle.marker.specs.Work.{left, left_of, page_words, unmarked, unmarked_from, span, cost}
 use Rattle.marker.specs.Invariant.{IsAwaited}
-use Rattle.marker.specs.Growth.{MarksWord, MarksObject, Awaits, IsDirtied, entry_of, nothing, object, pointer_free, pushed, dirtied}
+use Rattle.marker.specs.Growth.{IsOutside, MarksWord, MarksObject, Awaits, IsDirtied, entry_of, nothing, object, pointer_free, pushed, dirtied}
 use Rattle.marker.specs.Entries.{IsBelow}
 use Rattle.marker.proofs.Closures.{same_object}
 use Rattle.marker.proofs.Growing.{Extends, below_refl}
@@ -53,6 +53,9 @@ pub word_outside : (states : List PageState) (bytes w : ℕ) (m : Marking) → I
     → MarksWord (found_in states) w m m
 word_outside states bytes w m lawful b fits far = word_none (found_in states) w m (outside (length states) (found_in states) w lawful.map
     (⊎_elim (λ low. inl low) (λ (high : FIRST_ADDRESS ≤ w). inr (omega (arith, b, fits, far, high))) (cases_lt w FIRST_ADDRESS)))
+
+pub word_beyond : (states : List PageState) (bytes w : ℕ) (m : Marking) → IsLawful states → bytes ≡ PAGE_BYTES * length states → IsOutside bytes w → MarksWord (found_in states) w m m
+word_beyond states bytes w m lawful b out = word_none (found_in states) w m (outside (length states) (found_in states) w lawful.map (subst (λ (n : ℕ). IsOutside n w) b out))
 
 -- a marked object is pointed into
 pub word_marked : (found : ℕ → Option Found) (w : ℕ) (g : Found) (m : Marking) → found w ≡ Some g → Has m.marks (granule g.base) → MarksWord found w m m

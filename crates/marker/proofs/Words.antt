@@ -17,7 +17,7 @@ use Rattle.marker.specs.Marking.{Marking, IsConsistent, IsMarked, StaysDirty, wo
 use Rattle.marker.specs.Work.{cost}
 use Rattle.marker.specs.Closure.{Closure, held, root, word}
 use Rattle.marker.specs.Invariant.{IsTargetMarked, AreRootsMarked}
-use Rattle.marker.specs.Growth.{MarksWord, MarksWords, Traces, Awaits, words_of, nothing, object, begun, and_word, pointer_free, pushed, dirtied}
+use Rattle.marker.specs.Growth.{MarksFirst, MarksWord, MarksWords, Traces, Awaits, words_of, nothing, object, begun, and_word, pointer_free, pushed, dirtied}
 use Rattle.marker.proofs.Closures.{at_base, marks_of, same_object}
 use Rattle.marker.proofs.Growing.{Extends, extends_refl, extends_trans, target_more, traced_more}
 use Rattle.marker.proofs.MarkWord.{object_extends, object_marked, object_only}
@@ -41,6 +41,25 @@ pub words_append : (found : ℕ → Option Found) (a : Marking) (ws : List ℕ) 
 words_append found a ws b x begun = subst (λ l. MarksWords found a l b) (sym (append-nil ws)) x
 words_append found a ws b x (and_word {ws = vs} {w = v} {new = c} y z) =
     subst (λ l. MarksWords found a l c) (append_assoc ws vs (v ∷ [])) (and_word (words_append found a ws b x y) z)
+
+pub four_words : (found : ℕ → Option Found) (w x y z : ℕ) {a b c d e : Marking} → MarksWord found w a b → MarksWord found x b c → MarksWord found y c d → MarksWord found z d e → MarksWords found a (w ∷ x ∷ y ∷ z ∷ []) e
+four_words found w x y z f g h i =
+    and_word {ws = w ∷ x ∷ y ∷ []} {w = z} (and_word {ws = w ∷ x ∷ []} {w = y} (and_word {ws = w ∷ []} {w = x} (and_word {ws = []} {w = w} begun f) g) h) i
+
+-- words that are left are done with too
+pub first_further : (found : ℕ → Option Found) (a : Marking) {ws vs : List ℕ} {b c : Marking} → MarksFirst found a ws vs b → (done rest : List ℕ) → vs ≡ done ++ rest → MarksWords found b done c → MarksFirst found a ws rest c
+first_further found a {b = b} x done rest e y = record {
+  done = x.done ++ done;
+  parts = x.parts ∙ ap (λ l. x.done ++ l) e ∙ sym (append_assoc x.done done rest);
+  marks = words_append found a x.done b x.marks y;
+}
+
+pub first_and_left : (found : ℕ → Option Found) (a : Marking) {ws vs : List ℕ} {b c : Marking} → MarksFirst found a ws vs b → MarksWords found b vs c → MarksWords found a ws c
+first_and_left found a {b = b} {c = c} x y = subst (λ (l : List ℕ). MarksWords found a l c) (sym x.parts) (words_append found a x.done b x.marks y)
+
+-- four words fewer are left
+pub fewer_left : (w x y z : ℕ) {ws vs : List ℕ} → ws ≡ w ∷ x ∷ y ∷ z ∷ vs → length vs < length ws
+fewer_left w x y z {ws = ws} {vs = vs} e = let l : length ws ≡ length (w ∷ x ∷ y ∷ z ∷ vs) = ap length e in omega (arith, l)
 
 -- the words of an object from one of them on, as they lie in a row
 pub run_words : (words : List ℕ) (f : Found) (first n start : ℕ) → start ≡ word_address f first → FIRST_ADDRESS ≤ start → place start + n ≤ length words → slice_range words (place start) (place start + n) ≡ words_of words f first n

@@ -2,7 +2,7 @@
 use Rattle.std.specs.Prelude.{◌≡◌, ℕ, ◌+◌, ◌<◌, ◌≤◌, Bool, true, List, [], ◌∷◌, ◌++◌, length, map, slice_set, Option, Some, ◌⊎◌}
 use Rattle.std.specs.List.{range_with_len}
 use Rattle.words.specs.declared.class.Kind.TheVariants.{Normal, PointerFree}
-use Rattle.words.specs.declared.limits.TheConstants.{MARK_STACK_ENTRIES}
+use Rattle.words.specs.declared.limits.TheConstants.{FIRST_ADDRESS, MARK_STACK_ENTRIES}
 use Rattle.words.specs.Bits.{Has}
 use Rattle.words.specs.Layout.{granule, page_of}
 use Rattle.pages.specs.Memory.{word_at}
@@ -46,6 +46,16 @@ pub data MarksWord (found : ℕ → Option Found) (w : ℕ) (old new : Marking) 
 pub data MarksWords (found : ℕ → Option Found) (old : Marking) : List ℕ → Marking → Type 0 where
   begun : MarksWords found old [] old
   and_word : {ws : List ℕ} {w : ℕ} {m new : Marking} → MarksWords found old ws m → MarksWord found w m new → MarksWords found old (ws ++ w ∷ []) new
+
+-- The first of some words are done with, and these are left.
+pub record MarksFirst (found : ℕ → Option Found) (old : Marking) (words left : List ℕ) (new : Marking) : Type 0 where
+  pub done : List ℕ
+  pub parts : words ≡ done ++ left
+  pub marks : MarksWords found old done new
+
+-- the address is none of so many bytes of a heap
+abbrev pub IsOutside : ℕ → ℕ → Type 0
+IsOutside bytes address = (address < FIRST_ADDRESS) ⊎ (FIRST_ADDRESS + bytes ≤ address)
 
 -- n words of an object from its word `first` on
 abbrev pub words_of : List ℕ → Found → ℕ → ℕ → List ℕ

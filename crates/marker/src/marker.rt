@@ -1,5 +1,5 @@
 //! The marker's state, the marking of one object, and the roots.
-ghost use Rattle.std.specs.Prelude.{◌≡◌, ℕ, Option, ◌+◌, ◌*◌, ◌<◌, ◌≤◌, List, None, length, slice_index_or, false, Err};
+ghost use Rattle.std.specs.Prelude.{◌≡◌, ℕ, Option, ◌+◌, ◌*◌, ◌<◌, ◌≤◌, List, [], ◌∷◌, None, length, slice_index_or, true, false, Err, All};
 ghost use Rattle.words.specs.declared.limits.TheConstants.{FIRST_ADDRESS, PAGE_BYTES, PAGE_WORDS};
 ghost use Rattle.words.specs.Layout.{granule};
 ghost use Rattle.pages.specs.Opening.{IsOpened};
@@ -9,7 +9,7 @@ ghost use Rattle.block_map.specs.FoundIn.{found_in, IsLawful};
 ghost use Rattle.marker.specs.Marking.{IsConsistent, IsFresh, StaysDirty};
 ghost use Rattle.marker.specs.Work.{cost};
 ghost use Rattle.marker.specs.Invariant.{AreRootsMarked, DirtyPageInvariant};
-ghost use Rattle.marker.specs.Growth.{Awaits, MarksWord, MarksWords, Traces, words_of};
+ghost use Rattle.marker.specs.Growth.{Awaits, IsOutside, MarksFirst, MarksWord, MarksWords, Traces, words_of};
 
 use crate::entry::Entry;
 use crate::spread::dirty_object;
@@ -52,6 +52,16 @@ pub(crate) fn heap_bytes(map: &BlockMap) -> u64
     ensures lawful { IsLawful map.now }
 {
     PAGE_BYTES * u64::from(map.len())
+}
+
+// Whether none of four words lies in the heap's range. The least distance from its start tells, by one test.
+#[inline]
+fn are_outside(heap_bytes: u64, first: u64, second: u64, third: u64, fourth: u64) -> bool
+    ensures { result ≡ true → All (IsOutside heap_bytes) (first ∷ second ∷ third ∷ fourth ∷ []) }
+{
+    let front = (first.wrapping_sub(FIRST_ADDRESS)).min(second.wrapping_sub(FIRST_ADDRESS));
+    let back = (third.wrapping_sub(FIRST_ADDRESS)).min(fourth.wrapping_sub(FIRST_ADDRESS));
+    front.min(back) >= heap_bytes
 }
 
 impl Marker {
@@ -159,9 +169,37 @@ impl Marker {
         }
     }
 
-    // Marks what words point into. No mark between two of them can move them, since they lie in a row of their own.
+    // Marks the objects that four words point into, one of which at least lies in the heap's range.
+    #[inline(never)]
+    fn mark_four(&mut self, map: &BlockMap, first: u64, second: u64, third: u64, fourth: u64)
+        requires pages { length self.old.dirty ≡ length map.now }
+        ensures { MarksWords (found_in map.now) self.old (first ∷ second ∷ third ∷ fourth ∷ []) self.new }
+    {
+        let bytes = heap_bytes(map);
+        self.mark_word(map, bytes, first);
+        self.mark_word(map, bytes, second);
+        self.mark_word(map, bytes, third);
+        self.mark_word(map, bytes, fourth);
+    }
+
+    // Marks what words point into, four at a time, until fewer are left.
     #[inline]
-    fn mark_all(&mut self, map: &BlockMap, heap_bytes: u64, words: Words)
+    fn mark_fours(&mut self, map: &BlockMap, heap_bytes: u64, words: &mut Words)
+        requires pages { length self.old.dirty ≡ length map.now }
+        requires lawful { IsLawful map.now }
+        requires bytes { heap_bytes ≡ PAGE_BYTES * length map.now }
+        ensures { MarksFirst (found_in map.now) self.old words.old words.new self.new }
+    {
+        while let Some((first, second, third, fourth)) = words.next_four() {
+            if !are_outside(heap_bytes, first, second, third, fourth) {
+                self.mark_four(map, first, second, third, fourth);
+            }
+        }
+    }
+
+    // Marks what words point into, one at a time.
+    #[inline]
+    fn mark_each(&mut self, map: &BlockMap, heap_bytes: u64, words: Words)
         requires pages { length self.old.dirty ≡ length map.now }
         requires lawful { IsLawful map.now }
         requires bytes { heap_bytes ≡ PAGE_BYTES * length map.now }
@@ -169,6 +207,35 @@ impl Marker {
     {
         for word in words {
             self.mark_word(map, heap_bytes, word);
+        }
+    }
+
+    // Marks what words point into, four at a time and then those that are left.
+    #[inline(never)]
+    fn mark_many(&mut self, map: &BlockMap, heap_bytes: u64, words: Words)
+        requires pages { length self.old.dirty ≡ length map.now }
+        requires lawful { IsLawful map.now }
+        requires bytes { heap_bytes ≡ PAGE_BYTES * length map.now }
+        ensures { MarksWords (found_in map.now) self.old words.entry self.new }
+    {
+        let mut left = words;
+        self.mark_fours(map, heap_bytes, &mut left);
+        self.mark_each(map, heap_bytes, left);
+    }
+
+    // Marks what words point into. No mark between two of them can move them, since they lie in a row of their own. The
+    // loop over fours stands in no caller, so that one that has few words is no longer for it.
+    #[inline]
+    fn mark_all(&mut self, map: &BlockMap, heap_bytes: u64, words: Words)
+        requires pages { length self.old.dirty ≡ length map.now }
+        requires lawful { IsLawful map.now }
+        requires bytes { heap_bytes ≡ PAGE_BYTES * length map.now }
+        ensures { MarksWords (found_in map.now) self.old words.entry self.new }
+    {
+        if words.len() < 4 {
+            self.mark_each(map, heap_bytes, words);
+        } else {
+            self.mark_many(map, heap_bytes, words);
         }
     }
 

@@ -2,7 +2,7 @@ use Rattle.std.proofs.Common.{◌∙◌}
 use Rattle.block_map.specs.FoundIn.{found_in}
 use Rattle.marker.specs.Growth.{begun, and_word}
 use Rattle.marker.proofs.Words.{words_pages}
-use Rattle.marker.proofs.marker.Marker.mark_all.Goals as goal
+use Rattle.marker.proofs.marker.Marker.mark_each.Goals as goal
 
 pub loop-word-init : goal.loop-word-init
 loop-word-init c = begun
