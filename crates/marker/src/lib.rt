@@ -40,9 +40,11 @@ mod marker;
 mod mutators;
 mod part;
 mod retrace;
+mod run;
 mod sharing;
 mod spread;
 mod step;
+mod target;
 
 pub use entry::Entry;
 pub use marker::Marker;

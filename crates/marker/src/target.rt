@@ -1,0 +1,68 @@
+//! The marking of the object that one word points into.
+ghost use Rattle.std.specs.Prelude.{◌≡◌, ◌*◌, length};
+ghost use Rattle.words.specs.declared.limits.TheConstants.{PAGE_BYTES};
+ghost use Rattle.block_map.specs.Objects.{IsPlaced};
+ghost use Rattle.block_map.specs.FoundIn.{found_in, IsLawful};
+ghost use Rattle.marker.specs.Growth.{Awaits, MarksWord};
+
+use crate::entry::Entry;
+use crate::marker::Marker;
+use crate::spread::dirty_object;
+use block_map::{BlockMap, Found};
+use words::limits::FIRST_ADDRESS;
+use words::{Kind, granule_of};
+
+impl Marker {
+    // Marks the object that the word points into. The heap's range is tested here, before the map is asked.
+    #[inline]
+    pub(crate) fn mark_word(&mut self, map: &BlockMap, heap_bytes: u64, word: u64)
+        requires pages { length self.old.dirty ≡ length map.now }
+        requires lawful { IsLawful map.now }
+        requires bytes { heap_bytes ≡ PAGE_BYTES * length map.now }
+        ensures { MarksWord (found_in map.now) word self.old self.new }
+    {
+        if word.wrapping_sub(FIRST_ADDRESS) >= heap_bytes {
+            return;
+        }
+        self.mark_target(map, word);
+    }
+
+    // Marks the object that a word points into, if it points into one. Most words point into none, so that the loop over
+    // words is to hold the test of the range and not this.
+    #[inline(never)]
+    fn mark_target(&mut self, map: &BlockMap, word: u64)
+        requires pages { length self.old.dirty ≡ length map.now }
+        ensures marks { MarksWord (found_in map.now) word self.old self.new }
+    {
+        let Some(found) = map.find(word) else {
+            return;
+        };
+        let granule = granule_of(found.base);
+        if self.marks.is_set(granule) {
+            return;
+        }
+        self.marks.set(granule);
+        self.await_words(found);
+    }
+
+    // Sees to it that the words of a newly marked object are read.
+    #[inline]
+    fn await_words(&mut self, found: Found)
+        requires placed { IsPlaced (length self.old.dirty) found }
+        ensures marks { self.new.marks ≡ self.old.marks }
+        ensures current { self.new.current ≡ self.old.current }
+        ensures awaits { Awaits found self.old self.new }
+    {
+        if found.kind == Kind::PointerFree {
+            return;
+        }
+        if self.stack.is_full() {
+            dirty_object(&mut self.dirty, found);
+        } else {
+            self.stack.push(Entry {
+                base: found.base,
+                next: 0,
+            });
+        }
+    }
+}
