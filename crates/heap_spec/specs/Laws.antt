@@ -54,6 +54,10 @@ pub record IsFreshRun (pages : ℕ) (run : Run) : Type 0 where
 abbrev pub RunsAreSound : Type 0
 RunsAreSound = (pages : ℕ) (run : Run) → IsFreshRun pages run → IsSound (heap_after (fresh pages) run)
 
+-- whatever happens next leaves a sound heap sound
+abbrev pub HappensKeepsSound : Type 0
+HappensKeepsSound = (start : Start) (run : Run) (event : Event) (reply : Reply) (s' : Heap) → IsSound (heap_after start run) → InRange event → Happens Touched start run event reply s' → IsSound s'
+
 -- each object of a sound heap has words, lies in the heap, and begins at a granule
 abbrev pub ObjectsLieInHeap : Type 0
 ObjectsLieInHeap = (s : Heap) → IsSound s → (base : ℕ) (o : Object) → HasObject s base o → LieInHeap s.pages base (length o.words)

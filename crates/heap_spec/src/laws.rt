@@ -1,6 +1,6 @@
 //! The laws of the sequential heap. Each is a function that does nothing, and its contract is the law: what the
 //! definitions in `specs/` say must be right if these hold.
-ghost use Rattle.heap_spec.specs.Laws.{ClosureIsLeast, ClosureIsMonotone, ClosureIsIdempotent, RunsAreSound, ObjectsLieInHeap, ReadsAtMostOne, TouchedIsClosed, TouchedHoldsReached, FinishKeepsReached, CollectKeepsReached, StepBirths, LoadAnswersStored, RefusedChangesNothing, CallsHaveOneOutcome};
+ghost use Rattle.heap_spec.specs.Laws.{ClosureIsLeast, ClosureIsMonotone, ClosureIsIdempotent, RunsAreSound, HappensKeepsSound, ObjectsLieInHeap, ReadsAtMostOne, TouchedIsClosed, TouchedHoldsReached, FinishKeepsReached, CollectKeepsReached, StepBirths, LoadAnswersStored, RefusedChangesNothing, CallsHaveOneOutcome};
 
 /// The closure of some births is the least set of objects that its rules keep.
 pub fn closure_is_least()
@@ -20,6 +20,11 @@ pub fn closure_is_idempotent()
 /// Every run of a new heap leads to a sound one.
 pub fn runs_are_sound()
     ensures { RunsAreSound }
+{}
+
+/// Whatever happens next leaves a sound heap sound.
+pub fn happens_keeps_sound()
+    ensures { HappensKeepsSound }
 {}
 
 /// Objects have words, lie in the heap, and begin at a granule.

@@ -3,16 +3,19 @@ use Rattle.std.proofs.Common.{◌≡◌, ℕ, ◌<◌, List, length, refl, ap, �
 use Rattle.std.specs.Prelude.{Some, Result, Ok, Err, IfOk, slice_get, slice_set}
 use Rattle.std.proofs.lemmas.Option.{slice_get_within, slice_get-get_or}
 use Rattle.words.specs.declared.refusal.Refusal.{Refusal}
+use Rattle.heap_spec.specs.declared.call.Call.{Call}
 use Rattle.heap_spec.specs.declared.call.Call.TheVariants.{Set, Load, Store}
 use Rattle.heap_spec.specs.declared.reply.Reply.{Reply}
 use Rattle.heap_spec.specs.declared.reply.Reply.TheVariants.{Done, Word}
 use Rattle.heap_spec.specs.Heap.{Heap, Mutator as HeapMutator, IsAttached}
 use Rattle.heap_spec.specs.Steps.{Acts, Calls, acts, with_register}
 use Rattle.heap_spec.specs.Replies.{word_reply}
-use Rattle.heap_spec.specs.Ranges.{IsRegister, IsWord}
+use Rattle.heap_spec.specs.Ranges.{CallInRange, IsRegister, IsWord}
 use Rattle.heap_spec.specs.Sound.{IsSound}
 use Rattle.heap_spec.proofs.Calls.{attached_is, calls_kept}
 use Rattle.heap_spec.proofs.Loads.{load_stored}
+use Rattle.heap_core.specs.Contents.{Contents}
+use Rattle.heap_core.specs.Standing.{StandsFor}
 
 slice_get-set_same : {A : Type 0} (l : List A) (i : ℕ) (x : A) → i < length l → slice_get (slice_set l i x) i ≡ Some x
 slice_get-set_same l i x lt = slice_get-get_or (slice_set l i x) i x (rw (length-set l i x) lt) ∙ ap Some (get_or-set_same l i x x lt)
@@ -41,3 +44,8 @@ word_in _ = 0
 pub ok_is : (result : Result ℕ Refusal) (w : ℕ) → word_reply result ≡ Word w → IfOk result (λ l. l ≡ w)
 ok_is (Ok l) w is = ap word_in is
 ok_is (Err why) w is = tt
+
+-- after a call the core stands for a sound heap, as before
+pub after : {new : Contents} {reply : Reply} (s : Heap) (slot : ℕ) (call : Call) → IsSound s → CallInRange call
+    → (s' : Heap) × Calls s slot call reply s' × StandsFor new s' → (s' : Heap) × StandsFor new s' × IsSound s'
+after s slot call sound range step = (step.0, step.2, calls_kept s slot call sound range step.1)
