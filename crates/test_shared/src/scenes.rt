@@ -8,20 +8,26 @@ use std::marker::Brand;
 use std::process::Abort;
 use std::sync::Wait;
 use std::test::Fail;
-use words::OpenError;
+use words::{OpenError, Reg};
 
+// Two at a time, of which one makes a call before the other comes. All but the first come while a cycle is marking.
 fn come_and_go<J: Naming, R: Wait + Abort>(rt: &R, opened: Opened<Core>)
     requires { (opened.table ≡ J.table) × (opened.origin ≡ J.origin) }
 {
-    let (heap, _collector) = SharedHeap::<J>::named(opened);
-    for _ in 0..17 {
-        let me = heap.attach(rt).ok().expect(rt, "a slot");
-        heap.detach(rt, me);
+    let (heap, mut collector) = SharedHeap::<J>::named(opened);
+    let register = Reg::new(2).expect(rt, "a register");
+    for turn in 0..17 {
+        let mut first = heap.attach(rt).ok().expect(rt, "a slot");
+        let _done = heap.set(rt, &mut first, register, turn);
+        let second = heap.attach(rt).ok().expect(rt, "a slot");
+        let _begun = heap.begin(rt, &mut collector);
+        heap.detach(rt, first);
+        heap.detach(rt, second);
     }
 }
 
 #[test]
-fn seventeen_mutators_come_and_go(rt: HostRuntime) -> Result<(), Fail> {
+fn seventeen_pairs_come_and_go(rt: HostRuntime) -> Result<(), Fail> {
     let opened = open(rt.alloc(), 1).ok().ok_or("a heap")?;
     come_and_go::<Brand, _>(&rt, opened);
     Ok(())
