@@ -106,9 +106,7 @@ impl MarkTable {
         ensures claimer { IfOk result (λ made. view made.1 ≡ first_view marks.now) }
         ensures err { IfErr result (λ error. error ≡ Memory) }
     {
-        let Ok((table, seat)) = Table::of_words(alloc, marks.as_words(), marks) else {
-            return Err(OpenError::Memory);
-        };
+        let (table, seat) = Table::of_words(alloc, marks.as_words(), marks)?;
         Ok((MarkTable { table }, Claimer { seat }))
     }
 
