@@ -52,10 +52,19 @@ impl BlockMap {
         if !is_page_count(pages) {
             return Err(OpenError::BadPages);
         }
-        let Ok(pages) = free_pages(alloc, pages) else {
-            return Err(OpenError::Memory);
-        };
+        let pages = free_pages(alloc, pages)?;
         Ok(BlockMap { pages })
+    }
+
+    /// What is true of every map.
+    #[inline]
+    #[tactic(auto, using(crate::proofs::Lawful::laws))]
+    pub fn laws(&self)
+        ensures small { length self.now ≤ MAX_PAGES }
+        ensures laid { IsLaid self.now }
+        ensures lawful { IsLawful self.now }
+    {
+        let _pages = &self.pages;
     }
 
     /// The number of pages.
@@ -80,8 +89,7 @@ impl BlockMap {
         ensures memory { ChangesPage memory.old memory.new page }
         ensures listed { AreListed memory.new self.new }
     {
-        // Its clauses tell that there are few pages.
-        let _pages = self.len();
+        self.laws();
         let block = Block::new(memory, page, class, kind);
         put_page(&mut self.pages, page as usize, Page::Cut(block));
     }
