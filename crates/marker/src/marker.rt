@@ -58,12 +58,8 @@ impl Marker {
         if !is_page_count(pages) {
             return Err(OpenError::BadPages);
         }
-        let Ok(marks) = Marks::new(alloc, pages) else {
-            return Err(OpenError::Memory);
-        };
-        let Ok(dirty) = DirtyPages::new(alloc, pages) else {
-            return Err(OpenError::Memory);
-        };
+        let marks = Marks::new(alloc, pages)?;
+        let dirty = DirtyPages::new(alloc, pages)?;
         Ok(Marker {
             marks,
             dirty,

@@ -1,10 +1,12 @@
 //! The reading again of dirty pages.
-ghost use Rattle.std.specs.Prelude.{◌≡◌, ◌+◌, ◌*◌, ◌%◌, ◌<◌, ◌≤◌, [], false, length, slice_set, MatchOption, IfSome, IfNone};
-ghost use Rattle.words.specs.declared.limits.TheConstants.{MAX_PAGES, PAGE_BYTES, PAGE_WORDS, WORD_BYTES};
+ghost use Rattle.std.specs.Prelude.{◌≡◌, ◌+◌, ◌*◌, ◌%◌, ◌<◌, ◌≤◌, [], true, false, length, slice_set, MatchOption, IfSome, IfNone};
+ghost use Rattle.words.specs.declared.limits.TheConstants.{FIRST_ADDRESS, MAX_PAGES, PAGE_BYTES, PAGE_WORDS, WORD_BYTES};
+ghost use Rattle.words.specs.declared.class.Kind.TheVariants.{Normal};
 ghost use Rattle.words.specs.Bits.{IsFirstFrom};
+ghost use Rattle.words.specs.Layout.{granule};
 ghost use Rattle.block_map.specs.Walks.{IsNextObject};
 ghost use Rattle.block_map.specs.FoundIn.{found_in, IsLawful};
-ghost use Rattle.marker.specs.Marking.{IsClean, with_dirty};
+ghost use Rattle.marker.specs.Marking.{IsClean, IsMarked, with_dirty};
 ghost use Rattle.marker.specs.Growth.{Traces};
 ghost use Rattle.marker.specs.Retracing.{Rereads, Retraces};
 
@@ -47,6 +49,16 @@ impl Marker {
         Some(page)
     }
 
+    // Whether an object's words are read: it is a marked Normal one.
+    fn has_words_to_read(&self, found: Found) -> bool
+        requires low { FIRST_ADDRESS ≤ found.base }
+        requires inside { granule found.base < length self.now.marks }
+        ensures yes { result ≡ true → (found.kind ≡ Normal) × IsMarked self.now found.base }
+        ensures no { result ≡ false → found.kind ≡ Normal → IsMarked self.now found.base → ⊥ }
+    {
+        found.kind == Kind::Normal && self.is_marked(found.base)
+    }
+
     // Reads the words of the next object again that stand between two addresses, if it is a marked Normal one.
     // Answers the first address past them.
     fn reread(
@@ -75,10 +87,7 @@ impl Marker {
     {
         self.laws();
         let part = part_between(found, low, high);
-        if found.kind == Kind::PointerFree {
-            return part.stop;
-        }
-        if !self.is_marked(found.base) {
+        if !self.has_words_to_read(found) {
             return part.stop;
         }
         self.mark_words(map, heap_bytes, reader, found, part.first, part.count);
