@@ -61,12 +61,8 @@ impl ObjectSpace {
         let memory = Memory::new(alloc, pages)?;
         let pool = PagePool::new(alloc, pages)?;
         let map = BlockMap::new(alloc, pages)?;
-        let Ok(available) = AvailablePages::new(alloc, pages) else {
-            return Err(OpenError::Memory);
-        };
-        let Ok(pending) = PageRow::new(alloc, pages as usize) else {
-            return Err(OpenError::Memory);
-        };
+        let available = AvailablePages::new(alloc, pages)?;
+        let pending = PageRow::new(alloc, pages as usize)?;
         Ok(ObjectSpace {
             memory,
             pool,
@@ -86,7 +82,7 @@ impl ObjectSpace {
         ensures lawful { IsLawful self.now.states }
         ensures laid { IsLaid self.now.states }
     {
-        let _pages = self.map.len();
+        self.map.laws();
     }
 
     /// The kept object that a word points into. On a pending page only marked objects are kept.
@@ -123,8 +119,7 @@ impl ObjectSpace {
         requires object { (f : Found) × (found_in self.old.states address ≡ Some f) }
         ensures { self.new ≡ record self.old { words = with_word_at self.old.words address word } }
     {
-        // Its clauses tell what is true of the map.
-        let _pages = self.map.len();
+        self.map.laws();
         self.memory.write(address, word);
     }
 }

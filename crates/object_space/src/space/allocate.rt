@@ -32,8 +32,7 @@ impl ObjectSpace {
         ensures some { IfSome result (λ page. Has self.now.pending page × (page < length self.now.states)) }
         ensures none { IfNone result ((page : ℕ) → Has self.now.pending page → IsBlockFor (state_at self.now.states page) class kind → ⊥) }
     {
-        // Its clauses tell that there are few.
-        let _pages = self.map.len();
+        self.map.laws();
         let mut from = 0;
         while let Some(page) = self.pending.next(from) {
             if is_cut_for(&self.map, page as PageNo, class, kind) {
@@ -50,8 +49,7 @@ impl ObjectSpace {
         ensures some { IfSome result (λ page. Has self.now.pending page ⊎ IsAvailable (state_at self.now.states page) class kind) }
         ensures none { IfNone result (HasNoFreeCell self.now.states class kind) }
     {
-        // Its clauses tell that there are few.
-        let _pages = self.map.len();
+        self.map.laws();
         let Some(page) = self.available.first(class, kind) else {
             return self.pending_for(class, kind);
         };
@@ -85,8 +83,7 @@ impl ObjectSpace {
         ensures room { HasRoomAt self.old (Placement.Small class) kind result }
         ensures gains { Gains self.old (Placement.Small class) kind result self.new }
     {
-        // Its clauses tell what is true of the map.
-        let _pages = self.map.len();
+        self.map.laws();
         take_cell(
             &mut self.memory,
             &mut self.map,
@@ -105,8 +102,7 @@ impl ObjectSpace {
         ensures gains { IfSome result (λ base. Gains self.old (Placement.Small class) kind base self.new) }
         ensures none { IfNone result (HasNoRoom self.old (Placement.Small class) kind × (self.new ≡ self.old)) }
     {
-        // Its clauses tell what is true of the map.
-        let _pages = self.map.len();
+        self.map.laws();
         let Some(page) = cut_page(
             &mut self.memory,
             &mut self.pool,
@@ -180,8 +176,7 @@ impl ObjectSpace {
         ensures gains { IfSome result (λ base. Gains self.old (Placement.Small class) kind base self.new) }
         ensures none { IfNone result (self.new ≡ self.old) }
     {
-        // Its clauses tell that there are few.
-        let _pages = self.map.len();
+        self.map.laws();
         let Some(page) = self.available.first(class, kind) else {
             return None;
         };

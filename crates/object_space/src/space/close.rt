@@ -44,8 +44,7 @@ impl ObjectSpace {
         ensures traces { Traces (found_in self.now.states) self.now.words roots.now marker.old marker.new }
         ensures lawful { IsLawful self.now.states }
     {
-        // Its clauses tell what is true of the map.
-        let _pages = self.map.len();
+        self.map.laws();
         close_marks_with(
             rt,
             alloc,

@@ -66,8 +66,7 @@ fn free_large(pool: &mut PagePool, map: &mut BlockMap, page: PageNo, pages: u32)
     ensures removed { (kind : Kind) → state_at map.old page ≡ head pages kind → IsRemoved (found_in map.old) (found_in map.new) (large_object page pages kind) }
     ensures laid { IsLaid map.old }
 {
-    // Its clauses tell what is true of the map.
-    let _pages = map.len();
+    map.laws();
     map.uncut(page);
     pool.give(page, pages);
 }

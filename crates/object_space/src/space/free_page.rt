@@ -39,8 +39,7 @@ pub(super) fn free_block(
     map.uncut(page);
     pool.give(page, 1);
     available.leave(class, kind, page);
-    // Its clauses tell what is true of the map.
-    let _pages = map.len();
+    map.laws();
 }
 
 impl ObjectSpace {

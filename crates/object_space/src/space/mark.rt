@@ -37,8 +37,7 @@ impl ObjectSpace {
         ensures taken { TakesOff (found_in self.now.states) self.now.words marker.old marker.new }
         ensures lawful { IsLawful self.now.states }
     {
-        // Its clauses tell what is true of the map.
-        let _pages = self.map.len();
+        self.map.laws();
         let mut reader = Reader::new(&self.memory);
         marker.step(&self.map, &mut reader, budget)
     }
@@ -50,8 +49,7 @@ impl ObjectSpace {
         ensures traces { Traces (found_in self.now.states) self.now.words [] marker.old marker.new }
         ensures lawful { IsLawful self.now.states }
     {
-        // Its clauses tell what is true of the map.
-        let _pages = self.map.len();
+        self.map.laws();
         let mut reader = Reader::new(&self.memory);
         marker.retrace(&self.map, &mut reader)
     }

@@ -23,8 +23,7 @@ impl ObjectSpace {
         ensures next { MatchOption result (IsNoObject (found_in self.now.states) from (page_start (page + 1))) (λ f. IsNextObject (found_in self.now.states) from (page_start (page + 1)) f) }
         ensures lawful { IsLawful self.now.states }
     {
-        // Its clauses tell what is true of the map.
-        let _pages = self.map.len();
+        self.map.laws();
         self.map.next_on_page(page, from)
     }
 
@@ -82,8 +81,7 @@ impl ObjectSpace {
         ensures page { result ≡ true → SweepsAny self.old marker.now.marks self.new }
         ensures fewer { result ≡ true → count_by (λ b. b) self.new.pending + 1 ≡ count_by (λ b. b) self.old.pending }
     {
-        // Its clauses tell that there are few.
-        let _pages = self.map.len();
+        self.map.laws();
         let Some(page) = self.pending.first() else {
             return false;
         };

@@ -59,8 +59,7 @@ pub(super) fn take_cell(
     ensures listed { AreListed memory.new map.new }
     ensures exact { IsExact available.new map.new }
 {
-    // Its clauses tell what is true of the map.
-    let _pages = map.len();
+    map.laws();
     let Some(taken) = map.take(memory, page) else {
         unreachable!();
     };

@@ -8,4 +8,4 @@ returns-in_default-clause-none c = rw (← c.self.view_is) (if_none _ (none_avai
 
 pub overflow_cast-result : goal.overflow_cast-result
 overflow_cast-result c =
-    let inside = c.in-Some.ensures.page.inside in let long = c.self.invariant.exact.long c.args.class c.args.kind c.first.ensures.listed in let few = c.len-pages.ensures.laid.few in omega arith
+    let inside = c.in-Some.ensures.page.inside in let long = c.self.invariant.exact.long c.args.class c.args.kind c.first.ensures.listed in let few = c.laws.ensures.laid.few in omega arith

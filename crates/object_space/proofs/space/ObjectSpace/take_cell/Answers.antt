@@ -9,7 +9,7 @@ invariant_of-self c =
     let cell = c.take_cell.ensures.cell in
     let swept = rw (← c.self.view_is) at c.requires.swept in
     record {
-      sound = sound_cell _ _ _ c.args.page _ _ _ _ c.self.invariant.sound c.len-pages.ensures.laid c.len-pages.ensures.lawful cell c.take_cell.ensures.takes swept;
+      sound = sound_cell _ _ _ c.args.page _ _ _ _ c.self.invariant.sound c.laws.ensures.laid c.laws.ensures.lawful cell c.take_cell.ensures.takes swept;
       listed = c.take_cell.ensures.listed;
       pending = pending_cut _ _ c.self.invariant.pending refl (ap length c.take_cell.ensures.takes.became ∙ length-set _ _ _)
           (λ p is. subst (λ (x : List PageState). IsCut (state_at x p)) (sym c.take_cell.ensures.takes.became) (cut_cell _ c.args.page _ true _ cell.inside p is));
@@ -18,8 +18,8 @@ invariant_of-self c =
 
 pub returns-clause-room : goal.returns-clause-room
 returns-clause-room c = rw (← c.self.view_is)
-    (allocates_cell _ _ _ c.args.page _ _ _ _ c.self.invariant.sound c.len-pages.ensures.laid c.len-pages.ensures.lawful c.take_cell.ensures.cell c.take_cell.ensures.takes)
+    (allocates_cell _ _ _ c.args.page _ _ _ _ c.self.invariant.sound c.laws.ensures.laid c.laws.ensures.lawful c.take_cell.ensures.cell c.take_cell.ensures.takes)
 
 pub returns-clause-gains : goal.returns-clause-gains
 returns-clause-gains c = rw (← c.self.view_is)
-    (gains_cell _ _ _ c.args.page _ _ _ _ c.len-pages.ensures.laid c.len-pages.ensures.lawful c.take_cell.ensures.cell c.take_cell.ensures.takes (rw (← c.self.view_is) at c.requires.swept))
+    (gains_cell _ _ _ c.args.page _ _ _ _ c.laws.ensures.laid c.laws.ensures.lawful c.take_cell.ensures.cell c.take_cell.ensures.takes (rw (← c.self.view_is) at c.requires.swept))

@@ -11,7 +11,7 @@ pub returns-in_default-clause-none : goal.returns-in_default-clause-none
 returns-in_default-clause-none c =
     let none = c.in_default.ensures.none in
     rw (← c.self.view_is) (
-      no_room_small _ _ _ c.self.invariant.sound c.len-pages.ensures.laid c.len-pages.ensures.lawful c.cut_page.ensures.class
+      no_room_small _ _ _ c.self.invariant.sound c.laws.ensures.laid c.laws.ensures.lawful c.cut_page.ensures.class
           (rw (← c.self.view_is) at c.requires) none.0,
       ap (λ w. store_of w c.cut_page.new.pool c.cut_page.new.map c.self.inside.pending) none.1
           ∙ ap (λ p. store_of c.self.inside.memory p c.cut_page.new.map c.self.inside.pending) none.2
@@ -21,17 +21,17 @@ returns-in_default-clause-none c =
 pub take_cell-requires-clause-cell : goal.take_cell-requires-clause-cell
 take_cell-requires-clause-cell c =
     let cuts = c.in-Some.ensures.some in
-    free_cell_offers _ _ _ _ 0 (first_cell _ c.self.invariant.sound c.len-pages.ensures.laid c.len-pages.ensures.lawful _ _ c.cut_page.ensures.class _ _ _ _ cuts)
+    free_cell_offers _ _ _ _ 0 (first_cell _ c.self.invariant.sound c.laws.ensures.laid c.laws.ensures.lawful _ _ c.cut_page.ensures.class _ _ _ _ cuts)
 
 pub invariant_of-self-2 : goal.invariant_of-self-2
 invariant_of-self-2 c =
     let cuts = c.in-Some.ensures.some in
     let page = c.in-Some.page in
-    let is = first_is _ c.self.invariant.sound c.len-pages.ensures.laid c.len-pages.ensures.lawful _ _ c.cut_page.ensures.class _ _ _ _ cuts in
+    let is = first_is _ c.self.invariant.sound c.laws.ensures.laid c.laws.ensures.lawful _ _ c.cut_page.ensures.class _ _ _ _ cuts in
     let takes = subst (λ i. TakesCell c.cut_page.new.memory c.take_cell.new.memory c.cut_page.new.map c.take_cell.new.map page i c.take_cell.result) is c.take_cell.ensures.takes in
     let was = c.self.invariant.sound.agree.free_in_map page (cuts.run.free page (omega arith) (omega arith)) in
     record {
-      sound = sound_page _ c.self.invariant.sound c.len-pages.ensures.laid c.len-pages.ensures.lawful _ _ c.cut_page.ensures.class _ _ _ _ cuts _ _ _ takes c.self.invariant.pending;
+      sound = sound_page _ c.self.invariant.sound c.laws.ensures.laid c.laws.ensures.lawful _ _ c.cut_page.ensures.class _ _ _ _ cuts _ _ _ takes c.self.invariant.pending;
       listed = c.take_cell.ensures.listed;
       pending = pending_cut _ _ c.self.invariant.pending refl (ap length takes.became ∙ length-set _ _ _ ∙ ap length cuts.became ∙ length-set _ _ _)
           (λ p is. subst (λ (x : List PageState). IsCut (state_at x p)) (sym takes.became) (cut_cell _ page 0 true _ c.take_cell.ensures.cell.inside p
@@ -42,13 +42,13 @@ invariant_of-self-2 c =
 pub returns-clause-some : goal.returns-clause-some
 returns-clause-some c =
     let cuts = c.in-Some.ensures.some in
-    let is = first_is _ c.self.invariant.sound c.len-pages.ensures.laid c.len-pages.ensures.lawful _ _ c.cut_page.ensures.class _ _ _ _ cuts in
+    let is = first_is _ c.self.invariant.sound c.laws.ensures.laid c.laws.ensures.lawful _ _ c.cut_page.ensures.class _ _ _ _ cuts in
     let takes = subst (λ i. TakesCell c.cut_page.new.memory c.take_cell.new.memory c.cut_page.new.map c.take_cell.new.map c.in-Some.page i c.take_cell.result) is c.take_cell.ensures.takes in
-    rw (← c.self.view_is) (allocates_page _ c.self.invariant.sound c.len-pages.ensures.laid c.len-pages.ensures.lawful _ _ c.cut_page.ensures.class _ _ _ _ cuts _ _ _ takes c.self.invariant.pending)
+    rw (← c.self.view_is) (allocates_page _ c.self.invariant.sound c.laws.ensures.laid c.laws.ensures.lawful _ _ c.cut_page.ensures.class _ _ _ _ cuts _ _ _ takes c.self.invariant.pending)
 
 pub returns-clause-gains : goal.returns-clause-gains
 returns-clause-gains c =
     let cuts = c.in-Some.ensures.some in
-    let is = first_is _ c.self.invariant.sound c.len-pages.ensures.laid c.len-pages.ensures.lawful _ _ c.cut_page.ensures.class _ _ _ _ cuts in
+    let is = first_is _ c.self.invariant.sound c.laws.ensures.laid c.laws.ensures.lawful _ _ c.cut_page.ensures.class _ _ _ _ cuts in
     let takes = subst (λ i. TakesCell c.cut_page.new.memory c.take_cell.new.memory c.cut_page.new.map c.take_cell.new.map c.in-Some.page i c.take_cell.result) is c.take_cell.ensures.takes in
-    rw (← c.self.view_is) (gains_page _ c.self.invariant.sound c.len-pages.ensures.laid c.len-pages.ensures.lawful _ _ c.cut_page.ensures.class _ _ _ _ cuts _ _ _ takes c.self.invariant.pending)
+    rw (← c.self.view_is) (gains_page _ c.self.invariant.sound c.laws.ensures.laid c.laws.ensures.lawful _ _ c.cut_page.ensures.class _ _ _ _ cuts _ _ _ takes c.self.invariant.pending)

@@ -9,7 +9,7 @@ invariant_of-self c =
     record {
       sound = record { agree = c.self.invariant.sound.agree; used = c.self.invariant.sound.used };
       listed = subst (λ w. AreListed w c.self.inside.map) (sym c.write.ensures)
-          (listed_write _ _ c.len-pages.ensures.laid c.args.address c.args.word object.0 (rw (← c.self.view_is) at c.requires.address) object.1 c.self.invariant.listed);
+          (listed_write _ _ c.laws.ensures.laid c.args.address c.args.word object.0 (rw (← c.self.view_is) at c.requires.address) object.1 c.self.invariant.listed);
       exact = c.self.invariant.exact;
       pending = record { size = c.self.invariant.pending.size; cut = c.self.invariant.pending.cut };
     }
