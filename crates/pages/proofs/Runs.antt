@@ -1,8 +1,8 @@
 -- The search for a run of free pages, and the filling of one.
-use Rattle.std.proofs.Common.{◌≡◌, ◌≢◌, ℕ, ◌-◌, ◌+◌, ◌<◌, ◌≤◌, Bool, true, false, List, length, get_or, set, refl, sym, ap, ◌∙◌, arith, inl, inr, ⊎_elim, length-set, get_or-set_same, get_or-set_other}
-use Rattle.std.proofs.lemmas.Bool.{cases_lt, cases_eq, false≢true}
+use Rattle.std.proofs.Common.{◌≡◌, ℕ, ◌-◌, ◌<◌, ◌≤◌, Bool, true, false, List, length, get_or, sym, ap, ◌∙◌, arith, ⊎_elim}
+use Rattle.std.proofs.lemmas.Bool.{cases_lt, false≢true}
 use Rattle.words.specs.Bits.{IsEmptyFrom, IsFirstFrom, IsFullFrom, IsFirstClearFrom}
-use Rattle.pages.specs.Runs.{IsFreeRun, IsFirstFreeRun, HasNoFreeRun, IsFilled, IsRunEnd, AreAllFree}
+use Rattle.pages.specs.Runs.{IsFreeRun, IsFirstFreeRun, HasNoFreeRun, IsRunEnd}
 
 -- no n consecutive pages are free that begin before the page low
 pub record IsSearched (row : List Bool) (n low : ℕ) : Type 0 where
@@ -77,19 +77,3 @@ pub ends_last : (row : List Bool) (first : ℕ) → first < length row → IsFul
 ends_last row first inside full = record { past = inside; inside = omega arith; free = full; stop = λ lt. absurd (omega arith) }
 
 pub ruleset ending = (ends_inside, ends_last)
-
-pub fill_start : (row : List Bool) (i : ℕ) (b : Bool) → IsFilled row row i 0 b
-fill_start row i b = record { size = refl; inside = λ k a c. absurd (omega arith); others = λ k a. refl }
-
-pub fill_more : (old row : List Bool) (i k : ℕ) (b : Bool) → i ≤ k → k < length row → IsFilled old row i (k - i) b → IsFilled old (set row k b) i (k + 1 - i) b
-fill_more old row i k b from lt f = record {
-  size = length-set row k b ∙ f.size;
-  inside = λ j a c. ⊎_elim (λ (e : j ≡ k). ap (λ m. get_or (set row k b) m false) e ∙ get_or-set_same row k b false lt)
-      (λ ne. get_or-set_other row k j b false ne ∙ f.inside j a (omega arith)) (cases_eq j k);
-  others = λ j h. let ne : j ≢ k = (⊎_elim (λ a e. omega arith) (λ a e. omega arith) h) in get_or-set_other row k j b false ne ∙ f.others j (⊎_elim (λ a. inl a) (λ a. inr (omega arith)) h);
-}
-
-pub filled_whole : (old new : List Bool) (n : ℕ) → length old ≡ n → IsFilled old new 0 n true → AreAllFree new n
-filled_whole old new n e f = record { size = f.size ∙ e; free = λ k lt. f.inside k (omega arith) (omega arith) }
-
-pub ruleset filling = (fill_start, fill_more, filled_whole)

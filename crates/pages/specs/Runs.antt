@@ -1,5 +1,6 @@
 -- Runs of free pages. In the row of a pool, true is a free page.
 use Rattle.std.specs.Prelude.{◌≡◌, ℕ, ◌+◌, ◌<◌, ◌≤◌, ◌⊎◌, Bool, true, false, List, length, slice_index_or}
+use Rattle.std.specs.Int.{bit_at}
 
 -- n pages from the page i on are free
 pub record IsFreeRun (row : List Bool) (i n : ℕ) : Type 0 where
@@ -32,3 +33,8 @@ pub record IsRunEnd (row : List Bool) (first end : ℕ) : Type 0 where
   pub inside : end ≤ length row
   pub free : (k : ℕ) → first ≤ k → k < end → slice_index_or row k false ≡ true
   pub stop : end < length row → slice_index_or row end false ≡ false
+
+-- the ones of a word are n bits from the bit low on
+pub record IsMask (word low n : ℕ) : Type 0 where
+  pub inside : (k : ℕ) → low ≤ k → k < low + n → bit_at word k ≡ 1
+  pub others : (k : ℕ) → (k < low) ⊎ (low + n ≤ k) → bit_at word k ≡ 0

@@ -1,8 +1,8 @@
 //! The pool of free pages, seen as the row of its pages: true is a free page.
-ghost use Rattle.std.specs.Prelude.{◌≡◌, ◌+◌, ◌<◌, ◌≤◌, Bool, true, false, List, length, slice_index_or, MatchOption, IfSome, IfNone};
+ghost use Rattle.std.specs.Prelude.{◌≡◌, ◌+◌, ◌%◌, ◌<◌, ◌≤◌, Bool, true, false, List, length, slice_index_or, MatchOption, IfSome, IfNone};
 ghost use Rattle.words.specs.declared.limits.TheConstants.{MAX_PAGES};
 ghost use Rattle.pages.specs.Opening.{IsOpened};
-ghost use Rattle.pages.specs.Runs.{IsFirstFreeRun, HasNoFreeRun, IsFilled, IsRunEnd, AreAllFree};
+ghost use Rattle.pages.specs.Runs.{IsFirstFreeRun, HasNoFreeRun, IsFilled, IsMask, IsRunEnd, AreAllFree};
 
 use crate::opening::is_page_count;
 use std::alloc::Global;
@@ -68,25 +68,48 @@ fn run_end(row: &BitRow, first: usize) -> usize
     }
 }
 
-// Makes n pages of a row free, or taken, from the page `first` on.
-#[tactic(auto, using(crate::proofs::Runs::filling))]
+// The word whose ones are n bits from the bit `low` on.
+#[tactic(auto, using(crate::proofs::Filling::masks))]
+fn mask_of(low: usize, n: usize) -> u64
+    requires some { 0 < n }
+    requires inside { low + n ≤ 64 }
+    ensures { IsMask result low n }
+{
+    (u64::MAX >> (64 - n)) << low
+}
+
+// Makes n pages of a row free, or taken, from the page `first` on, that all lie in one word of it.
+fn fill_word(row: &mut BitRow, first: usize, n: usize, free: bool)
+    requires some { 0 < n }
+    requires word { first % 64 + n ≤ 64 }
+    requires inside { first + n ≤ length row.old }
+    ensures { IsFilled row.old row.new first n free }
+{
+    let mask = mask_of(first % 64, n);
+    let word = row.as_words()[first / 64];
+    row.set_word(first / 64, if free { word | mask } else { word & !mask });
+}
+
+// Makes n pages of a row free, or taken, from the page `first` on, by whole words.
+#[tactic(auto, using(crate::proofs::Filling::filling))]
 fn fill(row: &mut BitRow, first: usize, n: usize, free: bool)
     requires inside { first + n ≤ length row.old }
     requires small { length row.old ≤ MAX_PAGES }
     ensures { IsFilled row.old row.new first n free }
 {
-    for k in first..first + n {
-        if free {
-            row.set(k);
-        } else {
-            row.clear(k);
-        }
+    let mut low = first;
+    let mut left = n;
+    while left > 0 {
+        let here = left.min(64 - low % 64);
+        fill_word(row, low, here, free);
+        low += here;
+        left -= here;
     }
 }
 
 impl PagePool {
     /// So many pages, each of them free.
-    #[tactic(auto, using(crate::proofs::Runs::filling))]
+    #[tactic(auto, using(crate::proofs::Filling::filling))]
     pub fn new(alloc: Global, pages: u32) -> Result<PagePool, OpenError>
         ensures { IsOpened pages result (λ p. AreAllFree p pages) }
     {
