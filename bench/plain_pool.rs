@@ -1,14 +1,12 @@
 //! The free pages of a heap in plain Rust, as programs of this folder measure them: a row of bits, in which that of a
 //! free page is set.
-use crate::plain_row::{clear, next, set};
+use crate::plain_row::next;
 
 /// Takes the lowest run of so many free pages. Of a run of one page the end isn't looked for.
 #[inline]
 pub fn take_run(free: &mut [u64], pages: usize) -> Option<usize> {
     let first = if pages == 1 { next(free, 0, true)? } else { find_run(free, pages)? };
-    for page in first..first + pages {
-        clear(free, page);
-    }
+    fill(free, first, pages, false);
     Some(first)
 }
 
@@ -27,7 +25,20 @@ fn find_run(free: &[u64], pages: usize) -> Option<usize> {
 /// Gives so many pages back.
 #[inline]
 pub fn give(free: &mut [u64], first: usize, pages: usize) {
-    for page in first..first + pages {
-        set(free, page);
+    fill(free, first, pages, true);
+}
+
+// Gives so many bits from `first` on a value, by whole words.
+#[inline]
+fn fill(row: &mut [u64], first: usize, bits: usize, value: bool) {
+    let mut low = first;
+    let mut left = bits;
+    while left > 0 {
+        let here = left.min(64 - low % 64);
+        let mask = (u64::MAX >> (64 - here)) << (low % 64);
+        let word = &mut row[low / 64];
+        *word = if value { *word | mask } else { *word & !mask };
+        low += here;
+        left -= here;
     }
 }
