@@ -20,9 +20,9 @@
 //! **Sharing.** Root words, entries and dirty pages are shared out by their places, root words first. No helper writes
 //! anything that another reads but the table, by claims, what is on offer, and the count of helpers that have work.
 //!
-//! **Claiming.** An object is read by the helper whose claim marked it. It waits on that helper's stack, or where the stack
-//! is full, its pages become dirty in that helper's row. So each word of an object that a helper won points into what that
-//! helper knows to be marked, or stands on a page of its row.
+//! **Claiming.** An object is read by the helper whose claim marked it, and perhaps by one that took it from the offer too.
+//! It waits on the winner's stack, or where that is full, its pages become dirty in the winner's row. So each word of an
+//! object that a helper won points into what that helper knows to be marked, or stands on a page of its row.
 //!
 //! **Offering.** A helper with entries offers the lowest of them, one at a time, to helpers that have none, and keeps it all
 //! the same: it comes to that entry last. What is on offer is always a reached Normal object. So a heap that hangs from one

@@ -28,7 +28,7 @@ pub record IsTraced (t : Store) (y : Cycle) : Type 0 where
   pub invariant : y.is_marking ≡ true → DirtyPageInvariant (found_in t.states) t.words y.marking
 
 -- What is true of every core, whatever calls made it: its map is that of laid-out blocks, with the laws of a map, its free
--- pages are exactly those on which no object lies, those still to be swept are cut, and it is traced.
+-- pages are exactly those on which no allocated object lies, those still to be swept are cut, and it is traced.
 pub record IsCore (c : Contents) : Type 0 where
   pub sound : HasSoundPages c.store
   pub pending : IsPendingRow c.store

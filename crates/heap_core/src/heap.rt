@@ -63,9 +63,9 @@ impl Core {
         })
     }
 
-    /// What is true of every core, whatever calls made it. Of its pages: free are exactly those on which no object lies,
-    /// and the pending ones are cut. Of its collector: each mark is that of an allocated object, and while a cycle is
-    /// marking no page is pending and the dirty-page invariant holds.
+    /// What is true of every core, whatever calls made it. Of its pages: free are exactly those on which no allocated
+    /// object lies, and the pending ones are cut. Of its collector: each mark is that of an allocated object, and while a
+    /// cycle is marking no page is pending and the dirty-page invariant holds.
     #[inline]
     pub fn laws(&self)
         ensures { IsCore self.now }

@@ -81,7 +81,8 @@ pub record KeepsReached (s s' : Heap) : Type 0 where
   pub stays : (base : ℕ) (o : Object) → HasObject s base o → Reached s base → (p : Object) × HasObject s' base p × IsSameObject o p
   pub words : (base : ℕ) (o p : Object) → HasObject s base o → Reached s base → HasObject s' base p → p.words ≡ o.words
 
--- Each object was there before, and was reached.
+-- Each object was there before, and was reached: that it was not reached can't be, since what a collection takes out are
+-- exactly the objects of which that is so.
 abbrev pub HasOnlyReached : Heap → Heap → Type 0
 HasOnlyReached s s' = (base : ℕ) (p : Object) → HasObject s' base p → ((o : Object) × HasObject s base o × IsSameObject o p) × ((Reached s base → ⊥) → ⊥)
 

@@ -1,4 +1,4 @@
--- The free pages are those on which no object lies.
+-- The free pages are those on which no allocated object lies.
 use Rattle.std.proofs.Common.{◌≡◌, ℕ, ◌<◌, length, Some, refl, sym, ◌∙◌, ⊎_elim, arith}
 use Rattle.words.specs.Bits.{Has}
 use Rattle.words.specs.Layout.{page_start}

@@ -27,7 +27,7 @@ pub record Agree (row : List Bool) (states : List PageState) : Type 0 where
 abbrev pub HasObjects : List PageState → Type 0
 HasObjects states = (page : ℕ) (b : Cells) → state_at states page ≡ cut b → (i : ℕ) × (slice_index_or b.taken i false ≡ true)
 
--- The row has exactly the pages on which no object lies.
+-- The row has exactly the pages on which no allocated object lies, be it kept or forgotten.
 pub record AreEmptyPages (row : List Bool) (states : List PageState) : Type 0 where
   pub all : (page : ℕ) → page < length states → ((w : ℕ) (f : Found) → found_in states w ≡ Some f → LiesOn f.base f.len page → ⊥) → Has row page
   pub only : (page : ℕ) → Has row page → (w : ℕ) (f : Found) → found_in states w ≡ Some f → LiesOn f.base f.len page → ⊥

@@ -4,7 +4,7 @@ ghost use Rattle.words.specs.Refusals.{code_of, name_of};
 
 use std::alloc::AllocError;
 
-/// Why a call is refused. A refused call changes nothing.
+/// Why a call is refused. A refused call changes nothing of the sequential heap.
 #[derive(Clone, Copy, Debug, PartialEq, Eq)]
 pub enum Refusal {
     /// No slot is free for a mutator to come, or the slot has no mutator.

@@ -1,4 +1,4 @@
-//! The calls that reach objects. A refused call changes nothing.
+//! The calls that reach objects. A refused call changes nothing of the sequential heap.
 ghost use Rattle.heap_spec.specs.Replies.{count_reply, done_reply, word_reply};
 ghost use Rattle.heap_core.specs.Calls.{IsCall};
 
