@@ -1,5 +1,5 @@
 //! The roots of a heap: how a slot's mutator is read, and how it changes.
-ghost use Rattle.std.specs.Prelude.{◌≡◌, ◌<◌, Some, IfSome, IfNone, length, slice_get, slice_index};
+ghost use Rattle.std.specs.Prelude.{◌≡◌, ◌<◌, Some, IfSome, IfNone, IfOk, IfErr, length, slice_get, slice_index};
 ghost use Rattle.words.specs.declared.limits.TheConstants.{STACK_WORDS};
 ghost use Rattle.heap_spec.specs.Heap.{Mutator as HeapMutator};
 ghost use Rattle.roots.specs.Roots.{no_roots, HasMutator, HasNoMutator, with_word, with_pushed, PopsWord, ChangesSlot, SetsWord};
@@ -10,7 +10,7 @@ use crate::mutator::Mutator;
 use crate::mutator_slot::MutatorSlot;
 use std::marker::Model;
 use words::limits::{GLOBALS, SLOTS};
-use words::{Global, Reg, Slot};
+use words::{Global, Refusal, Reg, Slot};
 
 pub(crate) type Mutators = [MutatorSlot; SLOTS as usize];
 
@@ -71,6 +71,18 @@ impl Roots {
         ensures none { IfNone result (HasNoMutator self.now slot) }
     {
         self.mutators[slot.index()].mutator()
+    }
+
+    /// The mutator attached at a slot, for a call that is refused where none is.
+    ///
+    /// # Errors
+    /// [`Refusal::NoSlot`] exactly if no mutator is attached.
+    #[inline]
+    pub fn attached(&self, slot: Slot) -> Result<&Mutator, Refusal>
+        ensures ok { IfOk result (λ m. HasMutator self.now slot m.now) }
+        ensures err { IfErr result (λ refusal. (refusal ≡ Refusal.NoSlot) × HasNoMutator self.now slot) }
+    {
+        self.mutator(slot).ok_or(Refusal::NoSlot)
     }
 
     /// The word of a global.

@@ -35,9 +35,7 @@ impl Roots {
     pub fn attach(&mut self) -> Result<Slot, Refusal>
         ensures { StepsRoots self.old Event.Attach (slot_reply result) self.new }
     {
-        let Some(slot) = lowest_vacant(&self.mutators) else {
-            return Err(Refusal::NoSlot);
-        };
+        let slot = self.vacant().ok_or(Refusal::NoSlot)?;
         self.mutators[slot.index()].attach();
         Ok(slot)
     }
@@ -46,9 +44,7 @@ impl Roots {
     pub fn detach(&mut self, slot: Slot) -> Result<(), Refusal>
         ensures { StepsRoots self.old (Event.Mutator slot Call.Detach) (done_reply result) self.new }
     {
-        let Some(_) = self.mutator(slot) else {
-            return Err(Refusal::NoSlot);
-        };
+        self.attached(slot)?;
         self.mutators[slot.index()].detach();
         Ok(())
     }
@@ -57,9 +53,7 @@ impl Roots {
     pub fn set(&mut self, slot: Slot, reg: Reg, word: u64) -> Result<(), Refusal>
         ensures { StepsRoots self.old (Event.Mutator slot (Call.Set reg word)) (done_reply result) self.new }
     {
-        let Some(_) = self.mutator(slot) else {
-            return Err(Refusal::NoSlot);
-        };
+        self.attached(slot)?;
         self.set_word(slot, reg, word);
         Ok(())
     }
@@ -68,9 +62,7 @@ impl Roots {
     pub fn copy(&mut self, slot: Slot, into: Reg, from: Reg) -> Result<(), Refusal>
         ensures { StepsRoots self.old (Event.Mutator slot (Call.Copy into from)) (done_reply result) self.new }
     {
-        let Some(mutator) = self.mutator(slot) else {
-            return Err(Refusal::NoSlot);
-        };
+        let mutator = self.attached(slot)?;
         let word = mutator.word(from);
         self.set_word(slot, into, word);
         Ok(())
@@ -80,9 +72,7 @@ impl Roots {
     pub fn add(&mut self, slot: Slot, into: Reg, from: Reg, number: u64) -> Result<(), Refusal>
         ensures { StepsRoots self.old (Event.Mutator slot (Call.Add into from number)) (done_reply result) self.new }
     {
-        let Some(mutator) = self.mutator(slot) else {
-            return Err(Refusal::NoSlot);
-        };
+        let mutator = self.attached(slot)?;
         let word = mutator.word(from).wrapping_add(number);
         self.set_word(slot, into, word);
         Ok(())
@@ -92,9 +82,7 @@ impl Roots {
     pub fn sub(&mut self, slot: Slot, into: Reg, from: Reg, less: Reg) -> Result<(), Refusal>
         ensures { StepsRoots self.old (Event.Mutator slot (Call.Sub into from less)) (done_reply result) self.new }
     {
-        let Some(mutator) = self.mutator(slot) else {
-            return Err(Refusal::NoSlot);
-        };
+        let mutator = self.attached(slot)?;
         let word = mutator.word(from).wrapping_sub(mutator.word(less));
         self.set_word(slot, into, word);
         Ok(())
@@ -104,9 +92,7 @@ impl Roots {
     pub fn get(&self, slot: Slot, reg: Reg) -> Result<u64, Refusal>
         ensures { StepsRoots self.now (Event.Mutator slot (Call.Get reg)) (word_reply result) self.now }
     {
-        let Some(mutator) = self.mutator(slot) else {
-            return Err(Refusal::NoSlot);
-        };
+        let mutator = self.attached(slot)?;
         Ok(mutator.word(reg))
     }
 
@@ -114,9 +100,7 @@ impl Roots {
     pub fn push(&mut self, slot: Slot, from: Reg) -> Result<(), Refusal>
         ensures { StepsRoots self.old (Event.Mutator slot (Call.Push from)) (done_reply result) self.new }
     {
-        let Some(mutator) = self.mutator(slot) else {
-            return Err(Refusal::NoSlot);
-        };
+        let mutator = self.attached(slot)?;
         if mutator.is_full() {
             return Err(Refusal::StackFull);
         }
@@ -128,9 +112,7 @@ impl Roots {
     pub fn pop(&mut self, slot: Slot, into: Reg) -> Result<u64, Refusal>
         ensures { StepsRoots self.old (Event.Mutator slot (Call.Pop into)) (word_reply result) self.new }
     {
-        let Some(mutator) = self.mutator(slot) else {
-            return Err(Refusal::NoSlot);
-        };
+        let mutator = self.attached(slot)?;
         if mutator.is_empty() {
             return Err(Refusal::StackEmpty);
         }
@@ -141,9 +123,7 @@ impl Roots {
     pub fn gget(&mut self, slot: Slot, into: Reg, global: Global) -> Result<u64, Refusal>
         ensures { StepsRoots self.old (Event.Mutator slot (Call.GlobalGet into global)) (word_reply result) self.new }
     {
-        let Some(_) = self.mutator(slot) else {
-            return Err(Refusal::NoSlot);
-        };
+        self.attached(slot)?;
         let word = self.global(global);
         self.set_word(slot, into, word);
         Ok(word)
@@ -153,9 +133,7 @@ impl Roots {
     pub fn gput(&mut self, slot: Slot, global: Global, from: Reg) -> Result<(), Refusal>
         ensures { StepsRoots self.old (Event.Mutator slot (Call.GlobalPut global from)) (done_reply result) self.new }
     {
-        let Some(mutator) = self.mutator(slot) else {
-            return Err(Refusal::NoSlot);
-        };
+        let mutator = self.attached(slot)?;
         let word = mutator.word(from);
         self.globals[global.index()] = word;
         Ok(())

@@ -1,9 +1,9 @@
 use Rattle.heap_spec.specs.Steps.{Acts}
-use Rattle.roots.proofs.Steps.{refused, sets}
+use Rattle.roots.proofs.Steps.{refused_done, sets}
 use Rattle.roots.proofs.roots.Roots.add.Goals as goal
 
-pub returns-in_default : goal.returns-in_default
-returns-in_default c = refused _ _ _ c.in_default.ensures.none
+pub returns-in_err-mutator : goal.returns-in_err-mutator
+returns-in_err-mutator c = refused_done _ _ _ _ _ c.from_residual.ensures.1 c.in_err-mutator.ensures.err
 
 pub returns : goal.returns
-returns c = sets _ _ _ _ _ c.in-Some.mutator.now _ _ c.in-Some.ensures.some c.set_word.ensures (λ s. rw c.word.ensures Acts.added)
+returns c = sets _ _ _ _ _ c.in_ok-mutator.mutator.now _ _ c.in_ok-mutator.ensures.ok c.set_word.ensures (λ s. rw c.word.ensures Acts.added)

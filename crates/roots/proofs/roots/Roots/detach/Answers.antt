@@ -1,10 +1,10 @@
 use Rattle.heap_spec.specs.Steps.{Acts}
-use Rattle.roots.proofs.Steps.{refused, acts_on}
+use Rattle.roots.proofs.Steps.{refused_done, acts_on}
 use Rattle.roots.proofs.roots.Roots.detach.Goals as goal
 
-pub returns-in_default : goal.returns-in_default
-returns-in_default c = refused _ _ _ c.in_default.ensures.none
+pub returns-in_err-attached : goal.returns-in_err-attached
+returns-in_err-attached c = refused_done _ _ _ _ _ c.from_residual.ensures.1 c.in_err-attached.ensures.err
 
 pub returns : goal.returns
 returns c = rw (← c.self.view_is, c.index.ensures.value, c.detach.ensures)
-    (acts_on _ _ _ c.in-Some.field-0.now _ _ (rw (← c.self.view_is) at c.in-Some.ensures.some) (λ s. Acts.detached))
+    (acts_on _ _ _ c.in_ok-attached.field-0.now _ _ (rw (← c.self.view_is) at c.in_ok-attached.ensures.ok) (λ s. Acts.detached))

@@ -1,14 +1,14 @@
 use Rattle.std.proofs.Common.{refl}
 use Rattle.heap_spec.specs.Steps.{Acts}
-use Rattle.roots.proofs.Steps.{refused, acts_on, pushes}
+use Rattle.roots.proofs.Steps.{refused_done, acts_on, pushes}
 use Rattle.roots.proofs.roots.Roots.push.Goals as goal
 
-pub returns-in_default : goal.returns-in_default
-returns-in_default c = refused _ _ _ c.in_default.ensures.none
+pub returns-in_err-mutator : goal.returns-in_err-mutator
+returns-in_err-mutator c = refused_done _ _ _ _ _ c.from_residual.ensures.1 c.in_err-mutator.ensures.err
 
 pub returns-then-is_full : goal.returns-then-is_full
-returns-then-is_full c = acts_on _ _ _ c.in-Some.mutator.now _ _ c.in-Some.ensures.some (λ s. Acts.push_full c.if-is_full.ensures)
+returns-then-is_full c = acts_on _ _ _ c.in_ok-mutator.mutator.now _ _ c.in_ok-mutator.ensures.ok (λ s. Acts.push_full c.if-is_full.ensures)
 
 pub returns : goal.returns
 returns c = rw (← c.self.view_is)
-    (pushes _ _ _ _ c.in-Some.mutator.now (rw (← c.self.view_is) at c.in-Some.ensures.some) c.if-is_full.ensures refl c.push_of.ensures)
+    (pushes _ _ _ _ c.in_ok-mutator.mutator.now (rw (← c.self.view_is) at c.in_ok-mutator.ensures.ok) c.if-is_full.ensures refl c.push_of.ensures)
