@@ -1,32 +1,21 @@
 -- What roots make a step by.
-use Rattle.std.proofs.Common.{◌≡◌, ℕ, ◌+◌, ◌-◌, ◌%◌, ◌<◌, List, length, set, Some, Result, Ok, Err, IsErrAnd, sym, ap, ◌∙◌, subst, arith}
-use Rattle.std.specs.Prelude.{⊤}
+use Rattle.std.proofs.Common.{◌≡◌, ℕ, ◌+◌, ◌-◌, ◌%◌, ◌<◌, List, length, set, Some, sym, ap, ◌∙◌, subst, arith}
 use Rattle.std.proofs.lemmas.Option.{same_Some}
-use Rattle.words.specs.declared.refusal.Refusal.{Refusal}
 use Rattle.words.specs.declared.refusal.Refusal.TheVariants.{NoSlot}
 use Rattle.words.specs.declared.limits.TheConstants.{STACK_WORDS}
 use Rattle.heap_spec.specs.declared.call.Call.{Call}
 use Rattle.heap_spec.specs.declared.call.Call.TheVariants.{Push, Pop, Sub}
 use Rattle.heap_spec.specs.declared.event.Event.TheVariants.{Mutator}
 use Rattle.heap_spec.specs.declared.reply.Reply.{Reply}
-use Rattle.heap_spec.specs.declared.reply.Reply.TheVariants.{Done, Word}
+use Rattle.heap_spec.specs.declared.reply.Reply.TheVariants.{Done, Word, Refused}
 use Rattle.heap_spec.specs.Layout.{word_end}
 use Rattle.heap_spec.specs.Heap.{Heap, Mutator as HeapMutator}
-use Rattle.heap_spec.specs.Replies.{done_reply, word_reply}
 use Rattle.heap_spec.specs.Steps.{Acts, Calls, with_mutator, with_register, register}
 use Rattle.roots.specs.Roots.{RootSet, HasMutator, HasNoMutator, with_word, with_pushed, PopsWord, with_roots, ChangesSlot, SetsWord, StepsRoots}
 
--- a call that hands on the refusal for a slot that has no mutator, and else answers nothing
-pub refused_done : (roots : RootSet) (slot : ℕ) (call : Call) (refusal : Refusal) (result : Result ⊤ Refusal) → IsErrAnd result (λ e. e ≡ refusal)
-    → (refusal ≡ NoSlot) × HasNoMutator roots slot → StepsRoots roots (Mutator slot call) (done_reply result) roots
-refused_done roots slot call refusal (Ok done) is none s = search
-refused_done roots slot call refusal (Err e) is none s = rw (is, none.0) (Calls.vacant none.1)
-
--- the same of a call that else answers a word
-pub refused_word : (roots : RootSet) (slot : ℕ) (call : Call) (refusal : Refusal) (result : Result ℕ Refusal) → IsErrAnd result (λ e. e ≡ refusal)
-    → (refusal ≡ NoSlot) × HasNoMutator roots slot → StepsRoots roots (Mutator slot call) (word_reply result) roots
-refused_word roots slot call refusal (Ok word) is none s = search
-refused_word roots slot call refusal (Err e) is none s = rw (is, none.0) (Calls.vacant none.1)
+-- a call for a slot that has no mutator
+pub refused : (roots : RootSet) (slot : ℕ) (call : Call) → HasNoMutator roots slot → StepsRoots roots (Mutator slot call) (Refused NoSlot) roots
+refused roots slot call none s = Calls.vacant none
 
 -- a call of the mutator that the slot has
 pub acts_on : (old new : RootSet) (slot : ℕ) (m : HeapMutator) (call : Call) (reply : Reply) → HasMutator old slot m

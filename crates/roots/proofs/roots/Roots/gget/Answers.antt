@@ -1,9 +1,10 @@
 use Rattle.heap_spec.specs.Steps.{Acts}
-use Rattle.roots.proofs.Steps.{refused_word, sets}
+use Rattle.roots.proofs.Refusals.{handed_on}
+use Rattle.roots.proofs.Steps.{refused, sets}
 use Rattle.roots.proofs.roots.Roots.gget.Goals as goal
 
 pub returns-in_err-attached : goal.returns-in_err-attached
-returns-in_err-attached c = refused_word _ _ _ _ _ c.from_residual.ensures.1 c.in_err-attached.ensures.err
+returns-in_err-attached c = rw (handed_on _ _ _ c.from_residual.ensures.1 c.in_err-attached.ensures.err.0) (refused _ _ _ c.in_err-attached.ensures.err.1)
 
 pub returns : goal.returns
 returns c = sets _ _ _ _ _ c.in_ok-attached.field-0.now _ _ c.in_ok-attached.ensures.ok c.set_word.ensures (λ s. rw c.global-word.ensures Acts.global_got)
