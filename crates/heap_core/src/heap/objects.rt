@@ -1,12 +1,31 @@
 //! The calls that reach objects. A refused call changes nothing of the sequential heap.
+ghost use Rattle.std.specs.Prelude.{◌≡◌, ◌*◌, Some, None, IfOk, IfErr, length};
+ghost use Rattle.words.specs.declared.limits.TheConstants.{PAGE_WORDS};
 ghost use Rattle.heap_spec.specs.Replies.{count_reply, done_reply, word_reply};
+ghost use Rattle.block_map.specs.FoundIn.{IsLawful};
+ghost use Rattle.object_space.specs.Kept.{kept_in};
 ghost use Rattle.heap_core.specs.Calls.{IsCall};
 
 use super::Core;
 use super::beside::{note_object, note_write};
+use block_map::Found;
 use heap_spec::{Call, Event};
+use marker::Marker;
+use object_space::ObjectSpace;
 use words::limits::WORD_BYTES;
 use words::{Kind, Refusal, Reg, Slot, class_of};
+
+// The kept object that a word points into, for a call that is refused where there is none.
+#[inline(always)]
+fn find_in(objects: &ObjectSpace, marker: &Marker, word: u64) -> Result<Found, Refusal>
+    requires pages { length marker.now.dirty ≡ length objects.now.states }
+    ensures ok { IfOk result (λ found. Some found ≡ kept_in objects.now.states objects.now.pending marker.now.marks word) }
+    ensures err { IfErr result (λ refusal. (refusal ≡ Refusal.NoObject) × (None ≡ kept_in objects.now.states objects.now.pending marker.now.marks word)) }
+    ensures lawful { IsLawful objects.now.states }
+    ensures long { length objects.now.words ≡ PAGE_WORDS * length objects.now.states }
+{
+    objects.find(marker, word).ok_or(Refusal::NoObject)
+}
 
 impl Core {
     /// Loads the word at the address of `at` and an offset in words into `into`.
@@ -18,16 +37,12 @@ impl Core {
     pub fn load(&mut self, slot: Slot, into: Reg, at: Reg, offset: u64) -> Result<u64, Refusal>
         ensures { IsCall self.old (Event.Mutator slot (Call.Load into at offset)) (word_reply result) self.new }
     {
-        let Some(mutator) = self.roots.mutator(slot) else {
-            return Err(Refusal::NoSlot);
-        };
+        let mutator = self.roots.attached(slot)?;
         let address = mutator.address(at, offset);
         if address % WORD_BYTES != 0 {
             return Err(Refusal::Misaligned);
         }
-        let Some(_) = self.objects.find(&self.marker, address) else {
-            return Err(Refusal::NoObject);
-        };
+        find_in(&self.objects, &self.marker, address)?;
         let word = self.objects.read(address);
         self.roots.set_word(slot, into, word);
         Ok(word)
@@ -41,17 +56,13 @@ impl Core {
     pub fn store(&mut self, slot: Slot, at: Reg, offset: u64, from: Reg) -> Result<(), Refusal>
         ensures { IsCall self.old (Event.Mutator slot (Call.Store at offset from)) (done_reply result) self.new }
     {
-        let Some(mutator) = self.roots.mutator(slot) else {
-            return Err(Refusal::NoSlot);
-        };
+        let mutator = self.roots.attached(slot)?;
         let target = mutator.address(at, offset);
         let word = mutator.word(from);
         if target % WORD_BYTES != 0 {
             return Err(Refusal::Misaligned);
         }
-        let Some(_) = self.objects.find(&self.marker, target) else {
-            return Err(Refusal::NoObject);
-        };
+        find_in(&self.objects, &self.marker, target)?;
         self.objects.write(target, word);
         note_write(&mut self.marker, self.is_marking, target);
         Ok(())
@@ -64,13 +75,9 @@ impl Core {
     pub fn base(&mut self, slot: Slot, into: Reg, from: Reg) -> Result<u64, Refusal>
         ensures { IsCall self.old (Event.Mutator slot (Call.Base into from)) (word_reply result) self.new }
     {
-        let Some(mutator) = self.roots.mutator(slot) else {
-            return Err(Refusal::NoSlot);
-        };
+        let mutator = self.roots.attached(slot)?;
         let word = mutator.word(from);
-        let Some(found) = self.objects.find(&self.marker, word) else {
-            return Err(Refusal::NoObject);
-        };
+        let found = find_in(&self.objects, &self.marker, word)?;
         self.roots.set_word(slot, into, found.base);
         Ok(found.base)
     }
@@ -82,13 +89,9 @@ impl Core {
     pub fn size(&self, slot: Slot, reg: Reg) -> Result<u64, Refusal>
         ensures { IsCall self.now (Event.Mutator slot (Call.Size reg)) (count_reply result) self.now }
     {
-        let Some(mutator) = self.roots.mutator(slot) else {
-            return Err(Refusal::NoSlot);
-        };
+        let mutator = self.roots.attached(slot)?;
         let word = mutator.word(reg);
-        let Some(found) = self.objects.find(&self.marker, word) else {
-            return Err(Refusal::NoObject);
-        };
+        let found = find_in(&self.objects, &self.marker, word)?;
         Ok(u64::from(found.len))
     }
 
@@ -101,15 +104,12 @@ impl Core {
     pub fn alloc(&mut self, slot: Slot, into: Reg, words: u64, kind: Kind) -> Result<(), Refusal>
         ensures { IsCall self.old (Event.Mutator slot (Call.Alloc into words kind)) (done_reply result) self.new }
     {
-        let Some(_) = self.roots.mutator(slot) else {
-            return Err(Refusal::NoSlot);
-        };
-        let Some(placement) = class_of(words) else {
-            return Err(Refusal::BadSize);
-        };
-        let Some(base) = self.objects.allocate(&self.marker, placement, kind) else {
-            return Err(Refusal::Full);
-        };
+        self.roots.attached(slot)?;
+        let placement = class_of(words).ok_or(Refusal::BadSize)?;
+        let base = self
+            .objects
+            .allocate(&self.marker, placement, kind)
+            .ok_or(Refusal::Full)?;
         note_object(&mut self.marker, self.is_marking, base);
         self.roots.set_word(slot, into, base);
         Ok(())
@@ -124,13 +124,9 @@ impl Core {
     pub fn free(&mut self, slot: Slot, reg: Reg) -> Result<(), Refusal>
         ensures { IsCall self.old (Event.Mutator slot (Call.Free reg)) (done_reply result) self.new }
     {
-        let Some(mutator) = self.roots.mutator(slot) else {
-            return Err(Refusal::NoSlot);
-        };
+        let mutator = self.roots.attached(slot)?;
         let word = mutator.word(reg);
-        let Some(found) = self.objects.find(&self.marker, word) else {
-            return Err(Refusal::NoObject);
-        };
+        let found = find_in(&self.objects, &self.marker, word)?;
         if found.base != word {
             return Err(Refusal::NotBase);
         }

@@ -3,33 +3,34 @@ use Rattle.heap_core.proofs.Tracing.{traced_object, traced_swept}
 use Rattle.heap_spec.specs.Steps.{Acts}
 use Rattle.heap_core.proofs.Calls.{allocated, full}
 use Rattle.object_space.proofs.Placing.{sized}
+use Rattle.roots.proofs.Refusals.{handed_on, handed_on_none}
 use Rattle.heap_core.proofs.Roots.{refused, refused_vacant}
 use Rattle.heap_core.proofs.heap.Core.alloc.Goals as goal
 
-pub returns-in_default : goal.returns-in_default
-returns-in_default c = rw (← c.self.view_is) (refused_vacant _ _ _ c.in_default.ensures.none)
+pub returns-in_err-attached : goal.returns-in_err-attached
+returns-in_err-attached c = rw (← c.self.view_is, handed_on _ _ _ c.from_residual.ensures.1 c.in_err-attached.ensures.err.0) (refused_vacant _ _ _ c.in_err-attached.ensures.err.1)
 
-pub returns-in_default-class_of : goal.returns-in_default-class_of
-returns-in_default-class_of c = rw (← c.self.view_is)
-    (refused _ _ _ _ c.in-Some.field-0.now _ _ c.in-Some.ensures.some (λ h. h) (λ s h. Acts.bad_size (sym c.in_default-class_of.ensures)))
+pub returns-in_err-placement : goal.returns-in_err-placement
+returns-in_err-placement c = rw (← c.self.view_is, handed_on_none _ _ _ _ c.from_residual-in_err-placement.ensures.1 c.in_err-placement.ensures.value)
+    (refused _ _ _ _ c.in_ok-attached.field-0.now _ _ c.in_ok-attached.ensures.ok (λ h. h) (λ s h. Acts.bad_size (sym (rw c.in_err-placement.ensures.ok_part at c.class_of.ensures))))
 
 pub allocate-requires-clause-request : goal.allocate-requires-clause-request
-allocate-requires-clause-request c = sized c.args.words _ (sym c.in-Some-class_of.ensures)
+allocate-requires-clause-request c = sized c.args.words _ (sym (rw c.in_ok-placement.ensures.ok_part at c.class_of.ensures))
 
 pub invariant_of-self : goal.invariant_of-self
-invariant_of-self c = traced_swept _ _ (record { marking = c.self.inside.marker; is_marking = c.self.inside.is_marking; count = c.self.inside.count }) c.self.invariant c.in_default-allocate.ensures.sweeps
+invariant_of-self c = traced_swept _ _ (record { marking = c.self.inside.marker; is_marking = c.self.inside.is_marking; count = c.self.inside.count }) c.self.invariant (rw c.in_err-base.ensures.ok_part at c.allocate.ensures).sweeps
 
-pub returns-in_default-allocate : goal.returns-in_default-allocate
-returns-in_default-allocate c =
-    let none = c.in_default-allocate.ensures in
-    rw (← c.self.view_is) (full _ _ _ _ _ _ _ _ c.in-Some-class_of.placement c.in-Some.field-0.now c.in-Some.ensures.some (sym c.in-Some-class_of.ensures) none.sweeps none.swept none.none)
+pub returns-in_err-base : goal.returns-in_err-base
+returns-in_err-base c =
+    let none = rw c.in_err-base.ensures.ok_part at c.allocate.ensures in
+    rw (← c.self.view_is, handed_on_none _ _ _ _ c.from_residual-in_err-base.ensures.1 c.in_err-base.ensures.value) (full _ _ _ _ _ _ _ _ c.in_ok-placement.placement c.in_ok-attached.field-0.now c.in_ok-attached.ensures.ok (sym (rw c.in_ok-placement.ensures.ok_part at c.class_of.ensures)) none.sweeps none.swept none.none)
 
 pub note_object-requires-clause-low : goal.note_object-requires-clause-low
-note_object-requires-clause-low c = let g = c.in-Some-allocate.ensures.gains in let above = (g.map.placed _ g.object g.found).above in let at = g.at in omega arith
+note_object-requires-clause-low c = let g = (rw c.in_ok-base.ensures.ok_part at c.allocate.ensures).gains in let above = (g.map.placed _ g.object g.found).above in let at = g.at in omega arith
 
 pub note_object-requires-clause-inside : goal.note_object-requires-clause-inside
 note_object-requires-clause-inside c =
-    let a = c.in-Some-allocate.ensures in
+    let a = rw c.in_ok-base.ensures.ok_part at c.allocate.ensures in
     let g = a.gains in
     let below = (g.map.placed _ g.object g.found).below in let some = (g.map.placed _ g.object g.found).some in let above = (g.map.placed _ g.object g.found).above in
     let at = g.at in let pages = g.pages in let before = a.sweeps.pages in let size = c.self.invariant.pages in
@@ -37,11 +38,11 @@ note_object-requires-clause-inside c =
 
 pub invariant_of-self-2 : goal.invariant_of-self-2
 invariant_of-self-2 c =
-    let a = c.in-Some-allocate.ensures in
+    let a = rw c.in_ok-base.ensures.ok_part at c.allocate.ensures in
     traced_object _ _ (record { marking = c.self.inside.marker; is_marking = c.self.inside.is_marking; count = c.self.inside.count }) _ _ _ _ (traced_swept _ a.ready _ c.self.invariant a.sweeps) a.gains c.note_object.ensures refl
 
 pub returns : goal.returns
 returns c =
-    let a = c.in-Some-allocate.ensures in
+    let a = rw c.in_ok-base.ensures.ok_part at c.allocate.ensures in
     rw (← c.self.view_is)
-    (allocated _ _ _ _ _ _ _ _ _ _ _ _ _ c.in-Some.field-0.now c.in-Some.ensures.some (sym c.in-Some-class_of.ensures) a.sweeps a.room a.gains c.set_word.ensures c.note_object.ensures refl refl)
+    (allocated _ _ _ _ _ _ _ _ _ _ _ _ _ c.in_ok-attached.field-0.now c.in_ok-attached.ensures.ok (sym (rw c.in_ok-placement.ensures.ok_part at c.class_of.ensures)) a.sweeps a.room a.gains c.set_word.ensures c.note_object.ensures refl refl)

@@ -4,43 +4,44 @@ use Rattle.heap_core.proofs.Tracing.{traced_freed}
 use Rattle.block_map.specs.FoundIn.{found_in}
 use Rattle.heap_core.proofs.Calls.{freed, inside, kept_there}
 use Rattle.heap_core.proofs.Lookups.{finds_nothing}
+use Rattle.roots.proofs.Refusals.{handed_on}
 use Rattle.heap_core.proofs.Roots.{refused, refused_vacant}
 use Rattle.heap_core.proofs.heap.Core.free.Goals as goal
 
-pub returns-in_default : goal.returns-in_default
-returns-in_default c = rw (← c.self.view_is) (refused_vacant _ _ _ c.in_default.ensures.none)
+pub returns-in_err-mutator : goal.returns-in_err-mutator
+returns-in_err-mutator c = rw (← c.self.view_is, handed_on _ _ _ c.from_residual.ensures.1 c.in_err-mutator.ensures.err.0) (refused_vacant _ _ _ c.in_err-mutator.ensures.err.1)
 
-pub returns-in_default-find : goal.returns-in_default-find
-returns-in_default-find c = rw (← c.self.view_is)
-    (refused _ _ _ _ c.in-Some.mutator.now _ _ c.in-Some.ensures.some (λ h. h)
-    (λ s h. Acts.free_nothing (finds_nothing _ _ s _ c.in_default-find.ensures.lawful h (rw c.word-word.ensures at (sym c.in_default-find.ensures.found)))))
+pub returns-in_err-found : goal.returns-in_err-found
+returns-in_err-found c = rw (← c.self.view_is, handed_on _ _ _ c.from_residual-in_err-found.ensures.1 c.in_err-found.ensures.err.0)
+    (refused _ _ _ _ c.in_ok-mutator.mutator.now _ _ c.in_ok-mutator.ensures.ok (λ h. h)
+    (λ s h. Acts.free_nothing (finds_nothing _ _ s _ c.in_err-found.ensures.lawful h (rw c.word-word.ensures at (sym c.in_err-found.ensures.err.1)))))
 
 pub returns-then-found-word : goal.returns-then-found-word
 returns-then-found-word c = rw (← c.self.view_is)
-    (refused _ _ _ _ c.in-Some.mutator.now _ _ c.in-Some.ensures.some (λ h. h)
-    (λ s h. inside _ _ s _ _ _ c.in-Some-find.found c.in-Some-find.ensures.lawful (rw c.word-word.ensures at (sym c.in-Some-find.ensures.found)) (rw c.word-word.ensures at c.if-found-word.true) h))
+    (refused _ _ _ _ c.in_ok-mutator.mutator.now _ _ c.in_ok-mutator.ensures.ok (λ h. h)
+    (λ s h. inside _ _ s _ _ _ c.in_ok-found.found c.in_ok-found.ensures.lawful (rw c.word-word.ensures at (sym c.in_ok-found.ensures.ok)) (rw c.word-word.ensures at c.if-found-word.true) h))
 
 pub release-requires-clause-found : goal.release-requires-clause-found
-release-requires-clause-found c = kept_there c.self.inside.objects c.self.inside.marker.marks _ c.in-Some-find.found c.if-found-word.false (sym c.in-Some-find.ensures.found)
+release-requires-clause-found c = kept_there c.self.inside.objects c.self.inside.marker.marks _ c.in_ok-found.found c.if-found-word.false (sym c.in_ok-found.ensures.ok)
 
 pub freed-requires-clause-low : goal.freed-requires-clause-low
 freed-requires-clause-low c =
-    let there = kept_there c.self.inside.objects c.self.inside.marker.marks _ c.in-Some-find.found c.if-found-word.false (sym c.in-Some-find.ensures.found) in
-    let above = (c.in-Some-find.ensures.lawful.map.placed _ c.in-Some-find.found there).above in let base = c.if-found-word.false in omega arith
+    let there = kept_there c.self.inside.objects c.self.inside.marker.marks _ c.in_ok-found.found c.if-found-word.false (sym c.in_ok-found.ensures.ok) in
+    let above = (c.in_ok-found.ensures.lawful.map.placed _ c.in_ok-found.found there).above in let base = c.if-found-word.false in omega arith
 
 pub freed-requires-clause-inside : goal.freed-requires-clause-inside
 freed-requires-clause-inside c =
-    let there = kept_there c.self.inside.objects c.self.inside.marker.marks _ c.in-Some-find.found c.if-found-word.false (sym c.in-Some-find.ensures.found) in
-    let p = c.in-Some-find.ensures.lawful.map.placed _ c.in-Some-find.found there in
+    let there = kept_there c.self.inside.objects c.self.inside.marker.marks _ c.in_ok-found.found c.if-found-word.false (sym c.in_ok-found.ensures.ok) in
+    let p = c.in_ok-found.ensures.lawful.map.placed _ c.in_ok-found.found there in
     let above = p.above in let below = p.below in let some = p.some in let base = c.if-found-word.false in let size = c.laws.ensures.marks in let pages = c.self.invariant.pages in omega arith
 
 pub invariant_of-self : goal.invariant_of-self
 invariant_of-self c =
-    let there = kept_there c.self.inside.objects c.self.inside.marker.marks _ c.in-Some-find.found c.if-found-word.false (sym c.in-Some-find.ensures.found) in
-    traced_freed _ _ (record { marking = c.self.inside.marker; is_marking = c.self.inside.is_marking; count = c.self.inside.count }) _ c.in-Some-find.found c.self.invariant (c.freed.ensures.objects (found_in c.self.inside.objects.states) (found_in c.release.new.self.states) c.in-Some-find.found c.if-found-word.false (subst (λ w. found_in c.self.inside.objects.states w ≡ Some c.in-Some-find.found) c.if-found-word.false there) c.release.ensures.removed) c.in-Some-find.ensures.lawful.map there c.release.ensures
+    let there = kept_there c.self.inside.objects c.self.inside.marker.marks _ c.in_ok-found.found c.if-found-word.false (sym c.in_ok-found.ensures.ok) in
+    traced_freed _ _ (record { marking = c.self.inside.marker; is_marking = c.self.inside.is_marking; count = c.self.inside.count }) _ c.in_ok-found.found c.self.invariant (c.freed.ensures.objects (found_in c.self.inside.objects.states) (found_in c.release.new.self.states) c.in_ok-found.found c.if-found-word.false (subst (λ w. found_in c.self.inside.objects.states w ≡ Some c.in_ok-found.found) c.if-found-word.false there) c.release.ensures.removed) c.in_ok-found.ensures.lawful.map there c.release.ensures
     (rw (sym c.if-found-word.false) at c.freed.ensures.freed) refl (rw (sym c.if-found-word.false) at c.freed.ensures.keeps)
 
 pub returns : goal.returns
 returns c = rw (← c.self.view_is)
-    (freed _ _ _ _ _ _ _ c.in-Some.mutator.now c.in-Some-find.found c.in-Some-find.ensures.lawful c.in-Some.ensures.some
-    (rw c.word-word.ensures at (sym c.in-Some-find.ensures.found)) (rw c.word-word.ensures at c.if-found-word.false) c.release.ensures (rw (sym c.if-found-word.false) at c.freed.ensures.freed) refl refl)
+    (freed _ _ _ _ _ _ _ c.in_ok-mutator.mutator.now c.in_ok-found.found c.in_ok-found.ensures.lawful c.in_ok-mutator.ensures.ok
+    (rw c.word-word.ensures at (sym c.in_ok-found.ensures.ok)) (rw c.word-word.ensures at c.if-found-word.false) c.release.ensures (rw (sym c.if-found-word.false) at c.freed.ensures.freed) refl refl)

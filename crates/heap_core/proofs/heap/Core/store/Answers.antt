@@ -4,37 +4,38 @@ use Rattle.object_space.specs.Kept.{is_kept}
 use Rattle.heap_core.proofs.Tracing.{traced_write}
 use Rattle.heap_spec.specs.Steps.{Acts}
 use Rattle.object_space.proofs.Kept.{kept_cases, kept_map}
+use Rattle.roots.proofs.Refusals.{handed_on}
 use Rattle.heap_core.proofs.Roots.{refused, refused_vacant}
 use Rattle.heap_view.proofs.Shows.{is_word}
 use Rattle.heap_core.proofs.Lookups.{finds_nothing, stores}
 use Rattle.heap_core.proofs.heap.Core.store.Goals as goal
 
-pub returns-in_default : goal.returns-in_default
-returns-in_default c = rw (← c.self.view_is) (refused_vacant _ _ _ c.in_default.ensures.none)
+pub returns-in_err-mutator : goal.returns-in_err-mutator
+returns-in_err-mutator c = rw (← c.self.view_is, handed_on _ _ _ c.from_residual.ensures.1 c.in_err-mutator.ensures.err.0) (refused_vacant _ _ _ c.in_err-mutator.ensures.err.1)
 
 pub returns-then-target-ne0 : goal.returns-then-target-ne0
 returns-then-target-ne0 c = rw (← c.self.view_is)
-    (refused _ _ _ _ c.in-Some.mutator.now _ _ c.in-Some.ensures.some (λ h. h) (λ s h. Acts.store_misaligned (rw c.address-target.ensures at c.if-target-ne0.true)))
+    (refused _ _ _ _ c.in_ok-mutator.mutator.now _ _ c.in_ok-mutator.ensures.ok (λ h. h) (λ s h. Acts.store_misaligned (rw c.address-target.ensures at c.if-target-ne0.true)))
 
-pub returns-in_default-find : goal.returns-in_default-find
-returns-in_default-find c = rw (← c.self.view_is)
-    (refused _ _ _ _ c.in-Some.mutator.now _ _ c.in-Some.ensures.some (λ h. h)
-    (λ s h. Acts.store_nothing (rw c.address-target.ensures at c.if-target-ne0.false) (finds_nothing _ _ s _ c.in_default-find.ensures.lawful h (rw c.address-target.ensures at (sym c.in_default-find.ensures.found)))))
+pub returns-in_err-find_in : goal.returns-in_err-find_in
+returns-in_err-find_in c = rw (← c.self.view_is, handed_on _ _ _ c.from_residual-in_err-find_in.ensures.1 c.in_err-find_in.ensures.err.0)
+    (refused _ _ _ _ c.in_ok-mutator.mutator.now _ _ c.in_ok-mutator.ensures.ok (λ h. h)
+    (λ s h. Acts.store_nothing (rw c.address-target.ensures at c.if-target-ne0.false) (finds_nothing _ _ s _ c.in_err-find_in.ensures.lawful h (rw c.address-target.ensures at (sym c.in_err-find_in.ensures.err.1)))))
 
 pub write-requires-clause-address : goal.write-requires-clause-address
-write-requires-clause-address c = is_word _ _ (kept_map _ _ _ c.in-Some-find.ensures.lawful.map) _ c.in-Some-find.ensures.long _ c.in-Some-find.field-0 (sym c.in-Some-find.ensures.found) c.if-target-ne0.false
+write-requires-clause-address c = is_word _ _ (kept_map _ _ _ c.in_ok-find_in.ensures.lawful.map) _ c.in_ok-find_in.ensures.long _ c.in_ok-find_in.field-0 (sym c.in_ok-find_in.ensures.ok) c.if-target-ne0.false
 
 pub write-requires-clause-object : goal.write-requires-clause-object
 write-requires-clause-object c = (
-  c.in-Some-find.field-0,
-  (kept_cases (is_kept c.self.inside.objects.pending c.self.inside.marker.marks) (found_in c.self.inside.objects.states) c.address-target.result c.in-Some-find.field-0
-      (sym c.in-Some-find.ensures.found)).0,
+  c.in_ok-find_in.field-0,
+  (kept_cases (is_kept c.self.inside.objects.pending c.self.inside.marker.marks) (found_in c.self.inside.objects.states) c.address-target.result c.in_ok-find_in.field-0
+      (sym c.in_ok-find_in.ensures.ok)).0,
 )
 
 pub note_write-requires-clause-inside : goal.note_write-requires-clause-inside
 note_write-requires-clause-inside c =
-    let here = is_word _ _ (kept_map _ _ _ c.in-Some-find.ensures.lawful.map) _ c.in-Some-find.ensures.long _ c.in-Some-find.field-0 (sym c.in-Some-find.ensures.found) c.if-target-ne0.false in
-    let size = c.self.invariant.pages in let long = c.in-Some-find.ensures.long in let below = here.below in let above = here.above in
+    let here = is_word _ _ (kept_map _ _ _ c.in_ok-find_in.ensures.lawful.map) _ c.in_ok-find_in.ensures.long _ c.in_ok-find_in.field-0 (sym c.in_ok-find_in.ensures.ok) c.if-target-ne0.false in
+    let size = c.self.invariant.pages in let long = c.in_ok-find_in.ensures.long in let below = here.below in let above = here.above in
     omega arith
 
 pub invariant_of-self : goal.invariant_of-self
@@ -42,8 +43,8 @@ invariant_of-self c = traced_write _ _ (record { marking = c.self.inside.marker;
 
 pub returns : goal.returns
 returns c = rw (← c.self.view_is)
-    (stores _ _ _ _ _ _ _ _ _ c.in-Some.mutator.now c.in-Some-find.field-0 c.in-Some-find.ensures.lawful c.in-Some-find.ensures.long c.in-Some.ensures.some
+    (stores _ _ _ _ _ _ _ _ _ c.in_ok-mutator.mutator.now c.in_ok-find_in.field-0 c.in_ok-find_in.ensures.lawful c.in_ok-find_in.ensures.long c.in_ok-mutator.ensures.ok
     (rw c.address-target.ensures at c.if-target-ne0.false)
-    (rw c.address-target.ensures at (sym c.in-Some-find.ensures.found))
+    (rw c.address-target.ensures at (sym c.in_ok-find_in.ensures.ok))
     (rw (c.address-target.ensures, c.word-word.ensures) at c.write.ensures)
     (rw c.address-target.ensures at c.note_write.ensures) refl refl)
