@@ -71,9 +71,7 @@ pub(crate) fn owner_of(objects: &[Extent], owners: &[u64], base: u64) -> Option<
     ensures some { IfSome result (λ i. (e : Extent) × (slice_get objects.now i ≡ Some e) × (e.base ≡ base)) }
     ensures none { IfNone result (All (λ e. e.base ≡ base → ⊥) objects.now) }
 {
-    let Some(index) = owner_at(objects, owners, base) else {
-        return None;
-    };
+    let index = owner_at(objects, owners, base)?;
     if objects[index].base != base {
         return None;
     }

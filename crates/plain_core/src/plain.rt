@@ -56,21 +56,11 @@ impl Core {
         if pages == 0 || pages > MAX_PAGES {
             return Err(OpenError::BadPages);
         }
-        let Ok(words) = vec![in alloc; 0u64; PAGE_WORDS as usize * pages as usize] else {
-            return Err(OpenError::Memory);
-        };
-        let Ok(objects) = Vec::with_capacity(alloc, PAGE_GRANULES as usize * pages as usize) else {
-            return Err(OpenError::Memory);
-        };
-        let Ok(owners) = vec![in alloc; 0u64; PAGE_WORDS as usize * pages as usize] else {
-            return Err(OpenError::Memory);
-        };
-        let Ok(listing) = Listing::new(alloc, PAGE_GRANULES as usize * pages as usize) else {
-            return Err(OpenError::Memory);
-        };
-        let Ok(stays) = vec![in alloc; true; PAGE_GRANULES as usize * pages as usize] else {
-            return Err(OpenError::Memory);
-        };
+        let words = vec![in alloc; 0u64; PAGE_WORDS as usize * pages as usize]?;
+        let objects = Vec::with_capacity(alloc, PAGE_GRANULES as usize * pages as usize)?;
+        let owners = vec![in alloc; 0u64; PAGE_WORDS as usize * pages as usize]?;
+        let listing = Listing::new(alloc, PAGE_GRANULES as usize * pages as usize)?;
+        let stays = vec![in alloc; true; PAGE_GRANULES as usize * pages as usize]?;
         Ok(Core {
             pages,
             words,

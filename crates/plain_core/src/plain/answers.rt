@@ -63,9 +63,7 @@ impl Core {
         ensures some { IfSome result (λ w. HoldsWord self.now address w) }
         ensures none { IfNone result (FindsNothing self.now address) }
     {
-        let Some(_object) = object_at(&self.objects, address) else {
-            return None;
-        };
+        object_at(&self.objects, address)?;
         let place = place_of(address);
         Some(self.words[place])
     }

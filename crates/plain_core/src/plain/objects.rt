@@ -7,7 +7,7 @@ ghost use Rattle.roots.specs.Roots.{HasMutator};
 ghost use Rattle.plain_core.specs.Answering.{MayBePut, IsPut, IsAllocatedAt, CantAllocateAt};
 
 use super::Core;
-use crate::extent::{Extent, index_at, object_at};
+use crate::extent::{Extent, find_in, index_at};
 use crate::given_place::place_at;
 use crate::owners::{fill, place_of};
 use crate::places::place_for;
@@ -22,16 +22,12 @@ impl Core {
     pub fn load(&mut self, slot: Slot, into: Reg, at: Reg, offset: u64) -> Result<u64, Refusal>
         ensures { IsStep (StandsFor self.old) (Event.Mutator slot (Call.Load into at offset)) (word_reply result) (StandsFor self.new) }
     {
-        let Some(mutator) = self.roots.mutator(slot) else {
-            return Err(Refusal::NoSlot);
-        };
+        let mutator = self.roots.attached(slot)?;
         let address = mutator.address(at, offset);
         if address % WORD_BYTES != 0 {
             return Err(Refusal::Misaligned);
         }
-        let Some(_object) = object_at(&self.objects, address) else {
-            return Err(Refusal::NoObject);
-        };
+        find_in(&self.objects, address)?;
         let place = place_of(address);
         let word = self.words[place];
         self.roots.set_word(slot, into, word);
@@ -42,17 +38,13 @@ impl Core {
     pub fn store(&mut self, slot: Slot, at: Reg, offset: u64, from: Reg) -> Result<(), Refusal>
         ensures { IsStep (StandsFor self.old) (Event.Mutator slot (Call.Store at offset from)) (done_reply result) (StandsFor self.new) }
     {
-        let Some(mutator) = self.roots.mutator(slot) else {
-            return Err(Refusal::NoSlot);
-        };
+        let mutator = self.roots.attached(slot)?;
         let address = mutator.address(at, offset);
         let word = mutator.word(from);
         if address % WORD_BYTES != 0 {
             return Err(Refusal::Misaligned);
         }
-        let Some(_object) = object_at(&self.objects, address) else {
-            return Err(Refusal::NoObject);
-        };
+        find_in(&self.objects, address)?;
         let place = place_of(address);
         self.words[place] = word;
         Ok(())
@@ -74,15 +66,9 @@ impl Core {
     pub fn alloc(&mut self, slot: Slot, into: Reg, words: u64, kind: Kind) -> Result<(), Refusal>
         ensures { IsStep (StandsFor self.old) (Event.Mutator slot (Call.Alloc into words kind)) (done_reply result) (StandsFor self.new) }
     {
-        let Some(_) = self.mutator(slot) else {
-            return Err(Refusal::NoSlot);
-        };
-        let Some(placement) = class_of(words) else {
-            return Err(Refusal::BadSize);
-        };
-        let Some(object) = place_for(&self.objects, self.pages, placement, kind) else {
-            return Err(Refusal::Full);
-        };
+        self.mutator(slot).ok_or(Refusal::NoSlot)?;
+        let placement = class_of(words).ok_or(Refusal::BadSize)?;
+        let object = place_for(&self.objects, self.pages, placement, kind).ok_or(Refusal::Full)?;
         self.put(slot, into, object);
         Ok(())
     }
@@ -110,13 +96,9 @@ impl Core {
     pub fn free(&mut self, slot: Slot, at: Reg) -> Result<(), Refusal>
         ensures { IsStep (StandsFor self.old) (Event.Mutator slot (Call.Free at)) (done_reply result) (StandsFor self.new) }
     {
-        let Some(mutator) = self.roots.mutator(slot) else {
-            return Err(Refusal::NoSlot);
-        };
+        let mutator = self.roots.attached(slot)?;
         let address = mutator.word(at);
-        let Some(index) = index_at(&self.objects, address) else {
-            return Err(Refusal::NoObject);
-        };
+        let index = index_at(&self.objects, address).ok_or(Refusal::NoObject)?;
         let object = self.objects[index];
         if object.base != address {
             return Err(Refusal::NotBase);
@@ -129,13 +111,9 @@ impl Core {
     pub fn base(&mut self, slot: Slot, into: Reg, at: Reg) -> Result<u64, Refusal>
         ensures { IsStep (StandsFor self.old) (Event.Mutator slot (Call.Base into at)) (word_reply result) (StandsFor self.new) }
     {
-        let Some(mutator) = self.roots.mutator(slot) else {
-            return Err(Refusal::NoSlot);
-        };
+        let mutator = self.roots.attached(slot)?;
         let word = mutator.word(at);
-        let Some(object) = object_at(&self.objects, word) else {
-            return Err(Refusal::NoObject);
-        };
+        let object = find_in(&self.objects, word)?;
         self.roots.set_word(slot, into, object.base);
         Ok(object.base)
     }
@@ -144,13 +122,9 @@ impl Core {
     pub fn size(&self, slot: Slot, at: Reg) -> Result<u64, Refusal>
         ensures { IsStep (StandsFor self.now) (Event.Mutator slot (Call.Size at)) (count_reply result) (StandsFor self.now) }
     {
-        let Some(mutator) = self.roots.mutator(slot) else {
-            return Err(Refusal::NoSlot);
-        };
+        let mutator = self.roots.attached(slot)?;
         let word = mutator.word(at);
-        let Some(object) = object_at(&self.objects, word) else {
-            return Err(Refusal::NoObject);
-        };
+        let object = find_in(&self.objects, word)?;
         Ok(object.length)
     }
 }

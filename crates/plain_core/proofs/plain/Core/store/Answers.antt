@@ -1,28 +1,29 @@
 use Rattle.heap_spec.specs.Steps.{Acts}
+use Rattle.roots.proofs.Refusals.{handed_on}
 use Rattle.plain_core.proofs.Stands.{refused_vacant, keeps_all}
 use Rattle.plain_core.proofs.Objects.{reads_nothing}
 use Rattle.plain_core.proofs.LoadStore.{stores}
 use Rattle.plain_core.proofs.plain.Core.store.Goals as goal
 
-pub returns-in_default : goal.returns-in_default
-returns-in_default c = rw (← c.self.view_is) (refused_vacant _ _ _ c.in_default.ensures.none)
+pub returns-in_err-mutator : goal.returns-in_err-mutator
+returns-in_err-mutator c = rw (← c.self.view_is, handed_on _ _ _ c.from_residual.ensures.1 c.in_err-mutator.ensures.err.0) (refused_vacant _ _ _ c.in_err-mutator.ensures.err.1)
 
 pub returns-then-address-ne0 : goal.returns-then-address-ne0
 returns-then-address-ne0 c =
     rw (← c.self.view_is)
-    (keeps_all _ _ _ _ c.in-Some.mutator.now c.in-Some.ensures.some (λ s h. Acts.store_misaligned (rw c.address-address.ensures at c.if-address-ne0.true)))
+    (keeps_all _ _ _ _ c.in_ok-mutator.mutator.now c.in_ok-mutator.ensures.ok (λ s h. Acts.store_misaligned (rw c.address-address.ensures at c.if-address-ne0.true)))
 
-pub returns-in_default-object_at : goal.returns-in_default-object_at
-returns-in_default-object_at c =
-    rw (← c.self.view_is)
-    (let at = c.in-Some.ensures.some in
-    let none = rw (c.deref.ensures.value, c.address-address.ensures) at c.in_default-object_at.ensures.none in
-    keeps_all _ _ _ _ c.in-Some.mutator.now at (λ s h. Acts.store_nothing (rw c.address-address.ensures at c.if-address-ne0.false) (reads_nothing _ c.self.invariant.0 s h _ none)))
+pub returns-in_err-find_in : goal.returns-in_err-find_in
+returns-in_err-find_in c =
+    rw (← c.self.view_is, handed_on _ _ _ c.from_residual-in_err-find_in.ensures.1 c.in_err-find_in.ensures.err.0)
+    (let at = c.in_ok-mutator.ensures.ok in
+    let none = rw (c.deref.ensures.value, c.address-address.ensures) at c.in_err-find_in.ensures.err.1 in
+    keeps_all _ _ _ _ c.in_ok-mutator.mutator.now at (λ s h. Acts.store_nothing (rw c.address-address.ensures at c.if-address-ne0.false) (reads_nothing _ c.self.invariant.0 s h _ none)))
 
 pub returns : goal.returns
 returns c =
     rw (← c.self.view_is, c.place_of-place.ensures, c.address-address.ensures, c.word-word.ensures)
-    (stores _ _ _ _ _ c.in-Some.mutator.now _ c.self.invariant.0 c.in-Some.ensures.some
-    (rw c.deref.ensures.value at c.in-Some-object_at.ensures.some.0)
-    (rw c.address-address.ensures at c.in-Some-object_at.ensures.some.1)
+    (stores _ _ _ _ _ c.in_ok-mutator.mutator.now _ c.self.invariant.0 c.in_ok-mutator.ensures.ok
+    (rw c.deref.ensures.value at c.in_ok-find_in.ensures.ok.0)
+    (rw c.address-address.ensures at c.in_ok-find_in.ensures.ok.1)
     (rw c.address-address.ensures at c.if-address-ne0.false))
