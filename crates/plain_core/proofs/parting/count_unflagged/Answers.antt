@@ -1,4 +1,4 @@
-use Rattle.std.proofs.Common.{◌<◌, length, arith}
+use Rattle.std.proofs.Common.{◌<◌, length}
 use Rattle.plain_core.proofs.Stays.{kept_counts, kept_passes}
 use Rattle.plain_core.proofs.parting.count_unflagged.Goals as goal
 use Rattle.plain_core.proofs.parting.count_unflagged.Goals.{then-flags-index, else-flags-index}
