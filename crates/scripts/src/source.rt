@@ -39,6 +39,7 @@ pub trait Sink {
         ensures bytes { WriteAppends (written self.old) (written self.new) result bytes.now }
         ensures ok { IfOk result (λ n. 0 < n → faults self.new ≡ faults self.old) }
         ensures none { result ≡ Ok 0 → 0 < length bytes.now → faults self.new ≡ faults self.old + 1 }
+        ensures empty { result ≡ Ok 0 → length bytes.now ≡ 0 → faults self.new ≡ faults self.old }
         ensures fault { OnErr result (faults self.new ≡ faults self.old + 1) };
 }
 

@@ -66,7 +66,7 @@ impl<T: Write> Sink for Std<T> {
     fn write(&mut self, bytes: &[u8]) -> Result<usize, Failed> {
         for _ in 0..u64::MAX {
             match self.inner.write(bytes) {
-                Ok(0) => {
+                Ok(0) if !bytes.is_empty() => {
                     let _fault = self.fail();
                     return Ok(0);
                 }

@@ -117,7 +117,7 @@ impl Sink for Taken {
             self.faults = self.faults.next();
             return Err(Failed);
         }
-        if n == 0 {
+        if n == 0 && !bytes.is_empty() {
             self.faults = self.faults.next();
         }
         Ok(n)
