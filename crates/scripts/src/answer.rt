@@ -12,7 +12,7 @@ use crate::source::Sink;
 use heap_core::Core;
 
 /// Runs the line of this number, and writes its reply.
-pub fn answer_line<W: Sink>(
+pub(crate) fn answer_line<W: Sink>(
     core: &mut Core,
     pages: u32,
     number: u64,

@@ -5,7 +5,7 @@ use crate::numbers::{is, number, small_number};
 use words::{Global, Kind, Reg, Slot};
 
 /// A value that is written as one word. Contracts see how it is written, and which values are in range.
-pub trait Field: Copy {
+pub(crate) trait Field: Copy {
     /// How it is written.
     ghost text: { Self → List ℕ };
 

@@ -5,7 +5,7 @@ ghost use Rattle.heap_spec.specs.Layout.{word_end};
 use itoa::Buffer;
 
 /// Whether the word is this text.
-pub fn is(word: &[u8], text: &str) -> bool
+pub(crate) fn is(word: &[u8], text: &str) -> bool
     ensures { MatchBool result (word.now ≡ text.now) (word.now ≡ text.now → ⊥) }
 {
     word == text.as_bytes()
@@ -29,7 +29,7 @@ pub fn number(word: &[u8]) -> Option<u64>
 }
 
 /// The same, of numbers below 256.
-pub fn small_number(word: &[u8]) -> Option<u8>
+pub(crate) fn small_number(word: &[u8]) -> Option<u8>
     ensures { MatchOption result ((n : ℕ) → n < 256 → word.now ≡ decimal n → ⊥) (λ n. (word.now ≡ decimal n) × (n < 256)) }
 {
     let Some(n) = number(word) else {

@@ -21,7 +21,7 @@ fn next_word(line: &[u8]) -> (&[u8], Option<&[u8]>)
 
 /// What is left of a line, seen as its words.
 #[derive(Drop)]
-pub struct Words<'a> {
+pub(crate) struct Words<'a> {
     rest: Option<&'a [u8]>,
 }
 
@@ -36,14 +36,14 @@ impl<'a> Model for Words<'a> {
 
 impl<'a> Words<'a> {
     /// The words of a line.
-    pub fn of(line: &'a [u8]) -> Words<'a>
+    pub(crate) fn of(line: &'a [u8]) -> Words<'a>
         ensures { result ≡ words_of line.now }
     {
         Words { rest: Some(line) }
     }
 
     /// Takes the next word.
-    pub fn word(&mut self) -> Option<&'a [u8]>
+    pub(crate) fn word(&mut self) -> Option<&'a [u8]>
         ensures { MatchOption result (self.old ≡ []) (λ word. self.old ≡ word.now ∷ self.new) }
     {
         let Some(rest) = self.rest else {
@@ -66,7 +66,7 @@ impl<'a> Words<'a> {
     }
 
     /// Takes the last word, which is to be of this field.
-    pub fn one<A: Field>(&mut self) -> Option<A>
+    pub(crate) fn one<A: Field>(&mut self) -> Option<A>
         ensures { ReadsOne A.text A.fits self.old result }
     {
         let Some(a) = self.next() else {
@@ -76,7 +76,7 @@ impl<'a> Words<'a> {
     }
 
     /// Takes the last two words, which are to be of these fields.
-    pub fn two<A: Field, B: Field>(&mut self) -> Option<(A, B)>
+    pub(crate) fn two<A: Field, B: Field>(&mut self) -> Option<(A, B)>
         ensures { ReadsTwo A.text A.fits B.text B.fits self.old result }
     {
         let Some(a) = self.next() else {
@@ -89,7 +89,7 @@ impl<'a> Words<'a> {
     }
 
     /// Takes the last three words, which are to be of these fields.
-    pub fn three<A: Field, B: Field, C: Field>(&mut self) -> Option<(A, B, C)>
+    pub(crate) fn three<A: Field, B: Field, C: Field>(&mut self) -> Option<(A, B, C)>
         ensures { ReadsThree A.text A.fits B.text B.fits C.text C.fits self.old result }
     {
         let Some(a) = self.next() else {
@@ -102,7 +102,7 @@ impl<'a> Words<'a> {
     }
 
     /// Whether no word is left.
-    pub fn is_done(&self) -> bool
+    pub(crate) fn is_done(&self) -> bool
         ensures { MatchBool result (self.now ≡ []) (self.now ≡ [] → ⊥) }
     {
         match self.rest {
