@@ -14,9 +14,7 @@ use words::Slot;
 fn call(rest: &mut Words<'_>) -> Option<Call>
     ensures { ReadsCall rest.old result }
 {
-    let Some(verb) = rest.word() else {
-        return None;
-    };
+    let verb = rest.word()?;
     match verb {
         _ if is(verb, "detach") => rest.is_done().then_some(Call::Detach),
         _ if is(verb, "set") => rest.two().map(|(into, word)| Call::Set(into, word)),
@@ -42,9 +40,7 @@ fn call(rest: &mut Words<'_>) -> Option<Call>
 fn collector_command(rest: &mut Words<'_>) -> Option<Event>
     ensures { ReadsCommand (codes "gc" ∷ rest.old) result }
 {
-    let Some(verb) = rest.word() else {
-        return None;
-    };
+    let verb = rest.word()?;
     match verb {
         _ if is(verb, "begin") => rest.is_done().then_some(Event::Begin),
         _ if is(verb, "roots") => rest.is_done().then_some(Event::Roots),
@@ -65,21 +61,15 @@ fn collector_command(rest: &mut Words<'_>) -> Option<Event>
 fn command_of(words: &mut Words<'_>) -> Option<Event>
     ensures { ReadsCommand words.old result }
 {
-    let Some(first) = words.word() else {
-        return None;
-    };
+    let first = words.word()?;
     if is(first, "attach") {
         return words.is_done().then_some(Event::Attach);
     }
     if is(first, "gc") {
         return collector_command(words);
     }
-    let Some(slot) = Slot::read(first) else {
-        return None;
-    };
-    let Some(call) = call(words) else {
-        return None;
-    };
+    let slot = Slot::read(first)?;
+    let call = call(words)?;
     Some(Event::Mutator(slot, call))
 }
 

@@ -26,9 +26,7 @@ impl Field for Slot {
     ghost fits = { λ n. n < SLOTS };
 
     fn read(word: &[u8]) -> Option<Slot> {
-        let Some(n) = small_number(word) else {
-            return None;
-        };
+        let n = small_number(word)?;
         Slot::new(n)
     }
 }
@@ -42,9 +40,7 @@ impl Field for Reg {
     ghost fits = { IsRegister };
 
     fn read(word: &[u8]) -> Option<Reg> {
-        let Some(n) = small_number(word) else {
-            return None;
-        };
+        let n = small_number(word)?;
         Reg::new(n)
     }
 }
@@ -58,9 +54,7 @@ impl Field for Global {
     ghost fits = { IsGlobal };
 
     fn read(word: &[u8]) -> Option<Global> {
-        let Some(n) = small_number(word) else {
-            return None;
-        };
+        let n = small_number(word)?;
         Global::new(n)
     }
 }

@@ -32,8 +32,6 @@ pub fn number(word: &[u8]) -> Option<u64>
 pub(crate) fn small_number(word: &[u8]) -> Option<u8>
     ensures { MatchOption result ((n : ℕ) → n < 256 → word.now ≡ decimal n → ⊥) (λ n. (word.now ≡ decimal n) × (n < 256)) }
 {
-    let Some(n) = number(word) else {
-        return None;
-    };
+    let n = number(word)?;
     if n < 256 { Some(n as u8) } else { None }
 }

@@ -46,10 +46,7 @@ impl<'a> Words<'a> {
     pub(crate) fn word(&mut self) -> Option<&'a [u8]>
         ensures { MatchOption result (self.old ≡ []) (λ word. self.old ≡ word.now ∷ self.new) }
     {
-        let Some(rest) = self.rest else {
-            return None;
-        };
-        let (word, rest) = next_word(rest);
+        let (word, rest) = next_word(self.rest?);
         self.rest = rest;
         Some(word)
     }
@@ -59,9 +56,7 @@ impl<'a> Words<'a> {
         ensures { MatchOption result ((a : A) (rest : List (List ℕ)) → A.fits a → self.old ≡ A.text a ∷ rest → ⊥)
             (λ a. (self.old ≡ A.text a ∷ self.new) × A.fits a) }
     {
-        let Some(word) = self.word() else {
-            return None;
-        };
+        let word = self.word()?;
         A::read(word)
     }
 
@@ -69,9 +64,7 @@ impl<'a> Words<'a> {
     pub(crate) fn one<A: Field>(&mut self) -> Option<A>
         ensures { ReadsOne A.text A.fits self.old result }
     {
-        let Some(a) = self.next() else {
-            return None;
-        };
+        let a = self.next()?;
         self.is_done().then_some(a)
     }
 
@@ -79,12 +72,8 @@ impl<'a> Words<'a> {
     pub(crate) fn two<A: Field, B: Field>(&mut self) -> Option<(A, B)>
         ensures { ReadsTwo A.text A.fits B.text B.fits self.old result }
     {
-        let Some(a) = self.next() else {
-            return None;
-        };
-        let Some(b) = self.one() else {
-            return None;
-        };
+        let a = self.next()?;
+        let b = self.one()?;
         Some((a, b))
     }
 
@@ -92,12 +81,8 @@ impl<'a> Words<'a> {
     pub(crate) fn three<A: Field, B: Field, C: Field>(&mut self) -> Option<(A, B, C)>
         ensures { ReadsThree A.text A.fits B.text B.fits C.text C.fits self.old result }
     {
-        let Some(a) = self.next() else {
-            return None;
-        };
-        let Some((b, c)) = self.two() else {
-            return None;
-        };
+        let a = self.next()?;
+        let (b, c) = self.two()?;
         Some((a, b, c))
     }
 
