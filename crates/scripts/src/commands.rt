@@ -5,7 +5,7 @@ ghost use Rattle.scripts.specs.Grammar.{IsLineOf, IsBad};
 ghost use Rattle.scripts.specs.Calls.{ReadsCall, ReadsCommand};
 
 use crate::field::Field;
-use crate::numbers::is;
+use crate::numbers::is_text;
 use crate::words_of_line::Words;
 use heap_spec::{Call, Event};
 use words::Slot;
@@ -16,22 +16,22 @@ fn call(rest: &mut Words<'_>) -> Option<Call>
 {
     let verb = rest.word()?;
     match verb {
-        _ if is(verb, "detach") => rest.is_done().then_some(Call::Detach),
-        _ if is(verb, "set") => rest.two().map(|(into, word)| Call::Set(into, word)),
-        _ if is(verb, "copy") => rest.two().map(|(into, from)| Call::Copy(into, from)),
-        _ if is(verb, "add") => rest.three().map(|(into, from, n)| Call::Add(into, from, n)),
-        _ if is(verb, "sub") => rest.three().map(|(into, a, b)| Call::Sub(into, a, b)),
-        _ if is(verb, "get") => rest.one().map(Call::Get),
-        _ if is(verb, "push") => rest.one().map(Call::Push),
-        _ if is(verb, "pop") => rest.one().map(Call::Pop),
-        _ if is(verb, "load") => rest.three().map(|(into, at, n)| Call::Load(into, at, n)),
-        _ if is(verb, "store") => rest.three().map(|(at, n, from)| Call::Store(at, n, from)),
-        _ if is(verb, "alloc") => rest.three().map(|(to, n, kind)| Call::Alloc(to, n, kind)),
-        _ if is(verb, "free") => rest.one().map(Call::Free),
-        _ if is(verb, "base") => rest.two().map(|(into, from)| Call::Base(into, from)),
-        _ if is(verb, "size") => rest.one().map(Call::Size),
-        _ if is(verb, "gget") => rest.two().map(|(into, g)| Call::GlobalGet(into, g)),
-        _ if is(verb, "gput") => rest.two().map(|(g, from)| Call::GlobalPut(g, from)),
+        _ if is_text(verb, "detach") => rest.is_done().then_some(Call::Detach),
+        _ if is_text(verb, "set") => rest.two().map(|(into, word)| Call::Set(into, word)),
+        _ if is_text(verb, "copy") => rest.two().map(|(into, from)| Call::Copy(into, from)),
+        _ if is_text(verb, "add") => rest.three().map(|(into, from, n)| Call::Add(into, from, n)),
+        _ if is_text(verb, "sub") => rest.three().map(|(into, a, b)| Call::Sub(into, a, b)),
+        _ if is_text(verb, "get") => rest.one().map(Call::Get),
+        _ if is_text(verb, "push") => rest.one().map(Call::Push),
+        _ if is_text(verb, "pop") => rest.one().map(Call::Pop),
+        _ if is_text(verb, "load") => rest.three().map(|(into, at, n)| Call::Load(into, at, n)),
+        _ if is_text(verb, "store") => rest.three().map(|(at, n, from)| Call::Store(at, n, from)),
+        _ if is_text(verb, "alloc") => rest.three().map(|(to, n, kind)| Call::Alloc(to, n, kind)),
+        _ if is_text(verb, "free") => rest.one().map(Call::Free),
+        _ if is_text(verb, "base") => rest.two().map(|(into, from)| Call::Base(into, from)),
+        _ if is_text(verb, "size") => rest.one().map(Call::Size),
+        _ if is_text(verb, "gget") => rest.two().map(|(into, g)| Call::GlobalGet(into, g)),
+        _ if is_text(verb, "gput") => rest.two().map(|(g, from)| Call::GlobalPut(g, from)),
         _ => None,
     }
 }
@@ -42,17 +42,17 @@ fn collector_command(rest: &mut Words<'_>) -> Option<Event>
 {
     let verb = rest.word()?;
     match verb {
-        _ if is(verb, "begin") => rest.is_done().then_some(Event::Begin),
-        _ if is(verb, "roots") => rest.is_done().then_some(Event::Roots),
-        _ if is(verb, "mark") => match rest.one() {
+        _ if is_text(verb, "begin") => rest.is_done().then_some(Event::Begin),
+        _ if is_text(verb, "roots") => rest.is_done().then_some(Event::Roots),
+        _ if is_text(verb, "mark") => match rest.one() {
             Some(n) => Some(Event::Mark(n)),
             None => None,
         },
-        _ if is(verb, "retrace") => rest.is_done().then_some(Event::Retrace),
-        _ if is(verb, "finish") => rest.is_done().then_some(Event::Finish),
-        _ if is(verb, "sweep") => rest.is_done().then_some(Event::Sweep),
-        _ if is(verb, "collect") => rest.is_done().then_some(Event::Collect),
-        _ if is(verb, "no") => rest.is_done().then_some(Event::Number),
+        _ if is_text(verb, "retrace") => rest.is_done().then_some(Event::Retrace),
+        _ if is_text(verb, "finish") => rest.is_done().then_some(Event::Finish),
+        _ if is_text(verb, "sweep") => rest.is_done().then_some(Event::Sweep),
+        _ if is_text(verb, "collect") => rest.is_done().then_some(Event::Collect),
+        _ if is_text(verb, "no") => rest.is_done().then_some(Event::Number),
         _ => None,
     }
 }
@@ -62,10 +62,10 @@ fn command_of(words: &mut Words<'_>) -> Option<Event>
     ensures { ReadsCommand words.old result }
 {
     let first = words.word()?;
-    if is(first, "attach") {
+    if is_text(first, "attach") {
         return words.is_done().then_some(Event::Attach);
     }
-    if is(first, "gc") {
+    if is_text(first, "gc") {
         return collector_command(words);
     }
     let slot = Slot::read(first)?;

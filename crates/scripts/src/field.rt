@@ -1,7 +1,7 @@
 //! The fields of a line: the values that its words stand for.
 ghost use Rattle.std.specs.Prelude.{◌≡◌, ℕ, List, MatchOption};
 
-use crate::numbers::{is, number, small_number};
+use crate::numbers::{is_text, number, small_number};
 use words::{Global, Kind, Reg, Slot};
 
 /// A value that is written as one word. Contracts see how it is written, and which values are in range.
@@ -81,10 +81,10 @@ impl Field for Kind {
     ghost fits = { IsKind };
 
     fn read(word: &[u8]) -> Option<Kind> {
-        if is(word, "normal") {
+        if is_text(word, "normal") {
             return Some(Kind::Normal);
         }
-        if is(word, "atomic") {
+        if is_text(word, "atomic") {
             return Some(Kind::PointerFree);
         }
         None

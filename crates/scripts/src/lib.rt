@@ -19,7 +19,7 @@ pub use commands::command;
 pub use errors::ScriptError;
 pub use input_buffer::InputBuffer;
 pub use line::{LineRead, next_line};
-pub use numbers::number;
+pub use numbers::{is_text, number, number_in};
 pub use print::print_reply;
 pub use script::{run_bytes, run_script};
 pub use source::{Failed, Sink, Source, write_all};

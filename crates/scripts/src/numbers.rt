@@ -1,11 +1,11 @@
 //! Single words, and numbers among them.
-ghost use Rattle.std.specs.Prelude.{◌≡◌, ℕ, ◌<◌, MatchOption, MatchBool, decimal};
+ghost use Rattle.std.specs.Prelude.{◌≡◌, ℕ, ◌<◌, ◌≤◌, MatchOption, MatchBool, decimal};
 ghost use Rattle.heap_spec.specs.Layout.{word_end};
 
 use itoa::Buffer;
 
 /// Whether the word is this text.
-pub(crate) fn is(word: &[u8], text: &str) -> bool
+pub fn is_text(word: &[u8], text: &str) -> bool
     ensures { MatchBool result (word.now ≡ text.now) (word.now ≡ text.now → ⊥) }
 {
     word == text.as_bytes()
@@ -34,4 +34,20 @@ pub(crate) fn small_number(word: &[u8]) -> Option<u8>
 {
     let n = number(word)?;
     if n < 256 { Some(n as u8) } else { None }
+}
+
+/// The number that a word is, where it lies in this range.
+pub fn number_in(word: &[u8], least: u64, most: u64) -> Option<u64>
+    ensures { MatchOption result
+        ((n : ℕ) → least ≤ n → n ≤ most → word.now ≡ decimal n → ⊥)
+        (λ n. (word.now ≡ decimal n) × (least ≤ n) × (n ≤ most)) }
+{
+    let n = number(word)?;
+    if n < least {
+        return None;
+    }
+    if most < n {
+        return None;
+    }
+    Some(n)
 }
