@@ -6,14 +6,6 @@ use Rattle.words.specs.declared.limits.TheConstants.{MAX_PAGES}
 use Rattle.heap_spec.specs.Ranges.{IsWord}
 use Rattle.written_runs.specs.Arguments.{IsPageCountText, AreGiven}
 
--- a number that is out of range is no number of pages
-pub out_of_range : (text bytes : List ℕ) (n : ℕ) → bytes ≡ text → bytes ≡ decimal n → IsWord n → (1 ≤ n → n ≤ MAX_PAGES → ⊥) → (pages : ℕ) → IsPageCountText text pages → ⊥
-out_of_range text bytes n same is small out pages count =
-    let some = count.some in
-    let few = count.few in
-    let e : n ≡ pages = decimal_injective n pages small (omega (arith, few)) (sym is ∙ same ∙ count.text_is) in
-    out (omega (arith, e, some)) (omega (arith, e, few))
-
 -- the texts of three items
 three : {A : Type 0} (f : A → List ℕ) (items : List A) (a b c d e g : A) → 3 ≤ length items → length items < 4 → a ≡ get_or items 0 d → b ≡ get_or items 1 e → c ≡ get_or items 2 g → map f items ≡ f a ∷ f b ∷ f c ∷ []
 three f [] a b c d e g low high p q r = absurd (omega (arith, low))

@@ -12,7 +12,7 @@ use std::alloc::{AllocError, Global};
 
 /// What stands behind a reply.
 #[derive(Debug, Drop)]
-pub enum Behind {
+pub(crate) enum Behind {
     /// Nothing.
     Nothing,
 
@@ -25,7 +25,7 @@ pub enum Behind {
 
 impl Behind {
     /// What the reply leaves open.
-    pub fn hint(&self) -> Hint<'_>
+    pub(crate) fn hint(&self) -> Hint<'_>
         ensures text { hint_text result ≡ behind_text self.now }
         ensures words { HasWords self.now → NamesWords result }
     {
@@ -55,7 +55,7 @@ fn bases_of(alloc: Global, text: &[u8]) -> Result<Option<Vec<u64>>, AllocError>
 }
 
 /// What a text is that stands behind a reply, and `None` exactly if it is no hint's.
-pub fn behind_of(alloc: Global, text: &[u8]) -> Result<Option<Behind>, AllocError>
+pub(crate) fn behind_of(alloc: Global, text: &[u8]) -> Result<Option<Behind>, AllocError>
     ensures { IfOk result (λ found. MatchOption found ((hint : HintValue) → IsHintText text.now hint → ⊥)
         (λ behind. IsBehind text.now behind)) }
 {

@@ -3,23 +3,14 @@ ghost use Rattle.std.specs.Prelude.{ℕ, List, ◌≤◌, IfSome, MatchOption, m
 ghost use Rattle.words.specs.declared.limits.TheConstants.{MAX_PAGES};
 ghost use Rattle.written_runs.specs.Arguments.{IsPageCountText, AreGiven};
 
-use crate::cut::is;
-use scripts::number;
+use scripts::{is_text, number_in};
 use words::limits::MAX_PAGES;
 
 // The pages of a heap, as they are written.
 fn pages_given(text: &str) -> Option<u32>
     ensures { MatchOption result ((pages : ℕ) → IsPageCountText text.now pages → ⊥) (λ pages. IsPageCountText text.now pages) }
 {
-    let Some(pages) = number(text.as_bytes()) else {
-        return None;
-    };
-    if pages == 0 {
-        return None;
-    }
-    if pages > u64::from(MAX_PAGES) {
-        return None;
-    }
+    let pages = number_in(text.as_bytes(), 1, u64::from(MAX_PAGES))?;
     Some(pages as u32)
 }
 
@@ -33,11 +24,9 @@ pub fn words_given(words: &[String]) -> Option<(u32, &str)>
     let [option, count, file] = words else {
         return None;
     };
-    if !is(option.as_str().as_bytes(), "--pages") {
+    if !is_text(option.as_str().as_bytes(), "--pages") {
         return None;
     }
-    let Some(pages) = pages_given(count.as_str()) else {
-        return None;
-    };
+    let pages = pages_given(count.as_str())?;
     Some((pages, file.as_str()))
 }

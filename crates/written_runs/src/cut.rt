@@ -1,16 +1,11 @@
 //! Texts are cut.
-ghost use Rattle.std.specs.Prelude.{◌≡◌, ◌++◌, ℕ, List, MatchOption, MatchBool};
+ghost use Rattle.std.specs.Prelude.{◌≡◌, ◌++◌, ℕ, List, MatchOption};
 ghost use Rattle.written_runs.specs.Cuts.{IsTextCut};
 
-/// Whether the bytes are this text.
-pub fn is(bytes: &[u8], text: &str) -> bool
-    ensures { MatchBool result (bytes.now ≡ text.now) (bytes.now ≡ text.now → ⊥) }
-{
-    bytes == text.as_bytes()
-}
+use scripts::is_text;
 
 /// The front of a text before a byte, and the rest from there on: the whole text and nothing where the byte doesn't occur.
-pub fn cut(text: &[u8], at: u8) -> (&[u8], &[u8])
+pub(crate) fn cut(text: &[u8], at: u8) -> (&[u8], &[u8])
     ensures { IsTextCut at text.now result.0.now result.1.now }
 {
     for i in 0..text.len() {
@@ -22,7 +17,7 @@ pub fn cut(text: &[u8], at: u8) -> (&[u8], &[u8])
 }
 
 /// What stands behind this front of a text, and `None` exactly if the text begins otherwise.
-pub fn past<'a>(text: &'a [u8], front: &str) -> Option<&'a [u8]>
+pub(crate) fn past<'a>(text: &'a [u8], front: &str) -> Option<&'a [u8]>
     ensures { MatchOption result ((rest : List ℕ) → text.now ≡ front.now ++ rest → ⊥)
         (λ rest. text.now ≡ front.now ++ rest.now) }
 {
@@ -30,5 +25,9 @@ pub fn past<'a>(text: &'a [u8], front: &str) -> Option<&'a [u8]>
         return None;
     }
     let (start, rest) = text.split_at(front.len());
-    if is(start, front) { Some(rest) } else { None }
+    if is_text(start, front) {
+        Some(rest)
+    } else {
+        None
+    }
 }

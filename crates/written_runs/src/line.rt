@@ -14,15 +14,15 @@ use std::alloc::{AllocError, Global};
 
 /// A line that was read.
 #[derive(Debug, Drop)]
-pub struct Line {
+pub(crate) struct Line {
     /// What was asked.
-    pub event: Event,
+    pub(crate) event: Event,
 
     /// What was answered.
-    pub reply: Reply,
+    pub(crate) reply: Reply,
 
     /// What the reply leaves open.
-    pub behind: Behind,
+    pub(crate) behind: Behind,
 }
 
 // The command of a line, and what stands behind ` => `. No command has a `=`.
@@ -31,12 +31,8 @@ fn parted(line: &[u8]) -> Option<(&[u8], &[u8])>
         (λ parts. IsParted line.now parts.0.now parts.1.now) }
 {
     let (front, rest) = cut(line, b'=');
-    let Some(answer) = past(rest, "=> ") else {
-        return None;
-    };
-    let Some((space, text)) = front.split_last() else {
-        return None;
-    };
+    let answer = past(rest, "=> ")?;
+    let (space, text) = front.split_last()?;
     if *space != b' ' {
         return None;
     }
@@ -44,7 +40,7 @@ fn parted(line: &[u8]) -> Option<(&[u8], &[u8])>
 }
 
 /// Reads a line, and gives `None` exactly if it is written of nothing.
-pub fn read_line(alloc: Global, line: &[u8]) -> Result<Option<Line>, AllocError>
+pub(crate) fn read_line(alloc: Global, line: &[u8]) -> Result<Option<Line>, AllocError>
     ensures { IfOk result (λ found. MatchOption found (IsUnwritten line.now)
         (λ l. IsLineWith line.now l.event l.reply (behind_text l.behind) × HasWords l.behind)) }
 {

@@ -8,13 +8,13 @@ ghost use Rattle.heap_spec.specs.declared.reply.Reply.{Reply as ReplyValue};
 ghost use Rattle.written_runs.specs.Written.{answers_word};
 ghost use Rattle.written_runs.specs.Reading.{IsNumberAt, IsRefusalAt, IsReplyAt};
 
-use crate::cut::{cut, is, past};
+use crate::cut::{cut, past};
 use heap_spec::{Call, Event, Reply};
-use scripts::number;
+use scripts::{is_text, number};
 use words::{Refusal, Slot};
 
 /// The number that stands behind a space at the front of a text, and what is left of the text.
-pub fn number_at(text: &[u8]) -> Option<(u64, &[u8])>
+pub(crate) fn number_at(text: &[u8]) -> Option<(u64, &[u8])>
     ensures { MatchOption result ((n : ℕ) (rest : List ℕ) → IsNumberAt text.now n rest → ⊥)
         (λ found. IsNumberAt text.now found.0 found.1.now) }
 {
@@ -92,29 +92,29 @@ fn refusal_at(text: &[u8]) -> Option<(Refusal, &[u8])>
         return None;
     };
     let (name, rest) = cut(text, b' ');
-    if !is(name, refusal.name()) {
+    if !is_text(name, refusal.name()) {
         return None;
     }
     Some((refusal, rest))
 }
 
 /// The reply to an event that a text begins with, and what is left of the text.
-pub fn reply_at<'a>(event: &Event, text: &'a [u8]) -> Option<(Reply, &'a [u8])>
+pub(crate) fn reply_at<'a>(event: &Event, text: &'a [u8]) -> Option<(Reply, &'a [u8])>
     ensures { MatchOption result ((other : EventValue) (reply : ReplyValue) (rest : List ℕ)
         → IsReplyAt other text.now reply rest → ⊥)
         (λ found. IsReplyAt event.now text.now found.0 found.1.now) }
 {
     let (word, rest) = cut(text, b' ');
-    if is(word, "ok") {
+    if is_text(word, "ok") {
         return Some((Reply::Done, rest));
     }
-    if is(word, "mutator") {
+    if is_text(word, "mutator") {
         let Some((slot, rest)) = slot_at(rest) else {
             return None;
         };
         return Some((Reply::Slot(slot), rest));
     }
-    if is(word, "refused") {
+    if is_text(word, "refused") {
         let Some((refusal, rest)) = refusal_at(rest) else {
             return None;
         };

@@ -137,7 +137,7 @@ fn of_finish(hint: Hint) -> Rule
 }
 
 /// The rule that a line breaks which the checker has said no to.
-pub fn rule_of(event: &Event, reply: &Reply, hint: Hint) -> Rule
+pub(crate) fn rule_of(event: &Event, reply: &Reply, hint: Hint) -> Rule
     ensures { result ≡ rule_of event.now reply.now hint.entry }
 {
     match event {
