@@ -84,7 +84,7 @@ fn put_call(line: &mut ArrayString<LINE_BYTES>, call: Call)
 }
 
 /// Puts a command, as a line without its newline, in the place of what was there.
-pub fn put_command(line: &mut ArrayString<LINE_BYTES>, command: Event)
+pub(crate) fn put_command(line: &mut ArrayString<LINE_BYTES>, command: Event)
     ensures { line.new.bytes ≡ command_line command }
 {
     line.clear();

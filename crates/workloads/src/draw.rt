@@ -68,7 +68,7 @@ fn collection(number: u32, x: u32) -> Event
 }
 
 /// The command that four words draw.
-pub fn draw(mutators: u8, x0: u32, x1: u32, x2: u32, x3: u32) -> Event
+pub(crate) fn draw(mutators: u8, x0: u32, x1: u32, x2: u32, x3: u32) -> Event
     requires { mutators ≤ SLOTS }
     ensures { result ≡ drawn mutators x0 x1 x2 x3 }
 {

@@ -11,7 +11,7 @@ use scripts::{InputBuffer, LineRead, ScriptError, Source, next_line};
 use std::alloc::Global;
 
 /// Reads the lines of a reader into a new workload.
-pub fn read_lines<R: Source>(
+pub(crate) fn read_lines<R: Source>(
     alloc: Global,
     workload: &mut Workload,
     buffer: &mut InputBuffer,
