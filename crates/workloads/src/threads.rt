@@ -7,7 +7,7 @@ ghost use Rattle.shared.specs.Calls.{IsNoDetach};
 ghost use Rattle.workloads.specs.Actors.{CanCall, HasCalled, IsAttachedJob, AreAttached, AreReplies, CanCommand, HasCommanded};
 ghost use Rattle.workloads.specs.OneHistory.{HaveOneHistory};
 
-use crate::collector_job::{CollectorJob, GivesCommands, run_collector};
+use crate::collector_job::{CollectorJob, GatedHeap, GivesCommands};
 use crate::lines::Lines;
 use crate::mutator_job::{Attached, MakesCalls, MutatorJob, run_mutator};
 use crate::replies::Replies;
@@ -91,11 +91,7 @@ fn take_replies<'a, J: Naming, R: Wait>(
 
 // Runs each mutator's job in a thread of its own, and the collector's in one more.
 fn run_jobs<'a, J: Naming + Send + Sync, R: Threads + Wait + Sync, G: Gate>(
-    rt: &R,
-    alloc: Global,
-    heap: &SharedHeap<J>,
-    helpers: Helpers,
-    gate: &G,
+    on: &GatedHeap<'_, J, R, G>,
     jobs: Vec<MutatorJob<'a, J, R>>,
     other: CollectorJob<'a, J>,
 ) -> Result<(Vec<MutatorJob<'a, J, R>>, CollectorJob<'a, J>), AllocError>
@@ -107,14 +103,14 @@ fn run_jobs<'a, J: Naming + Send + Sync, R: Threads + Wait + Sync, G: Gate>(
     let work = |job|
         requires { CanCall job }
         ensures { HasCalled job.entry result }
-    { run_mutator(gate, job) };
+    { run_mutator(on.gate, job) };
     let collect = |job|
         requires { CanCommand job }
         ensures { HasCommanded J.origin job.entry result }
-    { run_collector(rt, alloc, heap, helpers, gate, job) };
+    { on.run(job) };
     run_each_beside::<_, _, MakesCalls, _, _, GivesCommands, _>(
-        rt,
-        alloc,
+        on.rt,
+        on.alloc,
         &MakesCalls,
         &work,
         jobs,
@@ -126,34 +122,30 @@ fn run_jobs<'a, J: Naming + Send + Sync, R: Threads + Wait + Sync, G: Gate>(
 
 // Runs the workload on this heap, of which nobody has seen anything. All memory is taken before the first thread starts.
 fn run_on<J: Naming + Send + Sync, R: Threads + Wait + Sync, G: Gate>(
-    rt: &R,
-    alloc: Global,
-    heap: &SharedHeap<J>,
+    on: &GatedHeap<'_, J, R, G>,
     collector: Collector<J>,
     workload: &Workload,
-    helpers: Helpers,
-    gate: &G,
 ) -> Result<Replies, AllocError>
     requires { collector ≡ record { slot = SLOTS; seen = []; mine = [] } }
     ensures { IfOk result (λ replies. HaveOneHistory J.origin workload.now replies) }
 {
     let commands = workload.commands();
-    let answers = vec![in alloc; Reply::Done; commands.len()]?;
-    let mut replies = Vec::with_capacity(alloc, workload.mutators())?;
-    let jobs = attach_all(rt, alloc, heap, workload)?;
+    let answers = vec![in on.alloc; Reply::Done; commands.len()]?;
+    let mut replies = Vec::with_capacity(on.alloc, workload.mutators())?;
+    let jobs = attach_all(on.rt, on.alloc, on.heap, workload)?;
     let other = CollectorJob {
         collector,
         commands,
         replies: answers,
     };
-    let (mut jobs, other) = run_jobs(rt, alloc, heap, helpers, gate, jobs, other)?;
+    let (mut jobs, other) = run_jobs(on, jobs, other)?;
     let CollectorJob {
         mut collector,
         commands: _,
         replies: answers,
     } = other;
     // A look, by which the collector's pass is known to agree with what it has seen, also where it gave no command.
-    let _collections = heap.gc_no_of(&mut collector);
+    let _collections = on.heap.gc_no_of(&mut collector);
     settle(&mut collector, jobs.as_mut_slice());
     take_replies(jobs, &mut replies);
     Ok(Replies::new(replies, Lines::of(answers)))
@@ -173,7 +165,14 @@ fn run_named<J: Naming + Send + Sync, R: Threads + Wait + Sync, G: Gate>(
     ensures { IfOk result (λ replies. HaveOneHistory J.origin workload.now replies) }
 {
     let (heap, collector) = SharedHeap::<J>::named(opened);
-    run_on(rt, alloc, &heap, collector, workload, helpers, gate)
+    let on = GatedHeap {
+        rt,
+        alloc,
+        heap: &heap,
+        helpers,
+        gate,
+    };
+    run_on(&on, collector, workload)
 }
 
 /// Runs a workload on a heap of its own of so many pages: each mutator makes its calls in a thread of its own, and the collector gives

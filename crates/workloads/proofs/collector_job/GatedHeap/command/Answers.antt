@@ -1,6 +1,6 @@
 use Rattle.std.proofs.Common.{refl}
 use Rattle.workloads.proofs.Collected.{begins, finishes, numbers, roots, marking, retraces, sweeps}
-use Rattle.workloads.proofs.collector_job.command.Goals as goal
+use Rattle.workloads.proofs.collector_job.GatedHeap.command.Goals as goal
 
 pub returns-in-Begin : goal.returns-in-Begin
 returns-in-Begin g c = begins g.J.Naming.origin c.args.me.now c.begin.new.me c.args.command c.done.result c.requires.slot c.begin.result c.in-Begin.is c.done.ensures c.begin.ensures
