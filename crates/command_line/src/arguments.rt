@@ -6,8 +6,9 @@ ghost use Rattle.command_line.specs.Obeying.{write_faults};
 
 use clap::error::ErrorKind;
 use clap::{Arg, ArgMatches, Command, Error};
-use commands::{Fault, number_in};
+use commands::Fault;
 use final_pause::Helpers;
+use scripts::number_in;
 use std::alloc::{AllocError, Global};
 use words::limits::{MAX_HELPERS, MAX_PAGES};
 
@@ -24,7 +25,7 @@ fn run_words<'a>(alloc: Global) -> Result<Command<'a>, AllocError> {
         .arg(Arg::new(alloc, "file"))
 }
 
-// `threads --pages N [--helpers K] FILE`.
+// `threads --pages N [--helpers H] FILE`.
 fn threads_words<'a>(alloc: Global) -> Result<Command<'a>, AllocError> {
     Command::new(alloc, "threads")
         .disable_help_flag(true)
@@ -33,7 +34,7 @@ fn threads_words<'a>(alloc: Global) -> Result<Command<'a>, AllocError> {
         .arg(Arg::new(alloc, "file").required(true))
 }
 
-// `stress --seed N --mutators K --steps L`.
+// `stress --seed S --mutators M --steps K`.
 fn stress_words<'a>(alloc: Global) -> Result<Command<'a>, AllocError> {
     Command::new(alloc, "stress")
         .disable_help_flag(true)
@@ -52,16 +53,16 @@ fn no_command<'a>(alloc: Global) -> Command<'a> {
         .subcommand_required(true)
 }
 
-/// What the command line may be: a subcommand for each row of the program's table.
-pub fn command_line<'a>(alloc: Global) -> Result<Command<'a>, AllocError> {
+/// What the command line may be: a subcommand for each of the program's commands.
+pub(crate) fn command_line<'a>(alloc: Global) -> Result<Command<'a>, AllocError> {
     no_command(alloc)
         .subcommand(run_words(alloc)?)?
         .subcommand(threads_words(alloc)?)?
         .subcommand(stress_words(alloc)?)
 }
 
-/// A refused parse is no row of the table, except out of memory.
-pub fn refused(error: &Error) -> Fault
+/// A refused parse is that of no command, except out of memory.
+pub(crate) fn refused(error: &Error) -> Fault
     ensures { write_faults (Err result) ≡ 0 }
 {
     if error.kind() == ErrorKind::OutOfMemory {
@@ -72,7 +73,7 @@ pub fn refused(error: &Error) -> Fault
 }
 
 /// The number that an option is given, which has to lie in this range.
-pub fn number_given(
+pub(crate) fn number_given(
     given: &ArgMatches<'_>,
     option: &str,
     least: u64,
@@ -82,17 +83,12 @@ pub fn number_given(
     ensures most { IfOk result (λ n. n ≤ most) }
     ensures bad { IfErr result (λ fault. fault ≡ BadCommand) }
 {
-    let Some(text) = given.get_str(option) else {
-        return Err(Fault::BadCommand);
-    };
-    let Some(n) = number_in(text.as_bytes(), least, most) else {
-        return Err(Fault::BadCommand);
-    };
-    Ok(n)
+    let text = given.get_str(option).ok_or(Fault::BadCommand)?;
+    number_in(text.as_bytes(), least, most).ok_or(Fault::BadCommand)
 }
 
 /// The number of pages that a heap is to have.
-pub fn pages_given(given: &ArgMatches<'_>) -> Result<u32, Fault>
+pub(crate) fn pages_given(given: &ArgMatches<'_>) -> Result<u32, Fault>
     ensures some { IfOk result (λ pages. 1 ≤ pages) }
     ensures most { IfOk result (λ pages. pages ≤ MAX_PAGES) }
     ensures bad { IfErr result (λ fault. fault ≡ BadCommand) }
@@ -102,15 +98,12 @@ pub fn pages_given(given: &ArgMatches<'_>) -> Result<u32, Fault>
 }
 
 /// The number of helpers of a pause: one where none is given.
-pub fn helpers_given(given: &ArgMatches<'_>) -> Result<Helpers, Fault>
+pub(crate) fn helpers_given(given: &ArgMatches<'_>) -> Result<Helpers, Fault>
     ensures { IfErr result (λ fault. fault ≡ BadCommand) }
 {
     let number = match given.get_str("helpers") {
         Some(_) => number_given(given, "helpers", 1, u64::from(MAX_HELPERS))?,
         None => 1,
     };
-    let Some(helpers) = Helpers::new(number as u8) else {
-        return Err(Fault::BadCommand);
-    };
-    Ok(helpers)
+    Helpers::new(number as u8).ok_or(Fault::BadCommand)
 }

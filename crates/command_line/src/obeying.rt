@@ -42,8 +42,9 @@ fn run<F: Files, I: Source, O: Sink>(
     let Some(path) = given.get_str("file") else {
         return faulted(run_script(alloc, input, output, pages));
     };
-    let Ok(file) = fs::open(files, path) else {
-        return Err(Fault::Read);
+    let file = match fs::open(files, path) {
+        Ok(file) => file,
+        Err(error) => return Err(Fault::of_read(&error)),
     };
     faulted(run_script(alloc, &mut Std::new(file), output, pages))
 }
@@ -78,8 +79,9 @@ fn threads<R: Files + Threads + Wait + Sync, O: Sink>(
     let Some(path) = given.get_str("file") else {
         return Err(Fault::BadCommand);
     };
-    let Ok(file) = fs::open(rt, path) else {
-        return Err(Fault::Read);
+    let file = match fs::open(rt, path) {
+        Ok(file) => file,
+        Err(error) => return Err(Fault::of_read(&error)),
     };
     run_open(alloc, rt, &mut Std::new(file), output, pages, helpers)
 }
@@ -95,7 +97,7 @@ fn stress<O: Sink>(alloc: Global, given: &ArgMatches<'_>, output: &mut O) -> Res
 }
 
 /// Does what the words that were read say.
-pub fn obey<R: Files + Threads + Wait + Sync, I: Source, O: Sink>(
+pub(crate) fn obey<R: Files + Threads + Wait + Sync, I: Source, O: Sink>(
     alloc: Global,
     rt: &R,
     words: &ArgMatches<'_>,

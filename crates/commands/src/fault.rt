@@ -16,7 +16,7 @@ use std::io::{Error, ErrorKind};
 /// Why the program ends with a status that isn't 0.
 #[derive(Clone, Copy, Debug, PartialEq, Eq)]
 pub enum Fault {
-    /// The words are of no row of the program's table.
+    /// The words are of no command, or a number is out of its range.
     BadCommand,
 
     /// The line of this number is bad.

@@ -115,7 +115,7 @@ fn a_fault_that_cannot_be_told(rt: HostRuntime) {
     assert_eq!(rt; status, 2);
 }
 
-// Words that are of no row of the table.
+// Words that are of no command.
 const BAD_COMMANDS: [&[&str]; 28] = [
     &[],
     &["run"],
