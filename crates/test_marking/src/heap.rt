@@ -136,8 +136,7 @@ impl Heap {
         if address % WORD_BYTES != 0 {
             return false;
         }
-        // Its clauses tell what is true of the map.
-        let _pages = self.map.len();
+        self.map.laws();
         let Some(_) = self.map.find(address) else {
             return false;
         };

@@ -8,6 +8,6 @@ invariant_of-self c =
     rw c.write.ensures
     (record {
       pages = ap length c.written.ensures.written.dirty ∙ length-set c.self.inside.marker.dirty _ _ ∙ c.self.invariant.pages;
-      listed = word_written c.self.inside.memory c.self.inside.map c.args.address c.args.word c.in-Some.field-0 c.len-pages.ensures.laid c.find.ensures.lawful c.self.invariant.listed (sym c.in-Some.ensures.found) (omega arith);
+      listed = word_written c.self.inside.memory c.self.inside.map c.args.address c.args.word c.in-Some.field-0 c.laws.ensures.laid c.find.ensures.lawful c.self.invariant.listed (sym c.in-Some.ensures.found) (omega arith);
       invariant = c.written.ensures.keeps _ _ c.args.word c.self.invariant.invariant;
     })
