@@ -29,7 +29,7 @@ vacant_at (suc n) zero = refl
 vacant_at (suc n) (suc who) = vacant_at n who
 
 -- no slot has a mutator when a heap opens
-none_at_first : (s : HeapState) (who : ℕ) → s.run ≡ [] → is_attached (heap_of s) who ≡ false
+pub none_at_first : (s : HeapState) (who : ℕ) → s.run ≡ [] → is_attached (heap_of s) who ≡ false
 none_at_first s who e = ap (λ r. is_attached (heap_after (fresh s.pages) r) who) e ∙ vacant_at 16 who
 
 -- a slot has a mutator exactly where it may have a pass
@@ -54,7 +54,7 @@ step_mutator s u by Sweep reply b ne h = absurd h.fits
 step_mutator s u by Number reply b ne h = absurd h.fits
 
 -- the collector makes no first call
-step_collector : (s u : HeapState) (by : ℕ) (event : Event) (reply : Reply) → by ≡ 16 → StateStep s by event reply u → is_first (rank_of event) ≡ false
+pub step_collector : (s u : HeapState) (by : ℕ) (event : Event) (reply : Reply) → by ≡ 16 → StateStep s by event reply u → is_first (rank_of event) ≡ false
 step_collector s u by Attach reply e h = let lt = h.fits.0 in absurd (omega arith)
 step_collector s u by (Mutator slot call) reply e h = let lt = h.fits.range in absurd (omega arith)
 step_collector s u by Begin reply e h = refl

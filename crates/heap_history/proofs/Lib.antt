@@ -11,3 +11,6 @@ pub mod Places
 pub mod Loaded
 pub mod Owning
 pub mod OwnWords
+pub mod Coming
+pub mod Alone
+pub mod Others

@@ -1,7 +1,8 @@
 -- What follows from the headline for a caller.
-use Rattle.std.specs.Prelude.{◌≡◌, ◌≢◌, ℕ, ◌+◌, ◌*◌, ◌<◌, ◌≤◌, ◌⊎◌, true, All, List, [], ◌∷◌}
+use Rattle.std.specs.Prelude.{◌≡◌, ◌≢◌, ℕ, ◌+◌, ◌*◌, ◌<◌, ◌≤◌, ◌⊎◌, true, All, List, [], ◌∷◌, length, nat_eq}
 use mathlib.Core.List.{IsPrefix}
-use Rattle.history.specs.Histories.{count}
+use Rattle.std.specs.List.{IsDistinct}
+use Rattle.history.specs.Histories.{count, Legal}
 use Rattle.heap_spec.specs.declared.call.Call.{Call}
 use Rattle.heap_spec.specs.declared.call.Call.TheVariants.{Detach, Set, Copy, Add, Sub, Get, Push, Pop, Load, Store, Alloc, Free, Base, Size, GlobalGet, GlobalPut}
 use Rattle.heap_spec.specs.declared.event.Event.{Event}
@@ -10,11 +11,13 @@ use Rattle.heap_spec.specs.declared.reply.Reply.{Reply}
 use Rattle.heap_spec.specs.declared.reply.Reply.TheVariants.{Done, Word}
 use Rattle.heap_spec.specs.Runs.{Told}
 use Rattle.heap_spec.specs.Histories.{LegalHistory}
+use Rattle.heap_spec.specs.SequentialObject.{Opens, StateStep}
 use Rattle.words.specs.declared.limits.TheConstants.{SLOTS, WORD_BYTES}
 use Rattle.words.specs.declared.class.Kind.{Kind}
 use Rattle.heap_history.specs.Ranks.{rank_of}
 use Rattle.heap_history.specs.Passes.{Entry, HeapPass, IsLegalPass, begins_with_attach}
-use Rattle.heap_history.specs.Headline.{Makes}
+use Rattle.heap_history.specs.Headline.{Looks, Makes}
+use Rattle.heap_history.specs.Alone.{attaches, slots_of, AreAlone, CameIn}
 
 -- what these events tell after those that were told, the newest first
 abbrev pub tells : List Told → List Entry → List Told
@@ -125,3 +128,33 @@ MineBegins = (pages : ℕ) (pass : HeapPass) → IsLegalPass pages pass → pass
 -- What a pass sees has at least as many collections as what it had seen.
 abbrev pub CountGrows : Type 0
 CountGrows = (old new : HeapPass) → IsPrefix old.seen new.seen → count rank_of old.seen ≤ count rank_of new.seen
+
+-- Where no more mutators came in a history than there are passes of different slots that did, nobody else had a part in it.
+abbrev pub NobodyElseCame : Type 0
+NobodyElseCame = (pages : ℕ) (history : List Entry) (passes : List HeapPass) → Legal (Opens pages) StateStep history → IsDistinct nat_eq (slots_of passes) → All (CameIn pages history) passes
+    → attaches history ≤ length passes → AreAlone (slots_of passes) history
+
+-- Another mutator, which has seen this whole history, stored and freed nothing since it came.
+pub record LeftWords (pages : ℕ) (history : List Entry) (pass : HeapPass) : Type 0 where
+  pub seen : pass.seen ≡ history
+  pub fine : IsLegalPass pages pass
+  pub left : All (λ (e : Entry). LeavesWords e.call) pass.mine
+
+-- A call after a look is a call: so a mutator may look, and wait by it, between two calls.
+abbrev pub LooksThenMakes : Type 0
+LooksThenMakes = (pages : ℕ) (old mid new : HeapPass) (call : Call) (reply : Reply) → Looks pages old mid → Makes pages mid call reply new → Makes pages old call reply new
+
+-- Where nobody but a mutator and these others had a part in a history, and the others stored and freed nothing, no call of the mutator has
+-- a store or a free between it and what the mutator had seen.
+abbrev pub OthersLeaveWords : Type 0
+OthersLeaveWords = (pages : ℕ) (history : List Entry) → Legal (Opens pages) StateStep history → (me : ℕ) (others : List HeapPass) → AreAlone (me ∷ slots_of others) history
+    → All (LeftWords pages history) others → (old new : HeapPass) (call : Call) (reply : Reply) → old.slot ≡ me → IsPrefix new.seen history → Makes pages old call reply new
+    → MakesAfterNoWrite pages old call reply new × MakesAfterNoFree pages old call reply new
+
+-- A mutator allocates an object, puts a word into another register, stores it in the object, and later loads it from there. Where nobody but
+-- the mutator and these others had a part in the history, and the others stored and freed nothing, the load answers that word, whatever
+-- cycles ran between.
+abbrev pub AloneWordStays : Type 0
+AloneWordStays = (pages d n r w k e : ℕ) (kind : Kind) (reply : Reply) (start made set stored loaded : HeapPass) (history : List Entry) (others : List HeapPass) → d ≢ r → k < n
+    → Makes pages start (Alloc d n kind) Done made → Makes pages made (Set r w) Done set → Makes pages set (Store d k r) Done stored → Makes pages stored (Load e d k) reply loaded
+    → Legal (Opens pages) StateStep history → IsPrefix loaded.seen history → AreAlone (start.slot ∷ slots_of others) history → All (LeftWords pages history) others → reply ≡ Word w

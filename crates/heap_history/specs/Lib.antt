@@ -1,5 +1,6 @@
 pub mod Ranks
 pub mod Passes
+pub mod Alone
 pub mod Headline
 pub mod Replies
 pub mod Laws

@@ -40,6 +40,7 @@ impl<O: Object, J: Naming> Log<O, J> {
         let add = weight_of(&O::rank(call));
         let reply = logged.object.act(who, call);
         self.begin::<Brand>(&mut logged.keeper, add, who, call, &reply);
+        logged.begun = logged.begun.saturating_add(1);
         let seat = self.table.shared.split_seat::<Returns>(&mut logged.keeper);
         let pass = Pass {
             slot: who,

@@ -1,8 +1,8 @@
-//! The object under the lock, with the seat that knows the whole history.
+//! The object under the lock, with the seat that knows the whole history and a count of how often a slot began.
 ghost use Rattle.std.specs.Prelude.{◌≡◌};
 ghost use Rattle.std.specs.Fn.{FnOnceReturnsAtMut};
 ghost use Rattle.history.specs.Objects.{KeepsStates};
-ghost use Rattle.history.specs.Histories.{StandsAfter};
+ghost use Rattle.history.specs.Histories.{StandsAfter, counted_up, firsts};
 
 use crate::object::{Object, Quiet};
 use crate::rule::Naming;
@@ -14,12 +14,14 @@ use std::marker::{Model, PhantomData};
 #[derive(Drop)]
 pub struct Logged<O: Object, J: Naming> {
     pub(crate) object: O,
+    pub(crate) begun: u64,
     pub(crate) keeper: Seat<(), View<O::Call, O::Reply>>,
     pub(crate) of: PhantomData<J>,
 }
 
 impl<O: Object, J: Naming> Model for Logged<O, J> {
-    ghost use Rattle.history.specs.Histories.{StandsAfter};
+    ghost use Rattle.std.specs.Prelude.{◌≡◌};
+    ghost use Rattle.history.specs.Histories.{StandsAfter, counted_up, firsts};
     ghost use Rattle.history.specs.Passes.{Recorded};
     ghost use Rattle.history.specs.Rules.{IsKeeper};
 
@@ -28,7 +30,8 @@ impl<O: Object, J: Naming> Model for Logged<O, J> {
     ghost view = { λ l. record { object = l.object; history = l.keeper.me.0.log } };
 
     ghost invariant = { λ l. IsKeeper J.table l.keeper.table_id l.keeper.me.0
-        × StandsAfter (O.opens J.origin) O.step O.stands l.keeper.me.0.log l.object };
+        × StandsAfter (O.opens J.origin) O.step O.stands l.keeper.me.0.log l.object
+        × (l.begun ≡ counted_up (firsts O.rank_of l.keeper.me.0.log)) };
 }
 
 impl<O: Object, J: Naming> Logged<O, J> {
@@ -38,6 +41,13 @@ impl<O: Object, J: Naming> Logged<O, J> {
         ensures stands { StandsAfter (O.opens J.origin) O.step O.stands self.now.history self.now.object }
     {
         &self.object
+    }
+
+    /// How often a slot's first call was made in the history, and 2^64 - 1 where it was made so often or more.
+    pub fn firsts(&self) -> u64
+        ensures { result ≡ counted_up (firsts O.rank_of self.now.history) }
+    {
+        self.begun
     }
 
     /// Runs work on the object that is no event: the history stays as it is.

@@ -73,6 +73,7 @@ impl<O: Object> Opened<O> {
         let log = Log { table, of };
         let logged = Logged {
             object,
+            begun: 0,
             keeper,
             of: PhantomData,
         };

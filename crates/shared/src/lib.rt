@@ -8,6 +8,7 @@
 #![tactic(auto)]
 
 mod calls;
+mod coming;
 mod cycles;
 mod ending;
 mod heap;

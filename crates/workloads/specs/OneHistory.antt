@@ -1,5 +1,5 @@
 -- What a run of a workload on threads is answered: there is one history that explains all replies.
-use Rattle.std.specs.Prelude.{◌≡◌, ℕ, ◌<◌, Bool, true, false, not, if◌then◌else◌, List, [], ◌∷◌, ◌++◌, length, slice_index_or}
+use Rattle.std.specs.Prelude.{◌≡◌, ℕ, ◌<◌, ◌⊎◌, Bool, true, false, not, if◌then◌else◌, All, List, [], ◌∷◌, ◌++◌, length, slice_index_or}
 use mathlib.Core.List.{IsPrefix}
 use Rattle.history.specs.declared.object.TheConstants.{COLLECTOR}
 use Rattle.history.specs.Histories.{event, own, Legal, Reaches}
@@ -13,6 +13,7 @@ use Rattle.heap_spec.specs.Transcripts.{LineOf}
 use Rattle.heap_spec.specs.SequentialObject.{HeapState, Opens, StateStep}
 use Rattle.heap_history.specs.Ranks.{rank_of}
 use Rattle.heap_history.specs.Passes.{Entry}
+use Rattle.heap_history.specs.Alone.{all_of}
 use Rattle.workloads.specs.Workloads.{ActorLines}
 use Rattle.workloads.specs.Printing.{ActorReplies}
 
@@ -22,10 +23,10 @@ events_of slot [] replies = []
 events_of slot (call ∷ calls) [] = []
 events_of slot (call ∷ calls) (reply ∷ replies) = event slot (Mutator slot call) reply ∷ events_of slot calls replies
 
--- A mutator's part of a history: its events are its attach and then its calls with these replies, in their order.
+-- A mutator's part of a history: all events of its slot are its attach and then its calls with these replies, in their order.
 pub record IsMutatorsPart (history : List Entry) (slot : ℕ) (calls : List Call) (replies : List Reply) : Type 0 where
   pub size : length replies ≡ length calls
-  pub events : own rank_of slot history ≡ event slot Attach (Slot slot) ∷ events_of slot calls replies
+  pub events : all_of slot history ≡ event slot Attach (Slot slot) ∷ events_of slot calls replies
 
 -- the reply is a refusal
 abbrev pub is_refusal : Reply → Bool
@@ -77,16 +78,18 @@ AreAnswered pages history mine (command ∷ commands) [] = ⊥
 AreAnswered pages history mine (command ∷ commands) (reply ∷ replies) =
     (is_in_history command reply ≡ false → IsAnsweredAmong pages history mine command reply) × AreAnswered pages history (mine ++ left_by command reply) commands replies
 
--- The collector's part of a history: its events are its granted begins, finishes and collects with these replies, in their order, and
+-- The collector's part of a history: all its events are its granted begins, finishes and collects with these replies, in their order, and
 -- its other commands are answered between them.
 pub record IsCollectorsPart (pages : ℕ) (history : List Entry) (commands : List Event) (replies : List Reply) : Type 0 where
-  pub events : own rank_of COLLECTOR history ≡ left_by_all commands replies
+  pub events : all_of COLLECTOR history ≡ left_by_all commands replies
   pub answers : AreAnswered pages history [] commands replies
 
--- There is one legal history of a heap of so many pages, of which each actor's lines with its replies are its part.
+-- There is one legal history of a heap of so many pages, of which each actor's lines with its replies are its part, and nobody else had a
+-- part in it.
 pub record HaveOneHistory (pages : ℕ) (lists : ActorLines) (replies : ActorReplies) : Type 0 where
   pub history : List Entry
   pub legal : Legal (Opens pages) StateStep history
+  pub alone : All (λ (e : Entry). (e.who < length lists.mutators) ⊎ (e.who ≡ COLLECTOR)) history
   pub size : length replies.mutators ≡ length lists.mutators
   pub mutators : (slot : ℕ) → slot < length lists.mutators → IsMutatorsPart history slot (slice_index_or lists.mutators slot []) (slice_index_or replies.mutators slot [])
   pub collector : IsCollectorsPart pages history lists.collector replies.collector

@@ -146,7 +146,11 @@ fn run_on<J: Naming + Send + Sync, R: Threads + Wait + Sync, G: Gate>(
     } = other;
     // A look, by which the collector's pass is known to agree with what it has seen, also where it gave no command.
     let _collections = on.heap.gc_no_of(&mut collector);
-    settle(&mut collector, jobs.as_mut_slice());
+    let came = settle(on.rt, on.heap, &mut collector, jobs.as_mut_slice());
+    if came != workload.mutators() as u64 {
+        // Another mutator came, and went or stayed: what was answered may be owed to it.
+        return Err(AllocError);
+    }
     take_replies(jobs, &mut replies);
     Ok(Replies::new(replies, Lines::of(answers)))
 }
@@ -184,7 +188,7 @@ fn run_named<J: Naming + Send + Sync, R: Threads + Wait + Sync, G: Gate>(
 /// waits for an actor without a bound waits for good where that actor was refused its thread.
 ///
 /// # Errors
-/// [`RunError::Memory`]: memory, a mutator's slot or a thread could not be had.
+/// [`RunError::Memory`]: memory, a mutator's slot or a thread could not be had, or a mutator came that isn't the workload's.
 pub fn run_threads<R: Threads + Wait + Sync, G: Gate>(
     rt: &R,
     alloc: Global,

@@ -3,7 +3,10 @@ use Rattle.std.proofs.Math.ListN.{length-set}
 use native.Mathlib.Decide.{ℕ_discrete}
 use mathlib.Core.List.{IsPrefix}
 use Rattle.history.proofs.Fronts.{prefix_self, prefix_trans}
+use Rattle.history.proofs.Growing.{prefix_of}
 use Rattle.workloads.specs.declared.mutator_job.MutatorJob.{MutatorJob}
+use Rattle.history.specs.Histories.{counted_up}
+use Rattle.heap_history.specs.Alone.{attaches}
 use Rattle.heap_history.specs.Passes.{Entry, IsLegalPass}
 use Rattle.workloads.specs.Actors.{Keeps}
 use Rattle.workloads.proofs.settling.settle.Goals as goal
@@ -71,8 +74,25 @@ loop-k-preserved g c =
           (λ _. subst (λ (s : List Entry). IsPrefix s all) (sym h.both) (prefix_self all))
           (λ ne. subst (λ (s : List Entry). IsPrefix (get_or l n d).attached.seen s) (sym stays) (v.begins n d k))
           (ℕ_discrete n i);
+      count = v.count ∙ ap (λ (s : List Entry). counted_up (attaches s)) (sym stays);
       met = λ n d k. set_each (λ (j : MutatorJob g.row.J.Denot g.row.R.Denot). (j.attached.seen ≡ all) × IsLegalPass g.J.Naming.origin j.attached) l i x lt n d
           (λ _. (h.both, h.fine))
           (λ ne. let m = v.met n d (omega arith) in (m.0 ∙ sym stays, m.1))
           (ℕ_discrete n i);
+    }
+
+-- the look that tells the number shows the collector more, perhaps
+pub loop-k-init : goal.loop-k-init
+loop-k-init g c =
+    let v = c.loop-i.invariant in
+    let looks = c.attaches_of-came.ensures.looks in
+    let more = prefix_of c.loop-i.collector.slot c.loop-i.collector.seen c.attaches_of-came.new.collector.seen looks.seen in record {
+      keeps = record { slot = looks.slot ∙ v.keeps.slot; mine = looks.mine ∙ v.keeps.mine };
+      grows = prefix_trans c.args.collector.now.seen c.loop-i.collector.seen c.attaches_of-came.new.collector.seen v.grows more;
+      fine = looks.fine;
+      len = v.len;
+      same = v.same;
+      begins = λ n d k. prefix_trans (get_or c.loop-i.jobs n d).attached.seen c.loop-i.collector.seen c.attaches_of-came.new.collector.seen (v.seen n d (omega (arith, k, v.len))) more;
+      count = c.attaches_of-came.ensures.count;
+      met = λ n d k. absurd (omega (arith, k));
     }

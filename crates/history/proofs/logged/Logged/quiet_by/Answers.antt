@@ -10,6 +10,7 @@ invariant_of-self g c =
         reached = was.reached;
         stood_for = c.requires.keeps _ _ _ (record { shown = _; shows = refl; left = _; met = c.work.ensures; leaves = refl }) was.state was.stood_for;
       },
+      c.self.invariant.2,
     )
 
 pub returns-clause-gives : goal.returns-clause-gives

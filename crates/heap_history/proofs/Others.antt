@@ -1,0 +1,169 @@
+-- What is known of the others where all that had a part in a history are known.
+use Rattle.std.proofs.Common.{◌≡◌, ◌≢◌, ℕ, ◌<◌, ◌==◌, Bool, true, false, cond, List, [], ◌∷◌, ◌++◌, length, refl, sym, ap, ◌∙◌, subst, arith, eq-eqb, true≢false, append_assoc, ⊎_elim}
+use Rattle.std.specs.Prelude.{All, Contains, filter, slice_index_or}
+use Rattle.std.proofs.lemmas.Bool.{cases_Bool}
+use Rattle.std.proofs.lemmas.List.Elements.{All-nil, All-cons, All-head, All-tail, All-map, All-weaker, All-contains}
+use mathlib.Core.List.{IsPrefix}
+use Rattle.words.specs.declared.class.Kind.{Kind}
+use Rattle.history.specs.Histories.{event, own, AreOfOthers, Walks, Legal}
+use Rattle.history.proofs.Fronts.{prefix_trans}
+use Rattle.heap_spec.specs.declared.call.Call.{Call}
+use Rattle.heap_spec.specs.declared.call.Call.TheVariants.{Detach, Set, Copy, Add, Sub, Get, Push, Pop, Load, Store, Alloc, Free, Base, Size, GlobalGet, GlobalPut}
+use Rattle.heap_spec.specs.declared.event.Event.{Event}
+use Rattle.heap_spec.specs.declared.event.Event.TheVariants.{Attach, Mutator, Begin, Roots, Mark, Retrace, Finish, Sweep, Collect, Number}
+use Rattle.heap_spec.specs.declared.reply.Reply.{Reply}
+use Rattle.heap_spec.specs.declared.reply.Reply.TheVariants.{Done, Word}
+use Rattle.heap_spec.specs.SequentialObject.{HeapState, Opens, StateStep}
+use Rattle.heap_history.specs.Ranks.{rank_of}
+use Rattle.heap_history.specs.Passes.{Entry, HeapPass}
+use Rattle.heap_history.specs.Headline.{Looks, Makes}
+use Rattle.heap_history.specs.Alone.{all_of, slots_of, AreAlone}
+use Rattle.heap_history.specs.Laws.{IsNoFreeCall, IsNoFree, LeavesWordsCall, LeavesWords, LeftWords, CallsLeaveRegister, MakesAfterNoWrite, MakesAfterNoFree}
+use Rattle.heap_history.proofs.OwnWords.{own_word}
+
+-- what holds of all that a test keeps holds where it is passed
+unfilter : (P : Entry → Type 0) (p : Entry → Bool) (es : List Entry) → All P (filter p es) → All (λ e. p e ≡ true → P e) es
+unfilter P p [] all = All-nil (λ e. p e ≡ true → P e)
+unfilter P p (e ∷ es) all = ⊎_elim
+    (λ (kept : p e ≡ true).
+    let both : All P (e ∷ filter p es) = subst (λ (b : Bool). All P (cond b (e ∷ filter p es) (filter p es))) kept all in
+    All-cons (λ x. p x ≡ true → P x) e es (λ is. All-head P e (filter p es) both) (unfilter P p es (All-tail P e (filter p es) both)))
+    (λ (left : p e ≡ false).
+    let rest : All P (filter p es) = subst (λ (b : Bool). All P (cond b (e ∷ filter p es) (filter p es))) left all in
+    All-cons (λ x. p x ≡ true → P x) e es (λ is. absurd (true≢false (sym is ∙ left))) (unfilter P p es rest))
+    (cases_Bool (p e))
+
+all_first : (P : Entry → Type 0) (xs ys : List Entry) → All P (xs ++ ys) → All P xs
+all_first P [] ys all = All-nil P
+all_first P (x ∷ xs) ys all = All-cons P x xs (All-head P x (xs ++ ys) all) (all_first P xs ys (All-tail P x (xs ++ ys) all))
+
+all_rest : (P : Entry → Type 0) (xs ys : List Entry) → All P (xs ++ ys) → All P ys
+all_rest P [] ys all = all
+all_rest P (x ∷ xs) ys all = all_rest P xs ys (All-tail P x (xs ++ ys) all)
+
+-- the collector stores and frees nothing
+step_leaves : (s u : HeapState) (who : ℕ) (asked : Event) (reply : Reply) → StateStep s who asked reply u → who ≡ 16 → LeavesWords asked
+step_leaves s u who Attach reply h is = tt
+step_leaves s u who (Mutator slot call) reply h is = let lt = h.fits.range in absurd (omega (arith, lt, is))
+step_leaves s u who Begin reply h is = tt
+step_leaves s u who Finish reply h is = tt
+step_leaves s u who Collect reply h is = tt
+step_leaves s u who Roots reply h is = tt
+step_leaves s u who (Mark n) reply h is = tt
+step_leaves s u who Retrace reply h is = tt
+step_leaves s u who Sweep reply h is = tt
+step_leaves s u who Number reply h is = tt
+
+walks_leaves : (s t : HeapState) (es : List Entry) → Walks StateStep s es t → All (λ (e : Entry). e.who ≡ 16 → LeavesWords e.call) es
+walks_leaves s t [] w = All-nil (λ (e : Entry). e.who ≡ 16 → LeavesWords e.call)
+walks_leaves s t (e ∷ es) w = All-cons (λ (x : Entry). x.who ≡ 16 → LeavesWords x.call) e es (step_leaves s w.0 e.who e.call e.reply w.1) (walks_leaves w.0 t es w.2)
+
+call_frees : (call : Call) → LeavesWordsCall call → IsNoFreeCall call
+call_frees Detach l = tt
+call_frees (Set r w) l = tt
+call_frees (Copy r a) l = tt
+call_frees (Add r a n) l = tt
+call_frees (Sub r a b) l = tt
+call_frees (Get r) l = tt
+call_frees (Push r) l = tt
+call_frees (Pop r) l = tt
+call_frees (Load r a n) l = tt
+call_frees (Store a n r) l = tt
+call_frees (Alloc r n kind) l = tt
+call_frees (Free r) l = l
+call_frees (Base r a) l = tt
+call_frees (Size r) l = tt
+call_frees (GlobalGet r g) l = tt
+call_frees (GlobalPut g r) l = tt
+
+event_frees : (asked : Event) → LeavesWords asked → IsNoFree asked
+event_frees Attach l = tt
+event_frees (Mutator slot call) l = call_frees call l
+event_frees Begin l = tt
+event_frees Finish l = tt
+event_frees Collect l = tt
+event_frees Roots l = tt
+event_frees (Mark n) l = tt
+event_frees Retrace l = tt
+event_frees Sweep l = tt
+event_frees Number l = tt
+
+module _ (pages : ℕ) (history : List Entry) (legal : Legal (Opens pages) StateStep history) (me : ℕ) (others : List HeapPass) (alone : AreAlone (me ∷ slots_of others) history)
+    (left : All (LeftWords pages history) others) where
+  -- one of the others, at this slot
+  abbrev Other : ℕ → Type 0
+  Other slot = slot ≢ me → (p : HeapPass) × LeftWords pages history p × (p.slot ≡ slot)
+
+  each_other : All Other (me ∷ slots_of others)
+  each_other = All-cons Other me (slots_of others) (λ ne. absurd (ne refl))
+      (All-map Other (λ (p : HeapPass). p.slot) others (All-weaker (LeftWords pages history) (λ (p : HeapPass). Other p.slot) (λ p l ne. (p, l, refl)) others left))
+
+  -- what they did, at one place of the history
+  left_at : (k : ℕ) (d : Entry) (slot : ℕ) → k < length history → Contains (me ∷ slots_of others) slot → slot ≢ me → (slice_index_or history k d).who ≡ slot → LeavesWords (slice_index_or history k d).call
+  left_at k d slot lt among ne is =
+      let by = All-contains Other (me ∷ slots_of others) slot each_other among ne in
+      let p = by.0 in
+      let all : own rank_of slot history ≡ all_of slot history = All-contains (λ s. own rank_of s history ≡ all_of s history) (me ∷ slots_of others) slot alone.lives among in
+      let mine : p.mine ≡ all_of slot history = by.1.fine.owned.own_is ∙ ((λ j. own rank_of (by.2 j) (by.1.seen j)) ∙ all) in
+      unfilter (λ (e : Entry). LeavesWords e.call) (λ (e : Entry). e.who == slot) history (subst (λ (l : List Entry). All (λ (e : Entry). LeavesWords e.call) l) mine by.1.left) k d lt (eq-eqb _ slot is)
+
+  pub others_left : All (λ (e : Entry). e.who ≢ me → LeavesWords e.call) history
+  others_left = λ k d lt ne. ⊎_elim
+      (λ among. left_at k d (slice_index_or history k d).who lt among ne refl)
+      (λ collector. walks_leaves legal.1.0 legal.0 history legal.1.2 k d lt collector)
+      (alone.members k d lt)
+
+  -- so a call of the one is made undisturbed
+  pub undisturbed : (old new : HeapPass) (call : Call) (reply : Reply) → old.slot ≡ me → IsPrefix new.seen history → Makes pages old call reply new → MakesAfterNoWrite pages old call reply new × MakesAfterNoFree pages old call reply new
+  undisturbed old new call reply is within makes =
+      let ext = makes.extends in
+      let e = event old.slot (Mutator old.slot call) reply in
+      let parts : history ≡ old.seen ++ (ext.between ++ (e ∷ within.0)) = sym within.1 ∙ (ap (λ l. l ++ within.0) ext.seen ∙ (append_assoc (old.seen ++ ext.between) (e ∷ []) within.0 ∙ append_assoc old.seen ext.between (e ∷ within.0))) in
+      let part : All (λ (x : Entry). x.who ≢ me → LeavesWords x.call) ext.between =
+      all_first (λ (x : Entry). x.who ≢ me → LeavesWords x.call) ext.between (e ∷ within.0) (all_rest (λ (x : Entry). x.who ≢ me → LeavesWords x.call) old.seen (ext.between ++ (e ∷ within.0)) (subst (λ (l : List Entry). All (λ (x : Entry). x.who ≢ me → LeavesWords x.call) l) parts others_left)) in
+      let words : All (λ (x : Entry). LeavesWords x.call) ext.between = λ k d lt. part k d lt (subst (λ (n : ℕ). (slice_index_or ext.between k d).who ≢ n) is (ext.others k d lt)) in
+      (record { makes = makes; left = words }, record { makes = makes; kept = λ k d lt. event_frees (slice_index_or ext.between k d).call (words k d lt) })
+
+-- a call after a look is a call
+pub looks_makes : (pages : ℕ) (old mid new : HeapPass) (call : Call) (reply : Reply) → Looks pages old mid → Makes pages mid call reply new → Makes pages old call reply new
+looks_makes pages old mid new call reply looks makes =
+    let ext = makes.extends in
+    let g = looks.seen in
+    let slot = looks.slot in
+    subst (λ (n : ℕ). Makes pages (record { slot = n; seen = old.seen; mine = old.mine }) call reply new) refl (record {
+      extends = record {
+        slot = ext.slot ∙ slot;
+        between = g.between ++ ext.between;
+        others = all_both (λ (x : Entry). x.who ≢ old.slot) g.between ext.between g.others (subst (λ (n : ℕ). AreOfOthers n ext.between) slot ext.others);
+        seen = ext.seen ∙ ((λ j. ((sym g.whole j) ++ ext.between) ++ event (slot j) (Mutator (slot j) call) reply ∷ []) ∙ ap (λ l. l ++ event old.slot (Mutator old.slot call) reply ∷ []) (append_assoc old.seen g.between ext.between));
+        mine = ext.mine ∙ (λ j. looks.mine j ++ event (slot j) (Mutator (slot j) call) reply ∷ []);
+        fine = ext.fine;
+      };
+      has_slot = makes.has_slot;
+    })
+  where
+    all_both : (P : Entry → Type 0) (xs ys : List Entry) → All P xs → All P ys → All P (xs ++ ys)
+    all_both P [] ys a b = b
+    all_both P (x ∷ xs) ys a b = All-cons P x (xs ++ ys) (All-head P x xs a) (all_both P xs ys (All-tail P x xs a) b)
+
+-- what a pass had seen begins what it sees after a call
+made_seen : (pages : ℕ) (old new : HeapPass) (call : Call) (reply : Reply) (history : List Entry) → Makes pages old call reply new → IsPrefix new.seen history → IsPrefix old.seen history
+made_seen pages old new call reply history makes within =
+    let ext = makes.extends in
+    prefix_trans old.seen new.seen history
+    (ext.between ++ event old.slot (Mutator old.slot call) reply ∷ [], sym (append_assoc old.seen ext.between (event old.slot (Mutator old.slot call) reply ∷ [])) ∙ sym ext.seen)
+    within
+
+pub alone_word : (pages d n r w k e : ℕ) (kind : Kind) (reply : Reply) (start made set stored loaded : HeapPass) (history : List Entry) (others : List HeapPass) → d ≢ r → k < n
+    → Makes pages start (Alloc d n kind) Done made → Makes pages made (Set r w) Done set → Makes pages set (Store d k r) Done stored → Makes pages stored (Load e d k) reply loaded
+    → Legal (Opens pages) StateStep history → IsPrefix loaded.seen history → AreAlone (start.slot ∷ slots_of others) history → All (LeftWords pages history) others → reply ≡ Word w
+alone_word pages d n r w k e kind reply start made set stored loaded history others ne lt first second third fourth legal within alone left =
+    let slot1 = first.extends.slot in
+    let slot2 = second.extends.slot ∙ slot1 in
+    let slot3 = third.extends.slot ∙ slot2 in
+    let within3 = made_seen pages stored loaded (Load e d k) reply history fourth within in
+    let within2 = made_seen pages set stored (Store d k r) Done history third within3 in
+    let calm2 = undisturbed pages history legal start.slot others alone left made set (Set r w) Done slot1 within2 second in
+    let calm3 = undisturbed pages history legal start.slot others alone left set stored (Store d k r) Done slot2 within3 third in
+    let calm4 = undisturbed pages history legal start.slot others alone left stored loaded (Load e d k) reply slot3 within fourth in
+    own_word pages d n r w k e kind reply start made made set stored loaded ne lt first CallsLeaveRegister.nothing calm2.1 calm3.1 calm4.0

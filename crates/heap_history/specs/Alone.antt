@@ -1,0 +1,32 @@
+-- Who had a part in a history: how many mutators came, and that nobody else did.
+use Rattle.std.specs.Prelude.{◌≡◌, ℕ, ◌<◌, ◌==◌, ◌⊎◌, All, Contains, List, filter, map}
+use mathlib.Core.List.{IsPrefix}
+use Rattle.words.specs.declared.limits.TheConstants.{SLOTS}
+use Rattle.history.specs.declared.object.TheConstants.{COLLECTOR}
+use Rattle.history.specs.Histories.{firsts, own}
+use Rattle.heap_history.specs.Ranks.{rank_of}
+use Rattle.heap_history.specs.Passes.{Entry, HeapPass, IsLegalPass}
+
+-- How many mutators came. An attach is an event only where it is granted.
+abbrev pub attaches : List Entry → ℕ
+attaches history = firsts rank_of history
+
+-- all events of a slot, in their order, also those before its last attach
+abbrev pub all_of : ℕ → List Entry → List Entry
+all_of slot history = filter (λ (e : Entry). e.who == slot) history
+
+-- the slots of passes
+abbrev pub slots_of : List HeapPass → List ℕ
+slots_of passes = map (λ (p : HeapPass). p.slot) passes
+
+-- Nobody but a mutator at each of these slots, in one life, and the collector had a part in the history.
+pub record AreAlone (slots : List ℕ) (history : List Entry) : Type 0 where
+  pub members : All (λ (e : Entry). Contains slots e.who ⊎ (e.who ≡ COLLECTOR)) history
+  pub lives : All (λ slot. own rank_of slot history ≡ all_of slot history) slots
+  pub collector : own rank_of COLLECTOR history ≡ all_of COLLECTOR history
+
+-- the pass is that of a mutator that came in this history
+pub record CameIn (pages : ℕ) (history : List Entry) (pass : HeapPass) : Type 0 where
+  pub mutator : pass.slot < SLOTS
+  pub fine : IsLegalPass pages pass
+  pub within : IsPrefix pass.seen history
