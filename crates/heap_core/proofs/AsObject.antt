@@ -8,7 +8,7 @@ use Rattle.heap_spec.specs.declared.event.Event.{Event}
 use Rattle.heap_spec.specs.declared.event.Event.TheVariants.{Attach, Mutator, Begin, Roots, Mark, Retrace, Finish, Sweep, Collect, Number}
 use Rattle.heap_spec.specs.declared.reply.Reply.{Reply}
 use Rattle.heap_spec.specs.Heap.{Heap}
-use Rattle.heap_spec.specs.Runs.{Start, Run, TouchRule, Touched, fresh, is_marking, goes_on}
+use Rattle.heap_spec.specs.Runs.{Start, Run, Touched, fresh, is_marking, goes_on}
 use Rattle.heap_spec.specs.Histories.{Happens}
 use Rattle.heap_spec.specs.Transcripts.{LineOf, IsWrongPhase}
 use Rattle.heap_spec.specs.Ranges.{InRange}
@@ -47,22 +47,22 @@ can_right c who Collect marking is can wrong = wrong
 can_right c who Number marking is can wrong = wrong
 
 -- So its line goes on by what happens.
-happened : (touched : TouchRule) (start : Start) (run : Run) (s : Heap) (who : ℕ) {event : Event} {reply : Reply} {next : Run} → LineOf touched start run event reply next → MayMake s who event → (IsWrongPhase (is_marking start run) event → ⊥)
-    → (s' : Heap) × Happens touched start run event reply s' × (next ≡ goes_on run event reply s')
-happened touched start run s who (LineOf.happens {s' = s'} h) fits right = (s', h, refl)
-happened touched start run s who (LineOf.refused wrong) fits right = absurd (right wrong)
-happened touched start run s who (LineOf.roots on) fits right = absurd fits
-happened touched start run s who (LineOf.mark on few) fits right = absurd fits
-happened touched start run s who (LineOf.retrace on few) fits right = absurd fits
-happened touched start run s who (LineOf.sweep few) fits right = absurd fits
-happened touched start run s who LineOf.number fits right = absurd fits
+happened : (start : Start) (run : Run) (s : Heap) (who : ℕ) {event : Event} {reply : Reply} {next : Run} → LineOf start run event reply next → MayMake s who event → (IsWrongPhase (is_marking start run) event → ⊥)
+    → (s' : Heap) × Happens start run event reply s' × (next ≡ goes_on run event reply s')
+happened start run s who (LineOf.happens {s' = s'} h) fits right = (s', h, refl)
+happened start run s who (LineOf.refused wrong) fits right = absurd (right wrong)
+happened start run s who (LineOf.roots on) fits right = absurd fits
+happened start run s who (LineOf.mark on few) fits right = absurd fits
+happened start run s who (LineOf.retrace on few) fits right = absurd fits
+happened start run s who (LineOf.sweep few) fits right = absurd fits
+happened start run s who LineOf.number fits right = absurd fits
 
 pub line_steps : (old new : Contents) (who : ℕ) (event : Event) (reply : Reply) → Can old who event → InRange event → IsLine old event reply new → StepsFrom Stands StateStep old who event reply new
 line_steps old new who event reply can range line state follows =
     let start = fresh state.pages in
     let next = line start state.run follows in
     let fits = can_fits old (heap_of state) who event follows.stands can in
-    let went = happened Touched start state.run (heap_of state) who next.1 fits (can_right old who event (is_marking start state.run) follows.phase can) in (
+    let went = happened start state.run (heap_of state) who next.1 fits (can_right old who event (is_marking start state.run) follows.phase can) in (
       record { pages = state.pages; run = next.0 },
       record { fits = fits; in_range = range; heap = went.0; happens = went.1; goes = ap (λ (run : Run). record { pages = state.pages; run = run }) went.2 },
       next.2,
@@ -81,33 +81,33 @@ IsQuiet Sweep = Unit {0}
 IsQuiet Collect = ⊥
 IsQuiet Number = Unit {0}
 
-nothing_happens : (touched : TouchRule) (start : Start) (run : Run) (event : Event) (reply : Reply) (s' : Heap) → IsQuiet event → Happens touched start run event reply s' → ⊥
-nothing_happens touched start run Attach reply s' quiet h = quiet
-nothing_happens touched start run (Mutator slot call) reply s' quiet h = quiet
-nothing_happens touched start run Begin reply s' quiet h = quiet
-nothing_happens touched start run Roots reply s' quiet h = h
-nothing_happens touched start run (Mark n) reply s' quiet h = h
-nothing_happens touched start run Retrace reply s' quiet h = h
-nothing_happens touched start run Finish reply s' quiet h = quiet
-nothing_happens touched start run Sweep reply s' quiet h = h
-nothing_happens touched start run Collect reply s' quiet h = quiet
-nothing_happens touched start run Number reply s' quiet h = h
+nothing_happens : (start : Start) (run : Run) (event : Event) (reply : Reply) (s' : Heap) → IsQuiet event → Happens start run event reply s' → ⊥
+nothing_happens start run Attach reply s' quiet h = quiet
+nothing_happens start run (Mutator slot call) reply s' quiet h = quiet
+nothing_happens start run Begin reply s' quiet h = quiet
+nothing_happens start run Roots reply s' quiet h = h
+nothing_happens start run (Mark n) reply s' quiet h = h
+nothing_happens start run Retrace reply s' quiet h = h
+nothing_happens start run Finish reply s' quiet h = quiet
+nothing_happens start run Sweep reply s' quiet h = h
+nothing_happens start run Collect reply s' quiet h = quiet
+nothing_happens start run Number reply s' quiet h = h
 
 -- its line leaves the run as it is
-run_stays : (touched : TouchRule) (start : Start) (run : Run) {event : Event} {reply : Reply} {next : Run} → IsQuiet event → LineOf touched start run event reply next → next ≡ run
-run_stays touched start run {event = event} {reply = reply} quiet (LineOf.happens {s' = s'} h) = absurd (nothing_happens touched start run event reply s' quiet h)
-run_stays touched start run quiet (LineOf.refused wrong) = refl
-run_stays touched start run quiet (LineOf.roots on) = refl
-run_stays touched start run quiet (LineOf.mark on few) = refl
-run_stays touched start run quiet (LineOf.retrace on few) = refl
-run_stays touched start run quiet (LineOf.sweep few) = refl
-run_stays touched start run quiet LineOf.number = refl
+run_stays : (start : Start) (run : Run) {event : Event} {reply : Reply} {next : Run} → IsQuiet event → LineOf start run event reply next → next ≡ run
+run_stays start run {event = event} {reply = reply} quiet (LineOf.happens {s' = s'} h) = absurd (nothing_happens start run event reply s' quiet h)
+run_stays start run quiet (LineOf.refused wrong) = refl
+run_stays start run quiet (LineOf.roots on) = refl
+run_stays start run quiet (LineOf.mark on few) = refl
+run_stays start run quiet (LineOf.retrace on few) = refl
+run_stays start run quiet (LineOf.sweep few) = refl
+run_stays start run quiet LineOf.number = refl
 
 -- so that the core stands afterwards for all that it stood for
 pub line_stays : (old new : Contents) (event : Event) (reply : Reply) → IsQuiet event → IsLine old event reply new → (state : HeapState) → Stands old state → Stands new state
 line_stays old new event reply quiet line state follows =
     let next = line (fresh state.pages) state.run follows in
-    subst (λ (run : Run). Follows new (fresh state.pages) run) (run_stays Touched (fresh state.pages) state.run quiet next.1) next.2
+    subst (λ (run : Run). Follows new (fresh state.pages) run) (run_stays (fresh state.pages) state.run quiet next.1) next.2
 
 -- Closing the marks is no event either.
 pub closes_stay : (old new : Contents) (r : Result ⊤ Refusal) → IsGrantedInPhase true old r new (λ _. ClosesMarks old new) → (state : HeapState) → Stands old state → Stands new state

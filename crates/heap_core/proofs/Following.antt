@@ -31,7 +31,7 @@ use Rattle.heap_core.specs.Following.{Follows, IsLine, AreLines}
 
 -- what a step is to a run
 pub record IsMoment (start : Start) (run : Run) (event : Event) (reply : Reply) (s' : Heap) : Type 0 where
-  pub happens : Happens Touched start run event reply s'
+  pub happens : Happens start run event reply s'
   pub marking : marking_after event (is_marking start run) ≡ is_marking start run
   pub counts : counted event ≡ 0
   pub touches : (birth : ℕ) → IsInClosure s' (λ b. Touched start run b ⊎ IsBornSince (heap_after start run) b) birth → touched_after event (Touched start run) (heap_after start run) s' birth
@@ -81,7 +81,7 @@ module _ (old : Contents) (event : Event) (reply : Reply) (new : Contents) (call
     touched = λ is base o has marked. moment.touches o.birth (base, o, has, refl, given has (touches (sym call.phase ∙ is) base o has marked));
   }
 
-  line : (next : Run) × LineOf Touched start run event reply next × Follows new start next
+  line : (next : Run) × LineOf start run event reply next × Follows new start next
   line = (goes_on run event reply after, LineOf.happens moment.happens, next_follows)
 
 pub call_line : (old : Contents) (event : Event) (reply : Reply) (new : Contents) → IsCall old event reply new → IsLine old event reply new
@@ -169,9 +169,9 @@ collect_line old new n all start run follows =
     )
 
 -- A refused call of the collector is a line that leaves the run as it is.
-wrong_line : (old new : Contents) (event : Event) (why : Refusal) → why ≡ WrongPhase → new ≡ old → ((start : Start) (run : Run) → Follows old start run → LineOf Touched start run event (Refused WrongPhase) run) → IsLine old event (Refused why) new
+wrong_line : (old new : Contents) (event : Event) (why : Refusal) → why ≡ WrongPhase → new ≡ old → ((start : Start) (run : Run) → Follows old start run → LineOf start run event (Refused WrongPhase) run) → IsLine old event (Refused why) new
 wrong_line old new event why is same line start run follows =
-    (run, subst (λ w. LineOf Touched start run event (Refused w) run) (sym is) (line start run follows), subst (λ c. Follows c start run) (sym same) follows)
+    (run, subst (λ w. LineOf start run event (Refused w) run) (sym is) (line start run follows), subst (λ c. Follows c start run) (sym same) follows)
 
 pub begin_result : (old new : Contents) (r : Result ⊤ Refusal) → IsGrantedInPhase false old r new (λ _. BeginsCycle old new) → IsLine old Begin (done_reply r) new
 begin_result old new (Ok done) g = begin_line old new g.0 g.1
@@ -216,10 +216,10 @@ sweep_result old new (Ok n) g = λ start run follows. (
 sweep_result old new (Err why) g = absurd g
 
 pub number_line : (c : Contents) → IsLine c Number (Count c.cycle.count) c
-number_line c start run follows = (run, subst (λ n. LineOf Touched start run Number (Count n) run) (sym follows.count) LineOf.number, follows)
+number_line c start run follows = (run, subst (λ n. LineOf start run Number (Count n) run) (sym follows.count) LineOf.number, follows)
 
 -- One line more.
-transcript_more : (start : Start) {run mid last : Run} {lines : List Told} → LegalTranscript Touched start run lines mid → (event : Event) (reply : Reply) → LineOf Touched start mid event reply last → LegalTranscript Touched start run (lines ++ record { event = event; reply = reply } ∷ []) last
+transcript_more : (start : Start) {run mid last : Run} {lines : List Told} → LegalTranscript start run lines mid → (event : Event) (reply : Reply) → LineOf start mid event reply last → LegalTranscript start run (lines ++ record { event = event; reply = reply } ∷ []) last
 transcript_more start LegalTranscript.ends event reply line = LegalTranscript.on line LegalTranscript.ends
 transcript_more start (LegalTranscript.on first rest) event reply line = LegalTranscript.on first (transcript_more start rest event reply line)
 

@@ -21,7 +21,7 @@ pub record Follows (c : Contents) (start : Start) (run : Run) : Type 0 where
 
 -- From each run that the core followed, the event with its reply is a line of a legal transcript to one that it follows.
 abbrev pub IsLine : Contents → Event → Reply → Contents → Type 0
-IsLine old event reply new = (start : Start) (run : Run) → Follows old start run → (next : Run) × LineOf Touched start run event reply next × Follows new start next
+IsLine old event reply new = (start : Start) (run : Run) → Follows old start run → (next : Run) × LineOf start run event reply next × Follows new start next
 
 -- the events with their replies
 abbrev pub told_of : List Event → List Reply → List Told
@@ -31,4 +31,4 @@ told_of (event ∷ events) (reply ∷ replies) = record { event = event; reply =
 
 -- The same of many events with their replies.
 abbrev pub AreLines : Contents → List Told → Contents → Type 0
-AreLines old lines new = (start : Start) (run : Run) → Follows old start run → (last : Run) × LegalTranscript Touched start run lines last × Follows new start last
+AreLines old lines new = (start : Start) (run : Run) → Follows old start run → (last : Run) × LegalTranscript start run lines last × Follows new start last

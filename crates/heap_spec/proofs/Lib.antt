@@ -6,3 +6,4 @@ pub mod Runs
 pub mod Loads
 pub mod Outcomes
 pub mod Births
+pub mod Touching

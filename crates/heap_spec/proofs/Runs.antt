@@ -19,7 +19,7 @@ use Rattle.heap_spec.proofs.Objects.{without_some, without_other, same_object}
 use Rattle.heap_spec.proofs.Calls.{calls_kept, attaches_kept, takes_out_kept, opening_is}
 
 -- what happens next keeps the heap sound
-pub happens_kept : (start : Start) (run : Run) (event : Event) (reply : Reply) (s' : Heap) → IsSound (heap_after start run) → InRange event → Happens Touched start run event reply s' → IsSound s'
+pub happens_kept : (start : Start) (run : Run) (event : Event) (reply : Reply) (s' : Heap) → IsSound (heap_after start run) → InRange event → Happens start run event reply s' → IsSound s'
 happens_kept start run Attach reply s' h range step = attaches_kept _ h step
 happens_kept start run (Mutator slot call) reply s' h range step = calls_kept _ slot call h range.1 step
 happens_kept start run Begin reply s' h range step = subst IsSound (sym step.1.1) h

@@ -5,27 +5,27 @@ use Rattle.heap_spec.specs.declared.event.Event.TheVariants.{Attach, Mutator, Be
 use Rattle.heap_spec.specs.declared.reply.Reply.{Reply}
 use Rattle.heap_spec.specs.Heap.{Heap}
 use Rattle.heap_spec.specs.Steps.{Step}
-use Rattle.heap_spec.specs.Runs.{Told, Run, Start, TouchRule, Touched, fresh, heap_after, is_marking}
+use Rattle.heap_spec.specs.Runs.{Told, Run, Start, Touched, fresh, heap_after, is_marking}
 use Rattle.heap_spec.specs.Cycles.{Begins, Forgets, CollectsFully}
 
--- What may happen next in a run, by a rule on what is touched: an event, its reply and the heap after it. A cycle begins only
+-- What may happen next in a run: an event, its reply and the heap after it. A cycle begins only
 -- while none is marking and ends only while one is. The collector's other calls are no events of a history.
-abbrev pub Happens : TouchRule → Start → Run → Event → Reply → Heap → Type 0
-Happens touched start run Attach reply s' = Step (heap_after start run) Attach reply s'
-Happens touched start run (Mutator slot call) reply s' = Step (heap_after start run) (Mutator slot call) reply s'
-Happens touched start run Begin reply s' = (is_marking start run ≡ false) × Begins (heap_after start run) reply s'
-Happens touched start run Roots reply s' = ⊥
-Happens touched start run (Mark n) reply s' = ⊥
-Happens touched start run Retrace reply s' = ⊥
-Happens touched start run Finish reply s' = (is_marking start run ≡ true) × Forgets (heap_after start run) (touched start run) reply s'
-Happens touched start run Sweep reply s' = ⊥
-Happens touched start run Collect reply s' = CollectsFully (heap_after start run) reply s'
-Happens touched start run Number reply s' = ⊥
+abbrev pub Happens : Start → Run → Event → Reply → Heap → Type 0
+Happens start run Attach reply s' = Step (heap_after start run) Attach reply s'
+Happens start run (Mutator slot call) reply s' = Step (heap_after start run) (Mutator slot call) reply s'
+Happens start run Begin reply s' = (is_marking start run ≡ false) × Begins (heap_after start run) reply s'
+Happens start run Roots reply s' = ⊥
+Happens start run (Mark n) reply s' = ⊥
+Happens start run Retrace reply s' = ⊥
+Happens start run Finish reply s' = (is_marking start run ≡ true) × Forgets (heap_after start run) (Touched start run) reply s'
+Happens start run Sweep reply s' = ⊥
+Happens start run Collect reply s' = CollectsFully (heap_after start run) reply s'
+Happens start run Number reply s' = ⊥
 
 -- each moment of a run may happen after those before it
 abbrev pub IsRun : Start → Run → Type 0
 IsRun start [] = Unit {0}
-IsRun start (m ∷ run) = Happens Touched start run m.told.event m.told.reply m.heap × IsRun start run
+IsRun start (m ∷ run) = Happens start run m.told.event m.told.reply m.heap × IsRun start run
 
 -- A history, the newest event first, is legal if it is what some run of a new heap tells.
 abbrev pub LegalHistory : ℕ → List Told → Type 0

@@ -56,7 +56,7 @@ RunsAreSound = (pages : ℕ) (run : Run) → IsFreshRun pages run → IsSound (h
 
 -- whatever happens next leaves a sound heap sound
 abbrev pub HappensKeepsSound : Type 0
-HappensKeepsSound = (start : Start) (run : Run) (event : Event) (reply : Reply) (s' : Heap) → IsSound (heap_after start run) → InRange event → Happens Touched start run event reply s' → IsSound s'
+HappensKeepsSound = (start : Start) (run : Run) (event : Event) (reply : Reply) (s' : Heap) → IsSound (heap_after start run) → InRange event → Happens start run event reply s' → IsSound s'
 
 -- each object of a sound heap has words, lies in the heap, and begins at a granule
 abbrev pub ObjectsLieInHeap : Type 0
@@ -88,11 +88,11 @@ HasOnlyReached s s' = (base : ℕ) (p : Object) → HasObject s' base p → ((o 
 
 -- the end of a cycle keeps what is reached
 abbrev pub FinishKeepsReached : Type 0
-FinishKeepsReached = (start : Start) (run : Run) (reply : Reply) (s' : Heap) → Happens Touched start run Finish reply s' → KeepsReached (heap_after start run) s'
+FinishKeepsReached = (start : Start) (run : Run) (reply : Reply) (s' : Heap) → Happens start run Finish reply s' → KeepsReached (heap_after start run) s'
 
 -- a full collection keeps what is reached, and no other object
 abbrev pub CollectKeepsReached : Type 0
-CollectKeepsReached = (start : Start) (run : Run) (reply : Reply) (s' : Heap) → Happens Touched start run Collect reply s'
+CollectKeepsReached = (start : Start) (run : Run) (reply : Reply) (s' : Heap) → Happens start run Collect reply s'
     → KeepsReached (heap_after start run) s' × HasOnlyReached (heap_after start run) s'
 
 -- The object was there before the step, or was born in it.

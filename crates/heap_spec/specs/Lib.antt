@@ -15,3 +15,4 @@ pub mod SequentialObject
 -- The laws.
 pub mod Sound
 pub mod Laws
+pub mod Touching

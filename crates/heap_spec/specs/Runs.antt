@@ -76,16 +76,8 @@ abbrev pub touched_after : Event → (ℕ → Type 0) → Heap → Heap → ℕ 
 touched_after Begin before old new = IsReachedBirth new
 touched_after _ before old new = StaysTouched before old new
 
--- A rule says which births are touched after a run from a start: the end of a cycle forgets the objects of all others.
-abbrev pub TouchRule : Type 1
-TouchRule = Start → Run → ℕ → Type 0
-
 -- The touched births: at the Begin of a cycle those of the reached objects, and after each later event the closure of those
 -- before and of what the event allocated. Of a cycle that was marking at the start nothing is known.
-abbrev pub Touched : TouchRule
+abbrev pub Touched : Start → Run → ℕ → Type 0
 Touched start [] birth = start.marking ≡ true
 Touched start (m ∷ run) birth = touched_after m.told.event (Touched start run) (heap_after start run) m.heap birth
-
--- every birth is touched: the rule of one who doesn't work it out, so that the end of a cycle may keep any object
-abbrev pub AllTouched : TouchRule
-AllTouched start run birth = Unit {0}

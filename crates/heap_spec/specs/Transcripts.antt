@@ -6,7 +6,7 @@ use Rattle.heap_spec.specs.declared.event.Event.TheVariants.{Attach, Mutator, Be
 use Rattle.heap_spec.specs.declared.reply.Reply.{Reply}
 use Rattle.heap_spec.specs.declared.reply.Reply.TheVariants.{Done, Count, Refused}
 use Rattle.heap_spec.specs.Heap.{Heap}
-use Rattle.heap_spec.specs.Runs.{Start, Run, Told, TouchRule, is_marking, count, goes_on}
+use Rattle.heap_spec.specs.Runs.{Start, Run, Told, is_marking, count, goes_on}
 use Rattle.heap_spec.specs.Histories.{Happens}
 
 -- The phase forbids the command: a cycle begins only while none is marking, and marks and ends only while one is.
@@ -24,17 +24,17 @@ IsWrongPhase marking Number = ⊥
 
 -- How a run goes on by one command with its reply: by what happens, or not at all, since refused calls of the collector,
 -- its small steps and its count are no events. The heap has no marker, so it leaves their replies open within these ranges.
-pub data LineOf (touched : TouchRule) (start : Start) (run : Run) : Event → Reply → Run → Type 0 where
-  happens : {event : Event} {reply : Reply} {s' : Heap} → Happens touched start run event reply s' → LineOf touched start run event reply (goes_on run event reply s')
-  refused : {event : Event} → IsWrongPhase (is_marking start run) event → LineOf touched start run event (Refused WrongPhase) run
-  roots : is_marking start run ≡ true → LineOf touched start run Roots Done run
-  mark : {most n : ℕ} → is_marking start run ≡ true → n ≤ most → LineOf touched start run (Mark most) (Count n) run
-  retrace : {n : ℕ} → is_marking start run ≡ true → n ≤ 1 → LineOf touched start run Retrace (Count n) run
-  sweep : {n : ℕ} → n ≤ 1 → LineOf touched start run Sweep (Count n) run
-  number : LineOf touched start run Number (Count (count start run)) run
+pub data LineOf (start : Start) (run : Run) : Event → Reply → Run → Type 0 where
+  happens : {event : Event} {reply : Reply} {s' : Heap} → Happens start run event reply s' → LineOf start run event reply (goes_on run event reply s')
+  refused : {event : Event} → IsWrongPhase (is_marking start run) event → LineOf start run event (Refused WrongPhase) run
+  roots : is_marking start run ≡ true → LineOf start run Roots Done run
+  mark : {most n : ℕ} → is_marking start run ≡ true → n ≤ most → LineOf start run (Mark most) (Count n) run
+  retrace : {n : ℕ} → is_marking start run ≡ true → n ≤ 1 → LineOf start run Retrace (Count n) run
+  sweep : {n : ℕ} → n ≤ 1 → LineOf start run Sweep (Count n) run
+  number : LineOf start run Number (Count (count start run)) run
 
 -- A legal transcript is commands with their replies, one after another, from one run to another.
-pub data LegalTranscript (touched : TouchRule) (start : Start) : Run → List Told → Run → Type 0 where
-  ends : {run : Run} → LegalTranscript touched start run [] run
-  on : {run mid last : Run} {told : Told} {lines : List Told} → LineOf touched start run told.event told.reply mid
-      → LegalTranscript touched start mid lines last → LegalTranscript touched start run (told ∷ lines) last
+pub data LegalTranscript (start : Start) : Run → List Told → Run → Type 0 where
+  ends : {run : Run} → LegalTranscript start run [] run
+  on : {run mid last : Run} {told : Told} {lines : List Told} → LineOf start run told.event told.reply mid
+      → LegalTranscript start mid lines last → LegalTranscript start run (told ∷ lines) last

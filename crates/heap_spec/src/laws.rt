@@ -1,6 +1,7 @@
 //! The laws of the sequential heap. Each is a function that does nothing, and its contract is the law: what the
 //! definitions in `specs/` say must be right if these hold.
 ghost use Rattle.heap_spec.specs.Laws.{ClosureIsLeast, ClosureIsMonotone, ClosureIsIdempotent, RunsAreSound, HappensKeepsSound, ObjectsLieInHeap, ReadsAtMostOne, TouchedIsClosed, TouchedHoldsReached, FinishKeepsReached, CollectKeepsReached, StepBirths, LoadAnswersStored, RefusedChangesNothing, CallsHaveOneOutcome};
+ghost use Rattle.heap_spec.specs.Touching.{CallTouches, AttachTouches, RootTouchesNothing, StoreTouchesNothing, SoundObjectsAreApart};
 
 /// The closure of some births is the least set of objects that its rules keep.
 pub fn closure_is_least()
@@ -75,4 +76,29 @@ pub fn refused_changes_nothing()
 /// A call has one reply, and one heap after it but for the place of an allocation.
 pub fn calls_have_one_outcome()
     ensures { CallsHaveOneOutcome }
+{}
+
+/// A call touches what was touched, and what the one word leads to that it brought.
+pub fn call_touches()
+    ensures { CallTouches }
+{}
+
+/// A mutator that comes touches nothing.
+pub fn attach_touches()
+    ensures { AttachTouches }
+{}
+
+/// A word that was a root word touches nothing but what is new.
+pub fn root_touches_nothing()
+    ensures { RootTouchesNothing }
+{}
+
+/// A store touches nothing.
+pub fn store_touches_nothing()
+    ensures { StoreTouchesNothing }
+{}
+
+/// The objects of a sound heap are apart.
+pub fn sound_objects_are_apart()
+    ensures { SoundObjectsAreApart }
 {}

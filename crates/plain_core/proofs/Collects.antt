@@ -39,11 +39,11 @@ pub in_row : {A : Type 0} (row : List A) (i : ℕ) (x : A) → slice_get row i �
 in_row row i x at = (i, slice_get_within row i x at, get_or_from_slice_get row i x x at)
 
 -- the words that are read of an object are those of a Normal one
-read_of : (kind : Kind) (words : List ℕ) (w : ℕ) → Contains (read_words kind words) w → (kind ≡ Normal) × Contains words w
+pub read_of : (kind : Kind) (words : List ℕ) (w : ℕ) → Contains (read_words kind words) w → (kind ≡ Normal) × Contains words w
 read_of Normal words w has = (refl, has)
 read_of PointerFree words w has = absurd (let lt = has.1 in omega arith)
 
-read_in : (kind : Kind) (words : List ℕ) (w : ℕ) → kind ≡ Normal → Contains words w → Contains (read_words kind words) w
+pub read_in : (kind : Kind) (words : List ℕ) (w : ℕ) → kind ≡ Normal → Contains words w → Contains (read_words kind words) w
 read_in Normal words w is has = has
 read_in PointerFree words w is has = let z : PointerFree ≡ Normal = is in cc
 
@@ -88,7 +88,7 @@ module _ (c : Contents) (sound : IsLaidOut c) (s : Heap) (h : StandsFor c s) whe
   roots_are = ap (λ ms. flat_map words_of ms ++ s.globals) h.mutators ∙ ap (λ gs. flat_map words_of c.roots.mutators ++ gs) h.globals
 
   -- where a word points into, the heap has an object that it reads
-  reads_at : (w i : ℕ) (p : PointsIntoPlace c.objects w i) → (e : Extent) → slice_get c.objects i ≡ Some e → (o : Object) × ReadsObject s w e.base o
+  pub reads_at : (w i : ℕ) (p : PointsIntoPlace c.objects w i) → (e : Extent) → slice_get c.objects i ≡ Some e → (o : Object) × ReadsObject s w e.base o
   reads_at w i p e at =
       let o = reads_object c sound s h e (in_row c.objects i e at) w (subst (λ (x : Extent). Reads w x.base x.length) (same_Some p.0 e (sym p.1 ∙ at)) p.2) in (o.0, o.1)
 
@@ -100,7 +100,7 @@ module _ (c : Contents) (sound : IsLaidOut c) (s : Heap) (h : StandsFor c s) whe
       word (reached_out from f r there) kept.1 (kept.2.kind ∙ link.0) (subst (λ ws. Contains ws w) (sym kept.2.words) link.1) (reads_at w i p e at).1
 
   -- the object that a word reads stands in the row
-  points_at : (w base : ℕ) (o : Object) → ReadsObject s w base o → (i : ℕ) × (e : Extent) × (slice_get c.objects i ≡ Some e) × (e.base ≡ base) × Reads w e.base e.length
+  pub points_at : (w base : ℕ) (o : Object) → ReadsObject s w base o → (i : ℕ) × (e : Extent) × (slice_get c.objects i ≡ Some e) × (e.base ≡ base) × Reads w e.base e.length
   points_at w base o r =
       let e = extent_of c sound s h base o r.0 in
       let i = at_place c.objects e.0 e.1 in

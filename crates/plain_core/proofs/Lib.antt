@@ -17,3 +17,4 @@ pub mod Claiming
 pub mod Forgets
 pub mod Answering
 pub mod Cells
+pub mod Flagging

@@ -8,3 +8,4 @@ pub mod Parting
 pub mod Claims
 pub mod Collections
 pub mod Answering
+pub mod Flags

@@ -5,6 +5,7 @@
 
 mod claims;
 mod extent;
+mod flags;
 mod given_place;
 mod listing;
 mod owners;

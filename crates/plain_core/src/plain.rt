@@ -9,6 +9,7 @@ mod collections;
 mod objects;
 mod registers;
 mod replaying;
+mod touching;
 
 use crate::extent::Extent;
 use crate::listing::Listing;

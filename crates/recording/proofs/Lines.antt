@@ -13,41 +13,19 @@ use Rattle.heap_spec.specs.declared.reply.Reply.TheVariants.{Done, Refused}
 use Rattle.heap_spec.specs.Heap.{Heap, Object, Mutator as HeapMutator, HasObject, with_at}
 use Rattle.heap_spec.specs.Cycles.{TakesOut}
 use Rattle.heap_spec.specs.Histories.{Happens}
-use Rattle.heap_spec.specs.Runs.{Start, Run, Touched, AllTouched, heap_after}
+use Rattle.heap_spec.specs.Runs.{Start, Run, Touched, heap_after}
 use Rattle.heap_spec.specs.Steps.{Acts, Attaches, Calls, acts, vacant}
 use Rattle.heap_spec.specs.Transcripts.{LineOf}
 use Rattle.heap_spec.proofs.Objects.{at_cases, with_at-same, with_at-other, without_one, without_some}
 use Rattle.heap_spec.proofs.Outcomes.{calls_refused}
 use Rattle.recording.proofs.Knowing.{HasIn}
 
--- a line is one too where every birth counts as touched
-happens_all : (start : Start) (run : Run) (event : Event) (reply : Reply) (s' : Heap) → Happens Touched start run event reply s' → Happens AllTouched start run event reply s'
-happens_all start run Finish reply s' h = (h.0, record { bases = h.1.bases; takes = h.1.takes; untouched = λ base o has ne. absurd (ne tt) })
-happens_all start run Attach reply s' h = h
-happens_all start run (Mutator slot call) reply s' h = h
-happens_all start run Begin reply s' h = h
-happens_all start run Roots reply s' h = h
-happens_all start run (Mark n) reply s' h = h
-happens_all start run Retrace reply s' h = h
-happens_all start run Sweep reply s' h = h
-happens_all start run Collect reply s' h = h
-happens_all start run Number reply s' h = h
-
-pub line_all : (start : Start) (run : Run) {event : Event} {reply : Reply} {next : Run} → LineOf Touched start run event reply next → LineOf AllTouched start run event reply next
-line_all start run (LineOf.happens {event = event} {reply = reply} {s' = s'} h) = LineOf.happens (happens_all start run event reply s' h)
-line_all start run (LineOf.refused wrong) = LineOf.refused wrong
-line_all start run (LineOf.roots m) = LineOf.roots m
-line_all start run (LineOf.mark m few) = LineOf.mark m few
-line_all start run (LineOf.retrace m few) = LineOf.retrace m few
-line_all start run (LineOf.sweep few) = LineOf.sweep few
-line_all start run LineOf.number = LineOf.number
-
 -- at most one object is born
 acts_few : (s : Heap) (slot : ℕ) (m : HeapMutator) {call : Call} {reply : Reply} {s' : Heap} → Acts s slot m call reply s' → s'.births ≤ s.births + 1
 acts_few s slot m (Acts.allocated a e room) = omega arith
 acts_few s slot m _ = omega arith
 
-happens_few : (start : Start) (run : Run) (event : Event) (reply : Reply) (s' : Heap) → Happens Touched start run event reply s' → s'.births ≤ (heap_after start run).births + 1
+happens_few : (start : Start) (run : Run) (event : Event) (reply : Reply) (s' : Heap) → Happens start run event reply s' → s'.births ≤ (heap_after start run).births + 1
 happens_few start run Attach reply s' h = attach h
   where
     attach : {reply : Reply} {s' : Heap} → Attaches (heap_after start run) reply s' → s'.births ≤ (heap_after start run).births + 1
@@ -63,19 +41,19 @@ happens_few start run Finish reply s' h = let same = ap (λ (s : Heap). s.births
 happens_few start run Collect reply s' h = let same = ap (λ (s : Heap). s.births) h.takes.after in omega arith
 happens_few start run _ reply s' h = absurd h
 
-pub line_few : (start : Start) (run : Run) {event : Event} {reply : Reply} {next : Run} → LineOf Touched start run event reply next → (heap_after start next).births ≤ (heap_after start run).births + 1
+pub line_few : (start : Start) (run : Run) {event : Event} {reply : Reply} {next : Run} → LineOf start run event reply next → (heap_after start next).births ≤ (heap_after start run).births + 1
 line_few start run (LineOf.happens {event = event} {reply = reply} {s' = s'} h) = happens_few start run event reply s' h
 line_few start run _ = omega arith
 
 -- a refused call leaves the heap
-pub refused_same : (start : Start) (run : Run) (event : Event) (reply : Reply) (why : Refusal) {next : Run} → reply ≡ Refused why → LineOf Touched start run event reply next → heap_after start next ≡ heap_after start run
-refused_same start run event reply why is (LineOf.happens {s' = s'} h) = by event (subst (λ q. Happens Touched start run event q s') is h)
+pub refused_same : (start : Start) (run : Run) (event : Event) (reply : Reply) (why : Refusal) {next : Run} → reply ≡ Refused why → LineOf start run event reply next → heap_after start next ≡ heap_after start run
+refused_same start run event reply why is (LineOf.happens {s' = s'} h) = by event (subst (λ q. Happens start run event q s') is h)
   where
     attach : {q : Reply} → q ≡ Refused why → {t : Heap} → Attaches (heap_after start run) q t → t ≡ heap_after start run
     attach e (Attaches.attached low) = absurd (cc)
     attach e (Attaches.no_slot none) = refl
 
-    by : (e : Event) → Happens Touched start run e (Refused why) s' → s' ≡ heap_after start run
+    by : (e : Event) → Happens start run e (Refused why) s' → s' ≡ heap_after start run
     by Attach h = attach refl h
     by (Mutator slot call) h = calls_refused (heap_after start run) slot call h
     by Begin h = h.1.1
@@ -118,7 +96,7 @@ IsStill _ = Unit {0}
 pub same_heap : (s s' : Heap) → s' ≡ s → HasIn s s' × HasIn s' s
 same_heap s s' is = (λ b o has. (o, ap (λ (x : Heap). x.objects b) is ∙ has), λ b o has. (o, ap (λ (x : Heap). x.objects b) (sym is) ∙ has))
 
-happens_leaves : (start : Start) (run : Run) (event : Event) (reply : Reply) (s' : Heap) → IsStill event → Happens Touched start run event reply s' → HasIn (heap_after start run) s' × HasIn s' (heap_after start run)
+happens_leaves : (start : Start) (run : Run) (event : Event) (reply : Reply) (s' : Heap) → IsStill event → Happens start run event reply s' → HasIn (heap_after start run) s' × HasIn s' (heap_after start run)
 happens_leaves start run Attach reply s' still h = attach h
   where
     attach : {q : Reply} {t : Heap} → Attaches (heap_after start run) q t → HasIn (heap_after start run) t × HasIn t (heap_after start run)
@@ -134,7 +112,7 @@ happens_leaves start run Finish reply s' still h = absurd still
 happens_leaves start run Collect reply s' still h = absurd still
 happens_leaves start run _ reply s' still h = absurd h
 
-pub line_leaves : (start : Start) (run : Run) {event : Event} {reply : Reply} {next : Run} → IsStill event → LineOf Touched start run event reply next → HasIn (heap_after start run) (heap_after start next) × HasIn (heap_after start next) (heap_after start run)
+pub line_leaves : (start : Start) (run : Run) {event : Event} {reply : Reply} {next : Run} → IsStill event → LineOf start run event reply next → HasIn (heap_after start run) (heap_after start next) × HasIn (heap_after start next) (heap_after start run)
 line_leaves start run still (LineOf.happens {event = event} {reply = reply} {s' = s'} h) = happens_leaves start run event reply s' still h
 line_leaves start run still _ = (λ b o has. (o, has), λ b o has. (o, has))
 

@@ -54,7 +54,7 @@ pub record NotesTaken (note : Note) (n : ℕ) (s s' : Heap) : Type 0 where
 -- follows. Where the objects were known it is what a yes of the checker means, with a hint that says what is noted; what a
 -- full collection took out is noted, though the checker asks for no hint there; and the objects are known afterwards.
 pub record GoesOn (old : Contents) (event : Event) (reply : Reply) (new : Contents) (start : Start) (run next : Run) : Type 0 where
-  pub line : LineOf Touched start run event reply next
+  pub line : LineOf start run event reply next
   pub follows : Follows new.core start next
   pub replay : IsKnown old.bases (heap_after start run) → (hint : Hint) → IsHint new.note hint → IsReplay hint start run event reply next
   pub gone : IsKnown old.bases (heap_after start run) → (n : ℕ) → event ≡ Collect → reply ≡ Count n → NotesTaken new.note n (heap_after start run) (heap_after start next)

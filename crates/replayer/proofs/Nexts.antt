@@ -23,7 +23,7 @@ use Rattle.heap_spec.specs.Sound.{IsSound}
 use Rattle.heap_spec.specs.Laws.{IsLegible}
 use Rattle.heap_spec.specs.Closure.{Reached}
 use Rattle.heap_spec.specs.Cycles.{CollectsFully}
-use Rattle.heap_spec.specs.Runs.{Start, Run, heap_after, is_marking, goes_on, AllTouched}
+use Rattle.heap_spec.specs.Runs.{Start, Run, heap_after, is_marking, goes_on}
 use Rattle.heap_spec.specs.Histories.{Happens}
 use Rattle.heap_spec.specs.Steps.{Acts, Calls, acts, vacant, Attaches, with_new, with_register}
 use Rattle.heap_spec.specs.Transcripts.{LineOf, IsWrongPhase}
@@ -143,7 +143,7 @@ module _ (start : Start) (run : Run) (h : IsSound (heap_after start run)) where
     born : (slot into words : ℕ) (kind : Kind) → event ≡ Mutator slot (Alloc into words kind) → reply ≡ Done → BothBorn (heap_after start run) t t'
     ended : (n : ℕ) → event ≡ Finish → reply ≡ Count n → t ≡ t'
 
-  happens_next : (event : Event) (reply : Reply) (t t' : Heap) → Happens AllTouched start run event reply t → Happens AllTouched start run event reply t' → SaidOf event reply t t' → t ≡ t'
+  happens_next : (event : Event) (reply : Reply) (t t' : Heap) → Happens start run event reply t → Happens start run event reply t' → SaidOf event reply t t' → t ≡ t'
   happens_next Attach reply t t' one other said = attach_next (heap_after start run) one other
   happens_next (Mutator slot call) reply t t' one other said = call_next (heap_after start run) h slot call reply t t' one other (λ into words kind e done. said.born slot into words kind (ap (Mutator slot) e) done)
   happens_next Begin reply t t' one other said = one.1.1 ∙ sym other.1.1
@@ -156,7 +156,7 @@ module _ (start : Start) (run : Run) (h : IsSound (heap_after start run)) where
   happens_next Number reply t t' one other said = absurd one
 
   -- what happens is no refusal by the phase
-  not_refused : (event : Event) (t : Heap) → Happens AllTouched start run event (Refused WrongPhase) t → IsWrongPhase (is_marking start run) event → ⊥
+  not_refused : (event : Event) (t : Heap) → Happens start run event (Refused WrongPhase) t → IsWrongPhase (is_marking start run) event → ⊥
   not_refused Attach t one wrong = wrong
   not_refused (Mutator slot call) t one wrong = wrong
   not_refused Begin t one wrong = refused_done one.1.0
@@ -168,7 +168,7 @@ module _ (start : Start) (run : Run) (h : IsSound (heap_after start run)) where
   not_refused Sweep t one wrong = one
   not_refused Number t one wrong = one
 
-  happens_kept : (event : Event) → InRange event → (reply : Reply) (t : Heap) → Happens AllTouched start run event reply t → IsSound t
+  happens_kept : (event : Event) → InRange event → (reply : Reply) (t : Heap) → Happens start run event reply t → IsSound t
   happens_kept Attach range reply t step = attaches_kept (heap_after start run) h step
   happens_kept (Mutator slot call) range reply t step = calls_kept (heap_after start run) slot call h range.1 step
   happens_kept Begin range reply t step = subst IsSound (sym step.1.1) h
@@ -180,7 +180,7 @@ module _ (start : Start) (run : Run) (h : IsSound (heap_after start run)) where
   happens_kept Sweep range reply t step = absurd step
   happens_kept Number range reply t step = absurd step
 
-  line_kept : (event : Event) → InRange event → {reply : Reply} {next : Run} → LineOf AllTouched start run event reply next → IsSound (heap_after start next)
+  line_kept : (event : Event) → InRange event → {reply : Reply} {next : Run} → LineOf start run event reply next → IsSound (heap_after start next)
   line_kept event range (LineOf.happens {reply = reply} {s' = t} step) = happens_kept event range reply t step
   line_kept event range (LineOf.refused wrong) = h
   line_kept event range (LineOf.roots m) = h
@@ -189,12 +189,12 @@ module _ (start : Start) (run : Run) (h : IsSound (heap_after start run)) where
   line_kept event range (LineOf.sweep one) = h
   line_kept event range LineOf.number = h
 
-  number_stays : {reply : Reply} {next : Run} → LineOf AllTouched start run Number reply next → next ≡ run
+  number_stays : {reply : Reply} {next : Run} → LineOf start run Number reply next → next ≡ run
   number_stays (LineOf.happens one) = absurd one
   number_stays (LineOf.refused wrong) = absurd wrong
   number_stays LineOf.number = refl
 
-  line_next : {event : Event} {reply : Reply} {next next' : Run} → LineOf AllTouched start run event reply next → LineOf AllTouched start run event reply next' → SaidOf event reply (heap_after start next) (heap_after start next') → next ≡ next'
+  line_next : {event : Event} {reply : Reply} {next next' : Run} → LineOf start run event reply next → LineOf start run event reply next' → SaidOf event reply (heap_after start next) (heap_after start next') → next ≡ next'
   line_next (LineOf.happens {event = event} {reply = reply} {s' = t} one) (LineOf.happens {s' = t'} other) said = ap (goes_on run event reply) (happens_next event reply t t' one other said)
   line_next (LineOf.happens {event = event} {s' = t} one) (LineOf.refused wrong) said = absurd (not_refused event t one wrong)
   line_next (LineOf.happens one) (LineOf.roots m) said = absurd one

@@ -2,7 +2,7 @@
 use Rattle.std.proofs.Common.{◌≡◌, ◌⊎◌, ℕ, ◌+◌, ◌%◌, ◌<◌, ◌≤◌, Bool, true, false, List, Bor, length, cond, eqb, refl, sym, ap, ◌∙◌, subst, arith, inl, inr, ⊎_elim}
 use Rattle.std.specs.Prelude.{Contains, None}
 use Rattle.std.specs.List.{list_any}
-use Rattle.std.proofs.lemmas.Bool.{eqb-true, eq-eqb, cond-true}
+use Rattle.std.proofs.lemmas.Bool.{eqb-true, eq-eqb, cond-true, true≢false}
 use Rattle.std.proofs.lemmas.List.Folds.{Any-from_list_any, list_any-from_Any}
 use Rattle.std.proofs.lemmas.Option.{none-some}
 use Rattle.words.specs.declared.class.Kind.{Kind}
@@ -17,21 +17,21 @@ use Rattle.heap_spec.specs.Layout.{word_end}
 use Rattle.heap_spec.specs.Heap.{Heap, Object, Mutator as HeapMutator, HasObject, without}
 use Rattle.heap_spec.specs.Cycles.{TakesOut, CollectsFully}
 use Rattle.heap_spec.specs.Replies.{IsStep}
-use Rattle.heap_spec.specs.Runs.{Start, Run, heap_after, is_marking, count, goes_on, AllTouched, marking_after, counted}
+use Rattle.heap_spec.specs.Runs.{Start, Run, heap_after, is_marking, count, goes_on, marking_after, counted}
 use Rattle.heap_spec.specs.Steps.{Acts, Calls, acts, vacant, Attaches}
 use Rattle.heap_spec.specs.Transcripts.{LineOf, IsWrongPhase}
 use Rattle.plain_core.specs.Contents.{Contents as PlainContents}
 use Rattle.plain_core.specs.Standing.{StandsFor}
 use Rattle.plain_core.specs.Answering.{IsNoStep, IsBornAt, IsAllocatedAt, CantAllocateAt}
 use Rattle.plain_core.specs.Collections.{IsCollected, CantCollect, TakesBases, CantTake, HasUnreached}
+use Rattle.plain_core.specs.Flags.{HasFlags, FlagsReached, FlagsLed, FlagsBrought, NamesUnflagged, ForgetsUnflagged, CantForget}
+use Rattle.heap_spec.specs.Touching.{HasApartObjects}
+use Rattle.heap_spec.proofs.Touching.{calls_pages, attach_pages}
 use Rattle.replayer.specs.declared.hint.Hint.{Hint}
 use Rattle.replayer.specs.declared.hint.Hint.TheVariants.{Nothing, Place, Forgot}
 use Rattle.replayer.specs.Contents.{Contents, Follows}
-use Rattle.replayer.specs.Replays.{NamesPlace, NamesBases, MayNameBases, IsReplayed, IsNoReplay}
-
--- the call is a granted request
-abbrev pub IsGrant : Call → Reply → Type 0
-IsGrant call reply = (into : ℕ) × (words : ℕ) × (kind : Kind) × (call ≡ Alloc into words kind) × (reply ≡ Done)
+use Rattle.replayer.specs.Replays.{IsGrant, NamesPlace, NamesBases, MayNameBases, IsReplayed, IsNoReplay}
+use Rattle.replayer.proofs.Telling.{attach_tell, call_tell, grant_tell, begin_tell}
 
 -- a call of a mutator leaves the count of births, but for a granted request
 acts_births : (s : Heap) (slot : ℕ) (m : HeapMutator) {call : Call} {reply : Reply} {s' : Heap} → Acts s slot m call reply s' → (IsGrant call reply → ⊥) → s'.births ≡ s.births
@@ -83,10 +83,19 @@ attach_births s (Attaches.no_slot none) = refl
 same_number : (n : ℕ) → n < word_end → (n + 0) % word_end ≡ n
 same_number n small = omega arith
 
+-- what is true of the objects of the heaps that a core stands for
+abbrev pub AreApartIn : PlainContents → Type 0
+AreApartIn c = (s : Heap) → StandsFor c s → HasApartObjects s
+
+-- as many flags as before, for as many pages
+room_as : (pages pages' : ℕ) (flags flags' : List Bool) → HasFlags pages flags → pages' ≡ pages → length flags' ≡ length flags → HasFlags pages' flags'
+room_as pages pages' flags flags' room same size = omega (arith, room, same, size)
+
 module _ (old : Contents) (small : old.number < word_end) (few : old.births < word_end) where
   -- a mutator comes
-  pub attaches : (new : PlainContents) (reply : Reply) (hint : Hint) → IsStep (StandsFor old.core) Attach reply (StandsFor new) → IsReplayed old Attach reply hint (record old { core = new })
-  attaches new reply hint steps start run f =
+  pub attaches : (new : PlainContents) (reply : Reply) (hint : Hint) → AreApartIn old.core → AreApartIn new → IsStep (StandsFor old.core) Attach reply (StandsFor new)
+      → IsReplayed old Attach reply hint (record old { core = new })
+  attaches new reply hint apart apart' steps start run f =
       let x = steps (heap_after start run) f.stands in
       let births : x.0.births ≡ (heap_after start run).births = attach_births (heap_after start run) x.1 in
       let known = f.births in (
@@ -103,20 +112,23 @@ module _ (old : Contents) (small : old.number < word_end) (few : old.births < wo
           phase = f.phase;
           number = sym (ap (λ k. (k + 0) % word_end) (sym f.number) ∙ same_number old.number small);
           births = f.births ∙ sym births;
+          room = room_as _ _ _ _ f.room (attach_pages (heap_after start run) x.1) refl;
+          touched = λ marks. attach_tell start run x.0 (sym f.phase ∙ marks) (apart (heap_after start run) f.stands) (apart' x.0 x.2) reply old.touched x.1 (f.touched marks);
         },
       )
 
   pub no_attach : (reply : Reply) (hint : Hint) → IsNoStep old.core Attach reply → IsNoReplay old Attach reply hint
   no_attach reply hint none start run next f r = stuck reply refl r.line
     where
-      stuck : (q : Reply) → q ≡ reply → {to : Run} → LineOf AllTouched start run Attach q to → ⊥
+      stuck : (q : Reply) → q ≡ reply → {to : Run} → LineOf start run Attach q to → ⊥
       stuck q is (LineOf.happens {s' = s'} happens) = none (heap_after start run) f.stands s' (subst (λ x. Attaches (heap_after start run) x s') is happens)
       stuck q is (LineOf.refused wrong) = wrong
 
   -- a call of a mutator that grants no request
-  pub calls : (new : PlainContents) (slot : ℕ) (call : Call) (reply : Reply) (hint : Hint) → (IsGrant call reply → ⊥) → IsStep (StandsFor old.core) (Mutator slot call) reply (StandsFor new)
-      → IsReplayed old (Mutator slot call) reply hint (record old { core = new })
-  calls new slot call reply hint none steps start run f =
+  pub calls : (new : PlainContents) (flags : List Bool) (slot : ℕ) (call : Call) (reply : Reply) (hint : Hint) → AreApartIn old.core → AreApartIn new → (IsGrant call reply → ⊥)
+      → IsStep (StandsFor old.core) (Mutator slot call) reply (StandsFor new) → length flags ≡ length old.touched → (old.marking ≡ true → FlagsBrought new slot call old.touched flags)
+      → IsReplayed old (Mutator slot call) reply hint (record old { core = new; touched = flags })
+  calls new flags slot call reply hint apart apart' none steps size brought start run f =
       let x = steps (heap_after start run) f.stands in
       let births : x.0.births ≡ (heap_after start run).births = calls_births (heap_after start run) slot call reply x.0 x.1 none in
       let known = f.births in (
@@ -133,21 +145,25 @@ module _ (old : Contents) (small : old.number < word_end) (few : old.births < wo
           phase = f.phase;
           number = sym (ap (λ k. (k + 0) % word_end) (sym f.number) ∙ same_number old.number small);
           births = f.births ∙ sym births;
+          room = room_as _ _ _ _ f.room (calls_pages (heap_after start run) slot call x.1) size;
+          touched = λ marks. call_tell start run x.0 (sym f.phase ∙ marks) (apart (heap_after start run) f.stands) (apart' x.0 x.2) new x.2 old.touched flags
+              (room_as _ _ _ _ f.room (sym x.2.pages ∙ calls_pages (heap_after start run) slot call x.1) refl) (f.touched marks) slot call reply x.1 none (brought marks);
         },
       )
 
   pub no_call : (slot : ℕ) (call : Call) (reply : Reply) (hint : Hint) → IsNoStep old.core (Mutator slot call) reply → IsNoReplay old (Mutator slot call) reply hint
   no_call slot call reply hint none start run next f r = stuck reply refl r.line
     where
-      stuck : (q : Reply) → q ≡ reply → {to : Run} → LineOf AllTouched start run (Mutator slot call) q to → ⊥
+      stuck : (q : Reply) → q ≡ reply → {to : Run} → LineOf start run (Mutator slot call) q to → ⊥
       stuck q is (LineOf.happens {s' = s'} happens) = none (heap_after start run) f.stands s' (subst (λ x. Calls (heap_after start run) slot call x s') is happens)
       stuck q is (LineOf.refused wrong) = wrong
 
   -- a granted request
   module _ (slot into words base : ℕ) (kind : Kind) where
-    pub grants : (new : PlainContents) → IsAllocatedAt old.core slot into words kind base new → old.births + 1 < word_end
-        → IsReplayed old (Mutator slot (Alloc into words kind)) Done (Place base) (record old { core = new; births = old.births + 1 })
-    grants new steps room start run f =
+    pub grants : (new : PlainContents) (flags : List Bool) → AreApartIn old.core → AreApartIn new → IsAllocatedAt old.core slot into words kind base new → old.births + 1 < word_end
+        → length flags ≡ length old.touched → (old.marking ≡ true → FlagsLed new base old.touched flags)
+        → IsReplayed old (Mutator slot (Alloc into words kind)) Done (Place base) (record old { core = new; births = old.births + 1; touched = flags })
+    grants new flags apart apart' steps room size led start run f =
         let x = steps (heap_after start run) f.stands in
         let births : x.0.births ≡ (heap_after start run).births + 1 = call_birth (heap_after start run) slot into words kind x.1 in
         let known = f.births in (
@@ -164,13 +180,16 @@ module _ (old : Contents) (small : old.number < word_end) (few : old.births < wo
             phase = f.phase;
             number = sym (ap (λ k. (k + 0) % word_end) (sym f.number) ∙ same_number old.number small);
             births = ap (λ k. k + 1) f.births ∙ sym births;
+            room = room_as _ _ _ _ f.room (calls_pages (heap_after start run) slot (Alloc into words kind) x.1) size;
+            touched = λ marks. grant_tell start run x.0 (sym f.phase ∙ marks) (apart (heap_after start run) f.stands) (apart' x.0 x.3) new x.3 old.touched flags
+                (room_as _ _ _ _ f.room (sym x.3.pages ∙ calls_pages (heap_after start run) slot (Alloc into words kind) x.1) refl) (f.touched marks) slot into words base kind x.1 x.2 (led marks);
           },
         )
 
     pub no_grant : CantAllocateAt old.core slot into words kind base → IsNoReplay old (Mutator slot (Alloc into words kind)) Done (Place base)
     no_grant none start run next f r = stuck r.line (r.place slot into words kind refl refl)
       where
-        stuck : {to : Run} → LineOf AllTouched start run (Mutator slot (Alloc into words kind)) Done to → IsBornAt (heap_after start run) base (heap_after start to) → ⊥
+        stuck : {to : Run} → LineOf start run (Mutator slot (Alloc into words kind)) Done to → IsBornAt (heap_after start run) base (heap_after start to) → ⊥
         stuck (LineOf.happens {s' = s'} happens) born = none (heap_after start run) f.stands s' happens born
 
   -- no request is granted where no place is named, or where births are at their end
@@ -185,7 +204,7 @@ module _ (old : Contents) (small : old.number < word_end) (few : old.births < wo
   pub no_birth : (slot into words : ℕ) (kind : Kind) (hint : Hint) → word_end ≤ old.births + 1 → IsNoReplay old (Mutator slot (Alloc into words kind)) Done hint
   no_birth slot into words kind hint most start run next f r = stuck r.line r.births
     where
-      stuck : {to : Run} → LineOf AllTouched start run (Mutator slot (Alloc into words kind)) Done to → (heap_after start to).births < word_end → ⊥
+      stuck : {to : Run} → LineOf start run (Mutator slot (Alloc into words kind)) Done to → (heap_after start to).births < word_end → ⊥
       stuck (LineOf.happens {s' = s'} happens) small =
           let births : s'.births ≡ (heap_after start run).births + 1 = call_birth (heap_after start run) slot into words kind happens in
           let known = f.births in omega arith
@@ -206,7 +225,7 @@ module _ (old : Contents) (small : old.number < word_end) (few : old.births < wo
 
   -- a command that leaves the run as it is
   stays : (event : Event) (reply : Reply) (hint : Hint) → ((slot : ℕ) (call : Call) → event ≡ Mutator slot call → ⊥) → ((event ≡ Finish) ⊎ (event ≡ Collect) → ⊥)
-      → ((start : Start) (run : Run) → Follows old start run → LineOf AllTouched start run event reply run) → IsReplayed old event reply hint old
+      → ((start : Start) (run : Run) → Follows old start run → LineOf start run event reply run) → IsReplayed old event reply hint old
   stays event reply hint other small_step line start run f = (
     run,
     record {
@@ -233,11 +252,12 @@ module _ (old : Contents) (small : old.number < word_end) (few : old.births < wo
 
   pub number_stays : (n : ℕ) (hint : Hint) → n ≡ old.number → IsReplayed old Number (Count n) hint old
   number_stays n hint is = stays Number (Count n) hint (λ slot call e. cc) (λ w. ⊎_elim (λ e. cc) (λ e. cc) w)
-      (λ start run f. subst (λ k. LineOf AllTouched start run Number (Count k) run) (sym (is ∙ f.number)) LineOf.number)
+      (λ start run f. subst (λ k. LineOf start run Number (Count k) run) (sym (is ∙ f.number)) LineOf.number)
 
   -- a cycle begins
-  pub begins : (hint : Hint) → old.marking ≡ false → IsReplayed old Begin Done hint (record old { marking = true })
-  begins hint m start run f = (
+  pub begins : (flags : List Bool) (hint : Hint) → AreApartIn old.core → length flags ≡ length old.touched → FlagsReached old.core flags → old.marking ≡ false
+      → IsReplayed old Begin Done hint (record old { marking = true; touched = flags })
+  begins flags hint apart size reached m start run f = (
     goes_on run Begin Done (heap_after start run),
     record {
       line = LineOf.happens (sym f.phase ∙ m, (refl, refl));
@@ -251,6 +271,8 @@ module _ (old : Contents) (small : old.number < word_end) (few : old.births < wo
       phase = refl;
       number = sym (ap (λ k. (k + 0) % word_end) (sym f.number) ∙ same_number old.number small);
       births = f.births;
+      room = room_as _ _ _ _ f.room refl size;
+      touched = λ marks. begin_tell start run old.core f.stands (apart (heap_after start run) f.stands) flags (room_as _ _ _ _ f.room (sym f.stands.pages) size) reached;
     },
   )
 
@@ -259,14 +281,14 @@ module _ (old : Contents) (small : old.number < word_end) (few : old.births < wo
     pub no_begin : (old.marking ≡ false → reply ≡ Done → ⊥) → (old.marking ≡ true → reply ≡ Refused WrongPhase → ⊥) → IsNoReplay old Begin reply hint
     no_begin done wrong start run next f r = stuck reply refl r.line
       where
-        stuck : (q : Reply) → q ≡ reply → {to : Run} → LineOf AllTouched start run Begin q to → ⊥
+        stuck : (q : Reply) → q ≡ reply → {to : Run} → LineOf start run Begin q to → ⊥
         stuck q is (LineOf.happens happens) = done (f.phase ∙ happens.0) (sym is ∙ happens.1.0)
         stuck q is (LineOf.refused phase) = wrong (f.phase ∙ phase) (sym is)
 
     pub no_roots : (old.marking ≡ true → reply ≡ Done → ⊥) → (old.marking ≡ false → reply ≡ Refused WrongPhase → ⊥) → IsNoReplay old Roots reply hint
     no_roots done wrong start run next f r = stuck reply refl r.line
       where
-        stuck : (q : Reply) → q ≡ reply → {to : Run} → LineOf AllTouched start run Roots q to → ⊥
+        stuck : (q : Reply) → q ≡ reply → {to : Run} → LineOf start run Roots q to → ⊥
         stuck q is (LineOf.happens happens) = happens
         stuck q is (LineOf.refused phase) = wrong (f.phase ∙ phase) (sym is)
         stuck q is (LineOf.roots m) = done (f.phase ∙ m) (sym is)
@@ -274,7 +296,7 @@ module _ (old : Contents) (small : old.number < word_end) (few : old.births < wo
     pub no_mark : (most : ℕ) → (old.marking ≡ true → (n : ℕ) → n ≤ most → reply ≡ Count n → ⊥) → (old.marking ≡ false → reply ≡ Refused WrongPhase → ⊥) → IsNoReplay old (Mark most) reply hint
     no_mark most none wrong start run next f r = stuck reply refl r.line
       where
-        stuck : (q : Reply) → q ≡ reply → {to : Run} → LineOf AllTouched start run (Mark most) q to → ⊥
+        stuck : (q : Reply) → q ≡ reply → {to : Run} → LineOf start run (Mark most) q to → ⊥
         stuck q is (LineOf.happens happens) = happens
         stuck q is (LineOf.refused phase) = wrong (f.phase ∙ phase) (sym is)
         stuck q is (LineOf.mark {n = n} m few_words) = none (f.phase ∙ m) n few_words (sym is)
@@ -282,7 +304,7 @@ module _ (old : Contents) (small : old.number < word_end) (few : old.births < wo
     pub no_retrace : (old.marking ≡ true → (n : ℕ) → n ≤ 1 → reply ≡ Count n → ⊥) → (old.marking ≡ false → reply ≡ Refused WrongPhase → ⊥) → IsNoReplay old Retrace reply hint
     no_retrace none wrong start run next f r = stuck reply refl r.line
       where
-        stuck : (q : Reply) → q ≡ reply → {to : Run} → LineOf AllTouched start run Retrace q to → ⊥
+        stuck : (q : Reply) → q ≡ reply → {to : Run} → LineOf start run Retrace q to → ⊥
         stuck q is (LineOf.happens happens) = happens
         stuck q is (LineOf.refused phase) = wrong (f.phase ∙ phase) (sym is)
         stuck q is (LineOf.retrace {n = n} m one) = none (f.phase ∙ m) n one (sym is)
@@ -290,7 +312,7 @@ module _ (old : Contents) (small : old.number < word_end) (few : old.births < wo
     pub no_sweep : ((n : ℕ) → n ≤ 1 → reply ≡ Count n → ⊥) → IsNoReplay old Sweep reply hint
     no_sweep none start run next f r = stuck reply refl r.line
       where
-        stuck : (q : Reply) → q ≡ reply → {to : Run} → LineOf AllTouched start run Sweep q to → ⊥
+        stuck : (q : Reply) → q ≡ reply → {to : Run} → LineOf start run Sweep q to → ⊥
         stuck q is (LineOf.happens happens) = happens
         stuck q is (LineOf.refused phase) = phase
         stuck q is (LineOf.sweep {n = n} one) = none n one (sym is)
@@ -298,26 +320,28 @@ module _ (old : Contents) (small : old.number < word_end) (few : old.births < wo
     pub no_number : (reply ≡ Count old.number → ⊥) → IsNoReplay old Number reply hint
     no_number none start run next f r = stuck reply refl r.line
       where
-        stuck : (q : Reply) → q ≡ reply → {to : Run} → LineOf AllTouched start run Number q to → ⊥
+        stuck : (q : Reply) → q ≡ reply → {to : Run} → LineOf start run Number q to → ⊥
         stuck q is (LineOf.happens happens) = happens
         stuck q is (LineOf.refused phase) = phase
         stuck q is LineOf.number = none (sym is ∙ ap Count (sym f.number))
 
-    pub no_finish : (old.marking ≡ false → reply ≡ Refused WrongPhase → ⊥) → (old.marking ≡ true → (s : Heap) → StandsFor old.core s → (n : ℕ) (s' : Heap) → reply ≡ Count n → NamesBases hint n s s' → ⊥) → IsNoReplay old Finish reply hint
+    pub no_finish : (old.marking ≡ false → reply ≡ Refused WrongPhase → ⊥) → (old.marking ≡ true → (s : Heap) → StandsFor old.core s → (n : ℕ) (s' : Heap) → reply ≡ Count n → NamesBases hint n s s' → (theirs : List ℕ) → s' ≡ without s theirs → NamesUnflagged s old.touched theirs → ⊥)
+        → IsNoReplay old Finish reply hint
     no_finish wrong none start run next f r = stuck reply refl r.line r.finished
       where
-        stuck : (q : Reply) → q ≡ reply → {to : Run} → LineOf AllTouched start run Finish q to
+        stuck : (q : Reply) → q ≡ reply → {to : Run} → LineOf start run Finish q to
             → ((n : ℕ) → Finish ≡ Finish → reply ≡ Count n → NamesBases hint n (heap_after start run) (heap_after start to)) → ⊥
         stuck q is (LineOf.happens {s' = s'} happens) names =
             let takes = happens.1.takes in
             let n : ℕ = length happens.1.bases in
-            none (f.phase ∙ happens.0) (heap_after start run) f.stands n s' (sym is ∙ takes.number) (names n refl (sym is ∙ takes.number))
+            none (f.phase ∙ happens.0) (heap_after start run) f.stands n s' (sym is ∙ takes.number) (names n refl (sym is ∙ takes.number)) happens.1.bases takes.after
+            (λ base o has out. happens.1.untouched base o has (λ t. out ((f.touched (f.phase ∙ happens.0) base o has).1 t)))
         stuck q is (LineOf.refused phase) names = wrong (f.phase ∙ phase) (sym is)
 
     pub no_collect : ((s : Heap) → StandsFor old.core s → (n : ℕ) (s' : Heap) → reply ≡ Count n → MayNameBases hint n s s' → CollectsFully s reply s' → ⊥) → IsNoReplay old Collect reply hint
     no_collect none start run next f r = stuck reply refl r.line r.collected
       where
-        stuck : (q : Reply) → q ≡ reply → {to : Run} → LineOf AllTouched start run Collect q to
+        stuck : (q : Reply) → q ≡ reply → {to : Run} → LineOf start run Collect q to
             → ((n : ℕ) → Collect ≡ Collect → reply ≡ Count n → MayNameBases hint n (heap_after start run) (heap_after start to)) → ⊥
         stuck q is (LineOf.happens {s' = s'} happens) names =
             let n : ℕ = length happens.bases in
@@ -338,15 +362,18 @@ taken_bases : (s : Heap) (b : Bool) (base : ℕ) (o : Object) → HasObject s ba
 taken_bases s true base o has none = refl
 taken_bases s false base o has none = absurd (none-some o (sym none ∙ has))
 
-pub same_bases : (s s' : Heap) (mine theirs : List ℕ) → s' ≡ without s mine → s' ≡ without s theirs → HasUnreached s theirs → HasUnreached s mine
-same_bases s s' mine theirs is other all base o has out =
-    let gone : (without s theirs).objects base ≡ None = gone_from (all base o has out) in
+same_among : (s s' : Heap) (mine theirs : List ℕ) → s' ≡ without s mine → s' ≡ without s theirs → (base : ℕ) (o : Object) → HasObject s base o → Contains theirs base → Contains mine base
+same_among s s' mine theirs is other base o has among =
+    let gone : (without s theirs).objects base ≡ None = gone_from in
     let here : (without s mine).objects base ≡ None = ap (λ (x : Heap). x.objects base) (sym is ∙ other) ∙ gone in
     let any = Any-from_list_any (λ b. eqb b base) mine (taken_bases s (list_any (λ b. eqb b base) mine) base o has here) in
     subst (Contains mine) (eqb-true any.1 base any.4) (any.0, any.2, any.3)
   where
-    gone_from : Contains theirs base → (without s theirs).objects base ≡ None
-    gone_from among = cond-true (list_any (λ b. eqb b base) theirs) None (s.objects base) (list_any-from_Any (λ b. eqb b base) theirs (among.0, base, among.1, among.2, eq-eqb base base refl))
+    gone_from : (without s theirs).objects base ≡ None
+    gone_from = cond-true (list_any (λ b. eqb b base) theirs) None (s.objects base) (list_any-from_Any (λ b. eqb b base) theirs (among.0, base, among.1, among.2, eq-eqb base base refl))
+
+pub same_bases : (s s' : Heap) (mine theirs : List ℕ) → s' ≡ without s mine → s' ≡ without s theirs → HasUnreached s theirs → HasUnreached s mine
+same_bases s s' mine theirs is other all base o has out = same_among s s' mine theirs is other base o has (all base o has out)
 
 -- collections that are granted
 module _ (old : Contents) (small : old.number < word_end) (few : old.births < word_end) (new : PlainContents) (bases : Bor (List ℕ)) where
@@ -361,6 +388,8 @@ module _ (old : Contents) (small : old.number < word_end) (few : old.births < wo
     phase = sym ends;
     number = ap (λ k. (k + 1) % word_end) f.number ∙ ap (λ k. (count start run + k) % word_end) (sym one);
     births = f.births ∙ sym (ap (λ (x : Heap). x.births) after);
+    room = room_as _ _ _ _ f.room (ap (λ (x : Heap). x.pages) after) refl;
+    touched = λ marks. absurd (true≢false (sym marks));
   }
 
   below : (start : Start) (run : Run) (f : Follows old start run) (s' : Heap) → s' ≡ without (heap_after start run) bases.now → s'.births < word_end
@@ -372,13 +401,13 @@ module _ (old : Contents) (small : old.number < word_end) (few : old.births < wo
   named : (n : ℕ) (s s' : Heap) → TakesOut s bases.now (Count (length bases.now)) s' → Count n ≡ Count (length bases.now) → TakesOut s bases.now (Count n) s'
   named n s s' takes is = subst (λ q. TakesOut s bases.now q s') (sym is) takes
 
-  pub finishes : TakesBases old.core bases.now false new → old.marking ≡ true → (n : ℕ) → n ≡ length bases.now → IsReplayed old Finish (Count n) (Forgot bases) ended
+  pub finishes : ForgetsUnflagged old.core old.touched bases.now new → old.marking ≡ true → (n : ℕ) → n ≡ length bases.now → IsReplayed old Finish (Count n) (Forgot bases) ended
   finishes takes m n long start run f =
       let x = takes (heap_after start run) f.stands in
       let counts : Count n ≡ Count (length bases.now) = ap Count long in (
         goes_on run Finish (Count n) x.0,
         record {
-          line = LineOf.happens (sym f.phase ∙ m, record { bases = bases.now; takes = named n (heap_after start run) x.0 x.1 counts; untouched = λ base o has ne. absurd (ne tt) });
+          line = LineOf.happens (sym f.phase ∙ m, record { bases = bases.now; takes = named n (heap_after start run) x.0 x.1 counts; untouched = λ base o has ne. x.2 base o has (λ flag. ne ((f.touched m base o has).0 flag)) });
           place = λ slot into words kind is done. absurd (cc);
           finished = λ k which is. named k (heap_after start run) x.0 x.1 (sym is ∙ counts);
           collected = λ k which is. absurd (cc);
@@ -416,10 +445,11 @@ module _ (old : Contents) (small : old.number < word_end) (few : old.births < wo
 
   module _ (wrong : old.marking ≡ false → reply ≡ Refused WrongPhase → ⊥) where
     pub finish_unnamed : (hint : Hint) → ((bases : Bor (List ℕ)) → hint ≡ Forgot bases → reply ≡ Count (length bases.now) → ⊥) → IsNoReplay old Finish reply hint
-    finish_unnamed hint none = no_finish old small few reply hint wrong (λ m s h n s' is names. unnamed hint none n s s' is names)
+    finish_unnamed hint none = no_finish old small few reply hint wrong (λ m s h n s' is names theirs after all. unnamed hint none n s s' is names)
 
-    pub finish_untaken : (bases : Bor (List ℕ)) → CantTake old.core bases.now false → IsNoReplay old Finish reply (Forgot bases)
-    finish_untaken bases cant = no_finish old small few reply (Forgot bases) wrong (λ m s h n s' is names. cant s h n s' names (λ all. absurd (cc)))
+    pub finish_untaken : (bases : Bor (List ℕ)) → CantForget old.core old.touched bases.now → IsNoReplay old Finish reply (Forgot bases)
+    finish_untaken bases cant = no_finish old small few reply (Forgot bases) wrong
+        (λ m s h n s' is names theirs after all. cant s h n s' names (λ base o has out. same_among s s' bases.now theirs names.after after base o has (all base o has out)))
 
   may_unnamed : (hint : Hint) → (hint ≡ Nothing → ⊥) → ((bases : Bor (List ℕ)) → hint ≡ Forgot bases → reply ≡ Count (length bases.now) → ⊥) → (n : ℕ) (s s' : Heap) → reply ≡ Count n → MayNameBases hint n s s' → ⊥
   may_unnamed Nothing says none n s s' is names = says refl
@@ -459,5 +489,7 @@ module _ (old : Contents) (small : old.number < word_end) (few : old.births < wo
           phase = refl;
           number = ap (λ k. (k + 1) % word_end) f.number;
           births = f.births ∙ sym same;
+          room = room_as _ _ _ _ f.room (ap (λ (s : Heap). s.pages) x.1.takes.after) refl;
+          touched = λ marks. absurd (true≢false (sym marks));
         },
       )

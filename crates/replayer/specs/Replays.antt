@@ -1,6 +1,7 @@
 -- When a replayer says yes.
 use Rattle.std.specs.Prelude.{◌≡◌, ◌<◌, ℕ}
 use Rattle.words.specs.declared.class.Kind.{Kind}
+use Rattle.heap_spec.specs.declared.call.Call.{Call}
 use Rattle.heap_spec.specs.declared.call.Call.TheVariants.{Alloc}
 use Rattle.heap_spec.specs.declared.event.Event.{Event}
 use Rattle.heap_spec.specs.declared.event.Event.TheVariants.{Mutator, Finish, Collect}
@@ -9,12 +10,16 @@ use Rattle.heap_spec.specs.declared.reply.Reply.TheVariants.{Done, Count}
 use Rattle.heap_spec.specs.Layout.{word_end}
 use Rattle.heap_spec.specs.Heap.{Heap}
 use Rattle.heap_spec.specs.Cycles.{TakesOut}
-use Rattle.heap_spec.specs.Runs.{Start, Run, heap_after, AllTouched}
+use Rattle.heap_spec.specs.Runs.{Start, Run, heap_after}
 use Rattle.heap_spec.specs.Transcripts.{LineOf}
 use Rattle.plain_core.specs.Answering.{IsBornAt}
 use Rattle.replayer.specs.declared.hint.Hint.{Hint}
 use Rattle.replayer.specs.declared.hint.Hint.TheVariants.{Nothing, Place, Forgot}
 use Rattle.replayer.specs.Contents.{Contents, Follows}
+
+-- the call is a granted request
+abbrev pub IsGrant : Call → Reply → Type 0
+IsGrant call reply = (into : ℕ) × (words : ℕ) × (kind : Kind) × (call ≡ Alloc into words kind) × (reply ≡ Done)
 
 -- the hint is the base of the object that was born
 abbrev pub NamesPlace : Hint → Heap → Heap → Type 0
@@ -34,11 +39,11 @@ MayNameBases Nothing n s s' = Unit {0}
 MayNameBases (Place base) n s s' = ⊥
 MayNameBases (Forgot bases) n s s' = TakesOut s bases.now (Count n) s'
 
--- The event with its reply is a line of a legal transcript, if every birth counts as touched, and the hint is right: it
+-- The event with its reply is a line of a legal transcript, and the hint is right: it
 -- names the place of a granted request, and what the end of a cycle forgot, and may name what a full collection forgot.
 -- Births stay below 2 ^ 64.
 pub record IsReplay (hint : Hint) (start : Start) (run : Run) (event : Event) (reply : Reply) (next : Run) : Type 0 where
-  pub line : LineOf AllTouched start run event reply next
+  pub line : LineOf start run event reply next
   pub place : (slot into words : ℕ) (kind : Kind) → event ≡ Mutator slot (Alloc into words kind) → reply ≡ Done → NamesPlace hint (heap_after start run) (heap_after start next)
   pub finished : (n : ℕ) → event ≡ Finish → reply ≡ Count n → NamesBases hint n (heap_after start run) (heap_after start next)
   pub collected : (n : ℕ) → event ≡ Collect → reply ≡ Count n → MayNameBases hint n (heap_after start run) (heap_after start next)

@@ -5,6 +5,7 @@ ghost use Rattle.heap_spec.specs.Layout.{word_end};
 ghost use Rattle.replayer.specs.declared.hint.Hint.{Hint as HintValue};
 ghost use Rattle.replayer.specs.Replays.{IsReplayed, IsNoReplay};
 
+use crate::flags::{flag_begin, forget};
 use crate::hint::Hint;
 use crate::replayer::Replayer;
 use heap_spec::{Event, Reply};
@@ -97,6 +98,8 @@ impl Replayer {
         if !is_done(reply) {
             return false;
         }
+        self.core.objects_are_apart();
+        flag_begin(&mut self.core, &mut self.touched);
         self.marking = true;
         true
     }
@@ -167,7 +170,7 @@ impl Replayer {
         n == self.collections()
     }
 
-    // A cycle ends, and forgets the objects of the hint.
+    // A cycle ends, and forgets the objects of the hint, among them each that isn't touched.
     pub(crate) fn finish(&mut self, reply: &Reply, hint: Hint) -> bool
         ensures yes { IsTrue result → IsReplayed self.old Event.Finish reply.now hint.entry self.new }
         ensures no { result ≡ false → IsNoReplay self.old Event.Finish reply.now hint.entry }
@@ -180,7 +183,7 @@ impl Replayer {
         let Some(bases) = forgotten(reply, hint) else {
             return false;
         };
-        if !self.core.forget(bases) {
+        if !forget(&mut self.core, bases, &self.touched) {
             return false;
         }
         self.marking = false;

@@ -2,11 +2,12 @@
 //! on from the heap after it. A yes is proved to be a line of a legal transcript, and a no that there is none for this
 //! hint. It has objects, roots, globals, the phase and two counts, and no mark, dirty page or block of a collector.
 //!
-//! It doesn't work out which objects a cycle touched, so it lets the end of a cycle keep any object: its rule on
-//! touched births is [`AllTouched`](../../heap_spec/specs/Runs.antt).
+//! While a cycle marks it has a flag of each object that was touched since the cycle began, so that the end of the cycle has to
+//! forget all others.
 #![tactic(auto)]
 
 mod collector;
+mod flags;
 mod hint;
 pub mod laws;
 mod replayer;

@@ -4,14 +4,17 @@ ghost use Rattle.words.specs.declared.limits.TheConstants.{MAX_PAGES};
 ghost use Rattle.heap_spec.specs.Layout.{word_end};
 ghost use Rattle.heap_spec.specs.Runs.{fresh};
 ghost use Rattle.replayer.specs.Contents.{Follows};
-ghost use Rattle.replayer.specs.Replays.{IsReplayed, IsNoReplay};
+ghost use Rattle.replayer.specs.declared.hint.Hint.{Hint as HintValue};
+ghost use Rattle.replayer.specs.Replays.{IsReplayed, IsNoReplay, IsGrant};
 
+use crate::flags::{flag_call, flag_place};
 use crate::hint::Hint;
 use faults::RunError;
 use heap_spec::{Call, Event, Reply};
 use plain_core::Core;
 use std::alloc::Global;
 use std::marker::Model;
+use words::limits::PAGE_WORDS;
 use words::{Kind, Reg, Slot};
 
 /// A checker of the runs of one heap.
@@ -21,6 +24,7 @@ pub struct Replayer {
     pub(crate) marking: bool,
     pub(crate) number: u64,
     pub(crate) births: u64,
+    pub(crate) touched: Vec<bool>,
 }
 
 impl Model for Replayer {
@@ -28,7 +32,7 @@ impl Model for Replayer {
 
     ghost Value = { Contents };
 
-    ghost view = { λ r. record { core = r.core; marking = r.marking; number = r.number; births = r.births } };
+    ghost view = { λ r. record { core = r.core; marking = r.marking; number = r.number; births = r.births; touched = r.touched.items } };
 }
 
 impl Replayer {
@@ -43,11 +47,15 @@ impl Replayer {
         let Ok(core) = Core::new(alloc, pages) else {
             return Err(RunError::Memory);
         };
+        let Ok(touched) = vec![in alloc; false; PAGE_WORDS as usize * pages as usize] else {
+            return Err(RunError::Memory);
+        };
         Ok(Replayer {
             core,
             marking: false,
             number: 0,
             births: 0,
+            touched,
         })
     }
 
@@ -72,10 +80,45 @@ impl Replayer {
         if self.is_full() {
             return false;
         }
+        self.core.objects_are_apart();
         if !self.core.alloc_at(slot, into, words, kind, base) {
             return false;
         }
+        self.core.objects_are_apart();
+        flag_place(self.marking, &mut self.core, base, &mut self.touched);
         self.births += 1;
+        true
+    }
+
+    // A call of a mutator that grants no request.
+    fn answered(&mut self, slot: Slot, call: &Call, reply: &Reply) -> bool
+        requires { IsGrant call.now reply.now → ⊥ }
+        ensures yes { IsTrue result → (hint : HintValue) → IsReplayed self.old (Event.Mutator slot call.now) reply.now hint self.new }
+        ensures no { result ≡ false → (hint : HintValue) → IsNoReplay self.old (Event.Mutator slot call.now) reply.now hint }
+        ensures same { result ≡ false → self.new ≡ self.old }
+    {
+        self.limits();
+        self.core.objects_are_apart();
+        if !self.core.call_as(slot, call, reply) {
+            return false;
+        }
+        self.core.objects_are_apart();
+        flag_call(self.marking, &mut self.core, slot, call, &mut self.touched);
+        true
+    }
+
+    // A mutator comes.
+    fn attach(&mut self, reply: &Reply) -> bool
+        ensures yes { IsTrue result → (hint : HintValue) → IsReplayed self.old Event.Attach reply.now hint self.new }
+        ensures no { result ≡ false → (hint : HintValue) → IsNoReplay self.old Event.Attach reply.now hint }
+        ensures same { result ≡ false → self.new ≡ self.old }
+    {
+        self.limits();
+        self.core.objects_are_apart();
+        if !self.core.attach_as(reply) {
+            return false;
+        }
+        self.core.objects_are_apart();
         true
     }
 
@@ -85,12 +128,11 @@ impl Replayer {
         ensures no { result ≡ false → IsNoReplay self.old (Event.Mutator slot call.now) reply.now hint.entry }
         ensures same { result ≡ false → self.new ≡ self.old }
     {
-        self.limits();
         let Reply::Done = reply else {
-            return self.core.call_as(slot, call, reply);
+            return self.answered(slot, call, reply);
         };
         let Call::Alloc(into, words, kind) = call else {
-            return self.core.call_as(slot, call, reply);
+            return self.answered(slot, call, reply);
         };
         self.alloc(slot, *into, *words, *kind, hint)
     }
@@ -103,7 +145,7 @@ impl Replayer {
     {
         self.limits();
         match event {
-            Event::Attach => self.core.attach_as(reply),
+            Event::Attach => self.attach(reply),
             Event::Mutator(slot, call) => self.call(slot, &call, reply, hint),
             Event::Begin => self.begin(reply),
             Event::Roots => self.roots(reply),

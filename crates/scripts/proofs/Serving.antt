@@ -27,7 +27,7 @@ use Rattle.scripts.proofs.Inputs.{zip_push, length-push, known, at_end, no_buffe
 use Rattle.scripts.proofs.Texts.{lines_of-text, lines_of-last, first_line, whole_lines_of-text, take-front, at-front, text_of-push}
 
 -- one line more of a transcript
-legal_on : (start : Start) {run mid last : Run} {lines : List Told} (told : Told) → LegalTranscript Touched start run lines mid → LineOf Touched start mid told.event told.reply last → LegalTranscript Touched start run (lines ++ told ∷ []) last
+legal_on : (start : Start) {run mid last : Run} {lines : List Told} (told : Told) → LegalTranscript start run lines mid → LineOf start mid told.event told.reply last → LegalTranscript start run (lines ++ told ∷ []) last
 legal_on start told ends l = on l ends
 legal_on start told (on m g) l = on m (legal_on start told g l)
 

@@ -19,7 +19,7 @@ pub record HasRun (pages : ℕ) (core : Contents) (lines : List (List ℕ)) (out
   pub last : Run
   pub plain : All IsPlainLine lines
   pub commands : AllZip IsLineOf lines (map (λ (t : Told). t.event) told)
-  pub legal : LegalTranscript Touched (fresh pages) [] told last
+  pub legal : LegalTranscript (fresh pages) [] told last
   pub calls : AreCallsOfNew pages told core
   pub prints : out ≡ printed pages told
   pub follows : Follows core (fresh pages) last

@@ -22,7 +22,7 @@ pub record Answers (pages : ℕ) (lines : List (List ℕ)) (out : List ℕ) : Ty
   pub core : Contents
   pub commands : AllZip IsLineOf lines (map (λ (t : Told). t.event) told)
   pub few : length lines < LAST_LINE
-  pub legal : LegalTranscript Touched (fresh pages) [] told last
+  pub legal : LegalTranscript (fresh pages) [] told last
   pub calls : AreCallsOfNew pages told core
   pub prints : out ≡ printed pages told
 

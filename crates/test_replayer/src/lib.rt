@@ -10,4 +10,6 @@ mod runs;
 #[cfg(test)]
 mod stress;
 #[cfg(test)]
+mod touched;
+#[cfg(test)]
 mod verdicts;

@@ -56,7 +56,7 @@ module _ (pages : ℕ) (old new : HeapPass) (slot : old.slot ≡ COLLECTOR) (loo
   pub number : collections (fresh state.pages) state.run ≡ count rank_of old.mine % 2 ^ 64
   number = count_is new.seen state looks.fine.legal.1 ∙ ap (λ (l : List Entry). count rank_of l % 2 ^ 64) own_is
 
-  pub looked : (asked : Event) (reply : Reply) → is_in_history asked reply ≡ false → LineOf Touched (fresh state.pages) state.run asked reply state.run → Commanded pages old asked reply new
+  pub looked : (asked : Event) (reply : Reply) → is_in_history asked reply ≡ false → LineOf (fresh state.pages) state.run asked reply state.run → Commanded pages old asked reply new
   looked asked reply quiet allowed = record {
     slot = looks.slot;
     seen = prefix_of old.slot old.seen new.seen looks.seen;
@@ -70,7 +70,7 @@ module _ (pages : ℕ) (old new : HeapPass) (asked : Event) (reply : Reply) (slo
       → Commanded pages old command (Refused why) new
   refused command why looks quiet is wrong =
       let t = state pages old new slot looks in
-      looked pages old new slot looks command (Refused why) quiet (subst (λ (w : Refusal). LineOf Touched (fresh t.pages) t.run command (Refused w) t.run) (sym is) (LineOf.refused wrong))
+      looked pages old new slot looks command (Refused why) quiet (subst (λ (w : Refusal). LineOf (fresh t.pages) t.run command (Refused w) t.run) (sym is) (LineOf.refused wrong))
 
   as_asked : (command : Event) (told : Reply) → asked ≡ command → reply ≡ told → Commanded pages old command told new → Commanded pages old asked reply new
   as_asked command told is said c = subst (λ (a : Event). Commanded pages old a reply new) (sym is) (subst (λ (t : Reply). Commanded pages old command t new) (sym said) c)
@@ -96,7 +96,7 @@ module _ (pages : ℕ) (old new : HeapPass) (asked : Event) (reply : Reply) (slo
   numbers n is said looks c =
       let t = state pages old new slot looks in
       let same : n ≡ collections (fresh t.pages) t.run = c ∙ (ap (λ (l : List Entry). count rank_of l % 2 ^ 64) looks.mine ∙ sym (number pages old new slot looks)) in
-      as_asked Number (Count n) is said (looked pages old new slot looks Number (Count n) refl (subst (λ (m : ℕ). LineOf Touched (fresh t.pages) t.run Number (Count m) t.run) (sym same) LineOf.number))
+      as_asked Number (Count n) is said (looked pages old new slot looks Number (Count n) refl (subst (λ (m : ℕ). LineOf (fresh t.pages) t.run Number (Count m) t.run) (sym same) LineOf.number))
 
   -- the collector's small steps, on a core in the phase that its own events tell
   module _ (looks : Looks pages old new) (before after : Contents) (same : before.cycle.is_marking ≡ marks old.mine) where

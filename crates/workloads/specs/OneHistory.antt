@@ -67,7 +67,7 @@ pub record IsAnsweredAmong (pages : ℕ) (history mine : List Entry) (command : 
   pub between : own rank_of COLLECTOR place ≡ mine
   pub state : HeapState
   pub reached : Reaches (Opens pages) StateStep place state
-  pub allowed : LineOf Touched (fresh state.pages) state.run command reply state.run
+  pub allowed : LineOf (fresh state.pages) state.run command reply state.run
 
 -- Commands have these replies, where the collector's events before them are these: each that is no event is answered between the
 -- collector's events before it and those after it.

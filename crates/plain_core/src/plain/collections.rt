@@ -17,7 +17,7 @@ use arrayvec::ArrayVec;
 use roots::{ROOT_WORDS, Roots};
 
 // Lists the objects that are reached from the roots.
-fn list_from_roots(
+pub(super) fn list_from_roots(
     roots: &Roots,
     root_words: &mut ArrayVec<u64, ROOT_WORDS>,
     words: &[u64],
@@ -86,7 +86,7 @@ impl Core {
 
     // Takes out the objects with these bases, if they are distinct objects none of which is reached, and with `all` every
     // such object. Else nothing changes.
-    fn take(&mut self, bases: &[u64], all: bool) -> bool
+    pub(super) fn take(&mut self, bases: &[u64], all: bool) -> bool
         ensures yes { IsTrue result → TakesBases self.old bases.now all self.new }
         ensures no { result ≡ false → CantTake self.old bases.now all }
         ensures same { result ≡ false → self.new ≡ self.old }
@@ -114,15 +114,6 @@ impl Core {
         }
         let _gone = keep_flagged(&mut self.objects, &self.stays);
         true
-    }
-
-    /// Takes out the objects with these bases, if they are distinct objects none of which is reached. Else nothing changes.
-    pub fn forget(&mut self, bases: &[u64]) -> bool
-        ensures yes { IsTrue result → TakesBases self.old bases.now false self.new }
-        ensures no { result ≡ false → CantTake self.old bases.now false }
-        ensures same { result ≡ false → self.new ≡ self.old }
-    {
-        self.take(bases, false)
     }
 
     /// Takes out all objects that are not reached, if these are their bases, each once. Else nothing changes.

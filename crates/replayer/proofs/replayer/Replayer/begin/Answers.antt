@@ -14,4 +14,4 @@ returns-clause-yes c done hint =
     let small = subst (λ (r : Contents). r.number < word_end) (sym c.self.view_is) c.limits.ensures.number in
     let few = subst (λ (r : Contents). r.births < word_end) (sym c.self.view_is) c.limits.ensures.births in
     let m = subst (λ (r : Contents). c.is_marking.result ≡ r.marking) (sym c.self.view_is) c.is_marking.ensures in
-    rw (← c.self.view_is, c.is_done.ensures.yes c.if-not-is_done.false) (begins _ small few hint (sym m ∙ c.if-is_marking.false))
+    rw (← c.self.view_is, c.is_done.ensures.yes c.if-not-is_done.false, c.flag_begin.ensures.same) (begins _ small few _ hint c.objects_are_apart.ensures c.flag_begin.ensures.size c.flag_begin.ensures.flags (sym m ∙ c.if-is_marking.false))

@@ -1,14 +1,10 @@
-use Rattle.std.proofs.Common.{◌<◌, subst, sym}
-use Rattle.heap_spec.specs.Layout.{word_end}
-use Rattle.replayer.specs.Contents.{Contents}
-use Rattle.replayer.proofs.Steps.{attaches}
 use Rattle.replayer.proofs.replayer.Replayer.replay.Goals as goal
 
 pub returns-in-Attach-clause-yes : goal.returns-in-Attach-clause-yes
-returns-in-Attach-clause-yes c done =
-    let small = subst (λ (r : Contents). r.number < word_end) (sym c.self.view_is) c.limits.ensures.number in
-    let few = subst (λ (r : Contents). r.births < word_end) (sym c.self.view_is) c.limits.ensures.births in
-    rw (← c.self.view_is, c.in-Attach.is) (attaches _ small few _ _ _ (c.attach_as.ensures.yes done))
+returns-in-Attach-clause-yes c done = rw c.in-Attach.is (c.attach.ensures.yes done c.args.hint)
+
+pub returns-in-Attach-clause-no : goal.returns-in-Attach-clause-no
+returns-in-Attach-clause-no c refused = rw c.in-Attach.is (c.attach.ensures.no refused c.args.hint)
 
 pub returns-in-Begin-clause-yes : goal.returns-in-Begin-clause-yes
 returns-in-Begin-clause-yes c done = rw c.in-Begin.is (c.begin.ensures.yes done c.args.hint)

@@ -1,0 +1,14 @@
+use Rattle.std.proofs.Common.{◌∙◌}
+use Rattle.std.proofs.lemmas.Option.{slice_get-get_or}
+use Rattle.plain_core.proofs.Flagging.{marked_more, marked_past, marked_all}
+use Rattle.plain_core.proofs.flags.flag_marked.Goals as goal
+use Rattle.plain_core.proofs.flags.flag_marked.Goals.{then-marks-index, else-marks-index}
+
+pub loop-index-preserved : goal.loop-index-preserved
+loop-index-preserved c = elim c.if-marks-index.branch [
+  | then-marks-index w ↦ marked_more _ _ _ c.loop-index.index _ _ _ c.loop-index.invariant (slice_get-get_or c.args.objects.now c.loop-index.index _ c.loop-index-test.true) w.if-marks-index.true (w.flags-is ∙ w.set_flag.ensures)
+  | else-marks-index w ↦ marked_past _ _ _ c.loop-index.index _ _ c.loop-index.invariant w.if-marks-index.false w.flags-is
+]
+
+pub returns : goal.returns
+returns c = marked_all _ _ _ _ _ c.loop-index-test.false c.loop-index.invariant

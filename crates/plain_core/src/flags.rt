@@ -1,0 +1,111 @@
+//! Flags of objects, by where the words at their bases stand in the row of all words: so no flag moves when an object does in
+//! the row of objects, and one that is left by an object that went stands where the next one at that base is.
+ghost use Rattle.std.specs.Prelude.{◌≡◌, ◌≤◌, ◌⊎◌, All, IsTrue, false, true, ℕ, length, Contains, slice_index_or, slice_set};
+ghost use Rattle.words.specs.declared.limits.TheConstants.{FIRST_ADDRESS};
+ghost use Rattle.plain_core.specs.Standing.{place, LiesIn};
+ghost use Rattle.plain_core.specs.Reached.{links_of};
+ghost use Rattle.plain_core.specs.Flags.{IsFlagged, FlagsMarked, NamesRow};
+
+use crate::extent::Extent;
+use crate::owners::place_of;
+use words::Kind;
+
+// Whether the object with this base has its flag.
+pub(crate) fn is_flagged(flags: &[bool], base: u64) -> bool
+    requires { FIRST_ADDRESS ≤ base }
+    ensures yes { IsTrue result → IsFlagged flags.now base }
+    ensures no { result ≡ false → IsFlagged flags.now base → ⊥ }
+{
+    let place = place_of(base);
+    place < flags.len() && flags[place]
+}
+
+// Unsets all flags.
+pub(crate) fn unset_all(flags: &mut [bool])
+    ensures none { (k : ℕ) → slice_index_or flags.new k false ≡ false }
+    ensures size { length flags.new ≡ length flags.old }
+{
+    for index in 0..flags.len() {
+        flags[index] = false;
+    }
+}
+
+// Sets the flag of the object with this base, if there is room for it.
+pub(crate) fn set_flag(flags: &mut [bool], base: u64)
+    requires { FIRST_ADDRESS ≤ base }
+    ensures { flags.new ≡ slice_set flags.old (place base) true }
+{
+    let place = place_of(base);
+    if place < flags.len() {
+        flags[place] = true;
+    }
+}
+
+// Whether all words are 0.
+fn are_zeros(words: &[u64]) -> bool
+    ensures { IsTrue result → All (λ w. w ≡ 0) words.now }
+{
+    for word in words {
+        if *word != 0 {
+            return false;
+        }
+    }
+    true
+}
+
+// Whether no word but 0 is read of an object.
+pub(crate) fn has_no_links(object: Extent, words: &[u64]) -> bool
+    requires { LiesIn words.now object }
+    ensures { IsTrue result → All (λ w. w ≡ 0) (links_of words.now object) }
+{
+    if object.kind == Kind::PointerFree {
+        return true;
+    }
+    let start = place_of(object.base);
+    let end = start + object.length as usize;
+    are_zeros(&words[start..end])
+}
+
+// Sets the flags of the objects that are marked.
+pub(crate) fn flag_marked(objects: &[Extent], marks: &[bool], flags: &mut [bool])
+    requires marks { length objects.now ≤ length marks.now }
+    requires starts { All (λ e. FIRST_ADDRESS ≤ e.base) objects.now }
+    ensures { FlagsMarked objects.now marks.now flags.old flags.new }
+{
+    for index in 0..objects.len() {
+        if marks[index] {
+            set_flag(flags, objects[index].base);
+        }
+    }
+}
+
+// Whether a base is among these.
+fn is_among(bases: &[u64], base: u64) -> bool
+    ensures yes { IsTrue result → Contains bases.now base }
+    ensures no { result ≡ false → Contains bases.now base → ⊥ }
+{
+    bases.contains(&base)
+}
+
+// Whether an object has its flag, or is named by its base.
+fn is_named(object: &Extent, flags: &[bool], bases: &[u64]) -> bool
+    requires { FIRST_ADDRESS ≤ object.now.base }
+    ensures yes { IsTrue result → IsFlagged flags.now object.now.base ⊎ Contains bases.now object.now.base }
+    ensures no { result ≡ false → IsFlagged flags.now object.now.base ⊎ Contains bases.now object.now.base → ⊥ }
+{
+    is_flagged(flags, object.base) || is_among(bases, object.base)
+}
+
+// Whether each object without a flag is named by its base.
+pub(crate) fn are_named(objects: &[Extent], flags: &[bool], bases: &[u64]) -> bool
+    requires { All (λ e. FIRST_ADDRESS ≤ e.base) objects.now }
+    ensures yes { IsTrue result → NamesRow objects.now flags.now bases.now }
+    ensures no { result ≡ false → NamesRow objects.now flags.now bases.now → ⊥ }
+{
+    for object in objects {
+        if !is_named(object, flags, bases) {
+            return false;
+        }
+    }
+    true
+}

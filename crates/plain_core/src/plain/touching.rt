@@ -1,0 +1,154 @@
+//! Flags that a caller keeps of the objects that were touched since a cycle began: how they are set, and how they tell what has to
+//! be forgotten.
+ghost use Rattle.std.specs.Prelude.{◌≡◌, ◌↔◌, ◌∷◌, [], ℕ, IsTrue, IfSome, IfNone, All, false, length};
+ghost use Rattle.heap_spec.specs.Heap.{Heap};
+ghost use Rattle.heap_spec.specs.Laws.{IsNoAlloc};
+ghost use Rattle.heap_spec.specs.Touching.{HasApartObjects, IsBrought, StandsIn};
+ghost use Rattle.plain_core.specs.Standing.{StandsFor, LiesIn};
+ghost use Rattle.plain_core.specs.Reached.{AreApart, MarksReached};
+ghost use Rattle.plain_core.specs.Listing.{HasListRoom, KeepsRoom};
+ghost use Rattle.plain_core.specs.Flags.{FlagsReached, FlagsLed, FlagsBrought, ForgetsUnflagged, CantForget};
+
+use super::Core;
+use super::collections::list_from_roots;
+use crate::extent::{Extent, object_at};
+use crate::flags::{are_named, flag_marked, has_no_links, is_flagged, set_flag, unset_all};
+use crate::listing::{Listing, list_reached};
+use crate::owners::write_owners;
+use heap_spec::Call;
+use words::{Reg, Slot};
+
+// Lists the objects that a word leads to.
+fn list_from(
+    word: u64,
+    words: &[u64],
+    objects: &[Extent],
+    owners: &mut [u64],
+    listing: &mut Listing,
+)
+    requires apart { AreApart objects.now }
+    requires lie { All (LiesIn words.now) objects.now }
+    requires within { All (LiesIn owners.old) objects.now }
+    requires room { HasListRoom (length objects.now) listing.old }
+    ensures marks { MarksReached (word ∷ []) words.now objects.now listing.new.marks.items }
+    ensures room { KeepsRoom listing.old listing.new }
+{
+    write_owners(objects, owners);
+    list_reached(&[word], words, objects, owners, listing);
+}
+
+// The register whose word a call brings to where the collector reads it.
+fn moved(call: &Call) -> Option<Reg>
+    ensures some { IfSome result (λ r. (slot : ℕ) (s s' : Heap) (w : ℕ) → IsBrought s slot call.now s' w ↔ StandsIn s' slot r w) }
+    ensures none { IfNone result (IsNoAlloc call.now → (slot : ℕ) (s s' : Heap) (w : ℕ) → IsBrought s slot call.now s' w → ⊥) }
+{
+    match *call {
+        Call::Detach => None,
+        Call::Set(into, _) => Some(into),
+        Call::Copy(into, _) => Some(into),
+        Call::Add(into, _, _) => Some(into),
+        Call::Sub(into, _, _) => Some(into),
+        Call::Get(_) => None,
+        Call::Push(from) => Some(from),
+        Call::Pop(into) => Some(into),
+        Call::Load(into, _, _) => Some(into),
+        Call::Store(_, _, from) => Some(from),
+        Call::Alloc(_, _, _) => None,
+        Call::Free(_) => None,
+        Call::Base(into, _) => Some(into),
+        Call::Size(_) => None,
+        Call::GlobalGet(into, _) => Some(into),
+        Call::GlobalPut(_, from) => Some(from),
+    }
+}
+
+impl Core {
+    /// What is true of the objects of every core.
+    pub fn objects_are_apart(&self)
+        ensures { (s : Heap) → StandsFor self.now s → HasApartObjects s }
+    {
+        self.laws();
+    }
+
+    /// Sets the flags of all objects that are reached, and of no other.
+    pub fn flag_reached(&mut self, flags: &mut [bool])
+        ensures flags { FlagsReached self.old flags.new }
+        ensures size { length flags.new ≡ length flags.old }
+        ensures same { self.new ≡ self.old }
+    {
+        list_from_roots(
+            &self.roots,
+            &mut self.root_words,
+            &self.words,
+            &self.objects,
+            &mut self.owners,
+            &mut self.listing,
+        );
+        unset_all(flags);
+        flag_marked(&self.objects, &self.listing.marks, flags);
+    }
+
+    /// Sets the flags of all objects that a word leads to, unless what it points into has its flag: then so have they.
+    pub fn flag_led(&mut self, word: u64, flags: &mut [bool])
+        ensures flags { FlagsLed self.old word flags.old flags.new }
+        ensures same { self.new ≡ self.old }
+    {
+        let Some(object) = object_at(&self.objects, word) else {
+            return;
+        };
+        if is_flagged(flags, object.base) {
+            return;
+        }
+        // A new object needs no more.
+        if has_no_links(object, &self.words) {
+            set_flag(flags, object.base);
+            return;
+        }
+        list_from(
+            word,
+            &self.words,
+            &self.objects,
+            &mut self.owners,
+            &mut self.listing,
+        );
+        flag_marked(&self.objects, &self.listing.marks, flags);
+    }
+
+    /// Takes out the objects with these bases, if they are distinct objects none of which is reached, and every object without
+    /// a flag is among them. Else nothing changes.
+    pub fn forget(&mut self, bases: &[u64], flags: &[bool]) -> bool
+        ensures yes { IsTrue result → ForgetsUnflagged self.old flags.now bases.now self.new }
+        ensures no { result ≡ false → CantForget self.old flags.now bases.now }
+        ensures same { result ≡ false → self.new ≡ self.old }
+    {
+        self.laws();
+        if !are_named(&self.objects, flags, bases) {
+            return false;
+        }
+        self.take(bases, false)
+    }
+
+    // The word of a register, if the slot has a mutator.
+    fn register_word(&self, slot: Slot, reg: Reg) -> Option<u64>
+        ensures some { IfSome result (λ w. (s : Heap) → StandsFor self.now s → StandsIn s slot reg w) }
+        ensures none { IfNone result ((s : Heap) (w : ℕ) → StandsFor self.now s → StandsIn s slot reg w → ⊥) }
+    {
+        let mutator = self.mutator(slot)?;
+        Some(mutator.word(reg))
+    }
+
+    /// Sets the flags of all objects that the word leads to which a call has brought to where a collector reads it. It was
+    /// made, and is no granted request.
+    pub fn flag_brought(&mut self, slot: Slot, call: &Call, flags: &mut [bool])
+        ensures flags { FlagsBrought self.old slot call.now flags.old flags.new }
+        ensures same { self.new ≡ self.old }
+    {
+        let Some(reg) = moved(call) else {
+            return;
+        };
+        let Some(word) = self.register_word(slot, reg) else {
+            return;
+        };
+        self.flag_led(word, flags);
+    }
+}

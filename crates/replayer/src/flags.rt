@@ -1,0 +1,55 @@
+//! The flags of the touched objects, as a replayer has them.
+ghost use Rattle.std.specs.Prelude.{◌≡◌, IsTrue, true, false, length};
+ghost use Rattle.plain_core.specs.Flags.{FlagsReached, FlagsLed, FlagsBrought, ForgetsUnflagged, CantForget};
+
+use heap_spec::Call;
+use plain_core::Core;
+use words::Slot;
+
+// Sets the flags of what is reached, and no other.
+pub(crate) fn flag_begin(core: &mut Core, flags: &mut Vec<bool>)
+    ensures flags { FlagsReached core.old flags.new.items }
+    ensures size { length flags.new.items ≡ length flags.old.items }
+    ensures same { core.new ≡ core.old }
+{
+    core.flag_reached(flags);
+}
+
+// Sets the flags of what a call brought, while a cycle marks.
+pub(crate) fn flag_call(
+    marking: bool,
+    core: &mut Core,
+    slot: Slot,
+    call: &Call,
+    flags: &mut Vec<bool>,
+)
+    ensures flags { marking ≡ true → FlagsBrought core.old slot call.now flags.old.items flags.new.items }
+    ensures size { length flags.new.items ≡ length flags.old.items }
+    ensures same { core.new ≡ core.old }
+{
+    if !marking {
+        return;
+    }
+    core.flag_brought(slot, call, flags);
+}
+
+// Sets the flags of what a word leads to, while a cycle marks.
+pub(crate) fn flag_place(marking: bool, core: &mut Core, word: u64, flags: &mut Vec<bool>)
+    ensures flags { marking ≡ true → FlagsLed core.old word flags.old.items flags.new.items }
+    ensures size { length flags.new.items ≡ length flags.old.items }
+    ensures same { core.new ≡ core.old }
+{
+    if !marking {
+        return;
+    }
+    core.flag_led(word, flags);
+}
+
+// Takes out the objects with these bases, among them each without a flag.
+pub(crate) fn forget(core: &mut Core, bases: &[u64], flags: &Vec<bool>) -> bool
+    ensures yes { IsTrue result → ForgetsUnflagged core.old flags.now.items bases.now core.new }
+    ensures no { result ≡ false → CantForget core.old flags.now.items bases.now }
+    ensures same { result ≡ false → core.new ≡ core.old }
+{
+    core.forget(bases, flags)
+}
