@@ -27,7 +27,7 @@ module _ (old new : List PageState) (first n : ℕ) (size : length new ≡ lengt
         (place_of first n k);
   }
 
-set_one : (s : List PageState) (p : ℕ) (st : PageState) → IsLaid s → p < length s → IsPlain (state_at s p) → LaidAt (set s p st) p st → IsLaid (set s p st)
+pub set_one : (s : List PageState) (p : ℕ) (st : PageState) → IsLaid s → p < length s → IsPlain (state_at s p) → LaidAt (set s p st) p st → IsLaid (set s p st)
 set_one s p st laid lt plain here =
     let span = span_one s p st lt in
     laid_span s (set s p st) p 1 span.size span.others (closed_one s p plain) laid

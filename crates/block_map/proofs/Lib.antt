@@ -6,6 +6,7 @@ pub mod Lawful
 pub mod Listed
 pub mod Seen
 pub mod Spans
+pub mod Sweeping
 pub mod Unread
 pub mod Walking
 pub mod Words

@@ -4,4 +4,5 @@ pub mod Listed
 pub mod Objects
 pub mod Shown
 pub mod States
+pub mod Sweeps
 pub mod Walks

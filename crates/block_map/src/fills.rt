@@ -1,6 +1,6 @@
 //! Pages that change their state.
-ghost use Rattle.std.specs.Prelude.{◌≡◌, ◌+◌, ◌<◌, ◌≤◌, true, false, map, slice_set, vec_len, IfNone, IfOk, IfSome, MatchBool};
-ghost use Rattle.words.specs.declared.limits.TheConstants.{MAX_PAGES};
+ghost use Rattle.std.specs.Prelude.{◌≡◌, ◌+◌, ◌<◌, ◌≤◌, true, false, length, map, slice_set, vec_len, ◌*◌, IfNone, IfOk, IfSome, MatchBool};
+ghost use Rattle.words.specs.declared.limits.TheConstants.{MAX_PAGES, PAGE_GRANULES};
 ghost use Rattle.pages.specs.Memory.{with_word_at};
 ghost use Rattle.words.specs.Bits.{IsFullRow};
 ghost use Rattle.blocks.specs.Lists.{cell_start, link_of, ChangesPage, HasPage, IsFreeCellOf, IsListed, IsTakenCellOf};
@@ -8,6 +8,7 @@ ghost use Rattle.block_map.specs.States.{free, cut, state_at, large_states, with
 ghost use Rattle.block_map.specs.Listed.{first_object, first_on, with_taken, HasFirst, IsFullOn, IsListedOn, TellsOf};
 ghost use Rattle.block_map.specs.Objects.{cell_object, object_on};
 ghost use Rattle.block_map.specs.Shown.{shown};
+ghost use Rattle.block_map.specs.Sweeps.{SweepsOn};
 
 use crate::found::{Put, Taken};
 use crate::look::cell_at;
@@ -15,7 +16,7 @@ use crate::page::Page;
 use blocks::{Block, LargeHead};
 use pages::Memory;
 use std::alloc::{AllocError, Global};
-use words::{Kind, PageNo};
+use words::{BitRow, Kind, PageNo};
 
 // So many free pages.
 #[tactic(auto, using(crate::proofs::Filling::filling))]
@@ -191,4 +192,37 @@ pub(crate) fn put_cell(pages: &mut Vec<Page>, memory: &mut Memory, page: PageNo,
     ensures len { vec_len pages.new ≡ vec_len pages.old }
 {
     put_on(&mut pages[page as usize], memory, page, cell)
+}
+
+// Sweeps what stands on a page, which is cut.
+fn sweep_on(what: &mut Page, memory: &mut Memory, page: PageNo, marks: &BitRow)
+    requires cut { IsCut (shown what.old) }
+    requires small { page < MAX_PAGES }
+    requires has { HasPage memory.old page }
+    requires listed { IsListedOn memory.old page (shown what.old) }
+    requires marks { PAGE_GRANULES * page + PAGE_GRANULES ≤ length marks.now }
+    ensures sweeps { SweepsOn memory.old memory.new marks.now page (shown what.old) (shown what.new) }
+    ensures listed { IsListedOn memory.new page (shown what.new) }
+{
+    match what {
+        Page::Cut(block) => block.sweep(memory, page, marks),
+        Page::Free | Page::Head(_) | Page::Body(_) => unreachable!(),
+    }
+}
+
+// Sweeps a page that is cut.
+#[tactic(auto, using(crate::proofs::Filling::put))]
+pub(crate) fn sweep_cells(pages: &mut Vec<Page>, memory: &mut Memory, page: PageNo, marks: &BitRow)
+    requires page { page < vec_len pages.old }
+    requires small { page < MAX_PAGES }
+    requires cut { IsCut (state_at (map shown pages.old.items) page) }
+    requires has { HasPage memory.old page }
+    requires listed { IsListedOn memory.old page (state_at (map shown pages.old.items) page) }
+    requires marks { PAGE_GRANULES * page + PAGE_GRANULES ≤ length marks.now }
+    ensures states { map shown pages.new.items ≡ slice_set (map shown pages.old.items) page (state_at (map shown pages.new.items) page) }
+    ensures sweeps { SweepsOn memory.old memory.new marks.now page (state_at (map shown pages.old.items) page) (state_at (map shown pages.new.items) page) }
+    ensures listed { IsListedOn memory.new page (state_at (map shown pages.new.items) page) }
+    ensures len { vec_len pages.new ≡ vec_len pages.old }
+{
+    sweep_on(&mut pages[page as usize], memory, page, marks)
 }

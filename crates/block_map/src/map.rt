@@ -1,7 +1,7 @@
 //! The map of a heap, seen as the list of what stands on its pages, and through `found_in` as a function from every
 //! word to the object that it points into.
-ghost use Rattle.std.specs.Prelude.{◌≡◌, ℕ, ◌+◌, ◌<◌, ◌≤◌, true, false, length, map, slice_set, IfNone, IfSome, MatchBool};
-ghost use Rattle.words.specs.declared.limits.TheConstants.{MAX_PAGES};
+ghost use Rattle.std.specs.Prelude.{◌≡◌, ℕ, ◌+◌, ◌*◌, ◌<◌, ◌≤◌, true, false, length, map, slice_set, IfNone, IfSome, MatchBool};
+ghost use Rattle.words.specs.declared.limits.TheConstants.{MAX_PAGES, PAGE_GRANULES};
 ghost use Rattle.pages.specs.Opening.{IsOpened};
 ghost use Rattle.words.specs.Layout.{page_start};
 ghost use Rattle.pages.specs.Memory.{with_word_at};
@@ -10,16 +10,17 @@ ghost use Rattle.block_map.specs.States.{free, state_at, all_free, large_states,
 ghost use Rattle.block_map.specs.Listed.{first_object, first_on, with_taken, AreListed, HasFirst, IsFullOn, TellsOf};
 ghost use Rattle.block_map.specs.Objects.{object_on, large_object};
 ghost use Rattle.block_map.specs.FoundIn.{found_in, IsLawful};
+ghost use Rattle.block_map.specs.Sweeps.{SweepsObjects, SweepsOn};
 ghost use Rattle.block_map.specs.Changes.{IsSameMap, IsAdded, IsRemoved, IsCleared, IsUncut};
 
-use crate::fills::{fill_free, fill_large, free_pages, put_cell, put_page, take_cell};
+use crate::fills::{fill_free, fill_large, free_pages, put_cell, put_page, sweep_cells, take_cell};
 use crate::found::{Put, Taken};
 use crate::page::Page;
 use blocks::Block;
 use pages::{Memory, is_page_count};
 use std::alloc::Global;
 use std::marker::Model;
-use words::{Class, Kind, OpenError, PageNo};
+use words::{BitRow, Class, Kind, OpenError, PageNo};
 
 /// What stands on the pages of a heap.
 #[derive(Drop)]
@@ -166,6 +167,21 @@ impl BlockMap {
         ensures tells { TellsOf (state_at self.old page) (with_cell (state_at self.old page) cell false cell) result }
     {
         put_cell(&mut self.pages, memory, page, cell)
+    }
+
+    /// Sweeps a page that is cut: its unmarked objects go. The marks are those of the heap's granules.
+    pub fn sweep(&mut self, memory: &mut Memory, page: PageNo, marks: &BitRow)
+        requires inside { page < length self.old }
+        requires cut { IsCut (state_at self.old page) }
+        requires listed { AreListed memory.old self.old }
+        requires marks { PAGE_GRANULES * length self.old ≤ length marks.now }
+        ensures states { self.new ≡ slice_set self.old page (state_at self.new page) }
+        ensures sweeps { SweepsOn memory.old memory.new marks.now page (state_at self.old page) (state_at self.new page) }
+        ensures objects { SweepsObjects (found_in self.old) (found_in self.new) marks.now page }
+        ensures listed { AreListed memory.new self.new }
+    {
+        self.laws();
+        sweep_cells(&mut self.pages, memory, page, marks)
     }
 
     // What stands on a page.

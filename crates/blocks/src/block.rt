@@ -1,21 +1,22 @@
 //! A page that is cut into cells of one class. Contracts see the class, the kind, the row of its cells, in which true is
 //! an allocated cell, and the number of its first free cell.
-ghost use Rattle.std.specs.Prelude.{◌≡◌, ◌*◌, ◌/◌, ◌%◌, ◌<◌, ◌==◌, ℕ, true, false};
+ghost use Rattle.std.specs.Prelude.{◌≡◌, ◌+◌, ◌≤◌, ◌*◌, ◌/◌, ◌%◌, ◌<◌, ◌==◌, ℕ, true, false};
 ghost use Rattle.std.specs.Prelude.{List, length, replicate, slice_index_or, slice_set, MatchOption, MatchBool, IfSome, IfNone};
-ghost use Rattle.words.specs.declared.limits.TheConstants.{PAGE_WORDS, PAGE_BYTES, MAX_PAGES};
+ghost use Rattle.words.specs.declared.limits.TheConstants.{PAGE_WORDS, PAGE_BYTES, PAGE_GRANULES, MAX_PAGES};
 ghost use Rattle.words.specs.Bits.{members, IsFullRow, IsEmptyFrom, IsFirstFrom};
 ghost use Rattle.words.specs.Classes.{IsSizeClass};
 ghost use Rattle.pages.specs.Memory.{with_word_at};
 ghost use Rattle.blocks.specs.Cells.{IsCells, IsInCell, IsLeftOver};
 ghost use Rattle.blocks.specs.Lists.{cell_start, link_of, ChangesPage, HasPage, IsFreeCellOf, IsListed, IsTakenCellOf};
+ghost use Rattle.blocks.specs.Sweeps.{SweepsCells};
 ghost use Rattle.blocks.specs.declared.list.TheConstants.{LIST_END};
 
 use crate::list::{LIST_END, link_all, start_of};
 use crate::reciprocal::{WHOLE, reciprocal_of};
 use pages::Memory;
 use std::marker::Model;
-use words::limits::{GRANULE_BYTES, PAGE_BYTES};
-use words::{CellRow, Class, Kind, PageNo};
+use words::limits::{GRANULE_BYTES, GRANULE_WORDS, PAGE_BYTES, PAGE_GRANULES};
+use words::{BitRow, CellRow, Class, Kind, PageNo};
 
 /// A page cut for one class and kind, with the cells that are allocated.
 #[derive(Drop)]
@@ -166,6 +167,27 @@ impl Block {
         memory.write(start_of(self.class, page, cell), u64::from(self.first));
         self.taken.clear(cell);
         self.first = cell;
+    }
+
+    /// Makes each allocated cell free that isn't marked, and links it into the list. The marks are those of the heap's
+    /// granules.
+    pub fn sweep(&mut self, memory: &mut Memory, page: PageNo, marks: &BitRow)
+        requires page { page < MAX_PAGES }
+        requires has { HasPage memory.old page }
+        requires listed { IsListed memory.old page self.old }
+        requires marks { PAGE_GRANULES * page + PAGE_GRANULES ≤ length marks.now }
+        ensures sweeps { SweepsCells memory.old memory.new marks.now page self.old self.new }
+        ensures listed { IsListed memory.new page self.new }
+    {
+        let first = PAGE_GRANULES as usize * page as usize;
+        let granules = usize::from(self.class.words()) / GRANULE_WORDS as usize;
+        let mut from = 0;
+        while let Some(cell) = self.next_taken(from) {
+            if !marks.is_set(first + usize::from(cell) * granules) {
+                self.put(memory, page, cell);
+            }
+            from = cell + 1;
+        }
     }
 
     /// How many cells are allocated.

@@ -2,19 +2,20 @@
 use Rattle.std.proofs.Common.{◌≡◌, ℕ, ◌+◌, ◌<◌, ◌≤◌, ◌⊎◌, Bool, true, false, List, length, get_or, set, replicate, refl, sym, ap, ◌∙◌, subst, arith, inl, inr, ⊎_elim, length-set, get_or-set_same, get_or-set_other}
 use Rattle.std.specs.Prelude.{◌≢◌, ◌==◌, ◌/◌, if◌then◌else◌}
 use Rattle.std.proofs.lemmas.Bool.{cases_eq, cases_lt, true≢false}
-use Rattle.std.proofs.lemmas.List.{get_or-replicate, length-replicate}
+use Rattle.std.proofs.lemmas.List.{get_or-replicate, get_or_past, length-replicate}
 use Rattle.words.specs.declared.limits.TheConstants.{PAGE_WORDS}
-use Rattle.words.specs.Bits.{IsEmptyFrom, IsFirstFrom, IsFullRow}
+use Rattle.words.specs.Bits.{Has, IsEmptyFrom, IsFullRow}
+use Rattle.blocks.specs.Lists.{IsFreeCellOf}
 use Rattle.words.specs.declared.class.Kind.{Kind}
 use Rattle.words.specs.declared.class.Kind.TheVariants.{Normal, PointerFree}
 use Rattle.words.specs.Classes.{IsSizeClass}
 use Rattle.blocks.specs.Cells.{Cells}
 use Rattle.blocks.proofs.Places.{class_bounds}
-use Rattle.block_map.specs.States.{PageState, free, cut, head, body, state_at, HasCell, AreFreePages, IsSpanSet, IsCut, all_free, with_cell, span_of, large_states, LaidAt, IsLaid}
+use Rattle.block_map.specs.States.{PageState, free, cut, head, body, state_at, HasCell, AreFreePages, IsSpanSet, IsCut, IsBlockFor, all_free, with_cell, span_of, large_states, LaidAt, IsLaid}
 use Rattle.block_map.specs.Listed.{HasFirst, IsFullOn}
 use Rattle.block_map.proofs.Seen.{within}
 use Rattle.block_map.proofs.Spans.{place_of}
-use Rattle.object_space.specs.AvailableRows.{row_of, HasFreeCell, IsAvailable, IsExact, AreClear, IsBitSet}
+use Rattle.object_space.specs.AvailableRows.{row_of, HasFreeCell, IsAvailable, IsReadyPage, IsWaitingPage, IsExact, AreReady, AreWaiting, AreClear, IsBitSet}
 use Rattle.object_space.specs.Rooms.{IsFreeCell, HasNoFreeCell}
 use Rattle.object_space.proofs.Rooms.{cell_below}
 
@@ -37,85 +38,232 @@ cut_offers b c k has = (sym has.of_class, sym has.of_kind)
 pub free_offers : (class : ℕ) (kind : Kind) → OffersOnly free class kind
 free_offers class kind c k has = absurd has
 
+-- and a state is a block for no other
+abbrev pub BlockOnly : PageState → ℕ → Kind → Type 0
+BlockOnly st class kind = (c : ℕ) (k : Kind) → IsBlockFor st c k → (c ≡ class) × (k ≡ kind)
+
+pub cut_block : (b : Cells) → BlockOnly (cut b) b.class b.kind
+cut_block b c k has = (sym has.0, sym has.1)
+
+pub free_block : (class : ℕ) (kind : Kind) → BlockOnly free class kind
+free_block class kind c k has = absurd has
+
 -- one page changes, and its bit with it
-module _ (rows rows' : List (List Bool)) (states states' : List PageState) (class : ℕ) (kind : Kind) (page : ℕ) (b : Bool)
-    (exact : IsExact rows states) (bit_is : IsBitSet rows rows' class kind page b) (size : length states' ≡ length states)
-    (others : (p : ℕ) → p ≢ page → state_at states' p ≡ state_at states p) (before : OffersOnly (state_at states page) class kind) (after : OffersOnly (state_at states' page) class kind)
-    (to : b ≡ true → IsAvailable (state_at states' page) class kind) (from : IsAvailable (state_at states' page) class kind → b ≡ true) where
-  here_entered : (c : ℕ) (k : Kind) (p : ℕ) → p ≡ page → IsAvailable (state_at states' p) c k → get_or (row_of rows' c k) p false ≡ true
-  here_entered c k p e is =
-      let one = after c k (subst (λ q. IsAvailable (state_at states' q) c k) e is) in
-      let own : IsAvailable (state_at states' page) class kind = at_same (λ d l q. IsAvailable (state_at states' q) d l) class c kind k page p (sym one.0) (sym one.1) (sym e) is in
+module _ (rows rows' : List (List Bool)) (n n' : ℕ) (holds holds' : ℕ → ℕ → Kind → Type 0) (class : ℕ) (kind : Kind) (page : ℕ) (b : Bool)
+    (exact : IsExact rows n holds) (bit_is : IsBitSet rows rows' class kind page b) (size : n' ≡ n)
+    (others : (p c : ℕ) (k : Kind) → p ≢ page → holds p c k → holds' p c k) (back : (p c : ℕ) (k : Kind) → p ≢ page → holds' p c k → holds p c k)
+    (before : (c : ℕ) (k : Kind) → holds page c k → (c ≡ class) × (k ≡ kind)) (after : (c : ℕ) (k : Kind) → holds' page c k → (c ≡ class) × (k ≡ kind))
+    (to : b ≡ true → holds' page class kind) (from : holds' page class kind → b ≡ true) where
+  here_entered : (c : ℕ) (k : Kind) (p : ℕ) → p ≡ page → holds' p c k → get_or (row_of rows' c k) p false ≡ true
+  here_entered c k p e has =
+      let one = after c k (subst (λ q. holds' q c k) e has) in
+      let own : holds' page class kind = at_same (λ d l q. holds' q d l) class c kind k page p (sym one.0) (sym one.1) (sym e) has in
       at_same (λ d l q. get_or (row_of rows' d l) q false ≡ true) c class k kind p page one.0 one.1 e (bit_is.here ∙ from own)
 
-  here_only : (c : ℕ) (k : Kind) (p : ℕ) → IsSizeClass c → p ≡ page → get_or (row_of rows' c k) p false ≡ true → IsAvailable (state_at states' p) c k
+  here_only : (c : ℕ) (k : Kind) (p : ℕ) → IsSizeClass c → p ≡ page → get_or (row_of rows' c k) p false ≡ true → holds' p c k
   here_only c k p is e bit = ⊎_elim (λ x. ⊎_elim (own x) (λ y. absurd (apart (λ _ z. y z))) (kind_cases k kind)) (λ x. absurd (apart (λ z _. x z))) (cases_eq c class)
     where
-      own : c ≡ class → k ≡ kind → IsAvailable (state_at states' p) c k
+      own : c ≡ class → k ≡ kind → holds' p c k
       own x y =
           let set_here : get_or (row_of rows' class kind) page false ≡ true = at_same (λ d l q. get_or (row_of rows' d l) q false ≡ true) class c kind k page p (sym x) (sym y) (sym e) bit in
-          at_same (λ d l q. IsAvailable (state_at states' q) d l) c class k kind p page x y e (to (sym bit_is.here ∙ set_here))
+          at_same (λ d l q. holds' q d l) c class k kind p page x y e (to (sym bit_is.here ∙ set_here))
 
       apart : (c ≡ class → k ≡ kind → ⊥) → ⊥
       apart ne =
           let was = exact.only c k p is (sym (bit_is.others c k p is (λ x y z. ne x y)) ∙ bit) in
-          let one = before c k (subst (λ q. IsAvailable (state_at states q) c k) e was) in ne one.0 one.1
+          let one = before c k (subst (λ q. holds q c k) e was) in ne one.0 one.1
 
-  pub exact_changed : IsExact rows' states'
+  pub exact_changed : IsExact rows' n' holds'
   exact_changed = record {
     long = λ c k is. bit_is.long c k is ∙ exact.long c k is ∙ sym size;
     entered = λ c k p is has. ⊎_elim
         (λ e. here_entered c k p e has)
-        (λ ne. bit_is.others c k p is (λ x y z. ne z) ∙ exact.entered c k p is (subst (λ st. IsAvailable st c k) (others p ne) has))
+        (λ ne. bit_is.others c k p is (λ x y z. ne z) ∙ exact.entered c k p is (back p c k ne has))
         (cases_eq p page);
     only = λ c k p is bit. ⊎_elim
         (λ e. here_only c k p is e bit)
-        (λ ne. subst (λ st. IsAvailable st c k) (sym (others p ne)) (exact.only c k p is (sym (bit_is.others c k p is (λ x y z. ne z)) ∙ bit)))
+        (λ ne. others p c k ne (exact.only c k p is (sym (bit_is.others c k p is (λ x y z. ne z)) ∙ bit)))
         (cases_eq p page);
   }
+
+-- nothing changes for the rows
+exact_same : (rows : List (List Bool)) (n n' : ℕ) (holds holds' : ℕ → ℕ → Kind → Type 0) → IsExact rows n holds → n' ≡ n → ((p c : ℕ) (k : Kind) → holds p c k → holds' p c k)
+    → ((p c : ℕ) (k : Kind) → holds' p c k → holds p c k) → IsExact rows n' holds'
+exact_same rows n n' holds holds' exact size to from = record {
+  long = λ c k is. exact.long c k is ∙ sym size;
+  entered = λ c k p is has. exact.entered c k p is (from p c k has);
+  only = λ c k p is bit. to p c k (exact.only c k p is bit);
+}
 
 -- the rows as they were, where the bit was b already
 same_bit : (rows : List (List Bool)) (class : ℕ) (kind : Kind) (page : ℕ) (b : Bool) → get_or (row_of rows class kind) page false ≡ b → IsBitSet rows rows class kind page b
 same_bit rows class kind page b is = record { long = λ c k _. refl; here = is; others = λ c k p _ _. refl }
 
+-- one page changes, and the rows of the pages that are ready, or that wait, with it
+module _ (rows rows' : List (List Bool)) (states states' : List PageState) (row row' : List Bool) (class : ℕ) (kind : Kind) (page : ℕ) (b : Bool)
+    (bit_is : IsBitSet rows rows' class kind page b) (size : length states' ≡ length states)
+    (others : (p : ℕ) → p ≢ page → state_at states' p ≡ state_at states p) (rest : (p : ℕ) → p ≢ page → get_or row' p false ≡ get_or row p false) where
+  pub ready_changed : AreReady rows states row → OffersOnly (state_at states page) class kind → OffersOnly (state_at states' page) class kind
+      → (b ≡ true → IsReadyPage states' row' page class kind) → (IsReadyPage states' row' page class kind → b ≡ true) → AreReady rows' states' row'
+  ready_changed exact before after to from = exact_changed rows rows' (length states) (length states') (IsReadyPage states row) (IsReadyPage states' row') class kind page b exact bit_is size
+      (λ p c k ne has. (subst (λ st. IsAvailable st c k) (sym (others p ne)) has.0, λ h. has.1 (sym (rest p ne) ∙ h)))
+      (λ p c k ne has. (subst (λ st. IsAvailable st c k) (others p ne) has.0, λ h. has.1 (rest p ne ∙ h)))
+      (λ c k has. before c k has.0)
+      (λ c k has. after c k has.0)
+      to from
+
+  pub waiting_changed : AreWaiting rows states row → BlockOnly (state_at states page) class kind → BlockOnly (state_at states' page) class kind
+      → (b ≡ true → IsWaitingPage states' row' page class kind) → (IsWaitingPage states' row' page class kind → b ≡ true) → AreWaiting rows' states' row'
+  waiting_changed exact before after to from = exact_changed rows rows' (length states) (length states') (IsWaitingPage states row) (IsWaitingPage states' row') class kind page b exact bit_is size
+      (λ p c k ne has. (subst (λ st. IsBlockFor st c k) (sym (others p ne)) has.0, rest p ne ∙ has.1))
+      (λ p c k ne has. (subst (λ st. IsBlockFor st c k) (others p ne) has.0, sym (rest p ne) ∙ has.1))
+      (λ c k has. before c k has.0)
+      (λ c k has. after c k has.0)
+      to from
+
+-- pages change, and no pending one
+pub waiting_same : (rows : List (List Bool)) (states states' : List PageState) (row : List Bool) → AreWaiting rows states row → length states' ≡ length states
+    → ((p : ℕ) → Has row p → state_at states' p ≡ state_at states p) → AreWaiting rows states' row
+waiting_same rows states states' row exact size same = exact_same rows (length states) (length states') (IsWaitingPage states row) (IsWaitingPage states' row) exact size
+    (λ p c k has. (subst (λ st. IsBlockFor st c k) (sym (same p has.1)) has.0, has.1))
+    (λ p c k has. (subst (λ st. IsBlockFor st c k) (same p has.1) has.0, has.1))
+
 -- pages change that have no free cell before or after
-pub exact_span : (rows : List (List Bool)) (states states' : List PageState) (first n : ℕ) (state : ℕ → PageState) → IsExact rows states → IsSpanSet states states' first n state
-    → ((p : ℕ) → first ≤ p → p < first + n → (c : ℕ) (k : Kind) → IsAvailable (state_at states p) c k → ⊥) → ((p c : ℕ) (k : Kind) → IsAvailable (state p) c k → ⊥) → IsExact rows states'
-exact_span rows states states' first n state exact span before after = record {
-  long = λ c k is. exact.long c k is ∙ sym span.size;
-  entered = λ c k p is has. ⊎_elim
-      (λ h. absurd (after p c k (subst (λ st. IsAvailable st c k) (span.inside p h.0 h.1) has)))
-      (λ out. exact.entered c k p is (subst (λ st. IsAvailable st c k) (span.others p out) has))
-      (place_of first n p);
-  only = λ c k p is bit. ⊎_elim
-      (λ h. absurd (before p h.0 h.1 c k (exact.only c k p is bit)))
-      (λ out. subst (λ st. IsAvailable st c k) (sym (span.others p out)) (exact.only c k p is bit))
-      (place_of first n p);
-}
+pub ready_span : (rows : List (List Bool)) (states states' : List PageState) (row : List Bool) (first n : ℕ) (state : ℕ → PageState) → AreReady rows states row → IsSpanSet states states' first n state
+    → ((p : ℕ) → first ≤ p → p < first + n → (c : ℕ) (k : Kind) → IsAvailable (state_at states p) c k → ⊥) → ((p c : ℕ) (k : Kind) → IsAvailable (state p) c k → ⊥) → AreReady rows states' row
+ready_span rows states states' row first n state exact span before after = exact_same rows (length states) (length states') (IsReadyPage states row) (IsReadyPage states' row) exact span.size
+    (λ p c k has. (⊎_elim (λ h. absurd (before p h.0 h.1 c k has.0)) (λ out. subst (λ st. IsAvailable st c k) (sym (span.others p out)) has.0) (place_of first n p), has.1))
+    (λ p c k has. (⊎_elim (λ h. absurd (after p c k (subst (λ st. IsAvailable st c k) (span.inside p h.0 h.1) has.0))) (λ out. subst (λ st. IsAvailable st c k) (span.others p out) has.0) (place_of first n p), has.1))
+
+-- and none of them was cut
+pub waiting_span : (rows : List (List Bool)) (states states' : List PageState) (row : List Bool) (first n : ℕ) (state : ℕ → PageState) → AreWaiting rows states row → IsSpanSet states states' first n state
+    → ((p : ℕ) → Has row p → IsCut (state_at states p)) → ((p : ℕ) → first ≤ p → p < first + n → IsCut (state_at states p) → ⊥) → AreWaiting rows states' row
+waiting_span rows states states' row first n state exact span cuts uncut = waiting_same rows states states' row exact span.size
+    (λ p h. ⊎_elim (λ i. absurd (uncut p i.0 i.1 (cuts p h))) (λ out. span.others p out) (place_of first n p))
 
 -- a heap that opens
-pub exact_clear : (rows : List (List Bool)) (states : List PageState) (pages : ℕ) → AreClear rows pages → AreFreePages states pages → IsExact rows states
-exact_clear rows states pages clear all = record {
+pub ready_clear : (rows : List (List Bool)) (states : List PageState) (row : List Bool) (pages : ℕ) → AreClear rows pages → AreFreePages states pages → AreReady rows states row
+ready_clear rows states row pages clear all = record {
   long = λ c k is. (clear.each c k is).size ∙ sym all.size;
-  entered = λ c k p is has. absurd (subst (λ st. IsAvailable st c k) (all.each p) has);
+  entered = λ c k p is has. absurd (subst (λ st. IsAvailable st c k) (all.each p) has.0);
   only = λ c k p is bit. absurd (true≢false (sym bit ∙ (clear.each c k is).clear p));
 }
+
+pub waiting_clear : (rows : List (List Bool)) (states : List PageState) (row : List Bool) (pages : ℕ) → AreClear rows pages → AreFreePages states pages → AreWaiting rows states row
+waiting_clear rows states row pages clear all = record {
+  long = λ c k is. (clear.each c k is).size ∙ sym all.size;
+  entered = λ c k p is has. absurd (subst (λ st. IsBlockFor st c k) (all.each p) has.0);
+  only = λ c k p is bit. absurd (true≢false (sym bit ∙ (clear.each c k is).clear p));
+}
+
+-- a page begins to wait for a sweep
+module _ (ready ready' waiting waiting' : List (List Bool)) (states : List PageState) (row : List Bool) (class : ℕ) (kind : Kind) (page : ℕ) (b : Cells)
+    (is : state_at states page ≡ cut b) (of_class : class ≡ b.class) (of_kind : kind ≡ b.kind) (inside : page < length row) where
+  is_block : IsBlockFor (state_at states page) class kind
+  is_block = subst (λ st. IsBlockFor st class kind) (sym is) (sym of_class, sym of_kind)
+
+  only_block : BlockOnly (state_at states page) class kind
+  only_block = subst (λ st. BlockOnly st class kind) (sym is) (λ c k has. (sym has.0 ∙ sym of_class, sym has.1 ∙ sym of_kind))
+
+  only_offers : OffersOnly (state_at states page) class kind
+  only_offers = subst (λ st. OffersOnly st class kind) (sym is) (λ c k has. (sym has.of_class ∙ sym of_class, sym has.of_kind ∙ sym of_kind))
+
+  pub ready_pending : AreReady ready states row → IsBitSet ready ready' class kind page false → AreReady ready' states (set row page true)
+  ready_pending exact bit_is = ready_changed ready ready' states states row (set row page true) class kind page false bit_is refl (λ p ne. refl) (λ p ne. get_or-set_other row page p true false ne) exact only_offers only_offers
+      (λ e. absurd (true≢false (sym e)))
+      (λ has. absurd (has.1 (get_or-set_same row page true false inside)))
+
+  pub waiting_pending : AreWaiting waiting states row → IsBitSet waiting waiting' class kind page true → AreWaiting waiting' states (set row page true)
+  waiting_pending exact bit_is = waiting_changed waiting waiting' states states row (set row page true) class kind page true bit_is refl (λ p ne. refl) (λ p ne. get_or-set_other row page p true false ne) exact only_block only_block
+      (λ _. (is_block, get_or-set_same row page true false inside))
+      (λ _. refl)
+
+  not_pending : Has (set row page false) page → ⊥
+  not_pending h = true≢false (sym h ∙ get_or-set_same row page false false inside)
+
+  -- and does no more
+  pub waiting_swept : AreWaiting waiting states row → IsBitSet waiting waiting' class kind page false → AreWaiting waiting' states (set row page false)
+  waiting_swept exact bit_is = waiting_changed waiting waiting' states states row (set row page false) class kind page false bit_is refl (λ p ne. refl) (λ p ne. get_or-set_other row page p false false ne) exact only_block only_block
+      (λ e. absurd (true≢false (sym e)))
+      (λ has. absurd (not_pending has.1))
+
+  pub ready_swept : AreReady ready states row → IsBitSet ready ready' class kind page true → IsFreeCellOf b.taken b.first → AreReady ready' states (set row page false)
+  ready_swept exact bit_is cell = ready_changed ready ready' states states row (set row page false) class kind page true bit_is refl (λ p ne. refl) (λ p ne. get_or-set_other row page p false false ne) exact only_offers only_offers
+      (λ _. (subst (λ st. IsAvailable st class kind) (sym is) (record { of_class = sym of_class; of_kind = sym of_kind; cell = b.first; in_row = cell.inside; is_free = cell.free }), not_pending))
+      (λ _. refl)
+
+  pub ready_full : IsSizeClass class → AreReady ready states row → IsFullRow b.taken → AreReady ready states (set row page false)
+  ready_full is_class exact full = ready_changed ready ready states states row (set row page false) class kind page false (same_bit ready class kind page false clear) refl (λ p ne. refl) (λ p ne. get_or-set_other row page p false false ne) exact only_offers only_offers
+      (λ e. absurd (true≢false (sym e)))
+      (λ has. absurd (none has.0))
+    where
+      none : IsAvailable (state_at states page) class kind → ⊥
+      none has = let own : HasFreeCell b class kind = subst (λ st. IsAvailable st class kind) is has in true≢false (sym (full own.cell own.in_row) ∙ own.is_free)
+
+      clear : get_or (row_of ready class kind) page false ≡ false
+      clear = by (get_or (row_of ready class kind) page false) refl
+        where
+          by : (x : Bool) → get_or (row_of ready class kind) page false ≡ x → get_or (row_of ready class kind) page false ≡ false
+          by false e = e
+          by true e = absurd (none (exact.only class kind page is_class e).0)
+
+-- a page that is not cut is swept
+module _ (rows : List (List Bool)) (states : List PageState) (row : List Bool) (page : ℕ) (uncut : IsCut (state_at states page) → ⊥) where
+  not_available : (st : PageState) (c : ℕ) (k : Kind) → (IsCut st → ⊥) → IsAvailable st c k → ⊥
+  not_available free c k un has = has
+  not_available (cut b) c k un has = un tt
+  not_available (head n l) c k un has = has
+  not_available (body q) c k un has = has
+
+  not_block : (st : PageState) (c : ℕ) (k : Kind) → (IsCut st → ⊥) → IsBlockFor st c k → ⊥
+  not_block free c k un has = has
+  not_block (cut b) c k un has = un tt
+  not_block (head n l) c k un has = has
+  not_block (body q) c k un has = has
+
+  pub ready_uncut : AreReady rows states row → AreReady rows states (set row page false)
+  ready_uncut exact = exact_same rows (length states) (length states) (IsReadyPage states row) (IsReadyPage states (set row page false)) exact refl
+      (λ p c k has. ⊎_elim
+      (λ (e : p ≡ page). absurd (not_available (state_at states page) c k uncut (subst (λ q. IsAvailable (state_at states q) c k) e has.0)))
+      (λ ne. (has.0, λ h. has.1 (sym (get_or-set_other row page p false false ne) ∙ h)))
+      (cases_eq p page))
+      (λ p c k has. ⊎_elim
+      (λ (e : p ≡ page). absurd (not_available (state_at states page) c k uncut (subst (λ q. IsAvailable (state_at states q) c k) e has.0)))
+      (λ ne. (has.0, λ h. has.1 (get_or-set_other row page p false false ne ∙ h)))
+      (cases_eq p page))
+
+  pub waiting_uncut : AreWaiting rows states row → AreWaiting rows states (set row page false)
+  waiting_uncut exact = exact_same rows (length states) (length states) (IsWaitingPage states row) (IsWaitingPage states (set row page false)) exact refl
+      (λ p c k has. ⊎_elim
+      (λ (e : p ≡ page). absurd (not_block (state_at states page) c k uncut (subst (λ q. IsBlockFor (state_at states q) c k) e has.0)))
+      (λ ne. (has.0, get_or-set_other row page p false false ne ∙ has.1))
+      (cases_eq p page))
+      (λ p c k has. ⊎_elim
+      (λ (e : p ≡ page). absurd (not_block (state_at states page) c k uncut (subst (λ q. IsBlockFor (state_at states q) c k) e has.0)))
+      (λ ne. (has.0, sym (get_or-set_other row page p false false ne) ∙ has.1))
+      (cases_eq p page))
 
 -- the search of a free cell
 pub free_cell_offers : (states : List PageState) (class : ℕ) (kind : Kind) (page cell : ℕ) → IsFreeCell states class kind page cell → IsAvailable (state_at states page) class kind
 free_cell_offers states class kind page cell at =
     subst (λ st. IsAvailable st class kind) (sym at.is_cut) (record { of_class = at.of_class; of_kind = at.of_kind; cell = cell; in_row = at.in_row; is_free = at.is_free })
 
-pub none_available : (rows : List (List Bool)) (states : List PageState) (class : ℕ) (kind : Kind) → IsExact rows states → IsSizeClass class → IsEmptyFrom (row_of rows class kind) 0 → HasNoFreeCell states class kind
-none_available rows states class kind exact is empty page cell at =
+-- no page is ready, and none waits that is cut for the class and the kind
+pub none_available : (rows : List (List Bool)) (states : List PageState) (row : List Bool) (class : ℕ) (kind : Kind) → AreReady rows states row → IsSizeClass class → IsEmptyFrom (row_of rows class kind) 0
+    → ((p : ℕ) → Has row p → IsBlockFor (state_at states p) class kind → ⊥) → HasNoFreeCell states class kind
+none_available rows states row class kind exact is empty unawaited page cell at =
     let long = exact.long class kind is in let inside = at.inside in
-    true≢false (sym (exact.entered class kind page is (free_cell_offers states class kind page cell at)) ∙ empty page (omega arith) (omega arith))
+    true≢false (sym (exact.entered class kind page is (free_cell_offers states class kind page cell at, unpending)) ∙ empty page (omega arith) (omega arith))
+  where
+    unpending : Has row page → ⊥
+    unpending h = unawaited page h (subst (λ st. IsBlockFor st class kind) (sym at.is_cut) (at.of_class, at.of_kind))
 
--- the page that was found
-pub found_available : (rows : List (List Bool)) (states : List PageState) (class : ℕ) (kind : Kind) (page : ℕ) → IsExact rows states → IsSizeClass class → IsFirstFrom (row_of rows class kind) 0 page
-    → (page < length states) × IsAvailable (state_at states page) class kind
-found_available rows states class kind page exact is first =
-    let long = exact.long class kind is in let inside = first.inside in (omega arith, exact.only class kind page is first.member)
+pub none_awaited : (rows : List (List Bool)) (states : List PageState) (row : List Bool) (class : ℕ) (kind : Kind) → AreWaiting rows states row → length row ≡ length states → IsSizeClass class → IsEmptyFrom (row_of rows class kind) 0
+    → (p : ℕ) → Has row p → IsBlockFor (state_at states p) class kind → ⊥
+none_awaited rows states row class kind exact size is empty p h block =
+    let long = exact.long class kind is in
+    let inside : p < length row = ⊎_elim (λ lt. lt) (λ past. absurd (true≢false (sym h ∙ get_or_past row p false past))) (cases_lt p (length row)) in
+    true≢false (sym (exact.entered class kind p is (block, h)) ∙ empty p (omega arith) (omega arith))
 
 pub available_cut : (st : PageState) (class : ℕ) (kind : Kind) → IsAvailable st class kind → IsCut st
 available_cut free class kind is = absurd is
@@ -157,8 +305,8 @@ available_cell states class kind page cell has is_free = by (state_at states pag
     by (body q) is has at = absurd has
 
 -- a cell is taken
-module _ (rows rows' : List (List Bool)) (states states' : List PageState) (class : ℕ) (kind : Kind) (page cell next : ℕ) (exact : IsExact rows states) (is_class : IsSizeClass class)
-    (at : IsFreeCell states class kind page cell) (became : states' ≡ set states page (with_cell (state_at states page) cell true next)) where
+module _ (rows rows' : List (List Bool)) (states states' : List PageState) (row : List Bool) (class : ℕ) (kind : Kind) (page cell next : ℕ) (exact : AreReady rows states row) (is_class : IsSizeClass class)
+    (swept : Has row page → ⊥) (at : IsFreeCell states class kind page cell) (became : states' ≡ set states page (with_cell (state_at states page) cell true next)) where
   abbrev pub filled : Cells
   filled = record at.block { taken = set at.block.taken cell true; first = next }
 
@@ -180,24 +328,24 @@ module _ (rows rows' : List (List Bool)) (states states' : List PageState) (clas
   pub taken_inside : page < length (row_of rows class kind)
   taken_inside = let long = exact.long class kind is_class in let inside = at.inside in omega arith
 
-  pub exact_filled : IsBitSet rows rows' class kind page false → IsFullOn (state_at states' page) → IsExact rows' states'
-  exact_filled bit_is full = exact_changed rows rows' states states' class kind page false exact bit_is taken_size taken_other opens_before opens_after
+  pub exact_filled : IsBitSet rows rows' class kind page false → IsFullOn (state_at states' page) → AreReady rows' states' row
+  exact_filled bit_is full = ready_changed rows rows' states states' row row class kind page false bit_is taken_size taken_other (λ p ne. refl) exact opens_before opens_after
       (λ e. absurd (true≢false (sym e)))
-      (λ has. absurd (available_not_full (state_at states' page) class kind has full))
+      (λ has. absurd (available_not_full (state_at states' page) class kind has.0 full))
 
-  pub exact_taken : HasFirst (state_at states' page) → IsExact rows states'
-  exact_taken has = exact_changed rows rows states states' class kind page true exact
-      (same_bit rows class kind page true (exact.entered class kind page is_class (free_cell_offers states class kind page cell at)))
-      taken_size taken_other opens_before opens_after
-      (λ _. subst (λ st. IsAvailable st class kind) (sym taken_state) (first_of (subst HasFirst taken_state has)))
+  pub exact_taken : HasFirst (state_at states' page) → AreReady rows states' row
+  exact_taken has = ready_changed rows rows states states' row row class kind page true
+      (same_bit rows class kind page true (exact.entered class kind page is_class (free_cell_offers states class kind page cell at, swept)))
+      taken_size taken_other (λ p ne. refl) exact opens_before opens_after
+      (λ _. (subst (λ st. IsAvailable st class kind) (sym taken_state) (first_of (subst HasFirst taken_state has)), swept))
       (λ _. refl)
     where
       first_of : HasFirst (cut filled) → HasFreeCell filled class kind
       first_of first = record { of_class = at.of_class; of_kind = at.of_kind; cell = next; in_row = first.0; is_free = first.1 }
 
 -- a free page is cut
-module _ (rows rows' : List (List Bool)) (states states' : List PageState) (class : ℕ) (kind : Kind) (page : ℕ) (exact : IsExact rows states) (is_class : IsSizeClass class)
-    (inside : page < length states) (was : state_at states page ≡ free) where
+module _ (rows rows' : List (List Bool)) (states states' : List PageState) (row : List Bool) (class : ℕ) (kind : Kind) (page : ℕ) (exact : AreReady rows states row) (is_class : IsSizeClass class)
+    (inside : page < length states) (was : state_at states page ≡ free) (cuts : (p : ℕ) → Has row p → IsCut (state_at states p)) where
   pub cut_inside : page < length (row_of rows class kind)
   cut_inside = let long = exact.long class kind is_class in omega arith
 
@@ -207,18 +355,19 @@ module _ (rows rows' : List (List Bool)) (states states' : List PageState) (clas
       let some : 0 < PAGE_WORDS / class = cell_below class 0 (omega arith) (omega arith) in
       record { of_class = refl; of_kind = refl; cell = 0; in_row = rw length-replicate some; is_free = get_or-replicate (PAGE_WORDS / class) 0 false false some }
 
-  pub exact_cut : states' ≡ set states page (all_free class kind) → IsBitSet rows rows' class kind page true → IsExact rows' states'
+  pub exact_cut : states' ≡ set states page (all_free class kind) → IsBitSet rows rows' class kind page true → AreReady rows' states' row
   exact_cut became bit_is =
       let now : state_at states' page ≡ all_free class kind = ap (λ x. state_at x page) became ∙ get_or-set_same states page _ free inside in
-      exact_changed rows rows' states states' class kind page true exact bit_is (ap length became ∙ length-set states page _)
+      ready_changed rows rows' states states' row row class kind page true bit_is (ap length became ∙ length-set states page _)
       (λ p ne. ap (λ x. state_at x p) became ∙ get_or-set_other states page p _ free ne)
+      (λ p ne. refl) exact
       (subst (λ st. OffersOnly st class kind) (sym was) (free_offers class kind))
       (subst (λ st. OffersOnly st class kind) (sym now) (cut_offers (record { class = class; kind = kind; taken = replicate (PAGE_WORDS / class) false; first = 0 })))
-      (λ _. subst (λ st. IsAvailable st class kind) (sym now) first_free)
+      (λ _. (subst (λ st. IsAvailable st class kind) (sym now) first_free, λ h. subst IsCut was (cuts page h)))
       (λ _. refl)
 
 -- a cell is freed
-module _ (rows rows' : List (List Bool)) (states mid : List PageState) (page cell : ℕ) (b : Cells) (exact : IsExact rows states) (inside : page < length states)
+module _ (rows rows' : List (List Bool)) (states mid : List PageState) (row : List Bool) (page cell : ℕ) (b : Cells) (exact : AreReady rows states row) (inside : page < length states)
     (at : HasCell (state_at states page) cell true) (became : mid ≡ set states page (with_cell (state_at states page) cell false cell)) (is : state_at mid page ≡ cut b) (is_class : IsSizeClass b.class) where
   -- the block as it was
   abbrev WasCut : Type 0
@@ -264,48 +413,105 @@ module _ (rows rows' : List (List Bool)) (states mid : List PageState) (page cel
   of_block : (class : ℕ) (kind : Kind) (v : Bool) → class ≡ b.class → kind ≡ b.kind → IsBitSet rows rows' class kind page v → IsBitSet rows rows' b.class b.kind page v
   of_block class kind v c k bit_is = subst (λ l. IsBitSet rows rows' b.class l page v) k (subst (λ d. IsBitSet rows rows' d kind page v) c bit_is)
 
-  pub exact_entered : (class : ℕ) (kind : Kind) → class ≡ b.class → kind ≡ b.kind → IsBitSet rows rows' class kind page true → IsExact rows' mid
-  exact_entered class kind c k bit_is =
-      let w = was_cut in
-      exact_changed rows rows' states mid b.class b.kind page true exact (of_block class kind true c k bit_is) mid_size mid_other opened
-      (subst (λ st. OffersOnly st b.class b.kind) (sym is) (cut_offers b))
-      (λ _. subst (λ st. IsAvailable st b.class b.kind) (sym is) (record { of_class = refl; of_kind = refl; cell = cell; in_row = w.4; is_free = w.5 }))
+  cell_opens : IsAvailable (state_at mid page) b.class b.kind
+  cell_opens = let w = was_cut in subst (λ st. IsAvailable st b.class b.kind) (sym is) (record { of_class = refl; of_kind = refl; cell = cell; in_row = w.4; is_free = w.5 })
+
+  open_after : OffersOnly (state_at mid page) b.class b.kind
+  open_after = subst (λ st. OffersOnly st b.class b.kind) (sym is) (cut_offers b)
+
+  pub exact_entered : (class : ℕ) (kind : Kind) → class ≡ b.class → kind ≡ b.kind → (Has row page → ⊥) → IsBitSet rows rows' class kind page true → AreReady rows' mid row
+  exact_entered class kind c k swept bit_is =
+      ready_changed rows rows' states mid row row b.class b.kind page true (of_block class kind true c k bit_is) mid_size mid_other (λ p ne. refl) exact opened open_after
+      (λ _. (cell_opens, swept))
       (λ _. refl)
 
   -- where the page had another free cell, the rows say of it already that it has one
-  pub exact_kept : HasFirst (state_at states page) → IsExact rows mid
-  exact_kept has =
+  pub exact_kept : HasFirst (state_at states page) → (Has row page → ⊥) → AreReady rows mid row
+  exact_kept has swept =
       let w = was_cut in
-      exact_changed rows rows states mid b.class b.kind page true exact
-      (same_bit rows b.class b.kind page true (exact.entered b.class b.kind page is_class (subst (λ st. IsAvailable st b.class b.kind) (sym w.1) (first_of w.0 w.2 w.3 (subst HasFirst w.1 has)))))
-      mid_size mid_other opened
-      (subst (λ st. OffersOnly st b.class b.kind) (sym is) (cut_offers b))
-      (λ _. subst (λ st. IsAvailable st b.class b.kind) (sym is) (record { of_class = refl; of_kind = refl; cell = cell; in_row = w.4; is_free = w.5 }))
+      ready_changed rows rows states mid row row b.class b.kind page true
+      (same_bit rows b.class b.kind page true (exact.entered b.class b.kind page is_class (subst (λ st. IsAvailable st b.class b.kind) (sym w.1) (first_of w.0 w.2 w.3 (subst HasFirst w.1 has)), swept)))
+      mid_size mid_other (λ p ne. refl) exact opened open_after
+      (λ _. (cell_opens, swept))
       (λ _. refl)
     where
       first_of : (a : Cells) → a.class ≡ b.class → a.kind ≡ b.kind → HasFirst (cut a) → HasFreeCell a b.class b.kind
       first_of a c k first = record { of_class = c; of_kind = k; cell = a.first; in_row = first.0; is_free = first.1 }
 
+  -- a pending page is not ready, whatever cells it has
+  pub exact_unswept : Has row page → AreReady rows mid row
+  exact_unswept pending = ready_changed rows rows states mid row row b.class b.kind page false (same_bit rows b.class b.kind page false clear) mid_size mid_other (λ p ne. refl) exact opened open_after
+      (λ e. absurd (true≢false (sym e)))
+      (λ has. absurd (has.1 pending))
+    where
+      clear : get_or (row_of rows b.class b.kind) page false ≡ false
+      clear = by (get_or (row_of rows b.class b.kind) page false) refl
+        where
+          by : (x : Bool) → get_or (row_of rows b.class b.kind) page false ≡ x → get_or (row_of rows b.class b.kind) page false ≡ false
+          by false e = e
+          by true e = absurd ((exact.only b.class b.kind page is_class e).1 pending)
+
   -- and its page becomes free
   pub exact_uncut : (states' : List PageState) (class : ℕ) (kind : Kind) → class ≡ b.class → kind ≡ b.kind → IsSpanSet mid states' page (span_of (state_at mid page)) (λ _. free)
-      → IsBitSet rows rows' class kind page false → IsExact rows' states'
-  exact_uncut states' class kind c k span bit_is =
+      → (row' : List Bool) → ((p : ℕ) → p ≢ page → get_or row' p false ≡ get_or row p false) → IsBitSet rows rows' class kind page false → AreReady rows' states' row'
+  exact_uncut states' class kind c k span row' rest bit_is =
       let one : IsSpanSet mid states' page 1 (λ _. free) = subst (λ n. IsSpanSet mid states' page n (λ _. free)) (ap span_of is) span in
       let now : state_at states' page ≡ free = one.inside page (omega arith) (omega arith) in
-      exact_changed rows rows' states states' b.class b.kind page false exact (of_block class kind false c k bit_is) (one.size ∙ mid_size)
+      ready_changed rows rows' states states' row row' b.class b.kind page false (of_block class kind false c k bit_is) (one.size ∙ mid_size)
       (λ p ne. one.others p (out p ne) ∙ mid_other p ne)
-      opened
+      rest exact opened
       (subst (λ st. OffersOnly st b.class b.kind) (sym now) (free_offers b.class b.kind))
       (λ e. absurd (true≢false (sym e)))
-      (λ has. absurd (subst (λ st. IsAvailable st b.class b.kind) now has))
+      (λ has. absurd (subst (λ st. IsAvailable st b.class b.kind) now has.0))
     where
       out : (p : ℕ) → p ≢ page → (p < page) ⊎ (page + 1 ≤ p)
       out p ne = ⊎_elim (λ lt. inl lt) (λ ge. inr (omega arith)) (cases_lt p page)
 
+  -- the rows of those that wait
+  module _ (waits waits' : List (List Bool)) (awaited : AreWaiting waits states row) where
+    block_before : BlockOnly (state_at states page) b.class b.kind
+    block_before = let w = was_cut in subst (λ st. BlockOnly st b.class b.kind) (sym w.1) (λ c k has. (sym has.0 ∙ w.2, sym has.1 ∙ w.3))
+
+    block_after : BlockOnly (state_at mid page) b.class b.kind
+    block_after = subst (λ st. BlockOnly st b.class b.kind) (sym is) (cut_block b)
+
+    pub awaited_kept : AreWaiting waits mid row
+    awaited_kept = exact_same waits (length states) (length mid) (IsWaitingPage states row) (IsWaitingPage mid row) awaited mid_size
+        (λ p c k has. (⊎_elim (λ e. onto p c k e has.0) (λ ne. subst (λ st. IsBlockFor st c k) (sym (mid_other p ne)) has.0) (cases_eq p page), has.1))
+        (λ p c k has. (⊎_elim (λ e. back p c k e has.0) (λ ne. subst (λ st. IsBlockFor st c k) (mid_other p ne) has.0) (cases_eq p page), has.1))
+      where
+        onto : (p c : ℕ) (k : Kind) → p ≡ page → IsBlockFor (state_at states p) c k → IsBlockFor (state_at mid p) c k
+        onto p c k e has =
+            let one = block_before c k (subst (λ q. IsBlockFor (state_at states q) c k) e has) in
+            subst (λ q. IsBlockFor (state_at mid q) c k) (sym e) (subst (λ st. IsBlockFor st c k) (sym is) (sym one.0, sym one.1))
+
+        back : (p c : ℕ) (k : Kind) → p ≡ page → IsBlockFor (state_at mid p) c k → IsBlockFor (state_at states p) c k
+        back p c k e has =
+            let w = was_cut in
+            let one = block_after c k (subst (λ q. IsBlockFor (state_at mid q) c k) e has) in
+            subst (λ q. IsBlockFor (state_at states q) c k) (sym e) (subst (λ st. IsBlockFor st c k) (sym w.1) (w.2 ∙ sym one.0, w.3 ∙ sym one.1))
+
+    pub awaited_uncut : (states' : List PageState) (class : ℕ) (kind : Kind) → class ≡ b.class → kind ≡ b.kind → IsSpanSet mid states' page (span_of (state_at mid page)) (λ _. free)
+        → (row' : List Bool) → ((p : ℕ) → p ≢ page → get_or row' p false ≡ get_or row p false) → IsBitSet waits waits' class kind page false → AreWaiting waits' states' row'
+    awaited_uncut states' class kind c k span row' rest bit_is =
+        let one : IsSpanSet mid states' page 1 (λ _. free) = subst (λ n. IsSpanSet mid states' page n (λ _. free)) (ap span_of is) span in
+        let now : state_at states' page ≡ free = one.inside page (omega arith) (omega arith) in
+        waiting_changed waits waits' states states' row row' b.class b.kind page false
+        (subst (λ l. IsBitSet waits waits' b.class l page false) k (subst (λ d. IsBitSet waits waits' d kind page false) c bit_is))
+        (one.size ∙ mid_size)
+        (λ p ne. one.others p (out p ne) ∙ mid_other p ne)
+        rest awaited block_before
+        (subst (λ st. BlockOnly st b.class b.kind) (sym now) (free_block b.class b.kind))
+        (λ e. absurd (true≢false (sym e)))
+        (λ has. absurd (subst (λ st. IsBlockFor st b.class b.kind) now has.0))
+      where
+        out : (p : ℕ) → p ≢ page → (p < page) ⊎ (page + 1 ≤ p)
+        out p ne = ⊎_elim (λ lt. inl lt) (λ ge. inr (omega arith)) (cases_lt p page)
+
 -- a large object comes, or goes
-pub exact_large : (rows : List (List Bool)) (states states' : List PageState) (first n : ℕ) (kind : Kind) → IsExact rows states → IsSpanSet states states' first n (large_states first n kind)
-    → ((p : ℕ) → first ≤ p → p < first + n → state_at states p ≡ free) → IsExact rows states'
-exact_large rows states states' first n kind exact span were = exact_span rows states states' first n (large_states first n kind) exact span
+pub exact_large : (rows : List (List Bool)) (states states' : List PageState) (row : List Bool) (first n : ℕ) (kind : Kind) → AreReady rows states row → IsSpanSet states states' first n (large_states first n kind)
+    → ((p : ℕ) → first ≤ p → p < first + n → state_at states p ≡ free) → AreReady rows states' row
+exact_large rows states states' row first n kind exact span were = ready_span rows states states' row first n (large_states first n kind) exact span
     (λ p low high c k has. subst (λ st. IsAvailable st c k) (were p low high) has)
     (λ p c k has. none (p == first) c k has)
   where
@@ -313,9 +519,9 @@ exact_large rows states states' first n kind exact span were = exact_span rows s
     none true c k has = has
     none false c k has = has
 
-pub exact_large_gone : (rows : List (List Bool)) (states states' : List PageState) (first n : ℕ) (kind : Kind) → IsExact rows states → IsLaid states → first < length states → state_at states first ≡ head n kind
-    → IsSpanSet states states' first n (λ _. free) → IsExact rows states'
-exact_large_gone rows states states' first n kind exact laid inside is span = exact_span rows states states' first n (λ _. free) exact span before (λ p c k has. has)
+pub exact_large_gone : (rows : List (List Bool)) (states states' : List PageState) (row : List Bool) (first n : ℕ) (kind : Kind) → AreReady rows states row → IsLaid states → first < length states → state_at states first ≡ head n kind
+    → IsSpanSet states states' first n (λ _. free) → AreReady rows states' row
+exact_large_gone rows states states' row first n kind exact laid inside is span = ready_span rows states states' row first n (λ _. free) exact span before (λ p c k has. has)
   where
     large : LaidAt states first (head n kind)
     large = subst (LaidAt states first) is (laid.each first inside)

@@ -14,12 +14,12 @@ use Rattle.blocks.specs.Cells.{Cells}
 use Rattle.block_map.specs.Changes.{IsCleared}
 use Rattle.block_map.specs.FoundIn.{found_in, IsLawful}
 use Rattle.block_map.specs.Objects.{IsObjectOn}
-use Rattle.block_map.specs.States.{PageState, free, cut, state_at, IsCut, IsLaid, IsSpanSet}
+use Rattle.block_map.specs.States.{PageState, free, cut, state_at, IsBlockFor, IsCut, IsLaid, IsSpanSet}
 use Rattle.block_map.specs.declared.found.Found.{Found}
-use Rattle.object_space.specs.AvailableRows.{IsAvailable, IsExact, IsBitSet}
+use Rattle.object_space.specs.AvailableRows.{IsAvailable, AreReady, AreWaiting, IsBitSet}
 use Rattle.object_space.specs.Store.{Store, KeepsPending}
 use Rattle.object_space.specs.Sweeps.{SweepsPage}
-use Rattle.object_space.proofs.AvailablePages.{OffersOnly, cut_offers, free_offers, exact_changed}
+use Rattle.object_space.proofs.AvailablePages.{OffersOnly, cut_offers, free_offers, BlockOnly, cut_block, free_block, ready_changed, waiting_changed}
 use Rattle.object_space.proofs.Counting.{begins_on}
 use Rattle.object_space.proofs.Passing.{cut_page_object}
 use Rattle.object_space.proofs.Rooms.{in_row}
@@ -48,17 +48,31 @@ out_of p page ne = ⊎_elim (λ lt. inl lt) (λ ge. inr (omega arith)) (cases_lt
 gone_from : (states : List PageState) (page : ℕ) → ((k : ℕ) → page ≤ k → k < page + 1 → state_at states k ≡ free) → IsLawful states → (w : ℕ) (f : Found) → found_in states w ≡ Some f → f.page ≡ page → ⊥
 gone_from states page inside lawful w f there same = subst (λ st. IsObjectOn st f) (ap (state_at states) same ∙ inside page (omega arith) (omega arith)) (lawful.object w f there).on
 
--- the rows of pages with a free cell stay exact
-pub exact_freed : (rows rows' : List (List Bool)) (states states' : List PageState) (page : ℕ) (b : Cells) → IsExact rows states → state_at states page ≡ cut b → (class : ℕ) (kind : Kind) → class ≡ b.class → kind ≡ b.kind
-    → IsSpanSet states states' page 1 (λ _. free) → IsBitSet rows rows' class kind page false → IsExact rows' states'
-exact_freed rows rows' states states' page b exact is class kind c k span bit_is =
-    let now : state_at states' page ≡ free = span.inside page (omega arith) (omega arith) in
-    exact_changed rows rows' states states' class kind page false exact bit_is span.size
-    (λ p ne. span.others p (out_of p page ne))
-    (subst (λ st. OffersOnly st class kind) (sym is) (subst (λ l. OffersOnly (cut b) class l) (sym k) (subst (λ d. OffersOnly (cut b) d b.kind) (sym c) (cut_offers b))))
-    (subst (λ st. OffersOnly st class kind) (sym now) (free_offers class kind))
-    (λ e. absurd (true≢false (sym e)))
-    (λ has. absurd (subst (λ st. IsAvailable st class kind) now has))
+-- the rows stay exact
+module _ (rows rows' : List (List Bool)) (states states' : List PageState) (row : List Bool) (page : ℕ) (b : Cells) (is : state_at states page ≡ cut b) (class : ℕ) (kind : Kind) (c : class ≡ b.class) (k : kind ≡ b.kind)
+    (span : IsSpanSet states states' page 1 (λ _. free)) (bit_is : IsBitSet rows rows' class kind page false) where
+  now : state_at states' page ≡ free
+  now = span.inside page (omega arith) (omega arith)
+
+  pub exact_freed : AreReady rows states row → AreReady rows' states' (set row page false)
+  exact_freed exact = ready_changed rows rows' states states' row (set row page false) class kind page false bit_is span.size
+      (λ p ne. span.others p (out_of p page ne))
+      (λ p ne. get_or-set_other row page p false false ne)
+      exact
+      (subst (λ st. OffersOnly st class kind) (sym is) (subst (λ l. OffersOnly (cut b) class l) (sym k) (subst (λ d. OffersOnly (cut b) d b.kind) (sym c) (cut_offers b))))
+      (subst (λ st. OffersOnly st class kind) (sym now) (free_offers class kind))
+      (λ e. absurd (true≢false (sym e)))
+      (λ has. absurd (subst (λ st. IsAvailable st class kind) now has.0))
+
+  pub awaited_freed : AreWaiting rows states row → AreWaiting rows' states' (set row page false)
+  awaited_freed exact = waiting_changed rows rows' states states' row (set row page false) class kind page false bit_is span.size
+      (λ p ne. span.others p (out_of p page ne))
+      (λ p ne. get_or-set_other row page p false false ne)
+      exact
+      (subst (λ st. BlockOnly st class kind) (sym is) (subst (λ l. BlockOnly (cut b) class l) (sym k) (subst (λ d. BlockOnly (cut b) d b.kind) (sym c) (cut_block b))))
+      (subst (λ st. BlockOnly st class kind) (sym now) (free_block class kind))
+      (λ e. absurd (true≢false (sym e)))
+      (λ has. absurd (subst (λ st. IsBlockFor st class kind) now has.0))
 
 -- the pages that are still to be swept stay cut
 pub pending_freed : (states states' : List PageState) (page : ℕ) (row : List Bool) → page < length row → IsSpanSet states states' page 1 (λ _. free) → IsLawful states' → KeepsPending page states states' row (set row page false)

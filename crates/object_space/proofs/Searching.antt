@@ -13,6 +13,10 @@ pub if_none : {A : Type 0} {P : Type 0} (o : Option A) → P → IfNone o P
 if_none None p = p
 if_none (Some x) p = tt
 
+pub if_none_map : {A : Type 0} {P Q : Type 0} (o : Option A) → (P → Q) → IfNone o P → IfNone o Q
+if_none_map None f p = f p
+if_none_map (Some x) f p = tt
+
 -- a place was looked for once pages were swept
 pub finds_place : (old ready new : Store) (marks : List Bool) (place : Placement) (kind : Kind) (base : Option ℕ) → Sweeps old marks ready
     → IfSome base (λ b. HasRoomAt ready place kind b) → IfSome base (λ b. Gains ready place kind b new) → IfNone base (HasNoRoom ready place kind × (new ≡ ready))

@@ -1,13 +1,14 @@
--- Rows of bits over the pages, one for each class and kind: a bit is set where the page has a free cell for them.
+-- Rows of bits over the pages, one for each class and kind: of the pages with a free cell for them that need no sweep, and of
+-- the pending ones.
 use Rattle.std.specs.Prelude.{◌≡◌, ◌==◌, ℕ, ◌+◌, ◌*◌, ◌<◌, Bool, true, false, List, [], length, slice_index_or}
 use Rattle.std.specs.List.{position_or_len}
 use Rattle.words.specs.declared.class.Kind.{Kind}
 use Rattle.words.specs.declared.class.Kind.TheVariants.{Normal, PointerFree}
 use Rattle.words.specs.declared.class.TheConstants.{CLASSES}
-use Rattle.words.specs.Bits.{IsClear}
+use Rattle.words.specs.Bits.{Has, IsClear}
 use Rattle.words.specs.Classes.{IsSizeClass}
 use Rattle.blocks.specs.Cells.{Cells}
-use Rattle.block_map.specs.States.{PageState, free, cut, head, body, state_at}
+use Rattle.block_map.specs.States.{PageState, free, cut, head, body, state_at, IsBlockFor}
 
 -- the number of a kind
 abbrev pub kind_number : Kind → ℕ
@@ -37,11 +38,27 @@ IsAvailable (cut b) class kind = HasFreeCell b class kind
 IsAvailable (head n k) class kind = ⊥
 IsAvailable (body first) class kind = ⊥
 
--- The rows of all classes and kinds have these pages, and the bits of exactly those that have a free cell are set.
-pub record IsExact (rows : List (List Bool)) (states : List PageState) : Type 0 where
-  pub long : (class : ℕ) (kind : Kind) → IsSizeClass class → length (row_of rows class kind) ≡ length states
-  pub entered : (class : ℕ) (kind : Kind) (page : ℕ) → IsSizeClass class → IsAvailable (state_at states page) class kind → slice_index_or (row_of rows class kind) page false ≡ true
-  pub only : (class : ℕ) (kind : Kind) (page : ℕ) → IsSizeClass class → slice_index_or (row_of rows class kind) page false ≡ true → IsAvailable (state_at states page) class kind
+-- The rows of all classes and kinds have so many pages, and the bits of exactly those of which this is true are set.
+pub record IsExact (rows : List (List Bool)) (pages : ℕ) (is : ℕ → ℕ → Kind → Type 0) : Type 0 where
+  pub long : (class : ℕ) (kind : Kind) → IsSizeClass class → length (row_of rows class kind) ≡ pages
+  pub entered : (class : ℕ) (kind : Kind) (page : ℕ) → IsSizeClass class → is page class kind → slice_index_or (row_of rows class kind) page false ≡ true
+  pub only : (class : ℕ) (kind : Kind) (page : ℕ) → IsSizeClass class → slice_index_or (row_of rows class kind) page false ≡ true → is page class kind
+
+-- the page is cut for the class and the kind, has a free cell, and needs no sweep
+abbrev pub IsReadyPage : List PageState → List Bool → ℕ → ℕ → Kind → Type 0
+IsReadyPage states pending page class kind = IsAvailable (state_at states page) class kind × (Has pending page → ⊥)
+
+-- the page is cut for the class and the kind, and pending
+abbrev pub IsWaitingPage : List PageState → List Bool → ℕ → ℕ → Kind → Type 0
+IsWaitingPage states pending page class kind = IsBlockFor (state_at states page) class kind × Has pending page
+
+-- the rows have exactly the pages with a free cell that need no sweep
+abbrev pub AreReady : List (List Bool) → List PageState → List Bool → Type 0
+AreReady rows states pending = IsExact rows (length states) (IsReadyPage states pending)
+
+-- the rows have exactly the pending pages
+abbrev pub AreWaiting : List (List Bool) → List PageState → List Bool → Type 0
+AreWaiting rows states pending = IsExact rows (length states) (IsWaitingPage states pending)
 
 -- rows over so many pages with no bit set
 pub record AreClear (rows : List (List Bool)) (pages : ℕ) : Type 0 where

@@ -7,7 +7,7 @@ use Rattle.block_map.specs.States.{PageState, free, cut, state_at, IsCut}
 use Rattle.block_map.specs.Listed.{AreListed}
 use Rattle.block_map.specs.FoundIn.{found_in}
 use Rattle.block_map.specs.declared.found.Found.{Found}
-use Rattle.object_space.specs.AvailableRows.{IsExact}
+use Rattle.object_space.specs.AvailableRows.{AreReady, AreWaiting}
 
 -- Where the objects are: the words of the memory, the row of the pool, in which true is a free page, what stands on
 -- each page, and the row of the pending pages, which are still to be swept.
@@ -56,9 +56,10 @@ abbrev pub IsSwept : Store → Type 0
 IsSwept t = (page : ℕ) → Has t.pending page → ⊥
 
 -- What is true of the objects of each heap: their store is sound, the lists of free cells stand in its words, the rows of
--- pages with a free cell are exact, and the pending pages are cut.
-pub record IsWholeSpace (t : Store) (rows : List (List Bool)) : Type 0 where
+-- pages that are ready and of those that wait for a sweep are exact, and the pending pages are cut.
+pub record IsWholeSpace (t : Store) (ready waiting : List (List Bool)) : Type 0 where
   pub sound : HasSoundPages t
   pub listed : AreListed t.words t.states
-  pub exact : IsExact rows t.states
+  pub exact : AreReady ready t.states t.pending
+  pub awaited : AreWaiting waiting t.states t.pending
   pub pending : IsPendingRow t

@@ -39,7 +39,10 @@ pub struct ObjectSpace {
     memory: Memory,
     pool: PagePool,
     map: BlockMap,
-    available: AvailablePages,
+    // The pages with a free cell that need no sweep.
+    ready: AvailablePages,
+    // The pending pages, by class and kind, and all of them.
+    waiting: AvailablePages,
     pending: PageRow,
 }
 
@@ -50,7 +53,7 @@ impl Model for ObjectSpace {
 
     ghost view = { λ o. record { words = o.memory; free = o.pool; states = o.map; pending = o.pending } };
 
-    ghost invariant = { λ o. IsWholeSpace (record { words = o.memory; free = o.pool; states = o.map; pending = o.pending }) o.available };
+    ghost invariant = { λ o. IsWholeSpace (record { words = o.memory; free = o.pool; states = o.map; pending = o.pending }) o.ready o.waiting };
 }
 
 impl ObjectSpace {
@@ -61,13 +64,15 @@ impl ObjectSpace {
         let memory = Memory::new(alloc, pages)?;
         let pool = PagePool::new(alloc, pages)?;
         let map = BlockMap::new(alloc, pages)?;
-        let available = AvailablePages::new(alloc, pages)?;
+        let ready = AvailablePages::new(alloc, pages)?;
+        let waiting = AvailablePages::new(alloc, pages)?;
         let pending = PageRow::new(alloc, pages as usize)?;
         Ok(ObjectSpace {
             memory,
             pool,
             map,
-            available,
+            ready,
+            waiting,
             pending,
         })
     }

@@ -9,48 +9,33 @@ ghost use Rattle.object_space.specs.Sweeps.{Allocates, FindsNoPlace, FindsNoRoom
 
 use super::ObjectSpace;
 use super::taking::{cut_page, take_cell};
-use block_map::BlockMap;
 use marker::Marker;
 use words::limits::PAGE_WORDS;
 use words::{Class, Kind, PageNo, Placement, page_start};
 
-// Whether the page is cut for the class and the kind.
-fn is_cut_for(map: &BlockMap, page: PageNo, class: Class, kind: Kind) -> bool
-    requires { page < length map.now }
-    ensures { result ≡ false → IsBlockFor (state_at map.now page) class kind → ⊥ }
-{
-    let Some(block) = map.block(page) else {
-        return false;
-    };
-    block.class() == class && block.kind() == kind
-}
-
 impl ObjectSpace {
     // The lowest pending page that is cut for the class and the kind.
-    #[inline(never)]
+    #[inline]
     fn pending_for(&self, class: Class, kind: Kind) -> Option<PageNo>
         ensures some { IfSome result (λ page. Has self.now.pending page × (page < length self.now.states)) }
         ensures none { IfNone result ((page : ℕ) → Has self.now.pending page → IsBlockFor (state_at self.now.states page) class kind → ⊥) }
     {
         self.map.laws();
-        let mut from = 0;
-        while let Some(page) = self.pending.next(from) {
-            if is_cut_for(&self.map, page as PageNo, class, kind) {
-                return Some(page as PageNo);
-            }
-            from = page + 1;
-        }
-        None
+        let Some(page) = self.waiting.first(class, kind) else {
+            return None;
+        };
+        Some(page as PageNo)
     }
 
-    // A page with a free cell for the class and the kind, or else a pending one for them.
+    // The lowest page with a free cell for the class and the kind that is not pending, or else the lowest pending one for
+    // them.
     fn page_for(&self, class: Class, kind: Kind) -> Option<PageNo>
         ensures inside { IfSome result (λ page. page < length self.now.states) }
         ensures some { IfSome result (λ page. Has self.now.pending page ⊎ IsAvailable (state_at self.now.states page) class kind) }
         ensures none { IfNone result (HasNoFreeCell self.now.states class kind) }
     {
         self.map.laws();
-        let Some(page) = self.available.first(class, kind) else {
+        let Some(page) = self.ready.first(class, kind) else {
             return self.pending_for(class, kind);
         };
         Some(page as PageNo)
@@ -87,7 +72,8 @@ impl ObjectSpace {
         take_cell(
             &mut self.memory,
             &mut self.map,
-            &mut self.available,
+            &mut self.ready,
+            &self.pending,
             page,
             class,
             kind,
@@ -107,7 +93,8 @@ impl ObjectSpace {
             &mut self.memory,
             &mut self.pool,
             &mut self.map,
-            &mut self.available,
+            &mut self.ready,
+            &self.pending,
             class,
             kind,
         ) else {
@@ -116,7 +103,8 @@ impl ObjectSpace {
         Some(take_cell(
             &mut self.memory,
             &mut self.map,
-            &mut self.available,
+            &mut self.ready,
+            &self.pending,
             page,
             class,
             kind,
@@ -169,7 +157,7 @@ impl ObjectSpace {
         }
     }
 
-    // The first free cell of the lowest page for the class and the kind, if that page is not pending.
+    // The first free cell of the lowest page for the class and the kind that needs no sweep.
     #[inline(always)]
     fn take_ready(&mut self, class: Class, kind: Kind) -> Option<u64>
         ensures room { IfSome result (λ base. HasRoomAt self.old (Placement.Small class) kind base) }
@@ -177,12 +165,9 @@ impl ObjectSpace {
         ensures none { IfNone result (self.new ≡ self.old) }
     {
         self.map.laws();
-        let Some(page) = self.available.first(class, kind) else {
+        let Some(page) = self.ready.first(class, kind) else {
             return None;
         };
-        if self.pending.is_set(page) {
-            return None;
-        }
         Some(self.take_cell(page as PageNo, class, kind))
     }
 

@@ -32,7 +32,11 @@ impl ObjectSpace {
         };
         let unmarked = block.allocated() - marker.marks_on(page);
         if unmarked > 0 {
+            let class = block.class();
+            let kind = block.kind();
             self.pending.set(page as usize);
+            self.ready.leave(class, kind, page);
+            self.waiting.enter(class, kind, page);
         }
         unmarked
     }

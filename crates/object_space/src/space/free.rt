@@ -8,7 +8,7 @@ ghost use Rattle.block_map.specs.FoundIn.{found_in, IsLawful};
 ghost use Rattle.block_map.specs.Listed.{first_on, AreListed};
 ghost use Rattle.block_map.specs.States.{free, head, state_at, HasCell, IsLaid, IsSpanSet};
 ghost use Rattle.block_map.specs.Objects.{large_object, object_on};
-ghost use Rattle.object_space.specs.AvailableRows.{IsExact};
+ghost use Rattle.object_space.specs.AvailableRows.{AreReady, AreWaiting};
 ghost use Rattle.object_space.specs.Store.{KeepsPending};
 ghost use Rattle.object_space.specs.Rooms.{FreesCell};
 ghost use Rattle.object_space.specs.Sweeps.{Loses};
@@ -28,7 +28,8 @@ fn free_cell(
     memory: &mut Memory,
     pool: &mut PagePool,
     map: &mut BlockMap,
-    available: &mut AvailablePages,
+    ready: &mut AvailablePages,
+    waiting: &mut AvailablePages,
     pending: &mut PageRow,
     page: PageNo,
     cell: u16,
@@ -36,23 +37,29 @@ fn free_cell(
     requires inside { page < length map.old }
     requires cell { HasCell (state_at map.old page) cell true }
     requires size { length pool.old ≡ length map.old }
-    requires exact { IsExact available.old map.old }
+    requires exact { AreReady ready.old map.old pending.old }
+    requires waiting { AreWaiting waiting.old map.old pending.old }
     requires row { length pending.old ≡ length map.old }
     requires listed { AreListed memory.old map.old }
     ensures memory { memory.new ≡ with_word_at memory.old (object_on page (state_at map.old page) cell).base (first_on (state_at map.old page)) }
     ensures listed { AreListed memory.new map.new }
     ensures freed { FreesCell pool.old pool.new map.old map.new page cell }
-    ensures exact { IsExact available.new map.new }
+    ensures exact { AreReady ready.new map.new pending.new }
+    ensures waiting { AreWaiting waiting.new map.new pending.new }
     ensures pending { KeepsPending page map.old map.new pending.old pending.new }
 {
     let left = map.put(memory, page, cell);
     if left.is_empty {
-        free_block(pool, map, available, page, left.class, left.kind);
-        pending.clear(page as usize);
+        free_block(
+            pool, map, ready, waiting, pending, page, left.class, left.kind,
+        );
+        return;
+    }
+    if pending.is_set(page as usize) {
         return;
     }
     if left.was_full {
-        available.enter(left.class, left.kind, page);
+        ready.enter(left.class, left.kind, page);
     }
 }
 
@@ -85,7 +92,8 @@ impl ObjectSpace {
                 &mut self.memory,
                 &mut self.pool,
                 &mut self.map,
-                &mut self.available,
+                &mut self.ready,
+                &mut self.waiting,
                 &mut self.pending,
                 page,
                 found.cell,

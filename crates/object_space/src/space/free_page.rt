@@ -1,5 +1,5 @@
 //! A page that keeps no object: it is free at once, and none of its cells is looked at.
-ghost use Rattle.std.specs.Prelude.{◌≡◌, ◌+◌, ◌<◌, [], true, false, length};
+ghost use Rattle.std.specs.Prelude.{◌≡◌, ◌+◌, ◌<◌, [], true, false, length, slice_set};
 ghost use Rattle.words.specs.Bits.{Has};
 ghost use Rattle.words.specs.Layout.{page_start};
 ghost use Rattle.pages.specs.Runs.{IsFilled};
@@ -11,6 +11,7 @@ ghost use Rattle.object_space.specs.Sweeps.{SweepsPage};
 
 use super::ObjectSpace;
 use super::available_pages::AvailablePages;
+use super::page_row::PageRow;
 use block_map::BlockMap;
 use pages::PagePool;
 use words::{Class, Kind, PageNo};
@@ -20,7 +21,9 @@ use words::{Class, Kind, PageNo};
 pub(super) fn free_block(
     pool: &mut PagePool,
     map: &mut BlockMap,
-    available: &mut AvailablePages,
+    ready: &mut AvailablePages,
+    waiting: &mut AvailablePages,
+    pending: &mut PageRow,
     page: PageNo,
     class: Class,
     kind: Kind,
@@ -28,17 +31,23 @@ pub(super) fn free_block(
     requires inside { page < length map.old }
     requires cut { IsCut (state_at map.old page) }
     requires size { length pool.old ≡ length map.old }
-    requires listed { page < length (row_of available.old class kind) }
+    requires listed { page < length (row_of ready.old class kind) }
+    requires awaited { page < length (row_of waiting.old class kind) }
+    requires row { page < length pending.old }
     ensures given { IsFilled pool.old pool.new page 1 true }
     ensures states { IsSpanSet map.old map.new page (span_of (state_at map.old page)) (λ _. free) }
     ensures cleared { IsCleared (found_in map.old) (found_in map.new) (page_start page) (page_start (page + span_of (state_at map.old page))) }
     ensures uncut { IsUncut page (state_at map.old page) (found_in map.old) (found_in map.new) }
-    ensures left { IsBitSet available.old available.new class kind page false }
+    ensures left { IsBitSet ready.old ready.new class kind page false }
+    ensures awaited { IsBitSet waiting.old waiting.new class kind page false }
+    ensures row { pending.new ≡ slice_set pending.old page false }
     ensures lawful { IsLawful map.new }
 {
     map.uncut(page);
     pool.give(page, 1);
-    available.leave(class, kind, page);
+    ready.leave(class, kind, page);
+    waiting.leave(class, kind, page);
+    pending.clear(page as usize);
     map.laws();
 }
 
@@ -58,11 +67,12 @@ impl ObjectSpace {
         free_block(
             &mut self.pool,
             &mut self.map,
-            &mut self.available,
+            &mut self.ready,
+            &mut self.waiting,
+            &mut self.pending,
             page,
             class,
             kind,
         );
-        self.pending.clear(page as usize);
     }
 }

@@ -1,5 +1,5 @@
 //! Sweeping: the unmarked objects of a page go, and what is kept stays.
-ghost use Rattle.std.specs.Prelude.{◌≡◌, ◌+◌, ◌<◌, ◌≤◌, true, false, count_by, length, Some, MatchOption};
+ghost use Rattle.std.specs.Prelude.{◌≡◌, ◌+◌, ◌<◌, ◌≤◌, true, false, count_by, length, slice_set, Some, MatchOption};
 ghost use Rattle.words.specs.declared.limits.TheConstants.{FIRST_ADDRESS};
 ghost use Rattle.block_map.specs.declared.found.Found.{Found};
 ghost use Rattle.block_map.specs.FoundIn.{found_in, IsLawful};
@@ -49,6 +49,25 @@ impl ObjectSpace {
         next
     }
 
+    // Ends the sweep of a page, which needs none any more: if it has a free cell it is ready.
+    pub(super) fn settle(&mut self, page: PageNo)
+        requires inside { page < length self.old.states }
+        ensures { self.new ≡ record self.old { pending = slice_set self.old.pending page false } }
+    {
+        self.laws();
+        self.pending.clear(page as usize);
+        let Some(block) = self.map.block(page) else {
+            return;
+        };
+        let class = block.class();
+        let kind = block.kind();
+        let full = block.is_full();
+        self.waiting.leave(class, kind, page);
+        if !full {
+            self.ready.enter(class, kind, page);
+        }
+    }
+
     // Sweeps a page. One without a mark keeps no object, and is free at once.
     pub(super) fn sweep_page(&mut self, marker: &Marker, page: PageNo)
         requires pages { length marker.now.dirty ≡ length self.old.states }
@@ -70,7 +89,7 @@ impl ObjectSpace {
         while address < end {
             address = self.forget_next(marker, address);
         }
-        self.pending.clear(page as usize);
+        self.settle(page);
     }
 
     /// Sweeps one page, if one is pending. Answers whether one was.

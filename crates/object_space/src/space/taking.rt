@@ -1,14 +1,16 @@
 //! How a page is cut and a cell is taken, over the parts of the heap's objects: words, free pages, map and rows.
-ghost use Rattle.std.specs.Prelude.{◌≡◌, IfNone, IfSome};
+ghost use Rattle.std.specs.Prelude.{◌≡◌, ℕ, IfNone, IfSome};
+ghost use Rattle.words.specs.Bits.{Has};
 ghost use Rattle.words.specs.Classes.{IsSizeClass};
 ghost use Rattle.pages.specs.Runs.{HasNoFreeRun};
-ghost use Rattle.block_map.specs.States.{state_at};
+ghost use Rattle.block_map.specs.States.{state_at, IsCut};
 ghost use Rattle.block_map.specs.Listed.{first_on, AreListed};
 ghost use Rattle.object_space.specs.Store.{Agree};
-ghost use Rattle.object_space.specs.AvailableRows.{IsExact, IsAvailable};
+ghost use Rattle.object_space.specs.AvailableRows.{AreReady, IsAvailable};
 ghost use Rattle.object_space.specs.Rooms.{IsFreeCell, TakesCell, CutsPage};
 
 use super::available_pages::AvailablePages;
+use super::page_row::PageRow;
 use block_map::BlockMap;
 use pages::{Memory, PagePool};
 use words::{Class, Kind, PageNo};
@@ -18,17 +20,19 @@ pub(super) fn cut_page(
     memory: &mut Memory,
     pool: &mut PagePool,
     map: &mut BlockMap,
-    available: &mut AvailablePages,
+    ready: &mut AvailablePages,
+    pending: &PageRow,
     class: Class,
     kind: Kind,
 ) -> Option<PageNo>
     requires agree { Agree pool.old map.old }
     requires listed { AreListed memory.old map.old }
-    requires exact { IsExact available.old map.old }
+    requires exact { AreReady ready.old map.old pending.now }
+    requires pending { (p : ℕ) → Has pending.now p → IsCut (state_at map.old p) }
     ensures some { IfSome result (λ page. CutsPage memory.old memory.new pool.old pool.new map.old map.new class kind page) }
     ensures none { IfNone result (HasNoFreeRun pool.old 1 × (memory.new ≡ memory.old) × (pool.new ≡ pool.old) × (map.new ≡ map.old)) }
     ensures listed { AreListed memory.new map.new }
-    ensures exact { IsExact available.new map.new }
+    ensures exact { AreReady ready.new map.new pending.now }
     ensures class { IsSizeClass class }
 {
     // Its clauses tell that the class is one.
@@ -37,7 +41,7 @@ pub(super) fn cut_page(
         return None;
     };
     map.cut(memory, page, class, kind);
-    available.enter(class, kind, page);
+    ready.enter(class, kind, page);
     Some(page)
 }
 
@@ -46,18 +50,20 @@ pub(super) fn cut_page(
 pub(super) fn take_cell(
     memory: &mut Memory,
     map: &mut BlockMap,
-    available: &mut AvailablePages,
+    ready: &mut AvailablePages,
+    pending: &PageRow,
     page: PageNo,
     class: Class,
     kind: Kind,
 ) -> u64
     requires cell { IsAvailable (state_at map.old page) class kind }
     requires listed { AreListed memory.old map.old }
-    requires exact { IsExact available.old map.old }
+    requires swept { Has pending.now page → ⊥ }
+    requires exact { AreReady ready.old map.old pending.now }
     ensures cell { IsFreeCell map.old class kind page (first_on (state_at map.old page)) }
     ensures takes { TakesCell memory.old memory.new map.old map.new page (first_on (state_at map.old page)) result }
     ensures listed { AreListed memory.new map.new }
-    ensures exact { IsExact available.new map.new }
+    ensures exact { AreReady ready.new map.new pending.now }
 {
     map.laws();
     let Some(taken) = map.take(memory, page) else {
@@ -65,7 +71,7 @@ pub(super) fn take_cell(
     };
     memory.zero(taken.object.base, taken.object.len);
     if taken.was_last {
-        available.leave(class, kind, page);
+        ready.leave(class, kind, page);
     }
     taken.object.base
 }

@@ -7,7 +7,7 @@ use Rattle.object_space.specs.Store.{Store}
 use Rattle.object_space.proofs.Stores.{store_of}
 use Rattle.object_space.proofs.Frees.{on_page, in_block, large_here, sound_freed, sound_large_gone, loses_cell, loses_large, pending_row, size_freed}
 use Rattle.object_space.proofs.Pending.{pending_large, large_uncut}
-use Rattle.object_space.proofs.AvailablePages.{exact_large_gone}
+use Rattle.object_space.proofs.AvailablePages.{exact_large_gone, waiting_span}
 use Rattle.object_space.proofs.space.ObjectSpace.release.Goals as goal
 
 pub block-requires : goal.block-requires
@@ -37,6 +37,7 @@ invariant_of-self c =
       listed = c.free_cell.ensures.listed;
       pending = pending_row t _ _ c.self.invariant.pending (size_freed t c.self.invariant.sound c.args.found.page c.args.found.cell c.in-Some.field-0.now c.in-Some.ensures o.page c.free_cell.new.pool c.free_cell.new.map c.free_cell.ensures.freed.pages) c.free_cell.ensures.pending;
       exact = c.free_cell.ensures.exact;
+      awaited = c.free_cell.ensures.waiting;
     }
 
 pub invariant_of-self-in-None : goal.invariant_of-self-in-None
@@ -48,7 +49,9 @@ invariant_of-self-in-None c =
       listed = listed_span _ t.states c.free_large.new.map c.args.found.page (c.args.found.len / PAGE_WORDS) (λ _. free) c.free_large.ensures.map (λ k. tt) c.self.invariant.listed;
       sound = sound_large_gone t c.free_large.new.pool c.free_large.new.map c.args.found.page (c.args.found.len / PAGE_WORDS) c.self.invariant.sound c.free_large.ensures.pool c.free_large.ensures.map;
       pending = pending_row t _ _ c.self.invariant.pending c.free_large.ensures.map.size (pending_large _ _ c.args.found.page (c.args.found.len / PAGE_WORDS) _ c.free_large.ensures.map (large_uncut t.states c.free_large.ensures.laid c.args.found.page (c.args.found.len / PAGE_WORDS) l.0 (omega arith) l.1));
-      exact = exact_large_gone _ t.states c.free_large.new.map c.args.found.page (c.args.found.len / PAGE_WORDS) l.0 c.self.invariant.exact c.free_large.ensures.laid (omega arith) l.1 c.free_large.ensures.map;
+      exact = exact_large_gone _ t.states c.free_large.new.map _ c.args.found.page (c.args.found.len / PAGE_WORDS) l.0 c.self.invariant.exact c.free_large.ensures.laid (omega arith) l.1 c.free_large.ensures.map;
+      awaited = waiting_span _ t.states c.free_large.new.map _ c.args.found.page (c.args.found.len / PAGE_WORDS) _ c.self.invariant.awaited c.free_large.ensures.map c.self.invariant.pending.cut
+          (large_uncut t.states c.free_large.ensures.laid c.args.found.page (c.args.found.len / PAGE_WORDS) l.0 (omega arith) l.1);
     }
 
 pub returns-in-Some : goal.returns-in-Some

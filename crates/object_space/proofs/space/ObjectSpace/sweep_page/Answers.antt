@@ -1,5 +1,4 @@
-use Rattle.std.proofs.Common.{sym, ap, ◌∙◌, subst, ◌+◌, false, arith}
-use Rattle.std.specs.Prelude.{slice_set}
+use Rattle.std.proofs.Common.{sym, ap, ◌∙◌, subst, ◌+◌, arith}
 use Rattle.block_map.specs.States.{state_at}
 use Rattle.object_space.specs.Store.{Store}
 use Rattle.words.specs.Layout.{page_start}
@@ -25,7 +24,7 @@ pub returns-clause-sweeps : goal.returns-clause-sweeps
 returns-clause-sweeps c =
     passed_page _ _ c.args.page c.loop-address.address _ _ c.laws.ensures.laid c.laws.ensures.lawful c.in-Some.field-0.now (sym (ap (λ (t : Store). state_at t.states c.args.page) c.self.view_is) ∙ c.in-Some.ensures)
     (let end = c.page_start-end.ensures in let test = c.loop-address-test.false in omega arith) c.loop-address.invariant
-    (ap (λ (t : Store). t.words) c.self-2.view_is) (ap (λ (t : Store). t.states) c.self-2.view_is) (c.clear.ensures ∙ ap (λ (t : Store). slice_set t.pending c.args.page false) c.self-2.view_is)
+    (ap (λ (t : Store). t.words) c.settle.ensures) (ap (λ (t : Store). t.states) c.settle.ensures) (ap (λ (t : Store). t.pending) c.settle.ensures)
 
 pub returns-then-marks_on-eq0-clause-sweeps : goal.returns-then-marks_on-eq0-clause-sweeps
 returns-then-marks_on-eq0-clause-sweeps c =

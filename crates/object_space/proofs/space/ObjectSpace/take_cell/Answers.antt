@@ -1,5 +1,7 @@
-use Rattle.std.proofs.Common.{refl, true, sym, ap, ◌∙◌, subst, List, length, length-set}
-use Rattle.block_map.specs.States.{PageState, IsCut, state_at}
+use Rattle.std.proofs.Common.{refl, true, sym, ap, ◌∙◌, subst, List, length, length-set, get_or-set_other}
+use Rattle.block_map.specs.States.{PageState, free, IsCut, state_at}
+use Rattle.words.specs.Bits.{Has}
+use Rattle.object_space.proofs.AvailablePages.{waiting_same}
 use Rattle.object_space.proofs.Pending.{pending_cut, cut_cell}
 use Rattle.object_space.proofs.Allocations.{allocates_cell, gains_cell, sound_cell}
 use Rattle.object_space.proofs.space.ObjectSpace.take_cell.Goals as goal
@@ -14,6 +16,8 @@ invariant_of-self c =
       pending = pending_cut _ _ c.self.invariant.pending refl (ap length c.take_cell.ensures.takes.became ∙ length-set _ _ _)
           (λ p is. subst (λ (x : List PageState). IsCut (state_at x p)) (sym c.take_cell.ensures.takes.became) (cut_cell _ c.args.page _ true _ cell.inside p is));
       exact = c.take_cell.ensures.exact;
+      awaited = waiting_same _ _ _ _ c.self.invariant.awaited (ap length c.take_cell.ensures.takes.became ∙ length-set _ _ _)
+          (λ p h. ap (λ x. state_at x p) c.take_cell.ensures.takes.became ∙ get_or-set_other _ c.args.page p _ free (λ e. swept (subst (Has c.self.inside.pending) e h)));
     }
 
 pub returns-clause-room : goal.returns-clause-room

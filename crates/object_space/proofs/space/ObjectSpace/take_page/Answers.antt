@@ -1,10 +1,11 @@
-use Rattle.std.proofs.Common.{refl, true, sym, ap, ◌∙◌, subst, List, length, length-set, arith}
-use Rattle.block_map.specs.States.{PageState, IsCut, state_at, all_free}
+use Rattle.std.proofs.Common.{◌≡◌, ℕ, Bool, refl, true, sym, ap, ◌∙◌, subst, List, length, length-set, get_or-set_other, arith}
+use Rattle.block_map.specs.States.{PageState, free, IsCut, state_at, all_free}
 use Rattle.object_space.proofs.Stores.{store_of}
 use Rattle.object_space.specs.Rooms.{TakesCell}
 use Rattle.object_space.proofs.Pending.{pending_cut, cut_cell, cut_page}
 use Rattle.object_space.proofs.Allocations.{allocates_page, first_cell, first_is, gains_page, no_room_small, sound_page}
-use Rattle.object_space.proofs.AvailablePages.{free_cell_offers}
+use Rattle.std.specs.Prelude.{◌≢◌}
+use Rattle.object_space.proofs.AvailablePages.{free_cell_offers, waiting_same}
 use Rattle.object_space.proofs.space.ObjectSpace.take_page.Goals as goal
 
 pub returns-in_default-clause-none : goal.returns-in_default-clause-none
@@ -23,6 +24,9 @@ take_cell-requires-clause-cell c =
     let cuts = c.in-Some.ensures.some in
     free_cell_offers _ _ _ _ 0 (first_cell _ c.self.invariant.sound c.laws.ensures.laid c.laws.ensures.lawful _ _ c.cut_page.ensures.class _ _ _ _ cuts)
 
+apart : (states : List PageState) (row : List Bool) (page p : ℕ) → state_at states page ≡ free → IsCut (state_at states p) → p ≢ page
+apart states row page p was is e = subst IsCut (ap (state_at states) e ∙ was) is
+
 pub invariant_of-self-2 : goal.invariant_of-self-2
 invariant_of-self-2 c =
     let cuts = c.in-Some.ensures.some in
@@ -37,6 +41,10 @@ invariant_of-self-2 c =
           (λ p is. subst (λ (x : List PageState). IsCut (state_at x p)) (sym takes.became) (cut_cell _ page 0 true _ c.take_cell.ensures.cell.inside p
           (subst (λ (x : List PageState). IsCut (state_at x p)) (sym cuts.became) (cut_page _ page (all_free c.args.class c.args.kind) was p is))));
       exact = c.take_cell.ensures.exact;
+      awaited = waiting_same _ _ _ _ c.self.invariant.awaited (ap length takes.became ∙ length-set _ _ _ ∙ ap length cuts.became ∙ length-set _ _ _)
+          (λ p h.
+          let ne = apart c.self.inside.map c.self.inside.pending page p was (c.self.invariant.pending.cut p h) in
+          ap (λ x. state_at x p) takes.became ∙ get_or-set_other _ page p _ free ne ∙ ap (λ x. state_at x p) cuts.became ∙ get_or-set_other _ page p _ free ne);
     }
 
 pub returns-clause-some : goal.returns-clause-some

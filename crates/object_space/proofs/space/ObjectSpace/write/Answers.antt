@@ -11,5 +11,6 @@ invariant_of-self c =
       listed = subst (λ w. AreListed w c.self.inside.map) (sym c.write.ensures)
           (listed_write _ _ c.laws.ensures.laid c.args.address c.args.word object.0 (rw (← c.self.view_is) at c.requires.address) object.1 c.self.invariant.listed);
       exact = c.self.invariant.exact;
+      awaited = c.self.invariant.awaited;
       pending = record { size = c.self.invariant.pending.size; cut = c.self.invariant.pending.cut };
     }

@@ -20,7 +20,7 @@ returns-then-taken-clause-listed c =
 pub returns-then-taken-clause-exact : goal.returns-then-taken-clause-exact
 returns-then-taken-clause-exact c =
     let t = c.in-Some.ensures in
-    exact_filled _ _ _ _ c.args.class c.args.kind c.args.page _ _ c.requires.exact (available_class _ c.args.class c.args.kind c.args.page c.laws.ensures.laid c.requires.cell)
+    exact_filled _ _ _ _ _ c.args.class c.args.kind c.args.page _ _ c.requires.exact (available_class _ c.args.class c.args.kind c.args.page c.laws.ensures.laid c.requires.cell) c.requires.swept
     (available_cell _ c.args.class c.args.kind c.args.page _ c.requires.cell t.free) t.states c.leave.ensures (rw c.if-taken.true at t.last)
 
 pub returns-else-taken-clause-listed : goal.returns-else-taken-clause-listed
@@ -31,5 +31,5 @@ returns-else-taken-clause-listed c =
 pub returns-else-taken-clause-exact : goal.returns-else-taken-clause-exact
 returns-else-taken-clause-exact c =
     let t = c.in-Some.ensures in
-    exact_taken _ c.args.available.now _ _ c.args.class c.args.kind c.args.page _ _ c.requires.exact (available_class _ c.args.class c.args.kind c.args.page c.laws.ensures.laid c.requires.cell)
+    exact_taken _ c.args.ready.now _ _ _ c.args.class c.args.kind c.args.page _ _ c.requires.exact (available_class _ c.args.class c.args.kind c.args.page c.laws.ensures.laid c.requires.cell) c.requires.swept
     (available_cell _ c.args.class c.args.kind c.args.page _ c.requires.cell t.free) t.states (rw c.if-taken.false at t.last)
