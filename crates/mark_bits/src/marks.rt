@@ -86,6 +86,15 @@ impl Marks {
         self.row.clear_all();
     }
 
+    /// The marks of the 64 granules from 64 j on, the lowest bit first.
+    #[inline]
+    pub fn word(&self, j: usize) -> u64
+        requires { 64 * j < length self.now }
+        ensures { (k : ℕ) → k / 64 ≡ j → slice_index_or self.now k false ≡ (bit_at result (k % 64) == 1) }
+    {
+        self.as_words()[j]
+    }
+
     // The words of the row, lowest bits first, and no word beyond them.
     pub(crate) fn as_words(&self) -> &[u64]
         ensures bits { bits result.now (length self.now) ≡ self.now }

@@ -11,3 +11,4 @@ pub mod Mutating
 pub mod Keeping
 pub mod Rescanning
 pub mod Parts
+pub mod Rereading

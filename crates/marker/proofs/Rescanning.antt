@@ -33,7 +33,7 @@ next_is pages found at high stop a f g map next le from below e =
     let after : next.at ≤ a = ⊎_elim (λ (lt : a < next.at). let x : None ≡ Some g = sym (next.least a from lt) ∙ e in absurd (cc x)) (λ ge. ge) (cases_lt a next.at) in
     same_Some f g (sym (map.whole next.at a f next.reads (record { from = omega arith; below = omega arith })) ∙ e)
 
-between_more : (found : ℕ → Option Found) (words : List ℕ) (low high from below : ℕ) (a b : Marking) → from ≤ low → high ≤ below → ((d : ℕ) → IsMarked a d → IsMarked b d)
+pub between_more : (found : ℕ → Option Found) (words : List ℕ) (low high from below : ℕ) (a b : Marking) → from ≤ low → high ≤ below → ((d : ℕ) → IsMarked a d → IsMarked b d)
     → (w : ℕ) → IsWordBetween found words low high a w → IsWordBetween found words from below b w
 between_more found words low high from below a b p q more w x =
     record {

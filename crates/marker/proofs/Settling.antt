@@ -1,5 +1,5 @@
 -- Entries are dropped.
-use Rattle.std.proofs.Common.{◌≡◌, ℕ, ◌+◌, ◌-◌, ◌<◌, ◌≤◌, List, [], ◌∷◌, ◌++◌, length, get_or, sum_by, Contains, Option, Some, None, refl, sym, ap, ◌∙◌, subst, inl, inr, ⊎_elim, append_assoc, append-nil, length-append, arith}
+use Rattle.std.proofs.Common.{◌≡◌, ℕ, ◌+◌, ◌-◌, ◌<◌, ◌≤◌, Bool, true, false, List, [], ◌∷◌, ◌++◌, length, get_or, sum_by, Contains, Option, Some, None, refl, sym, ap, ◌∙◌, subst, inl, inr, ⊎_elim, append_assoc, append-nil, length-append, arith}
 use Rattle.std.specs.Prelude.{◌⊎◌, option_to_list}
 use Rattle.std.proofs.lemmas.Option.{same_Some}
 use Rattle.std.proofs.lemmas.Bool.{cases_eq}
@@ -11,12 +11,12 @@ use Rattle.words.specs.Bits.{Has}
 use Rattle.words.specs.Layout.{granule, page_of}
 use Rattle.block_map.specs.declared.found.Found.{Found}
 use Rattle.marker.specs.declared.entry.Entry.{Entry}
-use Rattle.marker.specs.Marking.{Marking, IsEntry, IsLeftToEntry, entries, word_address}
+use Rattle.marker.specs.Marking.{Marking, IsEmpty, IsEntry, IsLeftToEntry, entries, word_address}
 use Rattle.marker.specs.Work.{left, left_of, page_words, unmarked_from, cost}
 use Rattle.marker.specs.Invariant.{DirtyPageInvariant}
 use Rattle.marker.specs.Closure.{held}
 use Rattle.marker.specs.Growth.{Traces}
-use Rattle.marker.specs.Entries.{IsSpent, Settles, IsReadOut, TakesOff, IsBelow}
+use Rattle.marker.specs.Entries.{IsSpent, IsLive, ReadsOn, read_on, Settles, IsReadOut, TakesOff, IsBelow}
 use Rattle.marker.proofs.Growing.{below_refl}
 
 -- Entries on top that have no word to read are dropped, so far.
@@ -73,6 +73,21 @@ entries_left found m =
     let a = sum_by-append (left found) m.stack (option_to_list m.current) in
     let b = left_list found m.current in omega arith
 
+-- an entry that was read to the end of its object has no word left
+pub read_out : (found : ℕ → Option Found) (words : List ℕ) (n : ℕ) (old on : Marking) (f : Found) (r : ReadsOn found words n old on) (l : IsLive found old f) → l.entry.next + n ≡ f.len
+    → (e : Entry) → on.current ≡ Some e → IsSpent found on e
+read_out found words n old on f r l all e is g there base normal marked =
+    let same : r.live.entry ≡ l.entry = same_Some r.live.entry l.entry (sym r.live.current ∙ l.current) in
+    let now : e ≡ read_on r.live.entry n = same_Some e (read_on r.live.entry n) (sym is ∙ ap (λ (m : Marking). m.current) r.new_is) in
+    let next : e.next ≡ r.live.entry.next + n = ap (λ (x : Entry). x.next) now in
+    let at : e.base ≡ r.live.entry.base = ap (λ (x : Entry). x.base) now in
+    let first = ap (λ (x : Entry). x.next) same in
+    let first_base = ap (λ (x : Entry). x.base) same in
+    let object_base : f.base ≡ g.base = l.unread.base ∙ sym first_base ∙ sym at ∙ sym base in
+    let s : f ≡ g = same_Some f g (sym l.unread.object ∙ ap found object_base ∙ there) in
+    let len = ap (λ (x : Found). x.len) s in
+    omega arith
+
 module _ (found : ℕ → Option Found) where
   pub drops_refl : (m : Marking) → Drops found m m
   drops_refl m = record { marks = refl; dirty = refl; dropped = []; entries_are = sym (append-nil (entries m)); spent = λ e h. absurd (none_in e h) }
@@ -91,6 +106,22 @@ module _ (found : ℕ → Option Found) where
 
   pub drops_settles : (a b : Marking) → Drops found a b → (b.current ≡ None → b.stack ≡ []) → Settles found a b
   drops_settles a b x n = record { marks = x.marks; dirty = x.dirty; dropped = x.dropped; entries_are = x.entries_are; spent = x.spent; next = n }
+
+  -- an entry is being read, and nothing is dropped
+  pub settles_none : (m : Marking) (e : Entry) → m.current ≡ Some e → Settles found m m
+  settles_none m e is = drops_settles m m (drops_refl m) (λ n. let z : None ≡ Some e = sym n ∙ is in absurd (cc z))
+
+  -- the entry that is being read has no word left, and the next one is taken
+  pub settles_next : (m new : Marking) (taken : Bool) → new.marks ≡ m.marks → new.dirty ≡ m.dirty → m.stack ≡ entries new → ((e : Entry) → m.current ≡ Some e → IsSpent found m e)
+      → (taken ≡ true → length new.stack + 1 ≡ length m.stack) → (taken ≡ false → IsEmpty new) → Settles found m new
+  settles_next m new taken k d s spent fewer none = drops_settles m new (drops_more m m new (drops_refl m) k d s spent) (empty taken fewer none)
+    where
+      empty : (t : Bool) → (t ≡ true → length new.stack + 1 ≡ length m.stack) → (t ≡ false → IsEmpty new) → new.current ≡ None → new.stack ≡ []
+      empty false f n c = (n refl).stack
+      empty true f n c =
+          let l = f refl in
+          let same : length m.stack ≡ length new.stack = ap length s ∙ ap (λ o. length (new.stack ++ option_to_list o)) c ∙ ap length (append-nil new.stack) in
+          absurd (omega arith)
 
   module _ (a b : Marking) (x : Settles found a b) where
     pub settled_entry : (e : Entry) → IsEntry a e → IsEntry b e ⊎ IsSpent found a e

@@ -49,6 +49,12 @@ pub record ReadsOn (found : ℕ → Option Found) (words : List ℕ) (n : ℕ) (
   pub reads : MarksWords found old (words_of words object live.entry.next n) mid
   pub new_is : new ≡ with_current mid (read_on live.entry n)
 
+-- The next n words of the entry that is being read are done with, and it goes on by n, or is dropped where none is left.
+pub record ReadsOff (found : ℕ → Option Found) (words : List ℕ) (n : ℕ) (old new : Marking) : Type 0 where
+  pub on : Marking
+  pub reads : ReadsOn found words n old on
+  pub settles : Settles found on new
+
 -- So many words are taken off the entries, each from the one that is being read; entries that have no word to read are
 -- dropped.
 pub data Takes (found : ℕ → Option Found) (words : List ℕ) (old : Marking) : ℕ → Marking → Type 0 where

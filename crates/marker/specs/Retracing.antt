@@ -1,9 +1,9 @@
 -- A dirty page is read again.
-use Rattle.std.specs.Prelude.{◌≡◌, ◌≢◌, ℕ, ◌+◌, ◌<◌, ◌≤◌, false, List, [], Contains, slice_set, Option, Some}
+use Rattle.std.specs.Prelude.{◌≡◌, ◌≢◌, ℕ, ◌+◌, ◌*◌, ◌<◌, ◌≤◌, false, List, [], Contains, slice_set, Option, Some}
 use Rattle.words.specs.declared.class.Kind.TheVariants.{Normal}
-use Rattle.words.specs.declared.limits.TheConstants.{PAGE_WORDS}
+use Rattle.words.specs.declared.limits.TheConstants.{FIRST_ADDRESS, GRANULE_BYTES, PAGE_WORDS, WORD_BYTES}
 use Rattle.words.specs.Bits.{Has, IsFirstFrom}
-use Rattle.words.specs.Layout.{page_start}
+use Rattle.words.specs.Layout.{granule, page_start}
 use Rattle.pages.specs.Memory.{word_at}
 use Rattle.block_map.specs.declared.found.Found.{Found}
 use Rattle.marker.specs.Marking.{Marking, IsMarked, IsNewlyMarked, Covers, with_dirty, word_address}
@@ -40,3 +40,20 @@ pub record Retraces (found : ℕ → Option Found) (words : List ℕ) (page : �
   pub clean : Has new.dirty page → (f : Found) × IsNewlyMarked found old new f × Covers f page
   pub others : (p : ℕ) → p ≢ page → Has old.dirty p → Has new.dirty p
   pub cost : cost found new + PAGE_WORDS ≤ cost found old
+
+-- no object that begins at the granule `low` or further on, and before the address `high`, begins before the address `at`
+pub record IsBefore (found : ℕ → Option Found) (high low at : ℕ) : Type 0 where
+  pub within : at ≤ high
+  pub before : (f : Found) → found f.base ≡ Some f → low ≤ granule f.base → f.base < high → at ≤ f.base
+
+-- Of the objects that begin from the granule `low` on and before the granule `past`, the words below the address `high`
+-- were read again: all words of the Normal ones that were marked at first, and no words but those of Normal objects that
+-- are marked afterwards, none of them twice.
+pub record RereadsObjects (found : ℕ → Option Found) (words : List ℕ) (first : Marking) (high low past : ℕ) (reads : ℕ) (old : Marking) (reads' : ℕ) (new : Marking) : Type 0 where
+  pub read : List ℕ
+  pub marks : MarksWords found old read new
+  pub all : (f : Found) → found f.base ≡ Some f → f.kind ≡ Normal → IsMarked first f.base → low ≤ granule f.base → granule f.base < past
+      → (i : ℕ) → i < f.len → word_address f i < high → Contains read (word_at words (word_address f i))
+  pub only : (w : ℕ) → Contains read w → IsWordBetween found words (FIRST_ADDRESS + GRANULE_BYTES * low) high new w
+  pub within : (f : Found) → found f.base ≡ Some f → IsMarked new f.base → Closure found words [] (IsMarked old) f
+  pub once : (at : ℕ) → IsBefore found high low at → (stop : ℕ) × IsBefore found high past stop × (WORD_BYTES * reads' + at ≤ WORD_BYTES * reads + stop)

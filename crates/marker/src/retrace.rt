@@ -1,21 +1,40 @@
 //! The reading again of dirty pages.
 ghost use Rattle.std.specs.Prelude.{◌≡◌, ◌+◌, ◌*◌, ◌%◌, ◌<◌, ◌≤◌, [], true, false, length, slice_set, MatchOption, IfSome, IfNone};
-ghost use Rattle.words.specs.declared.limits.TheConstants.{FIRST_ADDRESS, MAX_PAGES, PAGE_BYTES, PAGE_WORDS, WORD_BYTES};
+ghost use Rattle.words.specs.declared.limits.TheConstants.{FIRST_ADDRESS, GRANULE_BYTES, MAX_PAGES, PAGE_BYTES, PAGE_WORDS, WORD_BYTES};
 ghost use Rattle.words.specs.declared.class.Kind.TheVariants.{Normal};
-ghost use Rattle.words.specs.Bits.{IsFirstFrom};
-ghost use Rattle.words.specs.Layout.{granule};
+ghost use Rattle.words.specs.Bits.{Has, HasNoBit, IsFirstBit, IsFirstFrom};
+ghost use Rattle.words.specs.Layout.{granule, page_start};
+ghost use Rattle.block_map.specs.States.{state_at, IsCut};
 ghost use Rattle.block_map.specs.Walks.{IsNextObject};
 ghost use Rattle.block_map.specs.FoundIn.{found_in, IsLawful};
 ghost use Rattle.marker.specs.Marking.{IsClean, IsMarked, with_dirty};
 ghost use Rattle.marker.specs.Growth.{Traces};
-ghost use Rattle.marker.specs.Retracing.{Rereads, Retraces};
+ghost use Rattle.marker.specs.Retracing.{Rereads, RereadsObjects, Retraces};
 
 use crate::marker::{Marker, heap_bytes};
 use crate::part::part_between;
 use block_map::{BlockMap, Found};
 use pages::Reader;
-use words::limits::PAGE_BYTES;
+use words::limits::{FIRST_ADDRESS, GRANULE_BYTES, PAGE_BYTES, PAGE_GRANULES, WORD_BYTES};
 use words::{Kind, PageNo, page_start};
+
+// The words of 64 mark bits that a page has.
+const MARK_WORDS: usize = (PAGE_GRANULES / 64) as usize;
+
+// The lowest bit of a word from the bit `low` on that is set.
+#[inline]
+fn next_mark(word: u64, low: u32) -> Option<u32>
+    ensures { MatchOption result (HasNoBit word true low) (λ i. IsFirstBit word true low i) }
+{
+    if low >= 64 {
+        return None;
+    }
+    let rest = word >> low;
+    if rest == 0 {
+        return None;
+    }
+    Some(low + rest.trailing_zeros())
+}
 
 impl Marker {
     /// Reads the words of marked Normal objects on the lowest dirty page again.
@@ -31,10 +50,9 @@ impl Marker {
         self.laws();
         let page = self.take_page()?;
         let heap_bytes = heap_bytes(map);
-        let mut address = page_start(page);
-        let end = address + PAGE_BYTES;
-        while let Some(found) = map.next_on_page(page, address) {
-            address = self.reread(map, heap_bytes, reader, found, address, end);
+        match map.block(page) {
+            Some(_) => self.reread_cells(map, heap_bytes, reader, page),
+            None => self.reread_objects(map, heap_bytes, reader, page),
         }
         Some(page)
     }
@@ -47,6 +65,122 @@ impl Marker {
         let page = self.dirty.first()?;
         self.dirty.clear(page);
         Some(page)
+    }
+
+    // Reads the words of marked Normal objects on a page again, object by object.
+    fn reread_objects(
+        &mut self,
+        map: &BlockMap,
+        heap_bytes: u64,
+        reader: &mut Reader,
+        page: PageNo,
+    )
+        requires pages { length self.old.dirty ≡ length map.now }
+        requires lawful { IsLawful map.now }
+        requires bytes { heap_bytes ≡ PAGE_BYTES * length map.now }
+        requires memory { length reader.old.words ≡ PAGE_WORDS * length map.now }
+        requires inside { page < length map.now }
+        ensures rereads { Rereads (found_in map.now) reader.old.words (page_start page) (page_start (page + 1)) self.old self.new }
+        ensures words { reader.new.words ≡ reader.old.words }
+        ensures reads { reader.new.reads ≤ reader.old.reads + PAGE_WORDS }
+    {
+        self.laws();
+        let mut address = page_start(page);
+        let end = address + PAGE_BYTES;
+        while let Some(found) = map.next_on_page(page, address) {
+            address = self.reread(map, heap_bytes, reader, found, address, end);
+        }
+    }
+
+    // Reads the words of marked Normal objects on a page that is cut again, by the page's mark bits.
+    fn reread_cells(
+        &mut self,
+        map: &BlockMap,
+        heap_bytes: u64,
+        reader: &mut Reader,
+        page: PageNo,
+    )
+        requires pages { length self.old.dirty ≡ length map.now }
+        requires lawful { IsLawful map.now }
+        requires bytes { heap_bytes ≡ PAGE_BYTES * length map.now }
+        requires memory { length reader.old.words ≡ PAGE_WORDS * length map.now }
+        requires inside { page < length map.now }
+        requires cut { IsCut (state_at map.now page) }
+        ensures rereads { Rereads (found_in map.now) reader.old.words (page_start page) (page_start (page + 1)) self.old self.new }
+        ensures words { reader.new.words ≡ reader.old.words }
+        ensures reads { reader.new.reads ≤ reader.old.reads + PAGE_WORDS }
+    {
+        self.laws();
+        let end = page_start(page) + PAGE_BYTES;
+        let first = MARK_WORDS * page as usize;
+        for j in first..first + MARK_WORDS {
+            self.reread_marked(map, heap_bytes, reader, j, end);
+        }
+    }
+
+    // Reads the words of Normal objects again that stand below an address, of those that begin at the 64 granules from
+    // 64 j on and are marked.
+    fn reread_marked(
+        &mut self,
+        map: &BlockMap,
+        heap_bytes: u64,
+        reader: &mut Reader,
+        j: usize,
+        high: u64,
+    )
+        requires pages { length self.old.dirty ≡ length map.now }
+        requires lawful { IsLawful map.now }
+        requires bytes { heap_bytes ≡ PAGE_BYTES * length map.now }
+        requires memory { length reader.old.words ≡ PAGE_WORDS * length map.now }
+        requires inside { 64 * j < length self.old.marks }
+        requires below { FIRST_ADDRESS + GRANULE_BYTES * (64 * (j + 1)) ≤ high }
+        requires high { high % WORD_BYTES ≡ 0 }
+        ensures rereads { RereadsObjects (found_in map.now) reader.old.words self.old high (64 * j) (64 * (j + 1)) reader.old.reads self.old reader.new.reads self.new }
+        ensures words { reader.new.words ≡ reader.old.words }
+    {
+        self.laws();
+        let marks = self.marks.word(j);
+        let mut low = 0;
+        while let Some(i) = next_mark(marks, low) {
+            self.reread_at(map, heap_bytes, reader, 64 * j + i as usize, high);
+            low = i + 1;
+        }
+    }
+
+    // Reads the words that stand below an address of the object again that begins at a marked granule, if it is a
+    // Normal one.
+    #[inline]
+    fn reread_at(
+        &mut self,
+        map: &BlockMap,
+        heap_bytes: u64,
+        reader: &mut Reader,
+        granule: usize,
+        high: u64,
+    )
+        requires pages { length self.old.dirty ≡ length map.now }
+        requires lawful { IsLawful map.now }
+        requires bytes { heap_bytes ≡ PAGE_BYTES * length map.now }
+        requires memory { length reader.old.words ≡ PAGE_WORDS * length map.now }
+        requires marked { Has self.old.marks granule }
+        requires below { FIRST_ADDRESS + GRANULE_BYTES * granule < high }
+        requires high { high % WORD_BYTES ≡ 0 }
+        ensures rereads { RereadsObjects (found_in map.now) reader.old.words self.old high granule (granule + 1) reader.old.reads self.old reader.new.reads self.new }
+        ensures words { reader.new.words ≡ reader.old.words }
+    {
+        self.laws();
+        let base = FIRST_ADDRESS + GRANULE_BYTES * granule as u64;
+        let Some(found) = map.find(base) else {
+            return;
+        };
+        if found.base != base {
+            return;
+        }
+        if found.kind == Kind::PointerFree {
+            return;
+        }
+        let stop = (base + WORD_BYTES * u64::from(found.len)).min(high);
+        self.mark_words(map, heap_bytes, reader, found, 0, (stop - base) / WORD_BYTES);
     }
 
     // Whether an object's words are read: it is a marked Normal one.

@@ -8,7 +8,7 @@ ghost use Rattle.marker.specs.declared.entry.Entry.{Entry};
 ghost use Rattle.marker.specs.Marking.{IsEmpty, StaysDirty, entries};
 ghost use Rattle.marker.specs.Work.{cost};
 ghost use Rattle.marker.specs.Growth.{Traces};
-ghost use Rattle.marker.specs.Entries.{IsSpent, IsLive, Settles, ReadsOn, Takes, TakesOff};
+ghost use Rattle.marker.specs.Entries.{IsSpent, IsLive, Settles, ReadsOn, ReadsOff, Takes, TakesOff};
 
 use crate::entry::Entry;
 use crate::marker::{Marker, heap_bytes};
@@ -50,7 +50,7 @@ impl Marker {
             if read == budget {
                 return Marked { read, empty: false };
             }
-            read += self.read_on(map, heap_bytes, reader, found, budget - read);
+            read += self.read_off(map, heap_bytes, reader, found, budget - read);
         }
         Marked { read, empty: true }
     }
@@ -91,6 +91,48 @@ impl Marker {
     {
         self.current = self.stack.pop();
         self.current.is_some()
+    }
+
+    // How many words of its object the entry that is being read has left.
+    fn left_in(&self, found: Found) -> u64
+        requires { (e : Entry) × (self.now.current ≡ Some e) × (e.next ≤ found.len) }
+        ensures { (e : Entry) → self.now.current ≡ Some e → e.next + result ≡ found.len }
+    {
+        let Some(entry) = self.current else {
+            unreachable!();
+        };
+        u64::from(found.len - entry.next)
+    }
+
+    // Reads words of the entry that is being read, at most so many, and answers how many. Where none is left the entry
+    // is dropped, with no look at its object.
+    fn read_off(
+        &mut self,
+        map: &BlockMap,
+        heap_bytes: u64,
+        reader: &mut Reader,
+        found: Found,
+        most: u64,
+    ) -> u64
+        requires pages { length self.old.dirty ≡ length map.now }
+        requires lawful { IsLawful map.now }
+        requires bytes { heap_bytes ≡ PAGE_BYTES * length map.now }
+        requires live { IsLive (found_in map.now) self.old found }
+        requires placed { IsPlaced (length map.now) found × (length map.now ≤ MAX_PAGES) }
+        requires memory { length reader.old.words ≡ PAGE_WORDS * length map.now }
+        requires some { 0 < most }
+        ensures read { ReadsOff (found_in map.now) reader.old.words result self.old self.new }
+        ensures some { 0 < result }
+        ensures most { result ≤ most }
+        ensures words { reader.new.words ≡ reader.old.words }
+        ensures reads { reader.new.reads ≡ reader.old.reads + result }
+    {
+        let left = self.left_in(found);
+        let count = self.read_on(map, heap_bytes, reader, found, most);
+        if count == left {
+            self.take_entry();
+        }
+        count
     }
 
     // Reads words of the entry that is being read, at most so many, and answers how many.

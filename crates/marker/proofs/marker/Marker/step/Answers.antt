@@ -4,13 +4,13 @@ use Rattle.block_map.specs.FoundIn.{found_in}
 use Rattle.marker.specs.Marking.{Marking, StaysDirty}
 use Rattle.marker.specs.Work.{cost}
 use Rattle.marker.specs.Growth.{Traces}
-use Rattle.marker.specs.Entries.{ReadsOn, Takes, TakesOff, nothing, settled, read}
+use Rattle.marker.specs.Entries.{ReadsOff, Takes, TakesOff, nothing, settled, read}
 use Rattle.marker.proofs.Closures.{marks_of}
 use Rattle.marker.proofs.Settling.{settled_cost}
 use Rattle.marker.proofs.Reading.{read_cost}
 use Rattle.marker.proofs.Taking.{takes_traces, takes_cost, takes_taken, takes_dirty}
 use Rattle.marker.proofs.marker.Marker.step.Goals as goal
-use Rattle.marker.proofs.marker.Marker.step.Goals.{After-settle, After-read_on-read}
+use Rattle.marker.proofs.marker.Marker.step.Goals.{After-settle, After-read_off-read}
 
 pub loop-found-init : goal.loop-found-init
 loop-found-init c = record { takes = nothing; within = omega arith; words = refl; reads = omega arith }
@@ -30,12 +30,12 @@ settle-requires c =
 takes : (c : After-settle) → Takes (found_in c.args.map.now) c.args.reader.now.words c.args.self.now c.loop-found.read c.settle.new.self
 takes c = settled c.loop-found.invariant.takes c.settle.ensures.settles
 
-reads : (c : After-read_on-read) → ReadsOn (found_in c.args.map.now) c.args.reader.now.words c.read_on-read.result c.settle.new.self c.read_on-read.new.self
-reads c = subst (λ (w : List ℕ). ReadsOn (found_in c.args.map.now) w c.read_on-read.result c.settle.new.self c.read_on-read.new.self) c.loop-found.invariant.words c.read_on-read.ensures.read
+reads : (c : After-read_off-read) → ReadsOff (found_in c.args.map.now) c.args.reader.now.words c.read_off-read.result c.settle.new.self c.read_off-read.new.self
+reads c = subst (λ (w : List ℕ). ReadsOff (found_in c.args.map.now) w c.read_off-read.result c.settle.new.self c.read_off-read.new.self) c.loop-found.invariant.words c.read_off-read.ensures.read
 
-pub read_on-read-requires-clause-pages : goal.read_on-read-requires-clause-pages
-read_on-read-requires-clause-pages c =
-    let s = (goal.at.read_on-read-requires-clause-pages c).After-settle in (traces s (takes s)).dirty_len ∙ c.requires.pages
+pub read_off-read-requires-clause-pages : goal.read_off-read-requires-clause-pages
+read_off-read-requires-clause-pages c =
+    let s = (goal.at.read_off-read-requires-clause-pages c).After-settle in (traces s (takes s)).dirty_len ∙ c.requires.pages
 
 pub returns-then-read-budget-clause-takes : goal.returns-then-read-budget-clause-takes
 returns-then-read-budget-clause-takes c = takes (goal.at.returns-then-read-budget-clause-takes c).After-settle
@@ -89,18 +89,19 @@ pub loop-found-smaller : goal.loop-found-smaller
 loop-found-smaller c =
     let s = (goal.at.loop-found-smaller c).After-settle in
     let a = settled_cost (found_in c.args.map.now) _ _ c.settle.ensures.settles in
-    let b = read_cost (length c.args.map.now) (found_in c.args.map.now) c.heap_bytes-heap_bytes.ensures.lawful.map c.args.reader.now.words _ _ _ ((traces s (takes s)).marks_len ∙ marks_of _ _ c.laws.ensures c.requires.pages) (reads c) in
-    let some = c.read_on-read.ensures.some in
+    let b = read_cost (length c.args.map.now) (found_in c.args.map.now) c.heap_bytes-heap_bytes.ensures.lawful.map c.args.reader.now.words _ _ _ ((traces s (takes s)).marks_len ∙ marks_of _ _ c.laws.ensures c.requires.pages) (reads c).reads in
+    let d = settled_cost (found_in c.args.map.now) _ _ (reads c).settles in
+    let some = c.read_off-read.ensures.some in
     omega arith
 
 pub loop-found-preserved : goal.loop-found-preserved
 loop-found-preserved c =
-    let a = (goal.at.loop-found-preserved c).After-read_on-read in
+    let a = (goal.at.loop-found-preserved c).After-read_off-read in
     let i = c.loop-found.invariant in
-    let w = i.within in let n = c.read_on-read.ensures.most in let b = c.if-read-budget.false in
+    let w = i.within in let n = c.read_off-read.ensures.most in let b = c.if-read-budget.false in
     record {
-      takes = read (takes (goal.at.loop-found-preserved c).After-settle) (reads a);
+      takes = settled (read (takes (goal.at.loop-found-preserved c).After-settle) (reads a).reads) (reads a).settles;
       within = omega arith;
-      words = c.read_on-read.ensures.words ∙ i.words;
-      reads = (let a = c.read_on-read.ensures.reads in let b = i.reads in omega arith);
+      words = c.read_off-read.ensures.words ∙ i.words;
+      reads = (let a = c.read_off-read.ensures.reads in let b = i.reads in omega arith);
     }
