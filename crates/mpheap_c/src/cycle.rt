@@ -1,0 +1,89 @@
+//! The calls of the collector.
+ghost use Rattle.std.specs.Prelude.{◌≡◌, true, false};
+ghost use Rattle.heap_core.specs.Collections.{IsGrantedInPhase, IsAlwaysGranted, BeginsCycle, ReadsRoots, TakesWords, RetracesPage, EndsCycle, CollectsAll, SweepsOne};
+ghost use Rattle.mpheap_c.specs.Handle.{IsOpen};
+ghost use Rattle.mpheap_c.specs.Crossing.{Holds, TellsDoneOf, TellsWordOf, HasCount, HasPhase};
+
+use crate::handle::Heap;
+use crate::status::{done, word_to};
+
+/// Begins a cycle.
+#[unsafe(no_mangle)]
+pub extern "C" fn mpheap_begin(heap: &mut Heap) -> u32
+    requires open { IsOpen heap.old.core }
+    ensures { Holds (TellsDoneOf result (λ old r new. IsGrantedInPhase false old r new (λ _. BeginsCycle old new))) heap.old.core heap.new.core }
+{
+    done(heap.core().begin())
+}
+
+/// Marks what root words point into.
+#[unsafe(no_mangle)]
+pub extern "C" fn mpheap_roots(heap: &mut Heap) -> u32
+    requires open { IsOpen heap.old.core }
+    ensures { Holds (TellsDoneOf result (λ old r new. IsGrantedInPhase true old r new (λ _. ReadsRoots old new))) heap.old.core heap.new.core }
+{
+    done(heap.core().roots())
+}
+
+/// Reads words of entries, at most so many, and answers how many.
+#[unsafe(no_mangle)]
+pub extern "C" fn mpheap_mark(heap: &mut Heap, most: u64, count: &mut u64) -> u32
+    requires open { IsOpen heap.old.core }
+    ensures { Holds (TellsWordOf result count.old count.new (λ old r new. IsGrantedInPhase true old r new (λ n. TakesWords most old n new))) heap.old.core heap.new.core }
+{
+    word_to(heap.core().mark(most), count)
+}
+
+/// Reads the lowest dirty page again. Answers 1, or 0 where no page is dirty.
+#[unsafe(no_mangle)]
+pub extern "C" fn mpheap_retrace(heap: &mut Heap, count: &mut u64) -> u32
+    requires open { IsOpen heap.old.core }
+    ensures { Holds (TellsWordOf result count.old count.new (λ old r new. IsGrantedInPhase true old r new (λ n. RetracesPage old n new))) heap.old.core heap.new.core }
+{
+    word_to(heap.core().retrace(), count)
+}
+
+/// Ends the cycle. Answers how many objects were forgotten.
+#[unsafe(no_mangle)]
+pub extern "C" fn mpheap_finish(heap: &mut Heap, count: &mut u64) -> u32
+    requires open { IsOpen heap.old.core }
+    ensures { Holds (TellsWordOf result count.old count.new (λ old r new. IsGrantedInPhase true old r new (λ n. EndsCycle old n new))) heap.old.core heap.new.core }
+{
+    word_to(heap.core().finish(), count)
+}
+
+/// Sweeps one page, if one is pending. Answers 1 if one was, and else 0.
+#[unsafe(no_mangle)]
+pub extern "C" fn mpheap_sweep(heap: &mut Heap, count: &mut u64) -> u32
+    requires open { IsOpen heap.old.core }
+    ensures { Holds (TellsWordOf result count.old count.new (λ old r new. IsAlwaysGranted r (λ n. SweepsOne old n new))) heap.old.core heap.new.core }
+{
+    word_to(heap.core().sweep(), count)
+}
+
+/// Drops a cycle that is marking, and forgets exactly the objects that are not reached. Answers how many.
+#[unsafe(no_mangle)]
+pub extern "C" fn mpheap_collect(heap: &mut Heap, count: &mut u64) -> u32
+    requires open { IsOpen heap.old.core }
+    ensures { Holds (TellsWordOf result count.old count.new (λ old r new. IsAlwaysGranted r (λ n. CollectsAll old n new))) heap.old.core heap.new.core }
+{
+    word_to(heap.core().collect(), count)
+}
+
+/// How many collections were granted, modulo 2^64.
+#[unsafe(no_mangle)]
+pub extern "C" fn mpheap_gc_no(heap: &mut Heap) -> u64
+    requires open { IsOpen heap.old.core }
+    ensures { Holds (HasCount result) heap.old.core heap.new.core }
+{
+    heap.core().gc_no()
+}
+
+/// Whether a cycle is marking.
+#[unsafe(no_mangle)]
+pub extern "C" fn mpheap_is_marking(heap: &mut Heap) -> bool
+    requires open { IsOpen heap.old.core }
+    ensures { Holds (HasPhase result) heap.old.core heap.new.core }
+{
+    heap.core().is_marking()
+}

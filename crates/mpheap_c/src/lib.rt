@@ -1,0 +1,9 @@
+//! The core of a heap for C.
+#![tactic(auto)]
+
+mod cycle;
+mod handle;
+mod objects;
+mod open;
+mod registers;
+mod status;

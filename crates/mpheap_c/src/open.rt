@@ -1,0 +1,39 @@
+//! A heap is opened and closed.
+ghost use Rattle.std.specs.Prelude.{◌≡◌, None};
+ghost use Rattle.mpheap_c.specs.Handle.{IsOpen};
+ghost use Rattle.mpheap_c.specs.Crossing.{IsOpenedAs};
+
+use crate::handle::Heap;
+use crate::status::{BAD_PAGES, NO_MEMORY};
+use heap_core::Core;
+use std::alloc::Global;
+use std::mem::replace;
+use words::OpenError;
+
+/// Opens a heap.
+#[unsafe(no_mangle)]
+pub extern "C" fn mpheap_open(alloc: Global, pages: u32, heap: &mut Heap) -> u32
+    requires closed { heap.old.core ≡ None }
+    ensures { IsOpenedAs pages result heap.old.core heap.new.core }
+{
+    match Core::new(alloc, pages) {
+        Ok(core) => match Box::new(alloc, core) {
+            Ok(boxed) => {
+                *heap = Heap::of(boxed);
+                0
+            }
+            Err(_) => NO_MEMORY,
+        },
+        Err(OpenError::BadPages) => BAD_PAGES,
+        Err(OpenError::Memory) => NO_MEMORY,
+    }
+}
+
+/// Closes a heap: its memory is freed, and the handle is closed.
+#[unsafe(no_mangle)]
+pub extern "C" fn mpheap_close(alloc: Global, heap: &mut Heap)
+    requires open { IsOpen heap.old.core }
+    ensures { heap.new.core ≡ None }
+{
+    replace(heap, Heap::closed(alloc)).close();
+}
