@@ -3,7 +3,7 @@
 #![tactic(auto)]
 
 ghost use Rattle.std.specs.Prelude.{◌≡◌, ℕ, ◌<◌, ◌≤◌, ◌⊎◌, true, false, length, slice_index_or, slice_set, IfOk, IfSome, MatchOption};
-ghost use Rattle.words.specs.Bits.{Has, IsClear, IsEmptyFrom, IsFirstFrom};
+ghost use Rattle.words.specs.Bits.{Has, members, IsClear, IsEmptyFrom, IsFirstFrom};
 ghost use Rattle.words.specs.declared.limits.TheConstants.{MAX_PAGES};
 
 use std::alloc::{AllocError, Global};
@@ -60,6 +60,13 @@ impl DirtyPages {
         ensures { self.new ≡ slice_set self.old page false }
     {
         self.row.clear(page as usize);
+    }
+
+    /// How many pages are in the set, counted by whole words.
+    pub fn count(&self) -> u32
+        ensures { result ≡ members self.now }
+    {
+        self.row.count(0, self.row.len())
     }
 
     /// Takes all pages out of the set.

@@ -8,3 +8,7 @@ pub mod Following
 pub mod Acting
 pub mod Cycling
 pub mod AsObject
+pub mod DirectWrites
+pub mod DirectStores
+pub mod DirectLines
+pub mod DirectTold

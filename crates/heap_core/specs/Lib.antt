@@ -8,3 +8,5 @@ pub mod Collections
 pub mod Acts
 pub mod Following
 pub mod AsObject
+pub mod DirectWrites
+pub mod Granted

@@ -1,15 +1,19 @@
 //! The core, and how it is made.
 ghost use Rattle.pages.specs.Opening.{IsOpened};
+ghost use Rattle.std.specs.Prelude.{Bool, List};
 ghost use Rattle.heap_core.specs.Contents.{IsCore};
+ghost use Rattle.heap_core.specs.DirectWrites.{IsWholeCore};
 ghost use Rattle.heap_core.specs.Opening.{IsNew};
 
 mod beside;
 mod close_with;
+mod counts;
 mod cycle;
 mod events;
 mod kept;
 mod objects;
 mod registers;
+mod written;
 
 use arrayvec::ArrayVec;
 use marker::Marker;
@@ -72,5 +76,16 @@ impl Core {
     {
         self.objects.laws();
         let _marker = &self.marker;
+    }
+
+    /// The same, and what the core's parts keep to themselves beside it: the premise of the laws of words that are written past
+    /// the calls.
+    #[inline]
+    pub fn whole(&self)
+        ensures { (rows : List (List Bool)) × IsWholeCore self.now rows }
+    {
+        self.laws();
+        self.objects.whole();
+        self.marker.laws();
     }
 }

@@ -4,6 +4,7 @@
 #![tactic(auto)]
 
 mod heap;
+pub mod laws;
 mod object;
 pub mod quiet;
 mod ranges;

@@ -69,3 +69,20 @@ impl Quiet<Core> for Sweep {
         object.sweep()
     }
 }
+
+/// [`Core::written`]: tells an address of a word that is written past the calls.
+#[derive(Drop)]
+pub struct Written(pub u64);
+
+impl Quiet<Core> for Written {
+    type Answer = ();
+
+    ghost use Rattle.std.specs.Prelude.{◌≡◌};
+    ghost use Rattle.heap_core.specs.DirectWrites.{TellsWritten};
+
+    ghost gives = { λ work old answer after new. (after ≡ work) × TellsWritten work.0 old new };
+
+    fn run(&mut self, object: &mut Core) {
+        object.written(self.0)
+    }
+}

@@ -1,6 +1,7 @@
 //! The marker's state, and the beginning of a cycle.
 ghost use Rattle.std.specs.Prelude.{◌≡◌, ℕ, Option, ◌*◌, ◌<◌, ◌≤◌, List, length, slice_index_or, false};
 ghost use Rattle.words.specs.declared.limits.TheConstants.{FIRST_ADDRESS, PAGE_BYTES};
+ghost use Rattle.words.specs.Bits.{members};
 ghost use Rattle.words.specs.Layout.{granule};
 ghost use Rattle.pages.specs.Opening.{IsOpened};
 ghost use Rattle.block_map.specs.declared.found.Found.{Found};
@@ -86,6 +87,13 @@ impl Marker {
         self.dirty.clear_all();
         self.current = None;
         self.stack.clear();
+    }
+
+    /// How many pages are dirty, counted by whole words.
+    pub fn count_dirty(&self) -> u32
+        ensures { result ≡ members self.now.dirty }
+    {
+        self.dirty.count()
     }
 
     /// Whether the object with this base is marked.

@@ -1,6 +1,7 @@
 -- What crosses to C: a status and words.
-use Rattle.std.specs.Prelude.{◌≡◌, ℕ, Bool, Option, Some, Result, Ok, Err, ⊤}
+use Rattle.std.specs.Prelude.{◌≡◌, ℕ, Bool, Option, Some, Result, Ok, Err, IfOk, ⊤}
 use Rattle.words.specs.declared.refusal.Refusal.{Refusal}
+use Rattle.words.specs.Bits.{members}
 use Rattle.words.specs.Refusals.{code_of}
 use Rattle.heap_spec.specs.declared.event.Event.{Event}
 use Rattle.heap_spec.specs.declared.event.Event.TheVariants.{Attach}
@@ -9,6 +10,7 @@ use Rattle.pages.specs.Opening.{IsPageCount, IsNoPageCount}
 use Rattle.heap_core.specs.Contents.{Contents}
 use Rattle.block_map.specs.declared.found.Found.{Found}
 use Rattle.heap_core.specs.Calls.{IsCall}
+use Rattle.heap_core.specs.Granted.{granted_reply, HoldsWord}
 use Rattle.heap_core.specs.KeptAt.{IsKeptAt, KeepsNothingAt}
 use Rattle.heap_core.specs.Opening.{IsNew}
 
@@ -83,3 +85,20 @@ HasPhase phase old new = (phase ≡ old.cycle.is_marking) × (new ≡ old)
 pub data FindsAt (word status base_before words_before base words : ℕ) (old new : Contents) : Type 0 where
   found : (f : Found) → IsKeptAt old word f → status ≡ 0 → base ≡ f.base → words ≡ f.len → new ≡ old → FindsAt word status base_before words_before base words old new
   nothing : KeepsNothingAt old word → status ≡ 3 → base ≡ base_before → words ≡ words_before → new ≡ old → FindsAt word status base_before words_before base words old new
+
+-- so many pages are free, and nothing has changed
+abbrev pub HasFreePages : ℕ → Contents → Contents → Type 0
+HasFreePages count old new = (count ≡ members old.store.free) × (new ≡ old)
+
+-- so many are dirty, and nothing has changed
+abbrev pub HasDirtyPages : ℕ → Contents → Contents → Type 0
+HasDirtyPages count old new = (count ≡ members old.cycle.marking.dirty) × (new ≡ old)
+
+-- so many are pending, and nothing has changed
+abbrev pub HasPendingPages : ℕ → Contents → Contents → Type 0
+HasPendingPages count old new = (count ≡ members old.store.pending) × (new ≡ old)
+
+-- An allocation that answers a status and, where it is done, the base: what the register then holds.
+abbrev pub IsBaseCall : Event → ℕ → ℕ → ℕ → ℕ → ℕ → Contents → Contents → Type 0
+IsBaseCall event slot into status before base old new =
+    (r : Result ℕ Refusal) × TellsWord status before base r × IsCall old event (granted_reply r) new × IfOk r (λ word. HoldsWord new.roots slot into word)

@@ -1,6 +1,7 @@
 //! The core of a heap for C.
 #![tactic(auto)]
 
+mod beside;
 mod cycle;
 mod handle;
 mod objects;

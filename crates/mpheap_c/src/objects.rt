@@ -2,7 +2,7 @@
 ghost use Rattle.std.specs.Prelude.{◌≡◌, ◌<◌};
 ghost use Rattle.words.specs.declared.limits.TheConstants.{SLOTS, REGISTERS};
 ghost use Rattle.mpheap_c.specs.Handle.{IsOpen};
-ghost use Rattle.mpheap_c.specs.Crossing.{IsAnswered, IsServed, IsWordCall, IsDoneCall, IsCountCall, Holds, FindsAt};
+ghost use Rattle.mpheap_c.specs.Crossing.{IsAnswered, IsServed, IsWordCall, IsBaseCall, IsDoneCall, IsCountCall, Holds, FindsAt};
 
 use crate::handle::Heap;
 use crate::status::{BAD_NUMBER, NO_OBJECT, done, word_to};
@@ -87,6 +87,48 @@ pub extern "C" fn mpheap_alloc_pointer_free(heap: &mut Heap, slot: u8, into: u8,
         return BAD_NUMBER;
     };
     done(heap.core().alloc(slot, into, words, Kind::PointerFree))
+}
+
+/// As `mpheap_alloc`, and it answers the base too.
+#[unsafe(no_mangle)]
+pub extern "C" fn mpheap_alloc_base(
+    heap: &mut Heap,
+    slot: u8,
+    into: u8,
+    words: u64,
+    base: &mut u64,
+) -> u32
+    requires open { IsOpen heap.old.core }
+    ensures { IsAnswered ((slot < SLOTS) × (into < REGISTERS)) (IsBaseCall (Event.Mutator slot (Call.Alloc into words Kind.Normal)) slot into result base.old base.new) result base.old base.new heap.old.core heap.new.core }
+{
+    let (Some(slot), Some(into)) = (Slot::new(slot), Reg::new(into)) else {
+        return BAD_NUMBER;
+    };
+    word_to(
+        heap.core().alloc_base(slot, into, words, Kind::Normal),
+        base,
+    )
+}
+
+/// As `mpheap_alloc_pointer_free`, and it answers the base too.
+#[unsafe(no_mangle)]
+pub extern "C" fn mpheap_alloc_pointer_free_base(
+    heap: &mut Heap,
+    slot: u8,
+    into: u8,
+    words: u64,
+    base: &mut u64,
+) -> u32
+    requires open { IsOpen heap.old.core }
+    ensures { IsAnswered ((slot < SLOTS) × (into < REGISTERS)) (IsBaseCall (Event.Mutator slot (Call.Alloc into words Kind.PointerFree)) slot into result base.old base.new) result base.old base.new heap.old.core heap.new.core }
+{
+    let (Some(slot), Some(into)) = (Slot::new(slot), Reg::new(into)) else {
+        return BAD_NUMBER;
+    };
+    word_to(
+        heap.core().alloc_base(slot, into, words, Kind::PointerFree),
+        base,
+    )
 }
 
 /// Frees the object whose base a register has.

@@ -1,15 +1,16 @@
 //! The objects of a heap: their words, the pages that they lie on, and which pages are free. That the pool and the map
 //! agree on the free pages, and that the lists of free cells stand in the memory, is kept here, and no other module touches
 //! any of the three.
-ghost use Rattle.std.specs.Prelude.{◌≡◌, ◌*◌, Bool, Some, length};
+ghost use Rattle.std.specs.Prelude.{◌≡◌, ◌*◌, Bool, List, Some, length};
 ghost use Rattle.words.specs.declared.limits.TheConstants.{PAGE_WORDS};
+ghost use Rattle.words.specs.Bits.{members};
 ghost use Rattle.heap_spec.specs.Heap.{opening};
 ghost use Rattle.pages.specs.Memory.{IsWordAddress, word_at, with_word_at};
 ghost use Rattle.pages.specs.Opening.{IsOpened};
 ghost use Rattle.block_map.specs.FoundIn.{found_in, IsLawful};
 ghost use Rattle.block_map.specs.States.{IsLaid};
 ghost use Rattle.block_map.specs.declared.found.Found.{Found};
-ghost use Rattle.object_space.specs.Store.{AreEmptyPages, IsPendingRow, HasSoundPages, IsSwept};
+ghost use Rattle.object_space.specs.Store.{AreEmptyPages, IsPendingRow, IsWholeSpace, HasSoundPages, IsSwept};
 ghost use Rattle.object_space.specs.Kept.{kept_in};
 ghost use Rattle.object_space.specs.Stores.{Stores};
 
@@ -88,6 +89,36 @@ impl ObjectSpace {
         ensures laid { IsLaid self.now.states }
     {
         self.map.laws();
+    }
+
+    /// All that is true of every store, with what no caller has to know: the lists of free cells, and the rows of the pages
+    /// that have one.
+    #[inline]
+    pub fn whole(&self)
+        ensures { (rows : List (List Bool)) × IsWholeSpace self.now rows }
+    {
+        let _available = &self.available;
+    }
+
+    /// The number of pages.
+    pub fn pages(&self) -> u32
+        ensures { result ≡ length self.now.states }
+    {
+        self.map.len()
+    }
+
+    /// How many pages are free, counted by whole words.
+    pub fn count_free(&self) -> u32
+        ensures { result ≡ members self.now.free }
+    {
+        self.pool.count_free()
+    }
+
+    /// How many pages are pending, counted by whole words.
+    pub fn count_pending(&self) -> u32
+        ensures { result ≡ members self.now.pending }
+    {
+        self.pending.count()
     }
 
     /// The kept object that a word points into. On a pending page only marked objects are kept.

@@ -1,6 +1,7 @@
 //! The pool of free pages, seen as the row of its pages: true is a free page.
 ghost use Rattle.std.specs.Prelude.{◌≡◌, ◌+◌, ◌%◌, ◌<◌, ◌≤◌, Bool, true, false, List, length, slice_index_or, MatchOption, IfSome, IfNone};
 ghost use Rattle.words.specs.declared.limits.TheConstants.{MAX_PAGES};
+ghost use Rattle.words.specs.Bits.{members};
 ghost use Rattle.pages.specs.Opening.{IsOpened};
 ghost use Rattle.pages.specs.Runs.{IsFirstFreeRun, HasNoFreeRun, IsFilled, IsMask, IsRunEnd, AreAllFree};
 
@@ -127,6 +128,13 @@ impl PagePool {
         ensures small { result ≤ MAX_PAGES }
     {
         self.free.len() as u32
+    }
+
+    /// How many pages are free, counted by whole words.
+    pub fn count_free(&self) -> u32
+        ensures { result ≡ members self.now }
+    {
+        self.free.count(0, self.free.len())
     }
 
     /// Takes n consecutive pages, the lowest that are free, and answers the first of them. `None` exactly where there

@@ -5,6 +5,7 @@ ghost use Rattle.heap_spec.specs.Replies.{count_reply, done_reply, word_reply};
 ghost use Rattle.block_map.specs.FoundIn.{IsLawful};
 ghost use Rattle.object_space.specs.Kept.{kept_in};
 ghost use Rattle.heap_core.specs.Calls.{IsCall};
+ghost use Rattle.heap_core.specs.Granted.{granted_reply, HoldsWord};
 
 use super::Core;
 use super::beside::{note_object, note_write};
@@ -104,6 +105,27 @@ impl Core {
     pub fn alloc(&mut self, slot: Slot, into: Reg, words: u64, kind: Kind) -> Result<(), Refusal>
         ensures { IsCall self.old (Event.Mutator slot (Call.Alloc into words kind)) (done_reply result) self.new }
     {
+        match self.alloc_base(slot, into, words, kind) {
+            Ok(_) => Ok(()),
+            Err(refusal) => Err(refusal),
+        }
+    }
+
+    /// The same, and it answers what the register then holds: the base.
+    ///
+    /// # Errors
+    /// As [`Core::alloc`].
+    #[inline(always)]
+    pub fn alloc_base(
+        &mut self,
+        slot: Slot,
+        into: Reg,
+        words: u64,
+        kind: Kind,
+    ) -> Result<u64, Refusal>
+        ensures call { IsCall self.old (Event.Mutator slot (Call.Alloc into words kind)) (granted_reply result) self.new }
+        ensures base { IfOk result (λ base. HoldsWord self.new.roots slot into base) }
+    {
         self.roots.attached(slot)?;
         let placement = class_of(words).ok_or(Refusal::BadSize)?;
         let base = self
@@ -112,7 +134,10 @@ impl Core {
             .ok_or(Refusal::Full)?;
         note_object(&mut self.marker, self.is_marking, base);
         self.roots.set_word(slot, into, base);
-        Ok(())
+        let Some(mutator) = self.roots.mutator(slot) else {
+            unreachable!();
+        };
+        Ok(mutator.word(into))
     }
 
     /// Frees the object whose base a register has.

@@ -1,6 +1,6 @@
 //! Some of the pages: a row of bits, and the lowest of them, which no search has to find.
 ghost use Rattle.std.specs.Prelude.{◌≡◌, ◌<◌, ◌^◌, true, false, length, slice_index_or, slice_set, IfOk, MatchOption};
-ghost use Rattle.words.specs.Bits.{IsClear, IsEmptyFrom, IsFirstFrom};
+ghost use Rattle.words.specs.Bits.{members, IsClear, IsEmptyFrom, IsFirstFrom};
 
 use std::alloc::{AllocError, Global};
 use std::marker::Model;
@@ -63,6 +63,13 @@ impl PageRow {
         ensures { result ≡ slice_index_or self.now page false }
     {
         self.row.is_set(page)
+    }
+
+    /// How many members there are, counted by whole words.
+    pub(super) fn count(&self) -> u32
+        ensures { result ≡ members self.now }
+    {
+        self.row.count(0, self.row.len())
     }
 
     /// Enters a page.

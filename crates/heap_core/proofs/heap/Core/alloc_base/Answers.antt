@@ -5,13 +5,13 @@ use Rattle.heap_core.proofs.Calls.{allocated, full}
 use Rattle.object_space.proofs.Placing.{sized}
 use Rattle.roots.proofs.Refusals.{handed_on, handed_on_none}
 use Rattle.heap_core.proofs.Roots.{refused, refused_vacant}
-use Rattle.heap_core.proofs.heap.Core.alloc.Goals as goal
+use Rattle.heap_core.proofs.heap.Core.alloc_base.Goals as goal
 
-pub returns-in_err-attached : goal.returns-in_err-attached
-returns-in_err-attached c = rw (← c.self.view_is, handed_on _ _ _ c.from_residual.ensures.1 c.in_err-attached.ensures.err.0) (refused_vacant _ _ _ c.in_err-attached.ensures.err.1)
+pub returns-in_err-attached-clause-call : goal.returns-in_err-attached-clause-call
+returns-in_err-attached-clause-call c = rw (← c.self.view_is, handed_on _ _ _ c.from_residual.ensures.1 c.in_err-attached.ensures.err.0) (refused_vacant _ _ _ c.in_err-attached.ensures.err.1)
 
-pub returns-in_err-placement : goal.returns-in_err-placement
-returns-in_err-placement c = rw (← c.self.view_is, handed_on_none _ _ _ _ c.from_residual-in_err-placement.ensures.1 c.in_err-placement.ensures.value)
+pub returns-in_err-placement-clause-call : goal.returns-in_err-placement-clause-call
+returns-in_err-placement-clause-call c = rw (← c.self.view_is, handed_on_none _ _ _ _ c.from_residual-in_err-placement.ensures.1 c.in_err-placement.ensures.value)
     (refused _ _ _ _ c.in_ok-attached.field-0.now _ _ c.in_ok-attached.ensures.ok (λ h. h) (λ s h. Acts.bad_size (sym (rw c.in_err-placement.ensures.ok_part at c.class_of.ensures))))
 
 pub allocate-requires-clause-request : goal.allocate-requires-clause-request
@@ -20,8 +20,8 @@ allocate-requires-clause-request c = sized c.args.words _ (sym (rw c.in_ok-place
 pub invariant_of-self : goal.invariant_of-self
 invariant_of-self c = traced_swept _ _ (record { marking = c.self.inside.marker; is_marking = c.self.inside.is_marking; count = c.self.inside.count }) c.self.invariant (rw c.in_err-base.ensures.ok_part at c.allocate.ensures).sweeps
 
-pub returns-in_err-base : goal.returns-in_err-base
-returns-in_err-base c =
+pub returns-in_err-base-clause-call : goal.returns-in_err-base-clause-call
+returns-in_err-base-clause-call c =
     let none = rw c.in_err-base.ensures.ok_part at c.allocate.ensures in
     rw (← c.self.view_is, handed_on_none _ _ _ _ c.from_residual-in_err-base.ensures.1 c.in_err-base.ensures.value) (full _ _ _ _ _ _ _ _ c.in_ok-placement.placement c.in_ok-attached.field-0.now c.in_ok-attached.ensures.ok (sym (rw c.in_ok-placement.ensures.ok_part at c.class_of.ensures)) none.sweeps none.swept none.none)
 
@@ -41,8 +41,8 @@ invariant_of-self-2 c =
     let a = rw c.in_ok-base.ensures.ok_part at c.allocate.ensures in
     traced_object _ _ (record { marking = c.self.inside.marker; is_marking = c.self.inside.is_marking; count = c.self.inside.count }) _ _ _ _ (traced_swept _ a.ready _ c.self.invariant a.sweeps) a.gains c.note_object.ensures refl
 
-pub returns : goal.returns
-returns c =
+pub returns-clause-call : goal.returns-clause-call
+returns-clause-call c =
     let a = rw c.in_ok-base.ensures.ok_part at c.allocate.ensures in
     rw (← c.self.view_is)
     (allocated _ _ _ _ _ _ _ _ _ _ _ _ _ c.in_ok-attached.field-0.now c.in_ok-attached.ensures.ok (sym (rw c.in_ok-placement.ensures.ok_part at c.class_of.ensures)) a.sweeps a.room a.gains c.set_word.ensures c.note_object.ensures refl refl)
