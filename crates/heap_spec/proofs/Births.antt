@@ -1,5 +1,5 @@
 -- The objects after a step: old ones, and one that was born in it.
-use Rattle.std.proofs.Common.{◌≡◌, ℕ, ◌+◌, length, sym, ap, ◌∙◌, arith, inl, inr, ⊎_elim}
+use Rattle.std.proofs.Common.{[], ◌∷◌, ◌≡◌, ℕ, ◌+◌, length, sym, ap, ◌∙◌, arith, inl, inr, ⊎_elim}
 use Rattle.std.proofs.lemmas.Option.{same_Some}
 use Rattle.std.proofs.lemmas.List.{length-set}
 use Rattle.heap_spec.specs.declared.call.Call.{Call}
@@ -7,9 +7,10 @@ use Rattle.heap_spec.specs.declared.event.Event.{Event}
 use Rattle.heap_spec.specs.declared.event.Event.TheVariants.{Attach, Mutator}
 use Rattle.heap_spec.specs.declared.reply.Reply.{Reply}
 use Rattle.heap_spec.specs.Heap.{Heap, Object, Mutator as HeapMutator, HasObject}
-use Rattle.heap_spec.specs.Steps.{Acts, Attaches, Calls, Step}
+use Rattle.heap_spec.specs.Steps.{Acts, Attaches, Calls, Step, register}
 use Rattle.heap_spec.specs.Laws.{IsOldOrNew}
-use Rattle.heap_spec.proofs.Objects.{at_cases, same_object, without_one}
+use Rattle.heap_spec.proofs.Objects.{at_cases, same_object}
+use Rattle.heap_spec.proofs.Links.{left_by, same_left}
 
 acts_births : (s : Heap) (slot : ℕ) (m : HeapMutator) {call : Call} {reply : Reply} {s' : Heap} → Acts s slot m call reply s' → (base : ℕ) (p : Object) → HasObject s' base p → IsOldOrNew s base p
 acts_births s slot m (Acts.stored {base = b} {o = o} al reads) base p has = ⊎_elim
@@ -28,7 +29,7 @@ acts_births s slot m (Acts.allocated {kind = kind} {place = place} a e room) bas
     (λ here. inr (let birth : s.births + 1 ≡ p.birth = ap (λ (x : Object). x.birth) (same_Some _ p here.1) in omega arith))
     (λ other. inl (p, other.1, same_object p))
     (at_cases s.objects a _ base _ has)
-acts_births s slot m (Acts.freed {r = r} gone) base p has = inl (p, (without_one s.objects _ base p has).1, same_object p)
+acts_births s slot m (Acts.freed {r = r} gone) base p has = let left = left_by s (register m r ∷ []) base p has in inl (left.object, left.has, same_left s (register m r ∷ []) base p left)
 acts_births s slot m _ base p has = inl (p, has, same_object p)
 
 calls_births : (s : Heap) (slot : ℕ) (call : Call) {reply : Reply} {s' : Heap} → Calls s slot call reply s' → (base : ℕ) (p : Object) → HasObject s' base p → IsOldOrNew s base p

@@ -11,14 +11,20 @@ use Rattle.words.specs.declared.class.Placement.{Placement}
 use Rattle.words.specs.Placing.{placement_of}
 use Rattle.heap_spec.specs.declared.call.Call.{Call}
 use Rattle.heap_spec.specs.declared.reply.Reply.{Reply}
-use Rattle.heap_spec.specs.Heap.{Heap, Object, Mutator, IsAttached, opening, with_at}
+use Rattle.heap_spec.specs.Heap.{Heap, Object, Link, Mutator, IsAttached, IsSameObject, HasObject, opening, with_at, without, loses_word}
+use Rattle.heap_spec.specs.Layout.{index_in}
+use Rattle.heap_spec.proofs.Links.{links_kept, links_left, links_linked, links_unlinked, left_by, same_left, cleared_words}
 use Rattle.heap_spec.specs.Room.{HasRoom, length_of}
-use Rattle.heap_spec.specs.Steps.{newcomer, with_mutator, with_register, with_new, register, Attaches, attached, no_slot, Acts, Calls, acts, vacant}
+use Rattle.heap_spec.specs.Steps.{newcomer, with_mutator, with_register, with_new, with_object, register, address, Attaches, attached, no_slot, Acts, Calls, acts, vacant}
 use Rattle.heap_spec.specs.Cycles.{TakesOut}
 use Rattle.heap_spec.specs.Ranges.{IsWord, CallInRange}
-use Rattle.heap_spec.specs.Sound.{IsSound, IsRow, IsMutator, IsSlot, AreObjects, IsCell, ArePages, LieInHeap}
+use Rattle.heap_spec.specs.Sound.{IsSound, IsRow, IsMutator, IsSlot, AreObjects, IsCell, ArePages, LieInHeap, AreLinks, IsLink}
 use Rattle.heap_spec.proofs.Layouts.{AreApart, placed, cell_lies, pages_lie}
-use Rattle.heap_spec.proofs.Objects.{objects_stored, objects_without, objects_more, object_lies, room_laid, room_apart}
+use Rattle.heap_spec.proofs.Objects.{Was, at_cases, with_at-same, with_at-other, same_object, objects_kept, objects_stored, objects_more, object_lies, room_laid, room_apart, no_object_at}
+use Rattle.std.specs.Prelude.{◌≢◌}
+use Rattle.std.proofs.lemmas.Bool.{cases_eq}
+use Rattle.std.proofs.lemmas.Option.{same_Some}
+
 
 -- a word of a list of words
 word_at : (words : List ℕ) (i : ℕ) → All IsWord words → IsWord (slice_index words i)
@@ -50,6 +56,7 @@ slot_kept s slot m h is = record {
   slots = length-set s.mutators slot m ∙ h.slots;
   mutators = All-set IsSlot s.mutators slot m is h.mutators;
   globals = h.globals;
+  links = links_kept s (with_mutator s slot m) refl (λ base o has. (o, has, same_object o)) h.links;
 }
 
 register_kept : (s : Heap) (slot : ℕ) (m : Mutator) (r w : ℕ) → IsSound s → IsMutator m → IsWord w → IsSound (with_register s slot m r w)
@@ -65,9 +72,18 @@ popped_is m rest w h e =
     let room = h.room in
     (record { registers = h.registers; room = omega arith; stack = both.0 }, both.1)
 
--- a sound heap with other objects
-objects_in : (s : Heap) (objects : ℕ → Option Object) → IsSound s → AreObjects s.pages s.births objects → IsSound (record s { objects = objects })
-objects_in s objects h is = record { some_page = h.some_page; few_pages = h.few_pages; objects = is; slots = h.slots; mutators = h.mutators; globals = h.globals }
+-- a sound heap with other objects and links
+objects_in : (s : Heap) (objects : ℕ → Option Object) (links : List Link) → IsSound s → AreObjects s.pages s.births objects → AreLinks (record s { objects = objects; links = links }) → IsSound (record s { objects = objects; links = links })
+objects_in s objects links h is are = record { some_page = h.some_page; few_pages = h.few_pages; objects = is; slots = h.slots; mutators = h.mutators; globals = h.globals; links = are }
+
+-- a sound heap from which objects have gone
+pub without_kept : (s : Heap) (bases : List ℕ) → IsSound s → IsSound (without s bases)
+without_kept s bases h = objects_in s _ _ h (objects_kept s.pages s.births s.objects _ h.objects was) (links_left s bases h.links)
+  where
+    was : (base : ℕ) (p : Object) → HasObject (without s bases) base p → Was s.objects base p
+    was base p has =
+        let left = left_by s bases base p has in let same = same_left s bases base p left in
+        (left.object, left.has, sym same.size, sym same.birth, subst (λ (x : Object). All IsWord x.words) left.is (cleared_words (loses_word s bases) base left.object.words (h.objects.words base left.object left.has)))
 
 alloc_kept : (s : Heap) (slot : ℕ) (m : Mutator) (d n : ℕ) (kind : Kind) (place : Placement) (a : ℕ) → IsSound s → IsMutator m → placement_of n ≡ Some place → HasRoom s place kind a
     → IsSound (with_register (with_new s a kind place) slot m d a)
@@ -78,6 +94,7 @@ alloc_kept s slot m d n kind place a h is e room = record {
   slots = length-set s.mutators slot _ ∙ h.slots;
   mutators = All-set IsSlot s.mutators slot _ (record { registers = row_set _ m.registers d a is.registers fits; room = is.room; stack = is.stack }) h.mutators;
   globals = h.globals;
+  links = links_kept s _ refl (λ base o has. (o, with_at-other s.objects a (Some new) base (ne base o has) ∙ has, same_object o)) h.links;
 }
   where
     new : Object
@@ -85,6 +102,9 @@ alloc_kept s slot m d n kind place a h is e room = record {
 
     size : length new.words ≡ length_of place
     size = length-replicate (length_of place) 0
+
+    ne : (base : ℕ) (o : Object) → HasObject s base o → base ≢ a
+    ne base o has same = no_object_at s h place kind a (placed n place e) room o (subst (λ x. HasObject s x o) same has)
 
     laid : IsCell s.pages a (length_of place) ⊎ ArePages s.pages a (length_of place)
     laid = room_laid s place kind a (placed n place e) room
@@ -101,6 +121,18 @@ alloc_kept s slot m d n kind place a h is e room = record {
     fits : IsWord a
     fits = let to = lies.to in let few = h.few_pages in omega arith
 
+-- after a store each object is there still
+stored_same : (s : Heap) (base b : ℕ) (o p : Object) (i w : ℕ) → HasObject s base o → HasObject s b p
+    → (q : Object) × HasObject (with_object s base (Some (record o { words = slice_set o.words i w }))) b q × IsSameObject p q
+stored_same s base b o p i w has hasb = ⊎_elim
+    (λ same. let e : p ≡ o = same_Some p o (sym hasb ∙ ap s.objects same ∙ has) in (
+      record o { words = slice_set o.words i w },
+      with_at-same s.objects base _ b same,
+      subst (λ (x : Object). IsSameObject x (record o { words = slice_set o.words i w })) (sym e) (record { birth = refl; kind = refl; size = length-set o.words i w }),
+    ))
+    (λ ne. (p, with_at-other s.objects base _ b ne ∙ hasb, same_object p))
+    (cases_eq b base)
+
 -- A call of an attached mutator keeps a sound heap sound.
 pub acts_kept : (s : Heap) (slot : ℕ) (m : Mutator) → IsSound s → IsMutator m → {call : Call} {reply : Reply} {s' : Heap} → Acts s slot m call reply s' → CallInRange call → IsSound s'
 acts_kept s slot m h is Acts.detached range = slot_kept s slot None h tt
@@ -116,13 +148,14 @@ acts_kept s slot m h is (Acts.pop_empty e) range = h
 acts_kept s slot m h is (Acts.loaded {d = d} {base = base} {o = o} al reads) range = register_kept s slot m d _ h is (word_at o.words _ (h.objects.words base o reads.0))
 acts_kept s slot m h is (Acts.load_misaligned al) range = h
 acts_kept s slot m h is (Acts.load_nothing al none) range = h
-acts_kept s slot m h is (Acts.stored {r = r} {base = base} {o = o} al reads) range = objects_in s _ h (objects_stored s.pages s.births s.objects base _ _ o h.objects reads.0 (register_is m r is))
+acts_kept s slot m h is (Acts.stored {a = a} {n = n} {r = r} {base = base} {o = o} al reads) range = objects_in s _ s.links h (objects_stored s.pages s.births s.objects base _ _ o h.objects reads.0 (register_is m r is))
+    (links_kept s (with_object s base (Some (record o { words = slice_set o.words (index_in base (address m a n)) (register m r) }))) refl (λ b p has. stored_same s base b o p _ _ reads.0 has) h.links)
 acts_kept s slot m h is (Acts.store_misaligned al) range = h
 acts_kept s slot m h is (Acts.store_nothing al none) range = h
 acts_kept s slot m h is (Acts.allocated {d = d} {n = n} {kind = kind} {place = place} a e room) range = alloc_kept s slot m d n kind place a h is e room
 acts_kept s slot m h is (Acts.bad_size e) range = h
 acts_kept s slot m h is (Acts.full e none) range = h
-acts_kept s slot m h is (Acts.freed {r = r} has) range = objects_in s _ h (objects_without s.pages s.births s.objects (register m r ∷ []) h.objects)
+acts_kept s slot m h is (Acts.freed {r = r} has) range = without_kept s (register m r ∷ []) h
 acts_kept s slot m h is (Acts.free_inside reads ne) range = h
 acts_kept s slot m h is (Acts.free_nothing none) range = h
 acts_kept s slot m h is (Acts.based {d = d} {base = base} {o = o} reads) range =
@@ -138,7 +171,16 @@ acts_kept s slot m h is (Acts.global_put {g = g} {r = r}) range = record {
   slots = h.slots;
   mutators = h.mutators;
   globals = row_set _ s.globals g _ h.globals (register_is m r is);
+  links = links_kept s _ refl (λ base o has. (o, has, same_object o)) h.links;
 }
+acts_kept s slot m h is (Acts.link_misaligned al) range = h
+acts_kept s slot m h is (Acts.link_nowhere al none) range = h
+acts_kept s slot m h is (Acts.link_in_normal al reads kind) range = h
+acts_kept s slot m h is (Acts.link_to_nothing al reads kind none) range = h
+acts_kept s slot m h is (Acts.links_full al reads kind names few none) range = h
+acts_kept s slot m h is (Acts.linked {a = a} {n = n} {base = base} {named = named} {o = o} {p = p} al reads kind names room) range =
+    objects_in s s.objects _ h h.objects (links_linked s (address m a n) base named o p h.links al reads kind names.0 room)
+acts_kept s slot m h is (Acts.unlinked {a = a} {n = n}) range = objects_in s s.objects _ h h.objects (links_unlinked s (address m a n) h.links)
 
 pub calls_kept : (s : Heap) (slot : ℕ) (call : Call) → IsSound s → CallInRange call → {reply : Reply} {s' : Heap} → Calls s slot call reply s' → IsSound s'
 calls_kept s slot call h range (acts {m = m} at act) = acts_kept s slot m h (attached_is s slot m h at) act range
@@ -150,7 +192,7 @@ attaches_kept s h (no_slot none) = h
 
 -- What a collection takes out leaves a sound heap sound.
 pub takes_out_kept : (s : Heap) (bases : List ℕ) (reply : Reply) (s' : Heap) → IsSound s → TakesOut s bases reply s' → IsSound s'
-takes_out_kept s bases reply s' h takes = subst IsSound (sym takes.after) (objects_in s _ h (objects_without s.pages s.births s.objects bases h.objects))
+takes_out_kept s bases reply s' h takes = subst IsSound (sym takes.after) (without_kept s bases h)
 
 -- a new heap is sound
 pub opening_is : (pages : ℕ) → 1 ≤ pages → pages ≤ MAX_PAGES → IsSound (opening pages)
@@ -167,4 +209,5 @@ opening_is pages some few = record {
   slots = length-replicate {A = Option Mutator} SLOTS None;
   mutators = All-replicate IsSlot SLOTS None tt;
   globals = row_of_zeros GLOBALS;
+  links = record { each = All-nil (IsLink (opening pages)); distinct = λ i j d lt within. absurd (omega arith); few = omega arith };
 }

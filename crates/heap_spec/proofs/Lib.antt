@@ -1,6 +1,7 @@
 pub mod Closures
 pub mod Layouts
 pub mod Objects
+pub mod Links
 pub mod Calls
 pub mod Runs
 pub mod Loads

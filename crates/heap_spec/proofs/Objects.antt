@@ -11,7 +11,7 @@ use Rattle.words.specs.declared.limits.TheConstants.{MAX_SMALL_WORDS, PAGE_WORDS
 use Rattle.words.specs.declared.class.Kind.{Kind}
 use Rattle.words.specs.declared.class.Placement.{Placement}
 use Rattle.words.specs.declared.class.Placement.TheVariants.{Small, Large}
-use Rattle.words.proofs.Classes.{class_few}
+use Rattle.words.proofs.Classes.{class_few, class_some}
 use Rattle.words.specs.Layout.{page_start}
 use Rattle.heap_spec.specs.Layout.{LiesOn}
 use Rattle.heap_spec.specs.Heap.{Heap, Object, IsSameObject, HasObject, ReadsObject, with_at, without_at}
@@ -163,6 +163,22 @@ room_apart s h (Small n) kind a class room b p is ne =
 
     inside : length p.words ≡ n → LiesOn b (length p.words) room.page → AreApart a n b (length p.words)
     inside e on = same_size (length p.words) e on (h.objects.laid b p is)
+
+-- no object is where there is room for another
+pub no_object_at : (s : Heap) → IsSound s → (place : Placement) (kind : Kind) (a : ℕ) → IsPlacement place → HasRoom s place kind a → (o : Object) → HasObject s a o → ⊥
+no_object_at s h (Large count) kind a some room o has =
+    let lies = object_lies s h a o has in let some' = lies.some in let start = room.is_start in
+    room.free room.first (omega arith) (omega arith) a o has (omega arith, omega arith)
+no_object_at s h (Small n) kind a class room o has =
+    ⊎_elim
+    (λ free. free a o has (on a o has))
+    (λ cut. none-some o (sym cut.1 ∙ has))
+    room.cut
+  where
+    on : (b : ℕ) (p : Object) → HasObject s a p → LiesOn a (length p.words) room.page
+    on b p hasp =
+        let lies = object_lies s h a p hasp in let some = lies.some in let at = room.is_cell in let within = room.in_page in
+        let n0 : 2 ≤ n = class_some n class in omega arith
 
 -- a word reads at most one object
 pub one_read : (s : Heap) → IsSound s → (w a b : ℕ) (o p : Object) → ReadsObject s w a o → ReadsObject s w b p → a ≡ b

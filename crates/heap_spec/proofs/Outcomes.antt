@@ -1,5 +1,5 @@
 -- What a call answers, and what it leaves.
-use Rattle.std.proofs.Common.{◌≡◌, ℕ, ◌+◌, ◌-◌, ◌/◌, List, [], ◌∷◌, ◌++◌, length, refl, sym, ap, ◌∙◌, subst, arith}
+use Rattle.std.proofs.Common.{◌≤◌, true, false, inl, inr, ◌≡◌, ℕ, ◌+◌, ◌-◌, ◌/◌, List, [], ◌∷◌, ◌++◌, length, refl, sym, ap, ◌∙◌, subst, arith}
 use Rattle.std.specs.Prelude.{Some, None, slice_index, slice_set}
 use Rattle.std.proofs.lemmas.Option.{same_Some, none-some}
 use Rattle.std.proofs.lemmas.List.{same_from_push, length_push}
@@ -9,7 +9,10 @@ use Rattle.heap_spec.specs.declared.reply.Reply.{Reply}
 use Rattle.heap_spec.specs.declared.reply.Reply.TheVariants.{Word, Count, Refused}
 use Rattle.heap_spec.specs.Heap.{Heap, Object, Mutator, HasObject, ReadsObject}
 use Rattle.heap_spec.specs.Room.{HasRoom}
-use Rattle.heap_spec.specs.Steps.{Acts, Calls, acts, vacant, with_register, with_object, register, address}
+use Rattle.heap_spec.specs.Steps.{Acts, Calls, acts, vacant, with_register, with_object, register, address, with_link, has_link, HasLinkRoom}
+use Rattle.std.proofs.lemmas.Bool.{true≢false}
+use Rattle.words.specs.declared.limits.TheConstants.{MAX_LINKS}
+use Rattle.words.specs.declared.class.Kind.TheVariants.{Normal, PointerFree}
 use Rattle.heap_spec.specs.Laws.{IsLegible, IsNoAlloc}
 use Rattle.heap_spec.proofs.Loads.{same_mutator}
 
@@ -27,6 +30,11 @@ acts_refused s slot m (Acts.free_inside reads ne) = refl
 acts_refused s slot m (Acts.free_nothing none) = refl
 acts_refused s slot m (Acts.base_nothing none) = refl
 acts_refused s slot m (Acts.size_nothing none) = refl
+acts_refused s slot m (Acts.link_misaligned ne) = refl
+acts_refused s slot m (Acts.link_nowhere al none) = refl
+acts_refused s slot m (Acts.link_in_normal al reads kind) = refl
+acts_refused s slot m (Acts.link_to_nothing al reads kind none) = refl
+acts_refused s slot m (Acts.links_full al reads kind names few none) = refl
 
 pub calls_refused : (s : Heap) (slot : ℕ) (call : Call) {why : Refusal} {s' : Heap} → Calls s slot call (Refused why) s' → s' ≡ s
 calls_refused s slot call (acts {m = m} at act) = acts_refused s slot m act
@@ -42,6 +50,14 @@ reads_itself s h base o has = let some = h.some base o has in (has, (omega arith
 -- a stack that is pushed is not empty, and says what was pushed
 not_empty : (stack rest : List ℕ) (w : ℕ) → stack ≡ rest ++ w ∷ [] → stack ≡ [] → ⊥
 not_empty stack rest w e none = let l : length (rest ++ w ∷ []) ≡ length rest + 1 = length_push rest w in let z : length (rest ++ w ∷ []) ≡ 0 = ap length (sym e ∙ none) in omega arith
+
+normal_or_free : Normal ≡ PointerFree → ⊥
+normal_or_free e = cc
+
+-- where there is no room for a link, none is made
+no_room : (s : Heap) (a : ℕ) → MAX_LINKS ≤ length s.links → has_link s a ≡ false → HasLinkRoom s a → ⊥
+no_room s a few free (inl room) = omega arith
+no_room s a few free (inr stands) = true≢false (sym stands ∙ free)
 
 -- the same reply, and the same heap unless the call allocates
 abbrev Same : Call → Reply → Reply → Heap → Heap → Type 0
@@ -125,6 +141,43 @@ acts_same s h slot m (Acts.size_nothing none) (Acts.sized {base = b} {o = o} rea
 acts_same s h slot m (Acts.size_nothing none) (Acts.size_nothing none') = (refl, λ no. refl)
 acts_same s h slot m Acts.global_got Acts.global_got = (refl, λ no. refl)
 acts_same s h slot m Acts.global_put Acts.global_put = (refl, λ no. refl)
+acts_same s h slot m (Acts.link_misaligned ne) (Acts.link_misaligned ne') = (refl, λ no. refl)
+acts_same s h slot m (Acts.link_misaligned ne) (Acts.link_nowhere al' none') = absurd (ne al')
+acts_same s h slot m (Acts.link_misaligned ne) (Acts.link_in_normal {a = a'} {n = n'} {r = r'} {base = b'} {o = o'} al' reads' kind') = absurd (ne al')
+acts_same s h slot m (Acts.link_misaligned ne) (Acts.link_to_nothing {a = a'} {n = n'} {r = r'} {base = b'} {o = o'} al' reads' kind' missing') = absurd (ne al')
+acts_same s h slot m (Acts.link_misaligned ne) (Acts.links_full {a = a'} {n = n'} {r = r'} {base = b'} {named = k'} {o = o'} {p = p'} al' reads' kind' names' few' free') = absurd (ne al')
+acts_same s h slot m (Acts.link_misaligned ne) (Acts.linked {a = a'} {n = n'} {r = r'} {base = b'} {named = k'} {o = o'} {p = p'} al' reads' kind' names' room') = absurd (ne al')
+acts_same s h slot m (Acts.link_nowhere al none) (Acts.link_misaligned ne') = absurd (ne' al)
+acts_same s h slot m (Acts.link_nowhere al none) (Acts.link_nowhere al' none') = (refl, λ no. refl)
+acts_same s h slot m (Acts.link_nowhere al none) (Acts.link_in_normal {a = a'} {n = n'} {r = r'} {base = b'} {o = o'} al' reads' kind') = absurd (none b' o' reads')
+acts_same s h slot m (Acts.link_nowhere al none) (Acts.link_to_nothing {a = a'} {n = n'} {r = r'} {base = b'} {o = o'} al' reads' kind' missing') = absurd (none b' o' reads')
+acts_same s h slot m (Acts.link_nowhere al none) (Acts.links_full {a = a'} {n = n'} {r = r'} {base = b'} {named = k'} {o = o'} {p = p'} al' reads' kind' names' few' free') = absurd (none b' o' reads')
+acts_same s h slot m (Acts.link_nowhere al none) (Acts.linked {a = a'} {n = n'} {r = r'} {base = b'} {named = k'} {o = o'} {p = p'} al' reads' kind' names' room') = absurd (none b' o' reads')
+acts_same s h slot m (Acts.link_in_normal {a = a} {n = n} {r = r} {base = b} {o = o} al reads kind) (Acts.link_misaligned ne') = absurd (ne' al)
+acts_same s h slot m (Acts.link_in_normal {a = a} {n = n} {r = r} {base = b} {o = o} al reads kind) (Acts.link_nowhere al' none') = absurd (none' b o reads)
+acts_same s h slot m (Acts.link_in_normal {a = a} {n = n} {r = r} {base = b} {o = o} al reads kind) (Acts.link_in_normal {a = a'} {n = n'} {r = r'} {base = b'} {o = o'} al' reads' kind') = (refl, λ no. refl)
+acts_same s h slot m (Acts.link_in_normal {a = a} {n = n} {r = r} {base = b} {o = o} al reads kind) (Acts.link_to_nothing {a = a'} {n = n'} {r = r'} {base = b'} {o = o'} al' reads' kind' missing') = absurd (normal_or_free (sym kind ∙ ap (λ (x : Object). x.kind) (same_read s h _ b b' o o' reads reads').1 ∙ kind'))
+acts_same s h slot m (Acts.link_in_normal {a = a} {n = n} {r = r} {base = b} {o = o} al reads kind) (Acts.links_full {a = a'} {n = n'} {r = r'} {base = b'} {named = k'} {o = o'} {p = p'} al' reads' kind' names' few' free') = absurd (normal_or_free (sym kind ∙ ap (λ (x : Object). x.kind) (same_read s h _ b b' o o' reads reads').1 ∙ kind'))
+acts_same s h slot m (Acts.link_in_normal {a = a} {n = n} {r = r} {base = b} {o = o} al reads kind) (Acts.linked {a = a'} {n = n'} {r = r'} {base = b'} {named = k'} {o = o'} {p = p'} al' reads' kind' names' room') = absurd (normal_or_free (sym kind ∙ ap (λ (x : Object). x.kind) (same_read s h _ b b' o o' reads reads').1 ∙ kind'))
+acts_same s h slot m (Acts.link_to_nothing {a = a} {n = n} {r = r} {base = b} {o = o} al reads kind missing) (Acts.link_misaligned ne') = absurd (ne' al)
+acts_same s h slot m (Acts.link_to_nothing {a = a} {n = n} {r = r} {base = b} {o = o} al reads kind missing) (Acts.link_nowhere al' none') = absurd (none' b o reads)
+acts_same s h slot m (Acts.link_to_nothing {a = a} {n = n} {r = r} {base = b} {o = o} al reads kind missing) (Acts.link_in_normal {a = a'} {n = n'} {r = r'} {base = b'} {o = o'} al' reads' kind') = absurd (normal_or_free (sym kind' ∙ ap (λ (x : Object). x.kind) (same_read s h _ b' b o' o reads' reads).1 ∙ kind))
+acts_same s h slot m (Acts.link_to_nothing {a = a} {n = n} {r = r} {base = b} {o = o} al reads kind missing) (Acts.link_to_nothing {a = a'} {n = n'} {r = r'} {base = b'} {o = o'} al' reads' kind' missing') = (refl, λ no. refl)
+acts_same s h slot m (Acts.link_to_nothing {a = a} {n = n} {r = r} {base = b} {o = o} al reads kind missing) (Acts.links_full {a = a'} {n = n'} {r = r'} {base = b'} {named = k'} {o = o'} {p = p'} al' reads' kind' names' few' free') = absurd (missing k' p' names')
+acts_same s h slot m (Acts.link_to_nothing {a = a} {n = n} {r = r} {base = b} {o = o} al reads kind missing) (Acts.linked {a = a'} {n = n'} {r = r'} {base = b'} {named = k'} {o = o'} {p = p'} al' reads' kind' names' room') = absurd (missing k' p' names')
+acts_same s h slot m (Acts.links_full {a = a} {n = n} {r = r} {base = b} {named = k} {o = o} {p = p} al reads kind names few free) (Acts.link_misaligned ne') = absurd (ne' al)
+acts_same s h slot m (Acts.links_full {a = a} {n = n} {r = r} {base = b} {named = k} {o = o} {p = p} al reads kind names few free) (Acts.link_nowhere al' none') = absurd (none' b o reads)
+acts_same s h slot m (Acts.links_full {a = a} {n = n} {r = r} {base = b} {named = k} {o = o} {p = p} al reads kind names few free) (Acts.link_in_normal {a = a'} {n = n'} {r = r'} {base = b'} {o = o'} al' reads' kind') = absurd (normal_or_free (sym kind' ∙ ap (λ (x : Object). x.kind) (same_read s h _ b' b o' o reads' reads).1 ∙ kind))
+acts_same s h slot m (Acts.links_full {a = a} {n = n} {r = r} {base = b} {named = k} {o = o} {p = p} al reads kind names few free) (Acts.link_to_nothing {a = a'} {n = n'} {r = r'} {base = b'} {o = o'} al' reads' kind' missing') = absurd (missing' k p names)
+acts_same s h slot m (Acts.links_full {a = a} {n = n} {r = r} {base = b} {named = k} {o = o} {p = p} al reads kind names few free) (Acts.links_full {a = a'} {n = n'} {r = r'} {base = b'} {named = k'} {o = o'} {p = p'} al' reads' kind' names' few' free') = (refl, λ no. refl)
+acts_same s h slot m (Acts.links_full {a = a} {n = n} {r = r} {base = b} {named = k} {o = o} {p = p} al reads kind names few free) (Acts.linked {a = a'} {n = n'} {r = r'} {base = b'} {named = k'} {o = o'} {p = p'} al' reads' kind' names' room') = absurd (no_room s _ few free room')
+acts_same s h slot m (Acts.linked {a = a} {n = n} {r = r} {base = b} {named = k} {o = o} {p = p} al reads kind names room) (Acts.link_misaligned ne') = absurd (ne' al)
+acts_same s h slot m (Acts.linked {a = a} {n = n} {r = r} {base = b} {named = k} {o = o} {p = p} al reads kind names room) (Acts.link_nowhere al' none') = absurd (none' b o reads)
+acts_same s h slot m (Acts.linked {a = a} {n = n} {r = r} {base = b} {named = k} {o = o} {p = p} al reads kind names room) (Acts.link_in_normal {a = a'} {n = n'} {r = r'} {base = b'} {o = o'} al' reads' kind') = absurd (normal_or_free (sym kind' ∙ ap (λ (x : Object). x.kind) (same_read s h _ b' b o' o reads' reads).1 ∙ kind))
+acts_same s h slot m (Acts.linked {a = a} {n = n} {r = r} {base = b} {named = k} {o = o} {p = p} al reads kind names room) (Acts.link_to_nothing {a = a'} {n = n'} {r = r'} {base = b'} {o = o'} al' reads' kind' missing') = absurd (missing' k p names)
+acts_same s h slot m (Acts.linked {a = a} {n = n} {r = r} {base = b} {named = k} {o = o} {p = p} al reads kind names room) (Acts.links_full {a = a'} {n = n'} {r = r'} {base = b'} {named = k'} {o = o'} {p = p'} al' reads' kind' names' few' free') = absurd (no_room s _ few' free' room)
+acts_same s h slot m (Acts.linked {a = a} {n = n} {r = r} {base = b} {named = k} {o = o} {p = p} al reads kind names room) (Acts.linked {a = a'} {n = n'} {r = r'} {base = b'} {named = k'} {o = o'} {p = p'} al' reads' kind' names' room') = (refl, λ no. ap (λ (x : Object). with_link s (address m a n) x.birth) (same_read s h (register m r) k k' p p' names names').1)
+acts_same s h slot m Acts.unlinked Acts.unlinked = (refl, λ no. refl)
 
 pub calls_same : (s : Heap) → IsLegible s → (slot : ℕ) (call : Call) (reply reply' : Reply) (t t' : Heap) → Calls s slot call reply t → Calls s slot call reply' t' → Same call reply reply' t t'
 calls_same s h slot call reply reply' t t' (acts {m = m} at act) (acts {m = k} at' act') =

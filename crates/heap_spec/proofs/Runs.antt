@@ -1,21 +1,23 @@
 -- What holds in every run of a new heap.
-use Rattle.std.proofs.Common.{ℕ, List, [], ◌∷◌, refl, sym, ap, ◌∙◌, subst}
-use Rattle.std.specs.Prelude.{All}
+use Rattle.std.proofs.Common.{◌≡◌, ◌+◌, ◌*◌, Bool, true, false, cond, inl, inr, ℕ, List, [], ◌∷◌, refl, sym, ap, ◌∙◌, subst}
+use Rattle.std.specs.Prelude.{All, Option, Some, None, Contains, slice_index, ◌==◌, ◌&&◌}
+use Rattle.std.proofs.lemmas.Bool.{true≢false, eqb-true}
+use Rattle.std.proofs.lemmas.List.Folds.{Any-from_list_any}
 use Rattle.std.proofs.lemmas.Option.{none-some, same_Some}
 use Rattle.std.proofs.lemmas.List.Elements.{All-head, All-tail, All-contains}
 use Rattle.heap_spec.specs.declared.event.Event.{Event}
 use Rattle.heap_spec.specs.declared.event.Event.TheVariants.{Attach, Mutator, Begin, Roots, Mark, Retrace, Finish, Sweep, Collect, Number}
 use Rattle.heap_spec.specs.declared.reply.Reply.{Reply}
-use Rattle.heap_spec.specs.Heap.{Heap, Object, HasObject}
+use Rattle.heap_spec.specs.Heap.{Heap, Object, HasObject, is_born, names, loses_word, with_cleared}
 use Rattle.heap_spec.specs.Closure.{Reached, IsInClosure}
 use Rattle.heap_spec.specs.Runs.{Start, Run, Moment, fresh, heap_after, Touched, touched_after}
 use Rattle.heap_spec.specs.Cycles.{TakesOut, CollectsFully}
 use Rattle.heap_spec.specs.Histories.{Happens, IsRun}
 use Rattle.heap_spec.specs.Ranges.{InRange}
 use Rattle.heap_spec.specs.Sound.{IsSound, HaveDistinctBirths}
-use Rattle.heap_spec.specs.Laws.{IsFreshRun, KeepsReached, HasOnlyReached}
+use Rattle.heap_spec.specs.Laws.{IsFreshRun, KeepsReached, HasOnlyReached, HadLink, IsKeptWord}
 use Rattle.heap_spec.proofs.Closures.{in_idem, reached_in}
-use Rattle.heap_spec.proofs.Objects.{without_some, without_other, same_object}
+use Rattle.heap_spec.proofs.Links.{left_by, same_left, stays_by, same_cleared, cleared_at}
 use Rattle.heap_spec.proofs.Calls.{calls_kept, attaches_kept, takes_out_kept, opening_is}
 
 -- what happens next keeps the heap sound
@@ -63,19 +65,57 @@ pub fresh_touched_reached : (pages : ℕ) (run : Run) (base : ℕ) (o : Object) 
 fresh_touched_reached pages [] base o has r = absurd (none-some o has)
 fresh_touched_reached pages (m ∷ run) base o has r = touched_reached (fresh pages) m run base o has r
 
+-- what a collection takes out was not reached
+not_among : (s : Heap) (bases : List ℕ) (reply : Reply) (s' : Heap) → TakesOut s bases reply s' → (base : ℕ) → Reached s base → Contains bases base → ⊥
+not_among s bases reply s' takes base r among = All-contains (λ b. Reached s b → ⊥) bases base takes.unreached among r
+
 -- a collection keeps what is reached
-reached_stays : (s : Heap) (bases : List ℕ) (reply : Reply) (s' : Heap) → TakesOut s bases reply s' → (base : ℕ) (o : Object) → HasObject s base o → Reached s base → HasObject s' base o
+reached_stays : (s : Heap) (bases : List ℕ) (reply : Reply) (s' : Heap) → TakesOut s bases reply s' → (base : ℕ) (o : Object) → HasObject s base o → Reached s base
+    → HasObject s' base (with_cleared (loses_word s bases) base o)
 reached_stays s bases reply s' takes base o has r =
-    ap (λ (t : Heap). t.objects base) takes.after ∙ without_other s.objects bases base (λ among. All-contains (λ b. Reached s b → ⊥) bases base takes.unreached among r) ∙ has
+    ap (λ (t : Heap). t.objects base) takes.after ∙ stays_by s bases base o has (not_among s bases reply s' takes base r)
+
+and_parts : (x y : Bool) → (x && y) ≡ true → (x ≡ true) × (y ≡ true)
+and_parts true y e = (refl, e)
+and_parts false y e = absurd (true≢false (sym e))
+
+-- the word of a link that loses its word
+born_some : (x : Option Object) (birth : ℕ) → is_born x birth ≡ true → (o : Object) × (x ≡ Some o) × (o.birth ≡ birth)
+born_some None birth e = absurd (true≢false (sym e))
+born_some (Some o) birth e = (o, refl, eqb-true o.birth birth e)
+
+had_link : (s : Heap) (bases : List ℕ) (reply : Reply) (s' : Heap) → TakesOut s bases reply s' → (a : ℕ) → loses_word s bases a ≡ true → HadLink s a
+had_link s bases reply s' takes a e =
+    let l = Any-from_list_any (λ l. (l.address == a) && names s bases l) s.links e in
+    let both = and_parts (l.1.address == a) (names s bases l.1) l.4 in
+    let b = Any-from_list_any (λ b. is_born (s.objects b) l.1.birth) bases both.1 in
+    let o = born_some (s.objects b.1) l.1.birth b.4 in
+    record {
+      link = l.1;
+      stood = (l.0, l.2, l.3);
+      at = eqb-true l.1.address a both.0;
+      named = b.1;
+      object = o.0;
+      has = o.1;
+      names = o.2;
+      unreached = All-contains (λ b. Reached s b → ⊥) bases b.1 takes.unreached (b.0, b.2, b.3);
+    }
+
+kept_word : (s : Heap) (a old : ℕ) (b : Bool) → (b ≡ true → HadLink s a) → IsKeptWord s a old (cond b 0 old)
+kept_word s a old true had = inr (refl, had refl)
+kept_word s a old false had = inl refl
 
 pub keeps_reached : (s : Heap) (bases : List ℕ) (reply : Reply) (s' : Heap) → TakesOut s bases reply s' → KeepsReached s s'
 keeps_reached s bases reply s' takes = record {
-  stays = λ base o has r. (o, reached_stays s bases reply s' takes base o has r, same_object o);
-  words = λ base o p has r there. ap (λ (x : Object). x.words) (same_Some p o (sym there ∙ reached_stays s bases reply s' takes base o has r));
+  stays = λ base o has r. (with_cleared (loses_word s bases) base o, reached_stays s bases reply s' takes base o has r, same_cleared (loses_word s bases) base o);
+  words = λ base o p has r there i.
+      let same : p ≡ with_cleared (loses_word s bases) base o = same_Some p _ (sym there ∙ reached_stays s bases reply s' takes base o has r) in
+      let word : slice_index p.words i ≡ cond (loses_word s bases (base + 8 * i)) 0 (slice_index o.words i) = ap (λ (x : Object). slice_index x.words i) same ∙ cleared_at (loses_word s bases) base o.words i in
+      subst (IsKeptWord s (base + 8 * i) (slice_index o.words i)) (sym word) (kept_word s (base + 8 * i) (slice_index o.words i) (loses_word s bases (base + 8 * i)) (had_link s bases reply s' takes (base + 8 * i)));
 }
 
 -- and no other
 pub only_reached : (s : Heap) (reply : Reply) (s' : Heap) → CollectsFully s reply s' → HasOnlyReached s s'
 only_reached s reply s' collects base p has =
-    let left = without_some s.objects collects.bases base p (sym (ap (λ (t : Heap). t.objects base) collects.takes.after) ∙ has) in
-    ((p, left.1, same_object p), λ unreached. left.0 (collects.all base p left.1 unreached))
+    let left = left_by s collects.bases base p (sym (ap (λ (t : Heap). t.objects base) collects.takes.after) ∙ has) in
+    ((left.object, left.has, same_left s collects.bases base p left), λ unreached. left.out (collects.all base left.object left.has unreached))

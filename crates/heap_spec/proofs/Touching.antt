@@ -12,12 +12,12 @@ use Rattle.words.specs.declared.class.Kind.TheVariants.{Normal}
 use Rattle.words.specs.declared.class.Placement.{Placement}
 use Rattle.words.specs.declared.limits.TheConstants.{REGISTERS}
 use Rattle.heap_spec.specs.declared.call.Call.{Call}
-use Rattle.heap_spec.specs.declared.call.Call.TheVariants.{Detach, Set, Copy, Add, Sub, Get, Push, Pop, Load, Store, Alloc, Free, Base, Size, GlobalGet, GlobalPut}
+use Rattle.heap_spec.specs.declared.call.Call.TheVariants.{Detach, Set, Copy, Add, Sub, Get, Push, Pop, Load, Store, Alloc, Free, Base, Size, GlobalGet, GlobalPut, Link, Unlink}
 use Rattle.heap_spec.specs.declared.event.Event.TheVariants.{Attach, Mutator}
 use Rattle.heap_spec.specs.declared.reply.Reply.{Reply}
 use Rattle.heap_spec.specs.declared.reply.Reply.TheVariants.{Done}
 use Rattle.heap_spec.specs.Layout.{Reads}
-use Rattle.heap_spec.specs.Heap.{Heap, Object, Mutator as HeapMutator, IsSameObject, HasObject, ReadsObject, ReadsNothing, IsAttached, words_of, root_words}
+use Rattle.heap_spec.specs.Heap.{Heap, Object, Mutator as HeapMutator, IsSameObject, HasObject, ReadsObject, ReadsNothing, IsAttached, words_of, root_words, without, loses_word}
 use Rattle.heap_spec.specs.Closure.{Closure, given, root, word, IsInClosure}
 use Rattle.heap_spec.specs.Room.{length_of}
 use Rattle.heap_spec.specs.Steps.{Acts, Calls, Attaches, acts, vacant, register, with_mutator, with_register, with_new, newcomer}
@@ -28,7 +28,8 @@ use Rattle.heap_spec.proofs.Closures.{closure_least}
 use Rattle.heap_spec.specs.Histories.{Happens}
 use Rattle.heap_spec.specs.Ranges.{InRange}
 use Rattle.heap_spec.specs.Sound.{IsSound}
-use Rattle.heap_spec.proofs.Objects.{at_cases, with_at-same, same_object, without_one, object_lies, one_read}
+use Rattle.heap_spec.proofs.Objects.{at_cases, with_at-same, same_object, object_lies, one_read}
+use Rattle.heap_spec.proofs.Links.{left_by, same_left, cleared_among}
 use Rattle.heap_spec.proofs.Calls.{attached_is}
 use Rattle.heap_spec.proofs.Runs.{touched_closed, happens_kept}
 use Rattle.heap_spec.proofs.Loads.{same_mutator}
@@ -115,12 +116,12 @@ stands_held s slot r w x = ⊎_elim
     (λ past. inr (sym x.2 ∙ get_or_past x.0.registers r 0 past))
     (cases_lt r (length x.0.registers))
 
--- An object is an old one, whose words it had or are among these.
-pub record IsOld (s : Heap) (W : ℕ → Type 0) (base : ℕ) (o : Object) : Type 0 where
+-- An object is an old one, and each of its words it had, or is among these, or points into nothing.
+pub record IsOld (s s' : Heap) (W : ℕ → Type 0) (base : ℕ) (o : Object) : Type 0 where
   was : Object
   there : HasObject s base was
   same : IsSameObject was o
-  words : (v : ℕ) → Contains o.words v → Contains was.words v ⊎ W v
+  words : (v : ℕ) → Contains o.words v → Contains was.words v ⊎ (W v ⊎ ReadsNothing s' v)
 
 -- An object is new: one of these words points into it, and its own words point into nothing.
 pub record IsNew (s s' : Heap) (W : ℕ → Type 0) (base : ℕ) (o : Object) : Type 0 where
@@ -133,12 +134,12 @@ pub record IsNew (s s' : Heap) (W : ℕ → Type 0) (base : ℕ) (o : Object) : 
 -- From one heap to another no words but these came to where the collector reads them.
 pub record Gains (s s' : Heap) (W : ℕ → Type 0) : Type 0 where
   roots : (y : ℕ) → Contains (root_words s') y → Contains (root_words s) y ⊎ (W y ⊎ ReadsNothing s' y)
-  objects : (base : ℕ) (o : Object) → HasObject s' base o → IsOld s W base o ⊎ IsNew s s' W base o
+  objects : (base : ℕ) (o : Object) → HasObject s' base o → IsOld s s' W base o ⊎ IsNew s s' W base o
   held : (w : ℕ) → W w → Contains (root_words s') w ⊎ ((base : ℕ) (o : Object) → ReadsObject s' w base o → IsBornSince s o.birth)
 
 -- an object that is as it was
-as_was : (s : Heap) (W : ℕ → Type 0) (base : ℕ) (o : Object) → HasObject s base o → IsOld s W base o
-as_was s W base o has = record { was = o; there = has; same = same_object o; words = λ v among. inl among }
+as_was : (s s' : Heap) (W : ℕ → Type 0) (base : ℕ) (o : Object) → HasObject s base o → IsOld s s' W base o
+as_was s s' W base o has = record { was = o; there = has; same = same_object o; words = λ v among. inl among }
 
 acts_roots : (s : Heap) (slot : ℕ) (m : HeapMutator) → IsAttached s slot m → {call : Call} {reply : Reply} {s' : Heap} → Acts s slot m call reply s'
     → (y : ℕ) → Contains (root_words s') y → Contains (root_words s) y ⊎ IsBrought s slot call s' y
@@ -172,15 +173,15 @@ acts_roots s slot m at (Acts.global_put {g = g} {r = r}) = λ y has. ⊎_elim
 acts_roots s slot m at _ = λ y has. inl has
 
 acts_objects : (s : Heap) (slot : ℕ) (m : HeapMutator) → IsAttached s slot m → {call : Call} {reply : Reply} {s' : Heap} → HasApartObjects s' → Acts s slot m call reply s'
-    → (base : ℕ) (o : Object) → HasObject s' base o → IsOld s (IsBrought s slot call s') base o ⊎ IsNew s s' (IsBrought s slot call s') base o
+    → (base : ℕ) (o : Object) → HasObject s' base o → IsOld s s' (IsBrought s slot call s') base o ⊎ IsNew s s' (IsBrought s slot call s') base o
 acts_objects s slot m at d (Acts.stored {r = r} {base = b} {o = o} al reads) base p has = inl (⊎_elim
     (λ here. let e = same_Some _ p here.1 in record {
       was = o;
       there = ap s.objects here.0 ∙ reads.0;
       same = record { birth = ap (λ (x : Object). x.birth) (sym e); kind = ap (λ (x : Object). x.kind) (sym e); size = ap (λ (x : Object). length x.words) (sym e) ∙ length-set o.words _ _ };
-      words = λ v among. ⊎_elim (λ old. inl old) (λ new. inr (m, at, new.1)) (set_contains o.words _ _ v (subst (λ l. Contains l v) (ap (λ (x : Object). x.words) (sym e)) among));
+      words = λ v among. ⊎_elim (λ old. inl old) (λ new. inr (inl (m, at, new.1))) (set_contains o.words _ _ v (subst (λ l. Contains l v) (ap (λ (x : Object). x.words) (sym e)) among));
     })
-    (λ other. as_was s _ base p other.1)
+    (λ other. as_was s _ _ base p other.1)
     (at_cases s.objects b _ base _ has))
 acts_objects s slot m at d (Acts.allocated {kind = kind} {place = place} a e room) base p has = ⊎_elim
     (λ here.
@@ -196,13 +197,24 @@ acts_objects s slot m at d (Acts.allocated {kind = kind} {place = place} a e roo
       among = (p, has, omega arith);
       reads = (has, (omega arith, omega arith));
     }))
-    (λ other. inl (as_was s _ base p other.1))
+    (λ other. inl (as_was s _ _ base p other.1))
     (at_cases s.objects a _ base _ has)
   where
     zeros : (n v : ℕ) → Contains (replicate n 0) v → 0 ≡ v
     zeros n v among = let size : length {A = ℕ} (replicate n 0) ≡ n = length-replicate {A = ℕ} n 0 in let lt = among.1 in sym (get_or-replicate n among.0 0 v (omega arith)) ∙ among.2
-acts_objects s slot m at d (Acts.freed {r = r} gone) base p has = inl (as_was s _ base p (without_one s.objects _ base p has).1)
-acts_objects s slot m at d _ base p has = inl (as_was s _ base p has)
+acts_objects s slot m at d (Acts.freed {r = r} gone) base p has =
+    let bases = register m r ∷ [] in
+    let left = left_by s bases base p has in
+    inl (record {
+      was = left.object;
+      there = left.has;
+      same = same_left s bases base p left;
+      words = λ v among. ⊎_elim
+          (λ zero. inr (inr (subst (ReadsNothing (without s bases)) (sym zero) d.zero)))
+          (λ old. inl old)
+          (cleared_among (loses_word s bases) base left.object.words v (subst (λ (x : Object). Contains x.words v) (sym left.is) among));
+    })
+acts_objects s slot m at d _ base p has = inl (as_was s _ _ base p has)
 
 -- a word of a register points into nothing, or is a root word
 by_register : (s s' : Heap) → HasApartObjects s' → (slot r w : ℕ) → StandsIn s' slot r w → Contains (root_words s') w ⊎ ((base : ℕ) (o : Object) → ReadsObject s' w base o → IsBornSince s o.birth)
@@ -215,6 +227,8 @@ brought_held s slot Detach s' d w x = absurd x
 brought_held s slot (Get r) s' d w x = absurd x
 brought_held s slot (Free r) s' d w x = absurd x
 brought_held s slot (Size r) s' d w x = absurd x
+brought_held s slot (Link a n r) s' d w x = absurd x
+brought_held s slot (Unlink a n) s' d w x = absurd x
 brought_held s slot (Alloc r n kind) s' d w x = inr (λ base o reads.
     let some = d.some w x.0 x.1 in
     let same : base ≡ w = d.one w base w o x.0 reads (x.1, (omega arith, omega arith)) in
@@ -239,14 +253,14 @@ calls_gain s slot call reply s' d (acts {m = m} at act) = record {
 }
 calls_gain s slot call reply s' d (vacant none) = record {
   roots = λ y has. inl has;
-  objects = λ base o has. inl (as_was s _ base o has);
+  objects = λ base o has. inl (as_was s _ _ base o has);
   held = brought_held s slot call s' d;
 }
 
 pub attach_gain : (s : Heap) (reply : Reply) (s' : Heap) → HasApartObjects s' → Attaches s reply s' → Gains s s' (λ w. ⊥)
 attach_gain s reply s' d (Attaches.attached {slot = slot} lowest) = record {
   roots = λ y has. ⊎_elim (λ old. inl old) (λ e. inr (inr (subst (ReadsNothing s') e d.zero))) (slot_words s slot (Some newcomer) (λ y. 0 ≡ y) (λ y among. inr (fresh y among)) y has);
-  objects = λ base o has. inl (as_was s _ base o has);
+  objects = λ base o has. inl (as_was s _ _ base o has);
   held = λ w none. absurd none;
 }
   where
@@ -255,17 +269,17 @@ attach_gain s reply s' d (Attaches.attached {slot = slot} lowest) = record {
         (λ regs. let size : length {A = ℕ} (replicate REGISTERS 0) ≡ REGISTERS = length-replicate {A = ℕ} REGISTERS 0 in let lt = regs.1 in sym (get_or-replicate REGISTERS regs.0 0 y (omega arith)) ∙ regs.2)
         (λ none. absurd (let lt = none.1 in omega arith))
         (Contains-append_cases newcomer.registers newcomer.stack y among)
-attach_gain s reply s' d (Attaches.no_slot none) = record { roots = λ y has. inl has; objects = λ base o has. inl (as_was s _ base o has); held = λ w none. absurd none }
+attach_gain s reply s' d (Attaches.no_slot none) = record { roots = λ y has. inl has; objects = λ base o has. inl (as_was s _ _ base o has); held = λ w none. absurd none }
 
 -- What is touched after a step that brings some words, where what was touched was closed.
 module _ (s s' : Heap) (T W : ℕ → Type 0) (d : HasApartObjects s) (d' : HasApartObjects s') (g : Gains s s' W) (shut : (birth : ℕ) → IsInClosure s T birth → T birth) where
   abbrev pub After : ℕ → Type 0
   After birth = T birth ⊎ IsBornSince s birth
 
-  old_touched : (base : ℕ) (o : Object) (i : IsOld s W base o) → Closure s T base → T o.birth
+  old_touched : (base : ℕ) (o : Object) (i : IsOld s s' W base o) → Closure s T base → T o.birth
   old_touched base o i c = subst T (sym i.same.birth) (shut i.was.birth (base, i.was, i.there, refl, c))
 
-  old_reads : (w base : ℕ) (o : Object) (i : IsOld s W base o) → ReadsObject s' w base o → ReadsObject s w base i.was
+  old_reads : (w base : ℕ) (o : Object) (i : IsOld s s' W base o) → ReadsObject s' w base o → ReadsObject s w base i.was
   old_reads w base o i reads = (i.there, subst (λ n. Reads w base n) i.same.size reads.1)
 
   rooted : (w base : ℕ) (o : Object) → Contains (root_words s') w → ReadsObject s' w base o → IsTouchedMore T s s' W base o
@@ -275,13 +289,13 @@ module _ (s s' : Heap) (T W : ℕ → Type 0) (d : HasApartObjects s) (d' : HasA
       (g.roots w among)
 
   -- a word of a touched object that was there
-  linked : (from w base : ℕ) (p o : Object) (i : IsOld s W from p) → T p.birth → p.kind ≡ Normal → Contains p.words w → ReadsObject s' w base o → IsTouchedMore T s s' W base o
+  linked : (from w base : ℕ) (p o : Object) (i : IsOld s s' W from p) → T p.birth → p.kind ≡ Normal → Contains p.words w → ReadsObject s' w base o → IsTouchedMore T s s' W base o
   linked from w base p o i t normal among reads = ⊎_elim
       (λ old. ⊎_elim
       (λ j. inl (old_touched base o j (word (given i.there (subst T i.same.birth t)) i.there (sym i.same.kind ∙ normal) old (old_reads w base o j reads))))
       (λ n. inr (inl n.born))
       (g.objects base o reads.0))
-      (λ m. inr (inr (w, m, first reads)))
+      (λ rest. ⊎_elim (λ m. inr (inr (w, m, first reads))) (λ none. absurd (none base o reads)) rest)
       (i.words w among)
 
   led : (from w base : ℕ) (p o : Object) → IsTouchedMore T s s' W from p → HasObject s' from p → p.kind ≡ Normal → Contains p.words w → ReadsObject s' w base o → IsTouchedMore T s s' W base o
@@ -340,7 +354,7 @@ module _ (s s' : Heap) (T W : ℕ → Type 0) (d : HasApartObjects s) (d' : HasA
         (λ j. inl (old_touched base o j (word (given i.there (subst T i.same.birth t)) i.there (sym i.same.kind ∙ normal) old (old_reads v base o j reads))))
         (λ n. inr n.born)
         (g.objects base o reads.0))
-        (λ brought. at_root v base o brought reads)
+        (λ rest. ⊎_elim (λ brought. at_root v base o brought reads) (λ none. absurd (none base o reads)) rest)
         (i.words v among))
         (λ born. let few = d.born from i.was i.there in let same = i.same.birth in absurd (omega arith))
         (led_known w m l q has))
@@ -356,10 +370,10 @@ module _ (s s' : Heap) (T W : ℕ → Type 0) (d : HasApartObjects s) (d' : HasA
       (keeps : (base : ℕ) → F base → F' base)
       (adds : (w : ℕ) → W w → ((at : ℕ) (o : Object) → ReadsObject s' w at o → F at → (base : ℕ) → LedTo s' w base → F base) → (base : ℕ) → LedTo s' w base → F' base)
       (one : (v w : ℕ) → W v → W w → v ≡ w) where
-    flag_old : (base : ℕ) (o : Object) (i : IsOld s W base o) → F base → T o.birth
+    flag_old : (base : ℕ) (o : Object) (i : IsOld s s' W base o) → F base → T o.birth
     flag_old base o i f = subst T (sym i.same.birth) ((tell base i.was i.there).0 f)
 
-    old_flag : (base : ℕ) (o : Object) (i : IsOld s W base o) → T o.birth → F base
+    old_flag : (base : ℕ) (o : Object) (i : IsOld s s' W base o) → T o.birth → F base
     old_flag base o i t = (tell base i.was i.there).1 (subst T i.same.birth t)
 
     -- where what a word points into has its flag, what it leads to has
@@ -371,7 +385,7 @@ module _ (s s' : Heap) (T W : ℕ → Type 0) (d : HasApartObjects s) (d' : HasA
         (λ j. old_flag base o j (old_touched base o j (word (given i.there ((tell from i.was i.there).0 (all_led w m at a here f l))) i.there (sym i.same.kind ∙ normal) old (old_reads v base o j reads))))
         (λ n. itself (n.at) n.among n.reads)
         (g.objects base o reads.0))
-        (λ brought. itself v brought reads)
+        (λ rest. ⊎_elim (λ brought. itself v brought reads) (λ none. absurd (none base o reads)) rest)
         (i.words v among))
         (λ n. absurd (n.words v among base o reads))
         (g.objects from p has)
@@ -455,6 +469,8 @@ brought_one s slot Detach s' plain v w x y = absurd x
 brought_one s slot (Get r) s' plain v w x y = absurd x
 brought_one s slot (Free r) s' plain v w x y = absurd x
 brought_one s slot (Size r) s' plain v w x y = absurd x
+brought_one s slot (Link a n r) s' plain v w x y = absurd x
+brought_one s slot (Unlink a n) s' plain v w x y = absurd x
 brought_one s slot (Alloc r n kind) s' plain v w x y = absurd plain
 brought_one s slot (Set r n) s' plain v w x y = stands_one s' slot r v w x y
 brought_one s slot (Copy r a) s' plain v w x y = stands_one s' slot r v w x y

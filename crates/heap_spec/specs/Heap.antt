@@ -1,8 +1,8 @@
 -- The sequential heap as its users see it: no mark, no dirty page, no block and no free list.
-use Rattle.std.specs.Prelude.{◌≡◌, ℕ, ◌==◌, Option, Some, None, List, [], length, replicate, if◌then◌else◌, slice_get, ◌++◌, flat_map}
+use Rattle.std.specs.Prelude.{◌≡◌, ℕ, ◌+◌, ◌*◌, ◌==◌, nat_le, nat_lt, ◌&&◌, ◌||◌, not, Bool, false, Option, Some, None, option_map, List, [], ◌∷◌, length, replicate, if◌then◌else◌, slice_get, ◌++◌, flat_map, filter}
 use Rattle.std.specs.List.{list_any}
 use Rattle.words.specs.declared.class.Kind.{Kind}
-use Rattle.words.specs.declared.limits.TheConstants.{SLOTS, GLOBALS}
+use Rattle.words.specs.declared.limits.TheConstants.{SLOTS, GLOBALS, WORD_BYTES}
 use Rattle.heap_spec.specs.Layout.{Reads}
 
 -- An object: which allocation made it, whether the collector reads its words, and its words.
@@ -16,18 +16,24 @@ pub record Mutator : Type 0 where
   pub registers : List ℕ
   pub stack : List ℕ
 
--- The heap: how many pages it has, the object at each base, the mutator at each slot, the words of the globals, and
--- how many allocations were granted.
+-- A link: the address of its word, and the birth of the object that it names.
+pub record Link : Type 0 where
+  pub address : ℕ
+  pub birth : ℕ
+
+-- The heap: how many pages it has, the object at each base, the mutator at each slot, the words of the globals, how many
+-- allocations were granted, and the links, no two at one address, in the order in which they were made.
 pub record Heap : Type 0 where
   pub pages : ℕ
   pub objects : ℕ → Option Object
   pub mutators : List (Option Mutator)
   pub globals : List ℕ
   pub births : ℕ
+  pub links : List Link
 
 -- The heap that opens: no object, no mutator, globals of 0, and no birth.
 abbrev pub opening : ℕ → Heap
-opening pages = record { pages = pages; objects = λ _. None; mutators = replicate SLOTS None; globals = replicate GLOBALS 0; births = 0 }
+opening pages = record { pages = pages; objects = λ _. None; mutators = replicate SLOTS None; globals = replicate GLOBALS 0; births = 0; links = [] }
 
 -- an object has this base
 abbrev pub HasObject : Heap → ℕ → Object → Type 0
@@ -72,6 +78,41 @@ with_at m k v q = if q == k then v else m q
 abbrev pub without_at : {A : Type 0} → (ℕ → Option A) → List ℕ → ℕ → Option A
 without_at m bases q = if list_any (λ b. b == q) bases then None else m q
 
--- The heap without the objects with these bases. Each object that leaves a heap leaves it so.
+-- whether the object, if there is one, has the birth
+abbrev pub is_born : Option Object → ℕ → Bool
+is_born None birth = false
+is_born (Some o) birth = o.birth == birth
+
+-- whether a word points into the object at the base, if there is one
+abbrev pub covers : ℕ → Option Object → ℕ → Bool
+covers base None w = false
+covers base (Some o) w = nat_le base w && nat_lt w (base + WORD_BYTES * length o.words)
+
+-- whether a link names one of the objects with these bases
+abbrev pub names : Heap → List ℕ → Link → Bool
+names s bases l = list_any (λ b. is_born (s.objects b) l.birth) bases
+
+-- whether a link's word lies in one of them
+abbrev pub lies_in : Heap → List ℕ → Link → Bool
+lies_in s bases l = list_any (λ b. covers b (s.objects b) l.address) bases
+
+-- whether the word at the address is that of a link that names one of them
+abbrev pub loses_word : Heap → List ℕ → ℕ → Bool
+loses_word s bases a = list_any (λ l. (l.address == a) && names s bases l) s.links
+
+-- The words from an address on, with 0 for each whose address is one of these.
+abbrev pub cleared : (ℕ → Bool) → ℕ → List ℕ → List ℕ
+cleared gone a [] = []
+cleared gone a (w ∷ ws) = (if gone a then 0 else w) ∷ cleared gone (a + WORD_BYTES) ws
+
+-- the object at a base with 0 for these of its words
+abbrev pub with_cleared : (ℕ → Bool) → ℕ → Object → Object
+with_cleared gone base o = record o { words = cleared gone base o.words }
+
+-- The heap without the objects with these bases. Each object that leaves a heap leaves it so, and takes its links along: the
+-- links that name it are gone, and their words are 0 where their holder stays; and the links whose words lie in it are gone.
 abbrev pub without : Heap → List ℕ → Heap
-without s bases = record s { objects = without_at s.objects bases }
+without s bases = record s {
+  objects = λ q. option_map (with_cleared (loses_word s bases) q) (without_at s.objects bases q);
+  links = filter (λ l. not (names s bases l || lies_in s bases l)) s.links;
+}

@@ -1,6 +1,6 @@
 -- The laws of the sequential heap, each a statement of its own.
-use Rattle.std.specs.Prelude.{◌≡◌, ◌↔◌, ◌⊎◌, ℕ, ◌<◌, ◌≤◌, Bool, true, length, Contains, All}
-use Rattle.words.specs.declared.limits.TheConstants.{MAX_PAGES}
+use Rattle.std.specs.Prelude.{◌≡◌, ◌↔◌, ◌⊎◌, ℕ, ◌+◌, ◌*◌, ◌<◌, ◌≤◌, Bool, true, length, slice_index, Contains, All}
+use Rattle.words.specs.declared.limits.TheConstants.{MAX_PAGES, WORD_BYTES}
 use Rattle.words.specs.declared.class.Kind.TheVariants.{Normal}
 use Rattle.words.specs.declared.refusal.Refusal.{Refusal}
 use Rattle.heap_spec.specs.declared.call.Call.{Call}
@@ -9,7 +9,7 @@ use Rattle.heap_spec.specs.declared.event.Event.{Event}
 use Rattle.heap_spec.specs.declared.event.Event.TheVariants.{Finish, Collect}
 use Rattle.heap_spec.specs.declared.reply.Reply.{Reply}
 use Rattle.heap_spec.specs.declared.reply.Reply.TheVariants.{Done, Word, Refused}
-use Rattle.heap_spec.specs.Heap.{Heap, Object, Mutator, IsSameObject, HasObject, ReadsObject, IsAttached, root_words}
+use Rattle.heap_spec.specs.Heap.{Heap, Object, Mutator, Link, IsSameObject, HasObject, ReadsObject, IsAttached, root_words}
 use Rattle.heap_spec.specs.Closure.{Closure, Reached, IsInClosure}
 use Rattle.heap_spec.specs.Steps.{Calls, Step, register}
 use Rattle.heap_spec.specs.Runs.{Start, Run, fresh, heap_after, IsBornSince, Touched}
@@ -76,10 +76,26 @@ abbrev pub TouchedHoldsReached : Type 0
 TouchedHoldsReached = (pages : ℕ) (run : Run)
     → (base : ℕ) (o : Object) → HasObject (heap_after (fresh pages) run) base o → Reached (heap_after (fresh pages) run) base → Touched (fresh pages) run o.birth
 
--- Each reached object is there still, and its words are as they were.
+-- A link stood at the address, to an object that is not reached.
+pub record HadLink (s : Heap) (a : ℕ) : Type 0 where
+  pub link : Link
+  pub stood : Contains s.links link
+  pub at : link.address ≡ a
+  pub named : ℕ
+  pub object : Object
+  pub has : HasObject s named object
+  pub names : object.birth ≡ link.birth
+  pub unreached : Reached s named → ⊥
+
+-- the word at an address is as it was, or it was that of a link to an object that is not reached, and is 0 now
+abbrev pub IsKeptWord : Heap → ℕ → ℕ → ℕ → Type 0
+IsKeptWord s a old new = (new ≡ old) ⊎ ((new ≡ 0) × HadLink s a)
+
+-- Each reached object is there still, and its words are as they were, but for those of links to objects that aren't.
 pub record KeepsReached (s s' : Heap) : Type 0 where
   pub stays : (base : ℕ) (o : Object) → HasObject s base o → Reached s base → (p : Object) × HasObject s' base p × IsSameObject o p
-  pub words : (base : ℕ) (o p : Object) → HasObject s base o → Reached s base → HasObject s' base p → p.words ≡ o.words
+  pub words : (base : ℕ) (o p : Object) → HasObject s base o → Reached s base → HasObject s' base p
+      → (i : ℕ) → IsKeptWord s (base + WORD_BYTES * i) (slice_index o.words i) (slice_index p.words i)
 
 -- Each object was there before, and was reached: that it was not reached can't be, since what a collection takes out are
 -- exactly the objects of which that is so.

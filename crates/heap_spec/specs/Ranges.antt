@@ -2,7 +2,7 @@
 use Rattle.std.specs.Prelude.{ℕ, ◌<◌}
 use Rattle.words.specs.declared.limits.TheConstants.{SLOTS, REGISTERS, GLOBALS}
 use Rattle.heap_spec.specs.declared.call.Call.{Call}
-use Rattle.heap_spec.specs.declared.call.Call.TheVariants.{Detach, Set, Copy, Add, Sub, Get, Push, Pop, Load, Store, Alloc, Free, Base, Size, GlobalGet, GlobalPut}
+use Rattle.heap_spec.specs.declared.call.Call.TheVariants.{Detach, Set, Copy, Add, Sub, Get, Push, Pop, Load, Store, Alloc, Free, Base, Size, GlobalGet, GlobalPut, Link, Unlink}
 use Rattle.heap_spec.specs.declared.event.Event.{Event}
 use Rattle.heap_spec.specs.declared.event.Event.TheVariants.{Attach, Mutator, Begin, Roots, Mark, Retrace, Finish, Sweep, Collect, Number}
 use Rattle.heap_spec.specs.Layout.{word_end}
@@ -37,6 +37,8 @@ CallInRange (Base d a) = IsRegister d × IsRegister a
 CallInRange (Size a) = IsRegister a
 CallInRange (GlobalGet d g) = IsRegister d × IsGlobal g
 CallInRange (GlobalPut g r) = IsGlobal g × IsRegister r
+CallInRange (Link a n r) = IsRegister a × IsWord n × IsRegister r
+CallInRange (Unlink a n) = IsRegister a × IsWord n
 
 -- An event names a slot that there is, and its call is in range.
 abbrev pub InRange : Event → Type 0

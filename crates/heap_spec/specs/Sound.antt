@@ -1,10 +1,11 @@
 -- Laws that every heap of a run keeps, and the parts of which they are made.
-use Rattle.std.specs.Prelude.{◌≡◌, ℕ, ◌+◌, ◌*◌, ◌%◌, ◌<◌, ◌≤◌, Option, Some, None, List, length, All, ◌⊎◌}
-use Rattle.words.specs.declared.limits.TheConstants.{WORD_BYTES, GRANULE_BYTES, PAGE_WORDS, FIRST_ADDRESS, MAX_PAGES, SLOTS, REGISTERS, STACK_WORDS, GLOBALS}
+use Rattle.std.specs.Prelude.{◌≡◌, ℕ, ◌+◌, ◌*◌, ◌%◌, ◌<◌, ◌≤◌, ◌≢◌, Option, Some, None, List, length, All, AllPairs, ◌⊎◌}
+use Rattle.words.specs.declared.limits.TheConstants.{WORD_BYTES, GRANULE_BYTES, PAGE_WORDS, FIRST_ADDRESS, MAX_PAGES, SLOTS, REGISTERS, STACK_WORDS, GLOBALS, MAX_LINKS}
+use Rattle.words.specs.declared.class.Kind.TheVariants.{PointerFree}
 use Rattle.words.specs.Classes.{IsSizeClass}
 use Rattle.words.specs.Layout.{page_start}
 use Rattle.heap_spec.specs.Layout.{heap_end}
-use Rattle.heap_spec.specs.Heap.{Heap, Object, Mutator}
+use Rattle.heap_spec.specs.Heap.{Heap, Object, Mutator, Link, HasObject, ReadsObject}
 use Rattle.heap_spec.specs.Ranges.{IsWord}
 
 -- so many words
@@ -54,6 +55,24 @@ pub record AreObjects (pages births : ℕ) (objects : ℕ → Option Object) : T
   pub distinct : HaveDistinctBirths objects
   pub apart : (a b : ℕ) (o p : Object) → objects a ≡ Some o → objects b ≡ Some p → a < b → a + WORD_BYTES * length o.words ≤ b
 
+-- A link names an object, and its word is that of a pointer-free one.
+pub record IsLink (s : Heap) (l : Link) : Type 0 where
+  pub aligned : l.address % WORD_BYTES ≡ 0
+  pub base : ℕ
+  pub holder : Object
+  pub in_holder : ReadsObject s l.address base holder
+  pub kind : holder.kind ≡ PointerFree
+  pub named : ℕ
+  pub object : Object
+  pub has : HasObject s named object
+  pub names : object.birth ≡ l.birth
+
+-- The links of a heap: no two stand at one address, and there are no more than there is room for.
+pub record AreLinks (s : Heap) : Type 0 where
+  pub each : All (IsLink s) s.links
+  pub distinct : AllPairs (λ k l. k.address ≢ l.address) s.links
+  pub few : length s.links ≤ MAX_LINKS
+
 -- What holds of a heap in every run.
 pub record IsSound (s : Heap) : Type 0 where
   pub some_page : 1 ≤ s.pages
@@ -62,6 +81,7 @@ pub record IsSound (s : Heap) : Type 0 where
   pub slots : length s.mutators ≡ SLOTS
   pub mutators : All IsSlot s.mutators
   pub globals : IsRow GLOBALS s.globals
+  pub links : AreLinks s
 
 -- so many words at the base are some, lie in a heap of so many pages, and begin at a granule
 pub record LieInHeap (pages base len : ℕ) : Type 0 where

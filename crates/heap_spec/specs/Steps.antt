@@ -1,18 +1,20 @@
 -- The step of every mutator call.
-use Rattle.std.specs.Prelude.{◌≡◌, ◌≢◌, ℕ, ◌+◌, ◌-◌, ◌*◌, ◌%◌, ◌<◌, Option, Some, None, List, [], ◌∷◌, ◌++◌, length, replicate, slice_index, slice_set}
-use Rattle.words.specs.declared.limits.TheConstants.{WORD_BYTES, REGISTERS, STACK_WORDS}
+use Rattle.std.specs.Prelude.{◌≡◌, ◌≢◌, ℕ, ◌+◌, ◌-◌, ◌*◌, ◌%◌, ◌<◌, Option, Some, None, ◌==◌, not, Bool, ◌≤◌, true, false, ◌⊎◌, if◌then◌else◌, List, [], ◌∷◌, ◌++◌, length, replicate, slice_index, slice_set, filter}
+use Rattle.std.specs.List.{list_any}
+use Rattle.words.specs.declared.limits.TheConstants.{WORD_BYTES, REGISTERS, STACK_WORDS, MAX_LINKS}
 use Rattle.words.specs.declared.class.Kind.{Kind}
+use Rattle.words.specs.declared.class.Kind.TheVariants.{Normal, PointerFree}
 use Rattle.words.specs.declared.class.Placement.{Placement}
-use Rattle.words.specs.declared.refusal.Refusal.TheVariants.{NoSlot, Misaligned, NoObject, NotBase, BadSize, Full, StackFull, StackEmpty}
+use Rattle.words.specs.declared.refusal.Refusal.TheVariants.{NoSlot, Misaligned, NoObject, NotBase, BadSize, Full, StackFull, StackEmpty, LinksFull, NotPointerFree}
 use Rattle.words.specs.Placing.{placement_of}
 use Rattle.heap_spec.specs.declared.call.Call.{Call}
-use Rattle.heap_spec.specs.declared.call.Call.TheVariants.{Detach, Set, Copy, Add, Sub, Get, Push, Pop, Load, Store, Alloc, Free, Base, Size, GlobalGet, GlobalPut}
+use Rattle.heap_spec.specs.declared.call.Call.TheVariants.{Detach, Set, Copy, Add, Sub, Get, Push, Pop, Load, Store, Alloc, Free, Base, Size, GlobalGet, GlobalPut, Link, Unlink}
 use Rattle.heap_spec.specs.declared.event.Event.{Event}
 use Rattle.heap_spec.specs.declared.event.Event.TheVariants.{Attach, Mutator}
 use Rattle.heap_spec.specs.declared.reply.Reply.{Reply}
 use Rattle.heap_spec.specs.declared.reply.Reply.TheVariants.{Slot, Done, Word, Count, Refused}
 use Rattle.heap_spec.specs.Layout.{word_end, index_in}
-use Rattle.heap_spec.specs.Heap.{Heap, Object, Mutator as HeapMutator, HasObject, IsAttached, IsVacant, ReadsObject, ReadsNothing, with_at, without}
+use Rattle.heap_spec.specs.Heap.{Heap, Object, Link as HeapLink, Mutator as HeapMutator, HasObject, IsAttached, IsVacant, ReadsObject, ReadsNothing, with_at, without}
 use Rattle.heap_spec.specs.Room.{HasRoom, length_of}
 
 -- A mutator comes with registers of 0 and an empty stack.
@@ -35,6 +37,26 @@ with_object s base o = record s { objects = with_at s.objects base o }
 abbrev pub with_new : Heap → ℕ → Kind → Placement → Heap
 with_new s base kind place =
     record (with_object s base (Some (record { birth = s.births + 1; kind = kind; words = replicate (length_of place) 0 }))) { births = s.births + 1 }
+
+-- whether a link stands at the address
+abbrev pub has_link : Heap → ℕ → Bool
+has_link s a = list_any (λ l. l.address == a) s.links
+
+-- the links but for one at the address
+abbrev pub links_but : Heap → ℕ → List HeapLink
+links_but s a = filter (λ l. not (l.address == a)) s.links
+
+-- the heap with no link at the address
+abbrev pub without_link : Heap → ℕ → Heap
+without_link s a = record s { links = links_but s a }
+
+-- the heap with a link at the address, in place of one that stands there
+abbrev pub with_link : Heap → ℕ → ℕ → Heap
+with_link s a birth = record s { links = links_but s a ++ record { address = a; birth = birth } ∷ [] }
+
+-- there is room for a link at the address: fewer stand than there is room for, or one stands there
+abbrev pub HasLinkRoom : Heap → ℕ → Type 0
+HasLinkRoom s a = (length s.links < MAX_LINKS) ⊎ (has_link s a ≡ true)
 
 -- the word of a register
 abbrev pub register : HeapMutator → ℕ → ℕ
@@ -99,6 +121,18 @@ pub data Acts (s : Heap) (slot : ℕ) (m : HeapMutator) : Call → Reply → Hea
   -- globals
   global_got : {d g : ℕ} → Acts s slot m (GlobalGet d g) (Word (slice_index s.globals g)) (with_register s slot m d (slice_index s.globals g))
   global_put : {g r : ℕ} → Acts s slot m (GlobalPut g r) Done (record s { globals = slice_set s.globals g (register m r) })
+  -- links
+  link_misaligned : {a n r : ℕ} → address m a n % WORD_BYTES ≢ 0 → Acts s slot m (Link a n r) (Refused Misaligned) s
+  link_nowhere : {a n r : ℕ} → address m a n % WORD_BYTES ≡ 0 → ReadsNothing s (address m a n) → Acts s slot m (Link a n r) (Refused NoObject) s
+  link_in_normal : {a n r base : ℕ} {o : Object} → address m a n % WORD_BYTES ≡ 0 → ReadsObject s (address m a n) base o → o.kind ≡ Normal
+      → Acts s slot m (Link a n r) (Refused NotPointerFree) s
+  link_to_nothing : {a n r base : ℕ} {o : Object} → address m a n % WORD_BYTES ≡ 0 → ReadsObject s (address m a n) base o → o.kind ≡ PointerFree
+      → ReadsNothing s (register m r) → Acts s slot m (Link a n r) (Refused NoObject) s
+  links_full : {a n r base named : ℕ} {o p : Object} → address m a n % WORD_BYTES ≡ 0 → ReadsObject s (address m a n) base o → o.kind ≡ PointerFree
+      → ReadsObject s (register m r) named p → MAX_LINKS ≤ length s.links → has_link s (address m a n) ≡ false → Acts s slot m (Link a n r) (Refused LinksFull) s
+  linked : {a n r base named : ℕ} {o p : Object} → address m a n % WORD_BYTES ≡ 0 → ReadsObject s (address m a n) base o → o.kind ≡ PointerFree
+      → ReadsObject s (register m r) named p → HasLinkRoom s (address m a n) → Acts s slot m (Link a n r) Done (with_link s (address m a n) p.birth)
+  unlinked : {a n : ℕ} → Acts s slot m (Unlink a n) (Count (if has_link s (address m a n) then 1 else 0)) (without_link s (address m a n))
 
 -- A call for a slot: the attached mutator's, and refused exactly if the slot is vacant.
 pub data Calls (s : Heap) (slot : ℕ) (call : Call) : Reply → Heap → Type 0 where

@@ -2,7 +2,7 @@
 use Rattle.std.specs.Prelude.{◌≡◌, ◌↔◌, ◌⊎◌, ℕ, ◌<◌, ◌≤◌, true, length, Contains}
 use Rattle.words.specs.declared.class.Kind.TheVariants.{Normal}
 use Rattle.heap_spec.specs.declared.call.Call.{Call}
-use Rattle.heap_spec.specs.declared.call.Call.TheVariants.{Detach, Set, Copy, Add, Sub, Get, Push, Pop, Load, Store, Alloc, Free, Base, Size, GlobalGet, GlobalPut}
+use Rattle.heap_spec.specs.declared.call.Call.TheVariants.{Detach, Set, Copy, Add, Sub, Get, Push, Pop, Load, Store, Alloc, Free, Base, Size, GlobalGet, GlobalPut, Link, Unlink}
 use Rattle.heap_spec.specs.declared.event.Event.TheVariants.{Attach, Mutator}
 use Rattle.heap_spec.specs.declared.reply.Reply.{Reply}
 use Rattle.heap_spec.specs.Heap.{Heap, Object, Mutator as HeapMutator, HasObject, IsAttached, ReadsObject, ReadsNothing, root_words}
@@ -45,6 +45,8 @@ IsBrought s slot (Base d a) s' w = StandsIn s' slot d w
 IsBrought s slot (Size r) s' w = ⊥
 IsBrought s slot (GlobalGet d g) s' w = StandsIn s' slot d w
 IsBrought s slot (GlobalPut g r) s' w = StandsIn s' slot r w
+IsBrought s slot (Link a n r) s' w = ⊥
+IsBrought s slot (Unlink a n) s' w = ⊥
 
 -- Objects have births of their own up to the count, and words of their own, and none is at the address 0. Every sound heap
 -- is so.

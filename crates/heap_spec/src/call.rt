@@ -52,4 +52,10 @@ pub enum Call {
 
     /// Puts the word of a register into a global.
     GlobalPut(Global, Reg),
+
+    /// Makes the word at the first register and an offset in words a link to the object that the second points into.
+    Link(Reg, u64, Reg),
+
+    /// Takes the link at a register and an offset in words away, if one stands there.
+    Unlink(Reg, u64),
 }

@@ -58,3 +58,6 @@ const _: () = prove!(PAGE_BYTES == PAGE_WORDS * WORD_BYTES);
 const _: () = prove!(PAGE_GRANULES * GRANULE_WORDS == PAGE_WORDS);
 
 const _: () = prove!(FIRST_ADDRESS % PAGE_BYTES == 0);
+
+/// The most links that can stand.
+pub const MAX_LINKS: u8 = 64;

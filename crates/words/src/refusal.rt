@@ -33,6 +33,12 @@ pub enum Refusal {
 
     /// The call does not fit the phase of the collector.
     WrongPhase,
+
+    /// As many links stand as there is room for.
+    LinksFull,
+
+    /// The address points into an object whose words the collector reads.
+    NotPointerFree,
 }
 
 impl Refusal {
@@ -50,6 +56,8 @@ impl Refusal {
             Refusal::StackFull => 7,
             Refusal::StackEmpty => 8,
             Refusal::WrongPhase => 9,
+            Refusal::LinksFull => 10,
+            Refusal::NotPointerFree => 11,
         }
     }
 
@@ -67,6 +75,8 @@ impl Refusal {
             Refusal::StackFull => "StackFull",
             Refusal::StackEmpty => "StackEmpty",
             Refusal::WrongPhase => "WrongPhase",
+            Refusal::LinksFull => "LinksFull",
+            Refusal::NotPointerFree => "NotPointerFree",
         }
     }
 }
