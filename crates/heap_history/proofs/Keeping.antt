@@ -59,6 +59,13 @@ acts_keep s slot m d at (Acts.sized reads) ne = same s s slot d m at refl
 acts_keep s slot m d at (Acts.size_nothing none) ne = same s s slot d m at refl
 acts_keep s slot m d at (Acts.global_got {d = r}) ne = puts s _ slot d m _ r _ at refl refl ne
 acts_keep s slot m d at Acts.global_put ne = same s _ slot d m at refl
+acts_keep s slot m d at (Acts.link_misaligned al) ne = same s s slot d m at refl
+acts_keep s slot m d at (Acts.link_nowhere al none) ne = same s s slot d m at refl
+acts_keep s slot m d at (Acts.link_in_normal al reads kind) ne = same s s slot d m at refl
+acts_keep s slot m d at (Acts.link_to_nothing al reads kind none) ne = same s s slot d m at refl
+acts_keep s slot m d at (Acts.links_full al reads kind names few none) ne = same s s slot d m at refl
+acts_keep s slot m d at (Acts.linked al reads kind names room) ne = same s _ slot d m at refl
+acts_keep s slot m d at Acts.unlinked ne = same s _ slot d m at refl
 
 pub calls_keep : (s : Heap) (slot : ℕ) (m : HeapMutator) (d : ℕ) → IsAttached s slot m → {call : Call} {reply : Reply} {s' : Heap} → Calls s slot call reply s' → LeavesRegister d call → KeepsWord s' slot m d
 calls_keep s slot m d at {s' = s'} (acts {m = k} at' act) leaves =

@@ -1,6 +1,6 @@
 -- A word that is stored stands where it was stored, and a load there answers it, through what leaves the words of objects.
-use Rattle.std.proofs.Common.{◌≡◌, ◌≢◌, ℕ, ◌<◌, ◌%◌, ◌⊎◌, List, [], ◌∷◌, ◌++◌, length, refl, sym, ap, ◌∙◌, subst, arith, inl, inr, ⊎_elim, get_or-set_same}
-use Rattle.std.specs.Prelude.{All, slice_set, slice_index}
+use Rattle.std.proofs.Common.{Bool, false, cond, get_or, ◌+◌, ◌*◌, ◌≡◌, ◌≢◌, ℕ, ◌<◌, ◌%◌, ◌⊎◌, List, [], ◌∷◌, ◌++◌, length, refl, sym, ap, ◌∙◌, subst, arith, inl, inr, ⊎_elim, get_or-set_same}
+use Rattle.std.specs.Prelude.{Some, All, slice_set, slice_index}
 use Rattle.std.proofs.lemmas.Bool.{cases_eq}
 use Rattle.std.proofs.lemmas.Option.{same_Some}
 use Rattle.std.proofs.lemmas.List.{length-set}
@@ -22,7 +22,15 @@ use Rattle.heap_spec.specs.Laws.{IsFreshRun}
 use Rattle.heap_spec.specs.SequentialObject.{HeapState, heap_of, Opens, StateStep}
 use Rattle.heap_spec.proofs.Layouts.{placed}
 use Rattle.heap_spec.proofs.Loads.{same_mutator}
-use Rattle.heap_spec.proofs.Objects.{with_at-same, with_at-other, without_other, one_read}
+use Rattle.heap_spec.proofs.Objects.{with_at-same, with_at-other, one_read}
+use Rattle.heap_spec.proofs.Links.{stays_by}
+use Rattle.std.specs.Prelude.{◌==◌, ◌&&◌}
+use Rattle.std.proofs.lemmas.Bool.{ne_eqb}
+use Rattle.std.proofs.lemmas.List.Folds.{list_any_none}
+use Rattle.words.specs.declared.class.Kind.TheVariants.{Normal, PointerFree}
+use Rattle.heap_spec.specs.Layout.{Reads}
+use Rattle.heap_spec.specs.Heap.{Link, names, loses_word, cleared}
+use Rattle.heap_spec.specs.Sound.{IsLink}
 use Rattle.heap_spec.proofs.Runs.{fresh_sound}
 use Rattle.heap_history.specs.Passes.{Entry, HeapPass}
 use Rattle.heap_history.specs.Headline.{Makes}
@@ -42,10 +50,10 @@ pub record Written (s : Heap) (slot : ℕ) (m : HeapMutator) (a n w : ℕ) : Typ
 
 -- A granted store leaves it so, in an object that was there.
 pub store_is : (s : Heap) (slot a n r : ℕ) (m : HeapMutator) → IsAttached s slot m → {s' : Heap} → Calls s slot (Store a n r) Done s'
-    → (there : Written s' slot m a n (register m r)) × (o : Object) × ReadsObject s (address m a n) there.base o
+    → (there : Written s' slot m a n (register m r)) × (o : Object) × ReadsObject s (address m a n) there.base o × (there.object.kind ≡ o.kind)
 store_is s slot a n r m at {s' = s'} (acts {m = k} at' act) = by (subst (λ (x : HeapMutator). Acts s slot x (Store a n r) Done s') (same_mutator s slot k m at' at) act)
   where
-    by : {s' : Heap} → Acts s slot m (Store a n r) Done s' → (there : Written s' slot m a n (register m r)) × (o : Object) × ReadsObject s (address m a n) there.base o
+    by : {s' : Heap} → Acts s slot m (Store a n r) Done s' → (there : Written s' slot m a n (register m r)) × (o : Object) × ReadsObject s (address m a n) there.base o × (there.object.kind ≡ o.kind)
     by (Acts.stored {base = base} {o = o} al reads) =
         let from = reads.1.0 in
         let to = reads.1.1 in (
@@ -59,6 +67,7 @@ store_is s slot a n r m at {s' = s'} (acts {m = k} at' act) = by (subst (λ (x :
           },
           o,
           reads,
+          refl,
         )
 
 -- A load there answers it.
@@ -94,19 +103,44 @@ attaches_leave : (s : Heap) {reply : Reply} {s' : Heap} → Attaches s reply s' 
 attaches_leave s (Attaches.attached lowest) base o has = has
 attaches_leave s (Attaches.no_slot none) base o has = has
 
--- A collection leaves what is reached.
-takes_leave : (s : Heap) (bases : List ℕ) (reply : Reply) (s' : Heap) → TakesOut s bases reply s' → (base : ℕ) (o : Object) → HasObject s base o → Reached s base → HasObject s' base o
-takes_leave s bases reply s' takes base o has r =
-    ap (λ (x : Heap). x.objects base) takes.after ∙ without_other s.objects bases base (λ among. All-contains (λ b. Reached s b → ⊥) bases base takes.unreached among r) ∙ has
+-- words of which none is cleared
+cleared_same : (gone : ℕ → Bool) (a : ℕ) (ws : List ℕ) → ((i : ℕ) → i < length ws → gone (a + 8 * i) ≡ false) → cleared gone a ws ≡ ws
+cleared_same gone a [] none = refl
+cleared_same gone a (w ∷ ws) none =
+    ap (λ b. cond b 0 w ∷ cleared gone (a + 8) ws) (ap gone (omega arith) ∙ none 0 (omega arith))
+    ∙ ap (λ l. w ∷ l) (cleared_same gone (a + 8) ws (λ i lt. ap gone (omega arith) ∙ none (i + 1) (omega arith)))
+
+-- no link stands at a word of a Normal object
+normal_free : Normal ≡ PointerFree → ⊥
+normal_free e = cc
+
+no_link : (s : Heap) → IsSound s → (bases : List ℕ) (base : ℕ) (o : Object) → HasObject s base o → o.kind ≡ Normal → (a : ℕ) → Reads a base (length o.words) → loses_word s bases a ≡ false
+no_link s h bases base o has kind a reads = list_any_none (λ l. (l.address == a) && names s bases l) s.links (λ i d lt. one (get_or s.links i d) (h.links.each i d lt))
+  where
+    one : (l : Link) → IsLink s l → ((l.address == a) && names s bases l) ≡ false
+    one l k = ⊎_elim
+        (λ same.
+        let e = one_read s h a k.base base k.holder o (subst (λ x. ReadsObject s x k.base k.holder) same k.in_holder) (has, reads) in
+        let object : k.holder ≡ o = same_Some k.holder o (sym k.in_holder.0 ∙ ap s.objects e ∙ has) in
+        absurd (normal_free (sym kind ∙ ap (λ (x : Object). x.kind) (sym object) ∙ k.kind)))
+        (λ other. ap (λ b. b && names s bases l) (ne_eqb l.address a other))
+        (cases_eq l.address a)
+
+-- so a collection leaves what is reached and Normal as it is
+takes_leave : (s : Heap) → IsSound s → (bases : List ℕ) (reply : Reply) (s' : Heap) → TakesOut s bases reply s' → (base : ℕ) (o : Object) → HasObject s base o → Reached s base → o.kind ≡ Normal → HasObject s' base o
+takes_leave s h bases reply s' takes base o has r kind =
+    ap (λ (x : Heap). x.objects base) takes.after
+    ∙ stays_by s bases base o has (λ among. All-contains (λ b. Reached s b → ⊥) bases base takes.unreached among r)
+    ∙ ap (λ ws. Some (record o { words = ws })) (cleared_same (loses_word s bases) base o.words (λ i lt. no_link s h bases base o has kind (base + 8 * i) (omega arith, omega arith)))
 
 -- So each step that stores and frees nothing leaves an object, if it collects nothing or the object is reached.
 step_leaves : (s t : HeapState) (by : ℕ) (event : Event) (reply : Reply) (h : StateStep s by event reply t) → IsSound (heap_of s) → LeavesWords event → (base : ℕ) (o : Object)
-    → IsNoCollection event ⊎ Reached (heap_of s) base → HasObject (heap_of s) base o → HasObject h.heap base o
+    → IsNoCollection event ⊎ (Reached (heap_of s) base × (o.kind ≡ Normal)) → HasObject (heap_of s) base o → HasObject h.heap base o
 step_leaves s t by Attach reply h sound left base o safe has = attaches_leave (heap_of s) h.happens base o has
 step_leaves s t by (Mutator slot call) reply h sound left base o safe has = calls_leave (heap_of s) slot sound h.happens left base o has
 step_leaves s t by Begin reply h sound left base o safe has = ap (λ (x : Heap). x.objects base) h.happens.1.1 ∙ has
-step_leaves s t by Finish reply h sound left base o safe has = ⊎_elim (λ none. absurd none) (λ r. takes_leave _ _ _ _ h.happens.1.takes base o has r) safe
-step_leaves s t by Collect reply h sound left base o safe has = ⊎_elim (λ none. absurd none) (λ r. takes_leave _ _ _ _ h.happens.takes base o has r) safe
+step_leaves s t by Finish reply h sound left base o safe has = ⊎_elim (λ none. absurd none) (λ r. takes_leave _ sound _ _ _ h.happens.1.takes base o has r.0 r.1) safe
+step_leaves s t by Collect reply h sound left base o safe has = ⊎_elim (λ none. absurd none) (λ r. takes_leave _ sound _ _ _ h.happens.takes base o has r.0 r.1) safe
 step_leaves s t by Roots reply h sound left base o safe has = absurd h.fits
 step_leaves s t by (Mark n) reply h sound left base o safe has = absurd h.fits
 step_leaves s t by Retrace reply h sound left base o safe has = absurd h.fits
@@ -121,15 +155,15 @@ pub record Holds (m : HeapMutator) (base : ℕ) : Type 0 where
 
 -- Along a chain of others' steps that store and free nothing the object stays, if none collects or a register has its base.
 pub walks_leave : (s t : HeapState) (es : List Entry) → Walks StateStep s es t → IsFreshRun s.pages s.run → (who : ℕ) (m : HeapMutator) → IsAttached (heap_of s) who m → AreOfOthers who es
-    → All (λ (e : Entry). LeavesWords e.call) es → (base : ℕ) (o : Object) → All (λ (e : Entry). IsNoCollection e.call) es ⊎ Holds m base → HasObject (heap_of s) base o → HasObject (heap_of t) base o
+    → All (λ (e : Entry). LeavesWords e.call) es → (base : ℕ) (o : Object) → All (λ (e : Entry). IsNoCollection e.call) es ⊎ (Holds m base × (o.kind ≡ Normal)) → HasObject (heap_of s) base o → HasObject (heap_of t) base o
 walks_leave s t [] w fresh who m at others left base o safe has = subst (λ (x : HeapState). HasObject (heap_of x) base o) w has
 walks_leave s t (e ∷ es) w fresh who m at others left base o safe has =
     let sound = fresh_sound s.pages s.run fresh in
-    let first : IsNoCollection e.call ⊎ Reached (heap_of s) base = ⊎_elim
+    let first : IsNoCollection e.call ⊎ (Reached (heap_of s) base × (o.kind ≡ Normal)) = ⊎_elim
     (λ none. inl (All-head (λ (x : Entry). IsNoCollection x.call) e es none))
-    (λ (held : Holds m base). inr (held_reached (heap_of s) sound who m held.register_no base o at held.there held.holds has))
+    (λ (held : Holds m base × (o.kind ≡ Normal)). inr (held_reached (heap_of s) sound who m held.0.register_no base o at held.0.there held.0.holds has, held.1))
     safe in
-    let rest : All (λ (x : Entry). IsNoCollection x.call) es ⊎ Holds m base = ⊎_elim (λ none. inl (All-tail (λ (x : Entry). IsNoCollection x.call) e es none)) (λ held. inr held) safe in
+    let rest : All (λ (x : Entry). IsNoCollection x.call) es ⊎ (Holds m base × (o.kind ≡ Normal)) = ⊎_elim (λ none. inl (All-tail (λ (x : Entry). IsNoCollection x.call) e es none)) (λ held. inr held) safe in
     let stays = step_leaves s w.0 e.who e.call e.reply w.1 sound (All-head (λ (x : Entry). LeavesWords x.call) e es left) base o first has in
     let still = step_mutators s w.0 e.who who e.call e.reply (All-head (λ (x : Entry). x.who ≢ who) e es others) w.1 ∙ at in
     walks_leave w.0 t es w.2 (step_fresh s w.0 e.who e.call e.reply w.1 fresh) who m still (All-tail (λ (x : Entry). x.who ≢ who) e es others) (All-tail (λ (x : Entry). LeavesWords x.call) e es left) base o rest
@@ -137,7 +171,7 @@ walks_leave s t (e ∷ es) w fresh who m at others left base o safe has =
 
 -- So the word still stands there after what others did.
 pub still_written : (s t : HeapState) (es : List Entry) (slot : ℕ) (m : HeapMutator) (a n w : ℕ) → Walks StateStep s es t → IsFreshRun s.pages s.run → AreOfOthers slot es → All (λ (e : Entry). LeavesWords e.call) es
-    → (there : Written (heap_of s) slot m a n w) → All (λ (e : Entry). IsNoCollection e.call) es ⊎ Holds m there.base → Written (heap_of t) slot m a n w
+    → (there : Written (heap_of s) slot m a n w) → All (λ (e : Entry). IsNoCollection e.call) es ⊎ (Holds m there.base × (there.object.kind ≡ Normal)) → Written (heap_of t) slot m a n w
 still_written s t es slot m a n w walk fresh others left there safe = record {
   at = walks_mutators s t es slot walk others ∙ there.at;
   aligned = there.aligned;

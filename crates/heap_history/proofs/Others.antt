@@ -4,11 +4,11 @@ use Rattle.std.specs.Prelude.{All, Contains, filter, slice_index_or}
 use Rattle.std.proofs.lemmas.Bool.{cases_Bool}
 use Rattle.std.proofs.lemmas.List.Elements.{All-nil, All-cons, All-head, All-tail, All-map, All-weaker, All-contains}
 use mathlib.Core.List.{IsPrefix}
-use Rattle.words.specs.declared.class.Kind.{Kind}
+use Rattle.words.specs.declared.class.Kind.TheVariants.{Normal}
 use Rattle.history.specs.Histories.{event, own, AreOfOthers, Walks, Legal}
 use Rattle.history.proofs.Fronts.{prefix_trans}
 use Rattle.heap_spec.specs.declared.call.Call.{Call}
-use Rattle.heap_spec.specs.declared.call.Call.TheVariants.{Detach, Set, Copy, Add, Sub, Get, Push, Pop, Load, Store, Alloc, Free, Base, Size, GlobalGet, GlobalPut}
+use Rattle.heap_spec.specs.declared.call.Call.TheVariants.{Detach, Set, Copy, Add, Sub, Get, Push, Pop, Load, Store, Alloc, Free, Base, Size, GlobalGet, GlobalPut, Link, Unlink}
 use Rattle.heap_spec.specs.declared.event.Event.{Event}
 use Rattle.heap_spec.specs.declared.event.Event.TheVariants.{Attach, Mutator, Begin, Roots, Mark, Retrace, Finish, Sweep, Collect, Number}
 use Rattle.heap_spec.specs.declared.reply.Reply.{Reply}
@@ -75,6 +75,8 @@ call_frees (Base r a) l = tt
 call_frees (Size r) l = tt
 call_frees (GlobalGet r g) l = tt
 call_frees (GlobalPut g r) l = tt
+call_frees (Link a n r) l = tt
+call_frees (Unlink a n) l = tt
 
 event_frees : (asked : Event) → LeavesWords asked → IsNoFree asked
 event_frees Attach l = tt
@@ -154,10 +156,10 @@ made_seen pages old new call reply history makes within =
     (ext.between ++ event old.slot (Mutator old.slot call) reply ∷ [], sym (append_assoc old.seen ext.between (event old.slot (Mutator old.slot call) reply ∷ [])) ∙ sym ext.seen)
     within
 
-pub alone_word : (pages d n r w k e : ℕ) (kind : Kind) (reply : Reply) (start made set stored loaded : HeapPass) (history : List Entry) (others : List HeapPass) → d ≢ r → k < n
-    → Makes pages start (Alloc d n kind) Done made → Makes pages made (Set r w) Done set → Makes pages set (Store d k r) Done stored → Makes pages stored (Load e d k) reply loaded
+pub alone_word : (pages d n r w k e : ℕ) (reply : Reply) (start made set stored loaded : HeapPass) (history : List Entry) (others : List HeapPass) → d ≢ r → k < n
+    → Makes pages start (Alloc d n Normal) Done made → Makes pages made (Set r w) Done set → Makes pages set (Store d k r) Done stored → Makes pages stored (Load e d k) reply loaded
     → Legal (Opens pages) StateStep history → IsPrefix loaded.seen history → AreAlone (start.slot ∷ slots_of others) history → All (LeftWords pages history) others → reply ≡ Word w
-alone_word pages d n r w k e kind reply start made set stored loaded history others ne lt first second third fourth legal within alone left =
+alone_word pages d n r w k e reply start made set stored loaded history others ne lt first second third fourth legal within alone left =
     let slot1 = first.extends.slot in
     let slot2 = second.extends.slot ∙ slot1 in
     let slot3 = third.extends.slot ∙ slot2 in
@@ -166,4 +168,4 @@ alone_word pages d n r w k e kind reply start made set stored loaded history oth
     let calm2 = undisturbed pages history legal start.slot others alone left made set (Set r w) Done slot1 within2 second in
     let calm3 = undisturbed pages history legal start.slot others alone left set stored (Store d k r) Done slot2 within3 third in
     let calm4 = undisturbed pages history legal start.slot others alone left stored loaded (Load e d k) reply slot3 within fourth in
-    own_word pages d n r w k e kind reply start made made set stored loaded ne lt first CallsLeaveRegister.nothing calm2.1 calm3.1 calm4.0
+    own_word pages d n r w k e reply start made made set stored loaded ne lt first CallsLeaveRegister.nothing calm2.1 calm3.1 calm4.0

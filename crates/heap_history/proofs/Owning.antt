@@ -6,7 +6,7 @@ use Rattle.std.proofs.lemmas.List.{length-set, length-replicate}
 use Rattle.words.specs.declared.class.Kind.{Kind}
 use Rattle.history.specs.Histories.{event, AreOfOthers, Walks, Reaches}
 use Rattle.heap_spec.specs.declared.call.Call.{Call}
-use Rattle.heap_spec.specs.declared.call.Call.TheVariants.{Detach, Set, Copy, Add, Sub, Get, Push, Pop, Load, Store, Alloc, Free, Base, Size, GlobalGet, GlobalPut}
+use Rattle.heap_spec.specs.declared.call.Call.TheVariants.{Detach, Set, Copy, Add, Sub, Get, Push, Pop, Load, Store, Alloc, Free, Base, Size, GlobalGet, GlobalPut, Link, Unlink}
 use Rattle.heap_spec.specs.declared.event.Event.TheVariants.{Mutator}
 use Rattle.heap_spec.specs.declared.reply.Reply.{Reply}
 use Rattle.heap_spec.specs.declared.reply.Reply.TheVariants.{Done, Word}
@@ -30,7 +30,7 @@ use Rattle.heap_history.proofs.Keeping.{calls_keep}
 use Rattle.heap_history.proofs.Places.{place_holds}
 
 -- A mutator's register has the base of an object of at least so many words.
-pub record Owned (s : Heap) (slot d n a : ℕ) : Type 0 where
+pub record Owned (s : Heap) (slot d n a : ℕ) (kind : Kind) : Type 0 where
   pub object : Object
   pub mutator : HeapMutator
   pub at : IsAttached s slot mutator
@@ -38,14 +38,15 @@ pub record Owned (s : Heap) (slot d n a : ℕ) : Type 0 where
   pub holds : register mutator d ≡ a
   pub has : HasObject s a object
   pub size : n ≤ length object.words
+  pub of_kind : object.kind ≡ kind
 
 -- What a granted allocation leaves: the object, whose base the register has, apart from all that were there.
-pub record Allocated (s s' : Heap) (slot d n : ℕ) : Type 0 where
+pub record Allocated (s s' : Heap) (slot d n : ℕ) (kind : Kind) : Type 0 where
   pub base : ℕ
-  pub owned : Owned s' slot d n base
+  pub owned : Owned s' slot d n base kind
   pub away : (b : ℕ) (p : Object) → HasObject s b p → AreApart base (length owned.object.words) b (length p.words)
 
-alloc_is : (s : Heap) (slot d n : ℕ) (kind : Kind) → IsSound s → d < 16 → {s' : Heap} → Calls s slot (Alloc d n kind) Done s' → Allocated s s' slot d n
+alloc_is : (s : Heap) (slot d n : ℕ) (kind : Kind) → IsSound s → d < 16 → {s' : Heap} → Calls s slot (Alloc d n kind) Done s' → Allocated s s' slot d n kind
 alloc_is s slot d n kind h few (acts {m = m} at (Acts.allocated {place = place} a e room)) =
     let size = (attached_is s slot m h at).registers.size in
     let there : d < length m.registers = omega (arith, size) in
@@ -62,6 +63,7 @@ alloc_is s slot d n kind h few (acts {m = m} at (Acts.allocated {place = place} 
         holds = get_or-set_same m.registers d a 0 there;
         has = with_at-same s.objects a _ a refl;
         size = subst (λ k. n ≤ k) (sym long) (place_holds n place e);
+        of_kind = refl;
       };
       away = λ b p has. subst (λ k. AreApart a k b (length p.words)) (sym long)
           (room_apart s h place kind a is room b p has (λ same. room_none s h place kind a is room p (ap s.objects (sym same) ∙ has)));
@@ -84,10 +86,10 @@ base_is s h slot e d a m o at is has (acts {m = k} at' (Acts.base_nothing none))
 base_is s h slot e d a m o at is has (vacant none) = absurd (not_both s slot m at none)
 
 -- the look at its register tells its base
-get_owned : (s : Heap) (slot d n a b : ℕ) {s' : Heap} → Calls s slot (Get d) (Word b) s' → Owned s slot d n a → (a ≡ b) × Owned s' slot d n a
-get_owned s slot d n a b calls own =
+get_owned : (s : Heap) (slot d n a b : ℕ) {kind : Kind} {s' : Heap} → Calls s slot (Get d) (Word b) s' → Owned s slot d n a kind → (a ≡ b) × Owned s' slot d n a kind
+get_owned s slot d n a b {kind = kind} calls own =
     let get = get_is s slot d b calls own.mutator own.at in
-    (sym (get.0 ∙ own.holds), subst (λ (x : Heap). Owned x slot d n a) (sym get.1) own)
+    (sym (get.0 ∙ own.holds), subst (λ (x : Heap). Owned x slot d n a kind) (sym get.1) own)
 
 -- and any call that leaves the register leaves it owned
 leaves_no_free : (d : ℕ) (call : Call) → LeavesRegister d call → IsNoFreeCall call
@@ -107,9 +109,11 @@ leaves_no_free d (Base r a) ne = tt
 leaves_no_free d (Size r) ne = tt
 leaves_no_free d (GlobalGet r g) ne = tt
 leaves_no_free d (GlobalPut g r) ne = tt
+leaves_no_free d (Link a n r) ne = tt
+leaves_no_free d (Unlink a n) ne = tt
 
-call_owned : (s : Heap) (slot d n a : ℕ) → IsSound s → {call : Call} {reply : Reply} {s' : Heap} → Calls s slot call reply s' → LeavesRegister d call → Owned s slot d n a → Owned s' slot d n a
-call_owned s slot d n a h {call = call} calls leaves own =
+call_owned : (s : Heap) (slot d n a : ℕ) {kind : Kind} → IsSound s → {call : Call} {reply : Reply} {s' : Heap} → Calls s slot call reply s' → LeavesRegister d call → Owned s slot d n a kind → Owned s' slot d n a kind
+call_owned s slot d n a {kind = kind} h {call = call} calls leaves own =
     let stays = calls_stay s slot h calls (leaves_no_free d call leaves) a own.object own.has in
     let kept = calls_keep s slot own.mutator d own.at calls leaves in
     record {
@@ -120,24 +124,25 @@ call_owned s slot d n a h {call = call} calls leaves own =
       holds = kept.word ∙ own.holds;
       has = stays.1;
       size = subst (λ k. n ≤ k) (sym stays.2.size) own.size;
+      of_kind = stays.2.kind ∙ own.of_kind;
     }
 
 -- what others do leaves it, if they free nothing
-pub walks_owned : (s t : HeapState) (es : List Entry) → Walks StateStep s es t → IsFreshRun s.pages s.run → (who d n a : ℕ) → Owned (heap_of s) who d n a → AreOfOthers who es → All (λ (e : Entry). IsNoFree e.call) es
-    → Owned (heap_of t) who d n a
-walks_owned s t es w fresh who d n a own others free =
+pub walks_owned : (s t : HeapState) (es : List Entry) → Walks StateStep s es t → IsFreshRun s.pages s.run → (who d n a : ℕ) {kind : Kind} → Owned (heap_of s) who d n a kind → AreOfOthers who es → All (λ (e : Entry). IsNoFree e.call) es
+    → Owned (heap_of t) who d n a kind
+walks_owned s t es w fresh who d n a {kind = kind} own others free =
     let held = walks_held s t es w fresh who own.mutator d a own.object own.at own.there own.holds own.has others free in
-    record { object = held.1.0; mutator = own.mutator; at = held.0; there = own.there; holds = own.holds; has = held.1.1; size = subst (λ k. n ≤ k) (sym held.1.2.size) own.size }
+    record { object = held.1.0; mutator = own.mutator; at = held.0; there = own.there; holds = own.holds; has = held.1.1; size = subst (λ k. n ≤ k) (sym held.1.2.size) own.size; of_kind = held.1.2.kind ∙ own.of_kind }
 
 -- and its mutator too
-pub walks_owned_mutator : (s t : HeapState) (es : List Entry) (w : Walks StateStep s es t) (fresh : IsFreshRun s.pages s.run) (who d n a : ℕ) (own : Owned (heap_of s) who d n a) (others : AreOfOthers who es)
+pub walks_owned_mutator : (s t : HeapState) (es : List Entry) (w : Walks StateStep s es t) (fresh : IsFreshRun s.pages s.run) (who d n a : ℕ) {kind : Kind} (own : Owned (heap_of s) who d n a kind) (others : AreOfOthers who es)
     (free : All (λ (e : Entry). IsNoFree e.call) es) → (walks_owned s t es w fresh who d n a own others free).mutator ≡ own.mutator
 unfolding walks_owned
 walks_owned_mutator s t es w fresh who d n a own others free = refl
 
 -- In each state to which what the pass has seen leads, its register has the base of such an object, and that base is one of these.
-abbrev pub IsOwned : ℕ → ℕ → ℕ → (ℕ → Type 0) → HeapPass → Type 0
-IsOwned pages d n Is pass = (t : HeapState) → Reaches (Opens pages) StateStep pass.seen t → (a : ℕ) × Is a × Owned (heap_of t) pass.slot d n a
+abbrev pub IsOwned : ℕ → ℕ → ℕ → Kind → (ℕ → Type 0) → HeapPass → Type 0
+IsOwned pages d n kind Is pass = (t : HeapState) → Reaches (Opens pages) StateStep pass.seen t → (a : ℕ) × Is a × Owned (heap_of t) pass.slot d n a kind
 
 -- the state that a call is made in
 pub record Before (pages : ℕ) (pass : HeapPass) (between : List Entry) (call : Call) (reply : Reply) (t : HeapState) : Type 0 where
@@ -152,9 +157,9 @@ before pages old new call reply makes t r =
     record { state = last.0; reached = (r.0, r.1, last.1); step = last.2 }
 
 -- there the object is owned still
-pub owned_before : (pages d n : ℕ) (Is : ℕ → Type 0) (old new : HeapPass) (call : Call) (reply : Reply) → (after : MakesAfterNoFree pages old call reply new) → IsOwned pages d n Is old
-    → (t : HeapState) → (at : Before pages old after.makes.extends.between call reply t) → (a : ℕ) × Is a × Owned (heap_of at.state) old.slot d n a
-owned_before pages d n Is old new call reply after own t at =
+pub owned_before : (pages d n : ℕ) (kind : Kind) (Is : ℕ → Type 0) (old new : HeapPass) (call : Call) (reply : Reply) → (after : MakesAfterNoFree pages old call reply new) → IsOwned pages d n kind Is old
+    → (t : HeapState) → (at : Before pages old after.makes.extends.between call reply t) → (a : ℕ) × Is a × Owned (heap_of at.state) old.slot d n a kind
+owned_before pages d n kind Is old new call reply after own t at =
     let between = after.makes.extends.between in
     let mid = walks_through at.reached.0 at.state old.seen between at.reached.2 in
     let reached : Reaches (Opens pages) StateStep old.seen mid.0 = (at.reached.0, at.reached.1, mid.1) in
@@ -162,42 +167,42 @@ owned_before pages d n Is old new call reply after own t at =
     (had.0, had.1, walks_owned mid.0 at.state between mid.2 (reached_fresh pages old.seen mid.0 reached) old.slot d n had.0 had.2 after.makes.extends.others after.kept)
 
 -- the mutator's own allocation
-pub made_owned : (pages d n : ℕ) (kind : Kind) (old new : HeapPass) → Makes pages old (Alloc d n kind) Done new → IsOwned pages d n (λ a. Unit {0}) new
+pub made_owned : (pages d n : ℕ) (kind : Kind) (old new : HeapPass) → Makes pages old (Alloc d n kind) Done new → IsOwned pages d n kind (λ a. Unit {0}) new
 made_owned pages d n kind old new makes t r =
     let at = before pages old new (Alloc d n kind) Done makes t r in
     let made = alloc_is (heap_of at.state) old.slot d n kind (reached_sound pages (old.seen ++ makes.extends.between) at.state at.reached) at.step.in_range.1.0 at.step.happens in
-    (made.base, tt, subst (λ (k : ℕ). Owned (heap_of t) k d n made.base) (sym makes.extends.slot) (subst (λ (x : Heap). Owned x old.slot d n made.base) (sym (ap heap_of at.step.goes)) made.owned))
+    (made.base, tt, subst (λ (k : ℕ). Owned (heap_of t) k d n made.base kind) (sym makes.extends.slot) (subst (λ (x : Heap). Owned x old.slot d n made.base kind) (sym (ap heap_of at.step.goes)) made.owned))
 
 -- what it is told of its register
-told_owned : (pages d n a : ℕ) (old new : HeapPass) → MakesAfterNoFree pages old (Get d) (Word a) new → IsOwned pages d n (λ b. Unit {0}) old → IsOwned pages d n (λ b. b ≡ a) new
-told_owned pages d n a old new after own t r =
+told_owned : (pages d n a : ℕ) (kind : Kind) (old new : HeapPass) → MakesAfterNoFree pages old (Get d) (Word a) new → IsOwned pages d n kind (λ b. Unit {0}) old → IsOwned pages d n kind (λ b. b ≡ a) new
+told_owned pages d n a kind old new after own t r =
     let at = before pages old new (Get d) (Word a) after.makes t r in
-    let had = owned_before pages d n (λ b. Unit {0}) old new (Get d) (Word a) after own t at in
+    let had = owned_before pages d n kind (λ b. Unit {0}) old new (Get d) (Word a) after own t at in
     let get = get_owned (heap_of at.state) old.slot d n had.0 a at.step.happens had.2 in
-    (had.0, get.0, subst (λ (k : ℕ). Owned (heap_of t) k d n had.0) (sym after.makes.extends.slot) (subst (λ (x : Heap). Owned x old.slot d n had.0) (sym (ap heap_of at.step.goes)) get.1))
+    (had.0, get.0, subst (λ (k : ℕ). Owned (heap_of t) k d n had.0 kind) (sym after.makes.extends.slot) (subst (λ (x : Heap). Owned x old.slot d n had.0 kind) (sym (ap heap_of at.step.goes)) get.1))
 
 -- and its calls that leave the register
-pub kept_owned : (pages d n : ℕ) (Is : ℕ → Type 0) (old : HeapPass) → {new : HeapPass} → CallsLeaveRegister pages d old new → IsOwned pages d n Is old → IsOwned pages d n Is new
-kept_owned pages d n Is old CallsLeaveRegister.nothing own = own
-kept_owned pages d n Is old {new = new} (CallsLeaveRegister.longer {now = now} {call = call} {reply = reply} keeps leaves after) own = λ t r.
+pub kept_owned : (pages d n : ℕ) (kind : Kind) (Is : ℕ → Type 0) (old : HeapPass) → {new : HeapPass} → CallsLeaveRegister pages d old new → IsOwned pages d n kind Is old → IsOwned pages d n kind Is new
+kept_owned pages d n kind Is old CallsLeaveRegister.nothing own = own
+kept_owned pages d n kind Is old {new = new} (CallsLeaveRegister.longer {now = now} {call = call} {reply = reply} keeps leaves after) own = λ t r.
     let at = before pages now new call reply after.makes t r in
-    let had = owned_before pages d n Is now new call reply after (kept_owned pages d n Is old keeps own) t at in
+    let had = owned_before pages d n kind Is now new call reply after (kept_owned pages d n kind Is old keeps own) t at in
     let sound = reached_sound pages (now.seen ++ after.makes.extends.between) at.state at.reached in
     let held = call_owned (heap_of at.state) now.slot d n had.0 sound at.step.happens leaves had.2 in
-    (had.0, had.1, subst (λ (k : ℕ). Owned (heap_of t) k d n had.0) (sym after.makes.extends.slot) (subst (λ (x : Heap). Owned x now.slot d n had.0) (sym (ap heap_of at.step.goes)) held))
+    (had.0, had.1, subst (λ (k : ℕ). Owned (heap_of t) k d n had.0 kind) (sym after.makes.extends.slot) (subst (λ (x : Heap). Owned x now.slot d n had.0 kind) (sym (ap heap_of at.step.goes)) held))
 
 -- an object is owned from its allocation on
 owned_on : (pages d n a : ℕ) (kind : Kind) (start made told later : HeapPass) → Makes pages start (Alloc d n kind) Done made → MakesAfterNoFree pages made (Get d) (Word a) told → CallsLeaveRegister pages d told later
-    → IsOwned pages d n (λ b. b ≡ a) later
+    → IsOwned pages d n kind (λ b. b ≡ a) later
 owned_on pages d n a kind start made told later first second keeps =
-    kept_owned pages d n (λ b. b ≡ a) told keeps (told_owned pages d n a made told second (made_owned pages d n kind start made first))
+    kept_owned pages d n kind (λ b. b ≡ a) told keeps (told_owned pages d n a kind made told second (made_owned pages d n kind start made first))
 
 pub stays : (pages d n a e : ℕ) (kind : Kind) (reply : Reply) (start made told later asked : HeapPass)
     → Makes pages start (Alloc d n kind) Done made → MakesAfterNoFree pages made (Get d) (Word a) told → CallsLeaveRegister pages d told later → MakesAfterNoFree pages later (Base e d) reply asked → reply ≡ Word a
 stays pages d n a e kind reply start made told later asked first second keeps third =
     let legal = third.makes.extends.fine.legal in
     let at = before pages later asked (Base e d) reply third.makes legal.0 legal.1 in
-    let had = owned_before pages d n (λ b. b ≡ a) later asked (Base e d) reply third (owned_on pages d n a kind start made told later first second keeps) legal.0 at in
+    let had = owned_before pages d n kind (λ b. b ≡ a) later asked (Base e d) reply third (owned_on pages d n a kind start made told later first second keeps) legal.0 at in
     let own = had.2 in
     let sound = reached_sound pages (later.seen ++ third.makes.extends.between) at.state at.reached in
     base_is (heap_of at.state) sound later.slot e d had.0 own.mutator own.object own.at own.holds own.has at.step.happens ∙ ap Word had.1
@@ -212,7 +217,7 @@ apart pages d n a d' n' b kind kind' start made told later more asked first seco
     let last = before pages more asked (Get d') (Word b) fourth legal.0 legal.1 in
     let mid = walks_through last.reached.0 last.state more.seen since last.reached.2 in
     let at = before pages later more (Alloc d' n' kind') Done third.makes mid.0 (last.reached.0, last.reached.1, mid.1) in
-    let had = owned_before pages d n (λ k. k ≡ a) later more (Alloc d' n' kind') Done third (owned_on pages d n a kind start made told later first second keeps) mid.0 at in
+    let had = owned_before pages d n kind (λ k. k ≡ a) later more (Alloc d' n' kind') Done third (owned_on pages d n a kind start made told later first second keeps) mid.0 at in
     let own = had.2 in
     let sound = reached_sound pages (later.seen ++ third.makes.extends.between) at.state at.reached in
     let new = alloc_is (heap_of at.state) later.slot d' n' kind' sound at.step.in_range.1.0 at.step.happens in

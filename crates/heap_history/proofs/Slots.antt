@@ -80,6 +80,13 @@ acts_leave s slot m at lt (Acts.sized reads) = keeps s s slot m at refl
 acts_leave s slot m at lt (Acts.size_nothing none) = keeps s s slot m at refl
 acts_leave s slot m at lt Acts.global_got = puts s _ slot (Some _) lt refl
 acts_leave s slot m at lt Acts.global_put = keeps s _ slot m at refl
+acts_leave s slot m at lt (Acts.link_misaligned al) = keeps s s slot m at refl
+acts_leave s slot m at lt (Acts.link_nowhere al none) = keeps s s slot m at refl
+acts_leave s slot m at lt (Acts.link_in_normal al reads kind) = keeps s s slot m at refl
+acts_leave s slot m at lt (Acts.link_to_nothing al reads kind none) = keeps s s slot m at refl
+acts_leave s slot m at lt (Acts.links_full al reads kind names few none) = keeps s s slot m at refl
+acts_leave s slot m at lt (Acts.linked al reads kind names room) = keeps s _ slot m at refl
+acts_leave s slot m at lt Acts.unlinked = keeps s _ slot m at refl
 
 -- a slot is vacant or has a mutator
 pub not_both : (s : Heap) (slot : ℕ) (m : HeapMutator) → IsAttached s slot m → IsVacant s slot → ⊥

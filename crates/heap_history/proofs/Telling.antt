@@ -53,6 +53,13 @@ acts_told s slot m (Acts.sized reads) = (refl, tt)
 acts_told s slot m (Acts.size_nothing none) = (refl, tt)
 acts_told s slot m Acts.global_got = (refl, tt)
 acts_told s slot m Acts.global_put = (refl, tt)
+acts_told s slot m (Acts.link_misaligned al) = (refl, tt)
+acts_told s slot m (Acts.link_nowhere al none) = (refl, tt)
+acts_told s slot m (Acts.link_in_normal al reads kind) = (refl, tt)
+acts_told s slot m (Acts.link_to_nothing al reads kind none) = (refl, tt)
+acts_told s slot m (Acts.links_full al reads kind names few none) = (refl, tt)
+acts_told s slot m (Acts.linked al reads kind names room) = (refl, tt)
+acts_told s slot m Acts.unlinked = (refl, tt)
 
 calls_told : (s : Heap) (slot : ℕ) (m : HeapMutator) (call : Call) → IsAttached s slot m → {reply : Reply} {s' : Heap} → Calls s slot call reply s' → Told call reply
 calls_told s slot m call at (acts {m = k} at' act) = acts_told s slot k act

@@ -4,7 +4,7 @@ use mathlib.Core.List.{IsPrefix}
 use Rattle.std.specs.List.{IsDistinct}
 use Rattle.history.specs.Histories.{count, Legal}
 use Rattle.heap_spec.specs.declared.call.Call.{Call}
-use Rattle.heap_spec.specs.declared.call.Call.TheVariants.{Detach, Set, Copy, Add, Sub, Get, Push, Pop, Load, Store, Alloc, Free, Base, Size, GlobalGet, GlobalPut}
+use Rattle.heap_spec.specs.declared.call.Call.TheVariants.{Detach, Set, Copy, Add, Sub, Get, Push, Pop, Load, Store, Alloc, Free, Base, Size, GlobalGet, GlobalPut, Link, Unlink}
 use Rattle.heap_spec.specs.declared.event.Event.{Event}
 use Rattle.heap_spec.specs.declared.event.Event.TheVariants.{Mutator, Finish, Collect}
 use Rattle.heap_spec.specs.declared.reply.Reply.{Reply}
@@ -14,6 +14,7 @@ use Rattle.heap_spec.specs.Histories.{LegalHistory}
 use Rattle.heap_spec.specs.SequentialObject.{Opens, StateStep}
 use Rattle.words.specs.declared.limits.TheConstants.{SLOTS, WORD_BYTES}
 use Rattle.words.specs.declared.class.Kind.{Kind}
+use Rattle.words.specs.declared.class.Kind.TheVariants.{Normal}
 use Rattle.heap_history.specs.Ranks.{rank_of}
 use Rattle.heap_history.specs.Passes.{Entry, HeapPass, IsLegalPass, begins_with_attach}
 use Rattle.heap_history.specs.Headline.{Looks, Makes}
@@ -94,6 +95,8 @@ LeavesRegister d (Base r a) = d ≢ r
 LeavesRegister d (Size r) = Unit {0}
 LeavesRegister d (GlobalGet r g) = d ≢ r
 LeavesRegister d (GlobalPut g r) = Unit {0}
+LeavesRegister d (Link a n r) = Unit {0}
+LeavesRegister d (Unlink a n) = Unit {0}
 
 -- Any number of a mutator's calls that leave its register, while nobody frees.
 pub data CallsLeaveRegister (pages d : ℕ) (old : HeapPass) : HeapPass → Type 0 where
@@ -107,11 +110,12 @@ OwnObjectStays = (pages d n a e : ℕ) (kind : Kind) (reply : Reply) (start made
     → Makes pages start (Alloc d n kind) Done made → MakesAfterNoFree pages made (Get d) (Word a) told → CallsLeaveRegister pages d told later
     → MakesAfterNoFree pages later (Base e d) reply asked → reply ≡ Word a
 
--- A mutator allocates an object, and calls that leave its register follow. Then it puts a word into another register and stores it in
--- the object. Its next load from there answers that word, whatever others do between, cycles among it, but stores and frees.
+-- A mutator allocates a Normal object, in which no link's word lies, and calls that leave its register follow. Then it puts a word into
+-- another register and stores it in the object. Its next load from there answers that word, whatever others do between, cycles among
+-- it, but stores and frees.
 abbrev pub OwnWordStays : Type 0
-OwnWordStays = (pages d n r w k e : ℕ) (kind : Kind) (reply : Reply) (start made later set stored loaded : HeapPass) → d ≢ r → k < n
-    → Makes pages start (Alloc d n kind) Done made → CallsLeaveRegister pages d made later → MakesAfterNoFree pages later (Set r w) Done set
+OwnWordStays = (pages d n r w k e : ℕ) (reply : Reply) (start made later set stored loaded : HeapPass) → d ≢ r → k < n
+    → Makes pages start (Alloc d n Normal) Done made → CallsLeaveRegister pages d made later → MakesAfterNoFree pages later (Set r w) Done set
     → MakesAfterNoFree pages set (Store d k r) Done stored → MakesAfterNoWrite pages stored (Load e d k) reply loaded → reply ≡ Word w
 
 -- Two objects that a mutator allocates, the second while a register has the first, don't overlap, if nobody frees between.
@@ -151,10 +155,10 @@ OthersLeaveWords = (pages : ℕ) (history : List Entry) → Legal (Opens pages) 
     → All (LeftWords pages history) others → (old new : HeapPass) (call : Call) (reply : Reply) → old.slot ≡ me → IsPrefix new.seen history → Makes pages old call reply new
     → MakesAfterNoWrite pages old call reply new × MakesAfterNoFree pages old call reply new
 
--- A mutator allocates an object, puts a word into another register, stores it in the object, and later loads it from there. Where nobody but
+-- A mutator allocates a Normal object, puts a word into another register, stores it in the object, and later loads it from there. Where nobody but
 -- the mutator and these others had a part in the history, and the others stored and freed nothing, the load answers that word, whatever
 -- cycles ran between.
 abbrev pub AloneWordStays : Type 0
-AloneWordStays = (pages d n r w k e : ℕ) (kind : Kind) (reply : Reply) (start made set stored loaded : HeapPass) (history : List Entry) (others : List HeapPass) → d ≢ r → k < n
-    → Makes pages start (Alloc d n kind) Done made → Makes pages made (Set r w) Done set → Makes pages set (Store d k r) Done stored → Makes pages stored (Load e d k) reply loaded
+AloneWordStays = (pages d n r w k e : ℕ) (reply : Reply) (start made set stored loaded : HeapPass) (history : List Entry) (others : List HeapPass) → d ≢ r → k < n
+    → Makes pages start (Alloc d n Normal) Done made → Makes pages made (Set r w) Done set → Makes pages set (Store d k r) Done stored → Makes pages stored (Load e d k) reply loaded
     → Legal (Opens pages) StateStep history → IsPrefix loaded.seen history → AreAlone (start.slot ∷ slots_of others) history → All (LeftWords pages history) others → reply ≡ Word w

@@ -1,6 +1,6 @@
 -- Which calls are answered by what.
 use Rattle.heap_spec.specs.declared.call.Call.{Call}
-use Rattle.heap_spec.specs.declared.call.Call.TheVariants.{Detach, Set, Copy, Add, Sub, Get, Push, Pop, Load, Store, Alloc, Free, Base, Size, GlobalGet, GlobalPut}
+use Rattle.heap_spec.specs.declared.call.Call.TheVariants.{Detach, Set, Copy, Add, Sub, Get, Push, Pop, Load, Store, Alloc, Free, Base, Size, GlobalGet, GlobalPut, Link, Unlink}
 use Rattle.heap_spec.specs.declared.reply.Reply.{Reply}
 use Rattle.heap_spec.specs.declared.reply.Reply.TheVariants.{Slot, Done, Word, Count, Refused}
 
@@ -46,3 +46,5 @@ IsReplyKind (Base d a) = IsWordReply
 IsReplyKind (Size r) = IsCountReply
 IsReplyKind (GlobalGet d g) = IsWordReply
 IsReplyKind (GlobalPut g r) = IsDoneReply
+IsReplyKind (Link a n r) = IsDoneReply
+IsReplyKind (Unlink a n) = IsCountReply
