@@ -69,7 +69,7 @@ returns g c =
       fine = c.tell-3.ensures.fine;
       left = subst (λ (l : List Entry). All (λ (e : Entry). LeavesWords e.call) l) (sym (c.tell-3.ensures.keeps.1 ∙ (c.tell-2.ensures.keeps.1 ∙ c.apart.ensures.other.1))) c.requires.other;
     } in
-    let said = c.alone_word_stays.ensures pages 1 2 2 c.args.word 0 2 Normal (Word c.args.loaded) start did.puts.made did.puts.set did.put c.args.me.now last.seen (other ∷ []) (λ e. omega (arith, e)) (omega arith)
+    let said = c.alone_word_stays.ensures pages 1 2 2 c.args.word 0 2 (Word c.args.loaded) start did.puts.made did.puts.set did.put c.args.me.now last.seen (other ∷ []) (λ e. omega (arith, e)) (omega arith)
     did.puts.allocates did.puts.sets did.puts.stores did.loads legal within
     (subst (λ (n : ℕ). AreAlone (n ∷ other.slot ∷ []) last.seen) mine alone)
     (All-cons (LeftWords pages last.seen) other [] left (All-nil (LeftWords pages last.seen))) in
