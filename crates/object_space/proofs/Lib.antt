@@ -22,3 +22,4 @@ pub mod Counting
 pub mod Forgets
 pub mod FreePages
 pub mod Putting
+pub mod Along

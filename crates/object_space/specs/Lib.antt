@@ -6,3 +6,4 @@ pub mod Stores
 pub mod Rooms
 pub mod Sweeps
 pub mod Forgets
+pub mod Along

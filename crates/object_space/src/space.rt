@@ -15,6 +15,7 @@ ghost use Rattle.object_space.specs.Kept.{kept_in};
 ghost use Rattle.object_space.specs.Stores.{Stores};
 
 mod allocate;
+mod along;
 mod available_pages;
 mod close;
 mod forget;
