@@ -8,7 +8,13 @@ use Rattle.words.specs.Placing.{placement_of}
 use Rattle.heap_spec.specs.declared.call.Call.TheVariants.{Alloc, Free, Store as StoreCall}
 use Rattle.heap_spec.specs.declared.event.Event.TheVariants.{Mutator}
 use Rattle.heap_spec.specs.declared.reply.Reply.TheVariants.{Refused, Done}
-use Rattle.heap_spec.specs.Heap.{Heap, Mutator as HeapMutator}
+use Rattle.heap_spec.specs.Heap.{Heap, Object, HasObject, Mutator as HeapMutator}
+use Rattle.heap_spec.proofs.Objects.{with_at-other}
+use Rattle.links.proofs.Named.{named_kept}
+use Rattle.links.specs.Named.{AreNamed}
+use Rattle.std.specs.Prelude.{filter, slice_index}
+use Rattle.object_space.specs.Along.{TakesAlong, stays, clears}
+use Rattle.heap_core.proofs.Along.{less, beside_is, reads_one, shows_along, named_along}
 use Rattle.heap_spec.specs.Replies.{IsStep}
 use Rattle.heap_spec.specs.Steps.{Acts, Calls, register, with_new, with_register}
 use Rattle.words.specs.Bits.{Has}
@@ -28,6 +34,7 @@ use Rattle.std.proofs.lemmas.Option.{same_Some}
 use Rattle.marker.proofs.Closures.{same_object}
 use Rattle.block_map.specs.FoundIn.{found_in, IsLawful}
 use Rattle.block_map.specs.declared.found.Found.{Found}
+use Rattle.links.specs.declared.row.Link.{Link}
 use Rattle.roots.specs.Roots.{RootSet, HasMutator, SetsWord}
 use Rattle.object_space.specs.Store.{Store, IsSwept}
 use Rattle.heap_core.specs.Contents.{Cycle}
@@ -50,10 +57,11 @@ use Rattle.heap_core.proofs.Forgotten.{forgotten_added, forgotten_removed, forgo
 use Rattle.heap_core.proofs.Roots.{not_done, dirty_event, refused_clean, core_of, attached, stands_set, none_some}
 
 -- pages were swept
-pub swept_stands : (roots : RootSet) (t0 t : Store) (y : Cycle) → Sweeps t0 y.marking.marks t → (s : Heap) → StandsFor (core_of roots t0 y) s → StandsFor (core_of roots t y) s
-swept_stands roots t0 t y sweeps s h = record {
+pub swept_stands : (roots : RootSet) (t0 t : Store) (y : Cycle) {ls : List Link} → Sweeps t0 y.marking.marks t → (s : Heap) → StandsFor (core_of roots t0 y ls) s → StandsFor (core_of roots t y ls) s
+swept_stands roots t0 t y {ls = ls} sweeps s h = record {
   mutators = h.mutators;
   globals = h.globals;
+  links = h.links;
   store = record {
     pages = h.store.pages ∙ sym sweeps.pages;
     shows = shows_kept (kept_in t.states t.pending y.marking.marks) t0.words t.words s.objects s.births low (λ f i there lt. sweeps.words f i (kept_cases (is_kept t.pending y.marking.marks) (found_in t.states) f.base f there).0 lt)
@@ -106,20 +114,27 @@ module _ (t t' : Store) (y y' : Cycle) (place : Placement) (kind : Kind) (base :
       placed : IsPlaced (length t'.states) gains.object
       placed = gains.map.placed gains.object.base gains.object here
 
-allocated_step : (roots roots' : RootSet) (t t' : Store) (y y' : Cycle) (slot d n base : ℕ) (kind : Kind) (place : Placement) (m : HeapMutator) → HasMutator roots slot m → placement_of n ≡ Some place
-    → HasRoomAt t place kind base → Gains t place kind base t' → SetsWord roots slot d base roots' → NotesObject y.is_marking base y.marking y'.marking → IsStep (StandsFor (core_of roots t y)) (Mutator slot (Alloc d n kind)) Done (StandsFor (core_of roots' t' y'))
-allocated_step roots roots' t t' y y' slot d n base kind place m at is room gains sets notes s h =
+  -- no object of the heap has its base
+  pub none_at : (s : Heap) → Stores (is_kept t.pending y.marking.marks) t s → (b : ℕ) (o : Object) → b ≡ base → HasObject s b o → ⊥
+  none_at s stores b o same has =
+      let f = stores.shows.shown.only b o has in
+      let there = (kept_cases (is_kept t.pending y.marking.marks) (found_in t.states) b f.0 f.1).0 in
+      none_some f.0 (sym (gains.added.before b (subst (λ x. IsInside x gains.object) (gains.at ∙ sym same) (gains.map.reads gains.object.base gains.object here))) ∙ there)
+
+allocated_step : (roots roots' : RootSet) (t t' : Store) (y y' : Cycle) {ls : List Link} (slot d n base : ℕ) (kind : Kind) (place : Placement) (m : HeapMutator) → HasMutator roots slot m → placement_of n ≡ Some place
+    → HasRoomAt t place kind base → Gains t place kind base t' → SetsWord roots slot d base roots' → NotesObject y.is_marking base y.marking y'.marking → IsStep (StandsFor (core_of roots t y ls)) (Mutator slot (Alloc d n kind)) Done (StandsFor (core_of roots' t' y' ls))
+allocated_step roots roots' t t' y y' {ls = ls} slot d n base kind place m at is room gains sets notes s h =
     let new = stores_new t t' y y' place kind base gains notes s h.store in
     let after : Heap = with_register (with_new s base kind place) slot m d base in (
       after,
       Calls.acts (attached roots t y s slot m h at) (Acts.allocated base is (room (is_kept t.pending y.marking.marks) s h.store)),
-      stands_set roots roots' t t' y y' s after slot d base m h at sets refl refl (record { pages = new.pages; shows = new.shows }),
+      stands_set roots roots' t t' y y' s after slot d base m h at sets refl refl (record { pages = new.pages; shows = new.shows }) (named_kept s.objects after.objects (λ b o has. (o, with_at-other s.objects base _ b (λ same. none_at t t' y y' place kind base gains notes s h.store b o same has) ∙ has, record { birth = refl; kind = refl; size = refl })) h.links),
     )
 
-pub allocated : (roots roots' : RootSet) (t0 t t' : Store) (y y' : Cycle) (slot d n base : ℕ) (kind : Kind) (place : Placement) (m : HeapMutator) → HasMutator roots slot m → placement_of n ≡ Some place
+pub allocated : (roots roots' : RootSet) (t0 t t' : Store) (y y' : Cycle) {ls : List Link} (slot d n base : ℕ) (kind : Kind) (place : Placement) (m : HeapMutator) → HasMutator roots slot m → placement_of n ≡ Some place
     → Sweeps t0 y.marking.marks t → HasRoomAt t place kind base → Gains t place kind base t' → SetsWord roots slot d base roots' → NotesObject y.is_marking base y.marking y'.marking → y'.is_marking ≡ y.is_marking → y'.count ≡ y.count
-    → IsCall (core_of roots t0 y) (Mutator slot (Alloc d n kind)) Done (core_of roots' t' y')
-allocated roots roots' t0 t t' y y' slot d n base kind place m at is sweeps room gains sets notes phase count = record {
+    → IsCall (core_of roots t0 y ls) (Mutator slot (Alloc d n kind)) Done (core_of roots' t' y' ls)
+allocated roots roots' t0 t t' y y' {ls = ls} slot d n base kind place m at is sweeps room gains sets notes phase count = record {
   steps = λ s h. allocated_step roots roots' t t' y y' slot d n base kind place m at is room gains sets notes s (swept_stands roots t0 t y sweeps s h);
   phase = phase;
   count = count;
@@ -139,7 +154,7 @@ allocated roots roots' t0 t t' y y' slot d n base kind place m at is sweeps room
         λ h. came.1 (swept.1 (h.0, subst (λ row. Has row f.page) gains.pending h.1)),
       );
   full = λ h. absurd (not_done (Mutator slot (Alloc d n kind)) h);
-  written = λ p h. absurd (clean (dirty_event (core_of roots t0 y) (Mutator slot (Alloc d n kind)) Done p h));
+  written = λ p h. absurd (clean (dirty_event (core_of roots t0 y ls) (Mutator slot (Alloc d n kind)) Done p h));
   roots_alone = λ not. absurd (not tt);
 }
   where
@@ -169,9 +184,9 @@ all_kept keep t s all stores = record {
   shows = shows_same (restrict keep (found_in t.states)) (restrict (λ _. true) (found_in t.states)) t.words s.objects s.births (kept_same keep (λ _. true) (found_in t.states) (λ w f there. sym (all f))) stores.shows;
 }
 
-pub full : (roots : RootSet) (t0 t : Store) (y : Cycle) (slot d n : ℕ) (kind : Kind) (place : Placement) (m : HeapMutator) → HasMutator roots slot m → placement_of n ≡ Some place → Sweeps t0 y.marking.marks t → IsSwept t → HasNoRoom t place kind
-    → IsCall (core_of roots t0 y) (Mutator slot (Alloc d n kind)) (Refused Full) (core_of roots t y)
-full roots t0 t y slot d n kind place m at is sweeps swept none = record {
+pub full : (roots : RootSet) (t0 t : Store) (y : Cycle) {ls : List Link} (slot d n : ℕ) (kind : Kind) (place : Placement) (m : HeapMutator) → HasMutator roots slot m → placement_of n ≡ Some place → Sweeps t0 y.marking.marks t → IsSwept t → HasNoRoom t place kind
+    → IsCall (core_of roots t0 y ls) (Mutator slot (Alloc d n kind)) (Refused Full) (core_of roots t y ls)
+full roots t0 t y {ls = ls} slot d n kind place m at is sweeps swept none = record {
   steps = λ s h.
       let now = swept_stands roots t0 t y sweeps s h in
       (s, Calls.acts (attached roots t0 y s slot m h at) (Acts.full is (none s (all_kept (is_kept t.pending y.marking.marks) t s (λ f. nothing_pending t.pending y.marking.marks f (swept f.page)) now.store))), now);
@@ -188,7 +203,7 @@ full roots t0 t y slot d n kind place m at is sweeps swept none = record {
   swept = λ p h. inr tt;
   forgotten = forgotten_swept t0 t y.marking.marks sweeps;
   full = λ h. swept;
-  written = λ p h. absurd (refused_clean (core_of roots t0 y) (Mutator slot (Alloc d n kind)) Full p h);
+  written = λ p h. absurd (refused_clean (core_of roots t0 y ls) (Mutator slot (Alloc d n kind)) Full p h);
   roots_alone = λ not. absurd (not tt);
 }
 
@@ -222,7 +237,7 @@ module _ (t t' : Store) (y y' : Cycle) (f : Found) (map : IsMap (length t.states
   kept_left = kept_removed (is_kept t.pending y.marking.marks) (is_kept t'.pending y'.marking.marks) (found_in t.states) (found_in t'.states) f loses.removed
       (kept_cases (is_kept t.pending y.marking.marks) (found_in t.states) f.base f is).1 keeps_left
 
-  stores_less : (s : Heap) → Stores (is_kept t.pending y.marking.marks) t s → Stores (is_kept t'.pending y'.marking.marks) t' (without s (f.base ∷ []))
+  stores_less : (s : Heap) → Stores (is_kept t.pending y.marking.marks) t s → Stores (is_kept t'.pending y'.marking.marks) t' (less s (f.base ∷ []))
   stores_less s stores = record {
     pages = stores.pages ∙ sym loses.pages;
     shows = shows_kept (kept_in t'.states t'.pending y'.marking.marks) t.words t'.words (without_at s.objects (f.base ∷ [])) s.births
@@ -240,15 +255,25 @@ module _ (t t' : Store) (y y' : Cycle) (f : Found) (map : IsMap (length t.states
   was_kept : (g : Found) → restrict (is_kept t'.pending y'.marking.marks) (found_in t'.states) g.base ≡ Some g → restrict (is_kept t.pending y.marking.marks) (found_in t.states) g.base ≡ None → ⊥
   was_kept g there none = ⊎_elim (λ r. none_some g (sym (kept_left.before g.base r) ∙ there)) (λ not. none_some g (sym none ∙ kept_left.others g.base not ∙ there)) (read_or_not g.base f)
 
-pub freed : (roots : RootSet) (t t' : Store) (y y' : Cycle) (slot r : ℕ) (m : HeapMutator) (f : Found) → IsLawful t.states → HasMutator roots slot m → restrict (is_kept t.pending y.marking.marks) (found_in t.states) (register m r) ≡ Some f → f.base ≡ register m r
-    → Loses t f t' → IsFreed f.base y.marking y'.marking → y'.is_marking ≡ y.is_marking → y'.count ≡ y.count → IsCall (core_of roots t y) (Mutator slot (Free r)) Done (core_of roots t' y')
-freed roots t t' y y' slot r m f lawful at is base loses frees phase count = record {
+freed_along : (roots : RootSet) (t t1 : Store) (words : List ℕ) (y y' : Cycle) {ls : List Link} (slot r : ℕ) (m : HeapMutator) (f : Found) → IsLawful t.states → HasMutator roots slot m → restrict (is_kept t.pending y.marking.marks) (found_in t.states) (register m r) ≡ Some f → f.base ≡ register m r
+    → Loses t f t1 → IsFreed f.base y.marking y'.marking → y'.is_marking ≡ y.is_marking → y'.count ≡ y.count → IsLawful t1.states
+    → ((k : ℕ) → slice_index words k ≡ cond (clears (kept_in t1.states t1.pending y'.marking.marks) ls k) 0 (slice_index t1.words k))
+    → IsCall (core_of roots t y ls) (Mutator slot (Free r)) Done (core_of roots (record t1 { words = words }) y' (filter (stays (kept_in t1.states t1.pending y'.marking.marks)) ls))
+freed_along roots t t' words y y' {ls = ls} slot r m f lawful at is base loses frees phase count lawful' changed = record {
   steps = λ s h.
       let found = finds (is_kept t.pending y.marking.marks) t s (register m r) f lawful h.store is in
-      let has = ap s.objects (sym base) ∙ found.1.0 in (
+      let has = ap s.objects (sym base) ∙ found.1.0 in
+      let left = stores_less t t' y y' f lawful.map there loses others s h.store in
+      let map' = kept_map (length t'.states) (is_kept t'.pending y'.marking.marks) (found_in t'.states) lawful'.map in
+      let one = reads_one (kept_in t.states t.pending y.marking.marks) (length t.states) (kept_map (length t.states) (is_kept t.pending y.marking.marks) (found_in t.states) lawful.map) t.words s h.store.shows.shown in (
         without s (register m r ∷ []),
         Calls.acts (attached roots t y s slot m h at) (Acts.freed has),
-        subst (λ b. StandsFor (core_of roots t' y') (without s (b ∷ []))) base (record { mutators = h.mutators; globals = h.globals; store = stores_less t t' y y' f lawful.map there loses others s h.store }),
+        subst (λ b. StandsFor (core_of roots (record t' { words = words }) y' (filter (stays (kept_in t'.states t'.pending y'.marking.marks)) ls)) (without s (b ∷ []))) base (record {
+          mutators = h.mutators;
+          globals = h.globals;
+          store = record { pages = left.pages; shows = shows_along (kept_in t'.states t'.pending y'.marking.marks) (length t'.states) map' t'.words words s (f.base ∷ []) ls left.shows h.store.shows.distinct one h.links changed };
+          links = named_along (kept_in t'.states t'.pending y'.marking.marks) (length t'.states) map' t'.words words s (f.base ∷ []) ls left.shows h.store.shows.distinct one h.links;
+        }),
       );
   phase = phase;
   count = count;
@@ -264,7 +289,7 @@ freed roots t t' y y' slot r m f lawful at is base loses frees phase count = rec
   forgotten = forgotten_removed t t' y.marking.marks y'.marking.marks f loses.removed (kept_cases (is_kept t.pending y.marking.marks) (found_in t.states) f.base f there).1
       (keeps_left t t' y y' f lawful.map there loses others);
   full = λ h. absurd (not_done (Mutator slot (Free r)) h);
-  written = λ p h. absurd (clean (dirty_event (core_of roots t y) (Mutator slot (Free r)) Done p h));
+  written = λ p h. absurd (clean (dirty_event (core_of roots t y ls) (Mutator slot (Free r)) Done p h));
   roots_alone = λ not. absurd (not tt);
 }
   where
@@ -279,6 +304,15 @@ freed roots t t' y y' slot r m f lawful at is base loses frees phase count = rec
 
     left : (g : Found) → restrict (is_kept t'.pending y'.marking.marks) (found_in t'.states) g.base ≡ Some g → granule g.base ≡ granule f.base → ⊥
     left g now = apart_left t t' y y' f lawful.map there loses others g.base g (kept_cases (is_kept t'.pending y'.marking.marks) (found_in t'.states) g.base g now).0
+
+pub freed : (roots : RootSet) (t t1 t' : Store) (y y' : Cycle) {ls : List Link} (ls' : List Link) (slot r : ℕ) (m : HeapMutator) (f : Found) → IsLawful t.states → HasMutator roots slot m → restrict (is_kept t.pending y.marking.marks) (found_in t.states) (register m r) ≡ Some f → f.base ≡ register m r
+    → Loses t f t1 → IsFreed f.base y.marking y'.marking → y'.is_marking ≡ y.is_marking → y'.count ≡ y.count → IsLawful t1.states
+    → TakesAlong (kept_in t1.states t1.pending y'.marking.marks) ls t1 t' → ls' ≡ filter (stays (kept_in t1.states t1.pending y'.marking.marks)) ls
+    → IsCall (core_of roots t y ls) (Mutator slot (Free r)) Done (core_of roots t' y' ls')
+freed roots t t1 t' y y' {ls = ls} ls' slot r m f lawful at is base loses frees phase count lawful' along same =
+    subst (λ x. IsCall (core_of roots t y ls) (Mutator slot (Free r)) Done (core_of roots x y' ls')) (sym (beside_is t1 t' along.beside))
+    (subst (λ row. IsCall (core_of roots t y ls) (Mutator slot (Free r)) Done (core_of roots (record t1 { words = t'.words }) y' row)) (sym same)
+    (freed_along roots t t1 t'.words y y' slot r m f lawful at is base loses frees phase count lawful' along.words))
 
 pub inside : (keep : Found → Bool) (t : Store) (s : Heap) (slot r : ℕ) (m : HeapMutator) (f : Found) → IsLawful t.states → restrict keep (found_in t.states) (register m r) ≡ Some f → f.base ≢ register m r → Stores keep t s → Acts s slot m (Free r) (Refused NotBase) s
 inside keep t s slot r m f lawful is ne stores = let found = finds keep t s (register m r) f lawful stores is in Acts.free_inside found.1 ne

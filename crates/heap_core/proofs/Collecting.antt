@@ -9,7 +9,11 @@ use Rattle.heap_spec.specs.Heap.{Heap, Object, HasObject, root_words, words_of}
 use Rattle.heap_spec.specs.Closure as heap
 use Rattle.heap_spec.specs.Closure.{Reached}
 use Rattle.heap_spec.specs.Cycles.{TakesOut, CollectsFully}
-use Rattle.heap_spec.specs.Heap.{without}
+use Rattle.heap_spec.specs.Heap.{without, without_at}
+use Rattle.links.specs.declared.row.Link.{Link}
+use Rattle.std.specs.Prelude.{filter, slice_index, cond}
+use Rattle.object_space.specs.Along.{stays, clears}
+use Rattle.heap_core.proofs.Along.{ReadsOne, reads_one, shows_along, named_along}
 use Rattle.heap_spec.proofs.Closures.{closure_mono, reached_in}
 use Rattle.block_map.specs.declared.found.Found.{Found}
 use Rattle.block_map.specs.FoundIn.{found_in}
@@ -18,14 +22,14 @@ use Rattle.marker.specs.Marking.{Marking, IsMarked, IsFresh}
 use Rattle.marker.specs.Closure.{Closure, AreClosed}
 use Rattle.marker.specs.Growth.{Traces}
 use Rattle.marker.proofs.Closures.{closure_more}
-use Rattle.heap_view.specs.Shows.{ShowsHeap, IsMarkedBirth}
+use Rattle.heap_view.specs.Shows.{Shows, ShowsHeap, IsMarkedBirth}
 use Rattle.heap_view.proofs.Closures.{marks_agree}
 use Rattle.roots.specs.Roots.{root_words_of}
 use Rattle.object_space.specs.Store.{Store, IsSwept}
 use Rattle.heap_core.specs.Contents.{Contents, Cycle}
 use Rattle.heap_core.specs.Standing.{StandsFor, keeps}
-use Rattle.object_space.specs.Kept.{restrict, kept_in}
-use Rattle.object_space.proofs.Kept.{kept_all, nothing_pending}
+use Rattle.object_space.specs.Kept.{restrict, kept_in, is_kept}
+use Rattle.object_space.proofs.Kept.{kept_all, kept_map, nothing_pending}
 use Rattle.object_space.proofs.Allocations.{shows_same}
 use Rattle.object_space.proofs.Words.{shows_kept}
 use Rattle.object_space.specs.Sweeps.{ForgetsUnreached}
@@ -95,39 +99,52 @@ module _ (c : Contents) (map : IsMap (length c.store.states) (found_in c.store.s
       let there = ap (found_in c.store.states) f.2 ∙ f.1 in
       subst (Contains x.bases) f.2 ((x.outside f.0 there).1 (λ inside. outside (subst (heap.Closure s (IsMarkedBirth s c.cycle.marking)) f.2 ((closures f.0 there).0 inside))))
 
-  -- the core stands for what is left
-  pub stands_without : (t' : Store) (y : Cycle) (n : ℕ) (x : ForgetsUnreached c.store (root_words_of c.roots) c.cycle.marking n y.marking.marks t') → StandsFor (record { roots = c.roots; store = t'; cycle = y }) (without s x.bases)
-  stands_without t' y n x = record {
-    mutators = h.mutators;
-    globals = h.globals;
-    store = record {
-      pages = h.store.pages ∙ sym x.pages;
-      shows = shows_kept (kept_in t'.states t'.pending y.marking.marks) c.store.words t'.words (without s x.bases).objects s.births
-          (λ f there. (map.placed f.base f (x.without.left f.base f there).0).above) x.words
-          (shows_without (length c.store.states) (found_in c.store.states) (kept_in t'.states t'.pending y.marking.marks) c.store.words s.objects s.births x.bases all_shown x.without);
-    };
-  }
+  -- the core stands for what is left, with the links that have stayed
+  module _ (t' : Store) (words : List ℕ) (y : Cycle) (n : ℕ) (x : ForgetsUnreached c.store (root_words_of c.roots) c.cycle.marking n y.marking.marks t') (map' : IsMap (length t'.states) (found_in t'.states))
+      (changed : (k : ℕ) → slice_index words k ≡ cond (clears (kept_in t'.states t'.pending y.marking.marks) c.links k) 0 (slice_index t'.words k)) where
+    abbrev row' : List Link
+    row' = filter (stays (kept_in t'.states t'.pending y.marking.marks)) c.links
 
-  pub ends : (t' : Store) (y : Cycle) (n : ℕ) → ForgetsUnreached c.store (root_words_of c.roots) c.cycle.marking n y.marking.marks t'
-      → (s' : Heap) × ForgetsOutside s (IsMarkedBirth s c.cycle.marking) (Count n) s' × StandsFor (record { roots = c.roots; store = t'; cycle = y }) s'
-  ends t' y n x = (
-    without s x.bases,
-    record { bases = x.bases; takes = takes_out t' n y.marking.marks x; outside = λ base is. (forgotten t' n y.marking.marks x base is).2; all = goes t' n y.marking.marks x },
-    stands_without t' y n x,
-  )
+    less_shown : Shows (kept_in t'.states t'.pending y.marking.marks) t'.words (without_at s.objects x.bases) s.births
+    less_shown = shows_kept (kept_in t'.states t'.pending y.marking.marks) c.store.words t'.words (without_at s.objects x.bases) s.births
+        (λ f there. (map.placed f.base f (x.without.left f.base f there).0).above) x.words
+        (shows_without (length c.store.states) (found_in c.store.states) (kept_in t'.states t'.pending y.marking.marks) c.store.words s.objects s.births x.bases all_shown x.without)
 
-  -- where nothing was marked, exactly what is not reached goes
-  none_marked : (b : ℕ) → IsFresh (length c.store.states) c.cycle.marking → IsMarkedBirth s c.cycle.marking b → ⊥
-  none_marked b fresh m = false≢true (sym (fresh.marks.clear (granule m.base)) ∙ m.marked)
+    kmap : IsMap (length t'.states) (kept_in t'.states t'.pending y.marking.marks)
+    kmap = kept_map (length t'.states) (is_kept t'.pending y.marking.marks) (found_in t'.states) map'
 
-  pub collects : (t' : Store) (y : Cycle) (n : ℕ) → IsFresh (length c.store.states) c.cycle.marking → ForgetsUnreached c.store (root_words_of c.roots) c.cycle.marking n y.marking.marks t'
-      → (s' : Heap) × CollectsFully s (Count n) s' × StandsFor (record { roots = c.roots; store = t'; cycle = y }) s'
-  collects t' y n fresh x = (
-    without s x.bases,
-    record {
-      bases = x.bases;
-      takes = takes_out t' n y.marking.marks x;
-      all = λ base o has n'. goes t' n y.marking.marks x base o has (λ inside. n' (closure_mono s (IsMarkedBirth s c.cycle.marking) (λ _. ⊥) (λ b m. none_marked b fresh m) inside));
-    },
-    stands_without t' y n x,
-  )
+    one : ReadsOne s
+    one = reads_one (found_in c.store.states) (length c.store.states) map c.store.words s all_shown.shown
+
+    pub stands_without : StandsFor (record { roots = c.roots; store = record t' { words = words }; cycle = y; links = row' }) (without s x.bases)
+    stands_without = record {
+      mutators = h.mutators;
+      globals = h.globals;
+      store = record {
+        pages = h.store.pages ∙ sym x.pages;
+        shows = shows_along (kept_in t'.states t'.pending y.marking.marks) (length t'.states) kmap t'.words words s x.bases c.links less_shown h.store.shows.distinct one h.links changed;
+      };
+      links = named_along (kept_in t'.states t'.pending y.marking.marks) (length t'.states) kmap t'.words words s x.bases c.links less_shown h.store.shows.distinct one h.links;
+    }
+
+    pub ends : (s' : Heap) × ForgetsOutside s (IsMarkedBirth s c.cycle.marking) (Count n) s' × StandsFor (record { roots = c.roots; store = record t' { words = words }; cycle = y; links = row' }) s'
+    ends = (
+      without s x.bases,
+      record { bases = x.bases; takes = takes_out t' n y.marking.marks x; outside = λ base is. (forgotten t' n y.marking.marks x base is).2; all = goes t' n y.marking.marks x },
+      stands_without,
+    )
+
+    -- where nothing was marked, exactly what is not reached goes
+    none_marked : (b : ℕ) → IsFresh (length c.store.states) c.cycle.marking → IsMarkedBirth s c.cycle.marking b → ⊥
+    none_marked b fresh m = false≢true (sym (fresh.marks.clear (granule m.base)) ∙ m.marked)
+
+    pub collects : IsFresh (length c.store.states) c.cycle.marking → (s' : Heap) × CollectsFully s (Count n) s' × StandsFor (record { roots = c.roots; store = record t' { words = words }; cycle = y; links = row' }) s'
+    collects fresh = (
+      without s x.bases,
+      record {
+        bases = x.bases;
+        takes = takes_out t' n y.marking.marks x;
+        all = λ base o has n'. goes t' n y.marking.marks x base o has (λ inside. n' (closure_mono s (IsMarkedBirth s c.cycle.marking) (λ _. ⊥) (λ b m. none_marked b fresh m) inside));
+      },
+      stands_without,
+    )

@@ -1,5 +1,5 @@
 -- The calls of the collector, over the core as a whole.
-use Rattle.std.proofs.Common.{◌≡◌, ℕ, ◌+◌, ◌≤◌, ◌%◌, true, false, List, [], length, Contains, refl, sym, ap, ◌∙◌, arith}
+use Rattle.std.proofs.Common.{◌≡◌, ℕ, ◌+◌, ◌≤◌, ◌%◌, true, false, List, [], length, Contains, refl, sym, ap, ◌∙◌, subst, arith}
 use Rattle.std.specs.Prelude.{count_by}
 use Rattle.block_map.specs.FoundIn.{found_in}
 use Rattle.block_map.specs.Objects.{IsMap}
@@ -10,10 +10,14 @@ use Rattle.marker.specs.Marking.{Marking, IsFresh, IsDone}
 use Rattle.marker.specs.Growth.{Traces}
 use Rattle.roots.specs.Roots.{root_words_of}
 use Rattle.object_space.specs.Store.{Store, IsSwept}
+use Rattle.links.specs.declared.row.Link.{Link}
+use Rattle.std.specs.Prelude.{filter}
+use Rattle.object_space.specs.Along.{TakesAlong, stays}
+use Rattle.heap_core.proofs.Along.{beside_is}
 use Rattle.heap_core.specs.Contents.{Contents, Cycle}
 use Rattle.heap_core.specs.Standing.{StandsFor}
 use Rattle.object_space.specs.Sweeps.{ForgetsUnreached, Sweeps, SweepsAny, KeepsCells}
-use Rattle.object_space.specs.Kept.{restrict, is_kept, IsPendingAfter}
+use Rattle.object_space.specs.Kept.{restrict, is_kept, kept_in, IsPendingAfter}
 use Rattle.object_space.proofs.Kept.{kept_same, nothing_pending}
 use Rattle.object_space.proofs.Allocations.{shows_same}
 use Rattle.heap_core.proofs.Calls.{swept_stands}
@@ -28,6 +32,7 @@ pub stands_still : (c : Contents) (y : Cycle) → IsSwept c.store → (s : Heap)
 stands_still c y swept s h = record {
   mutators = h.mutators;
   globals = h.globals;
+  links = h.links;
   store = record {
     pages = h.store.pages;
     shows = shows_same (restrict (is_kept c.store.pending c.cycle.marking.marks) (found_in c.store.states)) (restrict (is_kept c.store.pending y.marking.marks) (found_in c.store.states)) c.store.words s.objects s.births
@@ -37,7 +42,7 @@ stands_still c y swept s h = record {
 }
 
 pub begins : (c : Contents) (t : Store) (m : Marking) → Sweeps c.store c.cycle.marking.marks t → IsSwept t → IsFresh (length c.store.states) m
-    → BeginsCycle c (record { roots = c.roots; store = t; cycle = record { marking = m; is_marking = true; count = c.cycle.count } })
+    → BeginsCycle c (record { roots = c.roots; store = t; cycle = record { marking = m; is_marking = true; count = c.cycle.count }; links = c.links })
 begins c t m sweeps swept fresh = record {
   stands = λ s h. stands_still (record c { store = t }) _ swept s (swept_stands c.roots c.store t c.cycle sweeps s h);
   roots = refl;
@@ -49,7 +54,7 @@ begins c t m sweeps swept fresh = record {
 
 pub sweeps_one : (c : Contents) (t : Store) (n : ℕ) → Sweeps c.store c.cycle.marking.marks t → n ≤ 1
     → (n ≡ 1 → SweepsAny c.store c.cycle.marking.marks t) → count_by (λ b. b) t.pending + n ≡ count_by (λ b. b) c.store.pending → (n ≡ 0 → IsSwept c.store × (t ≡ c.store))
-    → SweepsOne c n (record { roots = c.roots; store = t; cycle = c.cycle })
+    → SweepsOne c n (record { roots = c.roots; store = t; cycle = c.cycle; links = c.links })
 sweeps_one c t n sweeps few page fewer none = record {
   stands = λ s h. swept_stands c.roots c.store t c.cycle sweeps s h;
   roots = refl;
@@ -83,21 +88,29 @@ closes_marks c m map swept traces done closed = record {
   all = λ s h. all_marked c map swept s h m closed;
 }
 
-pub ends_cycle : (c : Contents) (t' : Store) (m : Marking) (count n : ℕ) → IsMap (length c.store.states) (found_in c.store.states) → IsSwept c.store → ForgetsUnreached c.store (root_words_of c.roots) c.cycle.marking n m.marks t' → KeepsCells c.store t' → IsPendingAfter t'.states m.marks t'.pending → IsDone m
-    → count ≡ (c.cycle.count + 1) % word_end → EndsCycle c n (record { roots = c.roots; store = t'; cycle = record { marking = m; is_marking = false; count = count } })
-ends_cycle c t' m count n map swept x cells pending done counts = record {
-  ends = record { roots = refl; phase = refl; count = counts; done = done; marked = x.marked };
-  forgets = λ s h. ends c map swept s h t' _ n x;
-  cells = cells;
-  pending = pending;
-}
+pub ends_cycle : (c : Contents) (t1 t' : Store) (m : Marking) (count n : ℕ) (ls' : List Link) → IsMap (length c.store.states) (found_in c.store.states) → IsSwept c.store → ForgetsUnreached c.store (root_words_of c.roots) c.cycle.marking n m.marks t1 → KeepsCells c.store t1 → IsPendingAfter t1.states m.marks t1.pending → IsDone m
+    → count ≡ (c.cycle.count + 1) % word_end → IsMap (length t1.states) (found_in t1.states) → TakesAlong (kept_in t1.states t1.pending m.marks) c.links t1 t' → ls' ≡ filter (stays (kept_in t1.states t1.pending m.marks)) c.links
+    → EndsCycle c n (record { roots = c.roots; store = t'; cycle = record { marking = m; is_marking = false; count = count }; links = ls' })
+ends_cycle c t1 t' m count n ls' map swept x cells pending done counts map' along same =
+    subst (λ z. EndsCycle c n (record { roots = c.roots; store = z; cycle = record { marking = m; is_marking = false; count = count }; links = ls' })) (sym (beside_is t1 t' along.beside))
+    (subst (λ row. EndsCycle c n (record { roots = c.roots; store = record t1 { words = t'.words }; cycle = record { marking = m; is_marking = false; count = count }; links = row })) (sym same)
+    (record {
+      ends = record { roots = refl; phase = refl; count = counts; done = done; marked = x.marked };
+      forgets = λ s h. ends c map swept s h t1 t'.words _ n x map' along.words;
+      cells = record { less = cells.less; small = cells.small };
+      pending = pending;
+    }))
 
 -- a collection sweeps, and drops the marks, first
-pub collects_all : (c : Contents) (t : Store) (dropped : Marking) (t' : Store) (m : Marking) (count n : ℕ) → IsMap (length t.states) (found_in t.states) → Sweeps c.store c.cycle.marking.marks t → IsSwept t → IsFresh (length t.states) dropped
-    → ForgetsUnreached t (root_words_of c.roots) dropped n m.marks t' → IsSwept t' → IsDone m → count ≡ (c.cycle.count + 1) % word_end
-    → CollectsAll c n (record { roots = c.roots; store = t'; cycle = record { marking = m; is_marking = false; count = count } })
-collects_all c t dropped t' m count n map sweeps swept fresh x swept' done counts = record {
-  ends = record { roots = refl; phase = refl; count = counts; done = done; marked = x.marked };
-  swept = swept';
-  collects = λ s h. collects (record { roots = c.roots; store = t; cycle = record c.cycle { marking = dropped } }) map swept s (stands_still (record c { store = t }) _ swept s (swept_stands c.roots c.store t c.cycle sweeps s h)) t' _ n fresh x;
-}
+pub collects_all : (c : Contents) (t : Store) (dropped : Marking) (t1 t' : Store) (m : Marking) (count n : ℕ) (ls' : List Link) → IsMap (length t.states) (found_in t.states) → Sweeps c.store c.cycle.marking.marks t → IsSwept t → IsFresh (length t.states) dropped
+    → ForgetsUnreached t (root_words_of c.roots) dropped n m.marks t1 → IsSwept t1 → IsDone m → count ≡ (c.cycle.count + 1) % word_end
+    → IsMap (length t1.states) (found_in t1.states) → TakesAlong (kept_in t1.states t1.pending m.marks) c.links t1 t' → ls' ≡ filter (stays (kept_in t1.states t1.pending m.marks)) c.links
+    → CollectsAll c n (record { roots = c.roots; store = t'; cycle = record { marking = m; is_marking = false; count = count }; links = ls' })
+collects_all c t dropped t1 t' m count n ls' map sweeps swept fresh x swept' done counts map' along same =
+    subst (λ z. CollectsAll c n (record { roots = c.roots; store = z; cycle = record { marking = m; is_marking = false; count = count }; links = ls' })) (sym (beside_is t1 t' along.beside))
+    (subst (λ row. CollectsAll c n (record { roots = c.roots; store = record t1 { words = t'.words }; cycle = record { marking = m; is_marking = false; count = count }; links = row })) (sym same)
+    (record {
+      ends = record { roots = refl; phase = refl; count = counts; done = done; marked = x.marked };
+      swept = swept';
+      collects = λ s h. collects (record { roots = c.roots; store = t; cycle = record c.cycle { marking = dropped }; links = c.links }) map swept s (stands_still (record c { store = t }) _ swept s (swept_stands c.roots c.store t c.cycle sweeps s h)) t1 t'.words _ n x map' along.words fresh;
+    }))

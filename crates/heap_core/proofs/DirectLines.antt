@@ -21,6 +21,7 @@ use Rattle.block_map.specs.FoundIn.{IsLawful}
 use Rattle.marker.specs.Marking.{with_dirty}
 use Rattle.marker.proofs.Mutating.{store_traced}
 use Rattle.marker.proofs.Spreads.{has_set, has_set_back}
+use Rattle.links.specs.declared.row.Link.{Link}
 use Rattle.roots.specs.Roots.{RootSet, HasMutator, IsNextSlot, SetsWord, with_word}
 use Rattle.roots.proofs.Steps.{sets}
 use Rattle.object_space.specs.Store.{Store}
@@ -45,8 +46,8 @@ slot_has roots slot m n at =
     slice_get-get_or (set roots.mutators slot (Some n)) slot (Some n) (rw (length-set roots.mutators slot (Some n)) lt) ∙ ap Some (get_or-set_same roots.mutators slot (Some n) (Some n) lt)
 
 -- a mutator puts a word into a register of its own
-set_call : (roots : RootSet) (t : Store) (y : Cycle) (slot r w : ℕ) (m : HeapMutator) → HasMutator roots slot m → IsCall (core_of roots t y) (Mutator slot (Set r w)) Done (core_of (with_slot roots slot (with_word m r w)) t y)
-set_call roots t y slot r w m at =
+set_call : (roots : RootSet) (t : Store) (y : Cycle) (ls : List Link) (slot r w : ℕ) (m : HeapMutator) → HasMutator roots slot m → IsCall (core_of roots t y ls) (Mutator slot (Set r w)) Done (core_of (with_slot roots slot (with_word m r w)) t y ls)
+set_call roots t y ls slot r w m at =
     let is : SetsWord roots slot r w (with_slot roots slot (with_word m r w)) = (refl, record { before = m; after = with_word m r w; at = at; change = refl; only = refl }) in
     steps_roots roots (with_slot roots slot (with_word m r w)) t y (Mutator slot (Set r w)) Done (λ h. h) (sets roots (with_slot roots slot (with_word m r w)) slot r w m (Set r w) Done at is (λ s. Acts.set))
 
@@ -89,22 +90,22 @@ noted_count false y p = refl
 noted_count true y p = refl
 
 -- the dirty pages are nothing to a run
-follows_dirty : (roots : RootSet) (t : Store) (y : Cycle) (dirty : List Bool) (start : Start) (run : Run) → Follows (core_of roots t (record y { marking = with_dirty y.marking dirty })) start run → Follows (core_of roots t y) start run
-follows_dirty roots t y dirty start run f = record {
-  stands = record { mutators = f.stands.mutators; globals = f.stands.globals; store = record { pages = f.stands.store.pages; shows = f.stands.store.shows } };
+follows_dirty : (roots : RootSet) (t : Store) (y : Cycle) (ls : List Link) (dirty : List Bool) (start : Start) (run : Run) → Follows (core_of roots t (record y { marking = with_dirty y.marking dirty }) ls) start run → Follows (core_of roots t y ls) start run
+follows_dirty roots t y ls dirty start run f = record {
+  stands = record { mutators = f.stands.mutators; globals = f.stands.globals; store = record { pages = f.stands.store.pages; shows = f.stands.store.shows }; links = f.stands.links };
   phase = f.phase;
   count = f.count;
   small = f.small;
   touched = f.touched;
 }
 
-follows_noted : (b : Bool) (roots : RootSet) (t : Store) (y : Cycle) (p : ℕ) (start : Start) (run : Run) → Follows (core_of roots t (noted b y p)) start run → Follows (core_of roots t y) start run
-follows_noted false roots t y p start run f = f
-follows_noted true roots t y p start run f = follows_dirty roots t y (set y.marking.dirty p true) start run f
+follows_noted : (b : Bool) (roots : RootSet) (t : Store) (y : Cycle) (ls : List Link) (p : ℕ) (start : Start) (run : Run) → Follows (core_of roots t (noted b y p) ls) start run → Follows (core_of roots t y ls) start run
+follows_noted false roots t y ls p start run f = f
+follows_noted true roots t y ls p start run f = follows_dirty roots t y ls (set y.marking.dirty p true) start run f
 
 other_dirty : (old : Contents) (words : List ℕ) (dirty : List Bool) (start : Start) (run : Run) → Follows (with_memory old words old.cycle.marking.dirty) start run → Follows (with_memory old words dirty) start run
 other_dirty old words dirty start run f = record {
-  stands = record { mutators = f.stands.mutators; globals = f.stands.globals; store = record { pages = f.stands.store.pages; shows = f.stands.store.shows } };
+  stands = record { mutators = f.stands.mutators; globals = f.stands.globals; store = record { pages = f.stands.store.pages; shows = f.stands.store.shows }; links = f.stands.links };
   phase = f.phase;
   count = f.count;
   small = f.small;
@@ -123,8 +124,8 @@ told event = record { event = event; reply = Done }
 
 -- One word of a kept object is written: a mutator puts its address and the word into registers, stores it, and puts back what
 -- stood in them.
-module _ (roots : RootSet) (t : Store) (y : Cycle) (slot a v : ℕ) (m : HeapMutator) (f : Found) (lawful : IsLawful t.states) (long : length t.words ≡ PAGE_WORDS * length t.states)
-    (at : HasMutator roots slot m) (registers : length m.registers ≡ REGISTERS) (aligned : a % 8 ≡ 0) (small : a < word_end) (inside : page_of a < length y.marking.dirty) (is : objects_of (core_of roots t y) a ≡ Some f) where
+module _ (roots : RootSet) (t : Store) (y : Cycle) (ls : List Link) (slot a v : ℕ) (m : HeapMutator) (f : Found) (lawful : IsLawful t.states) (long : length t.words ≡ PAGE_WORDS * length t.states)
+    (at : HasMutator roots slot m) (registers : length m.registers ≡ REGISTERS) (aligned : a % 8 ≡ 0) (small : a < word_end) (inside : page_of a < length y.marking.dirty) (is : objects_of (core_of roots t y ls) a ≡ Some f) where
   abbrev m1 : HeapMutator
   m1 = with_word m 0 a
 
@@ -163,10 +164,10 @@ module _ (roots : RootSet) (t : Store) (y : Cycle) (slot a v : ℕ) (m : HeapMut
   has_word : register m2 1 ≡ v
   has_word = get_or-set_same (set m.registers 0 a) 1 v 0 (let l = length-set m.registers 0 a in omega arith)
 
-  stored : IsCall (core_of r2 t y) (Mutator slot (StoreCall 0 0 1)) Done (core_of r2 t' y')
+  stored : IsCall (core_of r2 t y ls) (Mutator slot (StoreCall 0 0 1)) Done (core_of r2 t' y' ls)
   stored = stores r2 t t' y y' slot 0 0 1 m2 f lawful long (slot_has r1 slot m1 m2 (slot_has roots slot m m1 at))
       (subst (λ x. x % 8 ≡ 0) (sym at_address) aligned)
-      (subst (λ x. objects_of (core_of roots t y) x ≡ Some f) (sym at_address) is)
+      (subst (λ x. objects_of (core_of roots t y ls) x ≡ Some f) (sym at_address) is)
       (ap (λ x. record t { words = with_word_at t.words x v }) (sym at_address) ∙ ap (λ w. record t { words = with_word_at t.words (address m2 0 0) w }) (sym has_word))
       (subst (λ x. NotesWrite y.is_marking x y.marking y'.marking) (sym at_address) (notes y.is_marking y a refl inside))
       (noted_marking y.is_marking y (page_of a)) (noted_count y.is_marking y (page_of a))
@@ -180,26 +181,26 @@ module _ (roots : RootSet) (t : Store) (y : Cycle) (slot a v : ℕ) (m : HeapMut
       ap (λ o. set roots.mutators slot o) (sym (get_or_from_slice_get roots.mutators slot (Some m) (Some m) at)) ∙ set-get_or roots.mutators slot (Some m) in
       ap (λ ms. record roots { mutators = ms }) (one ∙ ap (λ n. set roots.mutators slot (Some n)) same ∙ there)
 
-  pub one_word : (old : Contents) (lines : List Told) → All IsWord m.registers → IsWord v → All (IsWriteLine slot) lines → AreLines old lines (core_of roots t y)
-      → (more : List Told) × All (IsWriteLine slot) more × AreLines old more (core_of roots t' y)
+  pub one_word : (old : Contents) (lines : List Told) → All IsWord m.registers → IsWord v → All (IsWriteLine slot) lines → AreLines old lines (core_of roots t y ls)
+      → (more : List Told) × All (IsWriteLine slot) more × AreLines old more (core_of roots t' y ls)
   one_word old lines words word fine so =
       let h1 = slot_has roots slot m m1 at in let h2 = slot_has r1 slot m1 m2 h1 in let h3 = slot_has r2 slot m2 m3 h2 in
-      let s1 = lines_more old (core_of roots t y) (core_of r1 t y) lines (Mutator slot (Set 0 a)) Done so (call_line _ _ _ _ (set_call roots t y slot 0 a m at)) in
+      let s1 = lines_more old (core_of roots t y ls) (core_of r1 t y ls) lines (Mutator slot (Set 0 a)) Done so (call_line _ _ _ _ (set_call roots t y ls slot 0 a m at)) in
       let l1 = lines ++ told (Mutator slot (Set 0 a)) ∷ [] in
-      let s2 = lines_more old (core_of r1 t y) (core_of r2 t y) l1 (Mutator slot (Set 1 v)) Done s1 (call_line _ _ _ _ (set_call r1 t y slot 1 v m1 h1)) in
+      let s2 = lines_more old (core_of r1 t y ls) (core_of r2 t y ls) l1 (Mutator slot (Set 1 v)) Done s1 (call_line _ _ _ _ (set_call r1 t y ls slot 1 v m1 h1)) in
       let l2 = l1 ++ told (Mutator slot (Set 1 v)) ∷ [] in
-      let s3 = lines_more old (core_of r2 t y) (core_of r2 t' y') l2 (Mutator slot (StoreCall 0 0 1)) Done s2 (call_line _ _ _ _ stored) in
+      let s3 = lines_more old (core_of r2 t y ls) (core_of r2 t' y' ls) l2 (Mutator slot (StoreCall 0 0 1)) Done s2 (call_line _ _ _ _ stored) in
       let l3 = l2 ++ told (Mutator slot (StoreCall 0 0 1)) ∷ [] in
-      let s4 = lines_more old (core_of r2 t' y') (core_of r3 t' y') l3 (Mutator slot (Set 1 (register m 1))) Done s3 (call_line _ _ _ _ (set_call r2 t' y' slot 1 (register m 1) m2 h2)) in
+      let s4 = lines_more old (core_of r2 t' y' ls) (core_of r3 t' y' ls) l3 (Mutator slot (Set 1 (register m 1))) Done s3 (call_line _ _ _ _ (set_call r2 t' y' ls slot 1 (register m 1) m2 h2)) in
       let l4 = l3 ++ told (Mutator slot (Set 1 (register m 1))) ∷ [] in
-      let s5 = lines_more old (core_of r3 t' y') (core_of r4 t' y') l4 (Mutator slot (Set 0 (register m 0))) Done s4 (call_line _ _ _ _ (set_call r3 t' y' slot 0 (register m 0) m3 h3)) in
+      let s5 = lines_more old (core_of r3 t' y' ls) (core_of r4 t' y' ls) l4 (Mutator slot (Set 0 (register m 0))) Done s4 (call_line _ _ _ _ (set_call r3 t' y' ls slot 0 (register m 0) m3 h3)) in
       let l5 = l4 ++ told (Mutator slot (Set 0 (register m 0))) ∷ [] in
       let fine1 = All-push (IsWriteLine slot) lines (told (Mutator slot (Set 0 a))) fine (IsWriteLine.set (omega arith) small) in
       let fine2 = All-push (IsWriteLine slot) l1 (told (Mutator slot (Set 1 v))) fine1 (IsWriteLine.set (omega arith) word) in
       let fine3 = All-push (IsWriteLine slot) l2 (told (Mutator slot (StoreCall 0 0 1))) fine2 (IsWriteLine.store (omega arith) (omega arith) (omega arith)) in
       let fine4 = All-push (IsWriteLine slot) l3 (told (Mutator slot (Set 1 (register m 1)))) fine3 (IsWriteLine.set (omega arith) (words 1 0 (omega (arith, registers)))) in
       let fine5 = All-push (IsWriteLine slot) l4 (told (Mutator slot (Set 0 (register m 0)))) fine4 (IsWriteLine.set (omega arith) (words 0 0 (omega (arith, registers)))) in
-      (l5, fine5, λ start run follows. let w = s5 start run follows in (w.0, w.1, follows_noted y.is_marking roots t' y (page_of a) start w.0 (subst (λ (rs : RootSet). Follows (core_of rs t' y') start w.0) back w.2)))
+      (l5, fine5, λ start run follows. let w = s5 start run follows in (w.0, w.1, follows_noted y.is_marking roots t' y ls (page_of a) start w.0 (subst (λ (rs : RootSet). Follows (core_of rs t' y' ls) start w.0) back w.2)))
 
 -- lines of the mutator lead to what the core with these words follows
 abbrev LinesTo : Contents → ℕ → List ℕ → Type 0
@@ -213,22 +214,22 @@ writes_line old new slot m whole at row writes =
     on : (ws : List ℕ) (a : ℕ) (f : Found) → length ws ≡ length old.store.words → IsWordAddress old.store.words a → objects_of old a ≡ Some f → IsWord (word_at new.store.words a) → LinesTo old slot ws → LinesTo old slot (with_word_at ws a (word_at new.store.words a))
     on ws a f len there is word p =
         let size = whole.space.whole.listed.size in let few = whole.core.laid.few in let pages = whole.core.traced.pages in let above = there.above in let below = there.below in
-        one_word old.roots (record old.store { words = ws }) (record old.cycle { marking = with_dirty old.cycle.marking old.cycle.marking.dirty }) slot a (word_at new.store.words a) m f whole.core.lawful (len ∙ size)
+        one_word old.roots (record old.store { words = ws }) (record old.cycle { marking = with_dirty old.cycle.marking old.cycle.marking.dirty }) old.links slot a (word_at new.store.words a) m f whole.core.lawful (len ∙ size)
         at row.size there.aligned (omega arith) (omega arith) is old p.0 row.words word p.1 p.2
 
 -- the roots with no mutator at the slot
 abbrev without_slot : RootSet → ℕ → RootSet
 without_slot roots slot = record { mutators = set roots.mutators slot None; globals = roots.globals }
 
-comes_call : (roots : RootSet) (t : Store) (y : Cycle) (slot : ℕ) → IsNextSlot roots slot → IsCall (core_of roots t y) Attach (Slot slot) (core_of (with_slot roots slot newcomer) t y)
-comes_call roots t y slot next = steps_roots roots (with_slot roots slot newcomer) t y Attach (Slot slot) (λ h. h) (λ s. Attaches.attached (next.is_vacant, next.lowest))
+comes_call : (roots : RootSet) (t : Store) (y : Cycle) (ls : List Link) (slot : ℕ) → IsNextSlot roots slot → IsCall (core_of roots t y ls) Attach (Slot slot) (core_of (with_slot roots slot newcomer) t y ls)
+comes_call roots t y ls slot next = steps_roots roots (with_slot roots slot newcomer) t y Attach (Slot slot) (λ h. h) (λ s. Attaches.attached (next.is_vacant, next.lowest))
 
-goes_call : (roots : RootSet) (t : Store) (y : Cycle) (slot : ℕ) (m : HeapMutator) → HasMutator roots slot m → IsCall (core_of roots t y) (Mutator slot Detach) Done (core_of (without_slot roots slot) t y)
-goes_call roots t y slot m at = steps_roots roots (without_slot roots slot) t y (Mutator slot Detach) Done (λ h. h) (λ s. Calls.acts at Acts.detached)
+goes_call : (roots : RootSet) (t : Store) (y : Cycle) (ls : List Link) (slot : ℕ) (m : HeapMutator) → HasMutator roots slot m → IsCall (core_of roots t y ls) (Mutator slot Detach) Done (core_of (without_slot roots slot) t y ls)
+goes_call roots t y ls slot m at = steps_roots roots (without_slot roots slot) t y (Mutator slot Detach) Done (λ h. h) (λ s. Calls.acts at Acts.detached)
 
 -- One word of a kept object is written by a mutator that comes and goes.
-module _ (roots : RootSet) (t : Store) (y : Cycle) (slot a v : ℕ) (f : Found) (lawful : IsLawful t.states) (long : length t.words ≡ PAGE_WORDS * length t.states)
-    (next : IsNextSlot roots slot) (aligned : a % 8 ≡ 0) (small : a < word_end) (inside : page_of a < length y.marking.dirty) (is : objects_of (core_of roots t y) a ≡ Some f) where
+module _ (roots : RootSet) (t : Store) (y : Cycle) (ls : List Link) (slot a v : ℕ) (f : Found) (lawful : IsLawful t.states) (long : length t.words ≡ PAGE_WORDS * length t.states)
+    (next : IsNextSlot roots slot) (aligned : a % 8 ≡ 0) (small : a < word_end) (inside : page_of a < length y.marking.dirty) (is : objects_of (core_of roots t y ls) a ≡ Some f) where
   abbrev n1 : HeapMutator
   n1 = with_word newcomer 0 a
 
@@ -263,26 +264,26 @@ module _ (roots : RootSet) (t : Store) (y : Cycle) (slot a v : ℕ) (f : Found) 
       ap (λ o. set roots.mutators slot o) (sym (get_or_from_slice_get roots.mutators slot None None next.is_vacant)) ∙ set-get_or roots.mutators slot None in
       ap (λ ms. record roots { mutators = ms }) (one ∙ there)
 
-  pub one_visit : (old : Contents) (lines : List Told) → IsWord v → All (IsVisitLine slot) lines → AreLines old lines (core_of roots t y)
-      → (more : List Told) × All (IsVisitLine slot) more × AreLines old more (core_of roots u' y)
+  pub one_visit : (old : Contents) (lines : List Told) → IsWord v → All (IsVisitLine slot) lines → AreLines old lines (core_of roots t y ls)
+      → (more : List Told) × All (IsVisitLine slot) more × AreLines old more (core_of roots u' y ls)
   one_visit old lines word fine so =
       let h1 = slot_has c0 slot newcomer n1 came in let h2 = slot_has c1 slot n1 n2 h1 in
-      let s0 = lines_more old (core_of roots t y) (core_of c0 t y) lines Attach (Slot slot) so (call_line _ _ _ _ (comes_call roots t y slot next)) in
+      let s0 = lines_more old (core_of roots t y ls) (core_of c0 t y ls) lines Attach (Slot slot) so (call_line _ _ _ _ (comes_call roots t y ls slot next)) in
       let l0 = lines ++ record { event = Attach; reply = Slot slot } ∷ [] in
-      let s1 = lines_more old (core_of c0 t y) (core_of c1 t y) l0 (Mutator slot (Set 0 a)) Done s0 (call_line _ _ _ _ (set_call c0 t y slot 0 a newcomer came)) in
+      let s1 = lines_more old (core_of c0 t y ls) (core_of c1 t y ls) l0 (Mutator slot (Set 0 a)) Done s0 (call_line _ _ _ _ (set_call c0 t y ls slot 0 a newcomer came)) in
       let l1 = l0 ++ told (Mutator slot (Set 0 a)) ∷ [] in
-      let s2 = lines_more old (core_of c1 t y) (core_of c2 t y) l1 (Mutator slot (Set 1 v)) Done s1 (call_line _ _ _ _ (set_call c1 t y slot 1 v n1 h1)) in
+      let s2 = lines_more old (core_of c1 t y ls) (core_of c2 t y ls) l1 (Mutator slot (Set 1 v)) Done s1 (call_line _ _ _ _ (set_call c1 t y ls slot 1 v n1 h1)) in
       let l2 = l1 ++ told (Mutator slot (Set 1 v)) ∷ [] in
-      let s3 = lines_more old (core_of c2 t y) (core_of c2 u' z') l2 (Mutator slot (StoreCall 0 0 1)) Done s2 (call_line _ _ _ _ (stored c0 t y slot a v newcomer f lawful long came (length-replicate {A = ℕ} REGISTERS 0) aligned small inside is)) in
+      let s3 = lines_more old (core_of c2 t y ls) (core_of c2 u' z' ls) l2 (Mutator slot (StoreCall 0 0 1)) Done s2 (call_line _ _ _ _ (stored c0 t y ls slot a v newcomer f lawful long came (length-replicate {A = ℕ} REGISTERS 0) aligned small inside is)) in
       let l3 = l2 ++ told (Mutator slot (StoreCall 0 0 1)) ∷ [] in
-      let s4 = lines_more old (core_of c2 u' z') (core_of (without_slot c2 slot) u' z') l3 (Mutator slot Detach) Done s3 (call_line _ _ _ _ (goes_call c2 u' z' slot n2 h2)) in
+      let s4 = lines_more old (core_of c2 u' z' ls) (core_of (without_slot c2 slot) u' z' ls) l3 (Mutator slot Detach) Done s3 (call_line _ _ _ _ (goes_call c2 u' z' ls slot n2 h2)) in
       let l4 = l3 ++ told (Mutator slot Detach) ∷ [] in
       let fine0 = All-push (IsVisitLine slot) lines (record { event = Attach; reply = Slot slot }) fine IsVisitLine.comes in
       let fine1 = All-push (IsVisitLine slot) l0 (told (Mutator slot (Set 0 a))) fine0 (IsVisitLine.writes (IsWriteLine.set (omega arith) small)) in
       let fine2 = All-push (IsVisitLine slot) l1 (told (Mutator slot (Set 1 v))) fine1 (IsVisitLine.writes (IsWriteLine.set (omega arith) word)) in
       let fine3 = All-push (IsVisitLine slot) l2 (told (Mutator slot (StoreCall 0 0 1))) fine2 (IsVisitLine.writes (IsWriteLine.store (omega arith) (omega arith) (omega arith))) in
       let fine4 = All-push (IsVisitLine slot) l3 (told (Mutator slot Detach)) fine3 IsVisitLine.goes in
-      (l4, fine4, λ start run follows. let w = s4 start run follows in (w.0, w.1, follows_noted y.is_marking roots u' y (page_of a) start w.0 (subst (λ (rs : RootSet). Follows (core_of rs u' z') start w.0) gone w.2)))
+      (l4, fine4, λ start run follows. let w = s4 start run follows in (w.0, w.1, follows_noted y.is_marking roots u' y ls (page_of a) start w.0 (subst (λ (rs : RootSet). Follows (core_of rs u' z' ls) start w.0) gone w.2)))
 
 -- lines of visits lead to what the core with these words follows
 abbrev VisitsTo : Contents → ℕ → List ℕ → Type 0
@@ -296,5 +297,5 @@ writes_visit old new slot whole next writes =
     on : (ws : List ℕ) (a : ℕ) (f : Found) → length ws ≡ length old.store.words → IsWordAddress old.store.words a → objects_of old a ≡ Some f → IsWord (word_at new.store.words a) → VisitsTo old slot ws → VisitsTo old slot (with_word_at ws a (word_at new.store.words a))
     on ws a f len there is word p =
         let size = whole.space.whole.listed.size in let few = whole.core.laid.few in let pages = whole.core.traced.pages in let above = there.above in let below = there.below in
-        one_visit old.roots (record old.store { words = ws }) (record old.cycle { marking = with_dirty old.cycle.marking old.cycle.marking.dirty }) slot a (word_at new.store.words a) f whole.core.lawful (len ∙ size)
+        one_visit old.roots (record old.store { words = ws }) (record old.cycle { marking = with_dirty old.cycle.marking old.cycle.marking.dirty }) old.links slot a (word_at new.store.words a) f whole.core.lawful (len ∙ size)
         next there.aligned (omega arith) (omega arith) is old p.0 word p.1 p.2

@@ -11,6 +11,7 @@ use Rattle.heap_spec.specs.Steps.{with_object}
 use Rattle.pages.specs.Memory.{IsWordAddress, place, word_at, with_word_at}
 use Rattle.block_map.specs.declared.found.Found.{Found}
 use Rattle.block_map.specs.FoundIn.{found_in, IsLawful}
+use Rattle.links.proofs.Named.{named_kept}
 use Rattle.object_space.proofs.Changes.{shows_stored}
 use Rattle.object_space.proofs.Kept.{kept_map}
 use Rattle.object_space.proofs.Tables.{with_at-same, with_at-other, with_at-cases}
@@ -19,6 +20,7 @@ use Rattle.heap_view.proofs.Shows.{is_word, seen, word_index, word_shown}
 use Rattle.heap_core.specs.Contents.{Contents}
 use Rattle.heap_core.specs.Standing.{StandsFor, keeps, objects_of}
 use Rattle.heap_core.specs.DirectWrites.{with_memory, IsLeftOrWritten, StoresWord, StoresWords, HasOtherWords, HasWordsOf, WritesAreStores}
+use Rattle.heap_core.proofs.Along.{stored_same}
 use Rattle.heap_core.proofs.Lookups.{finds}
 
 -- the address of the word k of the memory
@@ -95,15 +97,16 @@ stores_one c dirty ws a v f lawful long aligned is word s h =
           pages = h.store.pages;
           shows = shows_stored (restrict (keeps c) (found_in c.store.states)) (length c.store.states) map ws s.objects s.births h.store.shows a v f found.0 is found.1.0 found.2 aligned inside;
         };
+        links = named_kept s.objects after.objects (stored_same s f.base found.0 ((a - f.base) / 8) v found.1.0) h.links;
       },
     )
 
 -- the dirty pages are nothing to the heap
 pub stands_dirty : (c : Contents) (words : List ℕ) (a b : List Bool) (s : Heap) → StandsFor (with_memory c words a) s → StandsFor (with_memory c words b) s
-stands_dirty c words a b s h = record { mutators = h.mutators; globals = h.globals; store = record { pages = h.store.pages; shows = h.store.shows } }
+stands_dirty c words a b s h = record { mutators = h.mutators; globals = h.globals; store = record { pages = h.store.pages; shows = h.store.shows }; links = h.links }
 
 pub stands_same : (c : Contents) (s : Heap) → StandsFor c s → StandsFor (with_memory c c.store.words c.cycle.marking.dirty) s
-stands_same c s h = record { mutators = h.mutators; globals = h.globals; store = record { pages = h.store.pages; shows = h.store.shows } }
+stands_same c s h = record { mutators = h.mutators; globals = h.globals; store = record { pages = h.store.pages; shows = h.store.shows }; links = h.links }
 
 -- An object is the same as itself, and where it was the same as another, that one's.
 same_object : (o : Object) → IsSameObject o o
@@ -113,7 +116,7 @@ same_more : (o p q : Object) → IsSameObject o p → IsSameObject p q → IsSam
 same_more o p q a b = record { birth = b.birth ∙ a.birth; kind = b.kind ∙ a.kind; size = b.size ∙ a.size }
 
 other_same : (s : Heap) → HasOtherWords s s
-other_same s = record { pages = refl; mutators = refl; globals = refl; births = refl; stays = λ b o has. (o, has, same_object o); only = λ b o has. (o, has, same_object o) }
+other_same s = record { pages = refl; mutators = refl; globals = refl; births = refl; links = refl; stays = λ b o has. (o, has, same_object o); only = λ b o has. (o, has, same_object o) }
 
 -- the object with another word
 abbrev written : Object → ℕ → ℕ → Object
@@ -128,6 +131,7 @@ other_one s s' (StoresWord.stored {base = base} {i = i} {w = w} {o = o} has lt w
   mutators = refl;
   globals = refl;
   births = refl;
+  links = refl;
   stays = λ b p there. ⊎_elim
       (λ e. let one : p ≡ o = same_Some p o (sym there ∙ ap s.objects e ∙ has) in (written o i w, with_at-same s.objects base (Some (written o i w)) b e, subst (λ (x : Object). IsSameObject x (written o i w)) (sym one) (same_written o i w)))
       (λ ne. (p, with_at-other s.objects base (Some (written o i w)) b ne ∙ there, same_object p))
@@ -144,6 +148,7 @@ other_more s m t a b = record {
   mutators = b.mutators ∙ a.mutators;
   globals = b.globals ∙ a.globals;
   births = b.births ∙ a.births;
+  links = b.links ∙ a.links;
   stays = λ base o has. let p = a.stays base o has in let q = b.stays base p.0 p.1 in (q.0, q.1, same_more o p.0 q.0 p.2 q.2);
   only = λ base q has. let p = b.only base q has in let o = a.only base p.0 p.1 in (o.0, o.1, same_more o.0 p.0 q o.2 p.2);
 }

@@ -1,6 +1,8 @@
 pub mod Forgotten
 pub mod Roots
+pub mod Along
 pub mod Lookups
+pub mod Linking
 pub mod Calls
 pub mod Tracing
 pub mod Collecting

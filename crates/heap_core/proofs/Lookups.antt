@@ -1,5 +1,5 @@
 -- The calls that look an address up: which object of the heap it reads.
-use Rattle.std.proofs.Common.{inl, inr, ⊎_elim, ◌≡◌, ℕ, ◌-◌, ◌*◌, ◌/◌, ◌%◌, ◌<◌, length, set, Some, None, refl, sym, ◌∙◌, subst, arith, ap}
+use Rattle.std.proofs.Common.{List, inl, inr, ⊎_elim, ◌≡◌, ℕ, ◌-◌, ◌*◌, ◌/◌, ◌%◌, ◌<◌, length, set, Some, None, refl, sym, ◌∙◌, subst, arith, ap}
 use Rattle.heap_spec.specs.declared.call.Call.TheVariants.{Load, Store as StoreCall, Base, Size}
 use Rattle.heap_spec.specs.declared.event.Event.TheVariants.{Mutator}
 use Rattle.heap_spec.specs.declared.reply.Reply.TheVariants.{Done, Word, Count}
@@ -12,6 +12,7 @@ use Rattle.words.specs.Layout.{granule, page_of}
 use Rattle.pages.specs.Memory.{IsWordAddress, place, word_at, with_word_at}
 use Rattle.block_map.specs.FoundIn.{found_in, IsLawful}
 use Rattle.block_map.specs.declared.found.Found.{Found}
+use Rattle.links.specs.declared.row.Link.{Link}
 use Rattle.roots.specs.Roots.{RootSet, HasMutator, SetsWord}
 use Rattle.object_space.specs.Store.{Store}
 use Rattle.heap_core.specs.Contents.{Contents, Cycle}
@@ -26,6 +27,8 @@ use Rattle.heap_core.specs.Standing.{StandsFor, keeps, objects_of}
 use Rattle.object_space.proofs.Kept.{kept_map}
 use Rattle.heap_view.proofs.Shows.{reads_object, reads_nothing, word_read, is_word}
 use Rattle.object_space.proofs.Changes.{shows_stored}
+use Rattle.links.proofs.Named.{named_kept}
+use Rattle.heap_core.proofs.Along.{stored_same}
 use Rattle.heap_core.proofs.Forgotten.{forgotten_same}
 use Rattle.heap_core.proofs.Roots.{core_of, attached, stands_set, quiet, not_done, none_some}
 
@@ -47,28 +50,29 @@ pub finds_nothing : (keep : Found → Bool) (t : Store) (s : Heap) (w : ℕ) →
 finds_nothing keep t s w lawful stores none base o r =
     reads_nothing (restrict keep (found_in t.states)) (length t.states) (kept_map (length t.states) keep (found_in t.states) lawful.map) t.words s.objects stores.shows.shown w none base o r.0 r.1
 
-pub loads : (roots roots' : RootSet) (t : Store) (y : Cycle) (slot d a n w : ℕ) (m : HeapMutator) (f : Found) → IsLawful t.states → HasMutator roots slot m → address m a n % 8 ≡ 0 → restrict (is_kept t.pending y.marking.marks) (found_in t.states) (address m a n) ≡ Some f
-    → w ≡ word_at t.words (address m a n) → SetsWord roots slot d w roots' → IsCall (core_of roots t y) (Mutator slot (Load d a n)) (Word w) (core_of roots' t y)
-loads roots roots' t y slot d a n w m f lawful at aligned is read sets = quiet (core_of roots t y) roots' (Mutator slot (Load d a n)) (Word w) (λ h. h) (λ s h.
+pub loads : (roots roots' : RootSet) (t : Store) (y : Cycle) {ls : List Link} (slot d a n w : ℕ) (m : HeapMutator) (f : Found) → IsLawful t.states → HasMutator roots slot m → address m a n % 8 ≡ 0 → restrict (is_kept t.pending y.marking.marks) (found_in t.states) (address m a n) ≡ Some f
+    → w ≡ word_at t.words (address m a n) → SetsWord roots slot d w roots' → IsCall (core_of roots t y ls) (Mutator slot (Load d a n)) (Word w) (core_of roots' t y ls)
+loads roots roots' t y {ls = ls} slot d a n w m f lawful at aligned is read sets = quiet (core_of roots t y ls) roots' (Mutator slot (Load d a n)) (Word w) (λ h. h) (λ s h.
     let found = finds (is_kept t.pending y.marking.marks) t s (address m a n) f lawful h.store is in
     let word = word_read (restrict (is_kept t.pending y.marking.marks) (found_in t.states)) (length t.states) (kept_map (length t.states) (is_kept t.pending y.marking.marks) (found_in t.states) lawful.map) t.words s.objects h.store.shows.shown (address m a n) f found.0 is found.2 aligned ∙ sym read in (
       with_register s slot m d w,
       Calls.acts (attached roots t y s slot m h at) (subst (λ v. Acts s slot m (Load d a n) (Word v) (with_register s slot m d v)) word (Acts.loaded aligned found.1)),
-      stands_set roots roots' t t y y s (with_register s slot m d w) slot d w m h at sets refl refl (record { pages = h.store.pages; shows = h.store.shows }),
+      stands_set roots roots' t t y y s (with_register s slot m d w) slot d w m h at sets refl refl (record { pages = h.store.pages; shows = h.store.shows }) h.links,
     ))
 
-stores_step : (roots : RootSet) (t t' : Store) (y y' : Cycle) (slot a n r : ℕ) (m : HeapMutator) (f : Found) → IsLawful t.states → length t.words ≡ PAGE_WORDS * length t.states → HasMutator roots slot m → address m a n % 8 ≡ 0 → restrict (is_kept t.pending y.marking.marks) (found_in t.states) (address m a n) ≡ Some f
-    → t' ≡ record t { words = with_word_at t.words (address m a n) (register m r) } → y'.marking.marks ≡ y.marking.marks → IsStep (StandsFor (core_of roots t y)) (Mutator slot (StoreCall a n r)) Done (StandsFor (core_of roots t' y'))
-stores_step roots t t' y y' slot a n r m f lawful long at aligned is writes marks_same s h =
+stores_step : (roots : RootSet) (t t' : Store) (y y' : Cycle) {ls : List Link} (slot a n r : ℕ) (m : HeapMutator) (f : Found) → IsLawful t.states → length t.words ≡ PAGE_WORDS * length t.states → HasMutator roots slot m → address m a n % 8 ≡ 0 → restrict (is_kept t.pending y.marking.marks) (found_in t.states) (address m a n) ≡ Some f
+    → t' ≡ record t { words = with_word_at t.words (address m a n) (register m r) } → y'.marking.marks ≡ y.marking.marks → IsStep (StandsFor (core_of roots t y ls)) (Mutator slot (StoreCall a n r)) Done (StandsFor (core_of roots t' y' ls))
+stores_step roots t t' y y' {ls = ls} slot a n r m f lawful long at aligned is writes marks_same s h =
     let found = finds (is_kept t.pending y.marking.marks) t s (address m a n) f lawful h.store is in
     let here = is_word (restrict (is_kept t.pending y.marking.marks) (found_in t.states)) (length t.states) (kept_map (length t.states) (is_kept t.pending y.marking.marks) (found_in t.states) lawful.map) t.words long (address m a n) f is aligned in
     let after : Heap = with_object s f.base (Some (record found.0 { words = set found.0.words ((address m a n - f.base) / 8) (register m r) })) in (
       after,
       Calls.acts (attached roots t y s slot m h at) (Acts.stored aligned found.1),
-      subst (λ (x : Store). StandsFor (core_of roots x y') after) (sym writes)
+      subst (λ (x : Store). StandsFor (core_of roots x y' ls) after) (sym writes)
           (record {
             mutators = h.mutators;
             globals = h.globals;
+            links = named_kept s.objects after.objects (stored_same s f.base found.0 ((address m a n - f.base) / 8) (register m r) found.1.0) h.links;
             store = record {
               pages = h.store.pages;
               shows = subst (λ ms. Shows (restrict (is_kept t.pending ms) (found_in t.states)) (with_word_at t.words (address m a n) (register m r)) after.objects after.births) (sym marks_same) (shows_stored (restrict (is_kept t.pending y.marking.marks) (found_in t.states)) (length t.states) (kept_map (length t.states) (is_kept t.pending y.marking.marks) (found_in t.states) lawful.map) t.words s.objects s.births h.store.shows (address m a n) (register m r) f found.0 is found.1.0 found.2 aligned (in_row here));
@@ -79,10 +83,10 @@ stores_step roots t t' y y' slot a n r m f lawful long at aligned is writes mark
     in_row : IsWordAddress t.words (address m a n) → place (address m a n) < length t.words
     in_row here = let above = here.above in let below = here.below in let even = here.aligned in omega arith
 
-pub stores : (roots : RootSet) (t t' : Store) (y y' : Cycle) (slot a n r : ℕ) (m : HeapMutator) (f : Found) → IsLawful t.states → length t.words ≡ PAGE_WORDS * length t.states → HasMutator roots slot m → address m a n % 8 ≡ 0 → restrict (is_kept t.pending y.marking.marks) (found_in t.states) (address m a n) ≡ Some f
+pub stores : (roots : RootSet) (t t' : Store) (y y' : Cycle) {ls : List Link} (slot a n r : ℕ) (m : HeapMutator) (f : Found) → IsLawful t.states → length t.words ≡ PAGE_WORDS * length t.states → HasMutator roots slot m → address m a n % 8 ≡ 0 → restrict (is_kept t.pending y.marking.marks) (found_in t.states) (address m a n) ≡ Some f
     → t' ≡ record t { words = with_word_at t.words (address m a n) (register m r) }
-    → NotesWrite y.is_marking (address m a n) y.marking y'.marking → y'.is_marking ≡ y.is_marking → y'.count ≡ y.count → IsCall (core_of roots t y) (Mutator slot (StoreCall a n r)) Done (core_of roots t' y')
-stores roots t t' y y' slot a n r m f lawful long at aligned is writes notes phase count = record {
+    → NotesWrite y.is_marking (address m a n) y.marking y'.marking → y'.is_marking ≡ y.is_marking → y'.count ≡ y.count → IsCall (core_of roots t y ls) (Mutator slot (StoreCall a n r)) Done (core_of roots t' y' ls)
+stores roots t t' y y' {ls = ls} slot a n r m f lawful long at aligned is writes notes phase count = record {
   steps = stores_step roots t t' y y' slot a n r m f lawful long at aligned is writes notes.marks;
   phase = phase;
   count = count;
@@ -96,7 +100,7 @@ stores roots t t' y y' slot a n r m f lawful long at aligned is writes notes pha
   stack = notes.stack;
   fewer = λ p h. subst (λ (x : Store). Has x.pending p) writes h;
   swept = λ p h. inl (subst (λ (x : Store). Has x.pending p) (sym writes) h);
-  forgotten = forgotten_same (core_of roots t y) (core_of roots t' y') (ap (λ (x : Store). x.states) writes) (ap (λ (x : Store). x.pending) writes) notes.marks;
+  forgotten = forgotten_same (core_of roots t y ls) (core_of roots t' y' ls) (ap (λ (x : Store). x.states) writes) (ap (λ (x : Store). x.pending) writes) notes.marks;
   full = λ h. absurd (not_done (Mutator slot (StoreCall a n r)) h);
   roots_alone = λ not. absurd (not tt);
 }
@@ -105,23 +109,23 @@ stores roots t t' y y' slot a n r m f lawful long at aligned is writes notes pha
     mutator_one e = cc
 
     -- the slot's mutator is the one that stored
-    wrote : (p : ℕ) → MakesDirty (core_of roots t y) (Mutator slot (StoreCall a n r)) Done p → Has y'.marking.dirty p
+    wrote : (p : ℕ) → MakesDirty (core_of roots t y ls) (Mutator slot (StoreCall a n r)) Done p → Has y'.marking.dirty p
     wrote p (MakesDirty.store other on here same) = subst (Has y'.marking.dirty) (ap (λ (x : HeapMutator). page_of (address x a n)) (mutator_one (sym at ∙ here)) ∙ sym same) (notes.written on)
 
     same : (b : ℕ) → restrict (is_kept t'.pending y'.marking.marks) (found_in t'.states) b ≡ restrict (is_kept t.pending y.marking.marks) (found_in t.states) b
     same b = ap (λ (x : Store). restrict (is_kept x.pending y'.marking.marks) (found_in x.states) b) writes ∙ ap (λ ms. restrict (is_kept t.pending ms) (found_in t.states) b) notes.marks
 
-pub based : (roots roots' : RootSet) (t : Store) (y : Cycle) (slot d a : ℕ) (m : HeapMutator) (f : Found) → IsLawful t.states → HasMutator roots slot m → restrict (is_kept t.pending y.marking.marks) (found_in t.states) (register m a) ≡ Some f
-    → SetsWord roots slot d f.base roots' → IsCall (core_of roots t y) (Mutator slot (Base d a)) (Word f.base) (core_of roots' t y)
-based roots roots' t y slot d a m f lawful at is sets = quiet (core_of roots t y) roots' (Mutator slot (Base d a)) (Word f.base) (λ h. h) (λ s h.
+pub based : (roots roots' : RootSet) (t : Store) (y : Cycle) {ls : List Link} (slot d a : ℕ) (m : HeapMutator) (f : Found) → IsLawful t.states → HasMutator roots slot m → restrict (is_kept t.pending y.marking.marks) (found_in t.states) (register m a) ≡ Some f
+    → SetsWord roots slot d f.base roots' → IsCall (core_of roots t y ls) (Mutator slot (Base d a)) (Word f.base) (core_of roots' t y ls)
+based roots roots' t y {ls = ls} slot d a m f lawful at is sets = quiet (core_of roots t y ls) roots' (Mutator slot (Base d a)) (Word f.base) (λ h. h) (λ s h.
     let found = finds (is_kept t.pending y.marking.marks) t s (register m a) f lawful h.store is in (
       with_register s slot m d f.base,
       Calls.acts (attached roots t y s slot m h at) (Acts.based found.1),
-      stands_set roots roots' t t y y s (with_register s slot m d f.base) slot d f.base m h at sets refl refl (record { pages = h.store.pages; shows = h.store.shows }),
+      stands_set roots roots' t t y y s (with_register s slot m d f.base) slot d f.base m h at sets refl refl (record { pages = h.store.pages; shows = h.store.shows }) h.links,
     ))
 
-pub sized : (roots : RootSet) (t : Store) (y : Cycle) (slot r : ℕ) (m : HeapMutator) (f : Found) → IsLawful t.states → HasMutator roots slot m → restrict (is_kept t.pending y.marking.marks) (found_in t.states) (register m r) ≡ Some f
-    → IsCall (core_of roots t y) (Mutator slot (Size r)) (Count f.len) (core_of roots t y)
-sized roots t y slot r m f lawful at is = quiet (core_of roots t y) roots (Mutator slot (Size r)) (Count f.len) (λ h. h) (λ s h.
+pub sized : (roots : RootSet) (t : Store) (y : Cycle) {ls : List Link} (slot r : ℕ) (m : HeapMutator) (f : Found) → IsLawful t.states → HasMutator roots slot m → restrict (is_kept t.pending y.marking.marks) (found_in t.states) (register m r) ≡ Some f
+    → IsCall (core_of roots t y ls) (Mutator slot (Size r)) (Count f.len) (core_of roots t y ls)
+sized roots t y {ls = ls} slot r m f lawful at is = quiet (core_of roots t y ls) roots (Mutator slot (Size r)) (Count f.len) (λ h. h) (λ s h.
     let found = finds (is_kept t.pending y.marking.marks) t s (register m r) f lawful h.store is in
     (s, Calls.acts (attached roots t y s slot m h at) (subst (λ n. Acts s slot m (Size r) (Count n) s) found.2.size (Acts.sized found.1)), h))

@@ -1,5 +1,5 @@
 -- What the roots of a core are to the heap that it stands for.
-use Rattle.std.proofs.Common.{inl, ◌≡◌, ℕ, set, Some, None, refl, sym, ap, ◌∙◌, subst}
+use Rattle.std.proofs.Common.{List, inl, ◌≡◌, ℕ, set, Some, None, refl, sym, ap, ◌∙◌, subst}
 use Rattle.std.specs.Prelude.{slice_get}
 use Rattle.words.specs.declared.refusal.Refusal.{Refusal}
 use Rattle.words.specs.declared.refusal.Refusal.TheVariants.{NoSlot, Full}
@@ -13,19 +13,21 @@ use Rattle.heap_spec.specs.Heap.{Heap, Mutator as HeapMutator, IsAttached}
 use Rattle.heap_spec.specs.Replies.{IsStep}
 use Rattle.heap_spec.specs.Steps.{Acts, Calls, Step}
 use Rattle.block_map.specs.declared.found.Found.{Found}
+use Rattle.links.specs.declared.row.Link.{Link}
 use Rattle.roots.specs.Roots.{RootSet, HasMutator, HasNoMutator, with_word, with_roots, SetsWord, StepsRoots}
 use Rattle.roots.proofs.Steps.{set_mutators}
 use Rattle.object_space.specs.Store.{Store}
 use Rattle.heap_core.specs.Contents.{Contents, Cycle}
 use Rattle.heap_core.specs.Calls.{IsCall, IsFullAlloc, MakesDirty, ReachesPages}
 use Rattle.object_space.specs.Kept.{is_kept}
+use Rattle.links.specs.Named.{AreNamed}
 use Rattle.object_space.specs.Stores.{Stores}
 use Rattle.heap_core.specs.Standing.{StandsFor}
 use Rattle.heap_core.proofs.Forgotten.{forgotten_same}
 
 -- the core of these
-abbrev pub core_of : RootSet → Store → Cycle → Contents
-core_of roots t y = record { roots = roots; store = t; cycle = y }
+abbrev pub core_of : RootSet → Store → Cycle → List Link → Contents
+core_of roots t y ls = record { roots = roots; store = t; cycle = y; links = ls }
 
 pub none_some : (f : Found) → None ≡ Some f → ⊥
 none_some f e = cc
@@ -56,9 +58,9 @@ not_done event h = other (full_reply event Done h)
     other e = cc
 
 -- a call that leaves the store and the cycle as they are
-roots_change : (c : Contents) (roots : RootSet) (event : Event) (reply : Reply) → (IsFullAlloc event reply → ⊥) → ((p : ℕ) → MakesDirty c event reply p → ⊥)
-    → IsStep (StandsFor c) event reply (StandsFor (record c { roots = roots })) → IsCall c event reply (record c { roots = roots })
-roots_change c roots event reply not_full not_dirty steps = record {
+changes_beside : (c : Contents) (roots : RootSet) (ls : List Link) (event : Event) (reply : Reply) → (IsFullAlloc event reply → ⊥) → ((p : ℕ) → MakesDirty c event reply p → ⊥)
+    → IsStep (StandsFor c) event reply (StandsFor (record c { roots = roots; links = ls })) → IsCall c event reply (record c { roots = roots; links = ls })
+changes_beside c roots ls event reply not_full not_dirty steps = record {
   steps = steps;
   phase = refl;
   count = refl;
@@ -72,10 +74,19 @@ roots_change c roots event reply not_full not_dirty steps = record {
   stack = refl;
   fewer = λ p h. h;
   swept = λ p h. inl h;
-  forgotten = forgotten_same c (record c { roots = roots }) refl refl refl;
+  forgotten = forgotten_same c (record c { roots = roots; links = ls }) refl refl refl;
   full = λ h. absurd (not_full h);
   roots_alone = λ not. (refl, refl);
 }
+
+roots_change : (c : Contents) (roots : RootSet) (event : Event) (reply : Reply) → (IsFullAlloc event reply → ⊥) → ((p : ℕ) → MakesDirty c event reply p → ⊥)
+    → IsStep (StandsFor c) event reply (StandsFor (record c { roots = roots })) → IsCall c event reply (record c { roots = roots })
+roots_change c roots event reply not_full not_dirty steps = changes_beside c roots c.links event reply not_full not_dirty steps
+
+-- one that changes the links
+pub links_change : (c : Contents) (ls : List Link) (event : Event) (reply : Reply) → (ReachesPages event reply → ⊥)
+    → IsStep (StandsFor c) event reply (StandsFor (record c { links = ls })) → IsCall c event reply (record c { links = ls })
+links_change c ls event reply apart steps = changes_beside c c.roots ls event reply (λ h. apart (full_reaches event reply h)) (λ p h. apart (dirty_reaches c event reply p h)) steps
 
 -- one that doesn't reach the pages
 pub quiet : (c : Contents) (roots : RootSet) (event : Event) (reply : Reply) → (ReachesPages event reply → ⊥)
@@ -83,19 +94,19 @@ pub quiet : (c : Contents) (roots : RootSet) (event : Event) (reply : Reply) →
 quiet c roots event reply apart steps = roots_change c roots event reply (λ h. apart (full_reaches event reply h)) (λ p h. apart (dirty_reaches c event reply p h)) steps
 
 -- a step that changes no more than the roots
-pub steps_roots : (roots roots' : RootSet) (t : Store) (y : Cycle) (event : Event) (reply : Reply) → (ReachesPages event reply → ⊥) → StepsRoots roots event reply roots'
-    → IsCall (core_of roots t y) event reply (core_of roots' t y)
-steps_roots roots roots' t y event reply apart steps = quiet (core_of roots t y) roots' event reply apart (λ s h.
+pub steps_roots : (roots roots' : RootSet) (t : Store) (y : Cycle) {ls : List Link} (event : Event) (reply : Reply) → (ReachesPages event reply → ⊥) → StepsRoots roots event reply roots'
+    → IsCall (core_of roots t y ls) event reply (core_of roots' t y ls)
+steps_roots roots roots' t y {ls = ls} event reply apart steps = quiet (core_of roots t y ls) roots' event reply apart (λ s h.
     let same : with_roots s roots ≡ s =
     ap (λ ms. record s { mutators = ms; globals = roots.globals }) (sym h.mutators) ∙ ap (λ gs. record s { globals = gs }) (sym h.globals) in (
       with_roots s roots',
       subst (λ (x : Heap). Step x event reply (with_roots s roots')) same (steps s),
-      record { mutators = refl; globals = refl; store = record { pages = h.store.pages; shows = h.store.shows } },
+      record { mutators = refl; globals = refl; store = record { pages = h.store.pages; shows = h.store.shows }; links = h.links },
     ))
 
 -- the mutator of a slot is the heap's
-pub attached : (roots : RootSet) (t : Store) (y : Cycle) (s : Heap) (slot : ℕ) (m : HeapMutator) → StandsFor (core_of roots t y) s → HasMutator roots slot m → IsAttached s slot m
-attached roots t y s slot m h at = ap (λ ms. slice_get ms slot) h.mutators ∙ at
+pub attached : (roots : RootSet) (t : Store) (y : Cycle) {ls : List Link} (s : Heap) (slot : ℕ) (m : HeapMutator) → StandsFor (core_of roots t y ls) s → HasMutator roots slot m → IsAttached s slot m
+attached roots t y {ls = ls} s slot m h at = ap (λ ms. slice_get ms slot) h.mutators ∙ at
 
 -- what is refused makes no page dirty
 pub refused_clean : (c : Contents) (event : Event) (refusal : Refusal) (p : ℕ) → MakesDirty c event (Refused refusal) p → ⊥
@@ -112,14 +123,15 @@ refused_vacant c slot call none = roots_change c c.roots (Mutator slot call) (Re
     other e = cc
 
 -- a call of a mutator that is refused
-pub refused : (roots : RootSet) (t : Store) (y : Cycle) (slot : ℕ) (m : HeapMutator) (call : Call) (refusal : Refusal) → HasMutator roots slot m → (ReachesPages (Mutator slot call) (Refused refusal) → ⊥)
-    → ((s : Heap) → Stores (is_kept t.pending y.marking.marks) t s → Acts s slot m call (Refused refusal) s) → IsCall (core_of roots t y) (Mutator slot call) (Refused refusal) (core_of roots t y)
-refused roots t y slot m call refusal at apart acts = quiet (core_of roots t y) roots (Mutator slot call) (Refused refusal) apart (λ s h. (s, Calls.acts (attached roots t y s slot m h at) (acts s h.store), h))
+pub refused : (roots : RootSet) (t : Store) (y : Cycle) {ls : List Link} (slot : ℕ) (m : HeapMutator) (call : Call) (refusal : Refusal) → HasMutator roots slot m → (ReachesPages (Mutator slot call) (Refused refusal) → ⊥)
+    → ((s : Heap) → Stores (is_kept t.pending y.marking.marks) t s → Acts s slot m call (Refused refusal) s) → IsCall (core_of roots t y ls) (Mutator slot call) (Refused refusal) (core_of roots t y ls)
+refused roots t y {ls = ls} slot m call refusal at apart acts = quiet (core_of roots t y ls) roots (Mutator slot call) (Refused refusal) apart (λ s h. (s, Calls.acts (attached roots t y s slot m h at) (acts s h.store), h))
 
 -- the roots stand for those of a heap in which a register was set
-pub stands_set : (roots roots' : RootSet) (t t' : Store) (y y' : Cycle) (s after : Heap) (slot r w : ℕ) (m : HeapMutator) → StandsFor (core_of roots t y) s → HasMutator roots slot m → SetsWord roots slot r w roots'
-    → after.mutators ≡ set s.mutators slot (Some (with_word m r w)) → after.globals ≡ s.globals → Stores (is_kept t'.pending y'.marking.marks) t' after → StandsFor (core_of roots' t' y') after
-stands_set roots roots' t t' y y' s after slot r w m h at is mutators globals stores = record {
+pub stands_set : (roots roots' : RootSet) (t t' : Store) (y y' : Cycle) {ls : List Link} (s after : Heap) (slot r w : ℕ) (m : HeapMutator) → StandsFor (core_of roots t y ls) s → HasMutator roots slot m → SetsWord roots slot r w roots'
+    → after.mutators ≡ set s.mutators slot (Some (with_word m r w)) → after.globals ≡ s.globals → Stores (is_kept t'.pending y'.marking.marks) t' after → AreNamed after.objects ls after.links → StandsFor (core_of roots' t' y' ls) after
+stands_set roots roots' t t' y y' {ls = ls} s after slot r w m h at is mutators globals stores named = record {
+  links = named;
   mutators = mutators ∙ ap (λ ms. set ms slot (Some (with_word m r w))) h.mutators ∙ sym (set_mutators roots roots' slot r w m at is);
   globals = globals ∙ h.globals ∙ sym is.0;
   store = stores;

@@ -1,5 +1,6 @@
 -- What a core contains.
-use Rattle.std.specs.Prelude.{◌≡◌, ℕ, true, Bool, length}
+use Rattle.std.specs.Prelude.{◌≡◌, ℕ, true, Bool, List, length}
+use Rattle.links.specs.declared.row.Link.{Link}
 use Rattle.roots.specs.Roots.{RootSet}
 use Rattle.marker.specs.Marking.{Marking, AreMarksObjects}
 use Rattle.marker.specs.Invariant.{DirtyPageInvariant}
@@ -13,11 +14,12 @@ pub record Cycle : Type 0 where
   pub is_marking : Bool
   pub count : ℕ
 
--- What a core contains.
+-- What a core contains. A link names an object by its base.
 pub record Contents : Type 0 where
   pub roots : RootSet
   pub store : Store
   pub cycle : Cycle
+  pub links : List Link
 
 -- What is true of each core's collector: its marker is one of the store's pages, each mark is that of an allocated object,
 -- and while a cycle is marking no page is pending and the dirty-page invariant holds.

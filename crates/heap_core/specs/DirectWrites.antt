@@ -61,12 +61,13 @@ pub data StoresWords (s : Heap) : Heap → Type 0 where
   none : StoresWords s s
   more : {mid s' : Heap} → StoresWords s mid → StoresWord mid s' → StoresWords s s'
 
--- The same heap but for words of objects: the same roots, and at each base the same object.
+-- The same heap but for words of objects: the same roots and links, and at each base the same object.
 pub record HasOtherWords (s s' : Heap) : Type 0 where
   pub pages : s'.pages ≡ s.pages
   pub mutators : s'.mutators ≡ s.mutators
   pub globals : s'.globals ≡ s.globals
   pub births : s'.births ≡ s.births
+  pub links : s'.links ≡ s.links
   pub stays : (base : ℕ) (o : Object) → HasObject s base o → (p : Object) × HasObject s' base p × IsSameObject o p
   pub only : (base : ℕ) (p : Object) → HasObject s' base p → (o : Object) × HasObject s base o × IsSameObject o p
 

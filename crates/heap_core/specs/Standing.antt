@@ -4,6 +4,7 @@ use Rattle.heap_spec.specs.Heap.{Heap}
 use Rattle.block_map.specs.FoundIn.{found_in}
 use Rattle.block_map.specs.declared.found.Found.{Found}
 use Rattle.object_space.specs.Kept.{restrict, is_kept}
+use Rattle.links.specs.Named.{AreNamed}
 use Rattle.object_space.specs.Stores.{Stores}
 use Rattle.heap_core.specs.Contents.{Contents}
 
@@ -20,8 +21,10 @@ objects_of c = restrict (keeps c) (found_in c.store.states)
 abbrev pub IsForgotten : Contents → ℕ → Found → Type 0
 IsForgotten c w f = (found_in c.store.states w ≡ Some f) × (keeps c f ≡ false)
 
--- The core has the heap's mutators and globals, and its kept objects are the heap's.
+-- The core has the heap's mutators and globals, its kept objects are the heap's, and so are its links, compared by the
+-- objects that they name.
 pub record StandsFor (c : Contents) (s : Heap) : Type 0 where
   pub mutators : s.mutators ≡ c.roots.mutators
   pub globals : s.globals ≡ c.roots.globals
   pub store : Stores (keeps c) c.store s
+  pub links : AreNamed s.objects c.links s.links

@@ -11,11 +11,13 @@ mod counts;
 mod cycle;
 mod events;
 mod kept;
+mod linked;
 mod objects;
 mod registers;
 mod written;
 
 use arrayvec::ArrayVec;
+use links::Links;
 use marker::Marker;
 use object_space::ObjectSpace;
 use roots::{ROOT_WORDS, Roots};
@@ -31,6 +33,7 @@ pub struct Core {
     marker: Marker,
     is_marking: bool,
     count: u64,
+    links: Links,
     root_words: ArrayVec<u64, ROOT_WORDS>,
 }
 
@@ -39,7 +42,7 @@ impl Model for Core {
 
     ghost Value = { Contents };
 
-    ghost view = { λ c. record { roots = c.roots; store = c.objects; cycle = record { marking = c.marker; is_marking = c.is_marking; count = c.count } } };
+    ghost view = { λ c. record { roots = c.roots; store = c.objects; cycle = record { marking = c.marker; is_marking = c.is_marking; count = c.count }; links = c.links } };
 
     ghost invariant = { λ c. IsTraced c.objects (record { marking = c.marker; is_marking = c.is_marking; count = c.count }) };
 }
@@ -63,6 +66,7 @@ impl Core {
             marker,
             is_marking: false,
             count: 0,
+            links: Links::new(),
             root_words: ArrayVec::new(),
         })
     }

@@ -30,6 +30,15 @@ fn call_in_range(call: &Call)
             b.number();
             let _word = *w;
         }
+        Call::Link(a, w, b) => {
+            a.number();
+            b.number();
+            let _word = *w;
+        }
+        Call::Unlink(a, w) => {
+            a.number();
+            let _word = *w;
+        }
         Call::GlobalGet(a, g) | Call::GlobalPut(g, a) => {
             a.number();
             g.number();

@@ -122,7 +122,7 @@ alloc_kept s slot m d n kind place a h is e room = record {
     fits = let to = lies.to in let few = h.few_pages in omega arith
 
 -- after a store each object is there still
-stored_same : (s : Heap) (base b : ℕ) (o p : Object) (i w : ℕ) → HasObject s base o → HasObject s b p
+pub stored_same : (s : Heap) (base b : ℕ) (o p : Object) (i w : ℕ) → HasObject s base o → HasObject s b p
     → (q : Object) × HasObject (with_object s base (Some (record o { words = slice_set o.words i w }))) b q × IsSameObject p q
 stored_same s base b o p i w has hasb = ⊎_elim
     (λ same. let e : p ≡ o = same_Some p o (sym hasb ∙ ap s.objects same ∙ has) in (

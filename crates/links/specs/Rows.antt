@@ -1,5 +1,5 @@
 -- Rows of links.
-use Rattle.std.specs.Prelude.{◌≡◌, ℕ, ◌%◌, ◌<◌, ◌≤◌, ◌⊎◌, ◌==◌, Bool, true, not, List, [], ◌∷◌, ◌++◌, All, filter, length}
+use Rattle.std.specs.Prelude.{◌≡◌, ℕ, ◌%◌, ◌<◌, ◌≤◌, ◌⊎◌, ◌==◌, Bool, true, false, not, List, [], ◌∷◌, ◌++◌, All, filter, length}
 use Rattle.std.specs.List.{list_any}
 use Rattle.words.specs.declared.limits.TheConstants.{WORD_BYTES, MAX_LINKS}
 use Rattle.links.specs.declared.row.Link.{Link}
@@ -28,3 +28,8 @@ pub record IsRow (row : List Link) : Type 0 where
 -- there is room for a link at the address
 abbrev pub HasRowRoom : List Link → ℕ → Type 0
 HasRowRoom row a = (length row < MAX_LINKS) ⊎ (has_at row a ≡ true)
+
+-- as many links stand as there is room for, and none at the address
+pub record LacksRowRoom (row : List Link) (a : ℕ) : Type 0 where
+  pub full : length row ≡ MAX_LINKS
+  pub free : has_at row a ≡ false

@@ -4,4 +4,4 @@
 
 mod row;
 
-pub use row::{Link, Links};
+pub use row::{Link, Links, is_normal};

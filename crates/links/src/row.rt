@@ -2,11 +2,13 @@
 ghost use Rattle.std.specs.Prelude.{◌≡◌, ◌%◌, ◌<◌, ◌≤◌, [], ◌∷◌, ◌++◌, length, filter, not, ◌==◌, MatchBool};
 ghost use Rattle.arrayvec.specs.ArrayVec.{array_vec_len};
 ghost use Rattle.words.specs.declared.limits.TheConstants.{WORD_BYTES, MAX_LINKS};
-ghost use Rattle.links.specs.Rows.{has_at, but_at, with_link_at, IsAlignedRow, IsRow, HasRowRoom};
+ghost use Rattle.words.specs.declared.class.Kind.TheVariants.{Normal, PointerFree};
+ghost use Rattle.links.specs.Rows.{has_at, but_at, with_link_at, IsAlignedRow, IsRow, HasRowRoom, LacksRowRoom};
 
 use arrayvec::ArrayVec;
 use std::marker::Model;
-use words::limits::{MAX_LINKS, WORD_BYTES};
+use words::Kind;
+use words::limits::MAX_LINKS;
 
 const MOST: usize = MAX_LINKS as usize;
 
@@ -34,6 +36,16 @@ impl Model for Links {
     ghost view = { λ l. l.row.items };
 
     ghost invariant = { λ l. IsRow l.row.items };
+}
+
+/// Whether the collector reads words of the kind: then no link stands in an object of it.
+pub fn is_normal(kind: Kind) -> bool
+    ensures { MatchBool result (kind ≡ Normal) (kind ≡ PointerFree) }
+{
+    match kind {
+        Kind::Normal => true,
+        Kind::PointerFree => false,
+    }
 }
 
 // Whether one of the links stands at an address.
@@ -91,6 +103,16 @@ impl Links {
         ensures { result ≡ has_at self.now address }
     {
         has_in(self.row.as_slice(), address)
+    }
+
+    /// Whether there is room for a link at an address.
+    pub fn has_room(&self, address: u64) -> bool
+        ensures { MatchBool result (HasRowRoom self.now address) (LacksRowRoom self.now address) }
+    {
+        if !self.is_full() {
+            return true;
+        }
+        self.has(address)
     }
 
     /// The links.

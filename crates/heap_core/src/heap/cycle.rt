@@ -75,6 +75,7 @@ impl Core {
         let count = self
             .objects
             .finish(&mut self.marker, self.root_words.as_slice());
+        self.objects.take_along(&self.marker, &mut self.links);
         self.is_marking = false;
         self.count = self.count.wrapping_add(1);
         Ok(count)
@@ -91,6 +92,7 @@ impl Core {
         let count = self
             .objects
             .collect(&mut self.marker, self.root_words.as_slice());
+        self.objects.take_along(&self.marker, &mut self.links);
         self.is_marking = false;
         self.count = self.count.wrapping_add(1);
         Ok(count)

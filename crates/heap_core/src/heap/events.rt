@@ -32,6 +32,8 @@ impl Core {
             Call::Size(register) => count(self.size(slot, register)),
             Call::GlobalGet(into, global) => word(self.gget(slot, into, global)),
             Call::GlobalPut(global, from) => done(self.gput(slot, global, from)),
+            Call::Link(at, offset, to) => done(self.link(slot, at, offset, to)),
+            Call::Unlink(at, offset) => count(self.unlink(slot, at, offset)),
         }
     }
 

@@ -18,7 +18,7 @@ use words::{Kind, Refusal, Reg, Slot, class_of};
 
 // The kept object that a word points into, for a call that is refused where there is none.
 #[inline(always)]
-fn find_in(objects: &ObjectSpace, marker: &Marker, word: u64) -> Result<Found, Refusal>
+pub(crate) fn find_in(objects: &ObjectSpace, marker: &Marker, word: u64) -> Result<Found, Refusal>
     requires pages { length marker.now.dirty ≡ length objects.now.states }
     ensures ok { IfOk result (λ found. Some found ≡ kept_in objects.now.states objects.now.pending marker.now.marks word) }
     ensures err { IfErr result (λ refusal. (refusal ≡ Refusal.NoObject) × (None ≡ kept_in objects.now.states objects.now.pending marker.now.marks word)) }
@@ -159,6 +159,7 @@ impl Core {
         self.marker.laws();
         self.objects.release(found);
         self.marker.freed(word);
+        self.objects.take_along(&self.marker, &mut self.links);
         Ok(())
     }
 }

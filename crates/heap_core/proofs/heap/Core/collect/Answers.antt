@@ -9,5 +9,5 @@ pub returns : goal.returns
 returns c =
     let e : c.as_slice.result.now ≡ root_words_of c.self.inside.roots = c.as_slice.ensures.value ∙ c.write_words.ensures in
     rw (← c.self.view_is)
-    (collects_all _ c.sweep_all.new.self c.begin.new.self _ _ _ _ c.collect-count.ensures.lawful.map c.sweep_all.ensures.sweeps c.sweep_all.ensures.swept (subst (λ n. IsFresh n c.begin.new.self) (c.self.invariant.pages ∙ sym c.sweep_all.ensures.sweeps.pages) c.begin.ensures.fresh)
-    (subst (λ rs. ForgetsUnreached c.sweep_all.new.self rs c.begin.new.self c.collect-count.result c.collect-count.new.marker.marks c.collect-count.new.self) e c.collect-count.ensures.forgets) c.collect-count.ensures.swept c.collect-count.ensures.done refl)
+    (collects_all _ c.sweep_all.new.self c.begin.new.self _ _ _ _ _ _ c.collect-count.ensures.lawful.map c.sweep_all.ensures.sweeps c.sweep_all.ensures.swept (subst (λ n. IsFresh n c.begin.new.self) (c.self.invariant.pages ∙ sym c.sweep_all.ensures.sweeps.pages) c.begin.ensures.fresh)
+    (subst (λ rs. ForgetsUnreached c.sweep_all.new.self rs c.begin.new.self c.collect-count.result c.collect-count.new.marker.marks c.collect-count.new.self) e c.collect-count.ensures.forgets) c.collect-count.ensures.swept c.collect-count.ensures.done refl c.take_along.ensures.lawful.map c.take_along.ensures.along c.take_along.ensures.links)

@@ -1,4 +1,5 @@
-use Rattle.std.proofs.Common.{true, refl, sym, ap, ◌∙◌}
+use Rattle.links.specs.Named.{AreNamed, none}
+use Rattle.std.proofs.Common.{None, [], subst, true, refl, sym, ap, ◌∙◌}
 use Rattle.heap_core.proofs.Tracing.{fresh_objects, traced_ended}
 use Rattle.roots.specs.Roots.{RootSet}
 use Rattle.heap_core.proofs.heap.Core.new.Goals as goal
@@ -19,6 +20,7 @@ returns c = (
       mutators = sym (ap (λ (r : RootSet). r.mutators) c.new-3.ensures);
       globals = sym (ap (λ (r : RootSet). r.globals) c.new-3.ensures);
       store = c.in_ok-objects.ensures.1.1 _;
+      links = subst (λ row. AreNamed (λ _. None) row []) (sym c.new-4.ensures) none;
     };
     phase = refl;
     count = refl;

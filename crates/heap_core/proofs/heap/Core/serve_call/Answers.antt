@@ -47,3 +47,9 @@ returns-in-GlobalGet c = rw (c.in-GlobalGet.is, c.word-in-GlobalGet.ensures) c.g
 
 pub returns-in-GlobalPut : goal.returns-in-GlobalPut
 returns-in-GlobalPut c = rw (c.in-GlobalPut.is, c.done-in-GlobalPut.ensures) c.gput.ensures
+
+pub returns-in-Link : goal.returns-in-Link
+returns-in-Link c = rw (c.in-Link.is, c.done-in-Link.ensures) c.link.ensures
+
+pub returns-in-Unlink : goal.returns-in-Unlink
+returns-in-Unlink c = rw (c.in-Unlink.is, c.count-in-Unlink.ensures) c.unlink.ensures

@@ -1,0 +1,35 @@
+-- What leaves a heap takes its links along, of a row as of the heap.
+use Rattle.std.specs.Prelude.{◌≡◌, ℕ, ◌-◌, ◌/◌, ◌&&◌, ◌==◌, not, Bool, true, false, List, Option, Some, if◌then◌else◌, length, slice_index}
+use Rattle.std.specs.List.{list_any}
+use Rattle.words.specs.declared.limits.TheConstants.{FIRST_ADDRESS, WORD_BYTES}
+use Rattle.heap_spec.specs.Layout.{Reads}
+use Rattle.heap_spec.specs.Heap.{Object}
+use Rattle.links.specs.declared.row.Link.{Link}
+
+-- Two tests tell these objects: whether one of them has the word at an address, and whether one begins there.
+pub record TellObjects (objects : ℕ → Option Object) (holds begins : ℕ → Bool) : Type 0 where
+  pub held : (a base : ℕ) (o : Object) → objects base ≡ Some o → Reads a base (length o.words) → holds a ≡ true
+  pub bare : (a : ℕ) → ((base : ℕ) (o : Object) → objects base ≡ Some o → Reads a base (length o.words) → ⊥) → holds a ≡ false
+  pub there : (base : ℕ) (o : Object) → objects base ≡ Some o → begins base ≡ true
+  pub gone : (base : ℕ) → ((o : Object) → objects base ≡ Some o → ⊥) → begins base ≡ false
+
+-- a link stays if its holder and the object that it names do
+abbrev pub stays_with : (ℕ → Bool) → (ℕ → Bool) → Link → Bool
+stays_with holds begins l = holds l.address && begins l.base
+
+-- its word becomes 0 if its holder stays and the object that it names does not
+abbrev pub loses_with : (ℕ → Bool) → (ℕ → Bool) → Link → Bool
+loses_with holds begins l = holds l.address && not (begins l.base)
+
+-- where the word at an address stands in the row of all words
+abbrev pub place_of : ℕ → ℕ
+place_of a = (a - FIRST_ADDRESS) / WORD_BYTES
+
+-- whether the word at this place is that of a link that has to become 0
+abbrev pub clears_with : (ℕ → Bool) → (ℕ → Bool) → List Link → ℕ → Bool
+clears_with holds begins row k = list_any (λ l. (place_of l.address == k) && loses_with holds begins l) row
+
+-- The words of the links that have to become 0 are 0, and all others are as they were.
+pub record ClearsWords (holds begins : ℕ → Bool) (row : List Link) (old new : List ℕ) : Type 0 where
+  pub size : length new ≡ length old
+  pub words : (k : ℕ) → slice_index new k ≡ (if clears_with holds begins row k then 0 else slice_index old k)
