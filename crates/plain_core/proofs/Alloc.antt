@@ -17,7 +17,9 @@ use Rattle.heap_spec.specs.Layout.{Reads}
 use Rattle.heap_spec.specs.Heap.{Heap, Object, Mutator, HasObject}
 use Rattle.heap_spec.specs.Room.{HasRoom, length_of}
 use Rattle.heap_spec.specs.Steps.{Acts, Calls, acts, with_register, with_object, with_new}
-use Rattle.heap_spec.proofs.Objects.{with_at-same, with_at-other}
+use Rattle.heap_spec.proofs.Objects.{with_at-same, with_at-other, same_object}
+use Rattle.links.specs.declared.row.Link.{Link}
+use Rattle.links.proofs.Named.{named_kept}
 use Rattle.roots.specs.Roots.{RootSet, HasMutator, HasNoMutator, SetsWord}
 use Rattle.plain_core.specs.declared.extent.Extent.{Extent}
 use Rattle.plain_core.specs.Contents.{Contents, IsLaidOut, IsInHeap, IsPlacedExtent}
@@ -32,9 +34,9 @@ use Rattle.plain_core.proofs.Placing.{sized}
 use Rattle.plain_core.proofs.Rooms.{room_of, place_of}
 
 -- a new core
-pub new_sound : (pages : ℕ) (words : List ℕ) (objects : List Extent) (roots : RootSet) → pages ≤ MAX_PAGES → length words ≡ PAGE_WORDS * pages → objects ≡ []
-    → IsLaidOut (record { pages = pages; words = words; objects = objects; roots = roots })
-new_sound pages words objects roots p w o = record {
+pub new_sound : (pages : ℕ) (words : List ℕ) (objects : List Extent) (roots : RootSet) (links : List Link) → pages ≤ MAX_PAGES → length words ≡ PAGE_WORDS * pages → objects ≡ []
+    → IsLaidOut (record { pages = pages; words = words; objects = objects; roots = roots; links = links })
+new_sound pages words objects roots links p w o = record {
   pages = p;
   words = w;
   in_heap = rw o (All-nil (IsInHeap pages));
@@ -130,6 +132,7 @@ allocates c roots k d n kind m place e row sound at is room same_kind same_lengt
         (λ x. ⊎_elim (λ y. x.0 ∙ sym y.0) (λ y. absurd (too_late b q (p.birth) y.1 (ap (λ (z : Object). z.birth) x.1) same)) (after_cases s e.base o b q hb))
         (λ x. ⊎_elim (λ y. absurd (too_late a p (q.birth) x.1 (ap (λ (z : Object). z.birth) y.1) (sym same))) (λ y. h.distinct a b p q x.1 y.1 same) (after_cases s e.base o b q hb))
         (after_cases s e.base o a p ha);
+    links = named_kept s.objects after.objects (λ b p is. (p, with_at-other s.objects e.base (Some o) b (λ same. bare b p same is) ∙ is, same_object p)) h.links;
   },
 )
   where
@@ -141,6 +144,11 @@ allocates c roots k d n kind m place e row sound at is room same_kind same_lengt
 
     base_in : (g : Extent) → IsInHeap c.pages g → (w : ℕ) → w ≡ g.base → Reads w g.base g.length
     base_in g i w same = (omega arith, omega arith)
+
+    bare : (b : ℕ) (p : Object) → b ≡ e.base → HasObject s b p → ⊥
+    bare b p same is =
+        let g = h.only b p is in
+        fresh g.0 e.base g.1 (base_in e new e.base refl) (base_in g.0 (in_heap c sound g.0 g.1) e.base (sym (g.2 ∙ same)))
 
     too_late : (b : ℕ) (q : Object) (x : ℕ) → HasObject s b q → s.births + 1 ≡ x → x ≡ q.birth → ⊥
     too_late b q x has is same = let r = h.born b q has in let l = r.1 in omega arith

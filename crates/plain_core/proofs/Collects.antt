@@ -18,10 +18,11 @@ use Rattle.heap_spec.specs.Layout.{Reads}
 use Rattle.heap_spec.specs.Heap.{Heap, Object, HasObject, ReadsObject, words_of, root_words, without}
 use Rattle.heap_spec.specs.Closure.{given, root, word, Reached}
 use Rattle.heap_spec.specs.Cycles.{TakesOut, CollectsFully}
+use Rattle.links.specs.declared.row.Link.{Link}
 use Rattle.roots.specs.Roots.{root_words_of}
 use Rattle.plain_core.specs.declared.extent.Extent.{Extent}
 use Rattle.plain_core.specs.Contents.{Contents, IsLaidOut, IsInHeap, granule}
-use Rattle.plain_core.specs.Collections.{IsCollected}
+use Rattle.plain_core.specs.Collections.{IsCollected, HasGarbage}
 use Rattle.plain_core.specs.Standing.{StandsFor, LiesIn, words_at}
 use Rattle.plain_core.specs.Reached.{PointsIntoPlace, AreApart, IsReachedPlace, by_root, by_link, MarksReached, read_words}
 use Rattle.plain_core.specs.declared.listing.Listing.{Listing}
@@ -29,7 +30,7 @@ use Rattle.plain_core.specs.Listing.{HasListRoom, KeepsRoom}
 use Rattle.plain_core.specs.Parting.{Parts}
 use Rattle.plain_core.proofs.Freshness.{few_objects}
 use Rattle.plain_core.proofs.Objects.{extent_of, reads_object, reads_base}
-use Rattle.plain_core.proofs.Free.{AreBases, rest_stands, was_gone, stays_in, distinct_all, first_apart, differ}
+use Rattle.plain_core.proofs.Free.{AreBases, LeavesAlong, rest_stands, was_gone, stays_in, distinct_all, first_apart, differ}
 
 -- the element at a place of a row
 pub at_place : {A : Type 0} (row : List A) (x : A) → Contains row x → (i : ℕ) × (slice_get row i ≡ Some x)
@@ -154,15 +155,22 @@ module _ (c : Contents) (sound : IsLaidOut c) (s : Heap) (h : StandsFor c s) whe
         (λ stays. let u = parts.set e.0 stays in absurd (out (subst (Reached s) e.2 (reached_out u.0 e.0 (m.reached u.0 u.2) u.1))))
         (stays_in c sound parts.gone stay parts.all e.0 e.1)
 
-    pub collected : (s' : Heap) × CollectsFully s (Count n) s' × StandsFor (record c { objects = stay }) s'
-    collected = (
+    pub full : CollectsFully s (Count n) (without s bases)
+    full = record { bases = bases; takes = takes; all = goes }
+
+    pub collected : (words : List ℕ) (links : List Link) → LeavesAlong c stay words links → (s' : Heap) × CollectsFully s (Count n) s' × StandsFor (record c { words = words; objects = stay; links = links }) s'
+    collected words links along = (
       without s bases,
-      record { bases = bases; takes = takes; all = goes },
-      rest_stands c sound parts.gone stay parts.all bases (are_bases parts.gone) s h,
+      full,
+      rest_stands c sound parts.gone stay parts.all bases (are_bases parts.gone) words links along s h,
     )
 
-pub collects : (c : Contents) → IsLaidOut c → (marks : List Bool) → MarksReached (root_words_of c.roots) c.words c.objects marks → (stay : List Extent) (n : ℕ) → Parts c.objects marks stay n → IsCollected c n (record c { objects = stay })
-collects c sound marks m stay n parts s h = collected c sound s h marks m stay n parts
+pub collects : (c : Contents) → IsLaidOut c → (marks : List Bool) → MarksReached (root_words_of c.roots) c.words c.objects marks → (stay : List Extent) (n : ℕ) → Parts c.objects marks stay n
+    → (words : List ℕ) (links : List Link) → LeavesAlong c stay words links → IsCollected c n (record c { words = words; objects = stay; links = links })
+collects c sound marks m stay n parts words links along s h = collected c sound s h marks m stay n parts words links along
+
+pub garbage : (c : Contents) → IsLaidOut c → (marks : List Bool) → MarksReached (root_words_of c.roots) c.words c.objects marks → (stay : List Extent) (n : ℕ) → Parts c.objects marks stay n → HasGarbage c n
+garbage c sound marks m stay n parts s h = (_, full c sound s h marks m stay n parts)
 
 -- each object's words are in a row of all words
 pub lie_in : (c : Contents) → IsLaidOut c → (row : List ℕ) → length row ≡ PAGE_WORDS * c.pages → All (LiesIn row) c.objects

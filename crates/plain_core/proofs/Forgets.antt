@@ -17,6 +17,7 @@ use Rattle.heap_spec.specs.declared.reply.Reply.{Reply}
 use Rattle.heap_spec.specs.declared.reply.Reply.TheVariants.{Count}
 use Rattle.heap_spec.specs.Closure.{Reached}
 use Rattle.heap_spec.specs.Cycles.{CollectsFully}
+use Rattle.links.specs.declared.row.Link.{Link}
 use Rattle.roots.specs.Roots.{root_words_of}
 use Rattle.plain_core.specs.declared.extent.Extent.{Extent}
 use Rattle.plain_core.specs.Contents.{Contents, IsLaidOut}
@@ -26,7 +27,7 @@ use Rattle.plain_core.specs.Claims.{HasOneEach, IsFreeToGo, AreFreeToGo, AreUnse
 use Rattle.plain_core.specs.Reached.{MarksReached}
 use Rattle.plain_core.specs.Parting.{Parts}
 use Rattle.plain_core.proofs.Objects.{extent_of, reads_base}
-use Rattle.plain_core.proofs.Free.{AreBases, rest_stands, stays_in}
+use Rattle.plain_core.proofs.Free.{AreBases, LeavesAlong, rest_stands, stays_in}
 use Rattle.plain_core.proofs.Freshness.{few_objects}
 use Rattle.plain_core.proofs.Lists.{nothing_in}
 use Rattle.plain_core.proofs.Collects.{at_place, in_row, sound_apart, not_reached, reached_out}
@@ -89,8 +90,8 @@ module _ (c : Contents) (sound : IsLaidOut c) (marks : List Bool) (m : MarksReac
         subst (Contains bases) e.2 (unset.only i.0 e.0 i.1 (rest.unset i.0 lt
         (unmarked c sound marks m s h (get_or marks i.0 false) i.0 e.0 i.1 (λ r. out (subst (Reached s) e.2 r)) refl)))
 
-    pub takes : (all : Bool) → (all ≡ true → AreAllUnset (length c.objects) marks flags) → TakesBases c bases all (record c { objects = stay })
-    takes all rest s h = (
+    pub takes : (words : List ℕ) (links : List Link) → LeavesAlong c stay words links → (all : Bool) → (all ≡ true → AreAllUnset (length c.objects) marks flags) → TakesBases c bases all (record c { words = words; objects = stay; links = links })
+    takes words links along all rest s h = (
       without s bases,
       record {
         objects = All-weaker (IsFreeToGo c.objects marks) (λ b. (o : Object) × HasObject s b o)
@@ -102,7 +103,7 @@ module _ (c : Contents) (sound : IsLaidOut c) (marks : List Bool) (m : MarksReac
         after = refl;
       },
       λ must. has_unreached (rest must) s h,
-      rest_stands c sound parts.gone stay parts.all bases are s h,
+      rest_stands c sound parts.gone stay parts.all bases are words links along s h,
     )
 
   -- what may be taken out is free to go

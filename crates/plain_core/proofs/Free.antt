@@ -1,26 +1,34 @@
 -- Objects go, and the core and its heap are left without them.
-use Rattle.std.proofs.Common.{◌≡◌, ℕ, ◌-◌, ◌/◌, zero, suc, false, List, [], ◌∷◌, ◌++◌, map, get_or, length, ◌<◌, eqb, refl, sym, ap, ◌∙◌, subst, arith, ⊎_elim, ◌⊎◌}
-use Rattle.std.specs.Prelude.{◌≢◌, Some, Contains, IsPermutation, slice_get, nat_eq}
+use Rattle.std.proofs.Common.{◌≡◌, ℕ, ◌+◌, ◌*◌, ◌≤◌, ◌-◌, ◌/◌, zero, suc, false, List, [], ◌∷◌, ◌++◌, map, get_or, length, ◌<◌, eqb, refl, sym, ap, ◌∙◌, subst, arith, ⊎_elim, ◌⊎◌}
+use Rattle.std.specs.Prelude.{filter, true, ◌≢◌, Some, Contains, IsPermutation, slice_get, nat_eq}
 use Rattle.std.specs.List.{IsDistinct, AllByRecursion, swap_remove}
 use Rattle.std.proofs.lemmas.List.Elements.{All-contains, Contains-get_or, Contains-append_left, Contains-append_right, Contains-append_cases}
 use Rattle.std.proofs.lemmas.List.Sorted.{Contains-permutation, IsPermutation-map, IsPermutation-sym, IsPermutation-swap_remove}
 use Rattle.std.proofs.lemmas.Map.Keys.{IsDistinct-IsPermutation, IsDistinct-head, IsDistinct-tail}
 use Rattle.std.proofs.lemmas.Option.{slice_get_within, get_or_from_slice_get}
 use Rattle.words.specs.declared.refusal.Refusal.TheVariants.{NotBase}
-use Rattle.words.specs.declared.limits.TheConstants.{FIRST_ADDRESS, GRANULE_BYTES}
+use Rattle.words.specs.declared.limits.TheConstants.{FIRST_ADDRESS, GRANULE_BYTES, WORD_BYTES}
 use Rattle.heap_spec.specs.declared.call.Call.TheVariants.{Free}
 use Rattle.heap_spec.specs.declared.reply.Reply.TheVariants.{Done, Refused}
 use Rattle.heap_spec.specs.Layout.{Reads}
-use Rattle.heap_spec.specs.Heap.{Heap, Object, Mutator, HasObject, without}
+use Rattle.heap_spec.specs.Heap.{Heap, Object, Mutator, HasObject, without, without_at, loses_word, cleared, with_cleared}
 use Rattle.heap_spec.specs.Steps.{Acts, acts, register}
 use Rattle.heap_spec.proofs.Objects.{without_some, without_other}
+use Rattle.heap_spec.proofs.Links.{left_by, stays_by}
+use Rattle.links.specs.declared.row.Link.{Link}
+use Rattle.links.specs.Named.{AreNamed}
+use Rattle.links.specs.Leaving.{TellObjects, ClearsWords, clears_with, stays_with}
+use Rattle.links.proofs.Leaving.{ReadsOne, named_along, word_same}
 use Rattle.roots.specs.Roots.{HasMutator}
 use Rattle.plain_core.specs.declared.extent.Extent.{Extent}
 use Rattle.plain_core.specs.Contents.{Contents, IsLaidOut, IsInHeap, IsPlacedExtent, granule}
-use Rattle.plain_core.specs.Standing.{StandsFor, IsShown}
+use Rattle.plain_core.specs.Standing.{StandsFor, IsShown, place, words_at}
+use Rattle.plain_core.specs.Along.{holds_word, has_base}
 use Rattle.plain_core.proofs.Stands.{StepsCall, mutator_at, keeps_all}
 use Rattle.plain_core.proofs.Lists.{the_one}
-use Rattle.plain_core.proofs.Objects.{reads_object}
+use Rattle.plain_core.proofs.Objects.{in_heap, object_of, extent_of, reads_object}
+use Rattle.plain_core.proofs.Answering.{legible}
+use Rattle.plain_core.proofs.Leaving.{holds_yes, holds_no, held_by, base_yes, base_no, words_along}
 
 flips : (x y : ℕ) → eqb x y ≡ eqb y x
 flips x y = grind arith
@@ -52,6 +60,20 @@ rest_apart (g ∷ gone) rest d e f there has = ⊎_elim
     (λ later. rest_apart gone rest (IsDistinct-tail nat_eq (granule g) (map granule (gone ++ rest)) d) e f later has)
     (Contains-append_cases (g ∷ []) gone e there)
 
+-- The links went along with the objects that are gone: these are the objects that stay.
+pub record LeavesAlong (c : Contents) (rest : List Extent) (words : List ℕ) (links : List Link) : Type 0 where
+  pub cleared : ClearsWords (holds_word rest) (has_base rest) c.links c.words words
+  pub left : links ≡ filter (stays_with (holds_word rest) (has_base rest)) c.links
+
+-- the same by equations
+pub along_of : (c : Contents) (rest objects : List Extent) (row row' words : List ℕ) (links : List Link) → objects ≡ rest → row ≡ c.words → words ≡ row' → ClearsWords (holds_word objects) (has_base objects) c.links row row'
+    → links ≡ filter (stays_with (holds_word objects) (has_base objects)) c.links → LeavesAlong c rest words links
+along_of c rest objects row row' words links same old new clears stays = record {
+  cleared = subst (λ o. ClearsWords (holds_word o) (has_base o) c.links c.words words) same
+      (subst (λ ws. ClearsWords (holds_word objects) (has_base objects) c.links ws words) old (subst (ClearsWords (holds_word objects) (has_base objects) c.links row) (sym new) clears));
+  left = subst (λ o. links ≡ filter (stays_with (holds_word o) (has_base o)) c.links) same stays;
+}
+
 -- the bases of the objects that are gone, in any order
 pub record AreBases (gone : List Extent) (bases : List ℕ) : Type 0 where
   pub of : (b : ℕ) → Contains bases b → (e : Extent) × Contains gone e × (e.base ≡ b)
@@ -74,33 +96,80 @@ module _ (c : Contents) (sound : IsLaidOut c) (gone rest : List Extent) (perm : 
   other_base : (e f : Extent) → Contains gone e → Contains rest f → e.base ≢ f.base
   other_base e f there has same = rest_apart gone rest distinct_all e f there has (ap (λ (b : ℕ). (b - FIRST_ADDRESS) / GRANULE_BYTES) same)
 
-  pub rest_sound : IsLaidOut (record c { objects = rest })
-  rest_sound = record {
+  pub rest_sound : (words : List ℕ) (links : List Link) → length words ≡ length c.words → IsLaidOut (record c { words = words; objects = rest; links = links })
+  rest_sound words links size = record {
     pages = sound.pages;
-    words = sound.words;
+    words = size ∙ sound.words;
     in_heap = λ k d lt. All-contains (IsInHeap c.pages) c.objects (get_or rest k d) sound.in_heap (was_in (get_or rest k d) (Contains-get_or rest k d lt));
     placed = λ k d lt. All-contains IsPlacedExtent c.objects (get_or rest k d) sound.placed (was_in (get_or rest k d) (Contains-get_or rest k d lt));
     distinct = rest_distinct gone rest distinct_all;
     apart = λ f g w hf hg rf rg. sound.apart f g w (was_in f hf) (was_in g hg) rf rg;
   }
 
-  -- the heap without them is what the rest stands for
-  module _ (bases : List ℕ) (are : AreBases gone bases) (s : Heap) (h : StandsFor c s) where
+  -- the heap without them is what the rest stands for, once their links have gone along
+  module _ (bases : List ℕ) (are : AreBases gone bases) (words : List ℕ) (links : List Link) (along : LeavesAlong c rest words links) (s : Heap) (h : StandsFor c s) where
     not_gone : (f : Extent) → Contains rest f → Contains bases f.base → ⊥
     not_gone f has among = let e = are.of f.base among in other_base e.0 f e.1 has e.2
 
-    pub rest_stands : StandsFor (record c { objects = rest }) (without s bases)
+    -- where an object that stays lies
+    rest_of : (b : ℕ) (o : Object) → HasObject s b o → (Contains bases b → ⊥) → (f : Extent) × Contains rest f × (f.base ≡ b) × (f.length ≡ length o.words)
+    rest_of b o has out =
+        let f = extent_of c sound s h b o has in
+        ⊎_elim (λ there. absurd (out (subst (Contains bases) f.2 (are.all f.0 there)))) (λ stays. (f.0, stays, f.2, f.3)) (stays_in f.0 f.1)
+
+    tells : TellObjects (without_at s.objects bases) (holds_word rest) (has_base rest)
+    tells = record {
+      held = λ a b o is reads.
+          let was = without_some s.objects bases b o is in
+          let f = rest_of b o was.1 was.0 in
+          holds_yes rest f.0 a f.1 (rw (f.2, f.3) reads);
+      bare = λ a none. holds_no rest a (λ k d lt reads.
+          let f : Extent = get_or rest k d in
+          let has : Contains rest f = Contains-get_or rest k d lt in
+          let o = object_of c sound s h f (was_in f has) in
+          none f.base o.0 (without_other s.objects bases f.base (not_gone f has) ∙ o.1) (rw o.2 reads));
+      there = λ b o is. let was = without_some s.objects bases b o is in let f = rest_of b o was.1 was.0 in base_yes rest f.0 b f.1 f.2;
+      gone = λ b none. base_no rest b (λ f has same.
+          let o = object_of c sound s h f (was_in f has) in
+          none o.0 (subst (λ x. without_at s.objects bases x ≡ Some o.0) same (without_other s.objects bases f.base (not_gone f has) ∙ o.1)));
+    }
+
+    low : (a : ℕ) → holds_word rest a ≡ true → FIRST_ADDRESS ≤ a
+    low a is = let e = held_by rest a is in let i : IsInHeap c.pages e.0 = in_heap c sound e.0 (was_in e.0 e.1) in let from = e.2.0 in let start = i.start in omega arith
+
+    one : ReadsOne s
+    one = (legible c sound s h).one
+
+    -- the words of an object that stays
+    words_left : (f : Extent) → Contains rest f → cleared (loses_word s bases) f.base (words_at c.words f) ≡ words_at words f
+    words_left f has = words_along c.words words c.pages f inside sound.words along.cleared.size (loses_word s bases) (clears_with (holds_word rest) (has_base rest) c.links) same along.cleared.words
+      where
+        inside : IsInHeap c.pages f
+        inside = in_heap c sound f (was_in f has)
+
+        same : (i : ℕ) → i < f.length → clears_with (holds_word rest) (has_base rest) c.links (place f.base + i) ≡ loses_word s bases (f.base + WORD_BYTES * i)
+        same i lt =
+            let start = inside.start in let even = inside.aligned in
+            let at : place f.base + i ≡ place (f.base + WORD_BYTES * i) = omega arith in
+            ap (clears_with (holds_word rest) (has_base rest) c.links) at
+            ∙ word_same s bases (holds_word rest) (has_base rest) tells h.distinct one low (f.base + WORD_BYTES * i) (omega arith) (holds_yes rest f (f.base + WORD_BYTES * i) has (omega arith, omega arith)) h.links
+
+    pub rest_stands : StandsFor (record c { words = words; objects = rest; links = links }) (without s bases)
     rest_stands = record {
       pages = h.pages;
       mutators = h.mutators;
       globals = h.globals;
-      kept = λ f hf. let old = h.kept f (was_in f hf) in (old.0, without_other s.objects bases f.base (not_gone f hf) ∙ old.1, old.2);
-      only = λ b p is.
-          let was = without_some s.objects bases b p is in
-          let f = h.only b p was.1 in
-          ⊎_elim (λ there. absurd (was.0 (subst (Contains bases) f.2 (are.all f.0 there)))) (λ stays. (f.0, stays, f.2)) (stays_in f.0 f.1);
-      born = λ b p is. h.born b p (without_some s.objects bases b p is).1;
-      distinct = λ a b p q ip iq birth. h.distinct a b p q (without_some s.objects bases a p ip).1 (without_some s.objects bases b q iq).1 birth;
+      kept = λ f hf. let old = h.kept f (was_in f hf) in (
+        with_cleared (loses_word s bases) f.base old.0,
+        stays_by s bases f.base old.0 old.1 (not_gone f hf),
+        record { kind = old.2.kind; words = ap (cleared (loses_word s bases) f.base) old.2.words ∙ words_left f hf },
+      );
+      only = λ b p is. let left = left_by s bases b p is in let f = rest_of b left.object left.has left.out in (f.0, f.1, f.2);
+      born = λ b p is. let left = left_by s bases b p is in subst (λ n. (1 ≤ n) × (n ≤ s.births)) (ap (λ (x : Object). x.birth) left.is) (h.born b left.object left.has);
+      distinct = λ a b p q ip iq same.
+          let u = left_by s bases a p ip in let v = left_by s bases b q iq in
+          h.distinct a b u.object v.object u.has v.has (ap (λ (z : Object). z.birth) u.is ∙ same ∙ sym (ap (λ (z : Object). z.birth) v.is));
+      links = subst (λ row. AreNamed (without s bases).objects row (without s bases).links) (sym along.left) (named_along s bases (holds_word rest) (has_base rest) tells h.distinct one h.links);
     }
 
 one_base : (e : Extent) → AreBases (e ∷ []) (e.base ∷ [])
@@ -110,12 +179,12 @@ one_base e = record {
 }
 
 -- an object is freed
-pub frees : (c : Contents) (sound : IsLaidOut c) (e : Extent) (rest : List Extent) → IsPermutation c.objects (e ∷ rest) → (k r : ℕ) (m : Mutator) → HasMutator c.roots k m → Contains c.objects e → e.base ≡ register m r
-    → StepsCall c k (Free r) Done (record c { objects = rest })
-frees c sound e rest perm k r m at has same s h = (
+pub frees : (c : Contents) (sound : IsLaidOut c) (e : Extent) (rest : List Extent) → IsPermutation c.objects (e ∷ rest) → (words : List ℕ) (links : List Link) → LeavesAlong c rest words links
+    → (k r : ℕ) (m : Mutator) → HasMutator c.roots k m → Contains c.objects e → e.base ≡ register m r → StepsCall c k (Free r) Done (record c { words = words; objects = rest; links = links })
+frees c sound e rest perm words links along k r m at has same s h = (
   without s (e.base ∷ []),
   acts (mutator_at c s h k m at) (subst (λ (b : ℕ). Acts s k m (Free r) Done (without s (b ∷ []))) (sym same) (Acts.freed (subst (λ (b : ℕ). HasObject s b kept.0) same kept.1))),
-  rest_stands c sound (e ∷ []) rest perm (e.base ∷ []) (one_base e) s h,
+  rest_stands c sound (e ∷ []) rest perm (e.base ∷ []) (one_base e) words links along s h,
 )
   where
     kept : (o : Object) × HasObject s e.base o × IsShown c.words e o
@@ -134,8 +203,12 @@ refuses_inside c sound i e x k r m at there is reads apart =
 
 -- the object at a place goes, and the last one takes the place
 module _ (c : Contents) (sound : IsLaidOut c) (i : ℕ) (e : Extent) (objects : List Extent) (lt : i < length c.objects) (is : e ≡ get_or c.objects i e) (removed : objects ≡ swap_remove c.objects i e) where
-  pub remove_sound : IsLaidOut (record c { objects = objects })
-  remove_sound = rw removed (rest_sound c sound (e ∷ []) (swap_remove c.objects i e) (IsPermutation-swap_remove c.objects i e lt is))
+  same_objects : IsPermutation c.objects ((e ∷ []) ++ objects)
+  same_objects = rw removed (IsPermutation-swap_remove c.objects i e lt is)
 
-  pub removes : (k r : ℕ) (m : Mutator) → HasMutator c.roots k m → e.base ≡ register m r → StepsCall c k (Free r) Done (record c { objects = objects })
-  removes k r m at same = rw removed (frees c sound e (swap_remove c.objects i e) (IsPermutation-swap_remove c.objects i e lt is) k r m at (i, lt, sym is) same)
+  pub remove_sound : (words : List ℕ) (links : List Link) → length words ≡ length c.words → IsLaidOut (record c { words = words; objects = objects; links = links })
+  remove_sound = rest_sound c sound (e ∷ []) objects same_objects
+
+  pub removes : (words : List ℕ) (links : List Link) → LeavesAlong c objects words links → (k r : ℕ) (m : Mutator) → HasMutator c.roots k m → e.base ≡ register m r
+      → StepsCall c k (Free r) Done (record c { words = words; objects = objects; links = links })
+  removes words links along k r m at same = frees c sound e objects same_objects words links along k r m at (i, lt, sym is) same

@@ -1,7 +1,9 @@
 pub mod Stands
 pub mod Memory
 pub mod Objects
+pub mod Leaving
 pub mod LoadStore
+pub mod Linking
 pub mod Placing
 pub mod Freshness
 pub mod Rooms

@@ -11,6 +11,8 @@ use Rattle.heap_spec.specs.Layout.{Reads}
 use Rattle.heap_spec.specs.Heap.{Heap, Object, Mutator, HasObject}
 use Rattle.heap_spec.specs.Steps.{Acts, acts, with_object, with_register, register, address}
 use Rattle.heap_spec.proofs.Objects.{with_at-same, with_at-other}
+use Rattle.heap_spec.proofs.Calls.{stored_same}
+use Rattle.links.proofs.Named.{named_kept}
 use Rattle.roots.specs.Roots.{RootSet, HasMutator, SetsWord}
 use Rattle.plain_core.specs.declared.extent.Extent.{Extent}
 use Rattle.plain_core.specs.Contents.{Contents, IsLaidOut, IsInHeap}
@@ -74,6 +76,7 @@ stores c k r n f m e sound at has reads al s h = (
         let q = was_there s e.base kept.0 o' kept.1 refl b p ip in
         let u = was_there s e.base kept.0 o' kept.1 refl d t it in
         h.distinct b d q.0 u.0 q.1 u.1 (q.2 ∙ same ∙ sym u.2);
+    links = named_kept s.objects after.objects (λ b p is. stored_same s e.base b kept.0 p ((a - e.base) / WORD_BYTES) v kept.1 is) h.links;
   },
 )
   where

@@ -47,8 +47,8 @@ module _ (c : Contents) (sound : IsLaidOut c) (s : Heap) (h : StandsFor c s) whe
       (e.0, e.1, e.2, sym kept.2 ∙ ap (λ (p : Object). length p.words) same, sym kept.3 ∙ ap (λ (p : Object). p.kind) same)
 
   -- an address that reads an extent reads the object that lies there
-  pub reads_object : (e : Extent) → Contains c.objects e → (a : ℕ) → Reads a e.base e.length → (o : Object) × ReadsObject s a e.base o × (length o.words ≡ e.length)
-  reads_object e has a r = let o = object_of e has in (o.0, (o.1, rw o.2 r), o.2)
+  pub reads_object : (e : Extent) → Contains c.objects e → (a : ℕ) → Reads a e.base e.length → (o : Object) × ReadsObject s a e.base o × (length o.words ≡ e.length) × (o.kind ≡ e.kind)
+  reads_object e has a r = let o = object_of e has in (o.0, (o.1, rw o.2 r), o.2, o.3)
 
   -- an address that reads no extent reads nothing
   pub reads_nothing : (a : ℕ) → All (λ (e : Extent). Reads a e.base e.length → ⊥) c.objects → ReadsNothing s a

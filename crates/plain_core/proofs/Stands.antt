@@ -33,6 +33,7 @@ with_stands c s h roots = record {
   only = h.only;
   born = h.born;
   distinct = h.distinct;
+  links = h.links;
 }
 
 -- a step that changes no more than the roots
@@ -61,5 +62,5 @@ pub sets_register : (c : Contents) (roots : RootSet) (k r w : ℕ) (m : HeapMuta
 sets_register c roots k r w m call reply at sets does s h = let is = set_is c s h roots k r w m at sets in (
   with_register s k m r w,
   acts (mutator_at c s h k m at) (does s h),
-  record { pages = h.pages; mutators = is.0; globals = is.1; kept = h.kept; only = h.only; born = h.born; distinct = h.distinct },
+  record { pages = h.pages; mutators = is.0; globals = is.1; kept = h.kept; only = h.only; born = h.born; distinct = h.distinct; links = h.links },
 )

@@ -17,9 +17,9 @@ use Rattle.plain_core.specs.Contents.{Contents}
 use Rattle.plain_core.specs.Places.{IsPlace, IsSized}
 use Rattle.plain_core.specs.Standing.{StandsFor}
 
--- the address points into this object of each heap that the core stands for
+-- the address points into this object of each heap that the core stands for, of the same length and kind
 abbrev pub FindsExtent : Contents → ℕ → Extent → Type 0
-FindsExtent c a e = (s : Heap) → StandsFor c s → (o : Object) × ReadsObject s a e.base o × (length o.words ≡ e.length)
+FindsExtent c a e = (s : Heap) → StandsFor c s → (o : Object) × ReadsObject s a e.base o × (length o.words ≡ e.length) × (o.kind ≡ e.kind)
 
 -- the word at the address of an object
 abbrev pub HoldsWord : Contents → ℕ → ℕ → Type 0

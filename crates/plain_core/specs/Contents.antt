@@ -5,14 +5,17 @@ use Rattle.words.specs.declared.limits.TheConstants.{WORD_BYTES, GRANULE_BYTES, 
 use Rattle.words.specs.Layout.{page_start}
 use Rattle.heap_spec.specs.Layout.{heap_end, Reads}
 use Rattle.roots.specs.Roots.{RootSet}
+use Rattle.links.specs.declared.row.Link.{Link}
 use Rattle.plain_core.specs.declared.extent.Extent.{Extent}
 
--- A plain core: how many pages it has, their words in the order of their addresses, where the objects lie, and the roots.
+-- A plain core: how many pages it has, their words in the order of their addresses, where the objects lie, the roots, and the
+-- links. A link names an object by its base.
 pub record Contents : Type 0 where
   pub pages : ℕ
   pub words : List ℕ
   pub objects : List Extent
   pub roots : RootSet
+  pub links : List Link
 
 -- the object lies in the heap, at a granule
 pub record IsInHeap (pages : ℕ) (e : Extent) : Type 0 where

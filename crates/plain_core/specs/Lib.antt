@@ -1,6 +1,7 @@
 pub mod Contents
 pub mod Places
 pub mod Standing
+pub mod Along
 pub mod Reached
 pub mod Owners
 pub mod Listing

@@ -3,6 +3,7 @@ use Rattle.std.specs.Prelude.{◌≡◌, ℕ, ◌+◌, ◌-◌, ◌/◌, ◌%◌
 use Rattle.words.specs.declared.limits.TheConstants.{WORD_BYTES, FIRST_ADDRESS}
 use Rattle.heap_spec.specs.Heap.{Heap, Object, HasObject}
 use Rattle.heap_spec.specs.Sound.{HaveDistinctBirths}
+use Rattle.links.specs.Named.{AreNamed}
 use Rattle.plain_core.specs.declared.extent.Extent.{Extent}
 use Rattle.plain_core.specs.Contents.{Contents}
 
@@ -26,8 +27,8 @@ pub record IsShown (row : List ℕ) (e : Extent) (o : Object) : Type 0 where
   pub kind : o.kind ≡ e.kind
   pub words : o.words ≡ words_at row e
 
--- The heap has the core's pages, its objects with their kinds and words, its mutators and its globals. Births are not
--- kept, so any distinct ones from 1 up to their number fit.
+-- The heap has the core's pages, its objects with their kinds and words, its mutators, its globals, and its links, compared by
+-- the objects that they name. Births are not kept, so any distinct ones from 1 up to their number fit.
 pub record StandsFor (c : Contents) (s : Heap) : Type 0 where
   pub pages : s.pages ≡ c.pages
   pub mutators : s.mutators ≡ c.roots.mutators
@@ -36,3 +37,4 @@ pub record StandsFor (c : Contents) (s : Heap) : Type 0 where
   pub only : (base : ℕ) (o : Object) → HasObject s base o → (e : Extent) × Contains c.objects e × (e.base ≡ base)
   pub born : (base : ℕ) (o : Object) → HasObject s base o → (1 ≤ o.birth) × (o.birth ≤ s.births)
   pub distinct : HaveDistinctBirths s.objects
+  pub links : AreNamed s.objects c.links s.links

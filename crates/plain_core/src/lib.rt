@@ -3,6 +3,7 @@
 //! again, and has no thread, lock or atomic word.
 #![tactic(auto)]
 
+mod along;
 mod claims;
 mod extent;
 mod flags;

@@ -6,6 +6,7 @@ ghost use Rattle.heap_spec.specs.Heap.{opening};
 
 mod answers;
 mod collections;
+mod linked;
 mod objects;
 mod registers;
 mod replaying;
@@ -14,6 +15,7 @@ mod touching;
 use crate::extent::Extent;
 use crate::listing::Listing;
 use arrayvec::ArrayVec;
+use links::Links;
 use roots::{ROOT_WORDS, Roots};
 use std::alloc::Global;
 use std::marker::Model;
@@ -31,6 +33,7 @@ pub struct Core {
     owners: Vec<u64>,
     listing: Listing,
     stays: Vec<bool>,
+    links: Links,
 }
 
 impl Model for Core {
@@ -40,9 +43,9 @@ impl Model for Core {
 
     ghost Value = { Contents };
 
-    ghost view = { λ c. record { pages = c.pages; words = c.words.items; objects = c.objects.items; roots = c.roots } };
+    ghost view = { λ c. record { pages = c.pages; words = c.words.items; objects = c.objects.items; roots = c.roots; links = c.links } };
 
-    ghost invariant = { λ c. IsLaidOut (record { pages = c.pages; words = c.words.items; objects = c.objects.items; roots = c.roots })
+    ghost invariant = { λ c. IsLaidOut (record { pages = c.pages; words = c.words.items; objects = c.objects.items; roots = c.roots; links = c.links })
         × HasMemory c.pages (vec_capacity c.objects) c.listing (vec_len c.stays) (vec_len c.owners) };
 }
 
@@ -71,6 +74,7 @@ impl Core {
             owners,
             listing,
             stays,
+            links: Links::new(),
         })
     }
 }

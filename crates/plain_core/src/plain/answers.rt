@@ -10,6 +10,7 @@ use crate::extent::{Extent, object_at};
 use crate::owners::place_of;
 use crate::places::place_for;
 use heap_spec::{Call, Reply};
+use links::is_normal;
 use roots::Mutator;
 use words::limits::WORD_BYTES;
 use words::{Global, Kind, Refusal, Reg, Slot, class_of};
@@ -152,6 +153,41 @@ impl Core {
         Reply::Word(self.roots.global(global))
     }
 
+    // What a link would be answered.
+    fn link_answer(&self, mutator: &Mutator, at: Reg, offset: u64, to: Reg) -> Reply
+        ensures { MayAnswer self.now mutator.now (Call.Link at offset to) result }
+    {
+        let address = mutator.address(at, offset);
+        let word = mutator.word(to);
+        if address % WORD_BYTES != 0 {
+            return Reply::Refused(Refusal::Misaligned);
+        }
+        let Some(holder) = self.found(address) else {
+            return Reply::Refused(Refusal::NoObject);
+        };
+        if is_normal(holder.kind) {
+            return Reply::Refused(Refusal::NotPointerFree);
+        }
+        let Some(_named) = self.found(word) else {
+            return Reply::Refused(Refusal::NoObject);
+        };
+        if !self.links.has_room(address) {
+            return Reply::Refused(Refusal::LinksFull);
+        }
+        Reply::Done
+    }
+
+    // What the taking away of a link would be answered.
+    fn unlink_answer(&self, mutator: &Mutator, at: Reg, offset: u64) -> Reply
+        ensures { MayAnswer self.now mutator.now (Call.Unlink at offset) result }
+    {
+        let address = mutator.address(at, offset);
+        if !self.links.has(address) {
+            return Reply::Count(0);
+        }
+        Reply::Count(1)
+    }
+
     // What a call of an attached mutator would be answered.
     fn mutator_answer(&self, mutator: &Mutator, call: Call) -> Reply
         ensures { MayAnswer self.now mutator.now call result }
@@ -173,6 +209,8 @@ impl Core {
             Call::Size(at) => self.size_answer(mutator, at),
             Call::GlobalGet(_, global) => self.global_answer(global),
             Call::GlobalPut(_, _) => Reply::Done,
+            Call::Link(at, offset, to) => self.link_answer(mutator, at, offset, to),
+            Call::Unlink(at, offset) => self.unlink_answer(mutator, at, offset),
         }
     }
 

@@ -8,6 +8,7 @@ ghost use Rattle.plain_core.specs.Listing.{HasListRoom, KeepsRoom};
 ghost use Rattle.plain_core.specs.Collections.{IsCollected, HasGarbage, CantCollect, TakesBases, CantTake};
 
 use super::Core;
+use crate::along::take_along;
 use crate::claims::{are_all_named, unset_flags};
 use crate::extent::Extent;
 use crate::listing::{Listing, list_reached};
@@ -52,7 +53,9 @@ impl Core {
             &mut self.owners,
             &mut self.listing,
         );
-        keep_flagged(&mut self.objects, &self.listing.marks) as u64
+        let count = keep_flagged(&mut self.objects, &self.listing.marks);
+        take_along(&mut self.words, &self.objects, &mut self.links);
+        count as u64
     }
 
     // How many objects are not reached.
@@ -113,6 +116,7 @@ impl Core {
             return false;
         }
         let _gone = keep_flagged(&mut self.objects, &self.stays);
+        take_along(&mut self.words, &self.objects, &mut self.links);
         true
     }
 

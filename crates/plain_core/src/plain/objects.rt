@@ -7,6 +7,7 @@ ghost use Rattle.roots.specs.Roots.{HasMutator};
 ghost use Rattle.plain_core.specs.Answering.{MayBePut, IsPut, IsAllocatedAt, CantAllocateAt};
 
 use super::Core;
+use crate::along::take_along;
 use crate::extent::{Extent, find_in, index_at};
 use crate::given_place::place_at;
 use crate::owners::{fill, place_of};
@@ -104,6 +105,7 @@ impl Core {
             return Err(Refusal::NotBase);
         }
         let _freed = self.objects.swap_remove(index);
+        take_along(&mut self.words, &self.objects, &mut self.links);
         Ok(())
     }
 

@@ -41,6 +41,8 @@ impl Core {
             Call::Size(register) => ignore(self.size(slot, register)),
             Call::GlobalGet(into, global) => ignore(self.gget(slot, into, global)),
             Call::GlobalPut(global, from) => ignore(self.gput(slot, global, from)),
+            Call::Link(at, offset, to) => ignore(self.link(slot, at, offset, to)),
+            Call::Unlink(at, offset) => ignore(self.unlink(slot, at, offset)),
         }
     }
 

@@ -59,6 +59,8 @@ fn moved(call: &Call) -> Option<Reg>
         Call::Size(_) => None,
         Call::GlobalGet(into, _) => Some(into),
         Call::GlobalPut(_, from) => Some(from),
+        Call::Link(_, _, _) => None,
+        Call::Unlink(_, _) => None,
     }
 }
 

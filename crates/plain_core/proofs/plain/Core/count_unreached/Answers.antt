@@ -1,6 +1,6 @@
 use Rattle.std.proofs.Common.{refl, subst, arith}
 use Rattle.plain_core.specs.Parting.{Parts}
-use Rattle.plain_core.proofs.Collects.{sound_apart, lie_in, all_lie, collects, marks_are, room_for, room_kept}
+use Rattle.plain_core.proofs.Collects.{sound_apart, lie_in, all_lie, garbage, marks_are, room_for, room_kept}
 use Rattle.plain_core.proofs.plain.Core.count_unreached.Goals as goal
 
 pub list_from_roots-requires-clause-apart : goal.list_from_roots-requires-clause-apart
@@ -20,9 +20,7 @@ count_unflagged-requires c = rw (c.deref-3.ensures.value, c.deref-4.ensures.valu
 
 pub returns-clause-garbage : goal.returns-clause-garbage
 returns-clause-garbage c = rw (← c.self.view_is)
-    (λ s h.
-    let x = collects _ c.self.invariant.0 c.deref-4.result.now
+    (garbage _ c.self.invariant.0 c.deref-4.result.now
     (marks_are _ _ _ _ _ _ _ _ refl c.deref.ensures.value c.deref-2.ensures.value c.deref-4.ensures.value c.list_from_roots.ensures.marks)
     c.count_unflagged.ensures.0 c.count_unflagged.result
-    (subst (λ o. Parts o c.deref-4.result.now c.count_unflagged.ensures.0 c.count_unflagged.result) c.deref-3.ensures.value c.count_unflagged.ensures.1) s h in
-    (x.0, x.1))
+    (subst (λ o. Parts o c.deref-4.result.now c.count_unflagged.ensures.0 c.count_unflagged.result) c.deref-3.ensures.value c.count_unflagged.ensures.1))

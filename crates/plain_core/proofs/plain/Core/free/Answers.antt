@@ -1,5 +1,6 @@
-use Rattle.std.proofs.Common.{◌<◌, ◌≤◌, ◌*◌, length, sym, ap, ◌∙◌, arith}
+use Rattle.std.proofs.Common.{refl, ◌≡◌, ◌<◌, ◌≤◌, ◌*◌, length, sym, ap, ◌∙◌, arith}
 use Rattle.std.specs.Vec.{vec_capacity}
+use Rattle.std.proofs.lemmas.List.{with_items_is}
 use Rattle.std.proofs.lemmas.Option.{slice_get_within, get_or_from_slice_get}
 use Rattle.words.specs.declared.limits.TheConstants.{PAGE_GRANULES}
 use Rattle.heap_spec.specs.Steps.{Acts}
@@ -7,7 +8,8 @@ use Rattle.plain_core.specs.declared.extent.Extent.{Extent}
 use Rattle.roots.proofs.Refusals.{handed_on, handed_on_none}
 use Rattle.plain_core.proofs.Stands.{refused_vacant, keeps_all}
 use Rattle.plain_core.proofs.Objects.{reads_nothing}
-use Rattle.plain_core.proofs.Free.{refuses_inside, remove_sound, removes}
+use Rattle.plain_core.proofs.Collects.{all_lie}
+use Rattle.plain_core.proofs.Free.{refuses_inside, remove_sound, removes, along_of}
 use Rattle.plain_core.proofs.plain.Core.free.Goals as goal
 
 pub returns-in_err-mutator : goal.returns-in_err-mutator
@@ -35,12 +37,20 @@ swap_remove-freed-requires c =
     let within : c.in_ok-index.index < length c.self.inside.objects.items = slice_get_within _ _ _ there in
     omega (arith, c.self.inside.objects.ok.0)
 
+pub take_along-requires : goal.take_along-requires
+take_along-requires c =
+    let found = rw (c.in_ok-index.ensures.ok_part, c.deref.ensures.value, c.word-address.ensures) at c.index_at.ensures.some in
+    rw (c.deref_mut.ensures.value, c.deref-2.ensures.value)
+    (all_lie _ (remove_sound _ c.self.invariant.0 _ _ _ (slice_get_within _ _ _ found.1) c.swap_remove-freed.ensures.value c.swap_remove-freed.ensures.items c.self.inside.words.items c.self.inside.links refl))
+
 pub invariant_of-self : goal.invariant_of-self
 invariant_of-self c =
     let found = rw (c.in_ok-index.ensures.ok_part, c.deref.ensures.value, c.word-address.ensures) at c.index_at.ensures.some in
     let there = found.1 in
+    let long : length c.take_along.new.words ≡ length c.self.inside.words.items = c.take_along.auto.words ∙ ap length c.deref_mut.ensures.value in
     let spare : PAGE_GRANULES * c.self.inside.pages ≤ vec_capacity c.self.inside.objects = c.self.invariant.1.objects in (
-      remove_sound _ c.self.invariant.0 _ _ _ (slice_get_within _ _ _ there) c.swap_remove-freed.ensures.value c.swap_remove-freed.ensures.items,
+      remove_sound _ c.self.invariant.0 _ _ _ (slice_get_within _ _ _ there) c.swap_remove-freed.ensures.value c.swap_remove-freed.ensures.items _ _
+          (ap length (with_items_is c.self.inside.words c.take_along.new.words (long ∙ sym c.self.inside.words.ok.0)) ∙ long),
       record { objects = omega (arith, c.swap_remove-freed.ensures.capacity); lists = c.self.invariant.1.lists; flags = c.self.invariant.1.flags; words = c.self.invariant.1.words },
     )
 
@@ -51,6 +61,8 @@ returns c =
     let there = found.1 in
     let freed = c.swap_remove-freed.ensures.value ∙ get_or_from_slice_get c.self.inside.objects.items c.in_ok-index.index found.0 c.swap_remove-freed.result there in
     let object = c.index-object.ensures ∙ get_or_from_slice_get c.self.inside.objects.items c.in_ok-index.index found.0 c.index-object.result.now there in
-    removes _ c.self.invariant.0 _ _ _ (slice_get_within _ _ _ there) c.swap_remove-freed.ensures.value c.swap_remove-freed.ensures.items
+    let long : length c.take_along.new.words ≡ length c.self.inside.words.items = c.take_along.auto.words ∙ ap length c.deref_mut.ensures.value in
+    removes _ c.self.invariant.0 _ _ _ (slice_get_within _ _ _ there) c.swap_remove-freed.ensures.value c.swap_remove-freed.ensures.items _ _
+    (along_of _ _ _ _ _ _ _ c.deref-2.ensures.value c.deref_mut.ensures.value (with_items_is c.self.inside.words c.take_along.new.words (long ∙ sym c.self.inside.words.ok.0)) c.take_along.ensures.words c.take_along.ensures.links)
     _ _ _ c.in_ok-mutator.ensures.ok
     (ap (λ (y : Extent). y.base) (freed ∙ sym object) ∙ c.if-object-address.false ∙ c.word-address.ensures))

@@ -48,3 +48,9 @@ returns-in-GlobalGet c = rw c.in-GlobalGet.is (made _ _ _ _ _ c.gget.ensures)
 
 pub returns-in-GlobalPut : goal.returns-in-GlobalPut
 returns-in-GlobalPut c = rw c.in-GlobalPut.is (made _ _ _ _ _ c.gput.ensures)
+
+pub returns-in-Link : goal.returns-in-Link
+returns-in-Link c = rw c.in-Link.is (made _ _ _ _ _ c.link.ensures)
+
+pub returns-in-Unlink : goal.returns-in-Unlink
+returns-in-Unlink c = rw c.in-Unlink.is (made _ _ _ _ _ c.unlink.ensures)

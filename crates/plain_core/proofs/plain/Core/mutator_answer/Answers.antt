@@ -48,3 +48,9 @@ returns-in-GlobalGet c s h slot = rw c.in-GlobalGet.is (c.global_answer.ensures 
 
 pub returns-in-GlobalPut : goal.returns-in-GlobalPut
 returns-in-GlobalPut c s h slot = rw c.in-GlobalPut.is (_, Acts.global_put)
+
+pub returns-in-Link : goal.returns-in-Link
+returns-in-Link c s h slot = rw c.in-Link.is (c.link_answer.ensures s h slot)
+
+pub returns-in-Unlink : goal.returns-in-Unlink
+returns-in-Unlink c s h slot = rw c.in-Unlink.is (c.unlink_answer.ensures s h slot)

@@ -7,7 +7,7 @@ use Rattle.plain_core.specs.Parting.{Parts}
 use Rattle.plain_core.proofs.Collects.{sound_apart, lie_in, all_lie, marks_are, room_for, room_kept}
 use Rattle.plain_core.proofs.Forgets.{one_each, all_set, takes, cant, cant_all, all_unset_as}
 use Rattle.plain_core.proofs.Owning.{owners_as}
-use Rattle.plain_core.proofs.Free.{rest_sound}
+use Rattle.plain_core.proofs.Free.{rest_sound, along_of}
 use Rattle.plain_core.proofs.plain.Core.take.Goals as goal
 
 pub list_from_roots-requires-clause-apart : goal.list_from_roots-requires-clause-apart
@@ -45,12 +45,18 @@ returns-then-not-unset_flags-clause-no c refused = rw (← c.self.view_is)
     c.args.bases.now c.args.all
     (λ free. c.unset_flags.ensures.no c.if-not-unset_flags.true (subst (λ o. AreFreeToGo o c.deref-5.result.now c.args.bases.now) (sym c.deref-3.ensures.value) free)))
 
+pub take_along-requires : goal.take_along-requires
+take_along-requires c = rw (c.deref_mut-2.ensures.value, c.deref-9.ensures.value)
+    (all_lie _ (rest_sound _ c.self.invariant.0 c.keep_flagged-gone.ensures.parts.gone _ c.keep_flagged-gone.ensures.parts.all c.self.inside.words.items c.self.inside.links refl))
+
 pub invariant_of-self-2 : goal.invariant_of-self-2
 invariant_of-self-2 c =
     let spare : PAGE_GRANULES * c.self.inside.pages ≤ vec_len c.self.inside.stays = c.self.invariant.1.flags in
     let size = c.unset_flags.ensures.size in
-    let long = c.fill.ensures.len in (
-      rest_sound _ c.self.invariant.0 c.keep_flagged-gone.ensures.parts.gone _ c.keep_flagged-gone.ensures.parts.all,
+    let long = c.fill.ensures.len in
+    let kept : length c.take_along.new.words ≡ length c.self.inside.words.items = c.take_along.auto.words ∙ ap length c.deref_mut-2.ensures.value in (
+      rest_sound _ c.self.invariant.0 c.keep_flagged-gone.ensures.parts.gone _ c.keep_flagged-gone.ensures.parts.all _ _
+          (ap length (with_items_is c.self.inside.words c.take_along.new.words (kept ∙ sym c.self.inside.words.ok.0)) ∙ kept),
       record {
         objects = rw c.keep_flagged-gone.ensures.capacity c.self.invariant.1.objects;
         lists = room_kept _ _ _ c.self.invariant.1.lists c.list_from_roots.ensures.room;
@@ -93,5 +99,7 @@ returns-clause-yes c done =
     rw (← c.self.view_is)
     (takes _ c.self.invariant.0 c.deref-5.result.now
     (marks_are _ _ _ _ _ _ _ _ refl c.deref.ensures.value c.deref-2.ensures.value c.deref-5.ensures.value c.list_from_roots.ensures.marks)
-    c.args.bases.now free c.unset_flags.new.flags.items unset _ _ parts c.args.all
+    c.args.bases.now free c.unset_flags.new.flags.items unset _ _ parts _ _
+    (along_of _ _ _ _ _ _ _ c.deref-9.ensures.value c.deref_mut-2.ensures.value (with_items_is c.self.inside.words c.take_along.new.words (c.take_along.auto.words ∙ ap length c.deref_mut-2.ensures.value ∙ sym c.self.inside.words.ok.0)) c.take_along.ensures.words c.take_along.ensures.links)
+    c.args.all
     (λ all. all_unset_as _ _ _ _ _ _ (let is = c.len.ensures in omega (arith, c.self.inside.objects.ok.0)) (c.deref-6.ensures.value ∙ sym c.deref-5.ensures.value) c.deref-7.ensures.value (c.are_all_named.ensures.yes c.if-not-are_all_named.false all)))

@@ -1,0 +1,21 @@
+-- The objects that are left tell which links stay.
+use Rattle.std.specs.Prelude.{◌≡◌, ℕ, ◌*◌, ◌+◌, ◌&&◌, ◌==◌, Bool, List, nat_le, nat_lt, if◌then◌else◌, length, slice_index}
+use Rattle.std.specs.List.{list_any}
+use Rattle.words.specs.declared.limits.TheConstants.{WORD_BYTES}
+use Rattle.links.specs.declared.row.Link.{Link}
+use Rattle.links.specs.Leaving.{loses_with, stays_with, ClearsWords}
+use Rattle.plain_core.specs.declared.extent.Extent.{Extent}
+use Rattle.plain_core.specs.Standing.{place}
+
+-- whether one of the objects has the word at the address
+abbrev pub holds_word : List Extent → ℕ → Bool
+holds_word row a = list_any (λ e. nat_le e.base a && nat_lt a (e.base + WORD_BYTES * e.length)) row
+
+-- whether one of the objects has the base
+abbrev pub has_base : List Extent → ℕ → Bool
+has_base row base = list_any (λ e. e.base == base) row
+
+-- The word of the link is 0, if it has to become so, and all others are as they were.
+pub record ClearsWord (objects : List Extent) (l : Link) (old new : List ℕ) : Type 0 where
+  pub size : length new ≡ length old
+  pub words : (k : ℕ) → slice_index new k ≡ (if ((place l.address == k) && loses_with (holds_word objects) (has_base objects) l) then 0 else slice_index old k)

@@ -1,0 +1,86 @@
+//! What leaves takes its links along: the links to it are gone, and their words are 0 where their holder stays; and the links
+//! whose words lie in it are gone.
+ghost use Rattle.std.specs.Prelude.{◌≡◌, ◌≤◌, [], All, filter, length};
+ghost use Rattle.words.specs.declared.limits.TheConstants.{MAX_LINKS};
+ghost use Rattle.links.specs.Rows.{IsAlignedRow};
+ghost use Rattle.links.specs.Leaving.{ClearsWords, stays_with};
+ghost use Rattle.plain_core.specs.Standing.{LiesIn};
+ghost use Rattle.plain_core.specs.Along.{ClearsWord, holds_word, has_base};
+
+use crate::extent::{Extent, index_at};
+use crate::owners::place_of;
+use arrayvec::ArrayVec;
+use links::{Link, Links};
+use words::limits::MAX_LINKS;
+
+const MOST: usize = MAX_LINKS as usize;
+
+// Whether one of the objects has the word at an address.
+fn holds_word(objects: &[Extent], address: u64) -> bool
+    ensures { result ≡ holds_word objects.now address }
+{
+    let Some(_) = index_at(objects, address) else {
+        return false;
+    };
+    true
+}
+
+// Whether one of the objects has the base.
+fn has_base(objects: &[Extent], base: u64) -> bool
+    ensures { result ≡ has_base objects.now base }
+{
+    for object in objects {
+        if object.base == base {
+            return true;
+        }
+    }
+    false
+}
+
+// Whether a link stays. Where its holder does and the object that it names doesn't, its word becomes 0.
+fn keep_link(words: &mut [u64], objects: &[Extent], link: Link) -> bool
+    requires { All (LiesIn words.old) objects.now }
+    ensures stays { result ≡ stays_with (holds_word objects.now) (has_base objects.now) link }
+    ensures words { ClearsWord objects.now link words.old words.new }
+{
+    if !holds_word(objects, link.address) {
+        return false;
+    }
+    if has_base(objects, link.base) {
+        return true;
+    }
+    let place = place_of(link.address);
+    words[place] = 0;
+    false
+}
+
+// The same of some links, and copies those that stay.
+fn keep_links(
+    words: &mut [u64],
+    objects: &[Extent],
+    row: &[Link],
+    into: &mut ArrayVec<Link, MOST>,
+)
+    requires lie { All (LiesIn words.old) objects.now }
+    requires empty { into.old.items ≡ [] }
+    requires few { length row.now ≤ MAX_LINKS }
+    ensures links { into.new.items ≡ filter (stays_with (holds_word objects.now) (has_base objects.now)) row.now }
+    ensures words { ClearsWords (holds_word objects.now) (has_base objects.now) row.now words.old words.new }
+{
+    for link in row {
+        if keep_link(words, objects, *link) {
+            into.push(*link);
+        }
+    }
+}
+
+// Takes the links along with the objects that have left: these are the objects that stay.
+pub(crate) fn take_along(words: &mut [u64], objects: &[Extent], links: &mut Links)
+    requires { All (LiesIn words.old) objects.now }
+    ensures links { links.new ≡ filter (stays_with (holds_word objects.now) (has_base objects.now)) links.old }
+    ensures words { ClearsWords (holds_word objects.now) (has_base objects.now) links.old words.old words.new }
+{
+    let mut kept = ArrayVec::new();
+    keep_links(words, objects, links.as_slice(), &mut kept);
+    links.keep(kept);
+}
