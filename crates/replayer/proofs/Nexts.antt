@@ -1,8 +1,7 @@
 -- A replay has one next run.
 use Rattle.std.proofs.Common.{◌≡◌, ℕ, ◌+◌, Bool, true, false, List, length, replicate, cond, eqb, refl, sym, ap, ◌∙◌, subst, arith, ⊎_elim}
-use Rattle.std.specs.Prelude.{Contains, Option, Some, None}
+use Rattle.std.specs.Prelude.{Contains, Option, Some, None, option_map, filter, not, ◌&&◌, ◌||◌, ◌==◌}
 use Rattle.std.specs.List.{list_any}
-use Rattle.std.proofs.lemmas.Bool.{eqb-true, eq-eqb}
 use Rattle.std.proofs.lemmas.List.Folds.{Any-from_list_any, list_any-from_Any}
 use Rattle.std.proofs.lemmas.List.Elements.{All-contains}
 use Rattle.std.proofs.lemmas.Option.{same_Some}
@@ -10,13 +9,13 @@ use mathlib.Core.Path.{fun_ext}
 use Rattle.words.specs.declared.class.Kind.{Kind}
 use Rattle.words.specs.declared.class.Placement.{Placement}
 use Rattle.heap_spec.specs.declared.call.Call.{Call}
-use Rattle.heap_spec.specs.declared.call.Call.TheVariants.{Detach, Set, Copy, Add, Sub, Get, Push, Pop, Load, Store, Alloc, Free, Base, Size, GlobalGet, GlobalPut}
+use Rattle.heap_spec.specs.declared.call.Call.TheVariants.{Detach, Set, Copy, Add, Sub, Get, Push, Pop, Load, Store, Alloc, Free, Base, Size, GlobalGet, GlobalPut, Link, Unlink}
 use Rattle.heap_spec.specs.declared.event.Event.{Event}
 use Rattle.heap_spec.specs.declared.event.Event.TheVariants.{Attach, Mutator, Begin, Roots, Mark, Retrace, Finish, Sweep, Collect, Number}
 use Rattle.heap_spec.specs.declared.reply.Reply.{Reply}
 use Rattle.heap_spec.specs.declared.reply.Reply.TheVariants.{Done, Count, Refused}
 use Rattle.words.specs.declared.refusal.Refusal.TheVariants.{WrongPhase}
-use Rattle.heap_spec.specs.Heap.{Heap, Object, Mutator as HeapMutator, HasObject, IsAttached, without, without_at}
+use Rattle.heap_spec.specs.Heap.{Heap, Object, Mutator as HeapMutator, Link as HeapLink, HasObject, IsAttached, without, without_at, with_cleared, names, lies_in, is_born, covers}
 use Rattle.heap_spec.specs.Room.{length_of}
 use Rattle.heap_spec.specs.Ranges.{InRange}
 use Rattle.heap_spec.specs.Sound.{IsSound}
@@ -94,6 +93,8 @@ call_next s h slot (Base d a) reply t t' one other born = (calls_same s (legible
 call_next s h slot (Size r) reply t t' one other born = (calls_same s (legible s h) slot (Size r) reply reply t t' one other).1 tt
 call_next s h slot (GlobalGet d g) reply t t' one other born = (calls_same s (legible s h) slot (GlobalGet d g) reply reply t t' one other).1 tt
 call_next s h slot (GlobalPut g r) reply t t' one other born = (calls_same s (legible s h) slot (GlobalPut g r) reply reply t t' one other).1 tt
+call_next s h slot (Link a n r) reply t t' one other born = (calls_same s (legible s h) slot (Link a n r) reply reply t t' one other).1 tt
+call_next s h slot (Unlink a n) reply t t' one other born = (calls_same s (legible s h) slot (Unlink a n) reply reply t t' one other).1 tt
 
 attach_next : (s : Heap) {reply : Reply} {t t' : Heap} → Attaches s reply t → Attaches s reply t' → t ≡ t'
 attach_next s (Attaches.attached low) (Attaches.attached low') = refl
@@ -109,25 +110,39 @@ named_next (Place a) hint e n s t t' x y = absurd x
 
 -- full collections take the same objects out
 module _ (s : Heap) (reply : Reply) where
-  has_base : (bases : List ℕ) (base : ℕ) → list_any (λ b. eqb b base) bases ≡ true → Contains bases base
-  has_base bases base e = let any = Any-from_list_any (λ b. eqb b base) bases e in subst (Contains bases) (eqb-true any.1 base any.4) (any.0, any.2, any.3)
-
-  in_other : {t t' : Heap} (one : CollectsFully s reply t) (other : CollectsFully s reply t') (base : ℕ) → list_any (λ b. eqb b base) one.bases ≡ true → list_any (λ b. eqb b base) other.bases ≡ true
-  in_other one other base e =
-      let here = has_base one.bases base e in
+  in_other : {t t' : Heap} (one : CollectsFully s reply t) (other : CollectsFully s reply t') (base : ℕ) → Contains one.bases base → Contains other.bases base
+  in_other one other base here =
       let object = All-contains (λ b. (o : Object) × HasObject s b o) one.bases base one.takes.objects here in
-      let among = other.all base object.0 object.1 (All-contains (λ b. Reached s b → ⊥) one.bases base one.takes.unreached here) in
-      list_any-from_Any (λ b. eqb b base) other.bases (among.0, base, among.1, among.2, eq-eqb base base refl)
+      other.all base object.0 object.1 (All-contains (λ b. Reached s b → ⊥) one.bases base one.takes.unreached here)
 
   both_ways : (a b : Bool) → (a ≡ true → b ≡ true) → (b ≡ true → a ≡ true) → a ≡ b
   both_ways true b to from = sym (to refl)
   both_ways false true to from = from refl
   both_ways false false to from = refl
 
+  -- a test finds the same among the same bases
+  passes : (p : ℕ → Bool) (xs ys : List ℕ) → ((x : ℕ) → Contains xs x → Contains ys x) → list_any p xs ≡ true → list_any p ys ≡ true
+  passes p xs ys to e = let any = Any-from_list_any p xs e in let among = to any.1 (any.0, any.2, any.3) in list_any-from_Any p ys (among.0, any.1, among.1, among.2, any.4)
+
+  any_same : (xs ys : List ℕ) → ((x : ℕ) → Contains xs x → Contains ys x) → ((x : ℕ) → Contains ys x → Contains xs x) → (p : ℕ → Bool) → list_any p xs ≡ list_any p ys
+  any_same xs ys to from p = both_ways (list_any p xs) (list_any p ys) (passes p xs ys to) (passes p ys xs from)
+
+  -- the heap without objects, by what the tests say of these
+  abbrev left : (ℕ → Option Object) → (HeapLink → Bool) → (HeapLink → Bool) → Heap
+  left objects named lies = record s {
+    objects = λ q. option_map (with_cleared (λ a. list_any (λ (l : HeapLink). (l.address == a) && named l) s.links) q) (objects q);
+    links = filter (λ l. not (named l || lies l)) s.links;
+  }
+
+  without_same : (xs ys : List ℕ) → ((p : ℕ → Bool) → list_any p xs ≡ list_any p ys) → without s xs ≡ without s ys
+  without_same xs ys same =
+      let objects : without_at s.objects xs ≡ without_at s.objects ys = fun_ext (λ q. ap (λ b. cond b None (s.objects q)) (same (λ b. eqb b q))) in
+      let named : names s xs ≡ names s ys = fun_ext (λ l. same (λ b. is_born (s.objects b) l.birth)) in
+      let lies : lies_in s xs ≡ lies_in s ys = fun_ext (λ l. same (λ b. covers b (s.objects b) l.address)) in
+      ap (λ f. left f (names s xs) (lies_in s xs)) objects ∙ ap (λ f. left (without_at s.objects ys) f (lies_in s xs)) named ∙ ap (λ f. left (without_at s.objects ys) (names s ys) f) lies
+
   collect_next : {t t' : Heap} → CollectsFully s reply t → CollectsFully s reply t' → t ≡ t'
-  collect_next one other =
-      let objects : without_at s.objects one.bases ≡ without_at s.objects other.bases = fun_ext (λ q. ap (λ b. cond b None (s.objects q)) (both_ways (list_any (λ b. eqb b q) one.bases) (list_any (λ b. eqb b q) other.bases) (in_other one other q) (in_other other one q))) in
-      one.takes.after ∙ ap (λ (f : ℕ → Option Object). record s { objects = f }) objects ∙ sym other.takes.after
+  collect_next one other = one.takes.after ∙ without_same one.bases other.bases (any_same one.bases other.bases (in_other one other) (in_other other one)) ∙ sym other.takes.after
 
 -- a refusal is another reply
 refused_done : Refused WrongPhase ≡ Done → ⊥

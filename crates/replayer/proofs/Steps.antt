@@ -1,10 +1,9 @@
 -- How a run goes on, as a replayer follows it.
 use Rattle.std.proofs.Common.{◌≡◌, ◌⊎◌, ℕ, ◌+◌, ◌%◌, ◌<◌, ◌≤◌, Bool, true, false, List, Bor, length, cond, eqb, refl, sym, ap, ◌∙◌, subst, arith, inl, inr, ⊎_elim}
-use Rattle.std.specs.Prelude.{Contains, None}
+use Rattle.std.specs.Prelude.{Contains}
 use Rattle.std.specs.List.{list_any}
-use Rattle.std.proofs.lemmas.Bool.{eqb-true, eq-eqb, cond-true, true≢false}
+use Rattle.std.proofs.lemmas.Bool.{eqb-true, eq-eqb, true≢false}
 use Rattle.std.proofs.lemmas.List.Folds.{Any-from_list_any, list_any-from_Any}
-use Rattle.std.proofs.lemmas.Option.{none-some}
 use Rattle.words.specs.declared.class.Kind.{Kind}
 use Rattle.words.specs.declared.refusal.Refusal.TheVariants.{WrongPhase}
 use Rattle.heap_spec.specs.declared.call.Call.{Call}
@@ -26,6 +25,7 @@ use Rattle.plain_core.specs.Answering.{IsNoStep, IsBornAt, IsAllocatedAt, CantAl
 use Rattle.plain_core.specs.Collections.{IsCollected, CantCollect, TakesBases, CantTake, HasUnreached}
 use Rattle.plain_core.specs.Flags.{HasFlags, FlagsReached, FlagsLed, FlagsBrought, NamesUnflagged, ForgetsUnflagged, CantForget}
 use Rattle.heap_spec.specs.Touching.{HasApartObjects}
+use Rattle.heap_spec.proofs.Links.{left_by, stays_by}
 use Rattle.heap_spec.proofs.Touching.{calls_pages, attach_pages}
 use Rattle.replayer.specs.declared.hint.Hint.{Hint}
 use Rattle.replayer.specs.declared.hint.Hint.TheVariants.{Nothing, Place, Forgot}
@@ -63,6 +63,13 @@ acts_births s slot m (Acts.size_nothing e) none = refl
 acts_births s slot m (Acts.sized r) none = refl
 acts_births s slot m Acts.global_got none = refl
 acts_births s slot m Acts.global_put none = refl
+acts_births s slot m (Acts.link_misaligned al) none = refl
+acts_births s slot m (Acts.link_nowhere al e) none = refl
+acts_births s slot m (Acts.link_in_normal al r k) none = refl
+acts_births s slot m (Acts.link_to_nothing al r k e) none = refl
+acts_births s slot m (Acts.links_full al r k p few e) none = refl
+acts_births s slot m (Acts.linked al r k p room) none = refl
+acts_births s slot m Acts.unlinked none = refl
 
 pub calls_births : (s : Heap) (slot : ℕ) (call : Call) (reply : Reply) (s' : Heap) → Calls s slot call reply s' → (IsGrant call reply → ⊥) → s'.births ≡ s.births
 calls_births s slot call reply s' (acts {m = m} at act) none = acts_births s slot m act none
@@ -358,19 +365,14 @@ pub uncounted : (reply : Reply) (n len : ℕ) → reply ≡ Count n → (n ≡ l
 uncounted reply n len is ne k same also = ne (count_same n k (sym is ∙ also) ∙ same)
 
 -- what one list of bases takes out is what another does
-taken_bases : (s : Heap) (b : Bool) (base : ℕ) (o : Object) → HasObject s base o → cond b None (s.objects base) ≡ None → b ≡ true
-taken_bases s true base o has none = refl
-taken_bases s false base o has none = absurd (none-some o (sym none ∙ has))
-
 same_among : (s s' : Heap) (mine theirs : List ℕ) → s' ≡ without s mine → s' ≡ without s theirs → (base : ℕ) (o : Object) → HasObject s base o → Contains theirs base → Contains mine base
-same_among s s' mine theirs is other base o has among =
-    let gone : (without s theirs).objects base ≡ None = gone_from in
-    let here : (without s mine).objects base ≡ None = ap (λ (x : Heap). x.objects base) (sym is ∙ other) ∙ gone in
-    let any = Any-from_list_any (λ b. eqb b base) mine (taken_bases s (list_any (λ b. eqb b base) mine) base o has here) in
-    subst (Contains mine) (eqb-true any.1 base any.4) (any.0, any.2, any.3)
+same_among s s' mine theirs is other base o has among = by (list_any (λ b. eqb b base) mine) refl
   where
-    gone_from : (without s theirs).objects base ≡ None
-    gone_from = cond-true (list_any (λ b. eqb b base) theirs) None (s.objects base) (list_any-from_Any (λ b. eqb b base) theirs (among.0, base, among.1, among.2, eq-eqb base base refl))
+    by : (b : Bool) → list_any (λ b. eqb b base) mine ≡ b → Contains mine base
+    by true e = let any = Any-from_list_any (λ b. eqb b base) mine e in subst (Contains mine) (eqb-true any.1 base any.4) (any.0, any.2, any.3)
+    by false e =
+        let stays = stays_by s mine base o has (λ mine_has. true≢false (sym (list_any-from_Any (λ b. eqb b base) mine (mine_has.0, base, mine_has.1, mine_has.2, eq-eqb base base refl)) ∙ e)) in
+        absurd ((left_by s theirs base _ (ap (λ (x : Heap). x.objects base) (sym other ∙ is) ∙ stays)).out among)
 
 pub same_bases : (s s' : Heap) (mine theirs : List ℕ) → s' ≡ without s mine → s' ≡ without s theirs → HasUnreached s theirs → HasUnreached s mine
 same_bases s s' mine theirs is other all base o has out = same_among s s' mine theirs is other base o has (all base o has out)
