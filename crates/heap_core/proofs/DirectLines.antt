@@ -206,13 +206,13 @@ abbrev LinesTo : Contents → ℕ → List ℕ → Type 0
 LinesTo old slot ws = (lines : List Told) × All (IsWriteLine slot) lines × AreLines old lines (with_memory old ws old.cycle.marking.dirty)
 
 pub writes_line : WritesAreLines
-writes_line old new rows slot m whole at row writes =
+writes_line old new slot m whole at row writes =
     let went = by_words old new.store.words new.cycle.marking.dirty writes.size writes.words (LinesTo old slot) ([], (λ k d lt. absurd (omega arith)), no_lines old) on in
     (went.0, went.1, λ start run follows. let w = went.2 start run follows in (w.0, w.1, subst (λ (c : Contents). Follows c start w.0) (sym writes.alone) (other_dirty old new.store.words new.cycle.marking.dirty start w.0 w.2)))
   where
     on : (ws : List ℕ) (a : ℕ) (f : Found) → length ws ≡ length old.store.words → IsWordAddress old.store.words a → objects_of old a ≡ Some f → IsWord (word_at new.store.words a) → LinesTo old slot ws → LinesTo old slot (with_word_at ws a (word_at new.store.words a))
     on ws a f len there is word p =
-        let size = whole.space.listed.size in let few = whole.core.laid.few in let pages = whole.core.traced.pages in let above = there.above in let below = there.below in
+        let size = whole.space.whole.listed.size in let few = whole.core.laid.few in let pages = whole.core.traced.pages in let above = there.above in let below = there.below in
         one_word old.roots (record old.store { words = ws }) (record old.cycle { marking = with_dirty old.cycle.marking old.cycle.marking.dirty }) slot a (word_at new.store.words a) m f whole.core.lawful (len ∙ size)
         at row.size there.aligned (omega arith) (omega arith) is old p.0 row.words word p.1 p.2
 
@@ -289,12 +289,12 @@ abbrev VisitsTo : Contents → ℕ → List ℕ → Type 0
 VisitsTo old slot ws = (lines : List Told) × All (IsVisitLine slot) lines × AreLines old lines (with_memory old ws old.cycle.marking.dirty)
 
 pub writes_visit : WritesAreVisits
-writes_visit old new rows slot whole next writes =
+writes_visit old new slot whole next writes =
     let went = by_words old new.store.words new.cycle.marking.dirty writes.size writes.words (VisitsTo old slot) ([], (λ k d lt. absurd (omega arith)), no_lines old) on in
     (went.0, went.1, λ start run follows. let w = went.2 start run follows in (w.0, w.1, subst (λ (c : Contents). Follows c start w.0) (sym writes.alone) (other_dirty old new.store.words new.cycle.marking.dirty start w.0 w.2)))
   where
     on : (ws : List ℕ) (a : ℕ) (f : Found) → length ws ≡ length old.store.words → IsWordAddress old.store.words a → objects_of old a ≡ Some f → IsWord (word_at new.store.words a) → VisitsTo old slot ws → VisitsTo old slot (with_word_at ws a (word_at new.store.words a))
     on ws a f len there is word p =
-        let size = whole.space.listed.size in let few = whole.core.laid.few in let pages = whole.core.traced.pages in let above = there.above in let below = there.below in
+        let size = whole.space.whole.listed.size in let few = whole.core.laid.few in let pages = whole.core.traced.pages in let above = there.above in let below = there.below in
         one_visit old.roots (record old.store { words = ws }) (record old.cycle { marking = with_dirty old.cycle.marking old.cycle.marking.dirty }) slot a (word_at new.store.words a) f whole.core.lawful (len ∙ size)
         next there.aligned (omega arith) (omega arith) is old p.0 word p.1 p.2

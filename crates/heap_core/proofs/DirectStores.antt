@@ -165,7 +165,7 @@ abbrev StandsAfter : Contents → Heap → List ℕ → Type 0
 StandsAfter old s ws = (s' : Heap) × StoresWords s s' × StandsFor (with_memory old ws old.cycle.marking.dirty) s'
 
 pub writes_store : WritesAreStores
-writes_store old new rows whole writes s h =
+writes_store old new whole writes s h =
     let went = by_words old new.store.words new.cycle.marking.dirty writes.size writes.words (StandsAfter old s) (s, StoresWords.none, stands_same old s h) on in (
       went.0,
       went.1,
@@ -176,5 +176,5 @@ writes_store old new rows whole writes s h =
   where
     on : (ws : List ℕ) (a : ℕ) (f : Found) → length ws ≡ length old.store.words → IsWordAddress old.store.words a → objects_of old a ≡ Some f → IsWord (word_at new.store.words a) → StandsAfter old s ws → StandsAfter old s (with_word_at ws a (word_at new.store.words a))
     on ws a f len at is word p =
-        let one = stores_one old old.cycle.marking.dirty ws a (word_at new.store.words a) f whole.core.lawful (len ∙ whole.space.listed.size) at.aligned is word p.0 p.2 in
+        let one = stores_one old old.cycle.marking.dirty ws a (word_at new.store.words a) f whole.core.lawful (len ∙ whole.space.whole.listed.size) at.aligned is word p.0 p.2 in
         (one.0, StoresWords.more p.1 one.1, one.2)

@@ -12,7 +12,7 @@ use Rattle.heap_core.specs.Standing.{keeps, objects_of}
 use Rattle.heap_core.specs.DirectWrites.{IsLeftOrWritten, ToldMayBeWritten}
 
 pub told_written : ToldMayBeWritten
-told_written old new rows address w f whole tells kept aligned word = record {
+told_written old new address w f whole tells kept aligned word = record {
   alone = refl;
   size = length-set new.store.words (place address) w;
   words = λ a at. ⊎_elim (here a) (λ ne. IsLeftOrWritten.left (get_or-set_other new.store.words (place address) (place a) w 0 (apart a at ne))) (cases_eq a address);
@@ -24,7 +24,7 @@ told_written old new rows address w f whole tells kept aligned word = record {
     found = (kept_cases (keeps old) (found_in old.store.states) address f (sym (ap (λ (c : Contents). objects_of c address) tells.alone) ∙ kept)).0
 
     there : IsWordAddress old.store.words address
-    there = is_word (found_in old.store.states) (length old.store.states) whole.core.lawful.map old.store.words whole.space.listed.size address f found aligned
+    there = is_word (found_in old.store.states) (length old.store.states) whole.core.lawful.map old.store.words whole.space.whole.listed.size address f found aligned
 
     same_words : new.store.words ≡ old.store.words
     same_words = ap (λ (c : Contents). c.store.words) tells.alone
@@ -39,4 +39,4 @@ told_written old new rows address w f whole tells kept aligned word = record {
     here a e = subst (IsLeftOrWritten new (with_word_at new.store.words address w) new.cycle.marking.dirty) (sym e)
         (IsLeftOrWritten.written f kept (subst IsWord (sym (get_or-set_same new.store.words (place address) w 0 inside)) word)
         (λ is normal. inr (tells.written (sym (ap (λ (c : Contents). c.cycle.is_marking) tells.alone) ∙ is) there.above
-        (let size = whole.space.listed.size in let above = there.above in let below = there.below in omega arith))))
+        (let size = whole.space.whole.listed.size in let above = there.above in let below = there.below in omega arith))))

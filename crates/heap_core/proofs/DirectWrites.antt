@@ -12,6 +12,7 @@ use Rattle.block_map.proofs.Unread.{listed_unread}
 use Rattle.marker.specs.Marking.{with_dirty, word_address}
 use Rattle.marker.specs.Invariant.{DirtyPageInvariant, IsAwaited}
 use Rattle.object_space.proofs.Kept.{kept_cases, kept_none}
+use Rattle.object_space.specs.Store.{IsWholeSpace}
 use Rattle.heap_view.proofs.Shows.{is_word}
 use Rattle.heap_core.specs.Contents.{Contents}
 use Rattle.heap_core.specs.Standing.{keeps}
@@ -54,10 +55,23 @@ module _ (c : Contents) (words : List ℕ) (dirty : List Bool) (each : (a : ℕ)
           let one : g ≡ f = same_Some g f (sym (kept_cases (keeps c) (found_in c.store.states) (word_address f i) g kept).0 ∙ found) in
           ⊎_elim (λ t. inl (λ x e. t x e)) (λ d. inr (inl d)) (on is (ap (λ (x : Found). x.kind) one ∙ normal))
 
-keeps_core : (c : Contents) (words : List ℕ) (dirty : List Bool) (rows : List (List Bool)) → IsWholeCore c rows → length words ≡ length c.store.words
+keeps_space : (c : Contents) (words : List ℕ) (dirty : List Bool) (whole : IsWholeCore c) → length words ≡ length c.store.words
+    → ((a : ℕ) → IsWordAddress c.store.words a → IsLeftOrWritten c words dirty a) → IsWholeSpace (record c.store { words = words }) whole.space.ready whole.space.waiting
+keeps_space c words dirty whole size each = record {
+  sound = record { agree = space.sound.agree; used = space.sound.used };
+  listed = listed_unread c.store.words c.store.states whole.core.laid words size (unread c words dirty each) space.listed;
+  exact = space.exact;
+  awaited = space.awaited;
+  pending = record { size = space.pending.size; cut = space.pending.cut };
+}
+  where
+    space : IsWholeSpace c.store whole.space.ready whole.space.waiting
+    space = whole.space.whole
+
+keeps_core : (c : Contents) (words : List ℕ) (dirty : List Bool) → IsWholeCore c → length words ≡ length c.store.words
     → ((a : ℕ) → IsWordAddress c.store.words a → IsLeftOrWritten c words dirty a) → length dirty ≡ length c.cycle.marking.dirty → ((p : ℕ) → Has c.cycle.marking.dirty p → Has dirty p)
-    → IsWholeCore (with_memory c words dirty) rows
-keeps_core c words dirty rows whole size each dirty_len more = record {
+    → IsWholeCore (with_memory c words dirty)
+keeps_core c words dirty whole size each dirty_len more = record {
   core = record {
     sound = record { agree = whole.core.sound.agree; used = whole.core.sound.used };
     pending = record { size = whole.core.pending.size; cut = whole.core.pending.cut };
@@ -68,15 +82,10 @@ keeps_core c words dirty rows whole size each dirty_len more = record {
       pages = dirty_len ∙ whole.core.traced.pages;
       objects = whole.core.traced.objects;
       swept = whole.core.traced.swept;
-      invariant = λ is. invariant c words dirty each whole.core.lawful whole.space.listed more is (whole.core.traced.invariant is);
+      invariant = λ is. invariant c words dirty each whole.core.lawful whole.space.whole.listed more is (whole.core.traced.invariant is);
     };
   };
-  space = record {
-    sound = record { agree = whole.space.sound.agree; used = whole.space.sound.used };
-    listed = listed_unread c.store.words c.store.states whole.core.laid words size (unread c words dirty each) whole.space.listed;
-    exact = whole.space.exact;
-    pending = record { size = whole.space.pending.size; cut = whole.space.pending.cut };
-  };
+  space = record { ready = whole.space.ready; waiting = whole.space.waiting; whole = keeps_space c words dirty whole size each };
   marker = record {
     marks = let old = whole.marker.marks in let len = dirty_len in omega arith;
     few = let old = whole.marker.few in let len = dirty_len in omega arith;
@@ -86,5 +95,5 @@ keeps_core c words dirty rows whole size each dirty_len more = record {
 }
 
 pub writes_keep : WritesKeepCores
-writes_keep old new rows whole writes = subst (λ (n : Contents). IsWholeCore n rows) (sym writes.alone)
-    (keeps_core old new.store.words new.cycle.marking.dirty rows whole writes.size writes.words writes.dirty_len writes.stays_dirty)
+writes_keep old new whole writes = subst (λ (n : Contents). IsWholeCore n) (sym writes.alone)
+    (keeps_core old new.store.words new.cycle.marking.dirty whole writes.size writes.words writes.dirty_len writes.stays_dirty)

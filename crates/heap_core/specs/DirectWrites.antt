@@ -19,7 +19,7 @@ use Rattle.block_map.specs.FoundIn.{found_in}
 use Rattle.marker.specs.Invariant.{IsTargetMarked}
 use Rattle.marker.specs.Marking.{IsConsistent, StaysDirty, with_dirty}
 use Rattle.roots.specs.Roots.{HasMutator, IsNextSlot}
-use Rattle.object_space.specs.Store.{IsWholeSpace}
+use Rattle.object_space.specs.Store.{IsWholeStore}
 use Rattle.heap_core.specs.Contents.{Contents, IsCore}
 use Rattle.heap_core.specs.Standing.{StandsFor, objects_of}
 use Rattle.heap_core.specs.Following.{AreLines, Follows}
@@ -46,10 +46,10 @@ pub record WritesWords (old new : Contents) : Type 0 where
   pub stays_dirty : StaysDirty old.cycle.marking new.cycle.marking
 
 -- All that is true of a core: what its callers are told, and what its parts keep to themselves, the lists of free cells in the
--- words, the rows of pages with a free cell, and what the marker knows of its entries.
-pub record IsWholeCore (c : Contents) (rows : List (List Bool)) : Type 0 where
+-- words, the rows of ready and of waiting pages, and what the marker knows of its entries.
+pub record IsWholeCore (c : Contents) : Type 0 where
   pub core : IsCore c
-  pub space : IsWholeSpace c.store rows
+  pub space : IsWholeStore c.store
   pub marker : IsConsistent c.cycle.marking
 
 -- One word of one object is another.
@@ -76,12 +76,12 @@ HasWordsOf words s = (base i : ℕ) (o : Object) → HasObject s base o → i < 
 
 -- Whatever is true of every core stays true.
 abbrev pub WritesKeepCores : Type 0
-WritesKeepCores = (old new : Contents) (rows : List (List Bool)) → IsWholeCore old rows → WritesWords old new → IsWholeCore new rows
+WritesKeepCores = (old new : Contents) → IsWholeCore old → WritesWords old new → IsWholeCore new
 
 -- From each heap that the core stood for, stores of words lead to one that it stands for: the same objects, with the words that
 -- the memory has.
 abbrev pub WritesAreStores : Type 0
-WritesAreStores = (old new : Contents) (rows : List (List Bool)) → IsWholeCore old rows → WritesWords old new
+WritesAreStores = (old new : Contents) → IsWholeCore old → WritesWords old new
     → (s : Heap) → StandsFor old s → (s' : Heap) × StoresWords s s' × HasOtherWords s s' × HasWordsOf new.store.words s' × StandsFor new s'
 
 -- A line of the mutator at the slot: it puts a word into a register of its own, or stores the word of one, and the answer is
@@ -93,7 +93,7 @@ pub data IsWriteLine (slot : ℕ) : Told → Type 0 where
 -- To each run that the core followed they are lines of any mutator that is attached, by which it goes on legally to one that the
 -- core follows: what they made is what sets and stores make, and so is what is touched.
 abbrev pub WritesAreLines : Type 0
-WritesAreLines = (old new : Contents) (rows : List (List Bool)) (slot : ℕ) (m : HeapMutator) → IsWholeCore old rows → HasMutator old.roots slot m → IsRow REGISTERS m.registers
+WritesAreLines = (old new : Contents) (slot : ℕ) (m : HeapMutator) → IsWholeCore old → HasMutator old.roots slot m → IsRow REGISTERS m.registers
     → WritesWords old new → (lines : List Told) × All (IsWriteLine slot) lines × AreLines old lines new
 
 -- A line of a mutator that comes to the slot, puts words into its registers and stores them, and goes.
@@ -104,7 +104,7 @@ pub data IsVisitLine (slot : ℕ) : Told → Type 0 where
 
 -- They are also lines of a mutator that comes to write and goes, where a slot is vacant.
 abbrev pub WritesAreVisits : Type 0
-WritesAreVisits = (old new : Contents) (rows : List (List Bool)) (slot : ℕ) → IsWholeCore old rows → IsNextSlot old.roots slot
+WritesAreVisits = (old new : Contents) (slot : ℕ) → IsWholeCore old → IsNextSlot old.roots slot
     → WritesWords old new → (lines : List Told) × All (IsVisitLine slot) lines × AreLines old lines new
 
 -- An address was told: while a cycle is marking its page is dirty, if the heap has it, and no other page has become so. This is
@@ -120,5 +120,5 @@ pub record TellsWritten (address : ℕ) (old new : Contents) : Type 0 where
 
 -- Once the address of a word of a kept object was told, any word may be written there.
 abbrev pub ToldMayBeWritten : Type 0
-ToldMayBeWritten = (old new : Contents) (rows : List (List Bool)) (address w : ℕ) (f : Found) → IsWholeCore old rows → TellsWritten address old new → objects_of new address ≡ Some f → address % WORD_BYTES ≡ 0 → IsWord w
+ToldMayBeWritten = (old new : Contents) (address w : ℕ) (f : Found) → IsWholeCore old → TellsWritten address old new → objects_of new address ≡ Some f → address % WORD_BYTES ≡ 0 → IsWord w
     → WritesWords new (with_memory new (with_word_at new.store.words address w) new.cycle.marking.dirty)

@@ -82,7 +82,7 @@ impl Core {
     /// the calls.
     #[inline]
     pub fn whole(&self)
-        ensures { (rows : List (List Bool)) × IsWholeCore self.now rows }
+        ensures { IsWholeCore self.now }
     {
         self.laws();
         self.objects.whole();

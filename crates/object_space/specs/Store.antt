@@ -63,3 +63,9 @@ pub record IsWholeSpace (t : Store) (ready waiting : List (List Bool)) : Type 0 
   pub exact : AreReady ready t.states t.pending
   pub awaited : AreWaiting waiting t.states t.pending
   pub pending : IsPendingRow t
+
+-- The store is whole with some rows of ready and of waiting pages.
+pub record IsWholeStore (t : Store) : Type 0 where
+  pub ready : List (List Bool)
+  pub waiting : List (List Bool)
+  pub whole : IsWholeSpace t ready waiting

@@ -10,7 +10,7 @@ ghost use Rattle.pages.specs.Opening.{IsOpened};
 ghost use Rattle.block_map.specs.FoundIn.{found_in, IsLawful};
 ghost use Rattle.block_map.specs.States.{IsLaid};
 ghost use Rattle.block_map.specs.declared.found.Found.{Found};
-ghost use Rattle.object_space.specs.Store.{AreEmptyPages, IsPendingRow, IsWholeSpace, HasSoundPages, IsSwept};
+ghost use Rattle.object_space.specs.Store.{AreEmptyPages, IsPendingRow, IsWholeStore, HasSoundPages, IsSwept};
 ghost use Rattle.object_space.specs.Kept.{kept_in};
 ghost use Rattle.object_space.specs.Stores.{Stores};
 
@@ -95,9 +95,9 @@ impl ObjectSpace {
     /// that have one.
     #[inline]
     pub fn whole(&self)
-        ensures { (rows : List (List Bool)) × IsWholeSpace self.now rows }
+        ensures { IsWholeStore self.now }
     {
-        let _available = &self.available;
+        let _ready = &self.ready;
     }
 
     /// The number of pages.
