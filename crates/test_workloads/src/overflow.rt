@@ -35,6 +35,13 @@ fn push_loads(script: &mut String, replies: &mut String) -> Result<(), Fail> {
 }
 
 // The objects, lines of the collector by which none of them goes, and the numbers again.
+fn push_targets(script: &mut String, replies: &mut String, end: (&str, &str)) -> Result<(), Fail> {
+    push_objects(script, replies)?;
+    script.push_str(end.0)?;
+    replies.push_str(end.1)?;
+    push_loads(script, replies)
+}
+
 fn check_targets(
     rt: &impl Abort,
     scene: &mut Scene,
@@ -43,10 +50,7 @@ fn check_targets(
 ) -> Result<(), Fail> {
     let mut script = String::new(scene.alloc);
     let mut replies = String::new(scene.alloc);
-    push_objects(&mut script, &mut replies)?;
-    script.push_str(end.0)?;
-    replies.push_str(end.1)?;
-    push_loads(&mut script, &mut replies)?;
+    push_targets(&mut script, &mut replies, end)?;
     scene.check_row(rt, name, 4, script.as_str(), replies.as_str());
     Ok(())
 }
