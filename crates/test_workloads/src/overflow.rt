@@ -55,11 +55,16 @@ fn check_targets(
     Ok(())
 }
 
+// Once by a cycle, and once by a full collection.
+fn check_ends(rt: &impl Abort, scene: &mut Scene) -> Result<(), Fail> {
+    let cycle = ("gc begin\ngc roots\ngc finish\n", "ok\nok\n0\n");
+    check_targets(rt, scene, "finish", cycle)?;
+    let full = ("gc collect\n", "0\n");
+    check_targets(rt, scene, "collect", full)
+}
+
 #[test]
 fn targets_past_a_full_mark_stack_are_read(rt: HostRuntime) -> Result<(), Fail> {
     let mut scene = Scene::new(rt.alloc())?;
-    let cycle = ("gc begin\ngc roots\ngc finish\n", "ok\nok\n0\n");
-    check_targets(&rt, &mut scene, "finish", cycle)?;
-    let full = ("gc collect\n", "0\n");
-    check_targets(&rt, &mut scene, "collect", full)
+    check_ends(&rt, &mut scene)
 }

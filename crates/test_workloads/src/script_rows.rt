@@ -105,13 +105,18 @@ fn check_overflow(
     Ok(())
 }
 
+// Once by a cycle, and once by a full collection.
+fn check_overflows(rt: &impl Abort, scene: &mut Scene) -> Result<(), Fail> {
+    let cycle = ("gc begin\ngc roots\ngc finish\n", "ok\nok\n0\n");
+    check_overflow(rt, scene, "mark_stack_overflow", cycle)?;
+    let full = ("gc collect\n", "0\n");
+    check_overflow(rt, scene, "mark_stack_overflow_in_collect", full)
+}
+
 #[test]
 fn an_overflowing_mark_stack_loses_nothing(rt: HostRuntime) -> Result<(), Fail> {
     let mut scene = Scene::new(rt.alloc())?;
-    let cycle = ("gc begin\ngc roots\ngc finish\n", "ok\nok\n0\n");
-    check_overflow(&rt, &mut scene, "mark_stack_overflow", cycle)?;
-    let full = ("gc collect\n", "0\n");
-    check_overflow(&rt, &mut scene, "mark_stack_overflow_in_collect", full)
+    check_overflows(&rt, &mut scene)
 }
 
 // Runs a row from bytes to bytes.
