@@ -353,10 +353,6 @@ module _ (old : Contents) (small : old.number < word_end) (few : old.births < wo
 pub count_same : (a b : ℕ) → Count a ≡ Count b → a ≡ b
 count_same a b e = cc
 
--- a reply of another number
-pub uncounted : (reply : Reply) (n len : ℕ) → reply ≡ Count n → (n ≡ len → ⊥) → (k : ℕ) → k ≡ len → reply ≡ Count k → ⊥
-uncounted reply n len is ne k same also = ne (count_same n k (sym is ∙ also) ∙ same)
-
 -- what one list of bases takes out is what another does
 taken_bases : (s : Heap) (b : Bool) (base : ℕ) (o : Object) → HasObject s base o → cond b None (s.objects base) ≡ None → b ≡ true
 taken_bases s true base o has none = refl

@@ -2,7 +2,7 @@ use Rattle.std.proofs.Common.{ℕ, ◌∙◌, subst}
 use Rattle.std.specs.Prelude.{take}
 use Rattle.std.specs.Io.KnownBytes.{Appends}
 use Rattle.scripts.proofs.Bytes.{Appends-none}
-use Rattle.commands.proofs.random.write_stress.Goals as goal
+use Rattle.command_line.proofs.random.write_stress.Goals as goal
 
 pub returns-in_default-clause-written : goal.returns-in_default-clause-written
 returns-in_default-clause-written g c = Appends-none (g.W.Sink.written c.args.writer.now)

@@ -4,7 +4,7 @@ ghost use Rattle.words.specs.declared.limits.TheConstants.{SLOTS};
 ghost use Rattle.workloads.specs.declared.limits.TheConstants.{MAX_STEPS};
 ghost use Rattle.workloads.specs.Stress.{stress_text};
 ghost use Rattle.scripts.specs.Ends.{write_faults};
-ghost use Rattle.commands.specs.Writing.{IsWrittenAs};
+ghost use Rattle.command_line.specs.Writing.{IsWrittenAs};
 
 use scripts::{ScriptError, Sink, write_all};
 use std::alloc::Global;
