@@ -70,7 +70,7 @@ try_ends() {
 
 open_room() {
     mkdir -p "$tree" "$room/bin" "$room/seen" "$room/says" "$room/temporary" "$room/caller" "$room/home"
-    (cd "$top" && tar cf - mpheap README.md HANDLES crates.txt crates/*/{src,specs,proofs} crates/mpheap/args 2>/dev/null) |
+    (cd "$top" && tar cf - mpheap README.md HANDLES crates.txt c include crates/*/{src,specs,proofs} crates/mpheap/args 2>/dev/null) |
         tar xf - -C "$tree"
     mkdir -p "$tree/crates/elsewhere/src"
     echo "elsewhere: words" >>"$tree/crates.txt"
@@ -91,6 +91,7 @@ case $1 in
         ;;
     lib)
         [ "$(basename "$PWD")" != "$(cat "$ROOM/says/refused" 2>/dev/null)" ] || { echo "a goal is open" && exit 1; }
+        if [ "$(basename "$PWD")" = mpheap_c ]; then mkdir -p out && ar rcs out/libmpheap_c.a; fi
         ;;
     run)
         mkdir -p out
@@ -112,11 +113,18 @@ usage_comes_first() {
     has "no words: threads" "mpheap threads --pages N [--helpers H] FILE" "$err"
     has "no words: stress" "mpheap stress --seed S --mutators M --steps K" "$err"
     has "no words: build" "mpheap build" "$err"
+    has "no words: install" "mpheap install PREFIX" "$err"
     has "no words: which page says more" "$tree/docs/SCRIPTS.md" "$err"
     is "no words: nothing is built" "" "$(calls)"
     call build now
     is "build takes no word: status" 2 "$status"
     is "build takes no word: nothing is built" "" "$(calls)"
+    call install
+    is "install takes a folder: status" 2 "$status"
+    call install "$room/prefix"
+    is "install before a build: status" 3 "$status"
+    has "install before a build: what to do" "mpheap build" "$err"
+    is "install before a build: nothing is copied" no "$(test -e "$room/prefix" && echo yes || echo no)"
 }
 
 words_stay_as_they_are() {
@@ -248,7 +256,9 @@ no_answer_is_status_three() {
 build_shows_its_way() {
     call build
     is "a build: status" 0 "$status"
-    is "a build: its one line of output" "mpheap: the proved build is $tree/crates/mpheap/out/mpheap" "$out"
+    is "a build: its first line of output" "mpheap: the proved build is $tree/crates/mpheap/out/mpheap" "$(head -n 1 "$room/out")"
+    is "a build: how C is compiled" "mpheap: a program in C: cc -I$tree/include program.c $tree/crates/mpheap_c/out/libmpheap.a" "$(tail -n 1 "$room/out")"
+    is "a build: the archive" yes "$(test -f "$tree/crates/mpheap_c/out/libmpheap.a" && echo yes || echo no)"
     has "a build: how long, beforehand" "minutes" "$(head -n 1 "$room/err")"
     is "a build: the lowest crate first" "words lib" "$(calls | head -n 1)"
     is "a build: the program last" "mpheap run -- run --pages 1" "$(calls | tail -n 1)"
@@ -294,6 +304,20 @@ proved_is_said_where_it_is_true() {
     rm "$tree/crates/mpheap/src/new.rt"
     echo "# more" >>"$tree/crates/mpheap/out/mpheap"
     runs_unproved "another program in its place"
+}
+
+the_heap_for_c_is_copied() {
+    call install "$room/prefix"
+    is "install: status" 0 "$status"
+    for file in include/mpheap.h lib/libmpheap.a lib/pkgconfig/mpheap.pc lib/cmake/mpheap/mpheap-config.cmake; do
+        is "install: $file" yes "$(test -f "$room/prefix/$file" && echo yes || echo no)"
+    done
+    has "install: how C is compiled" "$room/prefix/lib/pkgconfig" "$out"
+    echo "// more" >>"$tree/crates/words/src/lib.rt"
+    call install "$room/other"
+    is "install after an edit: status" 3 "$status"
+    is "install after an edit: nothing is copied" no "$(test -e "$room/other" && echo yes || echo no)"
+    sed -i '$d' "$tree/crates/words/src/lib.rt"
 }
 
 failed_builds_prove_nothing() {
@@ -385,6 +409,7 @@ answers_are_handed_on
 no_answer_is_status_three
 build_shows_its_way
 proved_is_said_where_it_is_true
+the_heap_for_c_is_copied
 failed_builds_prove_nothing
 found_from_everywhere
 real_runs
