@@ -297,6 +297,8 @@ until_true() {
     is "waited for: $* ($look looks)" yes no
 }
 
+has_left_something() { [ -n "$(ls -A "$TMPDIR")" ]; }
+
 a_signal_ends_a_run() {
     touch "$room/says/waits"
     rm -f "$room"/seen/*
@@ -309,7 +311,7 @@ a_signal_ends_a_run() {
     sleep 60 >"$room/slow" &
     local writer=$!
     "$wrapper" run --pages 4 <"$room/slow" >"$room/out" 2>&1 &
-    until_true test -n "$(ls -A "$TMPDIR")"
+    until_true has_left_something
     ends_at_once "a signal while the script is read" $!
     kill "$writer"
     rm "$room/slow"
