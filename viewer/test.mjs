@@ -1,5 +1,5 @@
-// Opens the page with each trace of examples/, and with some made here, in a headless Chromium and in Firefox where there
-// is one, and tries it.
+// Opens the page with each trace of examples/, and with some made here, in a headless Chromium and in Firefox where
+// there is one, and tries it.
 //     node viewer/test.mjs                  prints what fails, and then `viewer: N passed, M failed`
 //     node viewer/test.mjs --shots DIR      makes pictures of them for looking instead, and a PDF of each
 // Needs node 20 or later and Debian's `chromium` (or CHROMIUM=path); Debian's `firefox-esr` (or FIREFOX=path) is tried
@@ -32,7 +32,7 @@ async function check(name, test) {
 }
 
 // The page of a trace, as join.sh makes it.
-function join_page(name, trace) {
+function joinPage(name, trace) {
   const file = join(room, name + '.html');
   const page = execFileSync(join(here, 'join.sh'), ['-'], { input: trace, maxBuffer: 1 << 28 });
   writeFileSync(file, page);
@@ -47,30 +47,33 @@ function traces() {
 }
 
 async function tryPage(browser, name, text) {
-  const url = join_page(name, text);
+  const url = joinPage(name, text);
   let trace = null;
   await check(`${name}, the trace`, () => (trace = read(text)));
   if (!trace) return;
-  assert(!/https?:\/\/(?!www\.w3\.org)/.test(readFileSync(new URL(url), 'utf8')), 'the page names an address of the network');
+  await check(`${name}, no address of the network`, () => {
+    assert.doesNotMatch(readFileSync(new URL(url), 'utf8'), /https?:\/\/(?!www\.w3\.org)/);
+  });
   const page = await browser.open(`${url}#line=2`);
   await check(`${name}, the line of its address`, async () => assert.equal(await page.run('viewer.at()'), 2));
   for (const [what, test] of Object.entries(testsOf(trace))) await check(`${name}, ${what}`, () => test(page, trace));
   await page.close();
 }
 
-const FIRST_LINE = { mpheap: 'trace', version: 1, pages: 1 };
+// A trace of no line.
+const empty = (changes) => JSON.stringify({ mpheap: 'trace', version: 1, title: 'x', pages: 1, ...changes }) + '\n';
 
 // Text in a trace ends no element of the page, and a page without a readable trace says so.
 async function tryJoin(browser) {
   await check('text of a trace', async () => {
     const title = '</script><b>&amp; "heap"';
-    const page = await browser.open(join_page('text', JSON.stringify({ ...FIRST_LINE, title }) + '\n'));
+    const page = await browser.open(joinPage('text', empty({ title })));
     assert.equal(await page.run(`$('title').textContent`), title);
     assert.deepEqual(page.errors(), []);
     await page.close();
   });
   await check('a trace of another version', async () => {
-    const page = await browser.open(join_page('version', JSON.stringify({ ...FIRST_LINE, title: 'x', version: 2 }) + '\n'));
+    const page = await browser.open(joinPage('version', empty({ version: 2 })));
     assert.ok((await page.run(`$('say').textContent`)).startsWith('This page has no readable trace'));
     await page.close();
   });
@@ -89,7 +92,7 @@ async function tryFirefox() {
   try {
     await browser.connect();
     for (const [name, text] of traces()) {
-      const page = await browser.open(join_page(name, text));
+      const page = await browser.open(joinPage(name, text));
       const trace = read(text);
       for (const [what, test] of Object.entries(elsewhere)) {
         await check(`Firefox, ${name}, ${what}`, () => test(page, trace));
@@ -104,7 +107,7 @@ const browser = new Chromium();
 try {
   if (process.argv[2] === '--shots') {
     mkdirSync(process.argv[3], { recursive: true });
-    await takeShots(browser, process.argv[3], traces().map(([name, text]) => [name, join_page(name, text)]));
+    await takeShots(browser, process.argv[3], traces().map(([name, text]) => [name, joinPage(name, text)]));
   } else {
     for (const [name, text] of traces()) await tryPage(browser, name, text);
     await tryJoin(browser);

@@ -1,6 +1,6 @@
 'use strict';
-// One page of the heap: its heading, its borders, and each cell in two bands. The upper band is what the collector knows,
-// the lower one what is true.
+// One page of the heap: its heading, its borders, and each cell in two bands. The upper band is what the collector
+// knows, the lower one what is true.
 
 // The paths of one page, a path for each look.
 const CELL_LOOKS = [

@@ -3,7 +3,9 @@
 
 const infoRow = (name, value) => `<tr><th>${name}</th><td>${value}</td></tr>`;
 
-const infoTable = (title, rows) => `<h2>${escaped(title)}</h2><table>${rows.map((row) => infoRow(...row)).join('')}</table>`;
+function infoTable(title, rows) {
+  return `<h2>${escaped(title)}</h2><table>${rows.map((row) => infoRow(...row)).join('')}</table>`;
+}
 
 function drawInfo() {
   const focus = view.hovered || view.picked;
@@ -26,9 +28,10 @@ function pointsInto(word) {
 function infoOfHeap() {
   const objects = heap.objects.size - heap.awaiting;
   const { kept, reached } = heap.sum;
+  const seen = `${grouped(heap.reached.size)} reached, ${grouped(heap.marked.size)} marked`;
   return infoTable(`After line ${grouped(run.at)}`, [
     ['phase', heap.phase ? 'a cycle is marking' : 'idle'],
-    ['objects', `${grouped(objects)}, of which ${grouped(heap.reached.size)} reached, ${grouped(heap.marked.size)} marked`],
+    ['objects', `${grouped(objects)}, of which ${seen}`],
     ['words', `${grouped(kept)}, of which ${grouped(reached)} live`],
     ['collections', grouped(heap.count)],
   ]) + '<p>Point at a cell or a register; click to keep it.</p>';

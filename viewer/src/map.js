@@ -27,8 +27,8 @@ function tally(p) {
 }
 
 const MAP_TEXT = 'left: reached, kept, forgotten; right: marked';
-const MAP_TEXT_WIDE =
-  'left of a square: words reached, kept, forgotten; right: marked; border: dirty; cross: to be swept; a click opens it';
+const MAP_TEXT_WIDE = 'left of a square: words reached, kept, forgotten; right: marked; border: dirty; ' +
+  'cross: to be swept; a click opens it';
 
 // what changes seldom: the words beside the map and the squares themselves
 function drawMapFrame() {

@@ -4,12 +4,13 @@
 let plot = null; // {x0, x1, width, step, columns, bands, height}
 
 function plotBands(isNarrow) {
-  const dirty = run.everCarried ? 'dirty, carried pages' : 'dirty pages';
+  const also = run.everCarried ? 'carried' : null;
+  const dirty = also && !isNarrow ? 'dirty, carried pages' : 'dirty pages';
   return [
     { h: 44, isArea: true, name: 'taken' },
     { h: 21, name: 'marked', text: 'marked objects' },
     { h: 17, name: 'entries', text: isNarrow ? 'entries' : 'mark stack entries' },
-    { h: 17, name: 'dirty', text: isNarrow ? 'dirty pages' : dirty, look: 'serd', also: run.everCarried ? 'carried' : null },
+    { h: 17, name: 'dirty', text: dirty, look: 'serd', also },
     { h: 23, name: 'pause', text: isNarrow ? 'pause reads' : 'words read in a pause', isBars: true },
   ];
 }

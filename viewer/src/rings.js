@@ -18,7 +18,8 @@ function drawRings() {
   const words = (record.wrote || []).slice(0, MOST_RINGS);
   const changed = objects.map(ringsAt).join('') + words.map(([place]) => ringAroundWord(place)).join('');
   const look = objects.length + words.length > THIN_FROM ? 'new thin' : 'new';
-  return drawLooked(record) + path(look, changed) + path('gone', ringsOfFreed(record, comes)) + path('sel', selection());
+  const freed = ringsOfFreed(record, comes);
+  return drawLooked(record) + path(look, changed) + path('gone', freed) + path('sel', selection());
 }
 
 // a word that was written
@@ -54,16 +55,10 @@ function selection() {
   return rings;
 }
 
-// The words of marked objects that the line read: a bar under each.
+// The words of marked objects that the line read: a bar under each run of them.
 function drawLooked(record) {
-  const bar = ({ x, y, w }) => {
-    const h = Math.max(2, Math.min(4, plan.upH * 0.25));
-    return box(x + 1, y + plan.upH - h - 0.5, Math.max(1, w - 2), h);
-  };
-  return path('looked', (record.looked || []).flatMap(([place, words]) => lookedPieces(place, words).map(bar)).join(''));
-}
-
-// A run of words may go on over the pages of a large object.
-function lookedPieces(place, words) {
-  return piecesOf({ place, words });
+  const h = Math.max(2, Math.min(4, plan.upH * 0.25));
+  const bar = ({ x, y, w }) => box(x + 1, y + plan.upH - h - 0.5, Math.max(1, w - 2), h);
+  const runs = (record.looked || []).flatMap(([place, words]) => piecesOf({ place, words }));
+  return path('looked', runs.map(bar).join(''));
 }

@@ -1,6 +1,6 @@
 'use strict';
-// The roots and the mark stack, in a column of their own. Each word that is shown is noted with the point where its arrow
-// begins.
+// The roots and the mark stack, in a column of their own. Each word that is shown is noted with the point where its
+// arrow begins.
 
 const STACK_ROOM = 256;
 
@@ -59,7 +59,8 @@ const DRAW_ROOT = {
     if (!mutator) return '';
     const w = plan.rootsW / 8;
     const area = (n) => [(n % 8) * w, y + (n < 8 ? 0 : 17), w, 17];
-    return mutator.regs.map((word, n) => drawBox(area(n), `r${slot}.${n}`, word, saysRegister(slot, n), fresh)).join('');
+    const draw = (word, n) => drawBox(area(n), `r${slot}.${n}`, word, saysRegister(slot, n), fresh);
+    return mutator.regs.map(draw).join('');
   },
   stackhead({ y }, mutator) {
     const n = mutator ? mutator.stack.length : 0;

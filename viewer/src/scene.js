@@ -15,6 +15,7 @@ function addPagesOf(record, pages) {
   const places = [
     ...(record.new || []).map(([place]) => place),
     ...(record.wrote || []).map(([place]) => place),
+    ...(record.looked || []).map(([place]) => place),
     ...['+', '-'].flatMap((sign) => (record.dirty?.[sign] || []).map((p) => p * PAGE)),
     ...(record.forget || []).slice(0, 600),
     ...(record.free || []).slice(0, 600),

@@ -24,16 +24,17 @@ function ofPhase(record) {
 
 function ofNew(record) {
   return (record.new || []).map(([place, birth, words, kind]) => {
-    const cell = words > 256 ? '' : `, cell ${Math.floor(wordInPage(place) / words)}`;
+    const where = `page ${pageOf(place)}${words > 256 ? '' : `, cell ${Math.floor(wordInPage(place) / words)}`}`;
     const marked = heap.marked.has(place) ? ', marked as it comes' : '';
-    return `object #${birth} comes: ${words} words, ${kind ? 'atomic' : 'normal'}, page ${pageOf(place)}${cell}${marked}`;
+    return `object #${birth} comes: ${words} words, ${kind ? 'atomic' : 'normal'}, ${where}${marked}`;
   });
 }
 
 function ofWords(record) {
   const wrote = (record.wrote || []).slice(0, 3).map(([place, word]) => {
     const object = heap.objectOver(place);
-    return `word ${object ? place - object.place : place} of ${object ? '#' + object.birth : 'the heap'} becomes ${told(word)}`;
+    const which = object ? `${place - object.place} of #${object.birth}` : `${place} of the heap`;
+    return `word ${which} becomes ${told(word)}`;
   });
   const regs = (record.regs || []).slice(0, 2).map(([slot, n, word]) => {
     return `register ${n} of mutator ${slot} becomes ${toldOfRegister(word)}`;
@@ -59,9 +60,16 @@ function ofRead(record) {
   const [roots, words, pages] = record.read;
   const parts = [];
   if (roots) parts.push(many(roots, 'root word'));
-  if (words) parts.push(many(words, 'word') + ' of marked objects');
+  if (words) parts.push(`${many(words, 'word')} of ${readFrom(record)}`);
   const who = /finish|collect/.test(record.c) ? 'the pause looks at ' : 'looks at ';
   return [who + (parts.join(' and ') || 'nothing') + (pages ? `, with ${many(pages, 'dirty page')}` : '')];
+}
+
+// the objects whose words were read, where the trace says it
+function readFrom(record) {
+  if (!record.looked) return 'marked objects';
+  const places = record.looked.map(([place]) => heap.objectOver(place)?.place ?? place);
+  return few([...new Set(places)], named);
 }
 
 function ofMarks(record) {
@@ -119,7 +127,8 @@ function ofLinks(record) {
 
 function ofEnd(record, i) {
   if (isRefused(record)) {
-    return ['a refused line changes nothing' + (/6 Full/.test(record.r) ? ', but that all pending pages are swept' : '')];
+    const swept = /6 Full/.test(record.r) ? ', but that all pending pages are swept' : '';
+    return ['a refused line changes nothing' + swept];
   }
   const floating = run.series.kept[i] - run.series.reached[i];
   if (!ENDS_A_CYCLE.test(record.c) || floating <= 0) return [];

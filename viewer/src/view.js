@@ -54,7 +54,9 @@ function truthOf(object) {
 function freshRoots(record) {
   const fresh = new Set();
   for (const [slot, n] of record.regs || []) fresh.add(`r${slot}.${n}`);
-  for (const [slot, keep, ...pushed] of record.stacks || []) pushed.forEach((_, i) => fresh.add(`s${slot}.${keep + i}`));
+  for (const [slot, keep, ...pushed] of record.stacks || []) {
+    pushed.forEach((_, i) => fresh.add(`s${slot}.${keep + i}`));
+  }
   for (const [n] of record.globals || []) fresh.add('g' + n);
   return fresh;
 }

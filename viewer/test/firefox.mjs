@@ -71,6 +71,10 @@ export class Firefox {
   async open(url) {
     await this.call('WebDriver:SetWindowRect', { width: 1400, height: 980 });
     await this.call('WebDriver:Navigate', { url });
+    for (let look = 0; !(await this.run('typeof viewer === "object"')); look++) {
+      if (look > 200) throw new Error('the page has no viewer');
+      await sleep(50);
+    }
     return this;
   }
 

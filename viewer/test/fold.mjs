@@ -1,5 +1,5 @@
-// The state after each line of a trace, folded with nothing but docs/TRACE.md in hand: the oracle of what the page shows.
-// On the way it is looked at what every run of the heap obeys.
+// The state after each line of a trace, folded with nothing but docs/TRACE.md in hand: the oracle of what the page
+// shows. On the way it is looked at what every run of the heap obeys.
 import assert from 'node:assert/strict';
 
 const SETS = ['marked', 'reached', 'touched', 'dirty', 'carried', 'pending'];

@@ -137,8 +137,10 @@ const SEEN_OBJECT = `(() => {
 
 // how many root words and words of normal kept objects point into an object, by a count of the tests' own
 function countPointers({ globals, mutators, words, objects }, place, n) {
-  const isIn = (word) => typeof word === 'number' && word >= 268435456 + 8 * place && word < 268435456 + 8 * (place + n);
-  const isRead = (i) => objects.some(([base, , size, kind, isGone]) => !isGone && !kind && i >= base && i < base + size);
+  const low = 268435456 + 8 * place;
+  const isIn = (word) => typeof word === 'number' && word >= low && word < low + 8 * n;
+  const normal = objects.filter(([, , , kind, isGone]) => !kind && !isGone);
+  const isRead = (i) => normal.some(([base, , size]) => i >= base && i < base + size);
   const roots = [...globals.map(([, word]) => word), ...mutators.flatMap(([, regs, stack]) => [...regs, ...stack])];
   return roots.filter(isIn).length + words.filter(([i, word]) => isIn(word) && isRead(i)).length;
 }

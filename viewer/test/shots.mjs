@@ -32,12 +32,15 @@ export async function takeShots(browser, folder, pages) {
 
 async function shotsOfFirefox(folder, pages) {
   const browser = new Firefox();
-  await browser.connect();
-  for (const [name, url] of pages) {
-    await browser.open(`${url}#line=60`);
-    await browser.run(`$('scroll').scrollTop = 400`);
-    await sleep(300);
-    await browser.shot(join(folder, `firefox-${name}.png`));
+  try {
+    await browser.connect();
+    for (const [name, url] of pages) {
+      await browser.open(`${url}#line=60`);
+      await browser.run(`$('scroll').scrollTop = 400`);
+      await sleep(300);
+      await browser.shot(join(folder, `firefox-${name}.png`));
+    }
+  } finally {
+    await browser.close();
   }
-  await browser.close();
 }
