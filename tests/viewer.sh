@@ -14,4 +14,13 @@ if ! node -e 'process.exit(Number(process.versions.node.split(".")[0]) < 20)'; t
     echo "viewer: skipped: node $(node --version) is older than 20"
     exit 0
 fi
-exec timeout 600 node "$top/viewer/test.mjs"
+room=$(mktemp -d)
+child=
+trap '[ -z "$child" ] || kill "$child" 2>/dev/null; wait; rm -rf "$room"' EXIT
+trap 'exit 143' INT TERM HUP
+TMPDIR=$room timeout 600 node "$top/viewer/test.mjs" &
+child=$!
+wait "$child"
+status=$?
+child=
+exit "$status"

@@ -103,6 +103,7 @@ async function tryFirefox() {
   }
 }
 
+for (const signal of ['SIGINT', 'SIGTERM', 'SIGHUP']) process.once(signal, () => process.exit(1));
 const browser = new Chromium();
 try {
   if (process.argv[2] === '--shots') {

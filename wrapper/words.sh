@@ -1,3 +1,4 @@
+# shellcheck shell=sh disable=SC2034,SC2154 # (mpheap has the other names, and reads these)
 # Part of the wrapper mpheap, read by it: which word of a command line is wrong, and whether its FILE can be read. Nothing
 # that a program takes is refused here; what it refuses is refused with its own last line and its own status.
 

@@ -16,6 +16,7 @@ export class Chromium {
     const stdio = ['ignore', 'ignore', 'ignore', 'pipe', 'pipe'];
     this.browser = spawn(process.env.CHROMIUM || 'chromium', flags, { stdio });
     this.ended = new Promise((resolve) => this.browser.on('exit', resolve));
+    process.once('exit', () => this.browser.kill());
     this.serial = 0;
     this.rest = '';
     this.waiting = new Map();

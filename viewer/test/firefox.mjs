@@ -14,6 +14,7 @@ export class Firefox {
     const env = { ...process.env, HOME: this.profile };
     this.browser = spawn(process.env.FIREFOX || 'firefox-esr', flags, { stdio: 'ignore', env });
     this.ended = new Promise((resolve) => this.browser.on('exit', resolve));
+    process.once('exit', () => this.browser.kill());
     this.serial = 0;
     this.rest = Buffer.alloc(0);
     this.waiting = new Map();
