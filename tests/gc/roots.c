@@ -6,7 +6,7 @@
 #include "check.h"
 
 #define NOINLINE __attribute__((noinline))
-enum { MAGIC = 0x5eed };
+enum { MAGIC = 0x5eed, SIZE = 48 }; /* of a size class, so that one byte past it is another cell's */
 
 /* Collects while nothing but the named register has the address. */
 #define HOLD_IN(reg) \
@@ -26,9 +26,9 @@ HOLD_IN(r15);
 static NOINLINE void ask_for_others(void)
 {
     for (int k = 0; k < 3000; k++) {
-        char *other = GC_malloc_atomic(40);
-        memset(other, 0xee, 40);
-        uint64_t *like = GC_malloc(40);
+        char *other = GC_malloc_atomic(SIZE);
+        memset(other, 0xee, SIZE);
+        uint64_t *like = GC_malloc(SIZE);
         like[0] = 1;
     }
 }
@@ -54,7 +54,7 @@ void collect_now(void)
 
 static NOINLINE void *make(void)
 {
-    uint64_t *object = GC_malloc(40);
+    uint64_t *object = GC_malloc(SIZE);
     object[0] = MAGIC;
     object[4] = ~(uint64_t)(uintptr_t)object;
     return object;
@@ -88,7 +88,7 @@ static NOINLINE void one_each(void *volatile *on_stack, void **in_added, void **
     char *inner = make(), *past = make();
     in_static = make();
     inner_static = inner + 13;
-    past_static = past + 40;
+    past_static = past + SIZE;
     in_large_static.at = make();
     in_thread = make();
     in_large_thread.at = make();
