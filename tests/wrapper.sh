@@ -373,7 +373,7 @@ build_shows_its_way() {
     call build
     is "a build: status" 0 "$status"
     is "a build: a line of output for each program and for C" \
-        "$(printf "mpheap: the proved build is $tree/crates/%s/out/%s\n" mpheap_c libmpheap_c.a mpheap mpheap replay replay record record
+        "$(printf "mpheap: the proved build is $tree/crates/%s/out/%s\n" mpheap mpheap replay replay record record mpheap_c libmpheap_c.a
             echo "mpheap: a program in C: cc -I$tree/include program.c $tree/crates/mpheap_c/out/libmpheap.a")" "$out"
     is "a build: the archive" yes "$(test -f "$tree/crates/mpheap_c/out/libmpheap.a" && echo yes || echo no)"
     has "a build: how long, beforehand" "minutes" "$(head -n 1 "$room/err")"
