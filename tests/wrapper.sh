@@ -284,14 +284,14 @@ TYPED
     is "a closed input" "$(lines "mpheap: standard input is closed" "read fault")" "$(cat "$room/err")"
 }
 
-# ends_at_once WHAT PROCESS: a signal ends the wrapper that is this process within two seconds, and nothing is left of its run.
+# ends_at_once WHAT PROCESS: a signal ends the wrapper that is this process within five seconds, and nothing is left of its run.
 ends_at_once() {
     local began=$SECONDS
     kill -TERM "$2"
     status=0
     wait "$2" 2>/dev/null || status=$?
     is "$1: status" 143 "$status"
-    is "$1: at once" yes "$([ $((SECONDS - began)) -le 2 ] && echo yes || echo no)"
+    is "$1: at once" yes "$([ $((SECONDS - began)) -le 5 ] && echo yes || echo no)"
     is "$1: no folder is left" "" "$(ls -A "$TMPDIR")"
 }
 
@@ -560,7 +560,7 @@ real_runs() {
     is "the real rt, too much: status" 3 "$(cat status)"
     is "the real rt, too much: nothing is replied" 0 "$(wc -c <out)"
     is "the real rt, too much: one line tells it" 2 "$(wc -l <err)"
-    is "the real rt, stopped: at once" yes "$([ "$(cat took)" -le 2 ] && echo yes || cat took)"
+    is "the real rt, stopped: at once" yes "$([ "$(cat took)" -le 5 ] && echo yes || cat took)"
     is "the real rt, stopped: nothing is left" "" "$(ls -A "$room/alone/stopped")$(cat left)"
     for file in "$room"/cases/*.stdout; do
         name=$(basename "$file" .stdout)
