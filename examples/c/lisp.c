@@ -216,7 +216,9 @@ static void print(word w) {
 /* ---- Primitives ---- */
 
 enum { PLUS, MINUS, TIMES, LESS, EQUAL, CONS, CAR, CDR, IS_NULL, APPEND, LENGTH, PRIMITIVES };
-static const char *const primitives[PRIMITIVES] = { "+", "-", "*", "<", "=", "cons", "car", "cdr", "null?", "string-append", "string-length" };
+static const char *const primitives[PRIMITIVES] = {
+    "+", "-", "*", "<", "=", "cons", "car", "cdr", "null?", "string-append", "string-length"
+};
 
 static word truth(bool is_so) {
     return is_so ? number(1) : (word)NIL;
@@ -363,6 +365,14 @@ static void collect_fully(void) {
     if (microseconds() - start > longest_full) longest_full = microseconds() - start;
 }
 
+/* What an instruction allocates has room afterwards, a long string apart. */
+static void make_room(void) {
+    word count = 1;
+    while (mpheap_free_pages(&heap) < RESERVE && count != 0) mpheap_sweep(&heap, &count);
+    if (mpheap_free_pages(&heap) < RESERVE) collect_fully();
+    if (mpheap_free_pages(&heap) < RESERVE) stop("out of memory");
+}
+
 static void safe_point(void) {
     double start = microseconds();
     word gone = 0;
@@ -371,7 +381,7 @@ static void safe_point(void) {
         if (microseconds() - start > longest_end) longest_end = microseconds() - start;
     }
     allocated = 0;
-    if (mpheap_free_pages(&heap) < RESERVE && mpheap_pending_pages(&heap) == 0) collect_fully();
+    make_room();
     mpheap_tells_anew(&heap, &told);
 }
 
