@@ -1,9 +1,10 @@
 -- What is known of a register after a call, and how it came to be known.
-use Rattle.std.proofs.Common.{◌≡◌, ◌≢◌, ℕ, ◌<◌, ◌==◌, ◌⊎◌, Bool, true, false, cond, refl, sym, ap, ◌∙◌, subst, arith, eq-eqb, ne_eqb, inl, inr, ⊎_elim}
+use Rattle.std.proofs.Common.{◌≡◌, ◌≢◌, ℕ, ◌<◌, ◌==◌, ◌⊎◌, Bool, cond, refl, sym, ap, ◌∙◌, subst, eq-eqb, ne_eqb, inl, inr, ⊎_elim}
 use Rattle.std.specs.Prelude.{Option, Some, None}
 use Rattle.std.proofs.lemmas.Bool.{cases_eq}
 use Rattle.std.proofs.lemmas.Option.{same_Some, none-some}
 use Rattle.words.specs.declared.class.Kind.{Kind}
+use Rattle.words.specs.declared.class.Kind.TheVariants.{Normal, PointerFree}
 use Rattle.heap_spec.specs.declared.call.Call.{Call}
 use Rattle.heap_spec.specs.declared.call.Call.TheVariants.{Detach, Set, Copy, Add, Sub, Get, Push, Pop, Load, Store, Alloc, Free, Base, Size, GlobalGet, GlobalPut}
 use Rattle.heap_spec.specs.declared.event.Event.{Event}
@@ -26,7 +27,7 @@ pub data Told (known : ℕ → Content) (call : Call) (reply : Reply) (d : ℕ) 
   was_set : (w : ℕ) → call ≡ Set d w → after ≡ a_word w → Told known call reply d after
   was_stored : (k r n : ℕ) (words : ℕ → Option ℕ) → call ≡ Store d k r → reply ≡ Done → known d ≡ own_object n words → k < n
       → after ≡ own_object n (λ i. cond (i == k) (known_word (known r)) (words i)) → Told known call reply d after
-  was_made : (n : ℕ) (kind : Kind) → call ≡ Alloc d n kind → reply ≡ Done → after ≡ own_object n (λ i. Some 0) → Told known call reply d after
+  was_made : (n : ℕ) → call ≡ Alloc d n Normal → reply ≡ Done → after ≡ own_object n (λ i. Some 0) → Told known call reply d after
 
 -- the content of the one register that is changed, and of any other
 with_same : (known : ℕ → Content) (r d : ℕ) (c : Content) → d ≡ r → with_content known r c d ≡ c
@@ -52,12 +53,13 @@ stored_told known (Word w) d a k r same (own_object n words) is lt = Told.gone r
 stored_told known (Count n) d a k r same (own_object m words) is lt = Told.gone refl
 stored_told known (Refused why) d a k r same (own_object n words) is lt = Told.gone refl
 
-made_told : (known : ℕ → Content) (reply : Reply) (d r n : ℕ) (kind : Kind) → d ≡ r → Told known (Alloc r n kind) reply d (after_alloc n reply)
-made_told known Done d r n kind same = Told.was_made n kind (ap (λ x. Alloc x n kind) (sym same)) refl refl
-made_told known (Slot s) d r n kind same = Told.gone refl
-made_told known (Word w) d r n kind same = Told.gone refl
-made_told known (Count c) d r n kind same = Told.gone refl
-made_told known (Refused why) d r n kind same = Told.gone refl
+made_told : (known : ℕ → Content) (reply : Reply) (d r n : ℕ) (kind : Kind) → d ≡ r → Told known (Alloc r n kind) reply d (after_alloc n kind reply)
+made_told known Done d r n Normal same = Told.was_made n (ap (λ x. Alloc x n Normal) (sym same)) refl refl
+made_told known (Slot s) d r n Normal same = Told.gone refl
+made_told known (Word w) d r n Normal same = Told.gone refl
+made_told known (Count c) d r n Normal same = Told.gone refl
+made_told known (Refused why) d r n Normal same = Told.gone refl
+made_told known reply d r n PointerFree same = Told.gone refl
 
 pub told : (known : ℕ → Content) (call : Call) (reply : Reply) (d : ℕ) → KeepsToOwnCall known call → Told known call reply d (known_after_call known call reply d)
 told known Detach reply d keeps = Told.gone refl
@@ -77,8 +79,8 @@ told known (Store a k r) reply d keeps = ⊎_elim
     (λ other. Told.left tt (λ b e. subst (λ x. d ≢ x) (same_Some a b e) other) (with_other known a d (after_store (known a) k (known_word (known r)) reply) other))
     (cases_eq d a)
 told known (Alloc r n kind) reply d keeps = ⊎_elim
-    (λ same. subst (λ (c : Content). Told known (Alloc r n kind) reply d c) (sym (with_same known r d (after_alloc n reply) same)) (made_told known reply d r n kind same))
-    (λ other. Told.left other (nowhere d) (with_other known r d (after_alloc n reply) other))
+    (λ same. subst (λ (c : Content). Told known (Alloc r n kind) reply d c) (sym (with_same known r d (after_alloc n kind reply) same)) (made_told known reply d r n kind same))
+    (λ other. Told.left other (nowhere d) (with_other known r d (after_alloc n kind reply) other))
     (cases_eq d r)
 told known (Free r) reply d keeps = absurd keeps
 told known (Base r a) reply d keeps = lost known (Base r a) reply d r (λ ne. ne) (nowhere d)

@@ -1,7 +1,6 @@
 -- Where all that had a part in a history are known and keep to their own objects, each is answered as it is known.
-use Rattle.std.proofs.Common.{◌≡◌, ◌≢◌, ℕ, ◌<◌, ◌==◌, Bool, true, false, cond, List, [], ◌∷◌, refl, sym, ap, ◌∙◌, subst, arith, true≢false, eq-eqb, ne_eqb, ⊎_elim}
+use Rattle.std.proofs.Common.{◌≡◌, ◌≢◌, ℕ, ◌<◌, Bool, false, cond, List, [], ◌∷◌, refl, sym, ap, ◌∙◌, subst, arith, true≢false, eq-eqb, ne_eqb, ⊎_elim}
 use Rattle.std.specs.Prelude.{All, Contains, nat_eq, slice_index_or}
-use Rattle.std.specs.List.{AllByRecursion}
 use Rattle.std.proofs.lemmas.List.Elements.{All-nil, All-cons, All-head, All-tail, All-map, All-weaker, All-contains, All-contains_itself, All-from_recursion}
 use Rattle.history.specs.Histories.{own, Legal}
 use Rattle.heap_spec.specs.SequentialObject.{heap_of, Opens, StateStep}

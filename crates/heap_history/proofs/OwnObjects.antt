@@ -1,9 +1,10 @@
 -- A mutator's own object, and what a store in one leaves of it and of others.
-use Rattle.std.proofs.Common.{◌≡◌, ◌≢◌, ℕ, ◌+◌, ◌*◌, ◌%◌, ◌<◌, ◌≤◌, ◌==◌, Bool, cond, length, refl, sym, ap, ◌∙◌, subst, arith, ne_eqb, eq-eqb, ⊎_elim, get_or-set_same}
+use Rattle.std.proofs.Common.{◌≡◌, ◌≢◌, ℕ, ◌+◌, ◌*◌, ◌<◌, ◌≤◌, ◌==◌, Bool, cond, length, refl, sym, ap, ◌∙◌, subst, arith, ne_eqb, eq-eqb, ⊎_elim, get_or-set_same}
 use Rattle.std.specs.Prelude.{Option, Some, None, IfSome, slice_index, slice_set}
 use Rattle.std.proofs.lemmas.Bool.{cases_eq}
 use Rattle.std.proofs.lemmas.Option.{same_Some, none-some}
 use Rattle.std.proofs.lemmas.List.{length-set, get_or-set_other}
+use Rattle.words.specs.declared.class.Kind.TheVariants.{Normal}
 use Rattle.heap_spec.specs.declared.call.Call.{Call}
 use Rattle.heap_spec.specs.declared.call.Call.TheVariants.{Detach, Set, Copy, Add, Sub, Get, Push, Pop, Load, Store, Alloc, Free, Base, Size, GlobalGet, GlobalPut}
 use Rattle.heap_spec.specs.declared.reply.Reply.{Reply}
@@ -16,14 +17,15 @@ use Rattle.heap_spec.proofs.Loads.{same_mutator}
 use Rattle.heap_spec.proofs.Objects.{with_at-same, with_at-other, object_lies, one_read}
 use Rattle.heap_history.specs.OwnObjects.{Content, unknown, a_word, own_object, known_word, own_words, known_at, IsAsKnownCall}
 use Rattle.heap_history.proofs.Slots.{not_both}
-use Rattle.heap_history.proofs.Loaded.{Written, load_is}
+use Rattle.heap_history.proofs.Loaded.{load_is}
 use Rattle.heap_history.proofs.OwnWords.{address_of}
 
--- A register has the base of an object of at least so many words, of which those that are known are these.
+-- A register has the base of a Normal object of at least so many words, of which those that are known are these.
 pub record HasOwn (s : Heap) (m : HeapMutator) (d n : ℕ) (words : ℕ → Option ℕ) : Type 0 where
   pub object : Object
   pub there : d < length m.registers
   pub has : HasObject s (register m d) object
+  pub kind : object.kind ≡ Normal
   pub size : n ≤ length object.words
   pub known : (k w : ℕ) → words k ≡ Some w → k < n → slice_index object.words k ≡ w
 
@@ -58,6 +60,7 @@ moved s s' m m' d (own_object n words) word size stays fact = record {
   object = fact.object;
   there = subst (λ i. d < i) (sym size) fact.there;
   has = ap s'.objects word ∙ stays tt fact.object fact.has;
+  kind = fact.kind;
   size = fact.size;
   known = fact.known;
 }
@@ -120,6 +123,7 @@ stored_own s s' m d k w n words stored is own lt has = record {
   object = record own.object { words = slice_set own.object.words k w };
   there = own.there;
   has = has;
+  kind = own.kind;
   size = (let long = own.size in let same = length-set own.object.words k w in omega (arith, long, same));
   known = λ i v e below. ⊎_elim
       (λ (same : i ≡ k).

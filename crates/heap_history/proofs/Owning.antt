@@ -40,14 +40,15 @@ pub record Owned (s : Heap) (slot d n a : ℕ) : Type 0 where
   pub size : n ≤ length object.words
 
 -- What a granted allocation leaves: the object, whose base the register has, apart from all that were there.
-pub record Allocated (s s' : Heap) (slot d n : ℕ) : Type 0 where
+pub record Allocated (s s' : Heap) (slot d n : ℕ) (kind : Kind) : Type 0 where
   pub base : ℕ
   pub owned : Owned s' slot d n base
   pub away : (b : ℕ) (p : Object) → HasObject s b p → AreApart base (length owned.object.words) b (length p.words)
+  pub kind_is : owned.object.kind ≡ kind
   pub new : (p : Object) → HasObject s base p → ⊥
   pub zeros : (k : ℕ) → k < length owned.object.words → slice_index owned.object.words k ≡ 0
 
-pub alloc_is : (s : Heap) (slot d n : ℕ) (kind : Kind) → IsSound s → d < 16 → {s' : Heap} → Calls s slot (Alloc d n kind) Done s' → Allocated s s' slot d n
+pub alloc_is : (s : Heap) (slot d n : ℕ) (kind : Kind) → IsSound s → d < 16 → {s' : Heap} → Calls s slot (Alloc d n kind) Done s' → Allocated s s' slot d n kind
 alloc_is s slot d n kind h few (acts {m = m} at (Acts.allocated {place = place} a e room)) =
     let size = (attached_is s slot m h at).registers.size in
     let there : d < length m.registers = omega (arith, size) in
@@ -67,6 +68,7 @@ alloc_is s slot d n kind h few (acts {m = m} at (Acts.allocated {place = place} 
       };
       away = λ b p has. subst (λ k. AreApart a k b (length p.words)) (sym long)
           (room_apart s h place kind a is room b p has (λ same. room_none s h place kind a is room p (ap s.objects (sym same) ∙ has)));
+      kind_is = refl;
       new = room_none s h place kind a is room;
       zeros = λ k lt. get_or-replicate (length_of place) k 0 0 (omega (arith, lt, long));
     }

@@ -1,18 +1,18 @@
 -- Through a history whose mutators keep to their own objects, what is known of each mutator's registers stays true.
 use Rattle.std.proofs.Common.{◌≡◌, ◌≢◌, ℕ, ◌<◌, ◌==◌, ◌⊎◌, Bool, true, false, cond, List, [], ◌∷◌, length, refl, sym, ap, ◌∙◌, subst, arith, eq-eqb, ne_eqb, inl, inr, ⊎_elim}
-use Rattle.std.specs.Prelude.{Option, Some, None, slice_get, slice_index, slice_set}
+use Rattle.std.specs.Prelude.{Option, Some, None, slice_get}
 use Rattle.std.proofs.lemmas.Bool.{cases_eq, eqb-true}
 use Rattle.std.proofs.lemmas.Option.{same_Some}
-use Rattle.words.specs.declared.class.Kind.{Kind}
+use Rattle.words.specs.declared.class.Kind.TheVariants.{Normal}
 use Rattle.history.specs.Histories.{Walks}
 use Rattle.heap_spec.specs.declared.call.Call.{Call}
-use Rattle.heap_spec.specs.declared.call.Call.TheVariants.{Detach, Set, Copy, Add, Sub, Get, Push, Pop, Load, Store, Alloc, Free, Base, Size, GlobalGet, GlobalPut}
+use Rattle.heap_spec.specs.declared.call.Call.TheVariants.{Set, Store, Alloc}
 use Rattle.heap_spec.specs.declared.event.Event.{Event}
 use Rattle.heap_spec.specs.declared.event.Event.TheVariants.{Attach, Mutator, Begin, Roots, Mark, Retrace, Finish, Sweep, Collect, Number}
 use Rattle.heap_spec.specs.declared.reply.Reply.{Reply}
-use Rattle.heap_spec.specs.declared.reply.Reply.TheVariants.{Done, Word}
+use Rattle.heap_spec.specs.declared.reply.Reply.TheVariants.{Done}
 use Rattle.heap_spec.specs.Heap.{Heap, Object, Mutator as HeapMutator, HasObject, IsAttached}
-use Rattle.heap_spec.specs.Steps.{Acts, Calls, register}
+use Rattle.heap_spec.specs.Steps.{Acts, register}
 use Rattle.heap_spec.specs.Sound.{IsSound}
 use Rattle.heap_spec.specs.Laws.{IsFreshRun}
 use Rattle.heap_spec.specs.SequentialObject.{HeapState, heap_of, StateStep}
@@ -20,8 +20,7 @@ use Rattle.heap_spec.proofs.Loads.{same_mutator}
 use Rattle.heap_spec.proofs.Runs.{fresh_sound}
 use Rattle.heap_history.specs.Passes.{Entry}
 use Rattle.heap_history.specs.Alone.{all_of}
-use Rattle.heap_history.specs.Laws.{LeavesRegister}
-use Rattle.heap_history.specs.OwnObjects.{Content, unknown, a_word, own_object, known_word, own_words, known_after_call, known_after, KeepsToOwnCall, KeepsToOwn, AllKeepToOwn, IsAsKnown, AreAsKnown}
+use Rattle.heap_history.specs.OwnObjects.{Content, unknown, own_object, known_word, own_words, known_after, KeepsToOwnCall, KeepsToOwn, AllKeepToOwn, IsAsKnown, AreAsKnown}
 use Rattle.heap_history.proofs.Slots.{step_mutators}
 use Rattle.heap_history.proofs.Coming.{step_who}
 use Rattle.heap_history.proofs.Stored.{step_fresh, set_leaves}
@@ -183,9 +182,9 @@ module _ (s t : HeapState) (who : ℕ) (reply : Reply) (sound : IsSound (heap_of
         fact = after;
         origin = λ one. inl (record { was = q; at = h.fits.attached; own = subst (λ (z : Content). IsOwn z) (sym had) tt; word = refl });
       }))
-  call_is slot call h keeps d m at (Told.was_made n kind is done e) =
-      let h' = subst (λ (z : Reply). StateStep s who (Mutator slot (Alloc d n kind)) z t) done (subst (λ (f : Call). StateStep s who (Mutator slot f) reply t) is h) in
-      let new = alloc_is (heap_of s) slot d n kind sound h'.in_range.1.0 h'.happens in
+  call_is slot call h keeps d m at (Told.was_made n is done e) =
+      let h' = subst (λ (z : Reply). StateStep s who (Mutator slot (Alloc d n Normal)) z t) done (subst (λ (f : Call). StateStep s who (Mutator slot f) reply t) is h) in
+      let new = alloc_is (heap_of s) slot d n Normal sound h'.in_range.1.0 h'.happens in
       let q = new.owned.mutator in
       let now : IsAttached (heap_of t) who q = ap (λ (z : HeapState). slice_get (heap_of z).mutators who) h'.goes ∙ (ap (λ (i : ℕ). slice_get h'.heap.mutators i) h'.fits.own ∙ new.owned.at) in
       let same : m ≡ q = same_mutator (heap_of t) who m q at now in
@@ -195,6 +194,7 @@ module _ (s t : HeapState) (who : ℕ) (reply : Reply) (sound : IsSound (heap_of
           object = new.owned.object;
           there = new.owned.there;
           has = ap (heap_of t).objects new.owned.holds ∙ (ap (λ (z : HeapState). (heap_of z).objects new.base) h'.goes ∙ new.owned.has);
+          kind = new.kind_is;
           size = new.owned.size;
           known = λ k w f lt. new.zeros k (let long = new.owned.size in omega (arith, lt, long)) ∙ same_Some 0 w f;
         };

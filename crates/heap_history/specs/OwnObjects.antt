@@ -1,5 +1,7 @@
 -- What a mutator's own events alone tell of its registers, and of the words of its own objects.
 use Rattle.std.specs.Prelude.{◌≡◌, ℕ, ◌<◌, ◌==◌, Option, Some, None, IfSome, if◌then◌else◌, List, [], ◌∷◌}
+use Rattle.words.specs.declared.class.Kind.{Kind}
+use Rattle.words.specs.declared.class.Kind.TheVariants.{Normal}
 use Rattle.heap_spec.specs.declared.call.Call.{Call}
 use Rattle.heap_spec.specs.declared.call.Call.TheVariants.{Detach, Set, Copy, Add, Sub, Get, Push, Pop, Load, Store, Alloc, Free, Base, Size, GlobalGet, GlobalPut}
 use Rattle.heap_spec.specs.declared.event.Event.{Event}
@@ -8,8 +10,8 @@ use Rattle.heap_spec.specs.declared.reply.Reply.{Reply}
 use Rattle.heap_spec.specs.declared.reply.Reply.TheVariants.{Done, Word}
 use Rattle.heap_history.specs.Passes.{Entry}
 
--- What is known of a register: nothing, its word, or that it has the base of an object of the mutator's own, of at least so many words, of
--- which some are known.
+-- What is known of a register: nothing, its word, or that it has the base of a Normal object of the mutator's own, of at least so many
+-- words, of which some are known.
 pub data Content : Type 0 where
   unknown : Content
   a_word : ℕ → Content
@@ -42,9 +44,9 @@ abbrev pub with_content : (ℕ → Content) → ℕ → Content → ℕ → Cont
 with_content known d content r = if r == d then content else known r
 
 -- what an allocation leaves in its register: an object whose words are 0
-abbrev pub after_alloc : ℕ → Reply → Content
-after_alloc n Done = own_object n (λ k. Some 0)
-after_alloc n _ = unknown
+abbrev pub after_alloc : ℕ → Kind → Reply → Content
+after_alloc n Normal Done = own_object n (λ k. Some 0)
+after_alloc n _ _ = unknown
 
 -- what a store leaves of the register whose object it goes to
 abbrev pub after_store : Content → ℕ → Option ℕ → Reply → Content
@@ -63,7 +65,7 @@ known_after_call known (Push r) reply = known
 known_after_call known (Pop r) reply = with_content known r unknown
 known_after_call known (Load r a n) reply = with_content known r unknown
 known_after_call known (Store a k r) reply = with_content known a (after_store (known a) k (known_word (known r)) reply)
-known_after_call known (Alloc r n kind) reply = with_content known r (after_alloc n reply)
+known_after_call known (Alloc r n kind) reply = with_content known r (after_alloc n kind reply)
 known_after_call known (Free r) reply = nothing_known
 known_after_call known (Base r a) reply = with_content known r unknown
 known_after_call known (Size r) reply = known
@@ -76,7 +78,7 @@ known_after known Attach reply = nothing_known
 known_after known (Mutator slot call) reply = known_after_call known call reply
 known_after known _ reply = known
 
--- The call stores in no object but the mutator's own, and frees none.
+-- The call stores in no object but the mutator's own Normal ones, and frees none.
 abbrev pub KeepsToOwnCall : (ℕ → Content) → Call → Type 0
 KeepsToOwnCall known (Store a k r) = k < own_words (known a)
 KeepsToOwnCall known (Free r) = ⊥

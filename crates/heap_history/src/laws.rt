@@ -1,5 +1,5 @@
 //! What follows from the headline for a caller, whatever others do. Each law is a function that does nothing, and its contract is the law.
-ghost use Rattle.heap_history.specs.Laws.{SeenIsLegal, OwnLoadAnswers, OwnObjectStays, OwnWordStays, OwnObjectsApart, MineBegins, CountGrows, NobodyElseCame, LooksThenMakes, OthersLeaveWords, AloneWordStays, OwnWordsAsKnown};
+ghost use Rattle.heap_history.specs.Laws.{SeenIsLegal, OwnLoadAnswers, OwnObjectStays, OwnWordStays, OwnObjectsApart, MineBegins, CountGrows, NobodyElseCame, LooksThenMakes, OthersLeaveWords, OwnWordsAsKnown};
 
 /// What a pass has seen is a legal history of the sequential heap.
 pub fn seen_is_legal()
@@ -56,13 +56,8 @@ pub fn others_leave_words()
     ensures { OthersLeaveWords }
 {}
 
-/// Then what a mutator stored in an object that it allocated stays there, whatever cycles run.
-pub fn alone_word_stays()
-    ensures { AloneWordStays }
-{}
-
-/// Where all that had a part in a history are known, and each stored in its own objects alone and freed nothing, each mutator loads from its
-/// own objects what it last stored there itself.
+/// Where all that had a part in a history are known, and each stored in its own Normal objects alone and freed none, each loads from these
+/// what it last stored there itself.
 pub fn own_words_as_known()
     ensures { OwnWordsAsKnown }
 {}
