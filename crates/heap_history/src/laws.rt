@@ -50,14 +50,14 @@ pub fn looks_then_makes()
     ensures { LooksThenMakes }
 {}
 
-/// Where all that had a part in a history are known, and the others stored and freed nothing, no call of a mutator has a store or a free
-/// between it and what the mutator had seen.
+/// Where all that had a part in a history are known, and the others stored and freed nothing, no call of a mutator has a
+/// store or a free between it and what the mutator had seen.
 pub fn others_leave_words()
     ensures { OthersLeaveWords }
 {}
 
-/// Where all that had a part in a history are known, and each stored in its own Normal objects alone and freed none, each loads from these
-/// what it last stored there itself.
+/// Where all that had a part in a history are known, and each stored in its own Normal objects alone and freed none, each
+/// loads from these what it last stored there itself.
 pub fn own_words_as_known()
     ensures { OwnWordsAsKnown }
 {}
