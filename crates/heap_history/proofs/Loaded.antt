@@ -100,7 +100,7 @@ takes_leave s bases reply s' takes base o has r =
     ap (λ (x : Heap). x.objects base) takes.after ∙ without_other s.objects bases base (λ among. All-contains (λ b. Reached s b → ⊥) bases base takes.unreached among r) ∙ has
 
 -- So each step that stores and frees nothing leaves an object, if it collects nothing or the object is reached.
-step_leaves : (s t : HeapState) (by : ℕ) (event : Event) (reply : Reply) (h : StateStep s by event reply t) → IsSound (heap_of s) → LeavesWords event → (base : ℕ) (o : Object)
+pub step_leaves : (s t : HeapState) (by : ℕ) (event : Event) (reply : Reply) (h : StateStep s by event reply t) → IsSound (heap_of s) → LeavesWords event → (base : ℕ) (o : Object)
     → IsNoCollection event ⊎ Reached (heap_of s) base → HasObject (heap_of s) base o → HasObject h.heap base o
 step_leaves s t by Attach reply h sound left base o safe has = attaches_leave (heap_of s) h.happens base o has
 step_leaves s t by (Mutator slot call) reply h sound left base o safe has = calls_leave (heap_of s) slot sound h.happens left base o has
