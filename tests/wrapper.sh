@@ -1,13 +1,14 @@
 #!/usr/bin/env bash
 # Tests of the wrapper `mpheap` at the top of the repository, over a copy of the tree. What the wrapper alone decides is tested
-# with a stand-in for rt, which notes how it was called and answers as it is told; two runs at the end are of the real rt,
-# so that the stand-in's answers are known to be rt's, and one more runs examples/. At the end it calls tests/replay.sh. It takes
-# about two minutes, and leaves nothing behind.
+# with a stand-in for rt, which notes how it was called and answers as it is told. Meanwhile some runs of the real rt go on, over
+# another copy, so that the stand-in's answers are known to be rt's; one more runs examples/, and tests/replay.sh is called. It
+# leaves nothing behind.
 set -uo pipefail
 top=$(dirname "$(dirname "$(readlink -f "${BASH_SOURCE[0]}")")")
 room=$(mktemp -d)
-trap 'rm -rf "$room"' EXIT
+trap 'kill "${lanes[@]}" 2>/dev/null; wait; rm -rf "$room"' EXIT
 trap 'exit 143' INT TERM HUP
+lanes=()
 passed=0
 failed=0
 export ROOM=$room
@@ -68,10 +69,16 @@ try_ends() {
     try_answers "$1" "$2" ${3+"$3"} "checked: ended status=$1" "run=ended status=$1 runners=1 proved=no"
 }
 
+# copy_tree FOLDER: what the wrapper reads of the repository.
+copy_tree() {
+    mkdir -p "$1"
+    (cd "$top" && tar cf - mpheap wrapper README.md HANDLES crates.txt c include crates/*/{src,specs,proofs} crates/mpheap/args 2>/dev/null) |
+        tar xf - -C "$1"
+}
+
 open_room() {
-    mkdir -p "$tree" "$room/bin" "$room/seen" "$room/says" "$room/temporary" "$room/caller" "$room/home"
-    (cd "$top" && tar cf - mpheap README.md HANDLES crates.txt crates/*/{src,specs,proofs} crates/mpheap/args 2>/dev/null) |
-        tar xf - -C "$tree"
+    mkdir -p "$room/bin" "$room/seen" "$room/says" "$room/temporary" "$room/caller" "$room/home"
+    copy_tree "$tree"
     mkdir -p "$tree/crates/elsewhere/src"
     echo "elsewhere: words" >>"$tree/crates.txt"
     wrapper=$tree/mpheap
@@ -79,6 +86,12 @@ open_room() {
 #!/bin/sh
 echo "$(basename "$PWD") $*" >>"$ROOM/seen/calls"
 [ ! -x "$ROOM/says/first" ] || "$ROOM/says/first"
+name=$(basename "$PWD")
+if [ -e "$ROOM/says/waits" ]; then
+    echo left >"$TMPDIR/left"
+    echo $$ >"$ROOM/seen/waiting"
+    exec sleep 60
+fi
 case $1 in
     try)
         shift 2
@@ -90,13 +103,14 @@ case $1 in
         exit "$(cat "$ROOM/says/status")"
         ;;
     lib)
-        [ "$(basename "$PWD")" != "$(cat "$ROOM/says/refused" 2>/dev/null)" ] || { echo "a goal is open" && exit 1; }
+        [ "$name" != "$(cat "$ROOM/says/refused" 2>/dev/null)" ] || { echo "a goal is open" && exit 1; }
+        if [ "$name" = mpheap_c ]; then mkdir -p out && ar rcs out/libmpheap_c.a; fi
         ;;
     run)
         mkdir -p out
-        printf '#!/bin/sh\necho "$PWD|$*" >"$ROOM/seen/program"\necho replied\necho complained >&2\nexit 2\n' >out/mpheap
-        chmod +x out/mpheap
-        echo a stamp >out/mpheap.stamp
+        printf '#!/bin/sh\necho "%s|$PWD|$*" >"$ROOM/seen/program"\necho replied\necho complained >&2\nexit 2\n' "$name" >"out/$name"
+        chmod +x "out/$name"
+        echo a stamp >"out/$name.stamp"
         ;;
 esac
 RT
@@ -111,12 +125,21 @@ usage_comes_first() {
     has "no words: run" "mpheap run --pages N [FILE]" "$err"
     has "no words: threads" "mpheap threads --pages N [--helpers H] FILE" "$err"
     has "no words: stress" "mpheap stress --seed S --mutators M --steps K" "$err"
+    has "no words: record" "mpheap record --pages N FILE" "$err"
+    has "no words: replay" "mpheap replay --pages N FILE" "$err"
     has "no words: build" "mpheap build" "$err"
+    has "no words: install" "mpheap install PREFIX" "$err"
     has "no words: which page says more" "$tree/docs/SCRIPTS.md" "$err"
     is "no words: nothing is built" "" "$(calls)"
     call build now
     is "build takes no word: status" 2 "$status"
     is "build takes no word: nothing is built" "" "$(calls)"
+    call install
+    is "install takes a folder: status" 2 "$status"
+    call install "$room/prefix"
+    is "install before a build: status" 3 "$status"
+    has "install before a build: what to do" "mpheap build" "$err"
+    is "install before a build: nothing is copied" no "$(test -e "$room/prefix" && echo yes || echo no)"
 }
 
 words_stay_as_they_are() {
@@ -139,14 +162,75 @@ words_stay_as_they_are() {
     call threads --helpers 4 --pages 4 first.script
     is "a workload's FILE behind two options" "$(lines threads --helpers 4 --pages 4 /dev/stdin)" "$(words)"
     is "a workload's text" attach "$(input)"
-    echo "0 get 1" | "$wrapper" threads --pages 4 >"$room/out" 2>"$room/err"
-    is "a workload without FILE stays as it is" "$(lines threads --pages 4)" "$(words)"
-    is "a workload without FILE reads no input" "" "$(input)"
     call stress --seed 1 --mutators 2 --steps 4
     is "a random script has no FILE" "$(lines stress --seed 1 --mutators 2 --steps 4)" "$(words)"
-    call walk run 4 </dev/null
-    is "words of no row are the program's" "$(lines walk run 4)" "$(words)"
+    call stress --seed 18446744073709551615 --mutators 16 --steps 100000
+    is "the greatest numbers" "$(lines stress --seed 18446744073709551615 --mutators 16 --steps 100000)" "$(words)"
+    call run --pages 1024 first.script
+    is "the greatest heap" "$(lines run --pages 1024 /dev/stdin)" "$(words)"
     rm run 4 ./--pages
+}
+
+# each_program_is_called_by_its_name: the programs on runs that were written down have no command among their words.
+each_program_is_called_by_its_name() {
+    local program
+    for program in record replay; do
+        try_ends 0 $'legal\n'
+        call "$program" --pages 4 first.script
+        is "$program: its crate and words" "$program try -- --pages 4 /dev/stdin" "$(calls)"
+        is "$program: its text" attach "$(input)"
+        is "$program: what it prints" legal "$out"
+        cp first.script ./--first
+        call "$program" --pages 4 --first
+        is "$program: a FILE that looks like an option" attach "$(input)"
+        rm ./--first
+    done
+}
+
+# refused STATUS LAST WHAT WORDS..: words that no program takes are refused before anything is built; WHAT says why, and LAST is
+# the program's own text.
+refused() {
+    call "${@:4}"
+    is "${*:4}: status" "$1" "$status"
+    is "${*:4}: the program's own text" "$2" "$(tail -n 1 "$room/err")"
+    is "${*:4}: which word" "mpheap: $3" "$(head -n 1 "$room/err")"
+    is "${*:4}: nothing is built or replied" "" "$(calls)$out"
+}
+
+wrong_words_are_told() {
+    refused 2 "bad command" "'rum' is no command" rum --pages 4
+    has "wrong words: the usage" "mpheap run --pages N [FILE]" "$err"
+    refused 2 "bad command" "'--version' is no command" --version
+    refused 2 "bad command" "'run' lacks '--pages'" run
+    refused 2 "bad command" "'--pages' lacks its number" run --pages
+    refused 2 "bad command" "'four' is no number for '--pages': 1 to 1024, in decimal" run --pages four
+    refused 2 "bad command" "'' is no number for '--pages': 1 to 1024, in decimal" run --pages=
+    refused 2 "bad command" "'0' is no number for '--pages': 1 to 1024, in decimal" run --pages 0
+    refused 2 "bad command" "'04' is no number for '--pages': 1 to 1024, in decimal" run --pages 04
+    refused 2 "bad command" "'1025' is no number for '--pages': 1 to 1024, in decimal" run --pages 1025
+    refused 2 "bad command" "'--pages' is given twice" run --pages 4 --pages 4
+    refused 2 "bad command" "'b' is a second FILE, behind 'a'" run --pages 4 a b
+    refused 2 "bad command" "'run' has no option '--page'" run --page 4
+    refused 2 "bad command" "'run' has no option '-p'" run -p 4
+    refused 2 "bad command" "'threads' lacks its FILE" threads --pages 4
+    refused 2 "bad command" "'9' is no number for '--helpers': 1 to 8, in decimal" threads --pages 4 --helpers 9 first.script
+    refused 2 "bad command" "'stress' lacks '--steps'" stress --seed 1 --mutators 2
+    refused 2 "bad command" "'stress' takes no word 'x'" stress --seed 1 --mutators 2 --steps 4 x
+    refused 2 "bad command" "'18446744073709551616' is no number for '--seed': 0 to 18446744073709551615, in decimal" \
+        stress --seed 18446744073709551616 --mutators 1 --steps 0
+    refused 2 "replay --pages N FILE" "'--pages' has to be the first word behind 'replay'" replay first.script --pages 4
+    refused 2 "record --pages N FILE" "'record' takes a number of pages and one FILE" record --pages 4
+    refused 2 "replay --pages N FILE" "'0' is no number for '--pages': 1 to 1024, in decimal" replay --pages 0 first.script
+}
+
+# The limits that the wrapper knows are those of the program.
+limits_are_the_programs() {
+    local name
+    for name in pages:MAX_PAGES helpers:MAX_HELPERS mutators:SLOTS steps:MAX_STEPS; do
+        is "the limit of ${name%:*}" \
+            "$(sed -n "s/^pub const ${name#*:}: [a-z0-9]* = \([0-9_]*\);/\1/p" "$top"/crates/{words,workloads}/src/limits.rt | tr -d _)" \
+            "$(sed -n "s/^most_${name%:*}=//p" "$top/wrapper/words.sh")"
+    done
 }
 
 file_is_the_callers() {
@@ -154,12 +238,9 @@ file_is_the_callers() {
     call run --pages 4 args
     is "a name that stands in the crate too" "0 get 1" "$(input)"
     rm args
-    call run --pages 4 args
-    is "a missing file is no file of the crate" "" "$(input)"
-    is "a missing file's word names nothing" no "$(test -e "$(words | tail -n 1)" && echo yes || echo no)"
-    lacks "a missing file's word isn't rewritten to another" "/dev/stdin" "$(words)"
-    call run --pages 4 "$room"
-    lacks "a folder is no script" "/dev/stdin" "$(words)"
+    refused 1 "read fault" "there is no file 'args'" run --pages 4 args
+    refused 1 "read fault" "there is no file 'args'" replay --pages 4 args
+    refused 1 "read fault" "'$room' is a folder" run --pages 4 "$room"
     mkdir "with space"
     echo attach >"with space/a b"
     call run --pages 4 "with space/a b"
@@ -197,8 +278,51 @@ TYPED
         is "a script typed on a terminal" "$(lines attach "0 get 1")" "$(input)"
     fi
     rm -f "$room"/seen/*
-    "$wrapper" run --pages 4 <&- >"$room/out" 2>&1
-    is "a closed input's word names nothing" no "$(test -e "$(words | tail -n 1)" && echo yes || echo no)"
+    status=0
+    "$wrapper" run --pages 4 <&- >"$room/out" 2>"$room/err" || status=$?
+    is "a closed input: status" 1 "$status"
+    is "a closed input" "$(lines "mpheap: standard input is closed" "read fault")" "$(cat "$room/err")"
+}
+
+# ends_at_once WHAT PROCESS: a signal ends the wrapper that is this process within five seconds, and nothing is left of its run.
+ends_at_once() {
+    local began=$SECONDS
+    kill -TERM "$2"
+    status=0
+    wait "$2" 2>/dev/null || status=$?
+    is "$1: status" 143 "$status"
+    is "$1: at once" yes "$([ $((SECONDS - began)) -le 5 ] && echo yes || echo no)"
+    is "$1: no folder is left" "" "$(ls -A "$TMPDIR")"
+}
+
+# until_true COMMAND..: waits until it says yes, ten seconds at most.
+until_true() {
+    local look
+    for look in {1..100}; do
+        "$@" && return
+        sleep 0.1
+    done
+    is "waited for: $* ($look looks)" yes no
+}
+
+has_left_something() { [ -n "$(ls -A "$TMPDIR")" ]; }
+
+a_signal_ends_a_run() {
+    touch "$room/says/waits"
+    rm -f "$room"/seen/*
+    "$wrapper" run --pages 4 first.script >"$room/out" 2>&1 &
+    until_true test -s "$room/seen/waiting"
+    ends_at_once "a signal while rt works" $!
+    is "a signal while rt works: rt is ended" no "$(kill -0 "$(cat "$room/seen/waiting")" 2>/dev/null && echo yes || echo no)"
+    rm "$room/says/waits"
+    mkfifo "$room/slow"
+    sleep 60 >"$room/slow" &
+    local writer=$!
+    "$wrapper" run --pages 4 <"$room/slow" >"$room/out" 2>&1 &
+    until_true has_left_something
+    ends_at_once "a signal while the script is read" $!
+    kill "$writer"
+    rm "$room/slow"
 }
 
 answers_are_handed_on() {
@@ -235,7 +359,7 @@ no_answer_is_status_three() {
         is "a full output: status" 3 "$status"
     fi
     mkdir -p "$room/plain"
-    for tool in sh dirname readlink cat printf awk sed find sort xargs sha256sum mktemp rm tail; do
+    for tool in sh dirname readlink cat printf awk sed find sort xargs sha256sum mkdir mktemp rm tail; do
         ln -sf "$(PATH=$real_path type -P "$tool")" "$room/plain/$tool"
     done
     status=0
@@ -248,10 +372,15 @@ no_answer_is_status_three() {
 build_shows_its_way() {
     call build
     is "a build: status" 0 "$status"
-    is "a build: its one line of output" "mpheap: the proved build is $tree/crates/mpheap/out/mpheap" "$out"
+    is "a build: a line of output for each program and for C" \
+        "$(printf "mpheap: the proved build is $tree/crates/%s/out/%s\n" mpheap mpheap replay replay record record mpheap_c libmpheap_c.a
+            echo "mpheap: a program in C: cc -I$tree/include program.c $tree/crates/mpheap_c/out/libmpheap.a")" "$out"
+    is "a build: the archive" yes "$(test -f "$tree/crates/mpheap_c/out/libmpheap.a" && echo yes || echo no)"
     has "a build: how long, beforehand" "minutes" "$(head -n 1 "$room/err")"
     is "a build: the lowest crate first" "words lib" "$(calls | head -n 1)"
-    is "a build: the program last" "mpheap run -- run --pages 1" "$(calls | tail -n 1)"
+    is "a build: each program is run on nothing" \
+        "$(lines "mpheap run -- run --pages 1" "replay run -- --pages 1 /dev/null" "record run -- --pages 1 /dev/null")" \
+        "$(calls | grep -v ' lib$')"
     is "a build: a line for each crate" "$(calls | wc -l)" "$(grep -c ' of .*: proved, ' "$room/err")"
     lacks "a build: no crate that isn't below" "elsewhere" "$(calls)"
 }
@@ -272,14 +401,20 @@ runs_unproved() {
 
 proved_is_said_where_it_is_true() {
     runs_proved "after a build"
-    is "the program's words and folder" "$PWD|run --pages 4 first.script" "$(cat "$room/seen/program")"
+    is "the program's words and folder" "mpheap|$PWD|run --pages 4 first.script" "$(cat "$room/seen/program")"
     is "the program's replies" replied "$out"
     is "the program's errors" complained "$(tail -n 1 "$room/err")"
     is "the program's status" 2 "$status"
+    call replay --pages 4 first.script
+    is "another program's words" "replay|$PWD|--pages 4 first.script" "$(cat "$room/seen/program")"
+    refused 2 "bad command" "'run' lacks '--pages'" run
+    refused 1 "read fault" "there is no file 'missing'" run --pages 4 missing
     touch "$tree/crates/words/src/lib.rt" "$tree/crates.txt"
     runs_proved "times that changed"
     echo "// more" >>"$tree/crates/elsewhere/src/lib.rt"
     runs_proved "an edit of a crate that isn't below"
+    touch "$tree/crates/words/src/"{lib.rt~,.lib.rt.swp,notes} "$tree/crates/words/specs/Lib.antt.orig"
+    runs_proved "files that rt doesn't read"
     proof=$(cd "$tree" && find crates/words/proofs -type f | head -n 1)
     for file in crates.txt crates/words/src/lib.rt crates/heap_spec/specs/Lib.antt crates/mpheap/src/main.rt "$proof"; do
         cp -p "$tree/$file" "$room/kept"
@@ -294,10 +429,29 @@ proved_is_said_where_it_is_true() {
     rm "$tree/crates/mpheap/src/new.rt"
     echo "# more" >>"$tree/crates/mpheap/out/mpheap"
     runs_unproved "another program in its place"
+    echo "// more" >>"$tree/crates/replay/src/main.rt"
+    call record --pages 4 first.script
+    is "an edit of another program" "mpheap: the proved build" "$(head -n 1 "$room/err")"
+    call replay --pages 4 first.script
+    has "an edit of this program: out of date" "out of date" "$(head -n 1 "$room/err")"
+}
+
+the_heap_for_c_is_copied() {
+    call install "$room/prefix"
+    is "install: status" 0 "$status"
+    for file in include/mpheap.h lib/libmpheap.a lib/pkgconfig/mpheap.pc lib/cmake/mpheap/mpheap-config.cmake; do
+        is "install: $file" yes "$(test -f "$room/prefix/$file" && echo yes || echo no)"
+    done
+    has "install: how C is compiled" "$room/prefix/lib/pkgconfig" "$out"
+    echo "// more" >>"$tree/crates/words/src/lib.rt"
+    call install "$room/other"
+    is "install after an edit: status" 3 "$status"
+    is "install after an edit: nothing is copied" no "$(test -e "$room/other" && echo yes || echo no)"
+    sed -i '$d' "$tree/crates/words/src/lib.rt"
 }
 
 failed_builds_prove_nothing() {
-    rm -rf "$tree/crates/mpheap/out"
+    rm -rf "$tree"/crates/*/out
     echo block_map >"$room/says/refused"
     call build
     is "a refused crate: status" 3 "$status"
@@ -321,6 +475,7 @@ found_from_everywhere() {
     cd "$room/home" || exit 1
     wrapper=./mpheap
     runs_proved "through a link"
+    cp first.script "$tree"
     cd "$tree" || exit 1
     export CDPATH=$room/home
     runs_proved "with CDPATH"
@@ -336,27 +491,48 @@ found_from_everywhere() {
     is "the proved build needs no rt" "mpheap: the proved build" "$(head -n 1 "$room/err")"
 }
 
-# The real rt: a script that ends in a bad line, under a name that stands in the crate too, and more than 1 MiB of replies.
-real_runs() {
-    PATH=$real_path
-    rm -rf "$tree/crates/mpheap/out"
+# Runs of the real rt, each with a folder of its own, which go on meanwhile.
+start_real_runs() {
+    copy_tree "$room/real"
+    mkdir -p "$room/lane" "$room/alone"
+    local TMPDIR=$room/alone
+    a_bad_line_and_examples >"$room/lane/examples" 2>&1 &
+    lanes=($!)
+    too_many_replies >"$room/lane/replies" 2>&1 &
+    lanes+=($!)
+    "$top/tests/replay.sh" >"$room/lane/replay" 2>&1 &
+    lanes+=($!)
+}
+
+# A script that ends in a bad line, under a name that stands in the crate too; and examples/.
+a_bad_line_and_examples() {
+    mkdir "$room/alone/line" && cd "$room/alone/line" || exit 1
     lines attach "0 alloc 1 3 normal" "0 get 1" "0 load 1" >args
-    (echo attach; echo 0 set 1 18446744073709551615; yes 0 get 1 | head -n 60000) >long.script
-    "$wrapper" run --pages 4 long.script >"$room/long.out" 2>"$room/long.err" &
-    call run --pages 4 args
-    is "the real rt, a bad line: status" 2 "$status"
-    is "the real rt, a bad line: replies" "$(lines "mutator 0" ok ptr)" "$out"
-    is "the real rt, a bad line: all that is said" "$(lines "mpheap: an unproved build, made now for this one run: for a first look" "bad line 4")" "$err"
     status=0
-    wait $! || status=$?
-    is "the real rt, too much: status" 3 "$status"
-    is "the real rt, too much: nothing is replied" 0 "$(wc -c <"$room/long.out")"
-    is "the real rt, too much: one line tells it" 2 "$(wc -l <"$room/long.err")"
-    rm -f args
+    "$room/real/mpheap" run --pages 4 args >out 2>err || status=$?
+    echo "$status" >status
+    real_examples
+}
+
+# More than 1 MiB of replies; and then a run that is stopped.
+too_many_replies() {
+    mkdir "$room/alone/long" "$room/alone/stopped" && cd "$room/alone/long" || exit 1
+    (echo attach; echo 0 set 1 18446744073709551615; yes 0 get 1 | head -n 60000) >long.script
+    status=0
+    "$room/real/mpheap" run --pages 4 long.script >out 2>err || status=$?
+    echo "$status" >status
+    TMPDIR=$room/alone/stopped "$room/real/mpheap" run --pages 4 long.script >/dev/null 2>&1 &
+    sleep 4
+    local began=$SECONDS
+    kill -TERM $!
+    wait $!
+    echo $((SECONDS - began)) >took
+    sleep 1
+    grep -lsz "^TMPDIR=$room/alone/stopped" /proc/[0-9]*/environ >left
 }
 
 # Each of examples/ prints the replies that stand beside it, by an unproved build of the program.
-examples_have_their_replies() {
+real_examples() {
     local file name cases=$room/cases
     mkdir "$cases"
     cd "$top" || exit 1
@@ -369,27 +545,48 @@ examples_have_their_replies() {
             *) lines threads --pages 4 {} >"$cases/$name.args" ;;
         esac
     done
-    (cd "$tree/crates/mpheap" && rt try --cases "$cases") >"$room/out" 2>&1
-    for file in "$cases"/*.stdout; do
-        name=$(basename "$file" .stdout)
-        is "examples/$name prints its replies" 1 "$(grep -c "case=$name run=ended status=0 .* output=expected" "$room/out")"
-    done
+    cd "$room/real/crates/mpheap" && rt try --cases "$cases" 2>&1
 }
 
+real_runs() {
+    local file name
+    wait "${lanes[@]}"
+    cd "$room/alone/line" || exit 1
+    is "the real rt, a bad line: status" 2 "$(cat status)"
+    is "the real rt, a bad line: replies" "$(lines "mutator 0" ok ptr)" "$(cat out)"
+    is "the real rt, a bad line: all that is said" \
+        "$(lines "mpheap: an unproved build, made now for this one run: for a first look" "bad line 4")" "$(cat err)"
+    cd "$room/alone/long" || exit 1
+    is "the real rt, too much: status" 3 "$(cat status)"
+    is "the real rt, too much: nothing is replied" 0 "$(wc -c <out)"
+    is "the real rt, too much: one line tells it" 2 "$(wc -l <err)"
+    is "the real rt, stopped: at once" yes "$([ "$(cat took)" -le 5 ] && echo yes || cat took)"
+    is "the real rt, stopped: nothing is left" "" "$(ls -A "$room/alone/stopped")$(cat left)"
+    for file in "$room"/cases/*.stdout; do
+        name=$(basename "$file" .stdout)
+        is "examples/$name prints its replies" 1 "$(grep -c "case=$name run=ended status=0 .* output=expected" "$room/lane/examples")"
+    done
+    is "replay and record end as they are to" "" "$(cat "$room/lane/replay")"
+}
+
+PATH=$real_path start_real_runs
 open_room
 usage_comes_first
 words_stay_as_they_are
+each_program_is_called_by_its_name
+wrong_words_are_told
+limits_are_the_programs
 file_is_the_callers
 input_is_read_to_its_end
+a_signal_ends_a_run
 answers_are_handed_on
 no_answer_is_status_three
 build_shows_its_way
 proved_is_said_where_it_is_true
+the_heap_for_c_is_copied
 failed_builds_prove_nothing
 found_from_everywhere
-real_runs
-examples_have_their_replies
-is "replay and record end as they are to" "" "$("$top/tests/replay.sh" 2>&1)"
 is "no folder is left behind" "" "$(ls -A "$TMPDIR")"
+real_runs
 echo "wrapper: $passed passed, $failed failed"
 [ "$failed" = 0 ]

@@ -1,10 +1,8 @@
 -- The walk over the allocated cells of a page that frees the unmarked ones.
-use Rattle.std.proofs.Common.{◌≡◌, ℕ, ◌+◌, ◌*◌, ◌/◌, ◌<◌, ◌≤◌, Bool, true, false, List, length, get_or, set, refl, sym, ap, ◌∙◌, subst, ⊎_elim, arith, length-set, get_or-set_same, get_or-set_other}
+use Rattle.std.proofs.Common.{◌≡◌, ℕ, ◌+◌, ◌<◌, ◌≤◌, Bool, false, List, length, get_or, set, sym, ◌∙◌, subst, ⊎_elim, arith, length-set, get_or-set_same, get_or-set_other}
 use Rattle.std.specs.Prelude.{◌≢◌, slice_index}
 use Rattle.std.proofs.lemmas.Bool.{cases_eq, cases_lt, true≢false}
 use Rattle.std.proofs.lemmas.List.{get_or_past}
-use Rattle.std.proofs.Math.Nat.{mul-le-mul_left}
-use Rattle.blocks.proofs.Places.{divided}
 use Rattle.words.specs.Bits.{Has, IsEmptyFrom, IsFirstFrom}
 use Rattle.pages.specs.Memory.{place, with_word_at}
 use Rattle.blocks.specs.Cells.{Cells}
@@ -21,18 +19,6 @@ pub record HasSwept (words words' : List ℕ) (marks : List Bool) (page : ℕ) (
   pub dead : (i : ℕ) → i < from → get_or marks (mark_of page b.class i) false ≡ false → get_or b'.taken i false ≡ false
   pub rest : (i : ℕ) → from ≤ i → get_or b'.taken i false ≡ get_or b.taken i false
   pub others : (k : ℕ) → ((i : ℕ) → IsDeadCell marks page b i → k ≢ place (cell_start page b.class i)) → slice_index words' k ≡ slice_index words k
-
-pub swept_none : (words : List ℕ) (marks : List Bool) (page : ℕ) (b : Cells) → HasSwept words words marks page b b 0
-swept_none words marks page b = record {
-  class = refl;
-  kind = refl;
-  row = refl;
-  size = refl;
-  marked = λ i lt _. absurd (omega arith);
-  dead = λ i lt _. absurd (omega arith);
-  rest = λ i ge. refl;
-  others = λ k out. refl;
-}
 
 module _ (words words' : List ℕ) (marks : List Bool) (page : ℕ) (b d : Cells) (from : ℕ) (h : HasSwept words words' marks page b d from) where
   module _ (cell : ℕ) (first : IsFirstFrom d.taken from cell) where
@@ -95,11 +81,3 @@ module _ (words words' : List ℕ) (marks : List Bool) (page : ℕ) (b d : Cells
         (cases_lt i from);
     others = h.others;
   }
-
--- the mark of a cell is one of its page's
-pub mark_inside : (class page cell n : ℕ) → cell * class + class ≤ 512 → 2 ≤ class → 256 * page + 256 ≤ n → mark_of page class cell < n
-mark_inside class page cell n fits some size =
-    let d = (divided class 2 (omega arith)).0 in
-    let m : cell * (class / 2 * 2) ≤ cell * class = mul-le-mul_left cell d in
-    let e : cell * (class / 2 * 2) ≡ 2 * (cell * (class / 2)) = omega arith in
-    omega (arith, m, e, fits, some, size)

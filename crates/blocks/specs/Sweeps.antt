@@ -1,5 +1,5 @@
 -- What it is to sweep the cells of a page.
-use Rattle.std.specs.Prelude.{◌≡◌, ◌≢◌, ℕ, ◌+◌, ◌*◌, ◌/◌, ◌<◌, Bool, true, false, List, length, slice_index, slice_index_or}
+use Rattle.std.specs.Prelude.{◌≡◌, ◌≢◌, ℕ, ◌+◌, ◌*◌, ◌/◌, ◌<◌, Bool, false, List, length, slice_index, slice_index_or}
 use Rattle.words.specs.declared.limits.TheConstants.{GRANULE_WORDS, PAGE_GRANULES}
 use Rattle.words.specs.Bits.{Has}
 use Rattle.pages.specs.Memory.{place}

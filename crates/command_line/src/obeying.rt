@@ -4,8 +4,9 @@ ghost use Rattle.words.specs.declared.limits.TheConstants.{MAX_PAGES};
 ghost use Rattle.command_line.specs.Obeying.{as_fault, HasRead, HasWritten};
 
 use crate::arguments::{helpers_given, number_given, pages_given};
+use crate::random::write_stress;
 use clap::ArgMatches;
-use commands::{Fault, write_stress};
+use commands::Fault;
 use final_pause::{Helpers, Open};
 use scripts::{ScriptError, Sink, Source, Std, run_script};
 use std::alloc::Global;

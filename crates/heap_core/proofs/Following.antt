@@ -230,7 +230,3 @@ pub lines_more : (old mid new : Contents) (lines : List Told) (event : Event) (r
 lines_more old mid new lines event reply so line start run follows =
     let a = so start run follows in let b = line start a.0 a.2 in
     (b.0, transcript_more start a.1 event reply b.1, b.2)
-
--- From any heap that the core stands for, with its phase and its count.
-pub follows_start : (c : Contents) (s : Heap) → StandsFor c s → c.cycle.count < word_end → Follows c (record { heap = s; marking = c.cycle.is_marking; count = c.cycle.count }) []
-follows_start c s h small = record { stands = h; phase = refl; count = refl; small = small; touched = λ is base o has marked. is }

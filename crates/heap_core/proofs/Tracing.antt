@@ -1,7 +1,6 @@
 -- What keeps a core traced: its marker is one of its pages, and while marking the dirty-page invariant holds.
 use Rattle.std.proofs.Common.{◌≡◌, ℕ, true, false, List, length, Option, Some, None, refl, sym, ap, ◌∙◌, subst, ⊎_elim}
 use Rattle.std.proofs.lemmas.Bool.{false≢true}
-use Rattle.std.specs.Prelude.{Bool}
 use Rattle.pages.specs.Memory.{with_word_at}
 use Rattle.block_map.specs.declared.found.Found.{Found}
 use Rattle.block_map.specs.FoundIn.{found_in}
@@ -18,7 +17,7 @@ use Rattle.marker.specs.Mutations.{KeepsWords, IsFreed}
 use Rattle.marker.proofs.Mutating.{free_traced}
 use Rattle.object_space.specs.Kept.{is_kept}
 use Rattle.object_space.proofs.Kept.{kept_cases, kept_is, marked_kept}
-use Rattle.object_space.specs.Store.{Store, IsSwept}
+use Rattle.object_space.specs.Store.{Store}
 use Rattle.heap_core.specs.Contents.{Cycle, IsTraced}
 use Rattle.heap_core.specs.Beside.{NotesWrite, NotesObject}
 use Rattle.object_space.specs.Sweeps.{Gains, Loses, Sweeps}
@@ -75,16 +74,6 @@ traced_freed t t' y y' f x objects map there loses frees phase keeps = record {
 -- nothing is marked
 pub fresh_objects : (found : ℕ → Option Found) (pages : ℕ) (m : Marking) → IsFresh pages m → AreMarksObjects found m
 fresh_objects found pages m fresh k h = absurd (false≢true (sym (fresh.marks.clear k) ∙ h))
-
--- a cycle begins
-pub traced_begun : (t : Store) (y : Cycle) (m : Marking) (marking : Bool) (count : ℕ) → IsTraced t y → IsSwept t → IsFresh (length y.marking.dirty) m → DirtyPageInvariant (found_in t.states) t.words m
-    → IsTraced t (record { marking = m; is_marking = marking; count = count })
-traced_begun t y m marking count x swept fresh invariant = record {
-  pages = fresh.dirty.size ∙ x.pages;
-  objects = fresh_objects (found_in t.states) (length y.marking.dirty) m fresh;
-  swept = λ is. swept;
-  invariant = λ is. invariant;
-}
 
 -- a cycle has ended
 pub traced_ended : (t : Store) (m : Marking) (count : ℕ) → length m.dirty ≡ length t.states → AreMarksObjects (found_in t.states) m → IsTraced t (record { marking = m; is_marking = false; count = count })

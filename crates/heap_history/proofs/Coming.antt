@@ -220,7 +220,7 @@ walks_collector s t (e ∷ es) w = ⊎_elim
     (cases_eq e.who 16)
 
 -- an event is a slot's or the collector's
-step_who : (s u : HeapState) (who : ℕ) (asked : Event) (reply : Reply) → StateStep s who asked reply u → (who < 16) ⊎ (who ≡ 16)
+pub step_who : (s u : HeapState) (who : ℕ) (asked : Event) (reply : Reply) → StateStep s who asked reply u → (who < 16) ⊎ (who ≡ 16)
 step_who s u who Attach reply h = inl h.fits.0
 step_who s u who (Mutator slot call) reply h = inl h.fits.range
 step_who s u who Begin reply h = inr h.fits

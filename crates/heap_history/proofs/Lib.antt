@@ -14,3 +14,7 @@ pub mod OwnWords
 pub mod Coming
 pub mod Alone
 pub mod Others
+pub mod KnownRegisters
+pub mod OwnObjects
+pub mod Privacy
+pub mod OwnAlone

@@ -134,7 +134,7 @@ takes_leave s h bases reply s' takes base o has r kind =
     ∙ ap (λ ws. Some (record o { words = ws })) (cleared_same (loses_word s bases) base o.words (λ i lt. no_link s h bases base o has kind (base + 8 * i) (omega arith, omega arith)))
 
 -- So each step that stores and frees nothing leaves an object, if it collects nothing or the object is reached.
-step_leaves : (s t : HeapState) (by : ℕ) (event : Event) (reply : Reply) (h : StateStep s by event reply t) → IsSound (heap_of s) → LeavesWords event → (base : ℕ) (o : Object)
+pub step_leaves : (s t : HeapState) (by : ℕ) (event : Event) (reply : Reply) (h : StateStep s by event reply t) → IsSound (heap_of s) → LeavesWords event → (base : ℕ) (o : Object)
     → IsNoCollection event ⊎ (Reached (heap_of s) base × (o.kind ≡ Normal)) → HasObject (heap_of s) base o → HasObject h.heap base o
 step_leaves s t by Attach reply h sound left base o safe has = attaches_leave (heap_of s) h.happens base o has
 step_leaves s t by (Mutator slot call) reply h sound left base o safe has = calls_leave (heap_of s) slot sound h.happens left base o has

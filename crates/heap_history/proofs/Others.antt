@@ -4,22 +4,18 @@ use Rattle.std.specs.Prelude.{All, Contains, filter, slice_index_or}
 use Rattle.std.proofs.lemmas.Bool.{cases_Bool}
 use Rattle.std.proofs.lemmas.List.Elements.{All-nil, All-cons, All-head, All-tail, All-map, All-weaker, All-contains}
 use mathlib.Core.List.{IsPrefix}
-use Rattle.words.specs.declared.class.Kind.TheVariants.{Normal}
 use Rattle.history.specs.Histories.{event, own, AreOfOthers, Walks, Legal}
-use Rattle.history.proofs.Fronts.{prefix_trans}
 use Rattle.heap_spec.specs.declared.call.Call.{Call}
 use Rattle.heap_spec.specs.declared.call.Call.TheVariants.{Detach, Set, Copy, Add, Sub, Get, Push, Pop, Load, Store, Alloc, Free, Base, Size, GlobalGet, GlobalPut, Link, Unlink}
 use Rattle.heap_spec.specs.declared.event.Event.{Event}
 use Rattle.heap_spec.specs.declared.event.Event.TheVariants.{Attach, Mutator, Begin, Roots, Mark, Retrace, Finish, Sweep, Collect, Number}
 use Rattle.heap_spec.specs.declared.reply.Reply.{Reply}
-use Rattle.heap_spec.specs.declared.reply.Reply.TheVariants.{Done, Word}
 use Rattle.heap_spec.specs.SequentialObject.{HeapState, Opens, StateStep}
 use Rattle.heap_history.specs.Ranks.{rank_of}
 use Rattle.heap_history.specs.Passes.{Entry, HeapPass}
 use Rattle.heap_history.specs.Headline.{Looks, Makes}
 use Rattle.heap_history.specs.Alone.{all_of, slots_of, AreAlone}
-use Rattle.heap_history.specs.Laws.{IsNoFreeCall, IsNoFree, LeavesWordsCall, LeavesWords, LeftWords, CallsLeaveRegister, MakesAfterNoWrite, MakesAfterNoFree}
-use Rattle.heap_history.proofs.OwnWords.{own_word}
+use Rattle.heap_history.specs.Laws.{IsNoFreeCall, IsNoFree, LeavesWordsCall, LeavesWords, LeftWords, MakesAfterNoWrite, MakesAfterNoFree}
 
 -- what holds of all that a test keeps holds where it is passed
 unfilter : (P : Entry → Type 0) (p : Entry → Bool) (es : List Entry) → All P (filter p es) → All (λ e. p e ≡ true → P e) es
@@ -147,25 +143,3 @@ looks_makes pages old mid new call reply looks makes =
     all_both : (P : Entry → Type 0) (xs ys : List Entry) → All P xs → All P ys → All P (xs ++ ys)
     all_both P [] ys a b = b
     all_both P (x ∷ xs) ys a b = All-cons P x (xs ++ ys) (All-head P x xs a) (all_both P xs ys (All-tail P x xs a) b)
-
--- what a pass had seen begins what it sees after a call
-made_seen : (pages : ℕ) (old new : HeapPass) (call : Call) (reply : Reply) (history : List Entry) → Makes pages old call reply new → IsPrefix new.seen history → IsPrefix old.seen history
-made_seen pages old new call reply history makes within =
-    let ext = makes.extends in
-    prefix_trans old.seen new.seen history
-    (ext.between ++ event old.slot (Mutator old.slot call) reply ∷ [], sym (append_assoc old.seen ext.between (event old.slot (Mutator old.slot call) reply ∷ [])) ∙ sym ext.seen)
-    within
-
-pub alone_word : (pages d n r w k e : ℕ) (reply : Reply) (start made set stored loaded : HeapPass) (history : List Entry) (others : List HeapPass) → d ≢ r → k < n
-    → Makes pages start (Alloc d n Normal) Done made → Makes pages made (Set r w) Done set → Makes pages set (Store d k r) Done stored → Makes pages stored (Load e d k) reply loaded
-    → Legal (Opens pages) StateStep history → IsPrefix loaded.seen history → AreAlone (start.slot ∷ slots_of others) history → All (LeftWords pages history) others → reply ≡ Word w
-alone_word pages d n r w k e reply start made set stored loaded history others ne lt first second third fourth legal within alone left =
-    let slot1 = first.extends.slot in
-    let slot2 = second.extends.slot ∙ slot1 in
-    let slot3 = third.extends.slot ∙ slot2 in
-    let within3 = made_seen pages stored loaded (Load e d k) reply history fourth within in
-    let within2 = made_seen pages set stored (Store d k r) Done history third within3 in
-    let calm2 = undisturbed pages history legal start.slot others alone left made set (Set r w) Done slot1 within2 second in
-    let calm3 = undisturbed pages history legal start.slot others alone left set stored (Store d k r) Done slot2 within3 third in
-    let calm4 = undisturbed pages history legal start.slot others alone left stored loaded (Load e d k) reply slot3 within fourth in
-    own_word pages d n r w k e reply start made made set stored loaded ne lt first CallsLeaveRegister.nothing calm2.1 calm3.1 calm4.0

@@ -66,14 +66,20 @@ walks_ready s t es walk fresh who d n r w ready others free = record {
 }
 
 -- an address in an object doesn't wrap
-address_is : (s : Heap) → IsSound s → (m : HeapMutator) (d k base : ℕ) (o : Object) → register m d ≡ base → HasObject s base o → k < length o.words
-    → (base ≤ address m d k) × (address m d k < base + 8 * length o.words)
-address_is s h m d k base o holds has lt =
+pub address_of : (s : Heap) → IsSound s → (m : HeapMutator) (d k base : ℕ) (o : Object) → register m d ≡ base → HasObject s base o → k < length o.words → address m d k ≡ base + 8 * k
+address_of s h m d k base o holds has lt =
     let to = (object_lies s h base o has).to in
     let few = h.few_pages in
     let below : register m d + 8 * k < 2 ^ 64 = omega (arith, to, few, lt, holds) in
     let is : address m d k ≡ register m d + 8 * k = mod-eq_of_lt below in
-    (omega (arith, is, holds), omega (arith, is, holds, lt))
+    omega (arith, is, holds)
+
+-- so it points into the object
+pub address_is : (s : Heap) → IsSound s → (m : HeapMutator) (d k base : ℕ) (o : Object) → register m d ≡ base → HasObject s base o → k < length o.words
+    → (base ≤ address m d k) × (address m d k < base + 8 * length o.words)
+address_is s h m d k base o holds has lt =
+    let is = address_of s h m d k base o holds has lt in
+    (omega (arith, is), omega (arith, is, lt))
 
 -- A word that stands in it, and the register that has its base.
 record HasStored (s : Heap) (slot d k w : ℕ) : Type 0 where

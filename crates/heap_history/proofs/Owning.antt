@@ -1,8 +1,8 @@
 -- An allocation, the register that has its base, and what comes after.
 use Rattle.std.proofs.Common.{◌≡◌, ℕ, ◌+◌, ◌*◌, ◌<◌, ◌≤◌, ◌⊎◌, List, ◌++◌, length, refl, sym, ap, ◌∙◌, subst, arith, inl, inr, ⊎_elim, replicate, get_or-set_same}
-use Rattle.std.specs.Prelude.{Some, All, slice_get, slice_set}
+use Rattle.std.specs.Prelude.{Some, All, slice_get, slice_index, slice_set}
 use Rattle.std.proofs.lemmas.Option.{slice_get_within}
-use Rattle.std.proofs.lemmas.List.{length-set, length-replicate}
+use Rattle.std.proofs.lemmas.List.{length-set, length-replicate, get_or-replicate}
 use Rattle.words.specs.declared.class.Kind.{Kind}
 use Rattle.history.specs.Histories.{event, AreOfOthers, Walks, Reaches}
 use Rattle.heap_spec.specs.declared.call.Call.{Call}
@@ -45,8 +45,11 @@ pub record Allocated (s s' : Heap) (slot d n : ℕ) (kind : Kind) : Type 0 where
   pub base : ℕ
   pub owned : Owned s' slot d n base kind
   pub away : (b : ℕ) (p : Object) → HasObject s b p → AreApart base (length owned.object.words) b (length p.words)
+  pub kind_is : owned.object.kind ≡ kind
+  pub new : (p : Object) → HasObject s base p → ⊥
+  pub zeros : (k : ℕ) → k < length owned.object.words → slice_index owned.object.words k ≡ 0
 
-alloc_is : (s : Heap) (slot d n : ℕ) (kind : Kind) → IsSound s → d < 16 → {s' : Heap} → Calls s slot (Alloc d n kind) Done s' → Allocated s s' slot d n kind
+pub alloc_is : (s : Heap) (slot d n : ℕ) (kind : Kind) → IsSound s → d < 16 → {s' : Heap} → Calls s slot (Alloc d n kind) Done s' → Allocated s s' slot d n kind
 alloc_is s slot d n kind h few (acts {m = m} at (Acts.allocated {place = place} a e room)) =
     let size = (attached_is s slot m h at).registers.size in
     let there : d < length m.registers = omega (arith, size) in
@@ -67,10 +70,13 @@ alloc_is s slot d n kind h few (acts {m = m} at (Acts.allocated {place = place} 
       };
       away = λ b p has. subst (λ k. AreApart a k b (length p.words)) (sym long)
           (room_apart s h place kind a is room b p has (λ same. room_none s h place kind a is room p (ap s.objects (sym same) ∙ has)));
+      kind_is = refl;
+      new = room_none s h place kind a is room;
+      zeros = λ k lt. get_or-replicate (length_of place) k 0 0 (omega (arith, lt, long));
     }
 
 -- what is told of a register
-get_is : (s : Heap) (slot d a : ℕ) {s' : Heap} → Calls s slot (Get d) (Word a) s' → (m : HeapMutator) → IsAttached s slot m → (a ≡ register m d) × (s' ≡ s)
+pub get_is : (s : Heap) (slot d a : ℕ) {s' : Heap} → Calls s slot (Get d) (Word a) s' → (m : HeapMutator) → IsAttached s slot m → (a ≡ register m d) × (s' ≡ s)
 get_is s slot d a (acts {m = k} at Acts.got) m at' = (ap (λ (x : HeapMutator). register x d) (same_mutator s slot k m at at'), refl)
 
 -- and of the object that it reads the base of

@@ -19,6 +19,7 @@ use Rattle.heap_history.specs.Ranks.{rank_of}
 use Rattle.heap_history.specs.Passes.{Entry, HeapPass, IsLegalPass, begins_with_attach}
 use Rattle.heap_history.specs.Headline.{Looks, Makes}
 use Rattle.heap_history.specs.Alone.{attaches, slots_of, AreAlone, CameIn}
+use Rattle.heap_history.specs.OwnObjects.{nothing_known, AllKeepToOwn, AreAsKnown}
 
 -- what these events tell after those that were told, the newest first
 abbrev pub tells : List Told → List Entry → List Told
@@ -155,10 +156,15 @@ OthersLeaveWords = (pages : ℕ) (history : List Entry) → Legal (Opens pages) 
     → All (LeftWords pages history) others → (old new : HeapPass) (call : Call) (reply : Reply) → old.slot ≡ me → IsPrefix new.seen history → Makes pages old call reply new
     → MakesAfterNoWrite pages old call reply new × MakesAfterNoFree pages old call reply new
 
--- A mutator allocates a Normal object, puts a word into another register, stores it in the object, and later loads it from there. Where nobody but
--- the mutator and these others had a part in the history, and the others stored and freed nothing, the load answers that word, whatever
--- cycles ran between.
-abbrev pub AloneWordStays : Type 0
-AloneWordStays = (pages d n r w k e : ℕ) (reply : Reply) (start made set stored loaded : HeapPass) (history : List Entry) (others : List HeapPass) → d ≢ r → k < n
-    → Makes pages start (Alloc d n Normal) Done made → Makes pages made (Set r w) Done set → Makes pages set (Store d k r) Done stored → Makes pages stored (Load e d k) reply loaded
-    → Legal (Opens pages) StateStep history → IsPrefix loaded.seen history → AreAlone (start.slot ∷ slots_of others) history → All (LeftWords pages history) others → reply ≡ Word w
+-- A mutator, which has seen this whole history, stored in no object but its own Normal ones, and freed none, since it came.
+pub record KeptToOwn (pages : ℕ) (history : List Entry) (pass : HeapPass) : Type 0 where
+  pub mutator : pass.slot < SLOTS
+  pub seen : pass.seen ≡ history
+  pub fine : IsLegalPass pages pass
+  pub kept : AllKeepToOwn nothing_known pass.mine
+
+-- Where nobody but these mutators had a part in a history, and each stored in its own Normal objects alone and freed none, what each loads
+-- from these is what it last stored there itself, and 0 before: whatever the others store, and whatever cycles run.
+abbrev pub OwnWordsAsKnown : Type 0
+OwnWordsAsKnown = (pages : ℕ) (history : List Entry) (passes : List HeapPass) → Legal (Opens pages) StateStep history → AreAlone (slots_of passes) history → All (KeptToOwn pages history) passes
+    → All (λ (p : HeapPass). AreAsKnown nothing_known p.mine) passes

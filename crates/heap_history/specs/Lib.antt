@@ -3,4 +3,5 @@ pub mod Passes
 pub mod Alone
 pub mod Headline
 pub mod Replies
+pub mod OwnObjects
 pub mod Laws

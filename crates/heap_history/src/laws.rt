@@ -1,5 +1,5 @@
 //! What follows from the headline for a caller, whatever others do. Each law is a function that does nothing, and its contract is the law.
-ghost use Rattle.heap_history.specs.Laws.{SeenIsLegal, OwnLoadAnswers, OwnObjectStays, OwnWordStays, OwnObjectsApart, MineBegins, CountGrows, NobodyElseCame, LooksThenMakes, OthersLeaveWords, AloneWordStays};
+ghost use Rattle.heap_history.specs.Laws.{SeenIsLegal, OwnLoadAnswers, OwnObjectStays, OwnWordStays, OwnObjectsApart, MineBegins, CountGrows, NobodyElseCame, LooksThenMakes, OthersLeaveWords, OwnWordsAsKnown};
 
 /// What a pass has seen is a legal history of the sequential heap.
 pub fn seen_is_legal()
@@ -50,13 +50,14 @@ pub fn looks_then_makes()
     ensures { LooksThenMakes }
 {}
 
-/// Where all that had a part in a history are known, and the others stored and freed nothing, no call of a mutator has a store or a free
-/// between it and what the mutator had seen.
+/// Where all that had a part in a history are known, and the others stored and freed nothing, no call of a mutator has a
+/// store or a free between it and what the mutator had seen.
 pub fn others_leave_words()
     ensures { OthersLeaveWords }
 {}
 
-/// Then what a mutator stored in an object that it allocated stays there, whatever cycles run.
-pub fn alone_word_stays()
-    ensures { AloneWordStays }
+/// Where all that had a part in a history are known, and each stored in its own Normal objects alone and freed none, each
+/// loads from these what it last stored there itself.
+pub fn own_words_as_known()
+    ensures { OwnWordsAsKnown }
 {}

@@ -1,55 +1,27 @@
 -- Where objects lie, in numbers: size classes, cells and pages.
-use Rattle.std.proofs.Common.{◌≡◌, ◌≢◌, ℕ, suc, ◌+◌, ◌-◌, ◌*◌, ◌/◌, ◌%◌, ◌<◌, ◌≤◌, ◌⊎◌, Bool, true, false, List, [], ◌∷◌, cond, refl, sym, ap, ◌∙◌, subst, arith, inl, inr, ⊎_elim}
-use Rattle.std.specs.Prelude.{Option, Some, None, find, nat_le, ◌==◌, All}
-use Rattle.std.specs.List.{list_any}
-use Rattle.std.specs.Option.{option_map}
+use Rattle.std.proofs.Common.{◌≡◌, ◌≢◌, ℕ, ◌+◌, ◌-◌, ◌*◌, ◌/◌, ◌%◌, ◌<◌, ◌≤◌, ◌⊎◌, sym, ap, ◌∙◌, subst, arith, inl, inr, ⊎_elim}
+use Rattle.std.specs.Prelude.{Some}
 use Rattle.std.specs.Int.{div_ceil}
 use Rattle.std.proofs.Math.Nat.{mul-le-mul_left}
-use Rattle.std.proofs.lemmas.Bool.{cases_lt, cases_order, leb-false}
-use Rattle.std.proofs.lemmas.Option.{same_Some, none-some}
-use Rattle.std.proofs.lemmas.List.Sums.{AllPass-from_list_all}
-use Rattle.words.specs.declared.limits.TheConstants.{GRANULE_BYTES, MAX_SMALL_WORDS, PAGE_BYTES, PAGE_WORDS}
-use Rattle.words.specs.declared.class.TheConstants.{CLASSES}
+use Rattle.std.proofs.lemmas.Bool.{cases_lt, cases_order}
+use Rattle.words.specs.declared.limits.TheConstants.{GRANULE_BYTES, PAGE_BYTES, PAGE_WORDS}
 use Rattle.words.specs.declared.class.Placement.{Placement}
 use Rattle.words.specs.declared.class.Placement.TheVariants.{Small, Large}
 use Rattle.words.specs.Classes.{IsSizeClass}
 use Rattle.words.specs.Placing.{placement_of}
 use Rattle.words.proofs.Classes.{class_even, class_some}
+use Rattle.words.proofs.Placements.{placement_has}
 use Rattle.words.specs.Layout.{page_start}
 use Rattle.heap_spec.specs.Layout.{LiesOn}
 use Rattle.heap_spec.specs.Sound.{IsCell, ArePages, LieInHeap}
-
--- what a search finds in a list is in it, so what holds of each holds of it
-find_holds : {A : Type 0} (P : A → Type 0) (p : A → Bool) (xs : List A) (c : A) → All P xs → find p xs ≡ Some c → P c
-find_holds P p [] c all e = absurd (none-some c e)
-find_holds P p (x ∷ xs) c all e = by (p x) e (find_holds P p xs c (λ k d lt. all (suc k) d (omega arith)))
-  where
-    by : (b : Bool) → cond b (Some x) (find p xs) ≡ Some c → (find p xs ≡ Some c → P c) → P c
-    by true e rest = subst P (same_Some x c e) (all 0 x (omega arith))
-    by false e rest = rest e
 
 -- the place of a request is a size class, or some pages
 abbrev pub IsPlacement : Placement → Type 0
 IsPlacement (Small class) = IsSizeClass class
 IsPlacement (Large pages) = 0 < pages
 
-small_place : (o : Option ℕ) (place : Placement) → ((c : ℕ) → o ≡ Some c → IsSizeClass c) → option_map Small o ≡ Some place → IsPlacement place
-small_place None place h e = absurd (none-some place e)
-small_place (Some c) place h e = subst IsPlacement (same_Some _ _ e) (h c refl)
-
 pub placed : (n : ℕ) (place : Placement) → placement_of n ≡ Some place → IsPlacement place
-placed n place e = outer _ e
-  where
-    classes : All IsSizeClass CLASSES
-    classes = AllPass-from_list_all (λ x. list_any (λ c. c == x) CLASSES) CLASSES refl
-
-    inner : (b : Bool) → nat_le n MAX_SMALL_WORDS ≡ b → cond b (option_map Small (find (λ c. nat_le n c) CLASSES)) (Some (Large (div_ceil n PAGE_WORDS))) ≡ Some place → IsPlacement place
-    inner true t e = small_place _ place (λ c f. find_holds IsSizeClass (λ c. nat_le n c) CLASSES c classes f) e
-    inner false t e = let more : MAX_SMALL_WORDS < n = leb-false n MAX_SMALL_WORDS t in subst IsPlacement (same_Some _ _ e) (let some : 0 < div_ceil n PAGE_WORDS = omega arith in some)
-
-    outer : (b : Bool) → cond b None (cond (nat_le n MAX_SMALL_WORDS) (option_map Small (find (λ c. nat_le n c) CLASSES)) (Some (Large (div_ceil n PAGE_WORDS)))) ≡ Some place → IsPlacement place
-    outer true e = absurd (none-some place e)
-    outer false e = inner (nat_le n MAX_SMALL_WORDS) refl e
+placed n place e = placement_has IsPlacement n place e (λ class is holds. is) (λ more few. let some : 0 < div_ceil n PAGE_WORDS = omega arith in some)
 
 -- cells and pages lie in the heap
 pub cell_lies : (pages base len : ℕ) → IsCell pages base len → LieInHeap pages base len

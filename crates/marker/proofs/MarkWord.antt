@@ -1,7 +1,6 @@
 -- The marking of one object.
 use Rattle.std.proofs.Common.{◌≡◌, ℕ, ◌+◌, ◌-◌, ◌*◌, ◌%◌, ◌^◌, ◌<◌, ◌≤◌, List, [], ◌∷◌, ◌++◌, length, Bool, true, false, get_or, set, sum_by, Contains, Option, Some, None, refl, sym, ap, ◌∙◌, subst, inl, inr, ⊎_elim, arith, length-append, length-set, get_or-set_same}
 use Rattle.std.specs.Prelude.{◌⊎◌, option_to_list}
-use Rattle.std.proofs.lemmas.Option.{same_Some}
 use Rattle.std.proofs.lemmas.Bool.{cases_lt, false≢true}
 use Rattle.std.proofs.lemmas.List.Sums.{sum_by-append}
 use Rattle.std.proofs.lemmas.List.Elements.{Contains-append_left, Contains-append_right, Contains-push_cases}
@@ -56,10 +55,6 @@ word_outside states bytes w m lawful b fits far = word_none (found_in states) w 
 
 pub word_beyond : (states : List PageState) (bytes w : ℕ) (m : Marking) → IsLawful states → bytes ≡ PAGE_BYTES * length states → IsOutside bytes w → MarksWord (found_in states) w m m
 word_beyond states bytes w m lawful b out = word_none (found_in states) w m (outside (length states) (found_in states) w lawful.map (subst (λ (n : ℕ). IsOutside n w) b out))
-
--- a marked object is pointed into
-pub word_marked : (found : ℕ → Option Found) (w : ℕ) (g : Found) (m : Marking) → found w ≡ Some g → Has m.marks (granule g.base) → MarksWord found w m m
-word_marked found w g m is h = nothing (λ f e. subst (λ x. IsMarked m x.base) (same_Some g f (sym is ∙ e)) h) refl
 
 -- what is done for an object's words doesn't look at marks
 awaits_same : (f : Found) (a b new : Marking) → b.stack ≡ a.stack → b.dirty ≡ a.dirty → Awaits f b new → Awaits f a new

@@ -10,7 +10,7 @@ use Rattle.words.specs.declared.limits.TheConstants.{WORD_BYTES}
 use Rattle.words.specs.Bits.{Has}
 use Rattle.words.specs.Layout.{page_of, granule}
 use Rattle.pages.specs.Memory.{place, word_at, with_word_at}
-use Rattle.marker.specs.Marking.{Marking, IsFresh, IsMarked, IsLeftToEntry, AreMarksObjects, word_address}
+use Rattle.marker.specs.Marking.{Marking, IsFresh, IsMarked, IsLeftToEntry, word_address}
 use Rattle.marker.specs.Invariant.{DirtyPageInvariant}
 use Rattle.marker.specs.Mutations.{DirtiesPage, IsAllocated, IsFreed, HasNoNew, KeepsWords, HasZeroWords}
 use Rattle.block_map.specs.Changes.{IsAdded, IsRemoved, IsSameMap}
@@ -101,14 +101,6 @@ pub freed_keeps : (pages : ℕ) (found after : ℕ → Option Found) (words word
 freed_keeps pages found after words words' f base old new x b map object removed same t =
     freed_traced pages found after words words' f old new map object removed same (subst (λ (a : ℕ). IsFreed a old new) (sym b) x) t
 
--- the mark that is taken away was the object's
-pub freed_objects : (found after : ℕ → Option Found) (f : Found) (old new : Marking) → found f.base ≡ Some f → IsRemoved found after f → IsFreed f.base old new → AreMarksObjects found old → AreMarksObjects after new
-freed_objects found after f old new object removed x all k h =
-    let was = was_set old.marks (granule f.base) k (subst (λ q. Has q k) x.marks h) in
-    let o = all k was.0 in
-    let apart : IsInside o.object.base f → ⊥ = λ r. was.1 (sym o.first ∙ ap (λ (g : Found). granule g.base) (same_Some o.object f (sym o.is ∙ removed.after _ r))) in
-    record { object = o.object; is = sym (removed.others _ apart) ∙ o.is; first = o.first }
-
 -- an object comes, with words 0
 pub alloc_traced : (pages : ℕ) (found after : ℕ → Option Found) (words words' : List ℕ) (f : Found) (old new : Marking) → IsMap pages after → after f.base ≡ Some f → IsAdded found after f
     → KeepsWords found words words' → HasZeroWords words' f → IsAllocated f.base old new → granule f.base < length old.marks
@@ -144,17 +136,6 @@ pub alloc_keeps : (pages : ℕ) (found after : ℕ → Option Found) (words word
     → IsMap pages after → after f.base ≡ Some f → IsAdded found after f → KeepsWords found words words' → HasZeroWords words' f → DirtyPageInvariant found words old → DirtyPageInvariant after words' new
 alloc_keeps pages found after words words' f base old new inside x b map object added same zero t =
     alloc_traced pages found after words words' f old new map object added same zero (subst (λ (a : ℕ). IsAllocated a old new) (sym b) x) (subst (λ (a : ℕ). granule a < length old.marks) (sym b) inside) t
-
--- the mark that is set is the object's
-pub alloc_objects : (found after : ℕ → Option Found) (f : Found) (old new : Marking) → after f.base ≡ Some f → IsAdded found after f → IsAllocated f.base old new → AreMarksObjects found old → AreMarksObjects after new
-alloc_objects found after f old new object added x all k h =
-    ⊎_elim
-    (λ o.
-    let y = all k o in
-    let apart : IsInside y.object.base f → ⊥ = λ r. let z : None ≡ Some y.object = sym (added.before _ r) ∙ y.is in absurd (cc z) in
-    record { object = y.object; is = added.others _ apart ∙ y.is; first = y.first })
-    (λ (s : k ≡ granule f.base). record { object = f; is = object; first = sym s })
-    (has_set_back old.marks (granule f.base) k (subst (λ q. Has q k) x.marks h))
 
 -- nothing is marked
 pub fresh_traced : (pages : ℕ) (found : ℕ → Option Found) (words : List ℕ) (m : Marking) → IsFresh pages m → DirtyPageInvariant found words m

@@ -1,25 +1,25 @@
 -- A page that is cut is read again, by its mark bits.
-use Rattle.std.proofs.Common.{◌≡◌, ℕ, ◌+◌, ◌*◌, ◌<◌, ◌≤◌, ◌⊎◌, List, [], ◌++◌, length, Bool, true, false, Contains, Option, Some, None, refl, sym, ap, ◌∙◌, subst, inl, inr, ⊎_elim, arith, get_or}
+use Rattle.std.proofs.Common.{◌≡◌, ℕ, ◌+◌, ◌*◌, ◌<◌, ◌≤◌, ◌⊎◌, List, [], ◌++◌, length, Bool, true, false, Contains, Option, Some, None, refl, sym, ap, ◌∙◌, subst, ⊎_elim, arith, get_or}
 use Rattle.std.proofs.lemmas.Option.{same_Some}
 use Rattle.std.proofs.lemmas.Bool.{cases_lt, false≢true}
 use Rattle.std.proofs.lemmas.List.Elements.{Contains-append_cases, Contains-append_left, Contains-append_right}
 use Rattle.std.specs.Prelude.{◌==◌, ◌%◌, ◌/◌, if◌then◌else◌}
 use Rattle.std.specs.Int.{bit_at}
 use Rattle.words.specs.declared.class.Kind.TheVariants.{Normal}
-use Rattle.words.specs.declared.limits.TheConstants.{FIRST_ADDRESS, GRANULE_BYTES, PAGE_BYTES, PAGE_GRANULES, PAGE_WORDS, WORD_BYTES}
+use Rattle.words.specs.declared.limits.TheConstants.{FIRST_ADDRESS, GRANULE_BYTES, PAGE_GRANULES, PAGE_WORDS, WORD_BYTES}
 use Rattle.words.specs.Bits.{Has, HasBit}
 use Rattle.words.specs.Layout.{granule, page_start, IsOnPage}
 use Rattle.pages.specs.Memory.{word_at}
 use Rattle.blocks.specs.Cells.{Cells}
 use Rattle.block_map.specs.declared.found.Found.{Found}
 use Rattle.block_map.specs.Objects.{IsMap, cell_object}
-use Rattle.block_map.specs.FoundIn.{found_in, found_in_block, cell_at}
+use Rattle.block_map.specs.FoundIn.{found_in, cell_at}
 use Rattle.block_map.specs.States.{PageState, free, cut, head, body, state_at, IsCut}
 use Rattle.block_map.proofs.Finding.{found_as}
 use Rattle.marker.specs.Marking.{Marking, IsMarked, word_address}
 use Rattle.marker.specs.Closure.{held}
 use Rattle.marker.specs.Growth.{MarksWords, begun, words_of}
-use Rattle.marker.specs.Retracing.{IsWordBetween, Rereads, IsBefore, RereadsObjects}
+use Rattle.marker.specs.Retracing.{Rereads, IsBefore, RereadsObjects}
 use Rattle.marker.proofs.Closures.{closure_more, same_object}
 use Rattle.marker.proofs.Rescanning.{reads_own, between_more}
 use Rattle.marker.proofs.Words.{words_append, words_extends, words_within, word_of, contains_word}

@@ -13,7 +13,6 @@ use std::marker::Model;
 use std::ptr::null_mut;
 
 #[repr(C)]
-#[derive(Drop)]
 pub struct Heap {
     at: *mut u8,
     alloc: Global,
@@ -37,6 +36,13 @@ impl Heap {
         requires { IsOpen self.core }
     {
         drop(self.into_parts().into_box());
+    }
+
+    /// Lets go of a closed handle. An open one can only be closed.
+    pub fn let_go(self)
+        requires { self.core ≡ None }
+    {
+        let Heap { at: _, alloc: _ } = self;
     }
 
     /// A closed handle, which owns nothing.

@@ -19,7 +19,7 @@ pub extern "C" fn mpheap_open(alloc: Global, pages: u32, heap: &mut Heap) -> u32
     match Core::new(alloc, pages) {
         Ok(core) => match Box::new(alloc, core) {
             Ok(boxed) => {
-                *heap = Heap::of(boxed);
+                replace(heap, Heap::of(boxed)).let_go();
                 0
             }
             Err(_) => NO_MEMORY,

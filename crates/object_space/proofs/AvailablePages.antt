@@ -2,7 +2,7 @@
 use Rattle.std.proofs.Common.{◌≡◌, ℕ, ◌+◌, ◌<◌, ◌≤◌, ◌⊎◌, Bool, true, false, List, length, get_or, set, replicate, refl, sym, ap, ◌∙◌, subst, arith, inl, inr, ⊎_elim, length-set, get_or-set_same, get_or-set_other}
 use Rattle.std.specs.Prelude.{◌≢◌, ◌==◌, ◌/◌, if◌then◌else◌}
 use Rattle.std.proofs.lemmas.Bool.{cases_eq, cases_lt, true≢false}
-use Rattle.std.proofs.lemmas.List.{get_or-replicate, get_or_past, length-replicate}
+use Rattle.std.proofs.lemmas.List.{get_or-replicate, length-replicate}
 use Rattle.words.specs.declared.limits.TheConstants.{PAGE_WORDS}
 use Rattle.words.specs.Bits.{Has, IsEmptyFrom, IsFullRow}
 use Rattle.blocks.specs.Lists.{IsFreeCellOf}
@@ -11,11 +11,11 @@ use Rattle.words.specs.declared.class.Kind.TheVariants.{Normal, PointerFree}
 use Rattle.words.specs.Classes.{IsSizeClass}
 use Rattle.blocks.specs.Cells.{Cells}
 use Rattle.blocks.proofs.Places.{class_bounds}
-use Rattle.block_map.specs.States.{PageState, free, cut, head, body, state_at, HasCell, AreFreePages, IsSpanSet, IsCut, IsBlockFor, all_free, with_cell, span_of, large_states, LaidAt, IsLaid}
+use Rattle.block_map.specs.States.{PageState, free, cut, head, body, state_at, HasCell, IsSpanSet, IsCut, IsBlockFor, all_free, with_cell, span_of, large_states, LaidAt, IsLaid}
 use Rattle.block_map.specs.Listed.{HasFirst, IsFullOn}
 use Rattle.block_map.proofs.Seen.{within}
 use Rattle.block_map.proofs.Spans.{place_of}
-use Rattle.object_space.specs.AvailableRows.{row_of, HasFreeCell, IsAvailable, IsReadyPage, IsWaitingPage, IsExact, AreReady, AreWaiting, AreClear, IsBitSet}
+use Rattle.object_space.specs.AvailableRows.{row_of, HasFreeCell, IsAvailable, IsReadyPage, IsWaitingPage, IsExact, AreReady, AreWaiting, IsBitSet}
 use Rattle.object_space.specs.Rooms.{IsFreeCell, HasNoFreeCell}
 use Rattle.object_space.proofs.Rooms.{cell_below}
 
@@ -141,21 +141,6 @@ pub waiting_span : (rows : List (List Bool)) (states states' : List PageState) (
 waiting_span rows states states' row first n state exact span cuts uncut = waiting_same rows states states' row exact span.size
     (λ p h. ⊎_elim (λ i. absurd (uncut p i.0 i.1 (cuts p h))) (λ out. span.others p out) (place_of first n p))
 
--- a heap that opens
-pub ready_clear : (rows : List (List Bool)) (states : List PageState) (row : List Bool) (pages : ℕ) → AreClear rows pages → AreFreePages states pages → AreReady rows states row
-ready_clear rows states row pages clear all = record {
-  long = λ c k is. (clear.each c k is).size ∙ sym all.size;
-  entered = λ c k p is has. absurd (subst (λ st. IsAvailable st c k) (all.each p) has.0);
-  only = λ c k p is bit. absurd (true≢false (sym bit ∙ (clear.each c k is).clear p));
-}
-
-pub waiting_clear : (rows : List (List Bool)) (states : List PageState) (row : List Bool) (pages : ℕ) → AreClear rows pages → AreFreePages states pages → AreWaiting rows states row
-waiting_clear rows states row pages clear all = record {
-  long = λ c k is. (clear.each c k is).size ∙ sym all.size;
-  entered = λ c k p is has. absurd (subst (λ st. IsBlockFor st c k) (all.each p) has.0);
-  only = λ c k p is bit. absurd (true≢false (sym bit ∙ (clear.each c k is).clear p));
-}
-
 -- a page begins to wait for a sweep
 module _ (ready ready' waiting waiting' : List (List Bool)) (states : List PageState) (row : List Bool) (class : ℕ) (kind : Kind) (page : ℕ) (b : Cells)
     (is : state_at states page ≡ cut b) (of_class : class ≡ b.class) (of_kind : kind ≡ b.kind) (inside : page < length row) where
@@ -257,19 +242,6 @@ none_available rows states row class kind exact is empty unawaited page cell at 
   where
     unpending : Has row page → ⊥
     unpending h = unawaited page h (subst (λ st. IsBlockFor st class kind) (sym at.is_cut) (at.of_class, at.of_kind))
-
-pub none_awaited : (rows : List (List Bool)) (states : List PageState) (row : List Bool) (class : ℕ) (kind : Kind) → AreWaiting rows states row → length row ≡ length states → IsSizeClass class → IsEmptyFrom (row_of rows class kind) 0
-    → (p : ℕ) → Has row p → IsBlockFor (state_at states p) class kind → ⊥
-none_awaited rows states row class kind exact size is empty p h block =
-    let long = exact.long class kind is in
-    let inside : p < length row = ⊎_elim (λ lt. lt) (λ past. absurd (true≢false (sym h ∙ get_or_past row p false past))) (cases_lt p (length row)) in
-    true≢false (sym (exact.entered class kind p is (block, h)) ∙ empty p (omega arith) (omega arith))
-
-pub available_cut : (st : PageState) (class : ℕ) (kind : Kind) → IsAvailable st class kind → IsCut st
-available_cut free class kind is = absurd is
-available_cut (cut b) class kind is = tt
-available_cut (head n k) class kind is = absurd is
-available_cut (body q) class kind is = absurd is
 
 pub available_inside : (states : List PageState) (class : ℕ) (kind : Kind) (page : ℕ) → IsAvailable (state_at states page) class kind → page < length states
 available_inside states class kind page has = within states page (λ (none : state_at states page ≡ free). subst (λ st. IsAvailable st class kind) none has)

@@ -191,12 +191,6 @@ forgotten_none old marks swept = record {
   only = λ p h. absurd (swept p h);
 }
 
--- a marked object is still there, so each mark is still an object's
-pub objects_left : (old : Store) (m : Marking) (page n : ℕ) (now : Store) → HasForgotten old m.marks page n now → AreMarksObjects (found_in old.states) m → AreMarksObjects (found_in now.states) m
-objects_left old m page n now h objects k marked =
-    let o = objects k marked in
-    record { object = o.object; is = h.stays o.object.base o.object o.is (inl (subst (Has m.marks) (sym o.first) marked)); first = o.first }
-
 module _ (old : Store) (marks : List Bool) (page n : ℕ) (mid : Store) (before : IsMap (length old.states) (found_in old.states)) (map : IsMap (length mid.states) (found_in mid.states)) (h : HasForgotten old marks page n mid) where
   -- the objects of two pages have other bases
   other_bases : (bases : List ℕ) → AreUnmarkedOn mid.states marks page bases → (b : ℕ) → Contains h.bases b → Contains bases b → ⊥

@@ -1,6 +1,6 @@
 -- The kept objects are those of a map of their own, and what changes of the map, of the marks and of the pages to be swept
 -- are to them.
-use Rattle.std.proofs.Common.{◌≡◌, ℕ, ◌<◌, ◌⊎◌, Bool, true, false, cond, List, length, get_or, set, Option, Some, None, refl, sym, ap, ◌∙◌, subst, inl, inr, ⊎_elim, get_or-set_same, get_or-set_other}
+use Rattle.std.proofs.Common.{◌≡◌, ℕ, ◌<◌, Bool, true, false, cond, List, length, get_or, set, Option, Some, None, refl, sym, ap, ◌∙◌, subst, ⊎_elim, get_or-set_same, get_or-set_other}
 use Rattle.std.specs.Prelude.{◌≢◌}
 use Rattle.std.proofs.lemmas.Bool.{cond-true, cond-false, false≢true, cases_eq, cases_lt}
 use Rattle.std.proofs.lemmas.Option.{same_Some}
@@ -8,7 +8,7 @@ use Rattle.std.proofs.lemmas.List.{get_or_past}
 use Rattle.words.specs.Bits.{Has}
 use Rattle.words.specs.Layout.{granule}
 use Rattle.block_map.specs.declared.found.Found.{Found}
-use Rattle.block_map.specs.Objects.{IsMap, IsInside}
+use Rattle.block_map.specs.Objects.{IsMap}
 use Rattle.block_map.specs.Changes.{IsAdded, IsRemoved, IsSameMap}
 use Rattle.object_space.specs.Kept.{keep_if, restrict, is_kept}
 
@@ -78,12 +78,6 @@ kept_removed keep keep' found after f gone k same = record {
   after = λ w r. kept_is keep found w f (gone.after w r) k;
   others = λ w not. ap (keep_if keep) (gone.others w not) ∙ sym ((kept_same keep keep' after same).same w);
 }
-
--- an object that is not kept goes: to the heap nothing changes
-pub dead_removed : (keep keep' : Found → Bool) (found after : ℕ → Option Found) (f : Found) → IsRemoved found after f → keep f ≡ false → ((w : ℕ) (g : Found) → after w ≡ Some g → keep' g ≡ keep g)
-    → (w : ℕ) → (IsInside w f ⊎ (IsInside w f → ⊥)) → restrict keep' after w ≡ restrict keep found w
-dead_removed keep keep' found after f gone k same w (inl r) = kept_none keep' after w (gone.before w r) ∙ sym (kept_not keep found w f (gone.after w r) k)
-dead_removed keep keep' found after f gone k same w (inr not) = (kept_same keep keep' after same).same w ∙ sym (ap (keep_if keep) (gone.others w not))
 
 -- no page is to be swept: all objects are kept, whatever is marked
 pub nothing_pending : (pending marks : List Bool) (f : Found) → (Has pending f.page → ⊥) → is_kept pending marks f ≡ true

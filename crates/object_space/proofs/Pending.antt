@@ -8,7 +8,7 @@ use Rattle.words.specs.declared.class.Kind.{Kind}
 use Rattle.block_map.proofs.Spans.{place_of}
 use Rattle.block_map.specs.FoundIn.{IsLawful}
 use Rattle.block_map.specs.Objects.{IsObjectOn}
-use Rattle.object_space.specs.Store.{Store, IsPendingRow, IsSwept, KeepsPending}
+use Rattle.object_space.specs.Store.{Store, IsPendingRow, KeepsPending}
 
 -- what is cut stays cut
 pub pending_cut : (t t' : Store) → IsPendingRow t → t'.pending ≡ t.pending → length t'.states ≡ length t.states → ((p : ℕ) → IsCut (state_at t.states p) → IsCut (state_at t'.states p)) → IsPendingRow t'
@@ -19,12 +19,6 @@ pending_cut t t' row same size cuts = record {
 
 pub swept_row : (row : List Bool) (n : ℕ) → IsClear row n → (p : ℕ) → Has row p → ⊥
 swept_row row n clear p h = false≢true (sym (clear.clear p) ∙ h)
-
-pub swept_clear : (t : Store) (n : ℕ) → IsClear t.pending n → IsSwept t
-swept_clear t n clear p h = false≢true (sym (clear.clear p) ∙ h)
-
-pub pending_clear : (t : Store) (n : ℕ) → IsClear t.pending n → length t.states ≡ n → IsPendingRow t
-pending_clear t n clear size = record { size = clear.size ∙ sym size; cut = λ p h. absurd (swept_clear t n clear p h) }
 
 -- a page that is cut begins to wait
 pub pending_entered : (t : Store) (row' : List Bool) (page : ℕ) → IsPendingRow t → IsCut (state_at t.states page) → row' ≡ set t.pending page true → IsPendingRow (record t { pending = row' })
@@ -113,9 +107,6 @@ pending_large states states' first n row span uncut = record {
   less = λ p h. h;
   same = λ w g there. refl;
 }
-
-head_uncut : (n : ℕ) (k : Kind) → IsCut (head n k) → ⊥
-head_uncut n k h = h
 
 pub large_uncut : (states : List PageState) → IsLaid states → (first n : ℕ) (k : Kind) → first < length states → state_at states first ≡ head n k → (p : ℕ) → first ≤ p → p < first + n → IsCut (state_at states p) → ⊥
 large_uncut states laid first n k inside is p low high h = ⊎_elim

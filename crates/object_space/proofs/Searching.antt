@@ -8,11 +8,6 @@ use Rattle.object_space.specs.Rooms.{HasRoomAt, HasNoRoom}
 use Rattle.object_space.specs.Sweeps.{Allocates, FindsNoPlace, FindsNoRoom, Gains, Sweeps}
 use Rattle.object_space.proofs.Swept.{sweeps_more}
 
--- what holds anyway
-pub if_none : {A : Type 0} {P : Type 0} (o : Option A) → P → IfNone o P
-if_none None p = p
-if_none (Some x) p = tt
-
 pub if_none_map : {A : Type 0} {P Q : Type 0} (o : Option A) → (P → Q) → IfNone o P → IfNone o Q
 if_none_map None f p = f p
 if_none_map (Some x) f p = tt

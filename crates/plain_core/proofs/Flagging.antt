@@ -1,8 +1,8 @@
 -- Flags of objects: how they are set, and what they tell of a heap.
 use Rattle.std.proofs.Common.{◌≡◌, ◌↔◌, ◌⊎◌, ℕ, ◌+◌, ◌<◌, ◌≤◌, Bool, true, false, List, [], ◌∷◌, length, get_or, refl, sym, ap, ◌∙◌, subst, arith, inl, inr, ⊎_elim}
-use Rattle.std.specs.Prelude.{Some, None, All, Contains, slice_get, slice_set}
+use Rattle.std.specs.Prelude.{Some, All, Contains, slice_get, slice_set}
 use Rattle.std.proofs.lemmas.Bool.{true≢false, cases_eq, cases_lt}
-use Rattle.std.proofs.lemmas.Option.{same_Some, none-some, slice_get_within}
+use Rattle.std.proofs.lemmas.Option.{same_Some, slice_get_within}
 use Rattle.std.proofs.lemmas.List.{length-set, get_or-set_same, get_or-set_other, get_or_past}
 use Rattle.std.proofs.lemmas.List.Elements.{All-contains, Contains-get_or}
 use Rattle.words.specs.declared.limits.TheConstants.{FIRST_ADDRESS}
@@ -14,10 +14,6 @@ use Rattle.heap_spec.specs.declared.call.Call.{Call}
 use Rattle.heap_spec.specs.Laws.{IsNoAlloc}
 use Rattle.heap_spec.specs.Touching.{LedTo, first, next, HasApartObjects, IsBrought, StandsIn}
 use Rattle.heap_spec.proofs.Touching.{stands_one}
-use Rattle.roots.specs.Roots.{HasMutator, HasNoMutator}
-use Rattle.heap_spec.specs.Heap.{Mutator as HeapMutator}
-use Rattle.heap_spec.specs.Steps.{register}
-use Rattle.plain_core.proofs.Stands.{mutator_at}
 use Rattle.roots.specs.Roots.{root_words_of}
 use Rattle.plain_core.specs.declared.extent.Extent.{Extent}
 use Rattle.plain_core.specs.Contents.{Contents, IsLaidOut, IsInHeap}
@@ -252,14 +248,6 @@ cant_forget c flags bases none s h n s' takes names = none (λ k d lt.
 
 pub cant_take : (c : Contents) (flags : List Bool) (bases : List ℕ) → CantTake c bases false → CantForget c flags bases
 cant_take c flags bases cant s h n s' takes names = cant s h n s' takes (λ e. absurd (true≢false (sym e)))
-
--- the word of a register, and none where the slot has no mutator
-pub register_stands : (c : Contents) (slot r : ℕ) (m : HeapMutator) → HasMutator c.roots slot m → (s : Heap) → StandsFor c s → StandsIn s slot r (register m r)
-register_stands c slot r m at s h = (m, mutator_at c s h slot m at, refl)
-
-pub register_none : (c : Contents) (slot r : ℕ) → HasNoMutator c.roots slot → (s : Heap) (w : ℕ) → StandsFor c s → StandsIn s slot r w → ⊥
-register_none c slot r none s w h x =
-    none-some x.0 (same_Some None (Some x.0) (sym (ap (λ ms. slice_get ms slot) h.mutators ∙ none) ∙ x.1))
 
 -- what a call brought has its flags
 pub brought_nothing : (c : Contents) (slot : ℕ) (call : Call) (flags : List Bool) → (IsNoAlloc call → (s s' : Heap) (w : ℕ) → StandsFor c s' → IsBrought s slot call s' w → ⊥) → FlagsBrought c slot call flags flags

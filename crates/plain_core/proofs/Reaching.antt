@@ -1,32 +1,14 @@
 -- A list that is gone along lists what is reached.
-use Rattle.std.proofs.Common.{◌≡◌, ℕ, ◌+◌, ◌<◌, ◌≤◌, List, [], ◌∷◌, ◌++◌, length, get_or, take, refl, sym, ap, ◌∙◌, subst, arith, ⊎_elim}
-use Rattle.std.specs.Prelude.{Some, Contains, slice_get, ◌≢◌}
+use Rattle.std.proofs.Common.{◌≡◌, ℕ, ◌+◌, ◌<◌, ◌≤◌, List, [], ◌∷◌, ◌++◌, length, get_or, take, sym, ap, ◌∙◌, subst, arith, ⊎_elim}
+use Rattle.std.specs.Prelude.{Some, Contains, slice_get}
 use Rattle.std.proofs.lemmas.Option.{same_Some}
 use Rattle.std.proofs.lemmas.List.{take_all, take_more, take-append-le}
 use Rattle.std.proofs.lemmas.List.Elements.{Contains-push_cases, Contains-append_left, Contains-append_cases, Contains-get_or}
-use Rattle.words.specs.declared.class.Kind.{Kind}
-use Rattle.words.specs.declared.class.Kind.TheVariants.{Normal, PointerFree}
 use Rattle.plain_core.specs.declared.extent.Extent.{Extent}
 use Rattle.plain_core.specs.declared.listing.Listing.{Listing}
-use Rattle.plain_core.specs.Standing.{words_at}
-use Rattle.plain_core.specs.Reached.{PointsIntoPlace, IsReachedPlace, by_root, by_link, MarksReached, links_of, read_words}
+use Rattle.plain_core.specs.Reached.{PointsIntoPlace, IsReachedPlace, by_root, by_link, MarksReached, links_of}
 use Rattle.plain_core.specs.Listing.{IsListing, KeepsRoom, ListsAll}
 use Rattle.plain_core.proofs.Lists.{nothing_in, listed_few}
-
--- what is read of an object by its kind
-words_none : (kind : Kind) (words : List ℕ) → kind ≡ PointerFree → read_words kind words ≡ []
-words_none Normal words e = let z : Normal ≡ PointerFree = e in cc
-words_none PointerFree words e = refl
-
-words_all : (kind : Kind) (words : List ℕ) → kind ≢ PointerFree → read_words kind words ≡ words
-words_all Normal words ne = refl
-words_all PointerFree words ne = absurd (ne refl)
-
-pub links_none : (words : List ℕ) (e : Extent) → e.kind ≡ PointerFree → links_of words e ≡ []
-links_none words e is = words_none e.kind (words_at words e) is
-
-pub links_all : (words : List ℕ) (e : Extent) → e.kind ≢ PointerFree → links_of words e ≡ words_at words e
-links_all words e ne = words_all e.kind (words_at words e) ne
 
 -- The list after so many of its objects were read: all on it are reached, it has what the roots point into, and what the
 -- words of these objects point into.

@@ -33,14 +33,6 @@ distinct_init (x ∷ xs) b d =
     let ne : x ≡ b → ⊥ = λ same. true≢false (sym (eq-eqb x b same) ∙ front.1) in
     (IsDistinct-cons nat_eq x xs front.0 rest.0, λ has. rest.1 (Contains-tail x xs b ne has))
 
-pub sorts_none : (c : CoreContents) → SortsOut c [] [] []
-sorts_none c = record {
-  stays = λ base has. absurd (nothing_in base has);
-  goes = λ base has. absurd (nothing_in base has);
-  each = λ base has. absurd (nothing_in base has);
-  distinct = λ d. (d, d);
-}
-
 module _ (c : CoreContents) (xs ys zs : List ℕ) (b : ℕ) (s : SortsOut c xs ys zs) where
   -- the next one stays
   one_stays : IsBase c b → SortsOut c (xs ++ b ∷ []) (ys ++ b ∷ []) zs

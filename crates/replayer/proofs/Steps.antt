@@ -360,10 +360,6 @@ module _ (old : Contents) (small : old.number < word_end) (few : old.births < wo
 pub count_same : (a b : ℕ) → Count a ≡ Count b → a ≡ b
 count_same a b e = cc
 
--- a reply of another number
-pub uncounted : (reply : Reply) (n len : ℕ) → reply ≡ Count n → (n ≡ len → ⊥) → (k : ℕ) → k ≡ len → reply ≡ Count k → ⊥
-uncounted reply n len is ne k same also = ne (count_same n k (sym is ∙ also) ∙ same)
-
 -- what one list of bases takes out is what another does
 same_among : (s s' : Heap) (mine theirs : List ℕ) → s' ≡ without s mine → s' ≡ without s theirs → (base : ℕ) (o : Object) → HasObject s base o → Contains theirs base → Contains mine base
 same_among s s' mine theirs is other base o has among = by (list_any (λ b. eqb b base) mine) refl

@@ -1,7 +1,7 @@
 -- Known bytes over several calls.
 use Rattle.std.proofs.Common.{◌≡◌, ℕ, ◌+◌, ◌-◌, List, [], ◌++◌, length, take, drop, refl, sym, ap, ◌∙◌, subst, arith, append_assoc}
 use Rattle.std.specs.Prelude.{Option, Some, None}
-use Rattle.std.specs.Io.KnownBytes.{Appends, Consumes, Keeps}
+use Rattle.std.specs.Io.KnownBytes.{Appends, Consumes}
 use Rattle.std.proofs.lemmas.List.{append-nil, take_rest, take-take, drop-take, take-append-drop}
 
 pub Appends-none : (a : Option (List ℕ)) → Appends a a []
@@ -37,25 +37,3 @@ Appends-on a w w' b d n h k =
     let front : take d b ++ take n (take (length b - d) (drop d b)) ≡ take (d + n) b = ap (λ x. take d b ++ take n x) (take_rest b d) ∙ take_on b d n in
     let P : List ℕ → Type 0 = λ x. Appends a w' x in
     subst P front (Appends-more a w w' (take d b) (take n (take (length b - d) (drop d b))) h k)
-
-pub Keeps-none : (a : Option (List ℕ)) → Keeps a a
-Keeps-none None = tt
-Keeps-none (Some xs) = refl
-
-pub Keeps-more : (a b c : Option (List ℕ)) → Keeps a b → Keeps b c → Keeps a c
-Keeps-more None b c h k = tt
-Keeps-more (Some xa) None c h k = absurd h
-Keeps-more (Some xa) (Some xb) None h k = absurd k
-Keeps-more (Some xa) (Some xb) (Some xc) h k = k ∙ h
-
-pub Consumes-after : (a b c : Option (List ℕ)) (xs : List ℕ) → Keeps a b → Consumes b c xs → Consumes a c xs
-Consumes-after None b c xs h k = tt
-Consumes-after (Some xa) None c xs h k = absurd h
-Consumes-after (Some xa) (Some xb) None xs h k = absurd k
-Consumes-after (Some xa) (Some xb) (Some xc) xs h k = sym h ∙ k
-
-pub Appends-after : (a b c : Option (List ℕ)) (xs : List ℕ) → Keeps a b → Appends b c xs → Appends a c xs
-Appends-after None b c xs h k = tt
-Appends-after (Some xa) None c xs h k = absurd h
-Appends-after (Some xa) (Some xb) None xs h k = absurd k
-Appends-after (Some xa) (Some xb) (Some xc) xs h k = k ∙ ap (λ x. x ++ xs) h

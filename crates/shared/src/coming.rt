@@ -6,29 +6,37 @@ ghost use Rattle.heap_history.specs.Headline.{Looks};
 
 use crate::heap::SharedHeap;
 use crate::tokens::{Collector, Mutator};
-use history::Naming;
+use heap_core::Core;
+use history::{Naming, Pass};
 use std::sync::Wait;
 
 impl<J: Naming> SharedHeap<J> {
-    /// How many mutators came in the history that the mutator has then seen, and 2^64 - 1 where so many or more did.
+    /// How many mutators came in the history that the mutator has then seen, itself and those that went again among them,
+    /// and 2^64 - 1 where so many or more did.
     pub fn attaches(&self, rt: &impl Wait, me: &mut Mutator<J>) -> u64
         ensures looks { Looks J.origin me.old me.new }
         ensures count { result ≡ counted_up (attaches me.new.seen) }
     {
-        let mut guard = self.lock.lock(rt);
-        let logged = &mut *guard;
-        self.log.learn(logged, &mut me.pass);
-        logged.firsts()
+        self.came(rt, &mut me.pass)
     }
 
-    /// How many mutators came in the history that the collector has then seen, and 2^64 - 1 where so many or more did.
+    /// How many mutators came in the history that the collector has then seen, those that went again among them, and
+    /// 2^64 - 1 where so many or more did.
     pub fn attaches_of(&self, rt: &impl Wait, collector: &mut Collector<J>) -> u64
         ensures looks { Looks J.origin collector.old collector.new }
         ensures count { result ≡ counted_up (attaches collector.new.seen) }
     {
+        self.came(rt, &mut collector.pass)
+    }
+
+    // The pass sees the whole history, and how many mutators came in it.
+    fn came(&self, rt: &impl Wait, pass: &mut Pass<Core, J>) -> u64
+        ensures looks { Looks J.origin pass.old pass.new }
+        ensures count { result ≡ counted_up (attaches pass.new.seen) }
+    {
         let mut guard = self.lock.lock(rt);
         let logged = &mut *guard;
-        self.log.learn(logged, &mut collector.pass);
+        self.log.learn(logged, pass);
         logged.firsts()
     }
 }

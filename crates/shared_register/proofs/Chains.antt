@@ -3,7 +3,6 @@ use Rattle.std.proofs.Common.{◌≡◌, ℕ, ◌+◌, ◌<◌, ◌≢◌, ◌==
 use native.Mathlib.Decide.{ℕ_discrete}
 use Rattle.history.specs.declared.event.Event.{Event}
 use Rattle.history.proofs.Snocs.{count_snoc}
-use Rattle.history.specs.Passes.{Owned}
 use Rattle.history.specs.Histories.{event, weight, count, is_first, is_last, own_with, own_from, own, live_from, is_live, Walks, Reaches, Legal}
 use Rattle.shared_register.specs.declared.register.Register.{Register}
 use Rattle.shared_register.specs.declared.register.Call.{Call}
@@ -151,10 +150,6 @@ walks_count s t (e ∷ es) mine w =
 -- the word counts the collector's own events
 pub count_own : {start : ℕ} → (log : List (Event Call Reply)) → Legal (IsOpening start) Steps log → count rank_of (own rank_of 16 log) ≡ count rank_of log
 count_own log l = let h = walks_count l.1.0 l.0 log [] l.1.2 in omega arith
-
--- the same for the collector's pass, once it has seen all
-pub collector_phase : {start : ℕ} → (register : Register) (t : State) (log seen mine : List (Event Call Reply)) (slot : ℕ) → slot ≡ 16 → seen ≡ log → Owned rank_of slot seen mine → Reaches (IsOpening start) Steps log t → Stands register t → register.running ≡ is_running mine
-collector_phase register t log seen mine slot e s o r st = phase register t log mine (o.own_is ∙ (λ i. own rank_of (e i) (s i))) r st
 
 -- one call more, with its reply
 pub events_more : (who : ℕ) (cs : List Call) (rs : List Reply) (i : ℕ) (d : Call) (r : Reply) → i < length cs → length rs ≡ length cs → events who (take (i + 1) cs) (take (i + 1) (set rs i r)) ≡ events who (take i cs) (take i rs) ++ event who (get_or cs i d) r ∷ []

@@ -95,14 +95,19 @@ fn meets(
     Ok(())
 }
 
+// By each number of helpers.
+fn each_meets(rt: &(impl Abort + Threads + Wait + Sync), scene: &mut Scene) -> Result<(), Fail> {
+    fan_out(rt, scene)?;
+    for number in 1..MAX_HELPERS + 1 {
+        meets(rt, scene, number)?;
+    }
+    Ok(())
+}
+
 #[test]
 fn helpers_meet_and_mark_all(rt: HostRuntime) -> Result<(), Fail> {
     let mut scene = Scene::open(rt.alloc(), 2)?;
-    fan_out(&rt, &mut scene)?;
-    for number in 1..MAX_HELPERS + 1 {
-        meets(&rt, &mut scene, number)?;
-    }
-    Ok(())
+    each_meets(&rt, &mut scene)
 }
 
 // The marks after a pause with so many helpers are the closure of those before and the roots, and nothing is left to read.

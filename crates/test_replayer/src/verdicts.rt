@@ -94,7 +94,7 @@ const ROWS: [Row; 16] = [
     },
     Row {
         rule: Rule::Forgotten,
-        words: "what is forgotten are so many distinct objects that nothing reaches, by their bases, and a full collection forgets all of them, whether they are named or not",
+        words: "a collection forgets so many distinct objects that nothing reaches, by their bases: the end of a cycle at least all that the cycle did not touch, a full collection all of them, whether they are named or not",
         breaks: "gc collect => 1 - 268435456",
         keeps: "gc collect => 0 -",
     },

@@ -35,6 +35,13 @@ fn push_loads(script: &mut String, replies: &mut String) -> Result<(), Fail> {
 }
 
 // The objects, lines of the collector by which none of them goes, and the numbers again.
+fn push_targets(script: &mut String, replies: &mut String, end: (&str, &str)) -> Result<(), Fail> {
+    push_objects(script, replies)?;
+    script.push_str(end.0)?;
+    replies.push_str(end.1)?;
+    push_loads(script, replies)
+}
+
 fn check_targets(
     rt: &impl Abort,
     scene: &mut Scene,
@@ -43,19 +50,21 @@ fn check_targets(
 ) -> Result<(), Fail> {
     let mut script = String::new(scene.alloc);
     let mut replies = String::new(scene.alloc);
-    push_objects(&mut script, &mut replies)?;
-    script.push_str(end.0)?;
-    replies.push_str(end.1)?;
-    push_loads(&mut script, &mut replies)?;
+    push_targets(&mut script, &mut replies, end)?;
     scene.check_row(rt, name, 4, script.as_str(), replies.as_str());
     Ok(())
+}
+
+// Once by a cycle, and once by a full collection.
+fn check_ends(rt: &impl Abort, scene: &mut Scene) -> Result<(), Fail> {
+    let cycle = ("gc begin\ngc roots\ngc finish\n", "ok\nok\n0\n");
+    check_targets(rt, scene, "finish", cycle)?;
+    let full = ("gc collect\n", "0\n");
+    check_targets(rt, scene, "collect", full)
 }
 
 #[test]
 fn targets_past_a_full_mark_stack_are_read(rt: HostRuntime) -> Result<(), Fail> {
     let mut scene = Scene::new(rt.alloc())?;
-    let cycle = ("gc begin\ngc roots\ngc finish\n", "ok\nok\n0\n");
-    check_targets(&rt, &mut scene, "finish", cycle)?;
-    let full = ("gc collect\n", "0\n");
-    check_targets(&rt, &mut scene, "collect", full)
+    check_ends(&rt, &mut scene)
 }

@@ -12,16 +12,25 @@ use workloads::{Lines, Replies, print_replies};
 const TEXT: &str =
     "mutator 0\nok\nptr\n268439552\nmutator 1\nmutator 2\nrefused 6 Full\ncollector\n7\n";
 
+// These replies, line by line.
+fn lines(alloc: Global, replies: &[Reply]) -> Result<Lines<Reply>, AllocError> {
+    let mut lines = Lines::new(alloc);
+    for reply in replies {
+        lines.push(*reply)?;
+    }
+    Ok(lines)
+}
+
 // The replies that print as the text, on one page.
 fn replies(alloc: Global) -> Result<Replies, AllocError> {
-    let mut first = Lines::new(alloc);
-    first.push(Reply::Done)?;
-    first.push(Reply::Word(268_435_456))?;
-    first.push(Reply::Word(268_439_552))?;
-    let mut third = Lines::new(alloc);
-    third.push(Reply::Refused(Refusal::Full))?;
-    let mut collector = Lines::new(alloc);
-    collector.push(Reply::Count(7))?;
+    let words = [
+        Reply::Done,
+        Reply::Word(268_435_456),
+        Reply::Word(268_439_552),
+    ];
+    let first = lines(alloc, &words)?;
+    let third = lines(alloc, &[Reply::Refused(Refusal::Full)])?;
+    let collector = lines(alloc, &[Reply::Count(7)])?;
     let mutators = vec![in alloc; first, Lines::new(alloc), third]?;
     Ok(Replies::new(mutators, collector))
 }

@@ -1,11 +1,9 @@
 -- What words draw, word by word and line by line.
 use Rattle.std.proofs.Common.{◌≡◌, ℕ, ◌+◌, ◌*◌, ◌<◌, ◌≤◌, ◌%◌, ◌/◌, suc, List, [], ◌∷◌, ◌++◌, map, cond, refl, sym, ap, ◌∙◌, subst, arith, append_assoc}
-use Rattle.std.specs.Prelude.{Some, slice_get, slice_index_or, replicate, Result, Ok, Err, OnOk}
+use Rattle.std.specs.Prelude.{Some, slice_get, slice_index_or, Result, Ok, Err, OnOk}
 use Rattle.scripts.specs.Turns.{text_of}
 use Rattle.std.proofs.lemmas.Bool.{lt-ltb, le-ltb}
 use Rattle.std.proofs.lemmas.Option.{get_or_from_slice_get}
-use Rattle.std.proofs.lemmas.Grind.{flat_map-append}
-use Rattle.std.proofs.lemmas.List.{map-append}
 use Rattle.rand_core.specs.Steps.{first_words}
 use Rattle.rand_pcg.specs.Lcg.{Lcg}
 use Rattle.rand_pcg.specs.Pcg.{pcg32}
@@ -15,7 +13,7 @@ use Rattle.heap_spec.specs.declared.event.Event.{Event}
 use Rattle.heap_spec.specs.declared.event.Event.TheVariants.{Attach, Mutator}
 use Rattle.scripts.specs.Lines.{newline}
 use Rattle.workloads.specs.Draws.{drawn, drawn_calls, drawn_collections}
-use Rattle.workloads.specs.Stress.{command_line, commands_of, drawn_text, drawn_commands, seeded, stress_text}
+use Rattle.workloads.specs.Stress.{command_line, commands_of, drawn_text, drawn_commands}
 
 -- a call is drawn
 pub draws_call : (m x0 x1 x2 x3 slot p q : ℕ) (call : Call) → x0 % (m + 1) < m → slot ≡ x0 % (m + 1) → p ≡ x2 % 16 → q ≡ x2 / 16 % 16 → slice_get (drawn_calls p q x3) (x1 % 16) ≡ Some call
@@ -68,11 +66,3 @@ none_commands m w = refl
 pub none_drawn : (m n : ℕ) (w : Lcg) → n ≡ 0 → drawn_text m n w ≡ []
 unfolding first_words
 none_drawn m n w e = ap (λ k. drawn_text m k w) e
-
--- the attaches, and then what is drawn
-pub stress_is : (seed m steps : ℕ) (empty attaches all : List ℕ) (w : Lcg) → empty ≡ [] → attaches ≡ empty ++ text_of (map command_line (replicate m Attach)) → w ≡ seeded seed → all ≡ attaches ++ drawn_text m steps w
-    → all ≡ stress_text seed m steps
-stress_is seed m steps empty attaches all w none is same wrote =
-    wrote ∙ ap (λ t. t ++ drawn_text m steps w) (is ∙ ap (λ t. t ++ text_of (map command_line (replicate m Attach))) none) ∙ ap (λ g. text_of (map command_line (replicate m Attach)) ++ drawn_text m steps g) same
-    ∙ sym (flat_map-append (λ line. line ++ newline ∷ []) (map command_line (replicate m Attach)) (map command_line (drawn_commands m steps (seeded seed))))
-    ∙ ap text_of (sym (map-append command_line (replicate m Attach) (drawn_commands m steps (seeded seed))))

@@ -41,12 +41,6 @@ pub replies_split : (pages : ℕ) (xs : List Reply) (i : ℕ) (x : Reply) → i 
 replies_split pages xs i x lt is = ap (replies_text pages) (split_at xs i x lt is) ∙ flat_map-append (reply_line pages) (take i xs) (x ∷ drop (i + 1) xs)
     ∙ sym (append_assoc (replies_text pages (take i xs)) (reply_line pages x) (replies_text pages (drop (i + 1) xs)))
 
--- one reply more
-pub replies_more : (pages : ℕ) (xs : List Reply) (i : ℕ) (x : Reply) → i < length xs → x ≡ get_or xs i x
-    → replies_text pages (take (i + 1) xs) ≡ replies_text pages (take i xs) ++ reply_line pages x
-replies_more pages xs i x lt is =
-    ap (replies_text pages) (take_more xs i x lt ∙ ap (λ y. take i xs ++ y ∷ []) (sym is)) ∙ flat_map-append (reply_line pages) (take i xs) (x ∷ []) ∙ ap (λ t. replies_text pages (take i xs) ++ t) (append-nil (reply_line pages x))
-
 -- the mutators of two lists
 pub mutators_append : (pages slot : ℕ) (xs ys : List (List Reply)) → mutators_text pages slot (xs ++ ys) ≡ mutators_text pages slot xs ++ mutators_text pages (slot + length xs) ys
 mutators_append pages slot [] ys = ap (λ s. mutators_text pages s ys) (plus_none slot)

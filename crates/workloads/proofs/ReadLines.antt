@@ -131,10 +131,6 @@ module _ (number : ℕ) (lists : ActorLines) (input b0 buffer buffer' line : Lis
   last_number_reads same End h other = absurd (other refl)
   last_number_reads same TooLong h other = subst (λ k. ReadsWorkload input rem' (Err (BadLine k))) same (too_long_reads (omega (arith, same)) h)
 
--- memory was refused before anything was read
-pub memory_reads : (input : List ℕ) (rem : Option (List ℕ)) → rem ≡ Some input → ReadsWorkload input rem (Err Memory)
-memory_reads input rem tells = record { read = []; left = input; is_input = refl; is_left = tells; answer = tt }
-
 -- the same of the line that was lent
 pub turn_is : (number : ℕ) (lent line : List ℕ) (old new : ActorLines) (result : Result ⊤ ScriptError) → lent ≡ line → IsLineTaken number lent old new result → IsLineTaken number line old new result
 turn_is number lent line old new result is h = subst (λ l. IsLineTaken number l old new result) is h

@@ -1,29 +1,9 @@
 -- Where texts are cut.
-use Rattle.std.proofs.Common.{◌≡◌, ◌≢◌, ℕ, ◌<◌, ◌≤◌, List, [], ◌∷◌, ◌++◌, length, get_or, take, drop, refl, sym, ap, ◌∙◌, subst, arith, Bool, true, false, eqb}
+use Rattle.std.proofs.Common.{◌≡◌, ◌≢◌, ℕ, List, [], ◌∷◌, ◌++◌, refl, sym, ap, ◌∙◌, Bool, true, false, eqb}
 use Rattle.std.specs.Prelude.{not, ◌&&◌}
 use Rattle.std.proofs.lemmas.Bool.{eq-eqb}
-use Rattle.std.proofs.lemmas.List.{drop_more, get_or-take, length-take, length-drop}
-use Rattle.std.proofs.lemmas.List.Elements.{All-from_get_or, All-head, All-tail, All-nil, All-cons}
+use Rattle.std.proofs.lemmas.List.Elements.{All-head, All-tail, All-nil, All-cons}
 use Rattle.written_runs.specs.Cuts.{Lacks, IsEmptyOrFrom}
-
--- a text that was searched up to an index
-pub lacks_front : (at i : ℕ) (text : List ℕ) → ((k : ℕ) → k < i → get_or text k 0 ≡ at → ⊥) → Lacks at (take i text)
-lacks_front at i text h = All-from_get_or (λ b. b ≢ at) (take i text) 0 (λ k lt. let l : k < i = below k lt in λ e. h k l (sym (get_or-take i text k 0 l) ∙ e))
-  where
-    below : (k : ℕ) → k < length (take i text) → k < i
-    below k lt = omega (arith, length-take i text)
-
--- the byte at an index, and what stands behind it
-pub from_here : (at i : ℕ) (text : List ℕ) → i < length text → get_or text i 0 ≡ at → IsEmptyOrFrom at (drop i text)
-from_here at i text lt is = let P : List ℕ → Type 0 = λ t. IsEmptyOrFrom at t in subst P (sym (drop_more text i 0 lt)) is
-
--- nothing is left behind the end
-pub from_end : (at i : ℕ) (text : List ℕ) → length text ≤ i → IsEmptyOrFrom at (drop i text)
-from_end at i text le = none (drop i text) (omega (arith, length-drop i text))
-  where
-    none : (rest : List ℕ) → length rest ≡ 0 → IsEmptyOrFrom at rest
-    none [] e = tt
-    none (b ∷ rest) e = absurd (omega arith)
 
 -- two cuts of one text are one
 pub record IsSameCut (f r g s : List ℕ) : Type 0 where

@@ -23,9 +23,6 @@ decimal_lacks at n out small = lacks_digits at (decimal n) out (decimal_is_IsNum
 pub not_decimal : (b n : ℕ) (word : List ℕ) → 10 ≤ digit_value b → n < 2 ^ 64 → decimal n ≡ b ∷ word → ⊥
 not_decimal b n word out small e = let digits : AllDigits 10 (b ∷ word) = subst (AllDigits 10) e (decimal_is_IsNumeral n small).0.1 in let h = digits.0 in omega (arith, h)
 
-pub ok_is_no_number : (n : ℕ) → n < 2 ^ 64 → decimal n ≡ codes "ok" → ⊥
-ok_is_no_number n small e = not_decimal 111 n (107 ∷ []) (omega arith) small e
-
 -- bases, each behind a space, begin with a space or are none
 pub bases_from : (bases : List ℕ) → IsEmptyOrFrom 32 (flat_map (λ base. codes " " ++ decimal base) bases)
 bases_from [] = tt

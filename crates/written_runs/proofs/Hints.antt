@@ -60,13 +60,3 @@ pub no_place : (text place : List ℕ) → text ≡ codes " @ " ++ place → ((n
 no_place text place e none Nothing is = let h : 32 ≡ 0 = ap lead (sym e ∙ is.whole) in omega (arith, h)
 no_place text place e none (Place base) is = none base is.words (append_cancel_left (codes " @ ") place (decimal base) (sym e ∙ is.whole))
 no_place text place e none (Forgot bases) is = let h : 64 ≡ 45 = ap second (sym e ∙ is.whole) in omega (arith, h)
-
-pub no_bases : (text rest : List ℕ) → text ≡ codes " -" ++ rest → ((bases : List ℕ) → AreBases rest bases → ⊥) → (hint : Hint) → IsHintText text hint → ⊥
-no_bases text rest e none Nothing is = let h : 32 ≡ 0 = ap lead (sym e ∙ is.whole) in omega (arith, h)
-no_bases text rest e none (Place base) is = let h : 45 ≡ 64 = ap second (sym e ∙ is.whole) in omega (arith, h)
-no_bases text rest e none (Forgot bases) is = none bases.now (record { whole = append_cancel_left (codes " -") rest (bases_text bases.now) (sym e ∙ is.whole); words = is.words })
-
-pub neither : (text : List ℕ) → 0 < length text → ((rest : List ℕ) → text ≡ codes " @ " ++ rest → ⊥) → ((rest : List ℕ) → text ≡ codes " -" ++ rest → ⊥) → (hint : Hint) → IsHintText text hint → ⊥
-neither text some place bases Nothing is = let h : length text ≡ 0 = ap length is.whole in omega (arith, h)
-neither text some place bases (Place base) is = place (decimal base) is.whole
-neither text some place bases (Forgot forgotten) is = bases (bases_text forgotten.now) is.whole

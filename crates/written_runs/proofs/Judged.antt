@@ -1,6 +1,5 @@
 -- Runs that lines lead to.
 use Rattle.std.proofs.Common.{◌≡◌, ℕ, ◌+◌, ◌<◌, ◌≤◌, List, [], ◌∷◌, ◌++◌, length, refl, sym, ap, ◌∙◌, subst, arith, append_assoc, length-append}
-use Rattle.std.specs.Prelude.{Some}
 use Rattle.std.proofs.lemmas.List.{append-nil}
 use Rattle.heap_spec.specs.declared.event.Event.{Event}
 use Rattle.heap_spec.specs.declared.reply.Reply.{Reply}
@@ -10,11 +9,10 @@ use Rattle.replayer.specs.Contents.{Contents, Follows}
 use Rattle.replayer.specs.Replays.{IsReplay}
 use Rattle.scripts.specs.Lines.{newline, lines_of}
 use Rattle.scripts.proofs.Texts.{lines_of-line, lines_of-last}
-use Rattle.written_runs.specs.declared.verdict.Verdict.{Verdict}
-use Rattle.written_runs.specs.declared.verdict.Verdict.TheVariants.{Legal, Bad, Breaks}
+use Rattle.written_runs.specs.declared.verdict.Verdict.TheVariants.{Legal}
 use Rattle.written_runs.specs.Cuts.{IsEmptyOrFrom, IsTextCut}
 use Rattle.written_runs.specs.Written.{IsWritten}
-use Rattle.written_runs.specs.Judging.{Leads, ends, on, IsUnwritten, IsBroken, HasFault, IsJudged, LeadsOn, IsLineVerdict}
+use Rattle.written_runs.specs.Judging.{Leads, ends, on, IsJudged, LeadsOn}
 
 -- one line more
 leads_more : (start : Start) {run mid last : Run} {lines : List (List ℕ)} → Leads start run lines mid → (line : List ℕ) (event : Event) (reply : Reply) (hint : Hint)
@@ -55,29 +53,6 @@ goes_on pages text rest behind line number old new u e shorter led =
 pub ended : (pages : ℕ) (text rest : List ℕ) (number : ℕ) (replayer : Contents) → IsUpTo pages text rest number replayer → length rest ≡ 0 → IsJudged pages (lines_of text) Legal
 ended pages text [] number replayer u none = (u.run, subst (λ ls. Leads (fresh pages) [] ls u.run) (sym (u.are ∙ append-nil u.lines)) u.leads)
 ended pages text (b ∷ rest) number replayer u none = absurd (omega arith)
-
--- the next line has a fault
-fault_here : (Fault : Run → List ℕ → Type 0) (pages : ℕ) (text rest behind line : List ℕ) (number : ℕ) (old : Contents) (u : IsUpTo pages text rest number old) → lines_of rest ≡ line ∷ lines_of behind → Fault u.run line → HasFault Fault (fresh pages) (lines_of text) (number + 1)
-fault_here Fault pages text rest behind line number old u e fault =
-    record { before = u.lines; line = line; behind = lines_of behind; run = u.run; are = u.are ∙ ap (λ ls. u.lines ++ ls) e; counted = let h = u.counted in omega (arith, h); leads = u.leads; fault = fault }
-
--- what was found of the next line is the verdict
-pub judged : (pages : ℕ) (text rest behind line : List ℕ) (number : ℕ) (old new : Contents) (verdict : Verdict) → IsUpTo pages text rest number old → lines_of rest ≡ line ∷ lines_of behind → IsLineVerdict old (number + 1) line (Some verdict) new → IsJudged pages (lines_of text) verdict
-judged pages text rest behind line number old new Legal u e found = absurd found
-judged pages text rest behind line number old new (Bad n) u e found =
-    subst (HasFault (λ run l. IsUnwritten l) (fresh pages) (lines_of text)) (sym found.0) (fault_here (λ run l. IsUnwritten l) pages text rest behind line number old u e found.1)
-judged pages text rest behind line number old new (Breaks n rule) u e found =
-    let s = found.1 in
-    subst (HasFault (IsBroken (fresh pages) rule) (fresh pages) (lines_of text)) (sym found.0)
-    (fault_here (IsBroken (fresh pages) rule) pages text rest behind line number old u e
-    (record {
-      event = s.event;
-      reply = s.reply;
-      hint = s.hint;
-      is_written = s.is_written;
-      no_replay = λ next replay. s.no_replay (fresh pages) u.run next u.follows replay;
-      named = s.named;
-    }))
 
 -- the first line of a text that was cut at its first newline
 pub line_with_newline : (text line rest behind : List ℕ) (b : ℕ) → IsTextCut newline text line rest → rest ≡ b ∷ behind → lines_of text ≡ line ∷ lines_of behind

@@ -1,5 +1,5 @@
 -- A line is parted at its first `=` in one way.
-use Rattle.std.proofs.Common.{◌≡◌, ◌≢◌, ℕ, List, [], ◌∷◌, ◌++◌, refl, sym, ap, ◌∙◌, subst, arith, append_assoc, length, length-append}
+use Rattle.std.proofs.Common.{◌≡◌, ◌≢◌, ℕ, List, [], ◌∷◌, ◌++◌, refl, sym, ap, ◌∙◌, subst, append_assoc}
 use Rattle.std.specs.Prelude.{codes}
 use Rattle.std.proofs.lemmas.List.{append_cancel_left}
 use Rattle.std.proofs.lemmas.List.Elements.{All-nil, All-cons, All-head, All-tail, All-append}
@@ -52,6 +52,3 @@ same_parts line text answer text' answer' a b =
 -- a line whose text ends in no space before its `=`
 pub no_space : (line front rest text : List ℕ) (b : ℕ) → IsTextCut 61 line front rest → front ≡ text ++ b ∷ [] → (b ≡ 32 → ⊥) → (other answer : List ℕ) → IsParted line other answer → ⊥
 no_space line front rest text b cut e differs other answer is = differs (same_end text other b 32 (sym e ∙ (parted_cut line front rest other answer cut is).front)).last
-
-pub no_text : (line front rest : List ℕ) → IsTextCut 61 line front rest → length front ≡ 0 → (text answer : List ℕ) → IsParted line text answer → ⊥
-no_text line front rest cut none text answer is = let e = ap length (parted_cut line front rest text answer cut is).front in omega (arith, e, none, length-append text (32 ∷ []))

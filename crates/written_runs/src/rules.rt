@@ -78,7 +78,7 @@ impl Rule {
                 "the small steps of a cycle are granted exactly while one is marking, and answer within their range"
             }
             Rule::Forgotten => {
-                "what is forgotten are so many distinct objects that nothing reaches, by their bases, and a full collection forgets all of them, whether they are named or not"
+                "a collection forgets so many distinct objects that nothing reaches, by their bases: the end of a cycle at least all that the cycle did not touch, a full collection all of them, whether they are named or not"
             }
             Rule::NoBases => {
                 "the end of a cycle needs the bases of what it forgot, or the phase forbids it"

@@ -1,4 +1,4 @@
-use Rattle.std.proofs.Common.{◌≡◌, ◌+◌, ◌*◌, ◌/◌, Bool, true, false, slice_index_or, sym, ap, ◌∙◌, subst}
+use Rattle.std.proofs.Common.{◌≡◌, ◌+◌, ◌*◌, ◌/◌, false, slice_index_or, sym, ap, ◌∙◌}
 use Rattle.blocks.specs.Cells.{Cells}
 use Rattle.blocks.specs.Sweeps.{mark_of}
 use Rattle.blocks.proofs.Sweeps.{swept_dead, swept_live}

@@ -1,4 +1,4 @@
-use Rattle.std.proofs.Common.{◌*◌, ◌/◌, ◌%◌, ◌∙◌, ◌==◌, length, get_or, ap}
+use Rattle.std.proofs.Common.{◌%◌, ◌∙◌, ◌==◌, get_or, ap}
 use Rattle.std.specs.Int.{bit_at}
 use Rattle.mark_bits.proofs.Words.{has-bits, bit_is}
 use Rattle.mark_bits.proofs.marks.Marks.word.Goals as goal

@@ -1,8 +1,5 @@
-use Rattle.std.proofs.Common.{◌≡◌, ◌+◌, ◌≤◌, ◌∙◌, length, Option, Some, sym, ap, subst, rules, arith}
-use Rattle.std.proofs.lemmas.Option.{same_Some}
-use Rattle.block_map.specs.declared.found.Found.{Found}
+use Rattle.std.proofs.Common.{ap, arith}
 use Rattle.block_map.specs.FoundIn.{found_in}
-use Rattle.marker.specs.declared.entry.Entry.{Entry}
 use Rattle.marker.specs.Marking.{Marking}
 use Rattle.marker.specs.Entries.{read_on}
 use Rattle.marker.proofs.Settling.{read_out, settles_none, settles_next}

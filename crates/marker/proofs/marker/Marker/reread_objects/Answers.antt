@@ -1,11 +1,8 @@
-use Rattle.std.proofs.Common.{◌+◌, ◌∙◌, refl, sym, ap, length-set, set, false, subst, List, [], ℕ, length, arith}
+use Rattle.std.proofs.Common.{◌+◌, ◌∙◌, refl, sym, subst, List, ℕ, length, arith}
 use Rattle.words.specs.Layout.{page_start}
 use Rattle.block_map.specs.FoundIn.{found_in}
-use Rattle.marker.specs.Marking.{Marking, with_dirty}
-use Rattle.marker.specs.Growth.{Traces}
 use Rattle.marker.specs.Retracing.{Rereads}
 use Rattle.marker.proofs.Closures.{marks_of}
-use Rattle.marker.proofs.Growing.{traces_refl}
 use Rattle.marker.proofs.Words.{words_pages}
 use Rattle.marker.proofs.Rescanning.{rereads_none, rereads_append, rereads_end}
 use Rattle.marker.proofs.marker.Marker.reread_objects.Goals as goal

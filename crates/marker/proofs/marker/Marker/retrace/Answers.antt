@@ -1,4 +1,4 @@
-use Rattle.std.proofs.Common.{◌≡◌, ℕ, ◌+◌, refl, sym, set, false, subst, List, [], length, Option, arith}
+use Rattle.std.proofs.Common.{◌≡◌, ℕ, ◌+◌, sym, set, false, subst, List, [], length, Option}
 use Rattle.words.specs.Layout.{page_start}
 use Rattle.block_map.specs.declared.found.Found.{Found}
 use Rattle.block_map.specs.FoundIn.{found_in}
@@ -7,7 +7,6 @@ use Rattle.marker.specs.Growth.{Traces}
 use Rattle.marker.specs.Retracing.{Rereads}
 use Rattle.marker.proofs.Closures.{marks_of}
 use Rattle.marker.proofs.Growing.{traces_refl}
-use Rattle.marker.proofs.Words.{words_pages}
 use Rattle.marker.proofs.Rescanning.{retraces, retrace_traces}
 use Rattle.marker.proofs.marker.Marker.retrace.Goals as goal
 

@@ -1,0 +1,121 @@
+/* The memory of a heap for C: the three functions by which the proved library asks for memory, over malloc, realloc and free,
+ * and mpheap_open_mapped, by which the words of one heap stand at their own addresses.
+ *
+ * Trusted, not proved: the library's proofs take it that what these three answer is memory of so many bytes, aligned to 16 or
+ * less, that nobody else uses until it is given back, and that a growth keeps the bytes that were there. */
+#ifndef _GNU_SOURCE
+#define _GNU_SOURCE
+#endif
+#include "mpheap.h"
+#include <stdatomic.h>
+#include <stddef.h>
+#include <stdlib.h>
+#include <sys/mman.h>
+
+/* What the library takes as an answer: whether there is memory, and where. */
+typedef struct {
+    bool ok;
+    void *at;
+} memory;
+
+memory rattle_alloc(size_t bytes, size_t align);
+memory rattle_realloc(void *at, size_t kept, size_t bytes, size_t align);
+void rattle_dealloc(void *at);
+
+/* In a refusal no memory is named, but the pointer is none the less not null. */
+static char refused;
+
+/* The bytes that are mapped at the heap's addresses; 0 where none are. */
+static atomic_size_t mapped;
+
+/* While this thread opens a mapped heap: the bytes of its words, and how many requests of that size come before theirs. */
+static _Thread_local size_t wanted;
+static _Thread_local uint32_t before;
+static _Thread_local bool is_taken;
+
+static void *first_address(void) {
+    return (void *)(uintptr_t)MPHEAP_FIRST_ADDRESS;
+}
+
+static memory answer(void *at) {
+    memory given = { at != NULL, at != NULL ? at : &refused };
+    return given;
+}
+
+/* The heap's own addresses, or null. */
+static void *map_words(size_t bytes) {
+    int flags = MAP_PRIVATE | MAP_ANONYMOUS;
+#ifdef MAP_FIXED_NOREPLACE
+    flags |= MAP_FIXED_NOREPLACE;
+#endif
+    void *at = mmap(first_address(), bytes, PROT_READ | PROT_WRITE, flags, -1, 0);
+    if (at == first_address()) {
+        atomic_store(&mapped, bytes);
+        return at;
+    }
+    is_taken = true;
+    if (at != MAP_FAILED) munmap(at, bytes);
+    return NULL;
+}
+
+memory rattle_alloc(size_t bytes, size_t align) {
+    if (wanted != 0 && bytes == wanted && before-- == 0) return answer(map_words(bytes));
+    return answer(malloc(bytes != 0 ? bytes : align));
+}
+
+/* The library never grows the words of a heap, so what is mapped never comes here. */
+memory rattle_realloc(void *at, size_t kept, size_t bytes, size_t align) {
+    (void)kept;
+    return answer(realloc(at, bytes != 0 ? bytes : align));
+}
+
+void rattle_dealloc(void *at) {
+    size_t bytes = at == first_address() ? atomic_exchange(&mapped, 0) : 0;
+    if (bytes != 0) {
+        munmap(at, bytes);
+    } else {
+        free(at);
+    }
+}
+
+/* Whether what is mapped are the heap's words: a word that is stored into a new object stands at its address. The object and
+ * its mutator go again. */
+static bool has_words_there(mpheap *heap) {
+    uint8_t slot = 0;
+    uint64_t base = 0;
+    bool is_there = false;
+    if (mpheap_attach(heap, &slot) != MPHEAP_OK) return false;
+    if (mpheap_alloc_base(heap, slot, 0, 2, &base) == MPHEAP_OK) {
+        volatile uint64_t *word = (volatile uint64_t *)(uintptr_t)base;
+        mpheap_set(heap, slot, 1, ~base);
+        mpheap_store(heap, slot, 0, 1, 1);
+        is_there = word[1] == ~base;
+        mpheap_free(heap, slot, 0);
+    }
+    mpheap_detach(heap, slot);
+    return is_there;
+}
+
+/* Opens a heap with the request of the words' size behind so many others at the heap's addresses. */
+static uint32_t open_behind(uint32_t pages, mpheap *heap, uint32_t others) {
+    wanted = (size_t)pages * MPHEAP_PAGE_BYTES;
+    before = others;
+    is_taken = false;
+    uint32_t status = mpheap_open(pages, heap);
+    wanted = 0;
+    return status == MPHEAP_NO_MEMORY && is_taken ? MPHEAP_RANGE_TAKEN : status;
+}
+
+uint32_t mpheap_open_mapped(uint32_t pages, mpheap *heap) {
+    if (atomic_load(&mapped) != 0) return MPHEAP_SECOND;
+    /* Other parts of a small heap may ask for as many bytes as its words: so each such request is tried in turn. */
+    for (uint32_t others = 0; others < 64; others++) {
+        uint32_t status = open_behind(pages, heap, others);
+        if (status != MPHEAP_OK) return status;
+        if (atomic_load(&mapped) != 0 && has_words_there(heap)) return MPHEAP_OK;
+        bool is_none = atomic_load(&mapped) == 0;
+        mpheap_close(heap);
+        if (is_none) break;
+    }
+    return MPHEAP_RANGE_TAKEN;
+}

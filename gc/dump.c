@@ -1,0 +1,67 @@
+// A heap that is printed for people: GC_dump and its kin, on standard output as bdwgc has it. Trusted, not proved; it changes nothing.
+#include "layer.h"
+#include <stdio.h>
+
+struct sum { size_t objects, words; };
+
+// The objects that begin on the page are added.
+static struct sum add_page(size_t page, struct sum *sum)
+{
+    struct sum here = { 0, 0 };
+    uintptr_t at = FIRST + page * PAGE, end = at + PAGE;
+    while (at < end) {
+        uintptr_t base;
+        size_t words;
+        bool is_found = mpgc_find(at, &base, &words);
+        if (is_found && base == at) here = (struct sum){ here.objects + 1, here.words + words };
+        at = is_found ? base + words * WORD : at + GRANULE;
+    }
+    sum->objects += here.objects;
+    sum->words += here.words;
+    return here;
+}
+
+// One letter a page: what it was last given to, in capitals if objects fill more than half of it.
+static char letter(size_t page, struct sum here)
+{
+    uintptr_t base;
+    size_t words;
+    if (mpgc.kind[page] == FRESH) return '.';
+    bool is_inner = here.objects == 0 && mpgc_find(FIRST + page * PAGE, &base, &words);
+    if (here.objects == 0 && !is_inner) return '-';
+    bool is_full = is_inner || here.words > PAGE / WORD / 2;
+    if (mpgc.kind[page] == POINTER_FREE) return is_full ? 'A' : 'a';
+    return is_full ? 'O' : 'o';
+}
+
+void GC_dump_regions(void)
+{
+    struct sum sums[3] = { { 0, 0 }, { 0, 0 }, { 0, 0 } };
+    mpgc_enter();
+    printf("Pages (o ordinary objects, a pointer-free ones, capitals where more than half full, - empty, . never used):\n");
+    for (size_t page = 0; page < mpgc.size; page++) {
+        struct sum here = add_page(page, &sums[mpgc.kind[page]]);
+        putchar(letter(page, here));
+        if (page % 64 == 63) putchar('\n');
+    }
+    if (mpgc.size % 64 != 0) putchar('\n');
+    printf("Ordinary: %zu objects, %zu bytes; pointer-free: %zu objects, %zu bytes\n", sums[ORDINARY].objects,
+           sums[ORDINARY].words * WORD, sums[POINTER_FREE].objects, sums[POINTER_FREE].words * WORD);
+}
+
+void GC_dump_named(const char *name)
+{
+    if (name)
+        printf("***GC Dump %s\n", name);
+    else
+        printf("***GC Dump collection #%lu\n", (unsigned long)GC_gc_no);
+    printf("Heap: %zu bytes, at most %zu, of them %zu in free pages; %zu asked for since the last collection, %zu in all\n",
+           GC_get_heap_size(), mpgc.limit * PAGE, GC_get_free_bytes(), GC_get_bytes_since_gc(), GC_get_total_bytes());
+    printf("Collections: %lu full, %lu in small steps%s\n", mpgc.full, mpgc.cycles, mpgc.is_marking ? ", one under way" : "");
+    GC_dump_regions();
+    fflush(stdout);
+}
+
+void GC_dump(void) { GC_dump_named(NULL); }
+
+void GC_dump_finalization(void) { printf("No finalizers and no disappearing links\n"); }

@@ -1,0 +1,65 @@
+// When to collect. Trusted, not proved; nothing here can lose an object.
+//
+// A collection begins when so many words were asked for since the last one: in proportion to what that one left, as bdwgc does by its
+// free space divisor, and not only when there is no room, since small objects would then lie on all pages, and a large request would
+// find no pages in a row.
+#include "layer.h"
+
+enum {
+    LEAST_BUDGET = 1024 * 1024 / WORD,  // words
+    STEP = 256,                         // words asked for between two steps of a cycle
+    WORK = 1024,                        // words that a step reads
+    SWEPT = 2,                          // pages that are swept in a step while no cycle marks
+};
+
+static bool is_swept;
+
+// After a collection: what it left is told by pages, each as full as it may be.
+void mpgc_set_budget(void)
+{
+    size_t used = mpgc_used_pages();
+    uint64_t room = (mpgc.limit > used ? mpgc.limit - used : 0) * (PAGE / WORD);
+    uint64_t divisor = GC_free_space_divisor ? GC_free_space_divisor : 1;
+    mpgc.kept = used * (PAGE / WORD);
+    mpgc.budget = 4 * mpgc.kept / divisor;
+    if (mpgc.budget < LEAST_BUDGET) mpgc.budget = LEAST_BUDGET;
+    if (mpgc.budget > room * 3 / 4) mpgc.budget = room * 3 / 4;
+    if (mpgc.budget < LEAST_BUDGET / 16) mpgc.budget = LEAST_BUDGET / 16;
+    mpgc.total += mpgc.since;
+    mpgc.since = mpgc.freed = 0;
+    mpgc.next = mpgc.is_incremental ? STEP : mpgc.budget;
+    is_swept = false;
+}
+
+static bool is_off(void) { return GC_dont_gc || GC_get_disable_automatic_collection(); }
+
+// So many words were asked for that a look is due.
+void mpgc_pace(void)
+{
+    if (is_off()) {
+        mpgc.next = mpgc.since + STEP;
+    } else if (mpgc.is_marking && mpgc.is_incremental) {
+        mpgc_mark_on(WORK);
+        mpgc.next = mpgc.since + STEP;
+    } else if (mpgc.since >= mpgc.budget) {
+        if (mpgc.is_incremental)
+            mpgc_begin_cycle();
+        else
+            mpgc_collect_fully();
+        mpgc.next = mpgc.is_incremental ? mpgc.since + STEP : mpgc.budget;
+    } else {
+        for (size_t k = 0; k < SWEPT && !is_swept; k++) is_swept = !mpgc_sweep_some();
+        mpgc.next = is_swept || !mpgc.is_incremental ? mpgc.budget : mpgc.since + STEP;
+    }
+}
+
+// Answers whether there is more to do.
+bool mpgc_collect_a_little(void)
+{
+    if (is_off()) return mpgc.is_marking;
+    if (mpgc.is_marking && mpgc.is_incremental)
+        mpgc_mark_on(WORK);
+    else if (mpgc.since >= mpgc.budget)
+        mpgc_pace();
+    return mpgc.is_marking;
+}

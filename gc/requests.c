@@ -1,0 +1,239 @@
+// Requests for memory, and what addresses point into. Trusted, not proved.
+//
+// What it owes the core, of mpheap.h:
+//
+//   "each out parameter points to one number of its own, apart from `heap`"   locals, in each call below
+//   "only words of kept objects may be written"    a program is given bases of objects that a request has just made (clause
+//                                                  IsBaseCall), and keeps them reachable; what it frees it doesn't write again
+//   kinds are as the page's                        mpgc_learn, after each request
+#include "layer.h"
+#include <errno.h>
+#include <stdlib.h>
+#include <string.h>
+#include <wchar.h>
+
+enum { INTO = 0, FREED = 1 };  // registers
+
+struct sort { enum page_kind kind; bool is_uncollectable; };
+
+// One byte more than asked for, so that a pointer past the end points into its own object.
+static size_t extra(void) { return GC_all_interior_pointers && BUG != 10 ? 1 : 0; }
+
+static uint32_t ask(size_t words, enum page_kind kind, uint64_t *base)
+{
+    mpgc_call_begins();
+    uint32_t status = kind == ORDINARY || BUG == 4 ? mpheap_alloc_base(&mpgc.heap, mpgc.slot, INTO, words, base)
+                                                   : mpheap_alloc_pointer_free_base(&mpgc.heap, mpgc.slot, INTO, words, base);
+    mpgc_call_ends();
+    return status;
+}
+
+static void free_in(uint64_t base)
+{
+    mpgc_call_begins();
+    mpheap_set(&mpgc.heap, mpgc.slot, FREED, base);
+    uint32_t status = mpheap_free(&mpgc.heap, mpgc.slot, FREED);
+    mpgc_call_ends();
+    if (status != MPHEAP_OK) mpgc_stop("GC_free of what isn't the beginning of an object");
+}
+
+// The object is there and its pages are known, or there is no room for it.
+static uint32_t ask_within(size_t words, enum page_kind kind, uint64_t *base)
+{
+    uint32_t status = ask(words, kind, base);
+    if (status != MPHEAP_OK) return status;
+    if (LIKELY(mpgc.kind[mpgc_page_of(*base)] == kind && words <= PAGE / WORD)) return MPHEAP_OK;
+    if (mpgc_learn(*base, words, kind)) return MPHEAP_OK;
+    free_in(*base);
+    return MPHEAP_FULL;
+}
+
+static void *out_of_memory(size_t bytes)
+{
+    static bool was_said;
+    if (!was_said) GC_get_warn_proc()("GC Warning: Out of Memory! Heap size: %lu MiB. Returning NULL!\n", mpgc.limit * PAGE >> 20);
+    was_said = true;
+    return GC_oom_fn ? GC_oom_fn(bytes) : NULL;
+}
+
+static void *ask_again(size_t bytes, size_t words, enum page_kind kind)
+{
+    uint64_t base;
+    if (GC_dont_gc || words > MAX_REQUEST_WORDS) return out_of_memory(bytes);
+    mpgc_collect_fully();
+    mpgc.since += words;
+    return ask_within(words, kind, &base) == MPHEAP_OK ? (void *)base : out_of_memory(bytes);
+}
+
+static inline void *allocate(size_t bytes, enum page_kind kind)
+{
+    uint64_t base;
+    mpgc_enter();
+    MPGC_NOTE_ENTRY();
+    size_t words = bytes > MAX_REQUEST_WORDS * WORD ? MAX_REQUEST_WORDS + 1 : (bytes + extra() + WORD - 1) / WORD;
+    if (words == 0) words = 1;
+    mpgc.since += words;
+    if (!LIKELY(mpgc.since < mpgc.next)) mpgc_pace();
+    if (LIKELY(ask_within(words, kind, &base) == MPHEAP_OK)) return (void *)base;
+    return ask_again(bytes, words, kind);
+}
+
+static void *keep(void *object)
+{
+    if (!object) return NULL;
+    mpgc_set_uncollectable((uintptr_t)object, true);
+    GC_non_gc_bytes += GC_size(object);
+    return object;
+}
+
+static void *allocate_sort(size_t bytes, struct sort sort)
+{
+    void *object = allocate(bytes, sort.kind);
+    return sort.is_uncollectable ? keep(object) : object;
+}
+
+void *GC_malloc(size_t bytes) { return allocate(bytes, ORDINARY); }
+
+void *GC_malloc_atomic(size_t bytes) { return allocate(bytes, POINTER_FREE); }
+
+void *GC_malloc_uncollectable(size_t bytes) { return keep(allocate(bytes, ORDINARY)); }
+
+void *GC_malloc_atomic_uncollectable(size_t bytes) { return keep(allocate(bytes, POINTER_FREE)); }
+
+void *GC_malloc_ignore_off_page(size_t bytes) { return allocate(bytes, ORDINARY); }
+
+void *GC_malloc_atomic_ignore_off_page(size_t bytes) { return allocate(bytes, POINTER_FREE); }
+
+void *GC_malloc_stubborn(size_t bytes) { return allocate(bytes, ORDINARY); }
+
+void *GC_malloc_many(size_t bytes) { return allocate(bytes, ORDINARY); }
+
+// Inner pointers count, so an aligned address in a larger object will do.
+void *GC_memalign(size_t align, size_t bytes)
+{
+    if (align <= GRANULE) return GC_malloc(bytes);
+    if (bytes > SIZE_MAX - align) return out_of_memory(bytes);
+    char *object = GC_malloc(bytes + align - 1);
+    return object ? object + (-(uintptr_t)object & (align - 1)) : NULL;
+}
+
+int GC_posix_memalign(void **result, size_t align, size_t bytes)
+{
+    if (align % sizeof(void *) != 0 || align == 0 || (align & (align - 1)) != 0) return EINVAL;
+    void *object = GC_memalign(align, bytes);
+    if (!object) return ENOMEM;
+    *result = object;
+    return 0;
+}
+
+// The kept object that the address points into.
+bool mpgc_find(uintptr_t address, uintptr_t *base, size_t *words)
+{
+    uint64_t found = 0, length = 0;
+    mpgc_call_begins();
+    uint32_t status = mpheap_kept_at(&mpgc.heap, address, &found, &length);
+    mpgc_call_ends();
+    *base = found;
+    *words = length;
+    return status == MPHEAP_OK;
+}
+
+void *GC_base(void *address)
+{
+    uintptr_t base;
+    size_t words;
+    mpgc_enter();
+    return mpgc_find((uintptr_t)address, &base, &words) ? (void *)base : NULL;
+}
+
+size_t GC_size(const void *object)
+{
+    uintptr_t base;
+    size_t words;
+    mpgc_enter();
+    return mpgc_find((uintptr_t)object, &base, &words) ? words * WORD : 0;
+}
+
+int GC_is_heap_ptr(const void *address) { return (uintptr_t)address - FIRST < mpgc.size * PAGE; }
+
+static struct sort sort_of(uintptr_t base)
+{
+    return (struct sort){ BUG == 9 ? ORDINARY : mpgc.kind[mpgc_page_of(base)], mpgc_is_uncollectable(base) };
+}
+
+void GC_free(void *object)
+{
+    if (!object) return;
+    uintptr_t base = (uintptr_t)object;
+    size_t bytes = GC_size(object);
+    mpgc_enter();
+    free_in(base);
+    mpgc.freed += bytes / WORD;
+    if (mpgc_is_uncollectable(base)) {
+        mpgc_set_uncollectable(base, false);
+        GC_non_gc_bytes -= bytes;
+    }
+}
+
+// What stood in the object, in a larger or much smaller one of the same sort.
+static void *move(void *old, size_t old_bytes, size_t bytes)
+{
+    void *object = allocate_sort(bytes, sort_of((uintptr_t)old));
+    if (!object) return NULL;
+    memcpy(object, old, bytes < old_bytes ? bytes : old_bytes);
+    GC_free(old);
+    return object;
+}
+
+// All bytes past those asked for are 0 in an ordinary object, so that what grows in place is 0.
+void *GC_realloc(void *old, size_t bytes)
+{
+    if (!old) return GC_malloc(bytes);
+    if (bytes == 0) {
+        GC_free(old);
+        return NULL;
+    }
+    uintptr_t base;
+    size_t words;
+    mpgc_enter();
+    if (!mpgc_find((uintptr_t)old, &base, &words) || base != (uintptr_t)old)
+        mpgc_stop("GC_realloc of what isn't the beginning of an object");
+    size_t room = words * WORD;
+    if (bytes > room - extra() || bytes < room / 2) return move(old, room, bytes);
+    if (sort_of(base).kind == ORDINARY) memset((char *)old + bytes, 0, room - bytes);
+    return old;
+}
+
+static char *copy_text(const char *text, size_t bytes)
+{
+    char *copy = GC_malloc_atomic(bytes + 1);
+    if (!copy) {
+        errno = ENOMEM;
+        return NULL;
+    }
+    memcpy(copy, text, bytes);
+    copy[bytes] = 0;
+    return copy;
+}
+
+char *GC_strdup(const char *text) { return text ? copy_text(text, strlen(text)) : NULL; }
+
+char *GC_strndup(const char *text, size_t most) { return copy_text(text, strnlen(text, most)); }
+
+__attribute__((visibility("default"))) wchar_t *GC_wcsdup(const wchar_t *text)
+{
+    size_t bytes = (wcslen(text) + 1) * sizeof *text;
+    wchar_t *copy = GC_malloc_atomic(bytes);
+    if (copy) memcpy(copy, text, bytes);
+    return copy;
+}
+
+size_t GC_get_size_map_at(int bytes)
+{
+    static const size_t classes[] = { 2, 4, 6, 8, 12, 16, 24, 32, 48, 64, 96, 128, 256 };
+    size_t words = ((size_t)bytes + extra() + WORD - 1) / WORD;
+    if (bytes < 0 || words > PAGE / WORD / 2) return (size_t)-1;
+    size_t k = 0;
+    while (classes[k] < words) k++;
+    return classes[k] * WORD;
+}

@@ -1,0 +1,315 @@
+/* mpheap.h: a proved, collected heap for programs in C and C++ (C99 or later, C++11 or later).
+ *
+ * A heap has 1 to 1,024 pages of 512 words of 8 bytes. Its addresses begin at MPHEAP_FIRST_ADDRESS, whatever the process
+ * maps there; a heap that mpheap_open_mapped opened has its words at these very addresses, so that an address of it is a
+ * pointer. Objects do not move. What keeps an object is a root word that points into it (a register or the stack of a
+ * mutator, or a global), or a word of a kept object that was not allocated pointer-free: reading is conservative, so any word
+ * that is the address of one of the object's bytes points into it. A variable of C is no root.
+ *
+ * STATUSES. Each function that answers a uint32_t and is not a figure answers a status (enum mpheap_status). 0 is done. 1 to 9
+ * is a refusal: nothing of the heap has changed, but that a Full has swept the pages that were still to be swept. 10: one of
+ * the numbers names no slot, register or global; nothing has changed. Results go through the last parameters, which are
+ * written only where the status is 0. Where a call could be refused for several reasons the first of these is told: 10, 1 (no
+ * mutator), then in the order in which the call's own comment names them.
+ *
+ * MEMORY. Only the two opens ask for memory, and only they and mpheap_close touch errno. No call prints, ends the process or
+ * calls back.
+ *
+ * WHAT THE CALLER OWES, and what nothing here checks:
+ *  - `heap` points to an mpheap that was opened and has not been closed since. A closed one is null inside, so a call on it
+ *    reads address 0 and is stopped there by the system; a null `heap` likewise.
+ *  - An open mpheap is not opened again (the first heap would be lost) and not copied. It begins as MPHEAP_CLOSED.
+ *  - Calls on one heap are made by one thread at a time, and never from a signal handler that interrupted one of them. (Two
+ *    heaps may be used by two threads at once, but only opened and closed one after another.)
+ *  - Each out parameter points to a number of its own, outside of every heap.
+ *  - malloc, realloc and free are those of one allocator from the open to the close.
+ *  - Words of a mapped heap are read and written by pointers only as "WORDS BY POINTERS" below allows. */
+#ifndef MPHEAP_H
+#define MPHEAP_H
+#include <stdbool.h>
+#include <stdint.h>
+#include <string.h>
+#ifdef __cplusplus
+extern "C" {
+#endif
+
+/* A heap, as its owner keeps it. */
+typedef struct mpheap {
+    void *core;
+} mpheap;
+#define MPHEAP_CLOSED { 0 }
+
+enum mpheap_status {
+    MPHEAP_OK = 0,
+    MPHEAP_NO_SLOT = 1,      /* the slot has no mutator; of attach: all slots have one */
+    MPHEAP_MISALIGNED = 2,   /* the address is not divisible by 8 */
+    MPHEAP_NO_OBJECT = 3,    /* the address points into no object */
+    MPHEAP_NOT_BASE = 4,     /* the address points into an object, and is not where it begins */
+    MPHEAP_BAD_SIZE = 5,     /* 0 words, or more than MPHEAP_MAX_REQUEST_WORDS */
+    MPHEAP_FULL = 6,         /* no place of the heap has room */
+    MPHEAP_STACK_FULL = 7,   /* the mutator's stack has MPHEAP_STACK_WORDS words */
+    MPHEAP_STACK_EMPTY = 8,  /* the mutator's stack has none */
+    MPHEAP_WRONG_PHASE = 9,  /* the call does not fit the phase of the collector */
+    MPHEAP_BAD_NUMBER = 10,  /* a slot, register or global is out of range */
+    MPHEAP_BAD_PAGES = 11,   /* 0 pages, or more than MPHEAP_MAX_PAGES */
+    MPHEAP_NO_MEMORY = 12,   /* memory was refused; nothing is left of the attempt */
+    MPHEAP_SECOND = 13,      /* this process has a mapped heap already */
+    MPHEAP_RANGE_TAKEN = 14  /* something else is mapped where the heap's words have to stand */
+};
+
+enum {
+    MPHEAP_MAX_PAGES = 1024,
+    MPHEAP_PAGE_WORDS = 512,
+    MPHEAP_PAGE_BYTES = 4096,
+    MPHEAP_WORD_BYTES = 8,
+    MPHEAP_FIRST_ADDRESS = 268435456, /* 0x10000000 */
+    MPHEAP_MAX_SMALL_WORDS = 256,     /* a larger request takes whole pages, in a row */
+    MPHEAP_MAX_REQUEST_WORDS = 16384,
+    MPHEAP_SLOTS = 16,
+    MPHEAP_REGISTERS = 16,
+    MPHEAP_STACK_WORDS = 256,
+    MPHEAP_GLOBALS = 64
+};
+
+/* ---- A heap ---- */
+
+/* Opens a heap of so many pages: about 4.2 KB of memory for each, and 150 KB. BAD_PAGES, NO_MEMORY: *heap stays closed. */
+uint32_t mpheap_open(uint32_t pages, mpheap *heap);
+
+/* The same, with the heap's words at their own addresses, MPHEAP_FIRST_ADDRESS and on. A process has at most one such heap at
+ * a time. BAD_PAGES, SECOND, RANGE_TAKEN, NO_MEMORY: *heap stays closed, and nothing is mapped. */
+uint32_t mpheap_open_mapped(uint32_t pages, mpheap *heap);
+
+/* Frees all of it; *heap is then closed. */
+void mpheap_close(mpheap *heap);
+
+/* ---- Mutators: slots 0 to 15, each with 16 registers and a stack of words ---- */
+
+/* A mutator comes, into the lowest slot that has none, with registers of 0 and an empty stack. NO_SLOT: all have one. */
+uint32_t mpheap_attach(mpheap *heap, uint8_t *slot);
+
+/* The mutator goes, and its registers and stack are roots no more. */
+uint32_t mpheap_detach(mpheap *heap, uint8_t slot);
+
+/* Register `into` becomes the number. */
+uint32_t mpheap_set(mpheap *heap, uint8_t slot, uint8_t into, uint64_t number);
+
+/* Register `into` becomes what `from` is. */
+uint32_t mpheap_copy(mpheap *heap, uint8_t slot, uint8_t into, uint8_t from);
+
+/* Register `into` becomes `from` plus the number, modulo 2^64. */
+uint32_t mpheap_add(mpheap *heap, uint8_t slot, uint8_t into, uint8_t from, uint64_t number);
+
+/* Register `into` becomes `from` minus `less`, modulo 2^64. */
+uint32_t mpheap_sub(mpheap *heap, uint8_t slot, uint8_t into, uint8_t from, uint8_t less);
+
+/* *word becomes what register `from` is. */
+uint32_t mpheap_get(mpheap *heap, uint8_t slot, uint8_t from, uint64_t *word);
+
+/* Register `from` goes on the stack. STACK_FULL. */
+uint32_t mpheap_push(mpheap *heap, uint8_t slot, uint8_t from);
+
+/* The top of the stack goes into register `into`, and into *word. STACK_EMPTY. */
+uint32_t mpheap_pop(mpheap *heap, uint8_t slot, uint8_t into, uint64_t *word);
+
+/* Register `into` becomes the global, and *word too. */
+uint32_t mpheap_gget(mpheap *heap, uint8_t slot, uint8_t into, uint8_t global, uint64_t *word);
+
+/* The global becomes what register `from` is. */
+uint32_t mpheap_gput(mpheap *heap, uint8_t slot, uint8_t global, uint8_t from);
+
+/* ---- Objects ---- */
+
+/* A new object of at least so many words, all 0, whose base goes into register `into`. Up to MPHEAP_MAX_SMALL_WORDS it has
+ * the words of the least size class that holds it (2, 4, 6, 8, 12, 16, 24, 32, 48, 64, 96, 128, 256), else whole pages.
+ * BAD_SIZE, FULL: the register stays. */
+uint32_t mpheap_alloc(mpheap *heap, uint8_t slot, uint8_t into, uint64_t words);
+
+/* The same of an object whose words the collector never reads: for text, numbers and other bytes. */
+uint32_t mpheap_alloc_pointer_free(mpheap *heap, uint8_t slot, uint8_t into, uint64_t words);
+
+/* As mpheap_alloc, and *base becomes the base. */
+uint32_t mpheap_alloc_base(mpheap *heap, uint8_t slot, uint8_t into, uint64_t words, uint64_t *base);
+
+/* As mpheap_alloc_pointer_free, and *base becomes the base. */
+uint32_t mpheap_alloc_pointer_free_base(mpheap *heap, uint8_t slot, uint8_t into, uint64_t words, uint64_t *base);
+
+/* The object whose base is in register `base` goes, whatever still points into it. NO_OBJECT, NOT_BASE. */
+uint32_t mpheap_free(mpheap *heap, uint8_t slot, uint8_t base);
+
+/* The word `offset` words behind the address in register `at` goes into register `into`, and into *word. MISALIGNED,
+ * NO_OBJECT. */
+uint32_t mpheap_load(mpheap *heap, uint8_t slot, uint8_t into, uint8_t at, uint64_t offset, uint64_t *word);
+
+/* The word `offset` words behind the address in register `at` becomes what register `from` is. MISALIGNED, NO_OBJECT. */
+uint32_t mpheap_store(mpheap *heap, uint8_t slot, uint8_t at, uint64_t offset, uint8_t from);
+
+/* Register `into` becomes the base of the object that register `from` points into, and *word too. NO_OBJECT. */
+uint32_t mpheap_base(mpheap *heap, uint8_t slot, uint8_t into, uint8_t from, uint64_t *word);
+
+/* *count becomes the words of the object that register `from` points into. NO_OBJECT. */
+uint32_t mpheap_size(mpheap *heap, uint8_t slot, uint8_t from, uint64_t *count);
+
+/* The base and the words of the kept object that a word points into. An object is kept until a free, a finish or a collect
+ * takes it. NO_OBJECT. */
+uint32_t mpheap_kept_at(mpheap *heap, uint64_t word, uint64_t *base, uint64_t *words);
+
+/* ---- The collector ---- */
+
+/* Forgets exactly the objects that are not reached, at once and in any phase; a cycle that is marking is dropped. *count
+ * becomes how many. Always done. */
+uint32_t mpheap_collect(mpheap *heap, uint64_t *count);
+
+/* A cycle in small steps: begin; roots; marks and retraces, in any order and as often as one likes; finish. */
+
+/* A cycle begins to mark. The pages that are still to be swept are swept first. WRONG_PHASE: one is marking. */
+uint32_t mpheap_begin(mpheap *heap);
+
+/* What root words point into is marked. WRONG_PHASE, as in the next three: no cycle is marking. */
+uint32_t mpheap_roots(mpheap *heap);
+
+/* At most `most` words of marked objects are read, and what they point into is marked. *count becomes how many were read:
+ * fewer than `most` only where none is left. */
+uint32_t mpheap_mark(mpheap *heap, uint64_t most, uint64_t *count);
+
+/* The lowest dirty page (one that was written since it was read) is read again, at most 512 words. *count becomes 1, or 0
+ * where no page is dirty. */
+uint32_t mpheap_retrace(mpheap *heap, uint64_t *count);
+
+/* The cycle ends: roots are read again, what is left is marked, and each object that is not marked is forgotten. *count
+ * becomes how many. The less is left to mark, the shorter this pause. */
+uint32_t mpheap_finish(mpheap *heap, uint64_t *count);
+
+/* The cells of forgotten objects on one page become free (an allocation does this too, when it needs them). *count becomes 1,
+ * or 0 where no page was left. Always done. */
+uint32_t mpheap_sweep(mpheap *heap, uint64_t *count);
+
+/* How many finishes and collects were done, modulo 2^64. */
+uint64_t mpheap_gc_no(mpheap *heap);
+
+/* Whether a cycle is marking. */
+bool mpheap_is_marking(mpheap *heap);
+
+/* ---- Figures to pace the collector by. They change nothing. ---- */
+
+/* How many pages have no object, and no cell that is still to be swept. */
+uint32_t mpheap_free_pages(mpheap *heap);
+
+/* How many pages are dirty: so many retraces have something to read. */
+uint32_t mpheap_dirty_pages(mpheap *heap);
+
+/* How many pages are still to be swept. */
+uint32_t mpheap_pending_pages(mpheap *heap);
+
+/* ---- WORDS BY POINTERS, in a heap that mpheap_open_mapped opened ----
+ *
+ * Any word of a kept object may be read at any time between calls. To write, this is owed, and it is all:
+ *
+ *   Between calls, any 64-bit word may be put at any 8-aligned address of an object that is kept at that moment; and while a
+ *   cycle is marking, if the object is not pointer-free and the word lies in the heap's range of addresses, the address was
+ *   told by mpheap_written first, after the last mpheap_begin, mpheap_retrace, mpheap_finish or mpheap_collect.
+ *
+ * (A byte that is written is its word written. A write through a dangling pointer, into a forgotten object or a free cell,
+ * may break the heap's own lists.) Such writes are then stores to the heap, as if by mpheap_store. */
+
+/* Tells that the word at an address will be written by a pointer: while a cycle is marking, its page becomes dirty. An
+ * address outside of the heap is ignored. */
+void mpheap_written(mpheap *heap, uint64_t address);
+
+/* The same of each word of so many bytes at an address, all of one object. */
+static inline void mpheap_written_range(mpheap *heap, uint64_t address, uint64_t bytes) {
+    uint64_t page = address / MPHEAP_PAGE_BYTES, end = (address + bytes + MPHEAP_PAGE_BYTES - 1) / MPHEAP_PAGE_BYTES;
+    for (; bytes != 0 && page < end; page++) mpheap_written(heap, page * MPHEAP_PAGE_BYTES);
+}
+
+/* The pages that need no telling now: all while no cycle is marking, and those that were told since a call last cleaned one.
+ * mpheap_tells_anew sets it, after an open and after each begin, retrace, finish and collect; then mpheap_write tells a page
+ * once, at a test of one byte for each further write. */
+typedef struct mpheap_told {
+    uint8_t pages[MPHEAP_MAX_PAGES];
+} mpheap_told;
+
+static inline void mpheap_tells_anew(mpheap *heap, mpheap_told *told) {
+    memset(told->pages, !mpheap_is_marking(heap), sizeof told->pages);
+}
+
+/* To be called before a write to a word of the mapped heap. */
+static inline void mpheap_before_write(mpheap *heap, mpheap_told *told, const void *at) {
+    uint64_t address = (uint64_t)(uintptr_t)at, page = (address - MPHEAP_FIRST_ADDRESS) / MPHEAP_PAGE_BYTES;
+    if (told->pages[page] == 0) {
+        mpheap_written(heap, address);
+        told->pages[page] = 1;
+    }
+}
+
+/* Writes a word of the mapped heap. */
+static inline void mpheap_write(mpheap *heap, mpheap_told *told, uint64_t *at, uint64_t word) {
+    mpheap_before_write(heap, told, at);
+    *at = word;
+}
+
+/* ---- PACE: a recipe for cycles in small steps ----
+ *
+ * Two things go wrong easily. A loop "retrace until none is dirty" never ends beside a program that writes: each cycle then
+ * runs on until the heap is full. So the rounds have to be bounded. And a program that collects only when the heap is full
+ * has its small objects on all pages, so that a large request finds no pages in a row: so a cycle has to begin by how much
+ * was allocated. mpheap_step does both. Call it every few allocations, with the words that were allocated since the last
+ * call; where an allocation answers FULL, call mpheap_collect and mpheap_paced, and try once more. */
+typedef struct mpheap_pace {
+    uint64_t begin_after; /* a cycle begins once so many words were allocated since the last one */
+    uint64_t mark_words;  /* a step reads at most so many words: more than are allocated between two steps */
+    uint32_t max_rounds;  /* so often are the pages that became dirty read again before the cycle ends */
+    uint64_t allocated;   /* words since the last cycle or collection began to forget; 0 at the start */
+    uint32_t rounds;      /* of the cycle that is marking; 0 at the start */
+} mpheap_pace;
+
+/* A pace that suits a heap of so many pages. */
+static inline mpheap_pace mpheap_pace_of(uint32_t pages) {
+    mpheap_pace pace;
+    pace.begin_after = (uint64_t)pages * MPHEAP_PAGE_WORDS / 4;
+    pace.mark_words = 512;
+    pace.max_rounds = 4;
+    pace.allocated = 0;
+    pace.rounds = 0;
+    return pace;
+}
+
+/* To be called after a mpheap_collect of one's own. */
+static inline void mpheap_paced(mpheap_pace *pace) {
+    pace->allocated = 0;
+    pace->rounds = 0;
+}
+
+/* One step of the collector. Answers whether it ended a cycle, and how many objects went. (Where words are written by
+ * pointers, mpheap_tells_anew has to follow each step.) */
+static inline bool mpheap_step(mpheap *heap, mpheap_pace *pace, uint64_t allocated, uint64_t *gone) {
+    uint64_t count = 0;
+    uint32_t dirty;
+    pace->allocated += allocated;
+    if (!mpheap_is_marking(heap)) {
+        if (pace->allocated < pace->begin_after) {
+            mpheap_sweep(heap, &count);
+        } else {
+            mpheap_begin(heap);
+            mpheap_roots(heap);
+            pace->rounds = 0;
+        }
+        return false;
+    }
+    mpheap_mark(heap, pace->mark_words, &count);
+    if (count == pace->mark_words) return false;
+    dirty = mpheap_dirty_pages(heap);
+    if (dirty > 1 && pace->rounds < pace->max_rounds) {
+        pace->rounds++;
+        for (; dirty != 0; dirty--) mpheap_retrace(heap, &count);
+        return false;
+    }
+    mpheap_finish(heap, gone);
+    mpheap_paced(pace);
+    return true;
+}
+
+#ifdef __cplusplus
+}
+#endif
+#endif

@@ -1,0 +1,264 @@
+/* What stands round the write barrier: system calls that write into the heap, faults that are not the barrier's, other threads, other
+ * stacks, children. -DWITHOUT_SYSCALLS where the library is the archive, which has no functions of the C library. */
+#define _GNU_SOURCE
+#include <errno.h>
+#include <fcntl.h>
+#include <pthread.h>
+#include <setjmp.h>
+#include <signal.h>
+#include <stdint.h>
+#include <sys/socket.h>
+#include <sys/uio.h>
+#include "gc.h"
+#include "check.h"
+
+enum { COUNT = 400 };
+static char *ordinary[COUNT], *atomic[COUNT];
+
+/* A cycle marks, and pages of ordinary objects are closed. */
+static void begin(void)
+{
+    for (int k = 0; k < COUNT; k++) {
+        ordinary[k] = GC_malloc(2000);
+        atomic[k] = GC_malloc_atomic(2000);
+    }
+    GC_gcollect();
+    GC_start_incremental_collection();
+}
+
+static void end(void)
+{
+    while (GC_collect_a_little()) continue;
+}
+
+static int file_of(const char *text)
+{
+    int ends[2];
+    if (pipe(ends) != 0) return -1;
+    if (write(ends[1], text, strlen(text)) < 0) return -1;
+    close(ends[1]);
+    return ends[0];
+}
+
+/* Whether the way of reading puts the text there. */
+static int reads(ssize_t (*way)(int, char *), char *into)
+{
+    int file = file_of("from the kernel");
+    ssize_t n = way(file, into);
+    close(file);
+    return n == 15 && memcmp(into, "from the kernel", 15) == 0;
+}
+
+static ssize_t by_read(int file, char *into) { return read(file, into, 2000); }
+static ssize_t by_readv(int file, char *into)
+{
+    struct iovec parts[2] = { { into, 4 }, { into + 4, 500 } };
+    return readv(file, parts, 2);
+}
+static ssize_t by_fread(int file, char *into)
+{
+    FILE *stream = fdopen(dup(file), "r");
+    setvbuf(stream, NULL, _IONBF, 0);
+    size_t n = fread(into, 1, 15, stream);
+    fclose(stream);
+    return (ssize_t)n;
+}
+static ssize_t by_fread_unlocked(int file, char *into)
+{
+    FILE *stream = fdopen(dup(file), "r");
+    size_t n = fread_unlocked(into, 1, 1999, stream);
+    fclose(stream);
+    return (ssize_t)n;
+}
+
+static void system_calls(void)
+{
+    static ssize_t (*const ways[])(int, char *) = { by_read, by_readv, by_fread, by_fread_unlocked };
+    begin();
+    for (int k = 0; k < 4; k++) {
+#ifndef WITHOUT_SYSCALLS
+        CHECK(reads(ways[k], ordinary[10 * k]));
+        CHECK(reads(ways[k], ordinary[10 * k] + 1000));
+#endif
+        CHECK(reads(ways[k], atomic[10 * k]));
+    }
+#ifndef WITHOUT_SYSCALLS
+    int ends[2];
+    CHECK(socketpair(AF_UNIX, SOCK_DGRAM, 0, ends) == 0 && send(ends[0], "by socket", 10, 0) == 10);
+    CHECK(recv(ends[1], ordinary[100], 2000, 0) == 10 && strcmp(ordinary[100], "by socket") == 0);
+    CHECK(send(ends[0], "by socket", 10, 0) == 10);
+    CHECK(recvfrom(ends[1], ordinary[120], 2000, 0, NULL, NULL) == 10 && strcmp(ordinary[120], "by socket") == 0);
+    int file = open("/proc/self/exe", O_RDONLY);
+    CHECK(pread(file, ordinary[130], 100, 1) == 100 && memcmp(ordinary[130], "ELF", 3) == 0);
+    CHECK(pread64(file, ordinary[140], 100, 1) == 100 && memcmp(ordinary[140], "ELF", 3) == 0);
+    close(file);
+#endif
+    end();
+    /* What the kernel wrote over is still written to and collected as ever. */
+    *(void **)(void *)ordinary[10] = GC_malloc(50);
+    GC_gcollect();
+    CHECK(GC_base(*(void **)(void *)ordinary[10]) != NULL);
+}
+
+static sigjmp_buf back;
+static void *fault_address;
+static volatile int plain_faults;
+
+static void on_fault_told(int number, siginfo_t *info, void *context)
+{
+    (void)number;
+    (void)context;
+    fault_address = info->si_addr;
+    siglongjmp(back, 1);
+}
+static void on_fault_plain(int number)
+{
+    (void)number;
+    plain_faults++;
+    siglongjmp(back, 1);
+}
+
+static int *volatile nowhere = (int *)64;
+
+static int faults(void)
+{
+    if (sigsetjmp(back, 1) == 0) {
+        *nowhere = 1;
+        return 0;
+    }
+    return 1;
+}
+
+static int dies(void)
+{
+    signal(SIGSEGV, SIG_DFL);
+    begin();
+    *nowhere = 1;
+    return 0;
+}
+
+static void foreign_faults(void)
+{
+    struct sigaction told = { .sa_sigaction = on_fault_told, .sa_flags = SA_SIGINFO };
+    begin();
+    CHECK(faults() && plain_faults == 1); /* the handler from before GC_init */
+    end();
+    sigaction(SIGSEGV, &told, NULL);
+    begin();
+    CHECK(faults() && fault_address == nowhere); /* the one that was set since */
+    sigset_t blocked;
+    pthread_sigmask(SIG_SETMASK, NULL, &blocked);
+    CHECK(!sigismember(&blocked, SIGUSR1) && !sigismember(&blocked, SIGSEGV));
+    for (int k = 0; k < COUNT; k++) *(void **)(void *)ordinary[k] = ordinary[(k + 7) % COUNT];
+    CHECK(*(void **)(void *)ordinary[3] == ordinary[10]);
+    end();
+    int status;
+    fflush(stdout);
+    pid_t child = fork();
+    if (child == 0) _exit(dies());
+    waitpid(child, &status, 0);
+    CHECK(WIFSIGNALED(status) && WTERMSIG(status) == SIGSEGV);
+}
+
+static void keeps_errno(void)
+{
+    begin();
+    for (int k = 0; k < COUNT; k++) {
+        errno = 77;
+        ordinary[k][0] = 1;
+        CHECK(errno == 77);
+    }
+    end();
+}
+
+static void *asks(void *unused)
+{
+    (void)unused;
+    return GC_malloc(10);
+}
+static void *writes(void *unused)
+{
+    (void)unused;
+    ordinary[300][0] = 1;
+    return NULL;
+}
+static void in_thread(void *(*body)(void *))
+{
+    pthread_t thread;
+    pthread_create(&thread, NULL, body, NULL);
+    pthread_join(thread, NULL);
+}
+static void second_asks(void) { in_thread(asks); }
+static void second_writes(void)
+{
+    begin();
+    in_thread(writes);
+}
+
+static char other_stack[100000];
+static void collects(int number)
+{
+    (void)number;
+    GC_gcollect();
+}
+static void on_other_stack(void)
+{
+    stack_t stack = { .ss_sp = other_stack, .ss_size = sizeof other_stack };
+    struct sigaction action = { .sa_handler = collects, .sa_flags = SA_ONSTACK };
+    sigaltstack(&stack, NULL);
+    sigaction(SIGUSR1, &action, NULL);
+    raise(SIGUSR1);
+}
+
+/* A handler of the program writes into the heap between calls. */
+static volatile int rings;
+static void rings_bell(int number)
+{
+    (void)number;
+    rings++;
+    for (int k = 0; k < COUNT; k += 50) *(void **)(void *)(ordinary[k] + 8) = ordinary[(k + rings) % COUNT];
+}
+static void handlers_write(void)
+{
+    signal(SIGUSR2, rings_bell);
+    for (int round = 0; round < 20; round++) {
+        begin();
+        while (GC_collect_a_little()) raise(SIGUSR2);
+        GC_gcollect();
+        for (int k = 0; k < COUNT; k += 50) CHECK(GC_base(*(void **)(void *)(ordinary[k] + 8)) != NULL || rings == 0);
+    }
+    CHECK(rings >= 20);
+}
+
+static int child_goes_on(void)
+{
+    for (int k = 0; k < COUNT; k++) *(void **)(void *)ordinary[k] = GC_malloc(100);
+    while (GC_collect_a_little()) continue;
+    GC_gcollect();
+    for (int k = 0; k < COUNT; k++)
+        if (!GC_base(*(void **)(void *)ordinary[k])) return 1;
+    return 0;
+}
+
+static void children(void)
+{
+    begin();
+    CHECK(status_of(child_goes_on) == 0);
+    CHECK(child_goes_on() == 0);
+}
+
+int main(void)
+{
+    signal(SIGSEGV, on_fault_plain);
+    GC_INIT();
+    GC_enable_incremental();
+    foreign_faults();
+    system_calls();
+    keeps_errno();
+    CHECK(stops_with(second_asks, "one thread"));
+    CHECK(stops_with(second_writes, "a second thread wrote"));
+    CHECK(stops_with(on_other_stack, "on another stack"));
+    handlers_write();
+    children();
+    return check_ends();
+}

@@ -1,0 +1,26 @@
+#!/usr/bin/env bash
+# Tests of the page in viewer/: it is opened in browsers with each trace of viewer/examples/. It needs node 20 or later and
+# Chromium, and tries Firefox where it is there; in Debian: apt-get install nodejs chromium firefox-esr. Where node or Chromium
+# isn't there, it says that it is skipped. It takes one to two minutes, and leaves nothing behind.
+set -uo pipefail
+top=$(dirname "$(dirname "$(readlink -f "${BASH_SOURCE[0]}")")")
+for tool in node "${CHROMIUM:-chromium}"; do
+    if ! command -v "$tool" >/dev/null; then
+        echo "viewer: skipped: there is no $tool"
+        exit 0
+    fi
+done
+if ! node -e 'process.exit(Number(process.versions.node.split(".")[0]) < 20)'; then
+    echo "viewer: skipped: node $(node --version) is older than 20"
+    exit 0
+fi
+room=$(mktemp -d)
+child=
+trap '[ -z "$child" ] || kill "$child" 2>/dev/null; wait; rm -rf "$room"' EXIT
+trap 'exit 143' INT TERM HUP
+TMPDIR=$room timeout 600 node "$top/viewer/test.mjs" &
+child=$!
+wait "$child"
+status=$?
+child=
+exit "$status"

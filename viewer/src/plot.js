@@ -1,0 +1,166 @@
+'use strict';
+// The plot: bands of their own scale above one axis, the lines of the script.
+
+let plot = null; // {x0, x1, width, step, columns, bands, height}
+
+function plotBands(isNarrow) {
+  const also = run.everCarried ? 'carried' : null;
+  const dirty = also && !isNarrow ? 'dirty, carried pages' : 'dirty pages';
+  return [
+    { h: 44, isArea: true, name: 'taken' },
+    { h: 21, name: 'marked', text: 'marked objects' },
+    { h: 17, name: 'entries', text: isNarrow ? 'entries' : 'mark stack entries' },
+    { h: 17, name: 'dirty', text: dirty, look: 'serd', also },
+    { h: 23, name: 'pause', text: isNarrow ? 'pause reads' : 'words read in a pause', isBars: true },
+  ];
+}
+
+const greatest = (values) => values.reduce((most, value) => (value > most ? value : most), 0);
+
+// Makes the plan of the plot for a width: its bands stand below each other, four apart.
+function planPlot(width) {
+  const isNarrow = width < 700;
+  const x0 = isNarrow ? 108 : 182;
+  const x1 = width - (isNarrow ? 58 : 74);
+  const slots = run.last + 1;
+  let y = 4;
+  const bands = plotBands(isNarrow).map((band) => {
+    const top = y;
+    y += band.h + 4;
+    const also = band.also ? greatest(run.series[band.also]) : 0;
+    return { ...band, y: top, most: Math.max(1, greatest(run.series[band.name]), also) };
+  });
+  const columns = Math.max(1, Math.min(slots, Math.floor(x1 - x0)));
+  return { isNarrow, x0, x1, width: x1 - x0, step: (x1 - x0) / slots, slots, columns, bands, height: y };
+}
+
+// the greatest value among the lines of a column
+function mostIn(values, column) {
+  const per = plot.slots / plot.columns;
+  const from = Math.floor(column * per);
+  const to = Math.max(from + 1, Math.floor((column + 1) * per));
+  return greatest(values.subarray(from, to));
+}
+
+const columnX = (column) => +(plot.x0 + (column * plot.width) / plot.columns).toFixed(2);
+
+// the height of a column's value in a band
+const valueY = (values, column, { y, h, most }) => +(y + h - (h * mostIn(values, column)) / most).toFixed(1);
+
+// the steps of a series, as points from left to right
+function stepPoints(values, band) {
+  const points = [];
+  for (let column = 0; column < plot.columns; column++) {
+    const y = valueY(values, column, band);
+    points.push([columnX(column), y], [columnX(column + 1), y]);
+  }
+  return points;
+}
+
+const joined = (points) => 'M' + points.map((point) => point.join(' ')).join('L');
+
+const between = (low, high) => joined(high.concat(low.slice().reverse())) + 'z';
+
+function drawPlot() {
+  const svg = $('plot');
+  const width = svg.parentNode.clientWidth - (window.innerWidth <= 900 ? 16 : 28);
+  plot = planPlot(width);
+  const content = DEFS + drawPhases() + plot.bands.map(drawBand).join('') + drawAxis() + '<g id="g-cursor"></g>';
+  fill(svg, width, plot.height + 12, content);
+}
+
+// where a cycle is marking
+function drawPhases() {
+  const { phase } = run.series;
+  let shades = '';
+  let from = -1;
+  for (let i = 0; i <= plot.slots; i++) {
+    const isOn = i < plot.slots && phase[i] > 0;
+    if (isOn && from < 0) from = i;
+    if (isOn || from < 0) continue;
+    shades += box(plot.x0 + from * plot.step, 4, Math.max(0.5, (i - from) * plot.step), plot.height - 4);
+    from = -1;
+  }
+  return path('phase', shades);
+}
+
+function drawBand(band) {
+  const { y, h, name, most } = band;
+  const values = run.series[name];
+  const hasAny = band.isArea || band.also || values.some((value) => value);
+  return path('rule', `M${plot.x0} ${y + h + 0.5}H${plot.x1}`) +
+    (band.isArea ? drawAreas(band) : label(0, y + h - 2, '', band.text) + drawSeries(band, values)) +
+    (hasAny ? label(plot.x0 - 4, y + 8, 'soft end mono', grouped(most)) : '');
+}
+
+function drawSeries(band, values) {
+  if (band.isBars) return drawBars(band, values);
+  const also = band.also ? path('serc', joined(stepPoints(run.series[band.also], band))) : '';
+  return path(band.look || 'ser', joined(stepPoints(values, band))) + also;
+}
+
+function drawBars(band, values) {
+  let bars = '';
+  for (let column = 0; column < plot.columns; column++) {
+    const value = mostIn(values, column);
+    if (!value) continue;
+    const x = (columnX(column) + plot.width / plot.columns / 2).toFixed(1);
+    bars += `M${x} ${band.y + band.h}v${-((band.h * value) / band.most).toFixed(1)}`;
+  }
+  return path('bar', bars);
+}
+
+// words reached, allocated and taken, above each other
+function drawAreas(band) {
+  const { y, h } = band;
+  const [reached, kept, taken] = ['reached', 'kept', 'taken'].map((name) => stepPoints(run.series[name], band));
+  const ground = [[plot.x0, y + h], [plot.x1, y + h]];
+  const key = (look, top, text) => path(look, box(0.5, top, 9, 8)) + label(15, top + 8.5, '', text);
+  return path('live', between(ground, reached)) +
+    path('garb', between(reached, kept)) +
+    path('wait', between(kept, taken)) +
+    key('live', y + 30, plot.isNarrow ? 'live' : 'live (reached)') +
+    key('garb', y + 15, plot.isNarrow ? 'floating' : 'allocated, not live') +
+    key('wait', y, plot.isNarrow ? 'to sweep' : 'forgotten, not swept');
+}
+
+function drawAxis() {
+  const y = plot.height + 9;
+  const middle = label((plot.x0 + plot.x1) / 2, y, 'soft mid', 'lines of the script; shaded: a cycle is marking');
+  return label(plot.x0, y, 'soft', 'line 0') +
+    label(plot.x1, y, 'soft end', grouped(run.last)) +
+    (plot.isNarrow ? '' : middle);
+}
+
+// -- the cursor, and each series' value there
+
+function drawCursor() {
+  const i = run.at;
+  const x = plot.x0 + (i + 0.5) * plot.step;
+  const band = box(plot.x0 + i * plot.step, 4, plot.step, plot.height - 4);
+  $('g-cursor').innerHTML = (plot.step > 3 ? path('cursorband', band) : '') +
+    path('cursor', `M${x.toFixed(1)} 2V${plot.height}`) +
+    plot.bands.map((b) => (b.isArea ? drawAreaValues(b, i) : drawValue(b, i))).join('');
+}
+
+const valueLabel = (y, text) => label(plot.x1 + 6, y, 'mono b', text);
+
+function drawAreaValues({ y, h }, i) {
+  const { reached, kept, taken } = run.series;
+  const middle = y + h / 2;
+  const waiting = taken[i] - kept[i];
+  return valueLabel(middle - 11, waiting ? grouped(waiting) : '') +
+    valueLabel(middle + 3, grouped(kept[i] - reached[i])) +
+    valueLabel(middle + 18, grouped(reached[i]));
+}
+
+function drawValue({ y, h, name, also, isBars }, i) {
+  const value = run.series[name][i];
+  const text = also ? `${value}, ${run.series[also][i]}` : isBars && !value ? '' : grouped(value);
+  return valueLabel(y + h - 3, text);
+}
+
+// the line at a point of the plot; null left of it
+function lineAt(x) {
+  return x >= plot.x0 - 4 ? Math.floor((x - plot.x0) / plot.step) : null;
+}

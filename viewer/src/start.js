@@ -1,0 +1,91 @@
+'use strict';
+// The beginning: the trace is read, everything is given its size, and the page listens.
+
+function size() {
+  const isNarrow = window.innerWidth <= 900;
+  const width = Math.max(300, $('right').clientWidth - (isNarrow ? 16 : 28));
+  const legend = drawLegend(width);
+  fill($('legend'), width, view.legendHeight, DEFS + legend);
+  drawPlot();
+  const scroll = $('scroll');
+  const bar = scroll.offsetWidth - scroll.clientWidth ? 0 : 12; // room for a scroll bar that comes
+  plan = makePlan(width - bar, scroll.clientHeight - 6);
+  drawScene(true);
+  drawCursor();
+  showRow();
+}
+
+function listenToControls() {
+  $('slider').addEventListener('input', () => go(+$('slider').value));
+  $('first').onclick = () => go(0);
+  $('back').onclick = () => go(run.at - 1);
+  $('next').onclick = () => go(run.at + 1);
+  $('last').onclick = () => go(run.last);
+  $('play').onclick = () => play(!playing);
+  $('save').onclick = save;
+  $('help').onclick = () => $('keys').showModal();
+  $('arrows').onchange = () => {
+    $('arrows').blur();
+    drawOver();
+  };
+  document.addEventListener('keydown', onKey);
+}
+
+function listenToPictures() {
+  $('list').addEventListener('scroll', drawList);
+  $('rows').addEventListener('click', (event) => {
+    const row = event.target.closest('.row');
+    if (row) go(+row.dataset.i);
+  });
+  $('plot').addEventListener('click', (event) => {
+    const line = lineAt(event.clientX - $('plot').getBoundingClientRect().left);
+    if (line !== null) go(line);
+  });
+  $('scene').addEventListener('mousemove', onMove);
+  $('scene').addEventListener('mouseleave', () => hover(null));
+  $('scene').addEventListener('click', onClick);
+  $('scroll').addEventListener('scroll', followScroll);
+}
+
+function listenToWindow() {
+  let sizing = 0;
+  window.addEventListener('resize', () => {
+    cancelAnimationFrame(sizing);
+    sizing = requestAnimationFrame(size);
+  });
+  window.addEventListener('hashchange', () => {
+    const line = lineOfAddress();
+    if (line !== null && line !== run.at) go(line, true);
+  });
+  window.addEventListener('beforeprint', () => {
+    setShift(0);
+    redrawRoots();
+  });
+  window.addEventListener('afterprint', followScroll);
+}
+
+function start() {
+  run = new Run($('trace').textContent);
+  heap = run.heap;
+  document.title = run.about.title + ': a run of the heap';
+  $('title').textContent = run.about.title;
+  $('slider').max = run.last;
+  $('list').style.setProperty('--digits', `${Math.max(3, String(run.last).length + 1)}ch`);
+  $('rows').style.height = `${(run.last + 1) * ROW}px`;
+  run.go(0);
+  size();
+  go(lineOfAddress() ?? 0, true);
+  listenToControls();
+  listenToPictures();
+  listenToWindow();
+}
+
+document.addEventListener('DOMContentLoaded', () => {
+  try {
+    start();
+  } catch (error) {
+    $('say').textContent = 'This page has no readable trace: ' + error.message;
+    throw error;
+  }
+  window.viewer = { go, run, heap, whole: () => wholeState(heap), picture, at: () => run.at };
+});

@@ -1,0 +1,285 @@
+// What is tried of one page. Each test is a function of the page and its trace; it throws where the page is wrong.
+import assert from 'node:assert/strict';
+import { sleep } from './chromium.mjs';
+import { fold } from './fold.mjs';
+
+const STEP_BOUND = 50; // milliseconds
+
+// The trace as the tests see it, with its states after some lines that a walk back and forth comes by.
+export function read(text) {
+  const [about, ...lines] = text.trim().split('\n').map((line) => JSON.parse(line));
+  const n = lines.length;
+  const parts = [0, 1, 17, n, n / 2, n / 3, n - 1, 2, (n * 3) / 4, n, 5, n / 5];
+  const fulls = lines.flatMap((record, i) => (record.full ? [i + 1] : []));
+  const walk = [...parts.map(Math.floor).filter((i) => i >= 0 && i <= n), ...fulls, ...fulls.toReversed()];
+  return { about, lines, n, walk, states: fold(lines, new Set(walk)) };
+}
+
+const at = (page) => page.run('viewer.at()');
+const is = async (page, line, what) => assert.equal(await at(page), line, what);
+
+async function addresses(page, { n }) {
+  await page.run('viewer.go(1)');
+  await page.key('End');
+  await sleep(300);
+  assert.equal(await page.run('location.hash'), `#line=${n}`, 'the address follows');
+  await page.run('location.hash = "#line=2"');
+  await sleep(60);
+  await is(page, 2, 'the address leads');
+}
+
+async function keys(page, { n }) {
+  const press = async (key, line) => {
+    await page.key(key);
+    await is(page, line, key);
+  };
+  await press('Home', 0);
+  await press('ArrowRight', 1);
+  await press('j', 2);
+  await press('ArrowDown', 3);
+  await press('ArrowLeft', 2);
+  await press('k', 1);
+  await press('End', n);
+  await press('ArrowRight', n);
+  await press('Home', 0);
+  await press('PageDown', Math.min(10, n));
+  await press('PageUp', 0);
+}
+
+async function collectorKeys(page, { lines }) {
+  const first = lines.findIndex(({ c }) => c.startsWith('gc ')) + 1;
+  await page.run('viewer.go(0)');
+  await page.key(']');
+  await is(page, first, 'the first line of the collector');
+  await page.key('[');
+  await is(page, first, 'there is none before it');
+}
+
+async function controls(page, { n }) {
+  await page.run(`$('slider').value = 3; $('slider').dispatchEvent(new Event('input'))`);
+  await is(page, 3, 'the slider');
+  const row = `document.querySelector('.row[data-i="1"]').getBoundingClientRect()`;
+  await page.click(...(await page.run(`[${row}.left + 60, ${row}.top + 8]`)));
+  await is(page, 1, 'a click in the list');
+  const box = `$('plot').getBoundingClientRect()`;
+  await page.click(...(await page.run(`[${box}.left + plot.x0 + (${n} + 0.5) * plot.step, ${box}.top + 20]`)));
+  assert.ok(Math.abs((await at(page)) - n) <= 1 + n / 400, 'a click in the plot');
+}
+
+async function plays(page) {
+  await page.key('Home');
+  await page.key(' ');
+  await sleep(1500);
+  await page.key(' ');
+  const played = await at(page);
+  assert.ok(played >= 1, 'it plays');
+  await sleep(300);
+  await is(page, played, 'it stops');
+}
+
+const SEEN_ROW = `['n', 'c', 'r'].map((name) => document.querySelector('.row.at .' + name).textContent)`;
+
+async function states(page, { walk, states, lines }) {
+  for (const i of walk) {
+    await page.run(`viewer.go(${i})`);
+    const state = JSON.parse(await page.run('JSON.stringify(viewer.whole())'));
+    assert.deepEqual(state, states.get(i), `the state after line ${i}`);
+    const full = i && lines[i - 1].full;
+    if (full) assert.deepEqual(state, sorted(full), `the whole state in line ${i}`);
+  }
+}
+
+function sorted({ births, ...full }) {
+  const byFirst = (a, b) => a[0] - b[0];
+  return { ...full, mutators: [...full.mutators].sort(byFirst), links: [...full.links].sort(byFirst) };
+}
+
+async function rows(page, { walk, states, lines }) {
+  for (const i of walk) {
+    await page.run(`viewer.go(${i})`);
+    const seen = await page.run(SEEN_ROW);
+    assert.equal(seen[0], String(i));
+    if (i) assert.deepEqual(seen.slice(1), [lines[i - 1].c, lines[i - 1].r.replace(/^refused (\d+) /, '$1 ')]);
+    const facts = await page.run(`$('facts').textContent`);
+    assert.ok(facts.includes(states.get(i).phase ? 'marking' : 'idle'), `line ${i}: ${facts}`);
+  }
+}
+
+// Each cell of the pages answers to the pointer with its own object.
+const MISSED = `(() => {
+  const scene = $('scene').getBoundingClientRect();
+  const missed = [];
+  for (const object of [...heap.objects.values()].slice(0, 2000)) {
+    const s = spot(object.place);
+    const found = s && under({ clientX: scene.left + s.x + 1, clientY: scene.top + s.y + 3 });
+    if (s && found?.place !== object.place) missed.push([object.place, found]);
+  }
+  return missed.slice(0, 5);
+})()`;
+
+async function pointed(page, { walk }) {
+  for (const i of walk) {
+    await page.run(`viewer.go(${i})`);
+    assert.deepEqual(await page.run(MISSED), [], `objects under the pointer after line ${i}`);
+  }
+}
+
+const SEEN_OBJECT = `(() => {
+  $('scroll').scrollTop = 0;
+  const scene = $('scene').getBoundingClientRect();
+  const bottom = $('scroll').getBoundingClientRect().bottom;
+  for (const object of heap.objects.values()) {
+    const s = object.forgotten ? null : spot(object.place);
+    if (s && scene.top + s.y + 4 < bottom) return [object.place, scene.left + s.x + 2, scene.top + s.y + 4];
+  }
+  return null;
+})()`;
+
+// how many root words and words of normal kept objects point into an object, by a count of the tests' own
+function countPointers({ globals, mutators, words, objects }, place, n) {
+  const low = 268435456 + 8 * place;
+  const isIn = (word) => typeof word === 'number' && word >= low && word < low + 8 * n;
+  const normal = objects.filter(([, , , kind, isGone]) => !kind && !isGone);
+  const isRead = (i) => normal.some(([base, , size]) => i >= base && i < base + size);
+  const roots = [...globals.map(([, word]) => word), ...mutators.flatMap(([, regs, stack]) => [...regs, ...stack])];
+  return roots.filter(isIn).length + words.filter(([i, word]) => isIn(word) && isRead(i)).length;
+}
+
+async function inspected(page, { n, states }) {
+  const i = Math.floor(n / 2);
+  await page.run(`viewer.go(${i})`);
+  const seen = await page.run(SEEN_OBJECT);
+  if (!seen) return;
+  const [place, x, y] = seen;
+  const state = states.get(i);
+  const [, birth, words, kind] = state.objects.find(([base]) => base === place);
+  await page.click(x, y);
+  const said = await page.run(`$('info').innerText`);
+  const isMarked = state.marked.includes(place);
+  const wanted = [`#${birth}`, 268435456 + 8 * place, `page ${place >> 9}, word ${place & 511}`];
+  for (const text of [...wanted, kind ? 'atomic' : 'normal', isMarked ? 'marked' : 'not marked']) {
+    assert.ok(said.includes(String(text)), `the inspector lacks ${text}: ${said}`);
+  }
+  assert.equal(countListed(said), countPointers(state, place, words), `who points to the object: ${said}`);
+  await page.key('Escape');
+  assert.ok((await page.run(`$('info').innerText`)).startsWith(`After line ${i}`), 'the selection is let go');
+}
+
+// how many the inspector names, or says that there are more
+function countListed(said) {
+  const list = /from\s+([^]*?)\nwords/.exec(said)[1];
+  if (/nothing points/.test(list)) return 0;
+  const more = /and (\d+) more/.exec(list);
+  return list.split('; ').length + (more ? Number(more[1]) - 1 : 0);
+}
+
+// A click on a square of the map opens its page, another closes it.
+async function mapOpens(page) {
+  const square = `$('scene').getBoundingClientRect()`;
+  const point = await page.run(`[${square}.left + mapSpot(3).x + 4, ${square}.top + mapSpot(3).y + 4]`);
+  await page.click(...point);
+  assert.ok(await page.run('view.opened.includes(3)'), 'a click on the map');
+  await page.click(...point);
+  assert.ok(!(await page.run('view.pinned.has(3)')), 'a second click on the map');
+}
+
+// As many words are lit as the line says it read. A map shows only some of them.
+async function readWordsAreLit(page, { lines, about }) {
+  for (const [i, record] of lines.entries()) {
+    if (!record.looked) continue;
+    await page.run(`viewer.go(${i + 1})`);
+    const widths = await page.run(`[plan.u, document.querySelector('#g-rings .looked')?.getAttribute('d') || '']`);
+    const bars = [...widths[1].matchAll(/h([\d.]+)v[\d.]+h-/g)].map(([, w]) => Number(w));
+    const lit = bars.reduce((sum, w) => sum + Math.round((w + 2) / widths[0]), 0);
+    if (about.pages > 64) assert.ok(lit <= record.read[1], `line ${i + 1}: ${lit}`);
+    else assert.equal(lit, record.read[1], `words that are lit after line ${i + 1}`);
+  }
+}
+
+const COLUMN = `(() => {
+  const column = $('g-roots').getBoundingClientRect();
+  const seen = $('scroll').getBoundingClientRect();
+  const anchor = view.anchors.find((a) => heap.find(a.word));
+  const scene = $('scene').getBoundingClientRect();
+  return {
+    isSeen: column.top >= seen.top - 1 && column.bottom <= seen.bottom + 1,
+    click: anchor && [scene.left + anchor.x - 20, scene.top + anchor.y],
+    birth: anchor && heap.find(anchor.word).birth,
+  };
+})()`;
+
+// The roots stay in sight while the pages are scrolled, and answer to clicks where they stand.
+async function rootsStay(page, { n }) {
+  await page.run(`viewer.go(${n})`);
+  for (const top of [0, 700, 1e6]) {
+    await page.run(`$('scroll').scrollTop = ${top}`);
+    await sleep(150);
+    const { isSeen, click, birth } = await page.run(COLUMN);
+    assert.ok(isSeen, `the roots' column is in sight, scrolled to ${top}`);
+    await page.click(...click);
+    assert.ok((await page.run(`$('info').innerText`)).startsWith(`Object #${birth}`), 'a click on a root');
+    await page.key('Escape');
+  }
+}
+
+// Time of the page's thread for a step, which a busy machine doesn't change, and by the clock.
+async function steps(page, { n }) {
+  const cpu = async () => {
+    const { metrics } = await page.call('Performance.getMetrics');
+    return 1000 * metrics.find(({ name }) => name === 'TaskDuration').value;
+  };
+  await page.call('Performance.setTimeDomain', { timeDomain: 'threadTicks' });
+  await page.call('Performance.enable');
+  const count = Math.min(n, 200);
+  const from = Math.max(0, Math.floor(n * 0.9) - count);
+  const walk = (line) => page.run(`(async () => {
+    for (let k = 1; k <= ${count}; k++) {
+      viewer.go(${line});
+      document.body.getBoundingClientRect();
+      if (k % 10 === 0) await new Promise((resolve) => setTimeout(resolve));
+    }
+  })()`);
+  await walk(`${from} + k`);
+  const before = await cpu();
+  await walk(`${from + count} - k`);
+  await walk(`${from} + k`);
+  const each = ((await cpu()) - before) / (2 * count);
+  assert.ok(each < STEP_BOUND, `a step takes ${each.toFixed(1)} ms`);
+}
+
+export async function exported(page, { n }) {
+  await page.run(`viewer.go(${Math.floor(n * 0.7)})`);
+  const bad = await page.run(`(() => {
+    const text = viewer.picture();
+    const error = new DOMParser().parseFromString(text, 'image/svg+xml').querySelector('parsererror');
+    return error ? error.textContent : /var\\(--/.test(text) ? 'a variable is left' : '';
+  })()`);
+  assert.equal(bad, '', 'the SVG');
+}
+
+async function narrow(page) {
+  await page.resize(800, 900);
+  await sleep(150);
+  const wide = await page.run(
+    `[document.documentElement.scrollWidth > innerWidth, $('scroll').scrollWidth > $('scroll').clientWidth + 1]`,
+  );
+  assert.deepEqual(wide, [false, false], 'nothing is wider than 800 pixels');
+  await page.resize(1400, 900);
+}
+
+async function quiet(page) {
+  assert.deepEqual(page.errors(), [], 'the console');
+}
+
+// What is asked of each page, by the name under which it is told.
+export function testsOf({ about, lines }) {
+  const tests = { addresses, keys, controls, plays, states, rows, pointed, inspected, exported, steps, narrow };
+  if (lines.some(({ c }) => c.startsWith('gc '))) tests.collectorKeys = collectorKeys;
+  if (about.pages > 64) tests.mapOpens = mapOpens;
+  if (about.pages === 40) tests.rootsStay = rootsStay;
+  if (lines.some(({ looked }) => looked)) tests.readWordsAreLit = readWordsAreLit;
+  return { ...tests, quiet };
+}
+
+// What is asked of a page in another browser, which is driven by expressions alone.
+export const elsewhere = { states, rows, exported };

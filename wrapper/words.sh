@@ -1,0 +1,154 @@
+# shellcheck shell=sh disable=SC2034,SC2154 # (mpheap has the other names, and reads these)
+# Part of the wrapper mpheap, read by it: which word of a command line is wrong, and whether its FILE can be read. Nothing
+# that a program takes is refused here; what it refuses is refused with its own last line and its own status.
+
+# The limits of the numbers, as crates/words/src/limits.rt and crates/workloads/src/limits.rt have them.
+most_pages=1024
+most_helpers=8
+most_mutators=16
+most_steps=100000
+most_seed=18446744073709551615
+
+# options_of COMMAND: its options, which all have a number.
+options_of() {
+    case $1 in
+        run | replay | record) echo pages ;;
+        threads) echo pages helpers ;;
+        stress) echo seed mutators steps ;;
+    esac
+}
+
+may_lack() {
+    [ "$1" = helpers ]
+}
+
+# least_of OPTION, most_of OPTION: the range of its number.
+least_of() {
+    case $1 in seed | steps) echo 0 ;; *) echo 1 ;; esac
+}
+
+most_of() {
+    eval "echo \$most_$1"
+}
+
+takes_file() {
+    case $1 in stress) false ;; *) true ;; esac
+}
+
+# reads_input COMMAND: it reads standard input where it is given no FILE.
+reads_input() {
+    [ "$1" = run ]
+}
+
+# is_in A LIST: the word is one of the list.
+is_in() {
+    case " $2 " in *" $1 "*) true ;; *) false ;; esac
+}
+
+# is_number WORD LEAST MOST: the word is a number of this range in decimal, without a sign or a leading zero.
+is_number() {
+    case $1 in
+        "" | *[!0-9]* | 0?*) false ;;
+        0) [ "$2" = 0 ] ;;
+        *) [ ${#1} -lt ${#3} ] || { [ ${#1} = ${#3} ] && printf '%s\n' "$1" "$3" | LC_ALL=C sort -c 2>/dev/null; } ;;
+    esac
+}
+
+# Says what is wrong with the words, how they are used, and last what the program says of them.
+bad_words() {
+    say "$*"
+    (usage)
+    if has_one_order "$command"; then echo "$command --pages N FILE"; else echo "bad command"; fi >&2
+    exit 2
+}
+
+# look_at_option TEXT: an option without its number, as it stands behind its two dashes.
+look_at_option() {
+    is_in "$1" "$(options_of "$command")" || bad_words "'$command' has no option '--$1'"
+    is_in "$1" "$given" && bad_words "'--$1' is given twice"
+    given="$given $1"
+    option=$1
+}
+
+look_at_number() {
+    is_number "$2" "$(least_of "$1")" "$(most_of "$1")" ||
+        bad_words "'$2' is no number for '--$1': $(least_of "$1") to $(most_of "$1"), in decimal"
+    option=
+}
+
+# look_at_both TEXT: an option and its number in one word.
+look_at_both() {
+    look_at_option "${1%%=*}"
+    look_at_number "$option" "${1#*=}"
+}
+
+# look_at_place AT WORD: a word that is no option's, so it has to be FILE.
+look_at_place() {
+    takes_file "$command" || bad_words "'$command' takes no word '$2'"
+    [ "$file_at" = 0 ] || bad_words "'$2' is a second FILE, behind '$file'"
+    file_at=$1
+    file=$2
+}
+
+# has_one_order COMMAND: its words are --pages, a number and FILE, whatever FILE looks like.
+has_one_order() {
+    case $1 in replay | record) true ;; *) false ;; esac
+}
+
+look_at_order() {
+    has_one_order "$1" || return 0
+    [ "${2-}" = --pages ] || bad_words "'--pages' has to be the first word behind '$1'"
+    [ $# = 4 ] || bad_words "'$1' takes a number of pages and one FILE"
+}
+
+# Looks at all words of a command line. What is left in file_at is the place of FILE among them, 0 if there is none.
+look_at_words() {
+    command=$1 file_at=0 file='' at=0 option='' given='' are_options=yes
+    is_in "$command" "run threads stress replay record" || bad_words "'$1' is no command"
+    look_at_order "$@"
+    for word in "$@"; do
+        at=$((at + 1))
+        if [ $at = 1 ]; then
+            continue
+        elif [ -n "$option" ]; then
+            look_at_number "$option" "$word"
+        elif [ $are_options = no ] || { [ $at = 4 ] && has_one_order "$command"; }; then
+            look_at_place $at "$word"
+        else
+            case $word in
+                --) are_options=no ;;
+                --*=*) look_at_both "${word#--}" ;;
+                --*) look_at_option "${word#--}" ;;
+                -?*) bad_words "'$command' has no option '$word'" ;;
+                *) look_at_place $at "$word" ;;
+            esac
+        fi
+    done
+    look_for_missing
+}
+
+# Says which word the command lacks, if it lacks one.
+look_for_missing() {
+    [ -z "$option" ] || bad_words "'--$option' lacks its number"
+    for option in $(options_of "$command"); do
+        is_in "$option" "$given" || may_lack "$option" || bad_words "'$command' lacks '--$option'"
+    done
+    [ "$file_at" != 0 ] || ! takes_file "$command" || reads_input "$command" || bad_words "'$command' lacks its FILE"
+}
+
+# Says which file can't be read and why, and last what the program says of it.
+bad_file() {
+    say "$*"
+    echo "read fault" >&2
+    exit 1
+}
+
+look_at_file() {
+    if [ ! -e "$1" ]; then
+        bad_file "there is no file '$1'"
+    elif [ -d "$1" ]; then
+        bad_file "'$1' is a folder"
+    elif [ ! -r "$1" ]; then
+        bad_file "'$1' may not be read"
+    fi
+}
