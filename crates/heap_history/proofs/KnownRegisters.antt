@@ -6,7 +6,7 @@ use Rattle.std.proofs.lemmas.Option.{same_Some, none-some}
 use Rattle.words.specs.declared.class.Kind.{Kind}
 use Rattle.words.specs.declared.class.Kind.TheVariants.{Normal, PointerFree}
 use Rattle.heap_spec.specs.declared.call.Call.{Call}
-use Rattle.heap_spec.specs.declared.call.Call.TheVariants.{Detach, Set, Copy, Add, Sub, Get, Push, Pop, Load, Store, Alloc, Free, Base, Size, GlobalGet, GlobalPut}
+use Rattle.heap_spec.specs.declared.call.Call.TheVariants.{Detach, Set, Copy, Add, Sub, Get, Push, Pop, Load, Store, Alloc, Free, Base, Size, GlobalGet, GlobalPut, Link, Unlink}
 use Rattle.heap_spec.specs.declared.event.Event.{Event}
 use Rattle.heap_spec.specs.declared.event.Event.TheVariants.{Attach, Mutator, Begin, Roots, Mark, Retrace, Finish, Sweep, Collect, Number}
 use Rattle.heap_spec.specs.declared.reply.Reply.{Reply}
@@ -87,6 +87,8 @@ told known (Base r a) reply d keeps = lost known (Base r a) reply d r (λ ne. ne
 told known (Size r) reply d keeps = Told.left tt (nowhere d) refl
 told known (GlobalGet r g) reply d keeps = lost known (GlobalGet r g) reply d r (λ ne. ne) (nowhere d)
 told known (GlobalPut g r) reply d keeps = Told.left tt (nowhere d) refl
+told known (Link a n r) reply d keeps = Told.left tt (nowhere d) refl
+told known (Unlink a n) reply d keeps = Told.left tt (nowhere d) refl
 
 -- the event is a store
 pub record IsStore (asked : Event) : Type 0 where
@@ -114,6 +116,8 @@ call_sorted known slot (Base r a) keeps = inl tt
 call_sorted known slot (Size r) keeps = inl tt
 call_sorted known slot (GlobalGet r g) keeps = inl tt
 call_sorted known slot (GlobalPut g r) keeps = inl tt
+call_sorted known slot (Link a n r) keeps = inl tt
+call_sorted known slot (Unlink a n) keeps = inl tt
 
 pub sorted : (known : ℕ → Content) (asked : Event) → KeepsToOwn known asked → LeavesWords asked ⊎ IsStore asked
 sorted known Attach keeps = inl tt

@@ -6,7 +6,7 @@ use Rattle.std.proofs.lemmas.Option.{same_Some, none-some}
 use Rattle.std.proofs.lemmas.List.{length-set, get_or-set_other}
 use Rattle.words.specs.declared.class.Kind.TheVariants.{Normal}
 use Rattle.heap_spec.specs.declared.call.Call.{Call}
-use Rattle.heap_spec.specs.declared.call.Call.TheVariants.{Detach, Set, Copy, Add, Sub, Get, Push, Pop, Load, Store, Alloc, Free, Base, Size, GlobalGet, GlobalPut}
+use Rattle.heap_spec.specs.declared.call.Call.TheVariants.{Detach, Set, Copy, Add, Sub, Get, Push, Pop, Load, Store, Alloc, Free, Base, Size, GlobalGet, GlobalPut, Link, Unlink}
 use Rattle.heap_spec.specs.declared.reply.Reply.{Reply}
 use Rattle.heap_spec.specs.declared.reply.Reply.TheVariants.{Done, Word}
 use Rattle.heap_spec.specs.Layout.{index_in}
@@ -40,16 +40,17 @@ IsOwn unknown = ⊥
 IsOwn (a_word w) = ⊥
 IsOwn (own_object n words) = Unit {0}
 
--- An object that a register is known to have.
+-- A Normal object that a register is known to have.
 pub record IsThere (s : Heap) (m : HeapMutator) (d : ℕ) : Type 0 where
   pub object : Object
   pub there : d < length m.registers
   pub has : HasObject s (register m d) object
+  pub kind : object.kind ≡ Normal
 
 pub own_is : (s : Heap) (m : HeapMutator) (d : ℕ) (c : Content) → IsOwn c → IsAs s m d c → IsThere s m d
 own_is s m d unknown own fact = absurd own
 own_is s m d (a_word w) own fact = absurd own
-own_is s m d (own_object n words) own fact = record { object = fact.object; there = fact.there; has = fact.has }
+own_is s m d (own_object n words) own fact = record { object = fact.object; there = fact.there; has = fact.has; kind = fact.kind }
 
 -- Where register and object stay, what is known of them does.
 pub moved : (s s' : Heap) (m m' : HeapMutator) (d : ℕ) (c : Content) → register m' d ≡ register m d → length m'.registers ≡ length m.registers
@@ -188,3 +189,5 @@ call_as_known s h slot m known at fact (Base r a) calls = tt
 call_as_known s h slot m known at fact (Size r) calls = tt
 call_as_known s h slot m known at fact (GlobalGet r g) calls = tt
 call_as_known s h slot m known at fact (GlobalPut g r) calls = tt
+call_as_known s h slot m known at fact (Link a n r) calls = tt
+call_as_known s h slot m known at fact (Unlink a n) calls = tt

@@ -130,7 +130,8 @@ module _ (s t : HeapState) (who : ℕ) (reply : Reply) (sound : IsSound (heap_of
       (λ leaves.
       let there = own_is (heap_of s) m d (known x d) own (p.as_known x d m lt at) in
       let reached = held_reached (heap_of s) sound x m d (register m d) o at there.there refl has in
-      ap (λ (z : HeapState). (heap_of z).objects (register m d)) h.goes ∙ step_leaves s t who asked reply h sound leaves (register m d) o (inr reached) has)
+      let kind = ap (λ (x : Object). x.kind) (same_Some o there.object (sym has ∙ there.has)) ∙ there.kind in
+      ap (λ (z : HeapState). (heap_of z).objects (register m d)) h.goes ∙ step_leaves s t who asked reply h sound leaves (register m d) o (inr (reached, kind)) has)
       (λ (store : IsStore asked).
       let h' = subst (λ (e : Event). StateStep s who e reply t) store.is h in
       let keeps' : KeepsToOwn (known who) (Mutator store.slot (Store store.at store.offset store.from)) = subst (λ (e : Event). KeepsToOwn (known who) e) store.is keeps in

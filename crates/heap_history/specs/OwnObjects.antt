@@ -3,7 +3,7 @@ use Rattle.std.specs.Prelude.{◌≡◌, ℕ, ◌<◌, ◌==◌, Option, Some, N
 use Rattle.words.specs.declared.class.Kind.{Kind}
 use Rattle.words.specs.declared.class.Kind.TheVariants.{Normal}
 use Rattle.heap_spec.specs.declared.call.Call.{Call}
-use Rattle.heap_spec.specs.declared.call.Call.TheVariants.{Detach, Set, Copy, Add, Sub, Get, Push, Pop, Load, Store, Alloc, Free, Base, Size, GlobalGet, GlobalPut}
+use Rattle.heap_spec.specs.declared.call.Call.TheVariants.{Detach, Set, Copy, Add, Sub, Get, Push, Pop, Load, Store, Alloc, Free, Base, Size, GlobalGet, GlobalPut, Link, Unlink}
 use Rattle.heap_spec.specs.declared.event.Event.{Event}
 use Rattle.heap_spec.specs.declared.event.Event.TheVariants.{Attach, Mutator}
 use Rattle.heap_spec.specs.declared.reply.Reply.{Reply}
@@ -71,6 +71,8 @@ known_after_call known (Base r a) reply = with_content known r unknown
 known_after_call known (Size r) reply = known
 known_after_call known (GlobalGet r g) reply = with_content known r unknown
 known_after_call known (GlobalPut g r) reply = known
+known_after_call known (Link a n r) reply = known
+known_after_call known (Unlink a n) reply = known
 
 -- and after an event
 abbrev pub known_after : (ℕ → Content) → Event → Reply → ℕ → Content
