@@ -1,5 +1,5 @@
 -- What lines leave of a heap.
-use Rattle.std.proofs.Common.{◌≡◌, ◌+◌, ◌≤◌, ℕ, List, refl, sym, ap, ◌∙◌, subst, arith, ⊎_elim}
+use Rattle.std.proofs.Common.{[], ◌∷◌, ◌≡◌, ◌+◌, ◌≤◌, ℕ, List, refl, sym, ap, ◌∙◌, subst, arith, ⊎_elim}
 use Rattle.std.specs.Prelude.{Some}
 use Rattle.std.proofs.lemmas.Bool.{cases_eq}
 use Rattle.words.specs.declared.class.Kind.{Kind}
@@ -14,9 +14,10 @@ use Rattle.heap_spec.specs.Heap.{Heap, Object, Mutator as HeapMutator, HasObject
 use Rattle.heap_spec.specs.Cycles.{TakesOut}
 use Rattle.heap_spec.specs.Histories.{Happens}
 use Rattle.heap_spec.specs.Runs.{Start, Run, Touched, heap_after}
-use Rattle.heap_spec.specs.Steps.{Acts, Attaches, Calls, acts, vacant}
+use Rattle.heap_spec.specs.Steps.{Acts, Attaches, Calls, acts, vacant, register}
 use Rattle.heap_spec.specs.Transcripts.{LineOf}
-use Rattle.heap_spec.proofs.Objects.{at_cases, with_at-same, with_at-other, without_one, without_some}
+use Rattle.heap_spec.proofs.Objects.{at_cases, with_at-same, with_at-other}
+use Rattle.heap_spec.proofs.Links.{left_by}
 use Rattle.heap_spec.proofs.Outcomes.{calls_refused}
 use Rattle.recording.proofs.Knowing.{HasIn}
 
@@ -82,7 +83,7 @@ acts_leave s slot m (Acts.freed has) none = absurd none
 acts_leave s slot m _ none = (λ b o has. (o, has), λ b o has. (o, has))
 
 free_less : (s : Heap) (slot : ℕ) (m : HeapMutator) {r : ℕ} {reply : Reply} {s' : Heap} → Acts s slot m (Free r) reply s' → HasIn s' s
-free_less s slot m (Acts.freed has) b p there = (p, (without_one s.objects _ b p there).1)
+free_less s slot m (Acts.freed {r = r} has) b p there = let left = left_by s (register m r ∷ []) b p there in (left.object, left.has)
 free_less s slot m (Acts.free_nothing none) b p there = (p, there)
 free_less s slot m (Acts.free_inside reads ne) b p there = (p, there)
 
@@ -128,4 +129,4 @@ freed_less s slot r (acts {m = m} at act) = free_less s slot m act
 freed_less s slot r (vacant none) = λ b o has. (o, has)
 
 pub taken_less : (s s' : Heap) (bases : List ℕ) (reply : Reply) → TakesOut s bases reply s' → HasIn s' s
-taken_less s s' bases reply takes b p has = (p, (without_some s.objects bases b p (sym (ap (λ (x : Heap). x.objects b) takes.after) ∙ has)).1)
+taken_less s s' bases reply takes b p has = let left = left_by s bases b p (sym (ap (λ (x : Heap). x.objects b) takes.after) ∙ has) in (left.object, left.has)

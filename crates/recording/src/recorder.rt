@@ -101,7 +101,9 @@ impl Recorder {
             | Call::Base(_, _)
             | Call::Size(_)
             | Call::GlobalGet(_, _)
-            | Call::GlobalPut(_, _) => Ok(()),
+            | Call::GlobalPut(_, _)
+            | Call::Link(_, _, _)
+            | Call::Unlink(_, _) => Ok(()),
         }
     }
 

@@ -4,7 +4,7 @@ use Rattle.std.specs.List.{slice_split}
 use Rattle.words.specs.declared.class.Kind.{Kind}
 use Rattle.words.specs.declared.class.Kind.TheVariants.{Normal, PointerFree}
 use Rattle.heap_spec.specs.declared.call.Call.{Call}
-use Rattle.heap_spec.specs.declared.call.Call.TheVariants.{Detach, Set, Copy, Add, Sub, Get, Push, Pop, Load, Store, Alloc, Free, Base, Size, GlobalGet, GlobalPut}
+use Rattle.heap_spec.specs.declared.call.Call.TheVariants.{Detach, Set, Copy, Add, Sub, Get, Push, Pop, Load, Store, Alloc, Free, Base, Size, GlobalGet, GlobalPut, Link, Unlink}
 use Rattle.heap_spec.specs.declared.event.Event.{Event}
 use Rattle.heap_spec.specs.declared.event.Event.TheVariants.{Attach, Mutator, Begin, Roots, Mark, Retrace, Finish, Sweep, Collect, Number}
 use Rattle.scripts.specs.declared.limits.TheConstants.{LINE_BYTES}
@@ -33,6 +33,8 @@ call_words (Base d a) = codes "base" ∷ decimal d ∷ decimal a ∷ []
 call_words (Size a) = codes "size" ∷ decimal a ∷ []
 call_words (GlobalGet d g) = codes "gget" ∷ decimal d ∷ decimal g ∷ []
 call_words (GlobalPut g s) = codes "gput" ∷ decimal g ∷ decimal s ∷ []
+call_words (Link a n s) = codes "link" ∷ decimal a ∷ decimal n ∷ decimal s ∷ []
+call_words (Unlink a n) = codes "unlink" ∷ decimal a ∷ decimal n ∷ []
 
 -- the words of a command: a call's line begins with its slot, a collector's with gc
 abbrev pub command_words : Event → List (List ℕ)

@@ -32,6 +32,8 @@ fn call(rest: &mut Words<'_>) -> Option<Call>
         _ if is_text(verb, "size") => rest.one().map(Call::Size),
         _ if is_text(verb, "gget") => rest.two().map(|(into, g)| Call::GlobalGet(into, g)),
         _ if is_text(verb, "gput") => rest.two().map(|(g, from)| Call::GlobalPut(g, from)),
+        _ if is_text(verb, "link") => rest.three().map(|(at, n, to)| Call::Link(at, n, to)),
+        _ if is_text(verb, "unlink") => rest.two().map(|(at, n)| Call::Unlink(at, n)),
         _ => None,
     }
 }

@@ -227,4 +227,37 @@ impl<J: Naming> SharedHeap<J> {
     {
         done_result(self.call(rt, me, Call::GlobalPut(global, from)))
     }
+
+    /// Makes the word at the address of `at` and an offset in words a link to the object that `to` points into.
+    ///
+    /// # Errors
+    /// As `Core::link` of `heap_core`, but never NoSlot.
+    pub fn link(
+        &self,
+        rt: &impl Wait,
+        me: &mut Mutator<J>,
+        at: Reg,
+        offset: u64,
+        to: Reg,
+    ) -> Result<(), Refusal>
+        ensures { Makes J.origin me.old (Call.Link at offset to) (done_reply result) me.new }
+    {
+        done_result(self.call(rt, me, Call::Link(at, offset, to)))
+    }
+
+    /// Takes the link at the address of `at` and an offset in words away. Answers 1 if one stood there, and else 0.
+    ///
+    /// # Errors
+    /// Never.
+    pub fn unlink(
+        &self,
+        rt: &impl Wait,
+        me: &mut Mutator<J>,
+        at: Reg,
+        offset: u64,
+    ) -> Result<u64, Refusal>
+        ensures { Makes J.origin me.old (Call.Unlink at offset) (count_reply result) me.new }
+    {
+        count_result(self.call(rt, me, Call::Unlink(at, offset)))
+    }
 }

@@ -40,6 +40,8 @@ pub(crate) fn ask_plain(core: &mut plain_core::Core, slot: Slot, call: Call) -> 
         Call::Size(reg) => count(core.size(slot, reg)),
         Call::GlobalGet(into, global) => word(core.gget(slot, into, global)),
         Call::GlobalPut(global, from) => done(core.gput(slot, global, from)),
+        Call::Link(at, offset, to) => done(core.link(slot, at, offset, to)),
+        Call::Unlink(at, offset) => count(core.unlink(slot, at, offset)),
     }
 }
 

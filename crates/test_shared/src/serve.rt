@@ -42,6 +42,8 @@ pub fn serve_call<J: Naming>(
         Call::Size(at) => count(heap.size(rt, me, at)),
         Call::GlobalGet(into, global) => word(heap.gget(rt, me, into, global)),
         Call::GlobalPut(global, from) => done(heap.gput(rt, me, global, from)),
+        Call::Link(at, offset, to) => done(heap.link(rt, me, at, offset, to)),
+        Call::Unlink(at, offset) => count(heap.unlink(rt, me, at, offset)),
     }
 }
 

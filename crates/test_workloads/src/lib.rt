@@ -19,6 +19,8 @@ mod gates;
 #[cfg(test)]
 mod helped_cores;
 #[cfg(test)]
+mod links;
+#[cfg(test)]
 mod overflow;
 #[cfg(test)]
 mod pause;

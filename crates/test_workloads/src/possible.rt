@@ -95,6 +95,7 @@ impl Told {
             Call::Free(_) => self.free(line),
             Call::Detach | Call::Add(_, _, _) | Call::Sub(_, _, _) | Call::Get(_) => false,
             Call::Base(_, _) | Call::Size(_) | Call::GlobalGet(_, _) => false,
+            Call::Link(_, _, _) | Call::Unlink(_, _) => false,
         }
     }
 

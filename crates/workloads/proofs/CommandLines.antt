@@ -9,7 +9,7 @@ use Rattle.std.proofs.lemmas.List.Splits.{slice_split_at, slice_split_none}
 use Rattle.words.specs.declared.class.Kind.{Kind}
 use Rattle.words.specs.declared.class.Kind.TheVariants.{Normal, PointerFree}
 use Rattle.heap_spec.specs.declared.call.Call.{Call}
-use Rattle.heap_spec.specs.declared.call.Call.TheVariants.{Detach, Set, Copy, Add, Sub, Get, Push, Pop, Load, Store, Alloc, Free, Base, Size, GlobalGet, GlobalPut}
+use Rattle.heap_spec.specs.declared.call.Call.TheVariants.{Detach, Set, Copy, Add, Sub, Get, Push, Pop, Load, Store, Alloc, Free, Base, Size, GlobalGet, GlobalPut, Link, Unlink}
 use Rattle.heap_spec.specs.declared.event.Event.{Event}
 use Rattle.heap_spec.specs.declared.event.Event.TheVariants.{Attach, Mutator, Begin, Roots, Mark, Retrace, Finish, Sweep, Collect, Number}
 use Rattle.heap_spec.specs.Ranges.{CallInRange, InRange}
@@ -71,6 +71,8 @@ call_texts (Base d a) r = (literal (codes "base") refl (lit≤ tt), (small d (om
 call_texts (Size a) r = (literal (codes "size") refl (lit≤ tt), (small a (omega (arith, r)), tt))
 call_texts (GlobalGet d g) r = (literal (codes "gget") refl (lit≤ tt), (small d (omega (arith, r.0)), (small g (omega (arith, r.1)), tt)))
 call_texts (GlobalPut g s) r = (literal (codes "gput") refl (lit≤ tt), (small g (omega (arith, r.0)), (small s (omega (arith, r.1)), tt)))
+call_texts (Link a n s) r = (literal (codes "link") refl (lit≤ tt), (small a (omega (arith, r.0)), (number n r.1, (small s (omega (arith, r.2)), tt))))
+call_texts (Unlink a n) r = (literal (codes "unlink") refl (lit≤ tt), (small a (omega (arith, r.0)), (number n r.1, tt)))
 
 few_words : (call : Call) → length (call_words call) ≤ 4
 few_words Detach = lit≤ tt
@@ -89,6 +91,8 @@ few_words (Base d a) = lit≤ tt
 few_words (Size a) = lit≤ tt
 few_words (GlobalGet d g) = lit≤ tt
 few_words (GlobalPut g s) = lit≤ tt
+few_words (Link a n s) = lit≤ tt
+few_words (Unlink a n) = lit≤ tt
 
 -- words with a space between two
 low : (b : ℕ) → 33 ≤ b → eqb b 32 ≡ false

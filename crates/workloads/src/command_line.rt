@@ -80,6 +80,8 @@ fn put_call(line: &mut ArrayString<LINE_BYTES>, call: Call)
         Call::Size(at) => put_words(line, "size", &[register(at)]),
         Call::GlobalGet(into, g) => put_words(line, "gget", &[register(into), global(g)]),
         Call::GlobalPut(g, from) => put_words(line, "gput", &[global(g), register(from)]),
+        Call::Link(at, n, to) => put_words(line, "link", &[register(at), n, register(to)]),
+        Call::Unlink(at, n) => put_words(line, "unlink", &[register(at), n]),
     }
 }
 

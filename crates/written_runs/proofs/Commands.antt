@@ -7,7 +7,7 @@ use Rattle.std.proofs.lemmas.List.Elements.{All-nil, All-cons, All-append}
 use Rattle.words.specs.declared.class.Kind.{Kind}
 use Rattle.words.specs.declared.class.Kind.TheVariants.{Normal, PointerFree}
 use Rattle.heap_spec.specs.declared.call.Call.{Call}
-use Rattle.heap_spec.specs.declared.call.Call.TheVariants.{Detach, Set, Copy, Add, Sub, Get, Push, Pop, Load, Store, Alloc, Free, Base, Size, GlobalGet, GlobalPut}
+use Rattle.heap_spec.specs.declared.call.Call.TheVariants.{Detach, Set, Copy, Add, Sub, Get, Push, Pop, Load, Store, Alloc, Free, Base, Size, GlobalGet, GlobalPut, Link, Unlink}
 use Rattle.heap_spec.specs.declared.event.Event.{Event}
 use Rattle.heap_spec.specs.declared.event.Event.TheVariants.{Attach, Mutator, Begin, Roots, Mark, Retrace, Finish, Sweep, Collect, Number}
 use Rattle.heap_spec.specs.Ranges.{InRange, CallInRange}
@@ -50,6 +50,8 @@ call_lacks (Base d a) i = (lacks_by 61 (codes "base") refl, (num d (omega arith)
 call_lacks (Size a) i = (lacks_by 61 (codes "size") refl, (num a (omega arith), tt))
 call_lacks (GlobalGet d g) i = (lacks_by 61 (codes "gget") refl, (num d (omega arith), (num g (omega arith), tt)))
 call_lacks (GlobalPut g s) i = (lacks_by 61 (codes "gput") refl, (num g (omega arith), (num s (omega arith), tt)))
+call_lacks (Link a n s) i = (lacks_by 61 (codes "link") refl, (num a (omega arith), (num n (omega arith), (num s (omega arith), tt))))
+call_lacks (Unlink a n) i = (lacks_by 61 (codes "unlink") refl, (num a (omega arith), (num n (omega arith), tt)))
 
 gc : Lacks 61 (codes "gc")
 gc = lacks_by 61 (codes "gc") refl

@@ -7,7 +7,7 @@ use Rattle.std.proofs.lemmas.Fmt.{decimal_is_IsNumeral}
 use Rattle.words.specs.declared.class.Kind.{Kind}
 use Rattle.words.specs.declared.class.Kind.TheVariants.{Normal, PointerFree}
 use Rattle.heap_spec.specs.declared.call.Call.{Call}
-use Rattle.heap_spec.specs.declared.call.Call.TheVariants.{Detach, Set, Copy, Add, Sub, Get, Push, Pop, Load, Store, Alloc, Free, Base, Size, GlobalGet, GlobalPut}
+use Rattle.heap_spec.specs.declared.call.Call.TheVariants.{Detach, Set, Copy, Add, Sub, Get, Push, Pop, Load, Store, Alloc, Free, Base, Size, GlobalGet, GlobalPut, Link, Unlink}
 use Rattle.heap_spec.specs.declared.event.Event.{Event}
 use Rattle.heap_spec.specs.declared.event.Event.TheVariants.{Attach, Mutator, Begin, Roots, Mark, Retrace, Finish, Sweep, Collect, Number}
 use Rattle.heap_spec.specs.Ranges.{InRange, CallInRange}
@@ -72,7 +72,9 @@ call_by verb words =
     (cond (same_text verb (codes "base")) (Base (word_at 0 words) (word_at 1 words))
     (cond (same_text verb (codes "size")) (Size (word_at 0 words))
     (cond (same_text verb (codes "gget")) (GlobalGet (word_at 0 words) (word_at 1 words))
-    (cond (same_text verb (codes "gput")) (GlobalPut (word_at 0 words) (word_at 1 words)) Detach))))))))))))))
+    (cond (same_text verb (codes "gput")) (GlobalPut (word_at 0 words) (word_at 1 words))
+    (cond (same_text verb (codes "link")) (Link (word_at 0 words) (word_at 1 words) (word_at 2 words))
+    (cond (same_text verb (codes "unlink")) (Unlink (word_at 0 words) (word_at 1 words)) Detach))))))))))))))))
 
 abbrev call_of : List (List ℕ) → Call
 call_of [] = Detach
@@ -101,6 +103,8 @@ call_back (Base d a) i = two (λ x y. Base x y) d a (omega arith) (omega arith)
 call_back (Size a) i = ap (λ x. Size x) (back a (omega arith))
 call_back (GlobalGet d g) i = two (λ x y. GlobalGet x y) d g (omega arith) (omega arith)
 call_back (GlobalPut g s) i = two (λ x y. GlobalPut x y) g s (omega arith) (omega arith)
+call_back (Link a n s) i = three (λ x y z. Link x y z) a n s (omega arith) (omega arith) (omega arith)
+call_back (Unlink a n) i = two (λ x y. Unlink x y) a n (omega arith) (omega arith)
 
 -- the event whose words these are
 abbrev collector_by : List ℕ → List (List ℕ) → Event

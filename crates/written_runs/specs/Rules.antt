@@ -1,6 +1,6 @@
 -- Which rule a line breaks that isn't legal, by the kind of the line.
 use Rattle.heap_spec.specs.declared.call.Call.{Call}
-use Rattle.heap_spec.specs.declared.call.Call.TheVariants.{Detach, Set, Copy, Add, Sub, Get, Push, Pop, Load, Store, Alloc, Free, Base, Size, GlobalGet, GlobalPut}
+use Rattle.heap_spec.specs.declared.call.Call.TheVariants.{Detach, Set, Copy, Add, Sub, Get, Push, Pop, Load, Store, Alloc, Free, Base, Size, GlobalGet, GlobalPut, Link, Unlink}
 use Rattle.heap_spec.specs.declared.event.Event.{Event}
 use Rattle.heap_spec.specs.declared.event.Event.TheVariants.{Attach, Mutator, Begin, Roots, Mark, Retrace, Finish, Sweep, Collect, Number}
 use Rattle.heap_spec.specs.declared.reply.Reply.{Reply}
@@ -8,7 +8,7 @@ use Rattle.heap_spec.specs.declared.reply.Reply.TheVariants.{Slot, Done, Word, C
 use Rattle.replayer.specs.declared.hint.Hint.{Hint}
 use Rattle.replayer.specs.declared.hint.Hint.TheVariants.{Nothing, Place, Forgot}
 use Rattle.written_runs.specs.declared.rules.Rule.{Rule}
-use Rattle.written_runs.specs.declared.rules.Rule.TheVariants.{Attach as AttachRule, GivenPlace, NoPlace, Refusal, Load as LoadRule, Store as StoreRule, Free as FreeRule, Base as BaseRule, Size as SizeRule, Roots as RootsRule, Begin as BeginRule, SmallStep, Forgotten, NoBases, Sweep as SweepRule, Number as NumberRule}
+use Rattle.written_runs.specs.declared.rules.Rule.TheVariants.{Attach as AttachRule, GivenPlace, NoPlace, Refusal, Load as LoadRule, Store as StoreRule, Free as FreeRule, Base as BaseRule, Size as SizeRule, Link as LinkRule, Unlink as UnlinkRule, Roots as RootsRule, Begin as BeginRule, SmallStep, Forgotten, NoBases, Sweep as SweepRule, Number as NumberRule}
 
 -- a granted request, with its place or without
 abbrev pub place_rule : Hint → Rule
@@ -42,6 +42,8 @@ call_rule (Base d a) reply hint = BaseRule
 call_rule (Size r) reply hint = SizeRule
 call_rule (GlobalGet d g) reply hint = RootsRule
 call_rule (GlobalPut g r) reply hint = RootsRule
+call_rule (Link a n r) reply hint = LinkRule
+call_rule (Unlink a n) reply hint = UnlinkRule
 
 -- the end of a cycle, with what it forgot or without
 abbrev pub finish_rule : Hint → Rule

@@ -1,7 +1,7 @@
 -- The lines of written runs.
 use Rattle.std.specs.Prelude.{◌≡◌, ℕ, ◌<◌, Bool, true, false, List, [], ◌++◌, codes, decimal, flat_map, All}
 use Rattle.words.specs.declared.limits.TheConstants.{SLOTS}
-use Rattle.heap_spec.specs.declared.call.Call.TheVariants.{Size}
+use Rattle.heap_spec.specs.declared.call.Call.TheVariants.{Size, Unlink}
 use Rattle.heap_spec.specs.declared.event.Event.{Event}
 use Rattle.heap_spec.specs.declared.event.Event.TheVariants.{Attach, Mutator, Begin, Roots, Mark, Retrace, Finish, Sweep, Collect, Number}
 use Rattle.heap_spec.specs.declared.reply.Reply.{Reply}
@@ -26,9 +26,10 @@ hint_text Nothing = []
 hint_text (Place base) = codes " @ " ++ decimal base
 hint_text (Forgot bases) = codes " -" ++ bases_text bases.now
 
--- Words and counts are written alike, so the event tells which a number is: mutators are answered words, but for a size.
+-- Words and counts are written alike, so the event tells which a number is: mutators are answered words, but for a size and an unlink.
 abbrev pub answers_word : Event → Bool
 answers_word (Mutator slot (Size r)) = false
+answers_word (Mutator slot (Unlink a n)) = false
 answers_word (Mutator slot call) = true
 answers_word Attach = false
 answers_word Begin = false

@@ -35,10 +35,10 @@ fn answers_word(event: &Event) -> bool
     let Event::Mutator(_, call) = event else {
         return false;
     };
-    let Call::Size(_) = call else {
-        return true;
-    };
-    false
+    match call {
+        Call::Size(_) | Call::Unlink(_, _) => false,
+        _ => true,
+    }
 }
 
 // The refusal with this code.
@@ -56,6 +56,8 @@ fn refusal_with(code: u64) -> Option<Refusal>
         7 => Some(Refusal::StackFull),
         8 => Some(Refusal::StackEmpty),
         9 => Some(Refusal::WrongPhase),
+        10 => Some(Refusal::LinksFull),
+        11 => Some(Refusal::NotPointerFree),
         _ => None,
     }
 }

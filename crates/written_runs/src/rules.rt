@@ -35,6 +35,12 @@ pub enum Rule {
     /// The size of an object is asked for.
     Size,
 
+    /// A word of an object becomes a link to an object.
+    Link,
+
+    /// A link is taken away.
+    Unlink,
+
     /// A register, a stack or a global is read or written, or a mutator goes.
     Roots,
 
@@ -72,6 +78,10 @@ impl Rule {
             Rule::Free => "only the base of an object can be freed",
             Rule::Base => "the base is that of the object that the word points into",
             Rule::Size => "the size is that of the object that the word points into",
+            Rule::Link => {
+                "a link stands in a word of a pointer-free object and names an object, where there is room for it, or is refused for what it lacks"
+            }
+            Rule::Unlink => "an unlink answers how many links stood at the address",
             Rule::Roots => "registers, stacks and globals have what was put there last",
             Rule::Begin => "a cycle begins exactly while none is marking",
             Rule::SmallStep => {
@@ -113,6 +123,8 @@ fn of_call(call: &Call, reply: &Reply, hint: Hint) -> Rule
         Call::Free(_) => Rule::Free,
         Call::Base(_, _) => Rule::Base,
         Call::Size(_) => Rule::Size,
+        Call::Link(_, _, _) => Rule::Link,
+        Call::Unlink(_, _) => Rule::Unlink,
         Call::Detach
         | Call::Set(_, _)
         | Call::Copy(_, _)
