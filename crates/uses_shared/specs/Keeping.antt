@@ -1,11 +1,11 @@
--- What the three of the example do.
-use Rattle.std.specs.Prelude.{◌≡◌, ℕ, All}
+-- What the mutators of the example do.
+use Rattle.std.specs.Prelude.{◌≡◌, ℕ, ◌<◌, List}
+use Rattle.words.specs.declared.limits.TheConstants.{SLOTS}
 use Rattle.words.specs.declared.class.Kind.TheVariants.{Normal}
 use Rattle.heap_spec.specs.declared.call.Call.TheVariants.{Set, Load, Store, Alloc}
 use Rattle.heap_spec.specs.declared.reply.Reply.TheVariants.{Done, Word}
-use Rattle.heap_history.specs.Passes.{Entry, HeapPass}
-use Rattle.heap_history.specs.Headline.{Makes}
-use Rattle.heap_history.specs.Laws.{LeavesWords}
+use Rattle.heap_history.specs.Passes.{Entry, HeapPass, IsLegalPass}
+use Rattle.heap_history.specs.Headline.{Begun, Makes}
 
 -- An object of two words came into register 1, and the word into register 2 and into the object.
 pub record Puts (pages word : ℕ) (old new : HeapPass) : Type 0 where
@@ -21,11 +21,16 @@ pub record PutsAndLoads (pages word loaded : ℕ) (old new : HeapPass) : Type 0 
   pub puts : Puts pages word old put
   pub loads : Makes pages put (Load 2 1 0) (Word loaded) new
 
--- none of its calls stored or freed anything
-abbrev pub LeftAll : HeapPass → Type 0
-LeftAll pass = All (λ (e : Entry). LeavesWords e.call) pass.mine
+-- The mutator did this and nothing else since it came.
+pub record HasKept (pages word loaded : ℕ) (pass : HeapPass) : Type 0 where
+  pub start : HeapPass
+  pub begun : Begun pages start
+  pub does : PutsAndLoads pages word loaded start pass
 
--- the mutator's slot is the same, and it stored and freed nothing
-pub record StillLeaves (old new : HeapPass) : Type 0 where
+-- The mutator has then seen this whole history, and did nothing meanwhile.
+pub record IsSettled (pages : ℕ) (old : HeapPass) (history : List Entry) (new : HeapPass) : Type 0 where
   pub slot : new.slot ≡ old.slot
-  pub left : LeftAll old → LeftAll new
+  pub mine : new.mine ≡ old.mine
+  pub seen : new.seen ≡ history
+  pub range : new.slot < SLOTS
+  pub fine : IsLegalPass pages new

@@ -1,13 +1,15 @@
-//! A word that a mutator keeps in its object through a cycle.
+//! Two mutators, each of which keeps a word in an object of its own through a cycle.
 ghost use Rattle.std.specs.Prelude.{◌≡◌, ◌≢◌, ◌<◌, IfOk, IfSome};
 ghost use mathlib.Core.List.{IsPrefix};
 ghost use Rattle.words.specs.declared.limits.TheConstants.{SLOTS};
+ghost use Rattle.history.specs.Histories.{counted_up};
+ghost use Rattle.heap_history.specs.Alone.{attaches};
 ghost use Rattle.heap_history.specs.Headline.{Begun};
 ghost use Rattle.heap_history.specs.Passes.{HeapPass, IsLegalPass};
-ghost use Rattle.uses_shared.specs.Keeping.{LeftAll, Puts, PutsAndLoads, StillLeaves};
+ghost use Rattle.uses_shared.specs.Keeping.{HasKept, IsSettled, Puts, PutsAndLoads};
 
 use heap_core::Core;
-use heap_history::laws::{alone_word_stays, nobody_else_came};
+use heap_history::laws::{nobody_else_came, own_words_as_known};
 use history::{Naming, Opened};
 use shared::{Collector, Mutator, SharedHeap, open};
 use std::alloc::Global;
@@ -16,7 +18,7 @@ use std::sync::{Barrier, Wait};
 use std::thread::{Threads, join};
 use words::{Kind, OpenError, Refusal, Reg};
 
-/// Why there is no word.
+/// Why there are no words.
 #[derive(Debug, Drop)]
 pub enum KeptError {
     /// The heap could not be opened.
@@ -96,17 +98,6 @@ fn put_and_load<'a, J: Naming, R: Wait>(
     (me, Some(loaded))
 }
 
-// The other mutator allocates and loads.
-fn look_around<'a, J: Naming, R: Wait>(me: Attached<'a, J, R>) -> Attached<'a, J, R>
-    ensures { StillLeaves me.entry result }
-{
-    let mut me = me;
-    let (object, scratch) = registers();
-    let _made = me.heap.alloc(me.rt, &mut me.me, object, 4, Kind::Normal);
-    let _loaded = me.heap.load(me.rt, &mut me.me, scratch, object, 1);
-    me
-}
-
 // A cycle, between two turns.
 fn cycle<J: Naming>(
     rt: &impl Wait,
@@ -122,19 +113,20 @@ fn cycle<J: Naming>(
     collector
 }
 
-// The other mutator and the collector, each in a thread of its own.
+// One mutator and the collector, each in a thread of its own.
 fn run_two<'a, J: Naming + Send + Sync, R: Threads + Wait + Sync>(
     rt: &R,
     heap: &SharedHeap<J>,
     turns: &Barrier,
-    other: Attached<'a, J, R>,
+    me: Attached<'a, J, R>,
+    word: u64,
     collector: Collector<J>,
-) -> (Attached<'a, J, R>, Collector<J>)
-    ensures { StillLeaves other.entry result.0 }
+) -> ((Attached<'a, J, R>, Option<u64>), Collector<J>)
+    ensures { IfSome result.0.1 (λ loaded. PutsAndLoads J.origin word loaded me.entry result.0.0) }
 {
     join(
         rt,
-        move || look_around(other),
+        move || put_and_load(turns, me, word),
         move || cycle(rt, heap, turns, collector),
     )
 }
@@ -144,21 +136,22 @@ fn run_three<'a, J: Naming + Send + Sync, R: Threads + Wait + Sync>(
     rt: &R,
     heap: &SharedHeap<J>,
     turns: &Barrier,
-    me: Attached<'a, J, R>,
+    one: Attached<'a, J, R>,
     other: Attached<'a, J, R>,
+    words: (u64, u64),
     collector: Collector<J>,
-    word: u64,
 ) -> (
     (Attached<'a, J, R>, Option<u64>),
-    (Attached<'a, J, R>, Collector<J>),
+    ((Attached<'a, J, R>, Option<u64>), Collector<J>),
 )
-    ensures me { IfSome result.0.1 (λ loaded. PutsAndLoads J.origin word loaded me.entry result.0.0) }
-    ensures other { StillLeaves other.entry result.1.0 }
+    ensures one { IfSome result.0.1 (λ loaded. PutsAndLoads J.origin words.0 loaded one.entry result.0.0) }
+    ensures other { IfSome result.1.0.1 (λ loaded. PutsAndLoads J.origin words.1 loaded other.entry result.1.0.0) }
 {
+    let (first, second) = words;
     join(
         rt,
-        move || put_and_load(turns, me, word),
-        move || run_two(rt, heap, turns, other, collector),
+        move || put_and_load(turns, one, first),
+        move || run_two(rt, heap, turns, other, second, collector),
     )
 }
 
@@ -193,32 +186,50 @@ fn slot<'a, J: Naming, R: Wait>(me: &Attached<'a, J, R>) -> u8
     me.me.slot().number()
 }
 
+// All have then seen one history. The answer is how many mutators came in it.
+fn settle<'a, J: Naming, R: Wait>(
+    rt: &R,
+    heap: &SharedHeap<J>,
+    one: &mut Attached<'a, J, R>,
+    other: &mut Attached<'a, J, R>,
+    collector: &mut Collector<J>,
+) -> u64
+    ensures apart { one.new.slot ≢ other.new.slot }
+    ensures one { IsSettled J.origin one.old collector.new.seen one.new }
+    ensures other { IsSettled J.origin other.old collector.new.seen other.new }
+    ensures fine { IsLegalPass J.origin collector.new }
+    ensures came { result ≡ counted_up (attaches collector.new.seen) }
+{
+    apart(one, other);
+    tell(one, collector);
+    tell(other, collector);
+    // By now the collector has seen all that the two did, and each learns the rest from it.
+    let came = heap.attaches_of(rt, collector);
+    tell(one, collector);
+    tell(other, collector);
+    let (_one, _other) = (slot(one), slot(other));
+    came
+}
+
 // What was loaded after the three have run, where nobody else came.
 fn judge<'a, J: Naming, R: Wait>(
     rt: &R,
     heap: &SharedHeap<J>,
-    me: &mut Attached<'a, J, R>,
+    one: &mut Attached<'a, J, R>,
     other: &mut Attached<'a, J, R>,
     collector: &mut Collector<J>,
-    word: u64,
-    loaded: u64,
-) -> Result<u64, KeptError>
-    requires me { (start : HeapPass) × PutsAndLoads J.origin word loaded start me.old }
-    requires other { LeftAll other.old }
-    ensures { IfOk result (λ loaded. loaded ≡ word) }
+    words: (u64, u64),
+    loaded: (u64, u64),
+) -> Result<(u64, u64), KeptError>
+    requires one { HasKept J.origin words.0 loaded.0 one.old }
+    requires other { HasKept J.origin words.1 loaded.1 other.old }
+    ensures { IfOk result (λ loaded. loaded ≡ words) }
 {
-    apart(me, other);
-    tell(me, collector);
-    tell(other, collector);
-    // How many came by now: the collector has seen all that the two did.
-    let came = heap.attaches_of(rt, collector);
-    tell(other, collector);
-    let (_mine, _theirs) = (slot(me), slot(other));
-    if came != 2 {
+    if settle(rt, heap, one, other, collector) != 2 {
         return Err(KeptError::Stranger);
     }
     nobody_else_came();
-    alone_word_stays();
+    own_words_as_known();
     Ok(loaded)
 }
 
@@ -237,42 +248,51 @@ fn attach<'a, J: Naming, R: Wait>(
 fn keep_named<J: Naming + Send + Sync, R: Threads + Wait + Sync>(
     rt: &R,
     opened: Opened<Core>,
-    word: u64,
-) -> Result<u64, KeptError>
+    words: (u64, u64),
+) -> Result<(u64, u64), KeptError>
     requires table { opened.table ≡ J.table }
     requires pages { opened.origin ≡ J.origin }
-    ensures { IfOk result (λ loaded. loaded ≡ word) }
+    ensures { IfOk result (λ loaded. loaded ≡ words) }
 {
     let (heap, collector) = SharedHeap::<J>::named(opened);
-    let (Ok(me), Ok(other)) = (attach(rt, &heap), attach(rt, &heap)) else {
+    let (Ok(one), Ok(other)) = (attach(rt, &heap), attach(rt, &heap)) else {
         return Err(KeptError::Refused);
     };
-    let turns = Barrier::new(2);
-    let ((mut me, loaded), (mut other, mut collector)) = run_three(
-        rt, &heap, &turns, me, other, collector, word,
+    let turns = Barrier::new(3);
+    let ((mut one, first), ((mut other, second), mut collector)) = run_three(
+        rt, &heap, &turns, one, other, words, collector,
     );
-    let Some(loaded) = loaded else {
+    let (Some(first), Some(second)) = (first, second) else {
         return Err(KeptError::Refused);
     };
-    judge(rt, &heap, &mut me, &mut other, &mut collector, word, loaded)
+    let loaded = (first, second);
+    judge(
+        rt,
+        &heap,
+        &mut one,
+        &mut other,
+        &mut collector,
+        words,
+        loaded,
+    )
 }
 
-/// One mutator puts a word into an object of its own and loads it after a cycle, while another allocates and loads and the collector runs
-/// the cycle, each in a thread of its own. What is loaded is what was put, whatever the calls of the heap do beyond their contracts.
+/// Two mutators each put a word into an object of their own and load it after a cycle, which the collector runs beside
+/// them, each of the three in a thread of its own. What each loads is what it put, though both store.
 ///
 /// # Errors
-/// [`KeptError::Open`]: the heap could not be opened; [`KeptError::Refused`]: a call was refused; [`KeptError::Stranger`]: another
-/// mutator came.
-pub fn keep_a_word<R: Threads + Wait + Sync>(
+/// [`KeptError::Open`]: the heap could not be opened; [`KeptError::Refused`]: a call was refused; [`KeptError::Stranger`]:
+/// another mutator came.
+pub fn keep_words<R: Threads + Wait + Sync>(
     rt: &R,
     alloc: Global,
     pages: u32,
-    word: u64,
-) -> Result<u64, KeptError>
-    ensures { IfOk result (λ loaded. loaded ≡ word) }
+    words: (u64, u64),
+) -> Result<(u64, u64), KeptError>
+    ensures { IfOk result (λ loaded. loaded ≡ words) }
 {
     match open(alloc, pages) {
-        Ok(opened) => keep_named::<Brand, _>(rt, opened, word),
+        Ok(opened) => keep_named::<Brand, _>(rt, opened, words),
         Err(error) => Err(KeptError::Open(error)),
     }
 }

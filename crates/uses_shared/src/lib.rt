@@ -1,7 +1,7 @@
-//! How threads use a shared heap, by an example: what one of them stored is there after a cycle, though two others call the heap
-//! beside it. Nothing is known of the heap but the contracts of its calls.
+//! How threads use a shared heap, by an example: what two mutators stored, each in an object of its own, is there after a
+//! cycle that ran beside them. Nothing is known of the heap but the contracts of its calls, and what follows from them.
 #![tactic(auto)]
 
-mod kept_word;
+mod kept_words;
 
-pub use kept_word::{KeptError, keep_a_word};
+pub use kept_words::{KeptError, keep_words};

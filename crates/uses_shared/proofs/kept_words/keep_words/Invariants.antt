@@ -1,4 +1,4 @@
-use Rattle.uses_shared.proofs.kept_word.keep_a_word.Given as goal
+use Rattle.uses_shared.proofs.kept_words.keep_words.Given as goal
 
 -- the heap that was just opened
 abbrev pub ghosts-keep_named : goal.ghosts-keep_named
