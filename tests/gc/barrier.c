@@ -291,14 +291,23 @@ static __attribute__((noinline)) void clear_stack(void)
     explicit_bzero(old, sizeof old);
 }
 
+/* The lowest free pages were last given to pointer-free objects, so that they are open when a cycle marks. */
+static __attribute__((noinline)) void free_atomics(void)
+{
+    void *texts[200];
+    for (int k = 0; k < 200; k++) texts[k] = GC_malloc_atomic(3000);
+    for (int k = 0; k < 200; k++) GC_free(texts[k]);
+}
+
 /* A chain whose end names an object, and a cycle that has made so many steps. */
 static __attribute__((noinline)) GC_word begin_chain(int nodes, int steps)
 {
     GC_word hidden = make_chain(nodes);
     newest = NULL;
     chain_end = (void **)GC_HIDE_POINTER(chain_end);
-    clear_stack();
     GC_gcollect();
+    free_atomics();
+    clear_stack();
     GC_start_incremental_collection();
     for (int k = 0; k < steps; k++) GC_collect_a_little();
     chain_end = GC_REVEAL_POINTER(chain_end);
