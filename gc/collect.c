@@ -85,8 +85,9 @@ static void collect_roots(void)
     if (was_marking) collect_roots();
 }
 
-void mpgc_collect_fully(void)
+bool mpgc_collect_fully(void *unused)
 {
+    (void)unused;
     sigset_t old;
     double start = now();
     tell_program(GC_EVENT_START);
@@ -101,10 +102,12 @@ void mpgc_collect_fully(void)
     tell_program(GC_EVENT_RECLAIM_START);
     tell_program(GC_EVENT_RECLAIM_END);
     tell_program(GC_EVENT_END);
+    return true;
 }
 
-void mpgc_begin_cycle(void)
+bool mpgc_begin_cycle(void *unused)
 {
+    (void)unused;
     sigset_t old;
     tell_program(GC_EVENT_START);
     tell_program(GC_EVENT_MARK_START);
@@ -117,6 +120,7 @@ void mpgc_begin_cycle(void)
     rounds = 0;
     left_in_round = 0;
     restore_signals(&old);
+    return true;
 }
 
 static void end_cycle(void)
@@ -179,16 +183,14 @@ bool mpgc_sweep_some(void)
     return count == 1;
 }
 
-// A collection that the program may break off: then the cycle stands, and the next collection drops it.
-bool mpgc_collect_unless(GC_stop_func stop)
+// A collection that the program may break off, by the function at `at`: then the cycle stands, and the next collection drops it.
+bool mpgc_collect_unless(void *at)
 {
+    GC_stop_func stop = at ? *(GC_stop_func *)at : NULL;
     if (GC_dont_gc || (stop && stop())) return false;
-    if (!stop) {
-        mpgc_collect_fully();
-        return true;
-    }
-    if (mpgc.is_marking) mpgc_collect_fully();
-    mpgc_begin_cycle();
+    if (!stop) return mpgc_collect_fully(NULL);
+    if (mpgc.is_marking) (void)mpgc_collect_fully(NULL);
+    (void)mpgc_begin_cycle(NULL);
     while (mpgc.is_marking) {
         if (stop()) {
             if (!mpgc.is_incremental) mpgc_leave_open();

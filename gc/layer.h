@@ -60,12 +60,6 @@ HIDDEN extern _Thread_local bool mpgc_is_owner __attribute__((tls_model("initial
 HIDDEN void mpgc_open(void);
 HIDDEN _Noreturn void mpgc_stop(const char *sentence);
 HIDDEN void mpgc_print_figures(void);
-#if BUG == 2
-HIDDEN extern const char *mpgc_entry;  // a fault to plant: the stack is read from the program's frame on, and no register
-#define MPGC_NOTE_ENTRY() (mpgc_entry = (const char *)__builtin_frame_address(0) + 8)
-#else
-#define MPGC_NOTE_ENTRY() ((void)0)
-#endif
 
 // The heap is open, and this is its thread.
 static inline void mpgc_enter(void)
@@ -110,20 +104,21 @@ HIDDEN void mpgc_set_uncollectable(uintptr_t base, bool on);
 
 // roots.c
 HIDDEN bool mpgc_read_roots(void);
+HIDDEN bool mpgc_from_here(bool (*work)(void *), void *data);
 HIDDEN void mpgc_find_stack(void);
 HIDDEN char *mpgc_stack_bottom(void);
 
-// collect.c
-HIDDEN void mpgc_collect_fully(void);
-HIDDEN bool mpgc_collect_unless(GC_stop_func stop);
-HIDDEN void mpgc_begin_cycle(void);
+// collect.c. What collects runs by mpgc_from_here, and answers whether it did.
+HIDDEN bool mpgc_collect_fully(void *unused);
+HIDDEN bool mpgc_collect_unless(void *stop);
+HIDDEN bool mpgc_begin_cycle(void *unused);
 HIDDEN void mpgc_mark_on(size_t words);
 HIDDEN bool mpgc_sweep_some(void);
 
 // pacing.c
 HIDDEN void mpgc_set_budget(void);
-HIDDEN void mpgc_pace(void);
-HIDDEN bool mpgc_collect_a_little(void);
+HIDDEN bool mpgc_pace(void *unused);
+HIDDEN bool mpgc_collect_a_little(void *unused);
 
 // requests.c
 HIDDEN bool mpgc_find(uintptr_t address, uintptr_t *base, size_t *words);

@@ -34,8 +34,9 @@ void mpgc_set_budget(void)
 static bool is_off(void) { return GC_dont_gc || GC_get_disable_automatic_collection(); }
 
 // So many words were asked for that a look is due.
-void mpgc_pace(void)
+bool mpgc_pace(void *unused)
 {
+    (void)unused;
     if (is_off()) {
         mpgc.next = mpgc.since + STEP;
     } else if (mpgc.is_marking && mpgc.is_incremental) {
@@ -43,23 +44,25 @@ void mpgc_pace(void)
         mpgc.next = mpgc.since + STEP;
     } else if (mpgc.since >= mpgc.budget) {
         if (mpgc.is_incremental)
-            mpgc_begin_cycle();
+            (void)mpgc_begin_cycle(NULL);
         else
-            mpgc_collect_fully();
+            (void)mpgc_collect_fully(NULL);
         mpgc.next = mpgc.is_incremental ? mpgc.since + STEP : mpgc.budget;
     } else {
         for (size_t k = 0; k < SWEPT && !is_swept; k++) is_swept = !mpgc_sweep_some();
         mpgc.next = is_swept || !mpgc.is_incremental ? mpgc.budget : mpgc.since + STEP;
     }
+    return mpgc.is_marking;
 }
 
 // Answers whether there is more to do.
-bool mpgc_collect_a_little(void)
+bool mpgc_collect_a_little(void *unused)
 {
+    (void)unused;
     if (is_off()) return mpgc.is_marking;
     if (mpgc.is_marking && mpgc.is_incremental)
         mpgc_mark_on(WORK);
     else if (mpgc.since >= mpgc.budget)
-        mpgc_pace();
+        (void)mpgc_pace(NULL);
     return mpgc.is_marking;
 }

@@ -60,7 +60,7 @@ static void *ask_again(size_t bytes, size_t words, enum page_kind kind)
 {
     uint64_t base;
     if (GC_dont_gc || words > MAX_REQUEST_WORDS) return out_of_memory(bytes);
-    mpgc_collect_fully();
+    (void)mpgc_from_here(mpgc_collect_fully, NULL);
     mpgc.since += words;
     return ask_within(words, kind, &base) == MPHEAP_OK ? (void *)base : out_of_memory(bytes);
 }
@@ -69,11 +69,10 @@ static inline void *allocate(size_t bytes, enum page_kind kind)
 {
     uint64_t base;
     mpgc_enter();
-    MPGC_NOTE_ENTRY();
     size_t words = bytes > MAX_REQUEST_WORDS * WORD ? MAX_REQUEST_WORDS + 1 : (bytes + extra() + WORD - 1) / WORD;
     if (words == 0) words = 1;
     mpgc.since += words;
-    if (!LIKELY(mpgc.since < mpgc.next)) mpgc_pace();
+    if (!LIKELY(mpgc.since < mpgc.next)) (void)mpgc_from_here(mpgc_pace, NULL);
     if (LIKELY(ask_within(words, kind, &base) == MPHEAP_OK)) return (void *)base;
     return ask_again(bytes, words, kind);
 }

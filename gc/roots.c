@@ -26,7 +26,7 @@ struct ranges { struct range *at; size_t count, room; };
 
 static struct ranges added, excluded;
 static GC_has_static_roots_func is_scanned;
-static const char *stack_low, *stack_bottom;
+static const char *stack_low, *stack_bottom, *stack_top;
 
 // The stacks that are filled.
 static uint8_t slots[ROOT_SLOTS];
@@ -119,25 +119,31 @@ static int scan_object(struct dl_phdr_info *object, size_t size, void *count)
     return 0;
 }
 
-// Never inlined: its own frame has the saved registers and is the end of the stack.
-__attribute__((noinline)) static void scan_stack(void)
+// Does the work with the registers saved, and with the stack's end where the program called in: what the layer and the core leave on the
+// stack below are no roots. Never inlined, so that the saved registers lie below all that the program has.
+__attribute__((noinline)) bool mpgc_from_here(bool (*work)(void *), void *data)
 {
-    uint64_t saved[6];
-    const char *top;
+    uint64_t saved[6] = { 0 };
+    const char *outer = stack_top;
+#if BUG != 2
     __asm__ volatile(
-        "movq %%rbx, 0(%1)\n\tmovq %%rbp, 8(%1)\n\tmovq %%r12, 16(%1)\n\t"
-        "movq %%r13, 24(%1)\n\tmovq %%r14, 32(%1)\n\tmovq %%r15, 40(%1)\n\tmovq %%rsp, %0"
-        : "=r"(top) : "r"(saved) : "memory");
-#if BUG == 2
-    top = mpgc_entry;
-#else
-    scan((const char *)saved, (const char *)(saved + 6));
+        "movq %%rbx, 0(%0)\n\tmovq %%rbp, 8(%0)\n\tmovq %%r12, 16(%0)\n\t"
+        "movq %%r13, 24(%0)\n\tmovq %%r14, 32(%0)\n\tmovq %%r15, 40(%0)"
+        : : "r"(saved) : "memory");
 #endif
+    stack_top = (const char *)saved;
+    bool answer = work(data);
+    stack_top = outer;
+    return answer;
+}
+
+static void scan_stack(void)
+{
     const char *bottom = mpgc_stack_bottom();
     bool is_own = !GC_stackbottom;
-    if (top >= bottom || (is_own && top < stack_low))
+    if (stack_top >= bottom || (is_own && stack_top < stack_low))
         mpgc_stop("a collection on another stack than the thread's own: see GC_set_stackbottom");
-    scan(top, bottom);
+    scan(stack_top, bottom);
 }
 
 static void scan_uncollectable(void)

@@ -113,26 +113,22 @@ int GC_is_disabled(void) { return GC_dont_gc != 0; }
 void GC_gcollect(void)
 {
     mpgc_enter();
-    MPGC_NOTE_ENTRY();
-    (void)mpgc_collect_unless(stop_by_default == never ? NULL : stop_by_default);
+    (void)mpgc_from_here(mpgc_collect_unless, stop_by_default == never ? NULL : &stop_by_default);
 }
 void GC_gcollect_and_unmap(void)
 {
     mpgc_enter();
-    MPGC_NOTE_ENTRY();
-    (void)mpgc_collect_unless(NULL);
+    (void)mpgc_from_here(mpgc_collect_unless, NULL);
 }
 int GC_try_to_collect(GC_stop_func stop)
 {
     mpgc_enter();
-    MPGC_NOTE_ENTRY();
-    return mpgc_collect_unless(stop);
+    return mpgc_from_here(mpgc_collect_unless, &stop);
 }
 int GC_collect_a_little(void)
 {
     mpgc_enter();
-    MPGC_NOTE_ENTRY();
-    return mpgc_collect_a_little();
+    return mpgc_from_here(mpgc_collect_a_little, NULL);
 }
 int GC_incremental_protection_needs(void) { return GC_PROTECTS_POINTER_HEAP; }
 

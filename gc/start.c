@@ -14,9 +14,6 @@
 
 struct layer mpgc;
 _Thread_local bool mpgc_is_owner;
-#if BUG == 2
-const char *mpgc_entry;
-#endif
 
 void mpgc_stop(const char *sentence)
 {
@@ -105,6 +102,6 @@ int GC_is_incremental_mode(void) { return mpgc.is_incremental; }
 void GC_start_incremental_collection(void)
 {
     mpgc_enter();
-    if (mpgc.is_incremental && !mpgc.is_marking && !GC_dont_gc) mpgc_begin_cycle();
+    if (mpgc.is_incremental && !mpgc.is_marking && !GC_dont_gc) (void)mpgc_from_here(mpgc_begin_cycle, NULL);
     mpgc.next = 0;
 }

@@ -69,7 +69,7 @@ plant() {
     local test=$2 words=()
     shift 2
     [ "$test" = shadow ] && words=(3 200000)
-    if "${c[@]}" -fvisibility=hidden -Wno-unused "-I$include" "-DBUG=$number" "${files[@]}" "$top/tests/gc/$test.c" "$room/libmpgc.a" \
+    if "${c[@]}" -fvisibility=hidden -Wno-unused "-I$include" "-DBUG=$number" -DWITHOUT_SYSCALLS "${files[@]}" "$top/tests/gc/$test.c" "$room/libmpgc.a" \
         -pthread -o "$room/planted$number" 2>"$room/said"; then
         fails "planted fault $number under $test" env "$@" "$room/planted$number" "${words[@]}"
     else
@@ -133,18 +133,18 @@ shadow shadow env FULL=1 "$room/shadow" 1 1000000
 shadow "shadow, in small steps" env INCREMENTAL=1 "$room/shadow" 2 1000000
 
 # Faults of the layer, each of which a test has to notice.
-plant 1 barrier -- shadow INCREMENTAL=1
+plant 1 barrier -- barrier
 plant 2 roots requests settings start -- roots
 plant 3 roots -- roots
 plant 4 requests -- roots
-plant 5 barrier -- shadow INCREMENTAL=1
+plant 5 barrier -- barrier
 plant 6 roots -- roots
 plant 7 roots -- roots
 plant 8 roots -- functions
 plant 9 requests -- functions
 plant 10 requests -- roots
 plant 11 roots -- roots
-plant 12 barrier -- shadow INCREMENTAL=1
+plant 12 barrier -- barrier
 
 # Under AddressSanitizer and UndefinedBehaviorSanitizer. The stack is read word by word, so frames stay on it.
 sanitizers=(-fsanitize=address,undefined -fno-sanitize-recover=undefined -g)

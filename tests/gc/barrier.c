@@ -240,6 +240,117 @@ static int child_goes_on(void)
     return 0;
 }
 
+/* The hidden pointer: while a cycle marks, the only pointer to an object goes from where the marker will come to where it has been. */
+static void **volatile chain_start, **volatile chain_end;
+
+static __attribute__((noinline)) GC_word make_chain(int nodes)
+{
+    void **last = chain_start = GC_malloc(200);
+    for (int k = 0; k < nodes; k++) {
+        last[0] = GC_malloc(200);
+        last = last[0];
+    }
+    last[5] = GC_malloc_atomic(90);
+    chain_end = last;
+    return GC_HIDE_POINTER(last[5]);
+}
+
+/* Three ways of the pointer: to the start of the chain, where the marker has been; into an object that is new; and from node to node
+ * with each step, so that it comes to pages that were read again. */
+static void **volatile newest;
+static __attribute__((noinline)) void move_to_start(void)
+{
+    chain_start[5] = chain_end[5];
+    chain_end[5] = NULL;
+}
+
+static __attribute__((noinline)) void move_to_new(void)
+{
+    newest = GC_malloc(3000);
+    newest[5] = chain_end[5];
+    chain_end[5] = NULL;
+}
+
+static __attribute__((noinline)) void **node(int number)
+{
+    void **at = chain_start;
+    while (number-- > 0) at = at[0];
+    return at;
+}
+
+static __attribute__((noinline)) void move_on(int from, int to)
+{
+    void **old = node(from), **next = node(to);
+    next[5] = old[5];
+    if (from != to) old[5] = NULL;
+}
+
+static __attribute__((noinline)) void clear_stack(void)
+{
+    char old[20000];
+    explicit_bzero(old, sizeof old);
+}
+
+/* The lowest free pages were last given to pointer-free objects, so that they are open when a cycle marks. */
+static __attribute__((noinline)) void free_atomics(void)
+{
+    void *texts[200];
+    for (int k = 0; k < 200; k++) texts[k] = GC_malloc_atomic(3000);
+    for (int k = 0; k < 200; k++) GC_free(texts[k]);
+}
+
+/* A chain whose end names an object, and a cycle that has made so many steps. */
+static __attribute__((noinline)) GC_word begin_chain(int nodes, int steps)
+{
+    GC_word hidden = make_chain(nodes);
+    newest = NULL;
+    chain_end = (void **)GC_HIDE_POINTER(chain_end);
+    GC_gcollect();
+    free_atomics();
+    clear_stack();
+    GC_start_incremental_collection();
+    for (int k = 0; k < steps; k++) GC_collect_a_little();
+    chain_end = GC_REVEAL_POINTER(chain_end);
+    return hidden;
+}
+
+static int is_kept(GC_word hidden)
+{
+    clear_stack();
+    end();
+    return GC_base(GC_REVEAL_POINTER(hidden)) == GC_REVEAL_POINTER(hidden);
+}
+
+static __attribute__((noinline)) void walk(int nodes)
+{
+    int at = nodes;
+    for (int k = 0; k < 60; k++) {
+        int to = at * 7 % (nodes + 1);
+        move_on(at, to);
+        at = to;
+        GC_collect_a_little();
+        clear_stack();
+        for (int other = 0; other < nodes; other += 20) node(other)[6] = NULL; /* these pages are written again and again */
+    }
+}
+
+/* To be called first: were much else reached, by stray words even, the marker might come to it first, or make its pages dirty. */
+static void hidden_pointers(void)
+{
+    for (int steps = 0; steps < 40; steps++) {
+        GC_word hidden = begin_chain(500 + 10 * steps, steps);
+        move_to_start();
+        CHECK(is_kept(hidden));
+        hidden = begin_chain(500 + 10 * steps, steps);
+        move_to_new();
+        CHECK(is_kept(hidden));
+        hidden = begin_chain(500 + 10 * steps, 1);
+        walk(500 + 10 * steps);
+        CHECK(is_kept(hidden));
+    }
+    chain_start = chain_end = newest = NULL;
+}
+
 static void children(void)
 {
     begin();
@@ -252,6 +363,7 @@ int main(void)
     signal(SIGSEGV, on_fault_plain);
     GC_INIT();
     GC_enable_incremental();
+    hidden_pointers();
     foreign_faults();
     system_calls();
     keeps_errno();

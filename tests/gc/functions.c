@@ -30,8 +30,8 @@ enum { STRAY = 60 };
 /* Overwrites what calls before have left on the stack. */
 static NOINLINE void clear_stack(void)
 {
-    volatile char old[20000];
-    memset((char *)old, 0, sizeof old);
+    char old[20000];
+    explicit_bzero(old, sizeof old);
 }
 
 static int is_zero(const void *from, size_t bytes)

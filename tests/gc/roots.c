@@ -35,8 +35,8 @@ static NOINLINE void ask_for_others(void)
 
 static NOINLINE void clear_stack(void)
 {
-    volatile char old[30000];
-    memset((char *)old, 0, sizeof old);
+    char old[30000];
+    explicit_bzero(old, sizeof old);
 }
 
 void collect_now(void);
@@ -78,10 +78,11 @@ static NOINLINE void registers(void)
     CHECK(is_whole(hold_in_r15(make_hidden())));
 }
 
-static void *in_static, *inner_static, *past_static;
-static struct { char before[5000]; void *at; } in_large_static;
-static _Thread_local void *in_thread;
-static _Thread_local struct { char before[3000]; void *at; } in_large_thread;
+/* Volatile, so that they are stored though nobody reads them. */
+static void *volatile in_static, *volatile inner_static, *volatile past_static;
+static struct { char before[5000]; void *volatile at; } in_large_static;
+static _Thread_local void *volatile in_thread;
+static _Thread_local struct { char before[3000]; void *volatile at; } in_large_thread;
 
 static NOINLINE void one_each(void *volatile *on_stack, void **in_added, void ***in_uncollectable, GC_word hidden[9])
 {

@@ -121,6 +121,17 @@ static uint32_t any_reached(void)
     return at;
 }
 
+/* A reached node that has links, if one is soon found. */
+static uint32_t any_holder(void)
+{
+    uint32_t at = root_shadow[below(ROOTS)].to;
+    for (uint32_t steps = below(30); at != MOST && shadows[at].links > 0 && steps > 0; steps--) {
+        uint32_t to = shadows[at].link[below(shadows[at].links)].to;
+        if (to != MOST && shadows[to].links > 0) at = to;
+    }
+    return at != MOST && shadows[at].links > 0 ? at : MOST;
+}
+
 static uint32_t any_offset(uint32_t to)
 {
     uint32_t way = below(8);
@@ -131,13 +142,15 @@ static uint32_t any_offset(uint32_t to)
 static void set_link(uint32_t number, uint32_t k)
 {
     struct shadow *s = &shadows[number];
-    uint32_t to = below(6) == 0 ? MOST : any_reached(), offset = any_offset(to);
+    uint32_t to = below(6) == 0 ? MOST : any_reached();
+    if (to != MOST && shadows[to].is_text) to = MOST; /* a text has one name at most, which moves */
+    uint32_t offset = any_offset(to);
     s->link[k].to = to;
     s->link[k].offset = offset;
     words_of(s)[2 + k] = to == MOST ? 0 : (uint64_t)(uintptr_t)shadows[to].address + offset;
 }
 
-static uint32_t any_links(void) { return below(200) == 0 ? 300 + below(500) : below(LINKS); }
+static uint32_t any_links(void) { return below(1000) == 0 ? 300 + below(500) : below(LINKS); }
 
 static uint32_t new_node(void)
 {
@@ -197,8 +210,8 @@ static void resize(uint32_t number)
 /* Where a new object is named: by a root, or by a link of a reached node. */
 static void name(uint32_t number)
 {
-    uint32_t holder = any_reached();
-    if (below(3) == 0 || holder == MOST || shadows[holder].links == 0) {
+    uint32_t holder = any_holder();
+    if (below(3) == 0 || holder == MOST) {
         set_root(below(ROOTS), number, any_offset(number));
         return;
     }
@@ -208,6 +221,21 @@ static void name(uint32_t number)
     words_of(&shadows[holder])[2 + k] = (uint64_t)(uintptr_t)shadows[number].address + offset;
 }
 
+/* What a marker hates: a link goes from one node to another, and is gone from the first. */
+static void move_link(void)
+{
+    uint32_t from = any_holder(), to = any_holder();
+    if (from == MOST || to == MOST) return;
+    uint32_t j = below(shadows[from].links), k = below(shadows[to].links);
+    if (shadows[from].link[j].to == MOST) return;
+    shadows[to].link[k].to = shadows[from].link[j].to;
+    shadows[to].link[k].offset = shadows[from].link[j].offset;
+    words_of(&shadows[to])[2 + k] = words_of(&shadows[from])[2 + j];
+    if (from == to && j == k) return;
+    shadows[from].link[j].to = MOST;
+    words_of(&shadows[from])[2 + j] = 0;
+}
+
 static void garbage(void)
 {
     uint64_t *p = below(2) ? GC_malloc(8 * (1 + below(20))) : GC_malloc_atomic(8 * (1 + below(20)));
@@ -215,10 +243,17 @@ static void garbage(void)
     if (below(4) == 0) GC_free(p);
 }
 
+/* Roots go, all but a few in the half of the cases, so that the graph stays small. */
+static void forget_most(void)
+{
+    uint32_t few = below(2) * 5;
+    for (uint32_t k = few; k < ROOTS; k++) set_root(k, MOST, 0);
+}
+
 static void operate(void)
 {
-    uint32_t number = any_reached();
-    switch (below(16)) {
+    uint32_t number;
+    switch (below(18)) {
     case 0: case 1: case 2: case 3:
         number = new_node();
         if (below(8) == 0) resize(number);
@@ -233,11 +268,22 @@ static void operate(void)
         garbage();
         break;
     case 8:
-        if (below(reached_words > WORDS_CAP ? 2 : 20) == 0) set_root(below(ROOTS), MOST, 0);
+        if (below(20) == 0) set_root(below(ROOTS), MOST, 0);
+        break;
+    case 9: case 10: case 11:
+        move_link();
         break;
     default:
-        if (number != MOST && shadows[number].links > 0) set_link(number, below(shadows[number].links));
+        number = any_holder();
+        if (number != MOST) set_link(number, below(shadows[number].links));
     }
+}
+
+/* What calls and fault handlers have left on the stack would hide an object that the layer has lost. */
+static __attribute__((noinline)) void clear_stack(void)
+{
+    char old[10000];
+    explicit_bzero(old, sizeof old);
 }
 
 int main(int count, char **texts)
@@ -260,10 +306,13 @@ int main(int count, char **texts)
     GC_word seen = GC_get_gc_no();
     for (long k = 0; k < operations; k++) {
         operate();
+        clear_stack();
+        if (k % 100 == 0) GC_start_incremental_collection(); /* which does nothing in full collections */
         if (k % 50000 == 49999) GC_gcollect();
         if (GC_get_gc_no() == seen && unused_count > 100) continue;
         seen = GC_get_gc_no();
         compare_all();
+        if (reached_words > WORDS_CAP) forget_most();
     }
     compare_all();
     printf("%ld operations, %lu collections, %lu comparisons of %lu objects\n", operations, (unsigned long)GC_get_gc_no(),
