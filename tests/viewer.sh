@@ -10,7 +10,7 @@ for tool in node "${CHROMIUM:-chromium}"; do
         exit 0
     fi
 done
-if ! node -e 'process.exit(Number(process.versions.node.split(".")[0]) < 20)'; then
+if ! node -e 'process.exit(Number(process.versions.node.split(".")[0]) < 20 ? 1 : 0)'; then
     echo "viewer: skipped: node $(node --version) is older than 20"
     exit 0
 fi
