@@ -122,7 +122,7 @@ module _ (kept : ℕ → Option Found) (pages : ℕ) (map : IsMap pages kept) (w
       let no = neither (names s bases h) (lies_in s bases h) (sym (stay_same l h n) ∙ is) in
       let out : Contains bases l.base → ⊥ = λ among. true≢false (sym (names_yes s bases h l.base n.object n.has n.names among) ∙ no.0) in
       let apart : Contains bases n.holder_base → ⊥ =
-          λ among. true≢false (sym (lies_yes s bases h n.holder_base n.holder (n.held, subst (λ a. Reads a n.holder_base (length n.holder.words)) (sym n.address) n.in_holder) among) ∙ no.1) in
+      λ among. true≢false (sym (lies_yes s bases h n.holder_base n.holder (n.held, subst (λ a. Reads a n.holder_base (length n.holder.words)) (sym n.address) n.in_holder) among) ∙ no.1) in
       record {
         address = n.address;
         aligned = n.aligned;

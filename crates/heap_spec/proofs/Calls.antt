@@ -25,7 +25,6 @@ use Rattle.std.specs.Prelude.{◌≢◌}
 use Rattle.std.proofs.lemmas.Bool.{cases_eq}
 use Rattle.std.proofs.lemmas.Option.{same_Some}
 
-
 -- a word of a list of words
 word_at : (words : List ℕ) (i : ℕ) → All IsWord words → IsWord (slice_index words i)
 word_at words i all = ⊎_elim (λ lt. All-get_or IsWord words i 0 lt all) (λ past. rw (get_or_past words i 0 past) (omega arith)) (cases_lt i (length words))

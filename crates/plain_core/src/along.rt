@@ -55,12 +55,7 @@ fn keep_link(words: &mut [u64], objects: &[Extent], link: Link) -> bool
 }
 
 // The same of some links, and copies those that stay.
-fn keep_links(
-    words: &mut [u64],
-    objects: &[Extent],
-    row: &[Link],
-    into: &mut ArrayVec<Link, MOST>,
-)
+fn keep_links(words: &mut [u64], objects: &[Extent], row: &[Link], into: &mut ArrayVec<Link, MOST>)
     requires lie { All (LiesIn words.old) objects.now }
     requires empty { into.old.items ≡ [] }
     requires few { length row.now ≤ MAX_LINKS }

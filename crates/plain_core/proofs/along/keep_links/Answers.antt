@@ -17,7 +17,7 @@ loop-link-preserved c =
     let test : stays_with (holds_word c.args.objects.now) (has_base c.args.objects.now) (get_or c.args.row.now c.loop-link.link-index d) ≡ c.keep_link.result = sym c.keep_link.ensures.stays in
     let along = along_more c.args.objects.now c.args.row.now c.loop-link.link-index _ d c.args.words.now c.loop-link.words c.keep_link.new.words c.loop-link-test.true refl c.loop-link.invariant.along c.keep_link.ensures.words in
     elim c.if-keep_link.branch [
-      then-keep_link w ↦ record {
+      | then-keep_link w ↦ record {
         items = kept_more _ c.args.row.now c.loop-link.link-index d true _ _ c.loop-link-test.true (test ∙ w.if-keep_link.true) c.loop-link.invariant.items (ap (λ x. x.items) w.into-is ∙ w.push.ensures.items);
         few = let e = ap (λ x. x.items) w.into-is in let n = w.push.ensures.len in let few = c.loop-link.invariant.few in let l = ap (λ x. length x.items) w.into-is in omega arith;
         along = along;

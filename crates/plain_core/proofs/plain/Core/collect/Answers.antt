@@ -26,7 +26,7 @@ take_along-requires c = rw (c.deref_mut-2.ensures.value, c.deref-4.ensures.value
 pub invariant_of-self : goal.invariant_of-self
 invariant_of-self c = (
   (let long : length c.take_along.new.words ≡ length c.self.inside.words.items = c.take_along.auto.words ∙ ap length c.deref_mut-2.ensures.value in
-  rest_sound _ c.self.invariant.0 c.keep_flagged-count.ensures.parts.gone _ c.keep_flagged-count.ensures.parts.all _ _
+      rest_sound _ c.self.invariant.0 c.keep_flagged-count.ensures.parts.gone _ c.keep_flagged-count.ensures.parts.all _ _
       (ap length (with_items_is c.self.inside.words c.take_along.new.words (long ∙ sym c.self.inside.words.ok.0)) ∙ long)),
   record { objects = rw c.keep_flagged-count.ensures.capacity c.self.invariant.1.objects; lists = room_kept _ _ _ c.self.invariant.1.lists c.list_from_roots.ensures.room; flags = c.self.invariant.1.flags; words = c.self.invariant.1.words },
 )

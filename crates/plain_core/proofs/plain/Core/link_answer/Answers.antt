@@ -24,13 +24,17 @@ returns-in_default-found c s h slot =
 pub returns-then-not-has_room : goal.returns-then-not-has_room
 returns-then-not-has_room c s h slot =
     let holder = rw c.address-address.ensures at (c.in-Some.ensures.some s h) in
-    let object = rw c.word-word.ensures at (c.in-Some-found.ensures.some s h) in
-    (s, full_acts c.args.self.now s h slot _ _ _ _ _ c.args.mutator.now holder.0 object.0 (rw c.address-address.ensures at c.if-address-ne0.false) holder.1 (holder.3 ∙ c.if-is_normal.ensures) object.1
-    (subst (λ row. LacksRowRoom row (address c.args.mutator.now c.args.at c.args.offset)) (ap (λ (x : Contents). x.links) c.self.view_is) (rw c.address-address.ensures at c.if-not-has_room.ensures)))
+    let object = rw c.word-word.ensures at (c.in-Some-found.ensures.some s h) in (
+      s,
+      full_acts c.args.self.now s h slot _ _ _ _ _ c.args.mutator.now holder.0 object.0 (rw c.address-address.ensures at c.if-address-ne0.false) holder.1 (holder.3 ∙ c.if-is_normal.ensures) object.1
+          (subst (λ row. LacksRowRoom row (address c.args.mutator.now c.args.at c.args.offset)) (ap (λ (x : Contents). x.links) c.self.view_is) (rw c.address-address.ensures at c.if-not-has_room.ensures)),
+    )
 
 pub returns : goal.returns
 returns c s h slot =
     let holder = rw c.address-address.ensures at (c.in-Some.ensures.some s h) in
-    let object = rw c.word-word.ensures at (c.in-Some-found.ensures.some s h) in
-    (_, Acts.linked (rw c.address-address.ensures at c.if-address-ne0.false) holder.1 (holder.3 ∙ c.if-is_normal.ensures) object.1
-    (room_for c.args.self.now s _ h (subst (λ row. HasRowRoom row (address c.args.mutator.now c.args.at c.args.offset)) (ap (λ (x : Contents). x.links) c.self.view_is) (rw c.address-address.ensures at c.if-not-has_room.ensures))))
+    let object = rw c.word-word.ensures at (c.in-Some-found.ensures.some s h) in (
+      _,
+      Acts.linked (rw c.address-address.ensures at c.if-address-ne0.false) holder.1 (holder.3 ∙ c.if-is_normal.ensures) object.1
+          (room_for c.args.self.now s _ h (subst (λ row. HasRowRoom row (address c.args.mutator.now c.args.at c.args.offset)) (ap (λ (x : Contents). x.links) c.self.view_is) (rw c.address-address.ensures at c.if-not-has_room.ensures))),
+    )
