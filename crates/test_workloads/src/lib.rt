@@ -19,7 +19,7 @@ mod gates;
 #[cfg(test)]
 mod helped_cores;
 #[cfg(test)]
-mod links;
+mod linking;
 #[cfg(test)]
 mod overflow;
 #[cfg(test)]
