@@ -114,17 +114,20 @@ module _ (pages : ℕ) (found : ℕ → Option Found) (map : IsMap pages found) 
             };
         within = words_within pages found map old size words f 0 n is normal marked (omega arith) x;
         once = λ from b.
-            let low : from ≤ f.base = b.before f is (omega arith) (below) in
-            (stop, record {
-              within = within;
-              before = λ h e past below. ⊎_elim
-                  (λ (lt : h.base < stop).
-                  let above = placed.above in let aligned = placed.aligned in
-                  let p = map.placed h.base h e in let pa = p.above in let pb = p.aligned in
-                  let s : f ≡ h = same_Some f h (sym (map.whole f.base h.base f is (record { from = omega arith; below = omega arith })) ∙ e) in
-                  let base = ap (λ (z : Found). z.base) s in absurd (omega arith))
-                  (λ ge. ge) (cases_lt h.base stop);
-            }, omega arith);
+            let low : from ≤ f.base = b.before f is (omega arith) (below) in (
+              stop,
+              record {
+                within = within;
+                before = λ h e past below. ⊎_elim
+                    (λ (lt : h.base < stop).
+                    let above = placed.above in let aligned = placed.aligned in
+                    let p = map.placed h.base h e in let pa = p.above in let pb = p.aligned in
+                    let s : f ≡ h = same_Some f h (sym (map.whole f.base h.base f is (record { from = omega arith; below = omega arith })) ∙ e) in
+                    let base = ap (λ (z : Found). z.base) s in absurd (omega arith))
+                    (λ ge. ge) (cases_lt h.base stop);
+              },
+              omega arith,
+            );
       }
 
   pub objects_append : (first : Marking) (high low mid past r n k : ℕ) (a b c : Marking) → length a.marks ≡ PAGE_GRANULES * pages → low ≤ mid → mid ≤ past
@@ -181,5 +184,5 @@ module _ (pages : ℕ) (found : ℕ → Option Found) (map : IsMap pages found) 
     (let s = x.once (page_start page) (record {
       within = omega arith;
       before = λ f e from below. let above = (map.placed f.base f e).above in omega arith;
-    }) in let within = s.1.within in let t = s.2 in omega arith)
+    }) in let within = s.1.within in let t = s.2 in omega arith),
   )

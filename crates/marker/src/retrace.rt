@@ -68,13 +68,7 @@ impl Marker {
     }
 
     // Reads the words of marked Normal objects on a page again, object by object.
-    fn reread_objects(
-        &mut self,
-        map: &BlockMap,
-        heap_bytes: u64,
-        reader: &mut Reader,
-        page: PageNo,
-    )
+    fn reread_objects(&mut self, map: &BlockMap, heap_bytes: u64, reader: &mut Reader, page: PageNo)
         requires pages { length self.old.dirty ≡ length map.now }
         requires lawful { IsLawful map.now }
         requires bytes { heap_bytes ≡ PAGE_BYTES * length map.now }
@@ -93,13 +87,7 @@ impl Marker {
     }
 
     // Reads the words of marked Normal objects on a page that is cut again, by the page's mark bits.
-    fn reread_cells(
-        &mut self,
-        map: &BlockMap,
-        heap_bytes: u64,
-        reader: &mut Reader,
-        page: PageNo,
-    )
+    fn reread_cells(&mut self, map: &BlockMap, heap_bytes: u64, reader: &mut Reader, page: PageNo)
         requires pages { length self.old.dirty ≡ length map.now }
         requires lawful { IsLawful map.now }
         requires bytes { heap_bytes ≡ PAGE_BYTES * length map.now }
@@ -180,7 +168,14 @@ impl Marker {
             return;
         }
         let stop = (base + WORD_BYTES * u64::from(found.len)).min(high);
-        self.mark_words(map, heap_bytes, reader, found, 0, (stop - base) / WORD_BYTES);
+        self.mark_words(
+            map,
+            heap_bytes,
+            reader,
+            found,
+            0,
+            (stop - base) / WORD_BYTES,
+        );
     }
 
     // Whether an object's words are read: it is a marked Normal one.

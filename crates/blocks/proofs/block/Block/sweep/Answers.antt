@@ -12,11 +12,11 @@ loop-cell-preserved c =
     ap (λ k. 256 * c.args.page + k * (c.from.result / 2)) c.from-in-Some.ensures ∙ ap (λ k. 256 * c.args.page + c.in-Some.cell * (k / 2)) class in
     let is : c.is_set.result ≡ slice_index_or c.args.marks.now (mark_of c.args.page c.args.self.now.class c.in-Some.cell) false = c.is_set.ensures ∙ ap (λ k. slice_index_or c.args.marks.now k false) at in
     elim c.if-not-is_set.branch [
-      then-not-is_set w ↦ (
+      | then-not-is_set w ↦ (
         swept_dead _ _ _ _ _ _ _ c.loop-cell.invariant.0 c.in-Some.cell c.in-Some.ensures _ _ _ (sym is ∙ w.if-not-is_set.true) (w.self-is ∙ w.put.ensures.block) (w.memory-is ∙ w.put.ensures.memory),
         rw (w.self-is, w.memory-is) w.put.ensures.listed,
       )
-    | else-not-is_set w ↦ (
+      | else-not-is_set w ↦ (
         rw (w.self-is, w.memory-is) (swept_live _ _ _ _ _ _ _ c.loop-cell.invariant.0 c.in-Some.cell c.in-Some.ensures (sym is ∙ w.if-not-is_set.false)),
         rw (w.self-is, w.memory-is) c.loop-cell.invariant.1,
       )

@@ -38,8 +38,8 @@ returns-clause-rereads c =
     let high = c.requires.high in let below = c.requires.below in
     let reads = c.mark_words.ensures.counted in
     let whole : (c.min-stop.result ≡ c.in-Some.found.base + WORD_BYTES * c.in-Some.found.len) ⊎ (c.min-stop.result ≡ c.args.high) =
-        ⊎_elim (λ (lt : c.in-Some.found.base + WORD_BYTES * c.in-Some.found.len < c.args.high). inl (omega arith)) (λ ge. inr (omega arith))
-        (cases_lt (c.in-Some.found.base + WORD_BYTES * c.in-Some.found.len) c.args.high) in
+    ⊎_elim (λ (lt : c.in-Some.found.base + WORD_BYTES * c.in-Some.found.len < c.args.high). inl (omega arith)) (λ ge. inr (omega arith))
+    (cases_lt (c.in-Some.found.base + WORD_BYTES * c.in-Some.found.len) c.args.high) in
     let n : ℕ = (c.min-stop.result - (FIRST_ADDRESS + GRANULE_BYTES * c.args.granule)) / WORD_BYTES in
     let ends : c.min-stop.result ≡ c.in-Some.found.base + WORD_BYTES * n = ⊎_elim (λ (w : c.min-stop.result ≡ c.in-Some.found.base + WORD_BYTES * c.in-Some.found.len). omega arith) (λ (w : c.min-stop.result ≡ c.args.high). omega arith) whole in
     objects_words (length c.args.map.now) (found_in c.args.map.now) c.requires.lawful.map c.args.reader.now.words c.args.self.now c.args.high c.args.granule c.min-stop.result n

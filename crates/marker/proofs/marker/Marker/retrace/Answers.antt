@@ -14,7 +14,6 @@ pub returns-in_err-page-clause-traces : goal.returns-in_err-page-clause-traces
 returns-in_err-page-clause-traces c =
     subst (λ (m : Marking). Traces (found_in c.args.map.now) c.args.reader.now.words [] c.args.self.now m) (sym c.in_err-page.ensures.page.1) (traces_refl (found_in c.args.map.now) c.args.reader.now.words [] c.args.self.now)
 
-
 page_is : (page : ℕ) (found : ℕ → Option Found) (words : List ℕ) (old a new : Marking) → a ≡ with_dirty old (set old.dirty page false) → Rereads found words (page_start page) (page_start (page + 1)) a new
     → Rereads found words (page_start page) (page_start (page + 1)) (with_dirty old (set old.dirty page false)) new
 page_is page found words old a new e x = subst (λ (m : Marking). Rereads found words (page_start page) (page_start (page + 1)) m new) e x
