@@ -1,6 +1,6 @@
 -- What is known of the objects of a heap after a change.
 use Rattle.std.proofs.Common.{◌≡◌, ◌⊎◌, ◌≤◌, ℕ, List, [], ◌∷◌, ◌++◌, length, get_or, eqb, cond, Bool, true, false, refl, sym, ap, ◌∙◌, subst, arith, inl, inr, ⊎_elim}
-use Rattle.std.specs.Prelude.{Option, Some, None, Contains, nat_eq}
+use Rattle.std.specs.Prelude.{Some, None, option_map, Contains, nat_eq}
 use Rattle.std.specs.List.{IsDistinct, list_any}
 use Rattle.std.specs.Cmp.{nat_eq_equiv}
 use Rattle.std.proofs.lemmas.Bool.{eqb-true, eq-eqb, cond-true}
@@ -11,10 +11,12 @@ use Rattle.std.proofs.lemmas.Map.Keys.{IsDistinct-push}
 use Rattle.std.proofs.lemmas.Map.Made.{length-le_from_is_member}
 use Rattle.std.proofs.lemmas.Map.Views.{Contains-from_any}
 use Rattle.heap_spec.specs.declared.reply.Reply.TheVariants.{Count}
-use Rattle.heap_spec.specs.Heap.{Heap, Object, HasObject, with_at, without, without_at}
+use Rattle.heap_spec.specs.Heap.{Heap, Object, HasObject, with_at, without, with_cleared, loses_word}
 use Rattle.heap_spec.specs.Closure.{Reached}
 use Rattle.heap_spec.specs.Cycles.{TakesOut}
 use Rattle.heap_spec.proofs.Objects.{with_at-same, with_at-other, at_cases}
+use Rattle.heap_spec.proofs.Links.{stays_by}
+use Rattle.replayer.proofs.Nexts.{any_same, without_same}
 use Rattle.heap_core.specs.Contents.{Contents as CoreContents}
 use Rattle.heap_core.specs.Standing.{StandsFor, objects_of}
 use Rattle.recording.specs.Sorting.{IsBase, SortsOut}
@@ -76,29 +78,19 @@ find l b among = list_any-from_Any (λ y. eqb y b) l (among.0, b, among.1, among
 
 -- what is one of some is gone without them
 pub gone_without : (s : Heap) (l : List ℕ) (b : ℕ) → Contains l b → (without s l).objects b ≡ None
-gone_without s l b among = cond-true (list_any (λ y. eqb y b) l) None (s.objects b) (find l b among)
+gone_without s l b among = ap (option_map (with_cleared (loses_word s l) b)) (cond-true (list_any (λ y. eqb y b) l) None (s.objects b) (find l b among))
 
 -- an object that is gone without some is one of them
 pub was_one : (s : Heap) (l : List ℕ) (b : ℕ) (o : Object) → HasObject s b o → ((p : Object) → HasObject (without s l) b p → ⊥) → Contains l b
 was_one s l b o has gone = ⊎_elim
     (λ among. among)
-    (λ out. absurd (gone o (subst (λ v. cond v None (s.objects b) ≡ Some o) (sym out) has)))
+    (λ out. absurd (gone (with_cleared (loses_word s l) b o) (stays_by s l b o has (λ among. (let t : true ≡ false = sym (find l b among) ∙ out in cc)))))
     (found_or l b (list_any (λ y. eqb y b) l) refl)
 
 -- the same bases leave the same heap
 module _ (s : Heap) (l m : List ℕ) (to : (b : ℕ) → Contains l b → Contains m b) (back : (b : ℕ) → Contains m b → Contains l b) where
-  same_at : (b : ℕ) → without_at s.objects l b ≡ without_at s.objects m b
-  same_at b = ⊎_elim
-      (λ among. gone_without s l b among ∙ sym (gone_without s m b (to b among)))
-      (λ out. ap (λ v. cond v None (s.objects b)) (out ∙ sym (absent (list_any (λ y. eqb y b) m) refl out)))
-      (found_or l b (list_any (λ y. eqb y b) l) refl)
-    where
-      absent : (v : Bool) → list_any (λ y. eqb y b) m ≡ v → list_any (λ y. eqb y b) l ≡ false → list_any (λ y. eqb y b) m ≡ false
-      absent true is out = ⊎_elim (λ among. absurd (let t : true ≡ false = sym (find l b (back b among)) ∙ out in cc)) (λ no. no) (found_or m b true is)
-      absent false is out = is
-
   pub same_without : without s l ≡ without s m
-  same_without = ap (λ (objects : ℕ → Option Object). record s { objects = objects }) (λ i b. same_at b i)
+  same_without = without_same s l m (any_same l m to back)
 
   fewer : IsDistinct nat_eq l → length l ≤ length m
   fewer d = length-le_from_is_member nat_eq_equiv l m d (λ q is. let has = to q (Contains-from_any eqb-true q l is) in list_any-from_Any (eqb q) m (has.0, q, has.1, has.2, eq-eqb q q refl))

@@ -108,6 +108,33 @@ named_next (Forgot a) (Place b) e n s t t' x y = absurd e
 named_next Nothing hint e n s t t' x y = absurd x
 named_next (Place a) hint e n s t t' x y = absurd x
 
+both_ways : (a b : Bool) → (a ≡ true → b ≡ true) → (b ≡ true → a ≡ true) → a ≡ b
+both_ways true b to from = sym (to refl)
+both_ways false true to from = from refl
+both_ways false false to from = refl
+
+-- a test finds the same among the same bases
+passes : (p : ℕ → Bool) (xs ys : List ℕ) → ((x : ℕ) → Contains xs x → Contains ys x) → list_any p xs ≡ true → list_any p ys ≡ true
+passes p xs ys to e = let any = Any-from_list_any p xs e in let among = to any.1 (any.0, any.2, any.3) in list_any-from_Any p ys (among.0, any.1, among.1, among.2, any.4)
+
+pub any_same : (xs ys : List ℕ) → ((x : ℕ) → Contains xs x → Contains ys x) → ((x : ℕ) → Contains ys x → Contains xs x) → (p : ℕ → Bool) → list_any p xs ≡ list_any p ys
+any_same xs ys to from p = both_ways (list_any p xs) (list_any p ys) (passes p xs ys to) (passes p ys xs from)
+
+-- the heap without objects, by what the tests say of these
+abbrev left : Heap → (ℕ → Option Object) → (HeapLink → Bool) → (HeapLink → Bool) → Heap
+left s objects named lies = record s {
+  objects = λ q. option_map (with_cleared (λ a. list_any (λ (l : HeapLink). (l.address == a) && named l) s.links) q) (objects q);
+  links = filter (λ l. not (named l || lies l)) s.links;
+}
+
+-- the same bases leave the same heap
+pub without_same : (s : Heap) (xs ys : List ℕ) → ((p : ℕ → Bool) → list_any p xs ≡ list_any p ys) → without s xs ≡ without s ys
+without_same s xs ys same =
+    let objects : without_at s.objects xs ≡ without_at s.objects ys = fun_ext (λ q. ap (λ b. cond b None (s.objects q)) (same (λ b. eqb b q))) in
+    let named : names s xs ≡ names s ys = fun_ext (λ l. same (λ b. is_born (s.objects b) l.birth)) in
+    let lies : lies_in s xs ≡ lies_in s ys = fun_ext (λ l. same (λ b. covers b (s.objects b) l.address)) in
+    ap (λ f. left s f (names s xs) (lies_in s xs)) objects ∙ ap (λ f. left s (without_at s.objects ys) f (lies_in s xs)) named ∙ ap (λ f. left s (without_at s.objects ys) (names s ys) f) lies
+
 -- full collections take the same objects out
 module _ (s : Heap) (reply : Reply) where
   in_other : {t t' : Heap} (one : CollectsFully s reply t) (other : CollectsFully s reply t') (base : ℕ) → Contains one.bases base → Contains other.bases base
@@ -115,34 +142,8 @@ module _ (s : Heap) (reply : Reply) where
       let object = All-contains (λ b. (o : Object) × HasObject s b o) one.bases base one.takes.objects here in
       other.all base object.0 object.1 (All-contains (λ b. Reached s b → ⊥) one.bases base one.takes.unreached here)
 
-  both_ways : (a b : Bool) → (a ≡ true → b ≡ true) → (b ≡ true → a ≡ true) → a ≡ b
-  both_ways true b to from = sym (to refl)
-  both_ways false true to from = from refl
-  both_ways false false to from = refl
-
-  -- a test finds the same among the same bases
-  passes : (p : ℕ → Bool) (xs ys : List ℕ) → ((x : ℕ) → Contains xs x → Contains ys x) → list_any p xs ≡ true → list_any p ys ≡ true
-  passes p xs ys to e = let any = Any-from_list_any p xs e in let among = to any.1 (any.0, any.2, any.3) in list_any-from_Any p ys (among.0, any.1, among.1, among.2, any.4)
-
-  any_same : (xs ys : List ℕ) → ((x : ℕ) → Contains xs x → Contains ys x) → ((x : ℕ) → Contains ys x → Contains xs x) → (p : ℕ → Bool) → list_any p xs ≡ list_any p ys
-  any_same xs ys to from p = both_ways (list_any p xs) (list_any p ys) (passes p xs ys to) (passes p ys xs from)
-
-  -- the heap without objects, by what the tests say of these
-  abbrev left : (ℕ → Option Object) → (HeapLink → Bool) → (HeapLink → Bool) → Heap
-  left objects named lies = record s {
-    objects = λ q. option_map (with_cleared (λ a. list_any (λ (l : HeapLink). (l.address == a) && named l) s.links) q) (objects q);
-    links = filter (λ l. not (named l || lies l)) s.links;
-  }
-
-  without_same : (xs ys : List ℕ) → ((p : ℕ → Bool) → list_any p xs ≡ list_any p ys) → without s xs ≡ without s ys
-  without_same xs ys same =
-      let objects : without_at s.objects xs ≡ without_at s.objects ys = fun_ext (λ q. ap (λ b. cond b None (s.objects q)) (same (λ b. eqb b q))) in
-      let named : names s xs ≡ names s ys = fun_ext (λ l. same (λ b. is_born (s.objects b) l.birth)) in
-      let lies : lies_in s xs ≡ lies_in s ys = fun_ext (λ l. same (λ b. covers b (s.objects b) l.address)) in
-      ap (λ f. left f (names s xs) (lies_in s xs)) objects ∙ ap (λ f. left (without_at s.objects ys) f (lies_in s xs)) named ∙ ap (λ f. left (without_at s.objects ys) (names s ys) f) lies
-
   collect_next : {t t' : Heap} → CollectsFully s reply t → CollectsFully s reply t' → t ≡ t'
-  collect_next one other = one.takes.after ∙ without_same one.bases other.bases (any_same one.bases other.bases (in_other one other) (in_other other one)) ∙ sym other.takes.after
+  collect_next one other = one.takes.after ∙ without_same s one.bases other.bases (any_same one.bases other.bases (in_other one other) (in_other other one)) ∙ sym other.takes.after
 
 -- a refusal is another reply
 refused_done : Refused WrongPhase ≡ Done → ⊥
