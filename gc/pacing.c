@@ -6,7 +6,9 @@
 #include "layer.h"
 
 enum {
-    LEAST_BUDGET = 1024 * 1024 / WORD,  // words
+    USUAL = 1024 * 1024 / WORD,         // words asked for between collections of a heap that keeps nothing, at the usual divisor
+    USUAL_DIVISOR = 3,
+    LEAST = 1024,                       // words, however full the heap is
     STEP = 256,                         // words asked for between two steps of a cycle
     WORK = 1024,                        // words that a step reads
     SWEPT = 2,                          // pages that are swept in a step while no cycle marks
@@ -21,10 +23,10 @@ void mpgc_set_budget(void)
     uint64_t room = (mpgc.limit > used ? mpgc.limit - used : 0) * (PAGE / WORD);
     uint64_t divisor = GC_free_space_divisor ? GC_free_space_divisor : 1;
     mpgc.kept = used * (PAGE / WORD);
-    mpgc.budget = 4 * mpgc.kept / divisor;
-    if (mpgc.budget < LEAST_BUDGET) mpgc.budget = LEAST_BUDGET;
-    if (mpgc.budget > room * 3 / 4) mpgc.budget = room * 3 / 4;
-    if (mpgc.budget < LEAST_BUDGET / 16) mpgc.budget = LEAST_BUDGET / 16;
+    mpgc.budget = (USUAL_DIVISOR * USUAL + 4 * mpgc.kept) / divisor;
+    uint64_t most = mpgc.is_incremental ? room / 2 : room * 3 / 4;  // a cycle needs room while it marks
+    if (mpgc.budget > most) mpgc.budget = most;
+    if (mpgc.budget < LEAST) mpgc.budget = LEAST;
     mpgc.total += mpgc.since;
     mpgc.since = mpgc.freed = 0;
     mpgc.next = mpgc.is_incremental ? STEP : mpgc.budget;

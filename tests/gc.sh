@@ -52,7 +52,7 @@ shadow() {
 fails() {
     local what=$1 status
     shift
-    timeout 100 "$@" >"$room/said" 2>&1
+    { timeout 100 "$@" >"$room/said" 2>&1; } 2>>"$room/said"
     status=$?
     [ $status != 0 ] && [ $status != 124 ] && status=noticed
     is "$what" noticed "$status"
@@ -174,8 +174,8 @@ program() {
     "$@" >"$room/wanted" 2>&1 <"$room/input"
     echo "status $?" >>"$room/wanted"
     for setting in FULL=1 GC_ENABLE_INCREMENTAL=1; do
-        # No budget of words is ever reached by so short runs, so that it's made small.
-        env $setting GC_FREE_SPACE_DIVISOR=1000 "LD_PRELOAD=$room/libmpgc.so" "$@" >"$room/seen" 2>&1 <"$room/input"
+        # Runs so short would end before the first collection: so these come a hundred times as often.
+        env $setting GC_FREE_SPACE_DIVISOR=300 "LD_PRELOAD=$room/libmpgc.so" "$@" >"$room/seen" 2>&1 <"$room/input"
         echo "status $?" >>"$room/seen"
         is "$name, $setting" "" "$(diff "$room/wanted" "$room/seen" | head -n 4 | cut -c 1-200)"
     done
