@@ -1,8 +1,8 @@
-use Rattle.std.proofs.Common.{◌≢◌, ◌≤◌, ℕ, List, [], ◌∷◌, arith, ne_eqb}
-use Rattle.std.specs.Prelude.{All, nat_eq}
+use Rattle.std.proofs.Common.{◌≢◌, ◌≤◌, ℕ, [], ◌∷◌, arith, ne_eqb}
+use Rattle.std.specs.Prelude.{nat_eq}
 use Rattle.std.specs.List.{IsDistinct}
 use Rattle.std.proofs.lemmas.List.Elements.{All-nil, All-cons, All-head, All-tail}
-use Rattle.heap_history.specs.Passes.{Entry, HeapPass}
+use Rattle.heap_history.specs.Passes.{HeapPass}
 use Rattle.heap_history.specs.Alone.{attaches, CameIn}
 use Rattle.heap_history.specs.Laws.{KeptToOwn}
 use Rattle.heap_history.specs.OwnObjects.{nothing_known, AreAsKnown}

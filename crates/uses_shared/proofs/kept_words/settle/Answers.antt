@@ -1,4 +1,4 @@
-use Rattle.std.proofs.Common.{◌≡◌, ◌≢◌, ◌∙◌, ◌<◌, List, sym, ap, subst, arith}
+use Rattle.std.proofs.Common.{◌≡◌, ◌∙◌, List, sym, ap, subst, arith}
 use mathlib.Core.List.{IsPrefix}
 use Rattle.history.specs.Histories.{counted_up}
 use Rattle.history.proofs.Fronts.{prefix_trans}
