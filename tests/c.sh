@@ -1,7 +1,7 @@
 #!/usr/bin/env bash
 # Tests of the heap for C: builds the proved library, and compiles and runs header, examples and tests/c over it, with the
 # sanitizers too. Expected output stands beside the examples; scripts are run through the calls of C and by the program, and
-# have to have the same replies. It takes two minutes where the library's crates are proved already, and leaves nothing behind.
+# have to have the same replies. It takes one to two minutes beside the proof of the library, and leaves nothing behind.
 set -uo pipefail
 top=$(dirname "$(dirname "$(readlink -f "${BASH_SOURCE[0]}")")")
 crate=$top/crates/mpheap_c
