@@ -43,7 +43,7 @@ static void block_signals(sigset_t *old)
 
 static void restore_signals(const sigset_t *old) { pthread_sigmask(SIG_SETMASK, old, NULL); }
 
-// One call of the collector, which has to be granted. `CALL` names it once more for its count.
+// One call of the collector, which has to be granted.
 #define GRANTED(call) do { \
         mpgc_call_begins(); \
         uint32_t status_ = (call); \

@@ -61,11 +61,10 @@ HIDDEN void mpgc_open(void);
 HIDDEN _Noreturn void mpgc_stop(const char *sentence);
 HIDDEN void mpgc_print_figures(void);
 
-// The heap is open, and this is its thread.
+// The heap is open, and this is its thread: only that one is ever marked as the owner.
 static inline void mpgc_enter(void)
 {
-    if (!LIKELY(mpgc.is_open)) mpgc_open();
-    if (!LIKELY(mpgc_is_owner)) mpgc_stop("a second thread called in: libmpgc is for programs of one thread");
+    if (!LIKELY(mpgc_is_owner)) mpgc_open();
 }
 
 static inline bool mpgc_is_inside(uintptr_t address) { return address - FIRST < mpgc.pages * PAGE; }

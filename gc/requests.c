@@ -19,7 +19,7 @@ struct sort { enum page_kind kind; bool is_uncollectable; };
 // One byte more than asked for, so that a pointer past the end points into its own object.
 static size_t extra(void) { return GC_all_interior_pointers && BUG != 10 ? 1 : 0; }
 
-static uint32_t ask(size_t words, enum page_kind kind, uint64_t *base)
+static inline uint32_t ask(size_t words, enum page_kind kind, uint64_t *base)
 {
     mpgc_call_begins();
     uint32_t status = kind == ORDINARY || BUG == 4 ? mpheap_alloc_base(&mpgc.heap, mpgc.slot, INTO, words, base)
@@ -38,7 +38,7 @@ static void free_in(uint64_t base)
 }
 
 // The object is there and its pages are known, or there is no room for it.
-static uint32_t ask_within(size_t words, enum page_kind kind, uint64_t *base)
+static inline uint32_t ask_within(size_t words, enum page_kind kind, uint64_t *base)
 {
     uint32_t status = ask(words, kind, base);
     if (status != MPHEAP_OK) return status;
@@ -56,7 +56,7 @@ static void *out_of_memory(size_t bytes)
     return GC_oom_fn ? GC_oom_fn(bytes) : NULL;
 }
 
-static void *ask_again(size_t bytes, size_t words, enum page_kind kind)
+__attribute__((noinline)) static void *ask_again(size_t bytes, size_t words, enum page_kind kind)
 {
     uint64_t base;
     if (GC_dont_gc || words > MAX_REQUEST_WORDS) return out_of_memory(bytes);

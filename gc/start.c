@@ -54,6 +54,7 @@ static void read_environment(void)
 
 void mpgc_open(void)
 {
+    if (mpgc.is_open) mpgc_stop("a second thread called in: libmpgc is for programs of one thread");
     mpgc.is_open = mpgc_is_owner = true;
     mpgc.pages = MAX_PAGES;
     if (mpgc.limit == 0) mpgc.limit = MAX_PAGES;

@@ -151,9 +151,7 @@ sanitizers=(-fsanitize=address,undefined -fno-sanitize-recover=undefined -g)
 if echo 'int main(void) { return 0; }' | cc "${sanitizers[@]}" -x c - -o "$room/sanitized" 2>"$room/said" && "$room/sanitized"; then
     build "$room/sane" "${sanitizers[@]}"
     export ASAN_OPTIONS=detect_stack_use_after_return=0:detect_leaks=0:allow_user_segv_handler=1
-    for test in roots shadow; do
-        "${c[@]}" "${sanitizers[@]}" "$top/tests/gc/$test.c" "$room/sane/libmpgc.a" -o "$room/sane/$test" || is "$test, sanitized" built no
-    done
+    "${c[@]}" "${sanitizers[@]}" "$top/tests/gc/shadow.c" "$room/sane/libmpgc.a" -o "$room/sane/shadow" || is "shadow, sanitized" built no
     for setting in FULL INCREMENTAL; do
         shadow "shadow, sanitized, $setting" env $setting=1 "$room/sane/shadow" 4 100000
     done
