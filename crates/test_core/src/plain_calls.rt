@@ -30,8 +30,9 @@ fn collect(core: &mut Core) -> u64 {
     core.collect()
 }
 
+// Each object has its flag, so each may stay.
 fn forget(core: &mut Core, bases: &[u64]) -> bool {
-    core.forget(bases)
+    core.forget(bases, &[true; 1024])
 }
 
 fn run_first(rt: &impl Abort, core: &mut Core) -> Result<(), Fail> {
@@ -198,8 +199,9 @@ fn unreached_objects_go(rt: HostRuntime) -> Result<(), Fail> {
     collect_ring(&rt, &mut core)
 }
 
-// Of two objects one is forgotten, by its base, once.
+// Of two objects one is forgotten, by its base, once. Without its flag it may not stay.
 fn is_forgotten_alone(rt: &impl Abort, core: &mut Core, kept: u64, gone: u64) {
+    assert!(rt; !core.forget(&[], &[]));
     assert!(rt; !forget(core, &[gone, kept]));
     assert!(rt; !forget(core, &[gone, gone]));
     assert!(rt; !forget(core, &[gone.wrapping_add(8)]));
