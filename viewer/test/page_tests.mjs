@@ -3,8 +3,6 @@ import assert from 'node:assert/strict';
 import { sleep } from './chromium.mjs';
 import { fold } from './fold.mjs';
 
-const STEP_BOUND = 50; // milliseconds
-
 // The trace as the tests see it, with its states after some lines that a walk back and forth comes by.
 export function read(text) {
   const [about, ...lines] = text.trim().split('\n').map((line) => JSON.parse(line));
@@ -222,31 +220,6 @@ async function rootsStay(page, { n }) {
   }
 }
 
-// Time of the page's thread for a step, which a busy machine doesn't change, and by the clock.
-async function steps(page, { n }) {
-  const cpu = async () => {
-    const { metrics } = await page.call('Performance.getMetrics');
-    return 1000 * metrics.find(({ name }) => name === 'TaskDuration').value;
-  };
-  await page.call('Performance.setTimeDomain', { timeDomain: 'threadTicks' });
-  await page.call('Performance.enable');
-  const count = Math.min(n, 200);
-  const from = Math.max(0, Math.floor(n * 0.9) - count);
-  const walk = (line) => page.run(`(async () => {
-    for (let k = 1; k <= ${count}; k++) {
-      viewer.go(${line});
-      document.body.getBoundingClientRect();
-      if (k % 10 === 0) await new Promise((resolve) => setTimeout(resolve));
-    }
-  })()`);
-  await walk(`${from} + k`);
-  const before = await cpu();
-  await walk(`${from + count} - k`);
-  await walk(`${from} + k`);
-  const each = ((await cpu()) - before) / (2 * count);
-  assert.ok(each < STEP_BOUND, `a step takes ${each.toFixed(1)} ms`);
-}
-
 export async function exported(page, { n }) {
   await page.run(`viewer.go(${Math.floor(n * 0.7)})`);
   const bad = await page.run(`(() => {
@@ -273,7 +246,7 @@ async function quiet(page) {
 
 // What is asked of each page, by the name under which it is told.
 export function testsOf({ about, lines }) {
-  const tests = { addresses, keys, controls, plays, states, rows, pointed, inspected, exported, steps, narrow };
+  const tests = { addresses, keys, controls, plays, states, rows, pointed, inspected, exported, narrow };
   if (lines.some(({ c }) => c.startsWith('gc '))) tests.collectorKeys = collectorKeys;
   if (about.pages > 64) tests.mapOpens = mapOpens;
   if (about.pages === 40) tests.rootsStay = rootsStay;
