@@ -51,11 +51,12 @@ cell_granules i c even =
     let k : i * (8 * (2 * (c / 2))) ≡ 16 * (i * (c / 2)) = omega arith in
     m ∙ k
 
+-- the granule at which the object in a cell begins
+pub cell_granule : (p i : ℕ) (b : Cells) → IsCells b → granule (cell_object p b i).base ≡ mark_of p b.class i
+cell_granule p i b cells = let e = cell_granules i b.class (class_even b.class cells.class) in omega (arith, e)
+
 module _ (s t : List PageState) (p : ℕ) (marks : List Bool) (b d : Cells) (words words' : List ℕ) (laid : IsLaid s) (lawful : IsLawful s) (cells : IsCells b)
     (is : state_at s p ≡ cut b) (now : state_at t p ≡ cut d) (others : (k : ℕ) → Out p 1 k → state_at t k ≡ state_at s k) (x : SweepsCells words words' marks p b d) where
-  spot : (i : ℕ) → granule (cell_object p b i).base ≡ mark_of p b.class i
-  spot i = let e = cell_granules i b.class (class_even b.class cells.class) in omega (arith, e)
-
   on_old : (w : ℕ) → IsOnPage p w → found_in s w ≡ cond (get_or b.taken (cell_at b w) false) (Some (cell_object p b (cell_at b w))) None
   on_old w at = found_as s p w (cut b) at is
 
@@ -94,7 +95,7 @@ module _ (s t : List PageState) (p : ℕ) (marks : List Bool) (b d : Cells) (wor
         (on_or_not p w);
     marked = λ w f e same has.
         let at = page_of_object w f e same in
-        on_marked w at (subst (Has marks) (ap (λ (y : Found). granule y.base) (object_on_page w f at e) ∙ spot (cell_at b w)) has) ∙ e;
+        on_marked w at (subst (Has marks) (ap (λ (y : Found). granule y.base) (object_on_page w f at e) ∙ cell_granule p (cell_at b w) b cells) has) ∙ e;
     only = λ w f e. ⊎_elim
         (λ at. by w f at e (get_or marks (mark_of p b.class (cell_at b w)) false) refl)
         (λ away. let was = sym (off w away) ∙ e in (was, λ same. absurd (away (page_of_object w f was same))))
@@ -104,7 +105,7 @@ module _ (s t : List PageState) (p : ℕ) (marks : List Bool) (b d : Cells) (wor
       by : (w : ℕ) (f : Found) → IsOnPage p w → found_in t w ≡ Some f → (m : Bool) → get_or marks (mark_of p b.class (cell_at b w)) false ≡ m → (found_in s w ≡ Some f) × (f.page ≡ p → Has marks (granule f.base))
       by w f at e true m =
           let was = sym (on_marked w at m) ∙ e in
-          (was, λ same. subst (Has marks) (sym (ap (λ (y : Found). granule y.base) (object_on_page w f at was) ∙ spot (cell_at b w))) m)
+          (was, λ same. subst (Has marks) (sym (ap (λ (y : Found). granule y.base) (object_on_page w f at was) ∙ cell_granule p (cell_at b w) b cells)) m)
       by w f at e false m = absurd (none_some f (sym (on_dead w at m) ∙ e))
 
 -- the words of other pages stay

@@ -15,16 +15,16 @@ use crate::list::{LIST_END, link_all, start_of};
 use crate::reciprocal::{WHOLE, reciprocal_of};
 use pages::Memory;
 use std::marker::Model;
-use words::limits::{GRANULE_BYTES, GRANULE_WORDS, PAGE_BYTES, PAGE_GRANULES};
+use words::limits::{GRANULE_BYTES, PAGE_BYTES};
 use words::{BitRow, CellRow, Class, Kind, PageNo};
 
 /// A page cut for one class and kind, with the cells that are allocated.
 #[derive(Drop)]
 pub struct Block {
-    class: Class,
+    pub(crate) class: Class,
     kind: Kind,
-    reciprocal: u32,
-    taken: CellRow,
+    pub(crate) reciprocal: u32,
+    pub(crate) taken: CellRow,
     first: u16,
 }
 
@@ -179,14 +179,9 @@ impl Block {
         ensures sweeps { SweepsCells memory.old memory.new marks.now page self.old self.new }
         ensures listed { IsListed memory.new page self.new }
     {
-        let first = PAGE_GRANULES as usize * page as usize;
-        let granules = usize::from(self.class.words()) / GRANULE_WORDS as usize;
-        let mut from = 0;
-        while let Some(cell) = self.next_taken(from) {
-            if !marks.is_set(first + usize::from(cell) * granules) {
-                self.put(memory, page, cell);
-            }
-            from = cell + 1;
+        let live = self.marked_cells(page, marks);
+        for j in 0..4 {
+            self.sweep_word(memory, page, &live, j);
         }
     }
 

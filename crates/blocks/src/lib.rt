@@ -7,6 +7,7 @@ mod block;
 mod large;
 mod list;
 mod reciprocal;
+mod sweep;
 
 pub use block::Block;
 pub use large::LargeHead;

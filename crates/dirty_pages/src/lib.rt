@@ -1,41 +1,53 @@
 //! The pages that were written since the collector read them. Contracts see the set as one `bool` a page.
-//! The collector takes the pages out from the least one on.
+//! The collector takes the pages out from the least one on. A set lies in the value itself, a bit a page, and takes no
+//! memory; what goes through its pages passes over 64 that aren't in it at once.
 #![tactic(auto)]
 
 ghost use Rattle.std.specs.Prelude.{◌≡◌, ℕ, ◌<◌, ◌≤◌, ◌⊎◌, true, false, length, slice_index_or, slice_set, IfOk, IfSome, MatchOption};
-ghost use Rattle.words.specs.Bits.{Has, members, IsClear, IsEmptyFrom, IsFirstFrom};
+ghost use Rattle.words.specs.Bits.{bits, Has, members, IsClear, IsEmptyFrom, IsFirstFrom};
 ghost use Rattle.words.specs.declared.limits.TheConstants.{MAX_PAGES};
+ghost use Rattle.dirty_pages.specs.Summary.{IsOr};
+
+mod summary;
 
 use std::alloc::{AllocError, Global};
 use std::marker::Model;
+use summary::SummedWords;
+use words::PageNo;
 use words::limits::MAX_PAGES;
-use words::{BitRow, PageNo};
+
+const _: () = prove!(MAX_PAGES == 64 * 64);
 
 /// A set of the pages of a heap.
 #[derive(Drop)]
 pub struct DirtyPages {
-    row: BitRow,
+    words: SummedWords,
+    len: u32,
 }
 
 impl Model for DirtyPages {
-    ghost use Rattle.std.specs.Prelude.{List, Bool, ◌≤◌, length};
+    ghost use Rattle.std.specs.Prelude.{List, Bool, ◌≡◌, ◌≤◌, length};
+    ghost use Rattle.words.specs.Bits.{bits};
     ghost use Rattle.words.specs.declared.limits.TheConstants.{MAX_PAGES};
 
     ghost Value = { List Bool };
 
-    ghost view = { λ d. d.row };
+    ghost view = { λ d. bits d.words d.len };
 
-    ghost invariant = { λ d. length d.row ≤ MAX_PAGES };
+    ghost invariant = { λ d. (length d.words ≡ 64) × (d.len ≤ MAX_PAGES) };
 }
 
+#[tactic(auto, using(crate::proofs::Pages::pages))]
 impl DirtyPages {
-    /// No page of a heap of so many. The error is that there is no memory.
-    pub fn new(alloc: Global, pages: u32) -> Result<DirtyPages, AllocError>
+    /// No page of a heap of so many. The error, that there is no memory, never comes.
+    pub fn new(_alloc: Global, pages: u32) -> Result<DirtyPages, AllocError>
         requires { pages ≤ MAX_PAGES }
         ensures { IfOk result (λ dirty. IsClear dirty pages) }
     {
-        let row = BitRow::new(alloc, pages as usize)?;
-        Ok(DirtyPages { row })
+        Ok(DirtyPages {
+            words: SummedWords::new(),
+            len: pages,
+        })
     }
 
     /// Whether the page is in the set.
@@ -43,7 +55,7 @@ impl DirtyPages {
         requires { page < length self.now }
         ensures { result ≡ slice_index_or self.now page false }
     {
-        self.row.is_set(page as usize)
+        (self.words.at(page as usize / 64) >> (page as usize % 64)) & 1 == 1
     }
 
     /// Puts the page into the set.
@@ -51,7 +63,9 @@ impl DirtyPages {
         requires { page < length self.old }
         ensures { self.new ≡ slice_set self.old page true }
     {
-        self.row.set(page as usize);
+        let word = self.words.at(page as usize / 64);
+        self.words
+            .put(page as usize / 64, word | (1 << (page as usize % 64)));
     }
 
     /// Takes the page out of the set.
@@ -59,21 +73,23 @@ impl DirtyPages {
         requires { page < length self.old }
         ensures { self.new ≡ slice_set self.old page false }
     {
-        self.row.clear(page as usize);
+        let word = self.words.at(page as usize / 64);
+        self.words
+            .put(page as usize / 64, word & !(1 << (page as usize % 64)));
     }
 
     /// How many pages are in the set, counted by whole words.
     pub fn count(&self) -> u32
         ensures { result ≡ members self.now }
     {
-        self.row.count(0, self.row.len())
+        self.words.ones(self.len as usize)
     }
 
     /// Takes all pages out of the set.
     pub fn clear_all(&mut self)
         ensures { IsClear self.new (length self.old) }
     {
-        self.row.clear_all();
+        self.words.clear_all();
     }
 
     /// Puts the pages of another set into this one too.
@@ -84,7 +100,7 @@ impl DirtyPages {
         ensures old { (p : ℕ) → Has self.old p → Has self.new p }
         ensures more { (p : ℕ) → Has more.now p → Has self.new p }
     {
-        add_row(&mut self.row, &more.row);
+        add_words(&mut self.words, &more.words);
     }
 
     /// The least page of the set, and `None` exactly where it is empty.
@@ -92,24 +108,22 @@ impl DirtyPages {
         ensures first { MatchOption result (IsEmptyFrom self.now 0) (λ page. IsFirstFrom self.now 0 page) }
         ensures limit { IfSome result (λ page. page < MAX_PAGES) }
     {
-        let page = self.row.next(0)?;
-        Some(page as PageNo)
+        let j = self.words.next(0)?;
+        let page = 64 * j as PageNo + self.words.at(j).trailing_zeros();
+        if page < self.len { Some(page) } else { None }
     }
 }
 
-// The members of one row become those of both, found by whole words.
+// Each word becomes the or of both; the words of `more` that are 0 are passed over.
 #[tactic(auto, using(crate::proofs::Adding::adding))]
-fn add_row(row: &mut BitRow, more: &BitRow)
-    requires same { length more.now ≡ length row.old }
-    requires small { length more.now ≤ MAX_PAGES }
-    ensures size { length row.new ≡ length row.old }
-    ensures each { (p : ℕ) → Has row.new p → Has row.old p ⊎ Has more.now p }
-    ensures old { (p : ℕ) → Has row.old p → Has row.new p }
-    ensures more { (p : ℕ) → Has more.now p → Has row.new p }
+fn add_words(words: &mut SummedWords, more: &SummedWords)
+    requires size { length words.old ≡ 64 }
+    ensures { IsOr words.old more.now words.new }
 {
     let mut from = 0;
-    while let Some(page) = more.next(from) {
-        row.set(page);
-        from = page + 1;
+    while let Some(j) = more.next(from) {
+        let word = words.at(j) | more.at(j);
+        words.put(j, word);
+        from = j + 1;
     }
 }

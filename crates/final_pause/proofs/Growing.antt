@@ -1,24 +1,47 @@
 -- How what a helper knows, won and awaits grows.
-use Rattle.std.proofs.Common.{◌≡◌, ℕ, ◌+◌, ◌*◌, ◌<◌, ◌≤◌, List, [], ◌∷◌, ◌++◌, true, false, Contains, Some, length, refl, sym, ap, subst, ◌∙◌, inl, inr, ⊎_elim, arith}
+use Rattle.std.proofs.Common.{◌≡◌, ℕ, ◌+◌, ◌*◌, ◌<◌, ◌≤◌, Bool, List, [], ◌∷◌, ◌++◌, true, false, Contains, Option, Some, None, length, refl, sym, ap, subst, ◌∙◌, inl, inr, ⊎_elim, arith}
 use Rattle.std.proofs.lemmas.Option.{same_Some}
+use Rattle.std.proofs.lemmas.Bool.{cases_lt}
 use Rattle.std.proofs.lemmas.List.Elements.{Contains-append_cases, Contains-append_left, Contains-append_right}
 use Rattle.words.specs.declared.class.Kind.TheVariants.{Normal}
-use Rattle.words.specs.declared.limits.TheConstants.{PAGE_GRANULES}
+use Rattle.words.specs.declared.limits.TheConstants.{PAGE_GRANULES, PAGE_WORDS}
+use Rattle.std.specs.Prelude.{slice_range}
+use Rattle.pages.specs.Memory.{place}
 use Rattle.words.specs.Bits.{Has}
-use Rattle.words.specs.Layout.{granule}
+use Rattle.words.specs.Layout.{granule, page_of}
 use Rattle.mark_bits.specs.declared.claimer_view.ClaimerView.{ClaimerView}
 use Rattle.mark_bits.specs.Tables.{view, start_of, IsOf}
 use Rattle.mark_bits.specs.Claims.{knows, LearnsMore}
 use Rattle.block_map.specs.declared.found.Found.{Found}
-use Rattle.block_map.specs.Objects.{IsMap}
-use Rattle.marker.specs.Growth.{words_of}
+use Rattle.block_map.specs.Objects.{IsMap, IsPlaced}
+use Rattle.marker.specs.Marking.{IsOutside, bytes_of, word_address}
+use Rattle.marker.specs.Growth.{CarriesPage, IsNoStray, IsStray, TellsStray, words_of}
 use Rattle.marker.proofs.Closures.{at_base, same_object}
-use Rattle.marker.proofs.MarkWord.{markable}
-use Rattle.marker.proofs.Words.{contains_word, word_of}
+use Rattle.marker.proofs.MarkWord.{markable, tells_none}
+use Rattle.marker.proofs.Words.{contains_word, run_words, word_of}
 use Rattle.final_pause.specs.declared.helper.Helper.{Helper}
 use Rattle.final_pause.specs.declared.share.Pause.{Pause}
-use Rattle.final_pause.specs.Helping.{found, word_in, won_of, QueuesObject, HelperGrows, IsTargetKnown, IsAwaitedBy, IsPageOfWon, IsPointedInto, ClaimsOnly, Visits, VisitsAll, IsWordOf, ReadsWords}
+use Rattle.final_pause.specs.Helping.{found, word_in, won_of, QueuesObject, HelperGrows, IsReadyPause, IsTargetKnown, IsWordRead, unknown, IsAwaitedBy, IsPageOfWon, IsPointedInto, ClaimsOnly, Visits, VisitsAll, IsWordOf, ReadsWords}
 use Rattle.final_pause.proofs.Knowing.{unknown_le, unknown_lt, contains_one, contains_cons, contains_more, contains_here}
+
+-- a word that is stray neither points into an object nor lies outside of the heap
+not_stray : (found : ℕ → Option Found) (bytes w : ℕ) → IsStray found bytes w → IsNoStray found bytes w → ⊥
+not_stray found bytes w s other = ⊎_elim
+    (λ (o : (g : Found) × (found w ≡ Some g)). let z : None ≡ Some o.0 = sym s.nothing ∙ o.1 in cc z)
+    (λ out. let from = s.from in let below = s.below in ⊎_elim (λ low. omega (arith, from, low)) (λ high. omega (arith, below, high)) out)
+    other
+
+-- the words of an object that a reader lends
+pub lent_words : (memory words run : List ℕ) (pages : ℕ) (f : Found) (first n start : ℕ) → IsPlaced pages f → first + n ≤ f.len → length memory ≡ PAGE_WORDS * pages → start ≡ word_address f first
+    → run ≡ slice_range words (place start) (place start + n) → words ≡ memory → run ≡ words_of memory f first n
+lent_words memory words run pages f first n start placed fits size is lent same =
+    let below = placed.below in let above = placed.above in let aligned = placed.aligned in
+    let inside : place start + n ≤ length memory = omega arith in
+    lent ∙ ap (λ (ws : List ℕ). slice_range ws (place start) (place start + n)) same ∙ run_words memory f first n start is (omega arith) inside
+
+-- a word that points into an object is not stray
+pub tells_object : (found : ℕ → Option Found) (bytes w : ℕ) (g : Found) → found w ≡ Some g → TellsStray found bytes (w ∷ []) false
+tells_object found bytes w g e = tells_none found bytes w (inl (g, e))
 
 module _ (p : Pause) where
   pub extends_refl : (h : Helper) → IsOf p.table.now h.claimer → HelperGrows p h h
@@ -30,6 +53,8 @@ module _ (p : Pause) where
     dirty_len = refl;
     dirty = λ q h. h;
     dirtied = λ q h. inl h;
+    carried_len = refl;
+    carried = λ q h. h;
     stack = λ b h. h;
     fresh = λ f e c. inl c;
     left = omega arith;
@@ -40,6 +65,10 @@ module _ (p : Pause) where
 
   pub target_more : (v w : ClaimerView) → ((k : ℕ) → knows v k ≡ true → knows w k ≡ true) → (n : ℕ) → IsTargetKnown p v n → IsTargetKnown p w n
   target_more v w more n k g e = more (granule g.base) (k g e)
+
+  -- a word that was read stays read where more is known and more pages are carried
+  pub word_more : (v w : ClaimerView) (c d : List Bool) → ((k : ℕ) → knows v k ≡ true → knows w k ≡ true) → ((q : ℕ) → Has c q → Has d q) → (f : Found) (i : ℕ) → IsWordRead p v c f i → IsWordRead p w d f i
+  word_more v w c d known carried f i r = record { known = target_more v w known _ r.known; settled = λ s. carried _ (r.settled s) }
 
   pub page_more : (a b : Helper) → ((k : ℕ) → Contains (won_of a) k → Contains (won_of b) k) → (q : ℕ) → IsPageOfWon p a q → IsPageOfWon p b q
   page_more a b more q (f, is, c, k) = (f, is, more (granule f.base) c, k)
@@ -53,6 +82,8 @@ module _ (p : Pause) where
     dirty_len = y.dirty_len ∙ x.dirty_len;
     dirty = λ q h. y.dirty q (x.dirty q h);
     dirtied = λ q h. ⊎_elim (λ m. ⊎_elim (λ o. inl o) (λ w. inr (page_more b c y.won q w)) (x.dirtied q m)) (λ w. inr w) (y.dirtied q h);
+    carried_len = y.carried_len ∙ x.carried_len;
+    carried = λ q h. y.carried q (x.carried q h);
     stack = λ e h. y.stack e (x.stack e h);
     fresh = λ f e k. ⊎_elim
         (λ m. ⊎_elim (λ o. inl o) (λ h. inr (λ n i lt. awaited_more b c y f i (h n i lt))) (x.fresh f e m))
@@ -82,14 +113,22 @@ module _ (p : Pause) where
   pub visit_none : (w : ℕ) (h : Helper) → IsOf p.table.now h.claimer → ((g : Found) → found p w ≡ Some g → ⊥) → Visits p w h h
   visit_none w h of none = record {
     extends = extends_refl h of;
+    carried = refl;
     target = λ g e. absurd (none g e);
     only = record { won = λ k c. inl c; entries = λ e c. inl c };
   }
 
+  -- the word lies outside of the heap
+  pub visit_outside : (w : ℕ) (h : Helper) → IsReadyPause p → IsOf p.table.now h.claimer → IsOutside (bytes_of p.marker.now) w → Visits p w h h
+  visit_outside w h ready of out = visit_none w h of (λ g e.
+      let r = ready.map.reads w g e in let at = ready.map.placed w g e in
+      let from = r.from in let below = r.below in let above = at.above in let end = at.below in let pages = ready.pages in
+      ⊎_elim (λ low. omega (arith, low, from, above)) (λ high. omega (arith, high, below, end, pages)) out)
+
   -- the object was marked by another, or before
-  pub visit_old : (w : ℕ) (g : Found) (old new : Helper) → found p w ≡ Some g → IsOf p.table.now new.claimer → new.stack ≡ old.stack → new.dirty ≡ old.dirty → new.share ≡ old.share
+  pub visit_old : (w : ℕ) (g : Found) (old new : Helper) → found p w ≡ Some g → IsOf p.table.now new.claimer → new.stack ≡ old.stack → new.dirty ≡ old.dirty → new.carried ≡ old.carried → new.share ≡ old.share
       → LearnsMore (view old.claimer) (view new.claimer) → knows (view new.claimer) (granule g.base) ≡ true → won_of new ≡ won_of old → Visits p w old new
-  visit_old w g old new e of st di sh le kn wo =
+  visit_old w g old new e of st di ca sh le kn wo =
       let u = unknown_le (length (start_of p.table.now)) (view old.claimer) (view new.claimer) le.known in
       let s : length new.stack.items ≡ length old.stack.items = ap (λ s. length s.items) st in record {
         extends = record {
@@ -100,10 +139,13 @@ module _ (p : Pause) where
           dirty_len = ap length di;
           dirty = λ q h. subst (λ d. Has d q) (sym di) h;
           dirtied = λ q h. inl (subst (λ d. Has d q) di h);
+          carried_len = ap length ca;
+          carried = λ q h. subst (λ d. Has d q) (sym ca) h;
           stack = λ k h. subst (λ s. Contains s.items k) (sym st) h;
           fresh = λ f o c. inl (subst (λ l. Contains l (granule f.base)) wo c);
           left = omega (arith, u, s);
         };
+        carried = ca;
         target = target_is w g (view new.claimer) e kn;
         only = record {
           won = λ k c. inl (subst (λ l. Contains l k) wo c);
@@ -113,10 +155,10 @@ module _ (p : Pause) where
 
   -- the claim was the first, and the object waits to be read
   pub visit_new : (w : ℕ) (g : Found) (old mid new : Helper) → IsMap (length p.map.now) (found p) → length (start_of p.table.now) ≡ PAGE_GRANULES * length p.map.now → found p w ≡ Some g
-      → IsOf p.table.now mid.claimer → mid.stack ≡ old.stack → mid.dirty ≡ old.dirty → mid.share ≡ old.share
+      → IsOf p.table.now mid.claimer → mid.stack ≡ old.stack → mid.dirty ≡ old.dirty → mid.carried ≡ old.carried → mid.share ≡ old.share
       → LearnsMore (view old.claimer) (view mid.claimer) → knows (view mid.claimer) (granule g.base) ≡ true → knows (view old.claimer) (granule g.base) ≡ false → won_of mid ≡ granule g.base ∷ won_of old
       → QueuesObject g mid new → Visits p w old new
-  visit_new w g old mid new map size e of st di sh le kn un wo keep =
+  visit_new w g old mid new map size e of st di ca sh le kn un wo keep =
       let base = at_base (length p.map.now) (found p) map w g e in
       let inside = (markable (length p.map.now) (found p) w g (start_of p.table.now) map e size).1 in
       let same : won_of new ≡ granule g.base ∷ won_of old = ap (λ c. (view c).won) keep.claimer ∙ wo in
@@ -134,6 +176,8 @@ module _ (p : Pause) where
           dirty_len = keep.dirty_len ∙ ap length di;
           dirty = λ q h. keep.dirty q (subst (λ d. Has d q) (sym di) h);
           dirtied = λ q h. ⊎_elim (λ o. inl (subst (λ d. Has d q) di o)) (λ c. inr (g, base, won', c)) (keep.covered q h);
+          carried_len = ap length keep.carried ∙ ap length ca;
+          carried = λ q h. subst (λ d. Has d q) (sym (keep.carried ∙ ca)) h;
           stack = λ k h. keep.stack k (subst (λ s. Contains s.items k) (sym st) h);
           fresh = λ f o c. ⊎_elim
               (λ (b : granule g.base ≡ granule f.base).
@@ -142,6 +186,7 @@ module _ (p : Pause) where
               (contains_cons (granule g.base) (granule f.base) (won_of old) (subst (λ l. Contains l (granule f.base)) same c));
           left = omega (arith, u, s, z);
         };
+        carried = keep.carried ∙ ca;
         target = target_is w g (view new.claimer) e kn';
         only = record {
           won = λ k c. ⊎_elim
@@ -158,6 +203,7 @@ module _ (p : Pause) where
   pub visits_none : (h : Helper) → IsOf p.table.now h.claimer → VisitsAll p [] h h
   visits_none h of = record {
     extends = extends_refl h of;
+    carried = refl;
     targets = λ w c. let l = c.1 in absurd (omega arith);
     only = record { won = λ k c. inl c; entries = λ e c. inl c };
   }
@@ -165,6 +211,7 @@ module _ (p : Pause) where
   pub visits_next : (ws : List ℕ) (w : ℕ) (a b c : Helper) → VisitsAll p ws a b → Visits p w b c → VisitsAll p (ws ++ w ∷ []) a c
   visits_next ws w a b c r v = record {
     extends = extends_trans a b c r.extends v.extends;
+    carried = v.carried ∙ r.carried;
     targets = λ u h. ⊎_elim
         (λ m. target_more (view b.claimer) (view c.claimer) v.extends.learns.known u (r.targets u m))
         (λ (m : Contains (w ∷ []) u). subst (λ (n : ℕ). IsTargetKnown p (view c.claimer) n) (contains_one w u m) v.target)
@@ -175,11 +222,74 @@ module _ (p : Pause) where
         (λ u e. subst (λ (n : ℕ). Contains (ws ++ w ∷ []) n) (sym e) (Contains-append_right ws (w ∷ []) w (contains_here w []))) v.only);
   }
 
-  -- words of an object that lie in a row
-  pub reads_run : (f : Found) (first n : ℕ) (a b : Helper) → first + n ≤ f.len → VisitsAll p (words_of p.memory.now f first n) a b → ReadsWords p f first n a b
-  reads_run f first n a b fits v = record {
-    extends = v.extends;
-    targets = λ i le lt. v.targets (word_in p f i) (contains_word p.memory.now f first n i le lt);
-    only = only_more (λ w. Contains (words_of p.memory.now f first n) w) (IsWordOf p f) a b
-        (λ w h. let y = word_of p.memory.now f first n w h in let l = y.2 in (y.0, omega arith, y.3)) v.only;
+  -- a page has become carried, and nothing else has changed
+  extends_carried : (b c : Helper) → IsOf p.table.now b.claimer → c.claimer ≡ b.claimer → c.stack ≡ b.stack → c.dirty ≡ b.dirty → c.share ≡ b.share → length c.carried ≡ length b.carried → ((q : ℕ) → Has b.carried q → Has c.carried q)
+      → HelperGrows p b c
+  extends_carried b c of cl st di sh size more = record {
+    of = subst (IsOf p.table.now) (sym cl) of;
+    share = sh;
+    learns = record { parts = ap (λ h. (view h).parts) cl; known = λ k e. ap (λ h. knows (view h) k) cl ∙ e };
+    won = λ k h. subst (λ d. Contains (view d).won k) (sym cl) h;
+    dirty_len = ap length di;
+    dirty = λ q h. subst (λ d. Has d q) (sym di) h;
+    dirtied = λ q h. inl (subst (λ d. Has d q) di h);
+    carried_len = size;
+    carried = more;
+    stack = λ k h. subst (λ s. Contains s.items k) (sym st) h;
+    fresh = λ f e h. inl (subst (λ d. Contains (view d).won (granule f.base)) cl h);
+    left =
+        let u : unknown (length (start_of p.table.now)) (view c.claimer) ≡ unknown (length (start_of p.table.now)) (view b.claimer) = ap (λ h. unknown (length (start_of p.table.now)) (view h)) cl in
+        let s : length c.stack.items ≡ length b.stack.items = ap (λ s. length s.items) st in
+        omega (arith, u, s);
+  }
+
+  only_carried : (P : ℕ → Type 0) (a b c : Helper) → c.claimer ≡ b.claimer → c.stack ≡ b.stack → ClaimsOnly p P a b → ClaimsOnly p P a c
+  only_carried P a b c cl st x = record {
+    won = λ k h. x.won k (subst (λ d. Contains (view d).won k) cl h);
+    entries = λ e h. x.entries e (subst (λ s. Contains s.items e) st h);
+  }
+
+  -- words of an object that lie in a row on one page, which was carried then or not
+  pub reads_run : (f : Found) (first n page : ℕ) (a b c : Helper) → first + n ≤ f.len → ((i : ℕ) → first ≤ i → i < first + n → page_of (word_address f i) ≡ page) → VisitsAll p (words_of p.memory.now f first n) a b
+      → c.claimer ≡ b.claimer → c.stack ≡ b.stack → c.dirty ≡ b.dirty → c.share ≡ b.share → CarriesPage (found p) (bytes_of p.marker.now) (words_of p.memory.now f first n) page b.carried c.carried → ReadsWords p f first n a c
+  reads_run f first n page a b c fits one_page v cl st di sh carries = record {
+    extends = extends_trans a b c v.extends (extends_carried b c v.extends.of cl st di sh carries.len carries.stays);
+    read = λ i le lt.
+        let among = contains_word p.memory.now f first n i le lt in
+        record {
+          known = subst (λ h. IsTargetKnown p (view h) (word_in p f i)) (sym cl) (v.targets (word_in p f i) among);
+          settled = λ s. ⊎_elim
+              (λ h. subst (Has c.carried) (sym (one_page i le lt)) h)
+              (λ other. absurd (not_stray (found p) (bytes_of p.marker.now) (word_in p f i) s other))
+              (carries.all (word_in p f i) among);
+        };
+    strays = λ q h. ⊎_elim
+        (λ o. inl (subst (λ r. Has r q) v.carried o))
+        (λ (s : (q ≡ page) × ((w : ℕ) × Contains (words_of p.memory.now f first n) w × IsStray (found p) (bytes_of p.marker.now) w)).
+        let y = word_of p.memory.now f first n s.1.0 s.1.1 in let l = y.2 in
+        inr (record { index = y.0; inside = omega (arith, l, fits); on = one_page y.0 y.1 y.2 ∙ sym s.0; stray = subst (IsStray (found p) (bytes_of p.marker.now)) y.3 s.1.2 }))
+        (carries.only q h);
+    only = only_carried (IsWordOf p f) a b c cl st (only_more (λ w. Contains (words_of p.memory.now f first n) w) (IsWordOf p f) a b
+        (λ w h. let y = word_of p.memory.now f first n w h in let l = y.2 in (y.0, omega arith, y.3)) v.only);
+  }
+
+  -- no word was read
+  pub reads_none : (f : Found) (first : ℕ) (a : Helper) → IsOf p.table.now a.claimer → ReadsWords p f first 0 a a
+  reads_none f first a of = record {
+    extends = extends_refl a of;
+    read = λ i le lt. absurd (omega (arith, le, lt));
+    strays = λ q h. inl h;
+    only = record { won = λ k c. inl c; entries = λ e c. inl c };
+  }
+
+  -- words and then the next ones were read
+  pub reads_append : (f : Found) (first k next n : ℕ) (a b c : Helper) → next ≡ first + k → ReadsWords p f first k a b → ReadsWords p f next n b c → ReadsWords p f first (k + n) a c
+  reads_append f first k next n a b c is x y = record {
+    extends = extends_trans a b c x.extends y.extends;
+    read = λ i le lt. ⊎_elim
+        (λ (before : i < first + k). word_more (view b.claimer) (view c.claimer) b.carried c.carried y.extends.learns.known y.extends.carried f i (x.read i le before))
+        (λ after. y.read i (omega (arith, after, is)) (omega (arith, lt, is)))
+        (cases_lt i (first + k));
+    strays = λ q h. ⊎_elim (λ o. x.strays q o) (λ s. inr s) (y.strays q h);
+    only = only_trans (IsWordOf p f) a b c x.only y.only;
   }

@@ -1,5 +1,5 @@
 -- A helper at work goes on: what it reads is reached, and what it owes is awaited.
-use Rattle.std.proofs.Common.{◌≡◌, ℕ, ◌+◌, ◌*◌, ◌<◌, ◌≤◌, [], ◌∷◌, ◌++◌, true, Contains, Some, None, length, refl, sym, ap, subst, ◌∙◌, inl, inr, ⊎_elim, arith}
+use Rattle.std.proofs.Common.{◌≡◌, ℕ, ◌+◌, ◌*◌, ◌<◌, ◌≤◌, Bool, List, [], ◌∷◌, ◌++◌, true, Contains, Some, None, length, refl, sym, ap, subst, ◌∙◌, inl, inr, ⊎_elim, arith}
 use Rattle.std.specs.Prelude.{◌⊎◌}
 use Rattle.std.proofs.lemmas.Option.{same_Some}
 use Rattle.std.proofs.lemmas.Bool.{cases_lt}
@@ -16,15 +16,17 @@ use Rattle.block_map.specs.Objects.{IsMap}
 use Rattle.marker.specs.Marking.{IsMarked, word_address}
 use Rattle.marker.specs.Closure.{word}
 use Rattle.block_map.specs.Walks.{IsNextObject, IsNoObject}
-use Rattle.marker.proofs.Closures.{at_base}
+use Rattle.marker.specs.Growth.{IsStrayPage}
+use Rattle.marker.specs.declared.entry.Entry.{Entry}
+use Rattle.marker.proofs.Closures.{at_base, is_object}
 use Rattle.marker.proofs.Rescanning.{next_is, reads_own}
 use Rattle.final_pause.specs.declared.busy.Duty.{Duty}
 use Rattle.final_pause.specs.declared.helper.Helper.{Helper}
 use Rattle.final_pause.specs.declared.share.Pause.{Pause}
-use Rattle.final_pause.specs.Helping.{found, word_in, won_of, IsHelperOf, HelperGrows, IsTargetKnown, IsAwaitedBy, IsPointedInto, ClaimsOnly, IsWordOf, ReadsWords}
-use Rattle.final_pause.specs.Serving.{IsReachable, IsReachedAt, IsQueuedAt, IsServing, GoesOnServing, AreRootsRead, AreEntriesRead, IsCurrentRead, AreWordsRead, ArePagesRead, IsShareRead}
+use Rattle.final_pause.specs.Helping.{found, won_of, IsHelperOf, HelperGrows, IsWordRead, HasStrayOn, IsAwaitedBy, IsPointedInto, ClaimsOnly, IsWordOf, Visits, ReadsWords}
+use Rattle.final_pause.specs.Serving.{IsReachable, IsReachedAt, IsQueuedAt, IsServing, GoesOnServing, IsEntryRead, AreRootsRead, AreEntriesRead, IsCurrentRead, AreWordsRead, ArePagesRead, IsShareRead}
 use Rattle.final_pause.proofs.Knowing.{contains_one}
-use Rattle.final_pause.proofs.Growing.{target_more, awaited_more, page_more}
+use Rattle.final_pause.proofs.Growing.{target_more, word_more, awaited_more, page_more}
 
 module _ (p : Pause) where
   -- what the words of a reached Normal object point into is reached
@@ -36,7 +38,16 @@ module _ (p : Pause) where
     ready = f.ready;
     of = x.of;
     dirty = x.dirty_len ∙ f.dirty;
+    carried = x.carried_len ∙ f.carried;
   }
+
+  -- a word that a helper has read stays read as it goes on
+  pub word_on : (a b : Helper) → HelperGrows p a b → (f : Found) (i : ℕ) → IsWordRead p (view a.claimer) a.carried f i → IsWordRead p (view b.claimer) b.carried f i
+  word_on a b x = word_more p (view a.claimer) (view b.claimer) a.carried b.carried x.learns.known x.carried
+
+  -- a stray word of a reached Normal object makes its page one
+  pub stray_on : (f : Found) → found p f.base ≡ Some f → f.kind ≡ Normal → IsReachable p f → (q : ℕ) → HasStrayOn p f q → IsStrayPage (found p) p.memory.now p.roots.now p.marker.now q
+  stray_on f is normal reached q s = record { object = f; is = is; normal = normal; reached = reached; index = s.index; inside = s.inside; on = s.on; stray = s.stray }
 
   module _ (map : IsMap (length p.map.now) (found p)) (P : ℕ → Type 0) (reach : (w : ℕ) → P w → (g : Found) → found p w ≡ Some g → IsReachable p g) (a b : Helper) (only : ClaimsOnly p P a b) where
     pub queued_more : ((k : ℕ) → Contains a.stack.items k → IsQueuedAt p k) → (k : ℕ) → Contains b.stack.items k → IsQueuedAt p k
@@ -53,34 +64,37 @@ module _ (p : Pause) where
         record { object = r.0; is = at_base (length p.map.now) (found p) map t.word r.0 t.points; first = r.2; reached = reach t.word t.one r.0 t.points })
         (only.won k c)
 
-    pub serves_more : HelperGrows p a b → IsServing p a → IsServing p b
-    serves_more x s = record {
+    pub serves_more : HelperGrows p a b → ((q : ℕ) → Has b.carried q → Has a.carried q ⊎ IsStrayPage (found p) p.memory.now p.roots.now p.marker.now q) → IsServing p a → IsServing p b
+    serves_more x strays s = record {
       fits = fits_more a b x s.fits;
       one = x.learns.parts ∙ s.one;
       won = λ f o n c i lt. ⊎_elim
-          (λ h. ⊎_elim (λ k. inl (target_more p (view a.claimer) (view b.claimer) x.learns.known _ k)) (λ w. inr (awaited_more p a b x f i w)) (s.won f o n h i lt))
+          (λ h. ⊎_elim (λ k. inl (word_on a b x f i k)) (λ w. inr (awaited_more p a b x f i w)) (s.won f o n h i lt))
           (λ h. inr (h n i lt)) (x.fresh f o c);
       dirtied = λ q h. ⊎_elim (λ o. page_more p a b x.won q (s.dirtied q o)) (λ w. w) (x.dirtied q h);
+      strays = λ q h. ⊎_elim (λ o. s.strays q o) (λ w. w) (strays q h);
       queued = queued_more s.queued;
       within = within_more s.within;
     }
 
   pub serves_refl : (h : Helper) → IsServing p h → GoesOnServing p h h
-  serves_refl h s = record { serving = s; share = refl; learns = record { parts = refl; known = λ k e. e } }
+  serves_refl h s = record { serving = s; share = refl; learns = record { parts = refl; known = λ k e. e }; carried = λ q h. h }
 
   -- whether a helper has work is no part of what it owes
   pub serves_duty : (h : Helper) (d : Duty) → IsServing p h → GoesOnServing p h (record h { duty = d })
   serves_duty h d s = record {
     serving = record {
-      fits = record { ready = s.fits.ready; of = s.fits.of; dirty = s.fits.dirty };
+      fits = record { ready = s.fits.ready; of = s.fits.of; dirty = s.fits.dirty; carried = s.fits.carried };
       one = s.one;
       won = s.won;
       dirtied = s.dirtied;
+      strays = s.strays;
       queued = s.queued;
       within = s.within;
     };
     share = refl;
     learns = record { parts = refl; known = λ k e. e };
+    carried = λ q h. h;
   }
 
   pub serves_trans : (a b c : Helper) → GoesOnServing p a b → GoesOnServing p b c → GoesOnServing p a c
@@ -88,19 +102,31 @@ module _ (p : Pause) where
     serving = y.serving;
     share = y.share ∙ x.share;
     learns = record { parts = y.learns.parts ∙ x.learns.parts; known = λ k e. y.learns.known k (x.learns.known k e) };
+    carried = λ q h. y.carried q (x.carried q h);
+  }
+
+  -- a word is visited of which what it points into is reached
+  pub serves_visit : IsMap (length p.map.now) (found p) → (w : ℕ) (a b : Helper) → ((g : Found) → found p w ≡ Some g → IsReachable p g) → Visits p w a b → IsServing p a → GoesOnServing p a b
+  serves_visit map w a b reach v s = record {
+    serving = serves_more map (λ n. n ≡ w) (λ n is f e. reach f (subst (λ (m : ℕ). found p m ≡ Some f) is e)) a b v.only v.extends (λ q h. inl (subst (λ r. Has r q) v.carried h)) s;
+    share = v.extends.share;
+    learns = v.extends.learns;
+    carried = v.extends.carried;
   }
 
   -- words of a reached Normal object were read
   pub serves_words : IsMap (length p.map.now) (found p) → (f : Found) (first n : ℕ) (a b : Helper) → IsReachable p f → f.kind ≡ Normal → ReadsWords p f first n a b → IsServing p a → GoesOnServing p a b
   serves_words map f first n a b reached normal r s = record {
-    serving = serves_more map (IsWordOf p f) (reached_word f reached normal) a b r.only r.extends s;
+    serving = serves_more map (IsWordOf p f) (reached_word f reached normal) a b r.only r.extends
+        (λ q h. ⊎_elim (λ o. inl o) (λ w. inr (stray_on f (is_object (length p.map.now) (found p) p.memory.now p.roots.now (IsMarked p.marker.now) map reached) normal reached q w)) (r.strays q h)) s;
     share = r.extends.share;
     learns = r.extends.learns;
+    carried = r.extends.carried;
   }
 
   -- an entry is taken off the stack, and its object is read
   module _ (map : IsMap (length p.map.now) (found p)) (a m b : Helper) (base : ℕ) (f : Found)
-      (claimer : m.claimer ≡ a.claimer) (dirty : m.dirty ≡ a.dirty) (share : m.share ≡ a.share) (stack : a.stack.items ≡ m.stack.items ++ base ∷ [])
+      (claimer : m.claimer ≡ a.claimer) (dirty : m.dirty ≡ a.dirty) (carried : m.carried ≡ a.carried) (share : m.share ≡ a.share) (stack : a.stack.items ≡ m.stack.items ++ base ∷ [])
       (is : found p base ≡ Some f) (s : IsServing p a) (r : ReadsWords p f 0 f.len m b) where
     x : HelperGrows p m b
     x = r.extends
@@ -123,11 +149,14 @@ module _ (p : Pause) where
     known : (k : ℕ) → knows (view a.claimer) k ≡ true → knows (view b.claimer) k ≡ true
     known k h = x.learns.known k (ap (λ c. knows (view c) k) claimer ∙ h)
 
-    read_here : (g : Found) → found p g.base ≡ Some g → base ≡ g.base → (i : ℕ) → i < g.len → IsTargetKnown p (view b.claimer) (word_in p g i)
+    carried_on : (q : ℕ) → Has a.carried q → Has b.carried q
+    carried_on q h = x.carried q (subst (λ c. Has c q) (sym carried) h)
+
+    read_here : (g : Found) → found p g.base ≡ Some g → base ≡ g.base → (i : ℕ) → i < g.len → IsWordRead p (view b.claimer) b.carried g i
     read_here g o e i lt =
         let is_f : f ≡ g = same_Some f g (sym is ∙ (ap (found p) e ∙ o)) in
         let lt' : i < f.len = subst (λ (y : Found). i < y.len) (sym is_f) lt in
-        subst (λ (y : Found). IsTargetKnown p (view b.claimer) (word_in p y i)) is_f (r.targets i (omega arith) (omega (arith, lt')))
+        subst (λ (y : Found). IsWordRead p (view b.claimer) b.carried y i) is_f (r.read i (omega arith) (omega (arith, lt')))
 
     before : (k : ℕ) → Contains m.stack.items k → IsQueuedAt p k
     before k c = s.queued k (subst (λ l. Contains l k) (sym stack) (Contains-append_left m.stack.items (base ∷ []) k c))
@@ -140,17 +169,21 @@ module _ (p : Pause) where
 
     serving_pop : IsServing p b
     serving_pop = record {
-      fits = record { ready = s.fits.ready; of = x.of; dirty = x.dirty_len ∙ (ap length dirty ∙ s.fits.dirty) };
+      fits = record { ready = s.fits.ready; of = x.of; dirty = x.dirty_len ∙ (ap length dirty ∙ s.fits.dirty); carried = x.carried_len ∙ (ap length carried ∙ s.fits.carried) };
       one = x.learns.parts ∙ (ap (λ c. (view c).parts) claimer ∙ s.one);
       won = λ g o n c i lt. ⊎_elim
           (λ h. ⊎_elim
-          (λ k. inl (target_more p (view a.claimer) (view b.claimer) known _ k))
+          (λ k. inl (word_more p (view a.claimer) (view b.claimer) a.carried b.carried known carried_on g i k))
           (λ w. ⊎_elim
           (λ d. inr (inl (x.dirty _ (subst (λ d. Has d (page_of (word_address g i))) (sym dirty) d))))
           (λ q. ⊎_elim (λ l. inr (inr l)) (λ (e : base ≡ g.base). inl (read_here g o e i lt)) (on_stack g.base q)) w)
           (s.won g o n (won_before (granule g.base) h) i lt))
           (λ h. inr (h n i lt)) (x.fresh g o c);
       dirtied = λ q h. ⊎_elim (λ o. page_more p a b won_after q (s.dirtied q (subst (λ d. Has d q) dirty o))) (λ w. w) (x.dirtied q h);
+      strays = λ q h. ⊎_elim
+          (λ o. s.strays q (subst (λ c. Has c q) carried o))
+          (λ w. stray_on f (is_object (length p.map.now) (found p) p.memory.now p.roots.now (IsMarked p.marker.now) map reached) normal reached q w)
+          (r.strays q h);
       queued = queued_more map (IsWordOf p f) (reached_word f reached normal) m b r.only before;
       within = within_more map (IsWordOf p f) (reached_word f reached normal) m b r.only (λ k c. s.within k (won_before k c));
     }
@@ -160,10 +193,11 @@ module _ (p : Pause) where
       serving = serving_pop;
       share = x.share ∙ share;
       learns = record { parts = x.learns.parts ∙ ap (λ c. (view c).parts) claimer; known = known };
+      carried = carried_on;
     }
 
   -- a reached Normal object comes to the stack
-  module _ (a m : Helper) (base : ℕ) (claimer : m.claimer ≡ a.claimer) (dirty : m.dirty ≡ a.dirty) (stack : m.stack.items ≡ a.stack.items ++ base ∷ []) where
+  module _ (a m : Helper) (base : ℕ) (claimer : m.claimer ≡ a.claimer) (dirty : m.dirty ≡ a.dirty) (carried : m.carried ≡ a.carried) (stack : m.stack.items ≡ a.stack.items ++ base ∷ []) where
     won_back : (k : ℕ) → Contains (won_of m) k → Contains (won_of a) k
     won_back k c = subst (λ h. Contains (view h).won k) claimer c
 
@@ -177,13 +211,14 @@ module _ (p : Pause) where
 
     pub serving_push : IsQueuedAt p base → IsServing p a → IsServing p m
     serving_push q s = record {
-      fits = record { ready = s.fits.ready; of = subst (λ h. IsOf p.table.now h) (sym claimer) s.fits.of; dirty = ap length dirty ∙ s.fits.dirty };
+      fits = record { ready = s.fits.ready; of = subst (λ h. IsOf p.table.now h) (sym claimer) s.fits.of; dirty = ap length dirty ∙ s.fits.dirty; carried = ap length carried ∙ s.fits.carried };
       one = ap (λ h. (view h).parts) claimer ∙ s.one;
       won = λ f o n c i lt. ⊎_elim
-          (λ k. inl (subst (λ h. IsTargetKnown p (view h) (word_in p f i)) (sym claimer) k))
+          (λ k. inl (word_more p (view a.claimer) (view m.claimer) a.carried m.carried (λ n e. ap (λ h. knows (view h) n) claimer ∙ e) (λ q h. subst (λ c. Has c q) (sym carried) h) f i k))
           (λ w. inr (awaited_on f i w))
           (s.won f o n (won_back (granule f.base) c) i lt);
       dirtied = λ k h. page_more p a m won_on k (s.dirtied k (subst (λ d. Has d k) dirty h));
+      strays = λ k h. s.strays k (subst (λ c. Has c k) carried h);
       queued = λ k c. ⊎_elim
           (λ h. s.queued k h)
           (λ h. subst (IsQueuedAt p) (contains_one base k h) q)
@@ -191,43 +226,47 @@ module _ (p : Pause) where
       within = λ k c. s.within k (won_back k c);
     }
 
-  module _ (v w : ClaimerView) (more : (k : ℕ) → knows v k ≡ true → knows w k ≡ true) where
-    pub roots_more : (share n : ℕ) → AreRootsRead p v share n → AreRootsRead p w share n
-    roots_more share n h i lt m = target_more p v w more _ (h i lt m)
+  -- the roots of a share stay read where more is known
+  pub roots_more : (v w : ClaimerView) → ((k : ℕ) → knows v k ≡ true → knows w k ≡ true) → (share n : ℕ) → AreRootsRead p v share n → AreRootsRead p w share n
+  roots_more v w more share n h i lt m = target_more p v w more _ (h i lt m)
 
-    pub entries_more : (share n : ℕ) → AreEntriesRead p v share n → AreEntriesRead p w share n
-    entries_more share n h i d lt m f o b k e j le ll = target_more p v w more _ (h i d lt m f o b k e j le ll)
+  module _ (v w : ClaimerView) (c d : List Bool) (more : (k : ℕ) → knows v k ≡ true → knows w k ≡ true) (carried : (q : ℕ) → Has c q → Has d q) where
+    pub entry_more : (e : Entry) → IsEntryRead p v c e → IsEntryRead p w d e
+    entry_more e h f o b k m j le ll = word_more p v w c d more carried f j (h f o b k m j le ll)
 
-    pub current_more : (share : ℕ) → IsCurrentRead p v share → IsCurrentRead p w share
-    current_more share h z e c f o b k m j le ll = target_more p v w more _ (h z e c f o b k m j le ll)
+    pub entries_more : (share n : ℕ) → AreEntriesRead p v c share n → AreEntriesRead p w d share n
+    entries_more share n h i e lt m = entry_more _ (h i e lt m)
 
-    pub words_more : (low high : ℕ) → AreWordsRead p v low high → AreWordsRead p w low high
-    words_more low high h f o b m i lt from below = target_more p v w more _ (h f o b m i lt from below)
+    pub current_more : (share : ℕ) → IsCurrentRead p v c share → IsCurrentRead p w d share
+    current_more share h z e is = entry_more e (h z e is)
 
-    pub pages_more : (share n : ℕ) → ArePagesRead p v share n → ArePagesRead p w share n
-    pages_more share n h page lt m d = words_more (page_start page) (page_start (page + 1)) (h page lt m d)
+    pub words_more : (low high : ℕ) → AreWordsRead p v c low high → AreWordsRead p w d low high
+    words_more low high h f o b m i lt from below = word_more p v w c d more carried f i (h f o b m i lt from below)
 
-    pub share_more : (share : ℕ) → IsShareRead p v share → IsShareRead p w share
+    pub pages_more : (share n : ℕ) → ArePagesRead p v c share n → ArePagesRead p w d share n
+    pages_more share n h page lt m is = words_more (page_start page) (page_start (page + 1)) (h page lt m is)
+
+    pub share_more : (share : ℕ) → IsShareRead p v c share → IsShareRead p w d share
     share_more share h = record {
-      roots = roots_more share _ h.roots;
+      roots = roots_more v w more share _ h.roots;
       entries = entries_more share _ h.entries;
       current = current_more share h.current;
       pages = pages_more share _ h.pages;
     }
 
   -- words of one object that were read are those of the next object between two addresses
-  pub part_read : IsMap (length p.map.now) (found p) → (v : ClaimerView) (low high stop : ℕ) (g : Found) → IsNextObject (found p) low high g → stop ≤ g.base + WORD_BYTES * g.len
-      → (g.kind ≡ Normal → IsMarked p.marker.now g.base → (i : ℕ) → i < g.len → low ≤ word_address g i → word_address g i < stop → IsTargetKnown p v (word_in p g i)) → AreWordsRead p v low stop
-  part_read map v low high stop g next le read f o n m i lt from below =
+  pub part_read : IsMap (length p.map.now) (found p) → (v : ClaimerView) (c : List Bool) (low high stop : ℕ) (g : Found) → IsNextObject (found p) low high g → stop ≤ g.base + WORD_BYTES * g.len
+      → (g.kind ≡ Normal → IsMarked p.marker.now g.base → (i : ℕ) → i < g.len → low ≤ word_address g i → word_address g i < stop → IsWordRead p v c g i) → AreWordsRead p v c low stop
+  part_read map v c low high stop g next le read f o n m i lt from below =
       let is : g ≡ f = next_is (length p.map.now) (found p) low high stop (word_address f i) g f map next le from below (reads_own (length p.map.now) (found p) map f i o lt) in
-      subst (λ (y : Found). y.kind ≡ Normal → IsMarked p.marker.now y.base → (j : ℕ) → j < y.len → low ≤ word_address y j → word_address y j < stop → IsTargetKnown p v (word_in p y j)) is read n m i lt from below
+      subst (λ (y : Found). y.kind ≡ Normal → IsMarked p.marker.now y.base → (j : ℕ) → j < y.len → low ≤ word_address y j → word_address y j < stop → IsWordRead p v c y j) is read n m i lt from below
 
   -- words up to an address, and then words from it on
-  pub words_append : (v : ClaimerView) (low at high : ℕ) → AreWordsRead p v low at → AreWordsRead p v at high → AreWordsRead p v low high
-  words_append v low at high a b f o n m i lt from below =
+  pub words_append : (v : ClaimerView) (c : List Bool) (low at high : ℕ) → AreWordsRead p v c low at → AreWordsRead p v c at high → AreWordsRead p v c low high
+  words_append v c low at high a b f o n m i lt from below =
       ⊎_elim (λ before. a f o n m i lt from before) (λ after. b f o n m i lt after below) (cases_lt (word_address f i) at)
 
   -- no object is left
-  pub words_end : IsMap (length p.map.now) (found p) → (v : ClaimerView) (low high : ℕ) → IsNoObject (found p) low high → AreWordsRead p v low high
-  words_end map v low high none f o n m i lt from below =
+  pub words_end : IsMap (length p.map.now) (found p) → (v : ClaimerView) (c : List Bool) (low high : ℕ) → IsNoObject (found p) low high → AreWordsRead p v c low high
+  words_end map v c low high none f o n m i lt from below =
       let z : None ≡ Some f = sym (none.none (word_address f i) from below) ∙ reads_own (length p.map.now) (found p) map f i o lt in absurd (cc z)

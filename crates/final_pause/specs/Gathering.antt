@@ -8,22 +8,26 @@ use Rattle.mark_bits.specs.Tables.{view, IsOf}
 use Rattle.mark_bits.specs.Claims.{all_parts}
 use Rattle.block_map.specs.declared.found.Found.{Found}
 use Rattle.marker.specs.Marking.{Covers, word_address}
+use Rattle.marker.specs.Growth.{IsStrayPage}
 use Rattle.final_pause.specs.declared.helper.Helper.{Helper}
 use Rattle.final_pause.specs.declared.share.Pause.{Pause}
-use Rattle.final_pause.specs.Helping.{IsTargetKnown, found, word_in}
+use Rattle.final_pause.specs.Helping.{IsWordRead, found}
 use Rattle.final_pause.specs.Serving.{IsReachedAt, IsShareRead}
 
 -- each helper has the share of its place
 abbrev pub AreNumbered : List Helper → Type 0
 AreNumbered crew = (i : ℕ) (d : Helper) → i < length crew → (slice_index_or crew i d).share ≡ i
 
--- The helpers from `low` on are joined: what they know and won is the first claimer's, and their dirty pages are the one row's.
-pub record HasGathered (p : Pause) (low : ℕ) (first : Claimer) (dirty : List Bool) : Type 0 where
+-- The helpers from `low` on are joined: what they know and won is the first claimer's, and their dirty and their carried pages
+-- are those of one row each.
+pub record HasGathered (p : Pause) (low : ℕ) (first : Claimer) (dirty carried : List Bool) : Type 0 where
   pub of : IsOf p.table.now first
   pub parts : (view first).parts + low ≡ all_parts
   pub size : length dirty ≡ length p.map.now
+  pub carried_size : length carried ≡ length p.map.now
   pub won : (f : Found) → found p f.base ≡ Some f → f.kind ≡ Normal → Contains (view first).won (granule f.base) → (i : ℕ) → i < f.len
-      → IsTargetKnown p (view first) (word_in p f i) ⊎ Has dirty (page_of (word_address f i))
+      → IsWordRead p (view first) carried f i ⊎ Has dirty (page_of (word_address f i))
   pub dirtied : (q : ℕ) → Has dirty q → (f : Found) × (found p f.base ≡ Some f) × Contains (view first).won (granule f.base) × Covers f q
+  pub strays : (q : ℕ) → Has carried q → IsStrayPage (found p) p.memory.now p.roots.now p.marker.now q
   pub within : (k : ℕ) → Contains (view first).won k → IsReachedAt p k
-  pub shares : (s : ℕ) → low ≤ s → s < p.helpers → IsShareRead p (view first) s
+  pub shares : (s : ℕ) → low ≤ s → s < p.helpers → IsShareRead p (view first) carried s

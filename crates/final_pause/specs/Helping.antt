@@ -11,7 +11,8 @@ use Rattle.pages.specs.Memory.{word_at}
 use Rattle.block_map.specs.declared.found.Found.{Found}
 use Rattle.block_map.specs.Objects.{IsMap}
 use Rattle.block_map.specs.FoundIn.{found_in}
-use Rattle.marker.specs.Marking.{Covers, word_address}
+use Rattle.marker.specs.Marking.{Covers, bytes_of, word_address}
+use Rattle.marker.specs.Growth.{IsStray}
 use Rattle.final_pause.specs.declared.helper.Helper.{Helper}
 use Rattle.final_pause.specs.declared.share.Pause.{Pause}
 
@@ -48,10 +49,27 @@ pub record IsHelperOf (p : Pause) (h : Helper) : Type 0 where
   pub ready : IsReadyPause p
   pub of : IsOf p.table.now h.claimer
   pub dirty : length h.dirty ≡ length p.map.now
+  pub carried : length h.carried ≡ length p.map.now
 
 -- the object that the word points into, if any, is known to be marked
 abbrev pub IsTargetKnown : Pause → ClaimerView → ℕ → Type 0
 IsTargetKnown p v w = (g : Found) → found p w ≡ Some g → knows v (granule g.base) ≡ true
+
+-- the word i of the object is stray
+abbrev pub IsStrayIn : Pause → Found → ℕ → Type 0
+IsStrayIn p f i = IsStray (found p) (bytes_of p.marker.now) (word_in p f i)
+
+-- the word i of the object was read: what it points into is known to be marked, and if it is stray its page is carried
+pub record IsWordRead (p : Pause) (v : ClaimerView) (carried : List Bool) (f : Found) (i : ℕ) : Type 0 where
+  pub known : IsTargetKnown p v (word_in p f i)
+  pub settled : IsStrayIn p f i → Has carried (page_of (word_address f i))
+
+-- a stray word of the object stands on the page
+pub record HasStrayOn (p : Pause) (f : Found) (q : ℕ) : Type 0 where
+  pub index : ℕ
+  pub inside : index < f.len
+  pub on : page_of (word_address f index) ≡ q
+  pub stray : IsStrayIn p f index
 
 -- the word i of the object will be read: by this helper, or after the join
 abbrev pub IsAwaitedBy : Helper → Found → ℕ → Type 0
@@ -65,6 +83,7 @@ IsPageOfWon p h q = (f : Found) × (found p f.base ≡ Some f) × Contains (won_
 pub record QueuesObject (f : Found) (old new : Helper) : Type 0 where
   pub claimer : new.claimer ≡ old.claimer
   pub share : new.share ≡ old.share
+  pub carried : new.carried ≡ old.carried
   pub dirty_len : length new.dirty ≡ length old.dirty
   pub dirty : (q : ℕ) → Has old.dirty q → Has new.dirty q
   pub covered : (q : ℕ) → Has new.dirty q → Has old.dirty q ⊎ Covers f q
@@ -86,7 +105,7 @@ unknown (suc n) v = unseen (knows v n) + unknown n v
 abbrev pub reads_left : Pause → Helper → ℕ
 reads_left p h = 2 * unknown (length (start_of p.table.now)) (view h.claimer) + length h.stack.items
 
--- What the helper knows, its dirty pages and its entries only grow; each word of a newly won object is awaited, and only
+-- What the helper knows, its rows of pages and its entries only grow; each word of a newly won object is awaited, and only
 -- pages of these have become dirty.
 pub record HelperGrows (p : Pause) (old new : Helper) : Type 0 where
   pub of : IsOf p.table.now new.claimer
@@ -96,6 +115,8 @@ pub record HelperGrows (p : Pause) (old new : Helper) : Type 0 where
   pub dirty_len : length new.dirty ≡ length old.dirty
   pub dirty : (q : ℕ) → Has old.dirty q → Has new.dirty q
   pub dirtied : (q : ℕ) → Has new.dirty q → Has old.dirty q ⊎ IsPageOfWon p new q
+  pub carried_len : length new.carried ≡ length old.carried
+  pub carried : (q : ℕ) → Has old.carried q → Has new.carried q
   pub stack : (b : ℕ) → Contains old.stack.items b → Contains new.stack.items b
   pub fresh : (f : Found) → found p f.base ≡ Some f → Contains (won_of new) (granule f.base)
       → Contains (won_of old) (granule f.base) ⊎ (f.kind ≡ Normal → (i : ℕ) → i < f.len → IsAwaitedBy new f i)
@@ -112,15 +133,17 @@ pub record ClaimsOnly (p : Pause) (P : ℕ → Type 0) (old new : Helper) : Type
   pub won : (k : ℕ) → Contains (won_of new) k → Contains (won_of old) k ⊎ ((f : Found) × IsPointedInto p P f × (granule f.base ≡ k))
   pub entries : (b : ℕ) → Contains new.stack.items b → Contains old.stack.items b ⊎ ((f : Found) × IsPointedInto p P f × (f.base ≡ b) × (f.kind ≡ Normal))
 
--- what the word points into is known to be marked, and nothing else was won
+-- what the word points into is known to be marked, nothing else was won, and no page has become carried
 pub record Visits (p : Pause) (w : ℕ) (old new : Helper) : Type 0 where
   pub extends : HelperGrows p old new
+  pub carried : new.carried ≡ old.carried
   pub target : IsTargetKnown p (view new.claimer) w
   pub only : ClaimsOnly p (λ v. v ≡ w) old new
 
--- what these words point into is known to be marked, and nothing else was won
+-- what these words point into is known to be marked, nothing else was won, and no page has become carried
 pub record VisitsAll (p : Pause) (ws : List ℕ) (old new : Helper) : Type 0 where
   pub extends : HelperGrows p old new
+  pub carried : new.carried ≡ old.carried
   pub targets : (w : ℕ) → Contains ws w → IsTargetKnown p (view new.claimer) w
   pub only : ClaimsOnly p (λ w. Contains ws w) old new
 
@@ -128,8 +151,9 @@ pub record VisitsAll (p : Pause) (ws : List ℕ) (old new : Helper) : Type 0 whe
 abbrev pub IsWordOf : Pause → Found → ℕ → Type 0
 IsWordOf p f w = (i : ℕ) × (i < f.len) × (w ≡ word_in p f i)
 
--- what n words of an object point into, from its word `first` on, is known to be marked, and nothing else was won
+-- n words of an object were read, from its word `first` on; nothing else was won, and only their pages have become carried
 pub record ReadsWords (p : Pause) (f : Found) (first n : ℕ) (old new : Helper) : Type 0 where
   pub extends : HelperGrows p old new
-  pub targets : (i : ℕ) → first ≤ i → i < first + n → IsTargetKnown p (view new.claimer) (word_in p f i)
+  pub read : (i : ℕ) → first ≤ i → i < first + n → IsWordRead p (view new.claimer) new.carried f i
+  pub strays : (q : ℕ) → Has new.carried q → Has old.carried q ⊎ HasStrayOn p f q
   pub only : ClaimsOnly p (IsWordOf p f) old new

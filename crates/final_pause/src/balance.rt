@@ -13,8 +13,8 @@ use crate::share::Pause;
 use arrayvec::ArrayVec;
 use std::thread;
 
-// How often a helper with no work looks for some, so that it ends whatever the others do. On an idle machine that takes longer
-// than the largest pause.
+// How often a helper with no work looks for some, so that it ends whatever the others do: some tens of
+// milliseconds.
 const LOOKS: u32 = 100_000;
 
 // Offers the lowest entry that was not offered before, where nothing is on offer and another one is left. Answers how many

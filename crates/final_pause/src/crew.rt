@@ -38,11 +38,13 @@ fn new_helper<'a>(
     ensures hired { IfOk result (λ h. IsHired table.now pages h) }
 {
     let dirty = DirtyPages::new(alloc, pages)?;
+    let carried = DirtyPages::new(alloc, pages)?;
     let claimer = table.split(first);
     Ok(Helper {
         claimer,
         stack: ArrayVec::new(),
         dirty,
+        carried,
         share: share as usize,
         duty: Duty::new(busy),
         actor: FIRST_HELPER + share,
@@ -77,21 +79,33 @@ pub(crate) fn hire<'a>(
 }
 
 // Joins one helper.
-fn take_in(table: &MarkTable, first: &mut Claimer, dirty: &mut DirtyPages, helper: Helper)
+fn take_in(
+    table: &MarkTable,
+    first: &mut Claimer,
+    dirty: &mut DirtyPages,
+    carried: &mut DirtyPages,
+    helper: Helper,
+)
     requires of { IsOf table.now first.old }
     requires helper { IsOf table.now helper.claimer }
     requires size { length helper.dirty ≡ length dirty.old }
+    requires carried_size { length helper.carried ≡ length carried.old }
     ensures of { IsOf table.now first.new }
     ensures joined { view first.new ≡ joined (view first.old) (view helper.entry.claimer) }
     ensures size { length dirty.new ≡ length dirty.old }
     ensures each { (q : ℕ) → Has dirty.new q → Has dirty.old q ⊎ Has helper.entry.dirty q }
     ensures old { (q : ℕ) → Has dirty.old q → Has dirty.new q }
     ensures more { (q : ℕ) → Has helper.entry.dirty q → Has dirty.new q }
+    ensures carried_size { length carried.new ≡ length carried.old }
+    ensures each_carried { (q : ℕ) → Has carried.new q → Has carried.old q ⊎ Has helper.entry.carried q }
+    ensures old_carried { (q : ℕ) → Has carried.old q → Has carried.new q }
+    ensures more_carried { (q : ℕ) → Has helper.entry.carried q → Has carried.new q }
 {
     let Helper {
         claimer,
         stack: _,
         dirty: more,
+        carried: carried_more,
         share: _,
         duty: _,
         actor: _,
@@ -99,6 +113,7 @@ fn take_in(table: &MarkTable, first: &mut Claimer, dirty: &mut DirtyPages, helpe
     } = helper;
     table.join(first, claimer);
     dirty.add(&more);
+    carried.add(&carried_more);
 }
 
 /// Joins all helpers.
@@ -106,14 +121,15 @@ pub(crate) fn gather(
     pause: &Pause,
     first: &mut Claimer,
     dirty: &mut DirtyPages,
+    carried: &mut DirtyPages,
     mut crew: Vec<Helper>,
 )
     requires all { vec_len crew ≡ pause.now.helpers }
-    requires first { HasGathered pause.now (vec_len crew) first.old dirty.old }
+    requires first { HasGathered pause.now (vec_len crew) first.old dirty.old carried.old }
     requires done { (i : ℕ) (d : HelperValue) → i < vec_len crew → HasServed pause.now i (slice_index_or crew.items i d) }
-    ensures { HasGathered pause.now 0 first.new dirty.new }
+    ensures { HasGathered pause.now 0 first.new dirty.new carried.new }
 {
     while let Some(helper) = crew.pop() {
-        take_in(pause.table, first, dirty, helper);
+        take_in(pause.table, first, dirty, carried, helper);
     }
 }

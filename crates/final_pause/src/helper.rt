@@ -1,5 +1,5 @@
 //! One helper of a pause: what it holds, and what it does with an object.
-ghost use Rattle.std.specs.Prelude.{◌≡◌, ◌<◌, ◌≤◌, true, false, ◌∷◌, length, if◌then◌else◌};
+ghost use Rattle.std.specs.Prelude.{◌≡◌, ◌<◌, ◌≤◌, true, false, ◌∷◌, length, slice_set, if◌then◌else◌};
 ghost use Rattle.words.specs.declared.limits.TheConstants.{MAX_PAGES};
 ghost use Rattle.mark_bits.specs.Tables.{view, start_of, IsOf};
 ghost use Rattle.mark_bits.specs.Claims.{knows, LearnsMore};
@@ -13,19 +13,21 @@ use block_map::Found;
 use dirty_pages::DirtyPages;
 use mark_bits::{Claimer, MarkTable};
 use marker::dirty_object;
-use words::Kind;
 use words::limits::MARK_STACK_ENTRIES;
+use words::{Kind, PageNo};
 
 /// The entries of a helper's stack.
 pub(crate) const ENTRIES: usize = MARK_STACK_ENTRIES as usize;
 
 /// What one helper marks with: its claimer, the bases of the objects that it still has to read, the pages of those that
-/// found no room, its place among the helpers, whether it has work, its number for the gate, and how many claims it has made.
+/// found no room, the pages that it carries, its place among the helpers, whether it has work, its number for the gate, and how
+/// many claims it has made.
 #[derive(Drop)]
 pub(crate) struct Helper<'a> {
     pub(crate) claimer: Claimer,
     pub(crate) stack: ArrayVec<u64, ENTRIES>,
     pub(crate) dirty: DirtyPages,
+    pub(crate) carried: DirtyPages,
     pub(crate) share: usize,
     pub(crate) duty: Duty<'a>,
     pub(crate) actor: u8,
@@ -44,6 +46,7 @@ pub(crate) fn claim<G: Gate>(
     ensures of { IsOf table.now helper.new.claimer }
     ensures stack { helper.new.stack ≡ helper.old.stack }
     ensures dirty { helper.new.dirty ≡ helper.old.dirty }
+    ensures carried { helper.new.carried ≡ helper.old.carried }
     ensures share { helper.new.share ≡ helper.old.share }
     ensures learns { LearnsMore (view helper.old.claimer) (view helper.new.claimer) }
     ensures known { knows (view helper.new.claimer) granule ≡ true }
@@ -72,4 +75,17 @@ pub(crate) fn queue(helper: &mut Helper, found: Found)
     } else {
         helper.stack.push(found.base);
     }
+}
+
+// Makes the page carried.
+#[cold]
+pub(crate) fn carry(helper: &mut Helper, page: PageNo)
+    requires { page < length helper.old.carried }
+    ensures claimer { helper.new.claimer ≡ helper.old.claimer }
+    ensures stack { helper.new.stack ≡ helper.old.stack }
+    ensures dirty { helper.new.dirty ≡ helper.old.dirty }
+    ensures carried { helper.new.carried ≡ slice_set helper.old.carried page true }
+    ensures share { helper.new.share ≡ helper.old.share }
+{
+    helper.carried.set(page);
 }

@@ -13,8 +13,8 @@
 //!
 //! [`close_marks_with`] first marks with helpers, each in a thread of its own, and then ends as [`close_marks`].
 //!
-//! **Starting.** The marks are copied into a table of bits. Each helper gets a claimer of it, a stack and a row of dirty
-//! pages. All memory is taken before the first helper starts. Where memory or a thread is refused, those that run are
+//! **Starting.** The marks are copied into a table of bits. Each helper gets a claimer of it, a stack, a row of dirty pages
+//! and one of carried pages. All memory is taken before the first helper starts. Where memory or a thread is refused, those that run are
 //! joined, the table is dropped, and the calling thread marks alone.
 //!
 //! **Sharing.** Root words, entries and dirty pages are shared out by their places, root words first. No helper writes
@@ -24,6 +24,9 @@
 //! It waits on the winner's stack, or where that is full, its pages become dirty in the winner's row. So each word of an
 //! object that a helper won points into what that helper knows to be marked, or stands on a page of its row.
 //!
+//! **Carrying.** A helper reads the words of an object page by page. Where one of them lies in the heap and points into
+//! nothing, its page is carried in the helper's own row. Root words carry nothing.
+//!
 //! **Offering.** A helper with entries offers the lowest of them, one at a time, to helpers that have none, and keeps it all
 //! the same: it comes to that entry last. What is on offer is always a reached Normal object. So a heap that hangs from one
 //! root is marked by all, while each helper still answers for what it won.
@@ -31,8 +34,9 @@
 //! **Ending.** A helper that has no work looks for some on offer until none has work. Each counts as having work before its
 //! thread starts, and no longer once it rests or is dropped, as it is where its thread is refused.
 //!
-//! **Joining.** What helpers know, won and made dirty is put together: the table's bits become the marks, the rows the dirty
-//! pages, and no entry is left. The invariant holds then, and the calling thread reads what found no room.
+//! **Joining.** What helpers know, won, made dirty and carry is put together: the table's bits become the marks, the rows of
+//! dirty pages the dirty ones, those of carried pages are carried beside the pages that were, and no entry is left. Both
+//! invariants hold then, and the calling thread reads what found no room.
 #![tactic(auto)]
 
 mod balance;

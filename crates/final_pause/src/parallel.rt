@@ -82,6 +82,9 @@ fn mark_with_helpers<R: Threads + Wait + Sync, G: Gate>(
     let Ok(mut dirty) = DirtyPages::new(alloc, map.len()) else {
         return false;
     };
+    let Ok(mut carried) = DirtyPages::new(alloc, map.len()) else {
+        return false;
+    };
     let busy = Busy::new();
     let Ok(crew) = hire(
         alloc,
@@ -104,8 +107,8 @@ fn mark_with_helpers<R: Threads + Wait + Sync, G: Gate>(
     let Ok(crew) = help_each::<_, _, Brand>(rt, alloc, pause, gate, crew) else {
         return false;
     };
-    gather(&pause, &mut first, &mut dirty, crew);
-    marker.take_back(table, first, dirty);
+    gather(&pause, &mut first, &mut dirty, &mut carried, crew);
+    marker.take_back(table, first, dirty, &carried);
     true
 }
 

@@ -1,23 +1,25 @@
 //! The share of one helper: root words and entries by their places, and what they lead to.
-ghost use Rattle.std.specs.Prelude.{◌≡◌, ◌+◌, ◌*◌, ◌%◌, ◌<◌, ◌≤◌, true, Some, length};
+ghost use Rattle.std.specs.Prelude.{◌≡◌, ℕ, ◌+◌, ◌*◌, ◌%◌, ◌<◌, ◌≤◌, [], ◌∷◌, true, false, Some, length};
 ghost use Rattle.mark_bits.specs.Tables.{view, start_of};
-ghost use Rattle.words.specs.Layout.{granule};
-ghost use Rattle.words.specs.declared.limits.TheConstants.{WORD_BYTES};
+ghost use Rattle.words.specs.Layout.{granule, page_of};
+ghost use Rattle.words.specs.declared.limits.TheConstants.{FIRST_ADDRESS, WORD_BYTES};
 ghost use Rattle.block_map.specs.FoundIn.{found_in};
 ghost use Rattle.block_map.specs.Walks.{IsNextObject};
 ghost use Rattle.words.specs.Bits.{Has};
+ghost use Rattle.marker.specs.Marking.{IsOutside, bytes_of, word_address};
+ghost use Rattle.marker.specs.Growth.{TellsStray};
 ghost use Rattle.final_pause.specs.Helping.{IsReadyPause, IsObjectOf, IsHelperOf, Visits, VisitsAll, ReadsWords};
 ghost use Rattle.final_pause.specs.Serving.{IsServing, GoesOnServing, AreOffered, IsEntryRead, HasServed, AreRootsRead, AreEntriesRead, IsCurrentRead, AreWordsRead, IsPageRead, ArePagesRead};
 
 use crate::gate::Gate;
-use crate::helper::{Helper, claim, queue};
+use crate::helper::{Helper, carry, claim, queue};
 use crate::offer::{Offer, Offering};
 use block_map::{BlockMap, Found};
 use mark_bits::MarkTable;
 use marker::{Entry, Marker, part_between};
 use pages::{Memory, Reader, Words};
-use words::limits::{PAGE_BYTES, WORD_BYTES};
-use words::{Kind, PageNo, granule_of, page_start};
+use words::limits::{FIRST_ADDRESS, PAGE_BYTES, WORD_BYTES};
+use words::{Kind, PageNo, granule_of, page_of, page_start};
 
 /// What the helpers of a pause share. No helper changes any of it but the table, by claims.
 #[derive(Clone, Copy)]
@@ -42,36 +44,72 @@ impl<'a> Pause<'a> {
         granule_of(found.base)
     }
 
-    // Marks the object that a word points into. Where this helper is the first to, the object is its own to read.
-    fn visit<G: Gate>(&self, gate: &G, helper: &mut Helper, word: u64)
-        requires { IsHelperOf self.now helper.old }
-        ensures { Visits self.now word helper.old helper.new }
+    // Whether a word lies in the heap's range.
+    #[inline]
+    fn is_inside(&self, word: u64) -> bool
+        requires ready { IsReadyPause self.now }
+        ensures inside { result ≡ true → (FIRST_ADDRESS ≤ word) × (word < FIRST_ADDRESS + bytes_of self.now.marker.now) }
+        ensures outside { result ≡ false → IsOutside (bytes_of self.now.marker.now) word }
     {
+        word.wrapping_sub(FIRST_ADDRESS) < PAGE_BYTES * u64::from(self.map.len())
+    }
+
+    // Marks the object that a word points into. Where this helper is the first to, the object is its own to read. Answers
+    // whether the word is stray: it lies in the heap's range and points into no object.
+    fn visit<G: Gate>(&self, gate: &G, helper: &mut Helper, word: u64) -> bool
+        requires { IsHelperOf self.now helper.old }
+        ensures visits { Visits self.now word helper.old helper.new }
+        ensures stray { TellsStray (found_in self.now.map.now) (bytes_of self.now.marker.now) (word ∷ []) result }
+    {
+        // Most words lie outside of the heap.
+        if !self.is_inside(word) {
+            return false;
+        }
         let Some(found) = self.map.find(word) else {
-            return;
+            return true;
         };
         let granule = self.granule(found);
         // A look is cheaper than a claim, and most words point into marked objects.
         if self.table.is_set(&mut helper.claimer, granule) {
-            return;
+            return false;
         }
         if claim(self.table, gate, helper, granule) {
             queue(helper, found);
         }
+        false
     }
 
-    // Marks what words point into.
+    // Marks what words point into, and answers whether one is stray.
     #[inline]
-    fn visit_all<G: Gate>(&self, gate: &G, helper: &mut Helper, words: Words)
+    fn visit_all<G: Gate>(&self, gate: &G, helper: &mut Helper, words: Words) -> bool
         requires { IsHelperOf self.now helper.old }
-        ensures { VisitsAll self.now words.entry helper.old helper.new }
+        ensures visits { VisitsAll self.now words.entry helper.old helper.new }
+        ensures stray { TellsStray (found_in self.now.map.now) (bytes_of self.now.marker.now) words.entry result }
     {
+        let mut stray = false;
         for word in words {
-            self.visit(gate, helper, word);
+            stray |= self.visit(gate, helper, word);
+        }
+        stray
+    }
+
+    // Marks what words of an object point into: so many, from its word `first` on, which stand on one page. The page is
+    // carried if one of them is stray.
+    fn read_run<G: Gate>(&self, gate: &G, helper: &mut Helper, found: Found, first: u32, count: u64)
+        requires fits { IsHelperOf self.now helper.old }
+        requires object { IsObjectOf self.now found }
+        requires inside { first + count ≤ found.len }
+        requires one_page { (i : ℕ) → first ≤ i → i < first + count → page_of (word_address found i) ≡ page_of (word_address found first) }
+        ensures { ReadsWords self.now found first count helper.old helper.new }
+    {
+        let start = found.base + WORD_BYTES * u64::from(first);
+        let mut reader = Reader::new(self.memory);
+        if self.visit_all(gate, helper, reader.read_run(start, count)) {
+            carry(helper, page_of(start) as PageNo);
         }
     }
 
-    // Marks what words of an object point into: so many, from its word `first` on.
+    // Marks what words of an object point into, page by page: so many, from its word `first` on.
     pub(crate) fn read_words<G: Gate>(
         &self,
         gate: &G,
@@ -85,9 +123,15 @@ impl<'a> Pause<'a> {
         requires inside { first + count ≤ found.len }
         ensures { ReadsWords self.now found first count helper.old helper.new }
     {
-        let start = found.base + WORD_BYTES * u64::from(first);
-        let mut reader = Reader::new(self.memory);
-        self.visit_all(gate, helper, reader.read_run(start, count));
+        let mut done = 0;
+        while done < count {
+            let next = first + done as u32;
+            let address = found.base + WORD_BYTES * u64::from(next);
+            let on_page = (PAGE_BYTES - address % PAGE_BYTES) / WORD_BYTES;
+            let run = on_page.min(count - done);
+            self.read_run(gate, helper, found, next, run);
+            done += run;
+        }
     }
 
     // Marks what the root words of the helper's share point into.
@@ -107,7 +151,7 @@ impl<'a> Pause<'a> {
     fn read_entry<G: Gate>(&self, gate: &G, helper: &mut Helper, entry: Entry)
         requires { IsServing self.now helper.old }
         ensures serves { GoesOnServing self.now helper.old helper.new }
-        ensures read { IsEntryRead self.now (view helper.new.claimer) entry }
+        ensures read { IsEntryRead self.now (view helper.new.claimer) helper.new.carried entry }
     {
         let Some(found) = self.marker.unread(self.map, entry) else {
             return;
@@ -120,7 +164,7 @@ impl<'a> Pause<'a> {
     fn read_current<G: Gate>(&self, gate: &G, helper: &mut Helper)
         requires { IsServing self.now helper.old }
         ensures serves { GoesOnServing self.now helper.old helper.new }
-        ensures read { IsCurrentRead self.now (view helper.new.claimer) helper.old.share }
+        ensures read { IsCurrentRead self.now (view helper.new.claimer) helper.new.carried helper.old.share }
     {
         if helper.share != 0 {
             return;
@@ -136,7 +180,7 @@ impl<'a> Pause<'a> {
         requires serving { IsServing self.now helper.old }
         requires offered { AreOffered self.now J.offered }
         ensures serves { GoesOnServing self.now helper.old helper.new }
-        ensures read { AreEntriesRead self.now (view helper.new.claimer) helper.old.share (length self.now.marker.now.stack) }
+        ensures read { AreEntriesRead self.now (view helper.new.claimer) helper.new.carried helper.old.share (length self.now.marker.now.stack) }
     {
         let waiting = self.marker.waiting();
         for i in 0..waiting.len() {
@@ -162,7 +206,7 @@ impl<'a> Pause<'a> {
         requires low { low % WORD_BYTES ≡ 0 }
         requires high { high % WORD_BYTES ≡ 0 }
         ensures serves { GoesOnServing self.now helper.old helper.new }
-        ensures read { AreWordsRead self.now (view helper.new.claimer) low result }
+        ensures read { AreWordsRead self.now (view helper.new.claimer) helper.new.carried low result }
         ensures further { low < result }
         ensures within { result ≤ high }
         ensures aligned { result % WORD_BYTES ≡ 0 }
@@ -183,7 +227,7 @@ impl<'a> Pause<'a> {
         requires serving { IsServing self.now helper.old }
         requires inside { page < length self.now.map.now }
         ensures serves { GoesOnServing self.now helper.old helper.new }
-        ensures read { IsPageRead self.now (view helper.new.claimer) page }
+        ensures read { IsPageRead self.now (view helper.new.claimer) helper.new.carried page }
     {
         let mut address = page_start(page);
         let end = address + PAGE_BYTES;
@@ -206,7 +250,7 @@ impl<'a> Pause<'a> {
         requires serving { IsServing self.now helper.old }
         requires offered { AreOffered self.now J.offered }
         ensures serves { GoesOnServing self.now helper.old helper.new }
-        ensures read { ArePagesRead self.now (view helper.new.claimer) helper.old.share (length self.now.map.now) }
+        ensures read { ArePagesRead self.now (view helper.new.claimer) helper.new.carried helper.old.share (length self.now.map.now) }
     {
         for page in 0..self.map.len() {
             if self.has_dirty(helper.share, page) {

@@ -2,35 +2,42 @@
 use Rattle.std.proofs.Common.{◌++◌, length, take, get_or, set, ◌≡◌, ℕ, ◌+◌, ◌<◌, ◌≤◌, List, [], ◌∷◌, refl, sym, ap, ◌∙◌, subst, arith}
 use Rattle.std.proofs.lemmas.List.{take_more, take_more_set, take_all, length-take-le}
 use Rattle.heap_spec.specs.declared.event.Event.{Event}
-use Rattle.heap_spec.specs.declared.event.Event.TheVariants.{Attach, Mutator, Begin, Roots, Mark, Retrace, Finish, Sweep, Collect, Number}
+use Rattle.heap_spec.specs.declared.event.Event.TheVariants.{Attach, Mutator, Begin, BeginPartial, Roots, Mark, Retrace, Finish, Sweep, Collect, Number}
 use Rattle.heap_spec.specs.declared.reply.Reply.{Reply}
 use Rattle.heap_spec.specs.declared.reply.Reply.TheVariants.{Count}
 use Rattle.heap_spec.specs.Runs.{Told}
+use Rattle.block_map.specs.FoundIn.{IsLawful}
 use Rattle.heap_core.specs.Contents.{Contents, IsCore}
 use Rattle.heap_core.specs.Acts.{IsAct, AreActs}
 use Rattle.heap_core.specs.Following.{IsLine, AreLines, told_of}
-use Rattle.heap_core.proofs.Following.{call_line, begin_result, roots_result, mark_result, retrace_result, finish_result, sweep_result, collect_result, number_line, no_lines, lines_more}
+use Rattle.heap_core.proofs.Following.{call_line, begin_result, partial_result, roots_result, mark_result, retrace_result, finish_result, sweep_result, collect_result, number_line, no_lines, lines_more}
 
 -- what is a line with one reply is one with the same reply
 line_with : (old new : Contents) (event : Event) (reply told : Reply) → reply ≡ told → IsLine old event told new → IsLine old event reply new
 line_with old new event reply told same line = subst (λ x. IsLine old event x new) (sym same) line
 
-pub act_line : (old new : Contents) (event : Event) (reply : Reply) → IsAct old event reply new → IsLine old event reply new
-act_line old new Attach reply act = call_line old Attach reply new act
-act_line old new (Mutator slot call) reply act = call_line old (Mutator slot call) reply new act
-act_line old new Begin reply act = line_with old new Begin reply _ act.1 (begin_result old new act.0 act.2)
-act_line old new Roots reply act = line_with old new Roots reply _ act.1 (roots_result old new act.0 act.2)
-act_line old new (Mark most) reply act = line_with old new (Mark most) reply _ act.1 (mark_result old new most act.0 act.2)
-act_line old new Retrace reply act = line_with old new Retrace reply _ act.1 (retrace_result old new act.0 act.2)
-act_line old new Finish reply act = line_with old new Finish reply _ act.1 (finish_result old new act.0 act.2)
-act_line old new Sweep reply act = line_with old new Sweep reply _ act.1 (sweep_result old new act.0 act.2)
-act_line old new Collect reply act = line_with old new Collect reply _ act.1 (collect_result old new act.0 act.2)
-act_line old new Number reply act = line_with old new Number reply _ act.0 (subst (λ c. IsLine old Number (Count old.cycle.count) c) (sym act.1) (number_line old))
+pub act_line : (old new : Contents) (event : Event) (reply : Reply) → IsLawful old.store.states → IsAct old event reply new → IsLine old event reply new
+act_line old new Attach reply lawful act = call_line old Attach reply new lawful act
+act_line old new (Mutator slot call) reply lawful act = call_line old (Mutator slot call) reply new lawful act
+act_line old new Begin reply lawful act = line_with old new Begin reply _ act.1 (begin_result old new act.0 act.2)
+act_line old new BeginPartial reply lawful act = line_with old new BeginPartial reply _ act.1 (partial_result old new act.0 act.2)
+act_line old new Roots reply lawful act = line_with old new Roots reply _ act.1 (roots_result old new act.0 act.2)
+act_line old new (Mark most) reply lawful act = line_with old new (Mark most) reply _ act.1 (mark_result old new most act.0 act.2)
+act_line old new Retrace reply lawful act = line_with old new Retrace reply _ act.1 (retrace_result old new act.0 act.2)
+act_line old new Finish reply lawful act = line_with old new Finish reply _ act.1 (finish_result old new act.0 act.2)
+act_line old new Sweep reply lawful act = line_with old new Sweep reply _ act.1 (sweep_result old new act.0 act.2)
+act_line old new Collect reply lawful act = line_with old new Collect reply _ act.1 (collect_result old new act.0 act.2)
+act_line old new Number reply lawful act = line_with old new Number reply _ act.0 (subst (λ c. IsLine old Number (Count old.cycle.count) c) (sym act.1) (number_line old))
 
-pub acts_lines : (old : Contents) {lines : List Told} {new : Contents} → AreActs old lines new → AreLines old lines new
-acts_lines old AreActs.none = no_lines old
-acts_lines old (AreActs.more {lines = lines} {mid = mid} {new = new} told before act core) =
-    lines_more old mid new lines told.event told.reply (acts_lines old before) (act_line mid new told.event told.reply act)
+-- what the calls leave has the laws of a map
+lawful_after : (old : Contents) → IsLawful old.store.states → {lines : List Told} {new : Contents} → AreActs old lines new → IsLawful new.store.states
+lawful_after old lawful AreActs.none = lawful
+lawful_after old lawful (AreActs.more told before act core) = core.lawful
+
+pub acts_lines : (old : Contents) → IsLawful old.store.states → {lines : List Told} {new : Contents} → AreActs old lines new → AreLines old lines new
+acts_lines old lawful AreActs.none = no_lines old
+acts_lines old lawful (AreActs.more {lines = lines} {mid = mid} {new = new} told before act core) =
+    lines_more old mid new lines told.event told.reply (acts_lines old lawful before) (act_line mid new told.event told.reply (lawful_after old lawful before) act)
 
 -- one event and reply more
 told_more : (events : List Event) (replies : List Reply) (event : Event) (reply : Reply) → length events ≡ length replies → told_of (events ++ event ∷ []) (replies ++ reply ∷ []) ≡ told_of events replies ++ record { event = event; reply = reply } ∷ []

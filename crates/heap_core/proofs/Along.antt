@@ -21,7 +21,7 @@ use Rattle.links.proofs.Named.{named_any, named_filter}
 use Rattle.heap_view.specs.Shows.{Shows, ShowsObjects, IsShown}
 use Rattle.block_map.specs.FoundIn.{found_in}
 use Rattle.marker.specs.Marking.{Marking, word_address}
-use Rattle.marker.specs.Invariant.{IsTargetMarked}
+use Rattle.marker.specs.Invariant.{IsTargetMarked, IsSettled}
 use Rattle.heap_core.specs.Contents.{Cycle, IsTraced}
 use Rattle.heap_view.proofs.Shows.{reads_object, seen}
 use Rattle.object_space.specs.Store.{Store}
@@ -252,4 +252,13 @@ traced_along kept row t t' y map x along = subst (λ z. IsTraced z y) (sym (besi
       each))
       (λ awaited. inr awaited)
       (x.invariant is f there kind marked i lt);
+  carried = λ is f there kind marked i lt.
+      let each = (zeroes_along kept row t t' along).each (place (word_address f i)) in
+      ⊎_elim
+      (λ settled. inl (⊎_elim
+      (λ same. subst (IsSettled (found_in t.states) y.marking (word_address f i)) (sym same) settled)
+      (λ zero. subst (IsSettled (found_in t.states) y.marking (word_address f i)) (sym zero) (IsSettled.outside (inl (omega arith))))
+      each))
+      (λ awaited. inr awaited)
+      (x.carried is f there kind marked i lt);
 })

@@ -1,14 +1,14 @@
 -- The core's lines as steps of its states, and the marker's as none.
-use Rattle.std.proofs.Common.{Result, Ok, Err, ◌≡◌, ℕ, Bool, true, refl, sym, ap, ◌∙◌, subst, true≢false}
+use Rattle.std.proofs.Common.{Result, Ok, Err, ◌≡◌, ℕ, Bool, true, false, refl, sym, ap, ◌∙◌, subst, true≢false}
 use Rattle.std.specs.Prelude.{⊤, slice_get}
 use Rattle.words.specs.declared.refusal.Refusal.{Refusal}
 use Rattle.roots.specs.Roots.{root_words_of}
 use Rattle.history.specs.Objects.{StepsFrom}
 use Rattle.heap_spec.specs.declared.event.Event.{Event}
-use Rattle.heap_spec.specs.declared.event.Event.TheVariants.{Attach, Mutator, Begin, Roots, Mark, Retrace, Finish, Sweep, Collect, Number}
+use Rattle.heap_spec.specs.declared.event.Event.TheVariants.{Attach, Mutator, Begin, BeginPartial, Roots, Mark, Retrace, Finish, Sweep, Collect, Number}
 use Rattle.heap_spec.specs.declared.reply.Reply.{Reply}
 use Rattle.heap_spec.specs.Heap.{Heap}
-use Rattle.heap_spec.specs.Runs.{Start, Run, Touched, fresh, is_marking, goes_on}
+use Rattle.heap_spec.specs.Runs.{Start, Run, Touched, fresh, is_marking, needs_full, goes_on}
 use Rattle.heap_spec.specs.Histories.{Happens}
 use Rattle.heap_spec.specs.Transcripts.{LineOf, IsWrongPhase}
 use Rattle.heap_spec.specs.Ranges.{InRange}
@@ -25,6 +25,7 @@ can_fits : (c : Contents) (s : Heap) (who : ℕ) (event : Event) → StandsFor c
 can_fits c s who Attach stands can = (can.0, rw stands.mutators (can.1.is_vacant, can.1.lowest))
 can_fits c s who (Mutator slot call) stands can = record { range = can.range; own = can.own; mutator = can.mutator; attached = ap (λ l. slice_get l who) stands.mutators ∙ can.attached }
 can_fits c s who Begin stands can = can.0
+can_fits c s who BeginPartial stands can = can.0
 can_fits c s who Roots stands can = can
 can_fits c s who (Mark n) stands can = can
 can_fits c s who Retrace stands can = can
@@ -38,6 +39,7 @@ can_right : (c : Contents) (who : ℕ) (event : Event) (marking : Bool) → c.cy
 can_right c who Attach marking is can wrong = wrong
 can_right c who (Mutator slot call) marking is can wrong = wrong
 can_right c who Begin marking is can wrong = true≢false (sym wrong ∙ (sym is ∙ can.1))
+can_right c who BeginPartial marking is can wrong = true≢false (sym wrong ∙ (sym is ∙ can.1))
 can_right c who Roots marking is can wrong = can
 can_right c who (Mark n) marking is can wrong = can
 can_right c who Retrace marking is can wrong = can
@@ -46,23 +48,28 @@ can_right c who Sweep marking is can wrong = wrong
 can_right c who Collect marking is can wrong = wrong
 can_right c who Number marking is can wrong = wrong
 
+-- and no full cycle is needed where one would be refused
+can_need : (c : Contents) (who : ℕ) (event : Event) → event ≡ BeginPartial → Can c who event → c.cycle.needs_full ≡ false
+can_need c who event is can = let partial = subst (Can c who) is can in partial.2
+
 -- So its line goes on by what happens.
-happened : (start : Start) (run : Run) (s : Heap) (who : ℕ) {event : Event} {reply : Reply} {next : Run} → LineOf start run event reply next → MayMake s who event → (IsWrongPhase (is_marking start run) event → ⊥)
+happened : (start : Start) (run : Run) (s : Heap) (who : ℕ) {event : Event} {reply : Reply} {next : Run} → LineOf start run event reply next → MayMake s who event → (IsWrongPhase (is_marking start run) event → ⊥) → (event ≡ BeginPartial → needs_full start run ≡ false)
     → (s' : Heap) × Happens start run event reply s' × (next ≡ goes_on run event reply s')
-happened start run s who (LineOf.happens {s' = s'} h) fits right = (s', h, refl)
-happened start run s who (LineOf.refused wrong) fits right = absurd (right wrong)
-happened start run s who (LineOf.roots on) fits right = absurd fits
-happened start run s who (LineOf.mark on few) fits right = absurd fits
-happened start run s who (LineOf.retrace on few) fits right = absurd fits
-happened start run s who (LineOf.sweep few) fits right = absurd fits
-happened start run s who LineOf.number fits right = absurd fits
+happened start run s who (LineOf.happens {s' = s'} h) fits right need = (s', h, refl)
+happened start run s who (LineOf.refused wrong) fits right need = absurd (right wrong)
+happened start run s who (LineOf.needs idle needs) fits right need = absurd (true≢false (sym needs ∙ need refl))
+happened start run s who (LineOf.roots on) fits right need = absurd fits
+happened start run s who (LineOf.mark on few) fits right need = absurd fits
+happened start run s who (LineOf.retrace on few) fits right need = absurd fits
+happened start run s who (LineOf.sweep few) fits right need = absurd fits
+happened start run s who LineOf.number fits right need = absurd fits
 
 pub line_steps : (old new : Contents) (who : ℕ) (event : Event) (reply : Reply) → Can old who event → InRange event → IsLine old event reply new → StepsFrom Stands StateStep old who event reply new
 line_steps old new who event reply can range line state follows =
     let start = fresh state.pages in
     let next = line start state.run follows in
     let fits = can_fits old (heap_of state) who event follows.stands can in
-    let went = happened start state.run (heap_of state) who next.1 fits (can_right old who event (is_marking start state.run) follows.phase can) in (
+    let went = happened start state.run (heap_of state) who next.1 fits (can_right old who event (is_marking start state.run) follows.phase can) (λ is. sym follows.needs ∙ can_need old who event is can) in (
       record { pages = state.pages; run = next.0 },
       record { fits = fits; in_range = range; heap = went.0; happens = went.1; goes = ap (λ (run : Run). record { pages = state.pages; run = run }) went.2 },
       next.2,
@@ -73,6 +80,7 @@ abbrev IsQuiet : Event → Type 0
 IsQuiet Attach = ⊥
 IsQuiet (Mutator slot call) = ⊥
 IsQuiet Begin = ⊥
+IsQuiet BeginPartial = ⊥
 IsQuiet Roots = Unit {0}
 IsQuiet (Mark n) = Unit {0}
 IsQuiet Retrace = Unit {0}
@@ -85,6 +93,7 @@ nothing_happens : (start : Start) (run : Run) (event : Event) (reply : Reply) (s
 nothing_happens start run Attach reply s' quiet h = quiet
 nothing_happens start run (Mutator slot call) reply s' quiet h = quiet
 nothing_happens start run Begin reply s' quiet h = quiet
+nothing_happens start run BeginPartial reply s' quiet h = quiet
 nothing_happens start run Roots reply s' quiet h = h
 nothing_happens start run (Mark n) reply s' quiet h = h
 nothing_happens start run Retrace reply s' quiet h = h
@@ -97,6 +106,7 @@ nothing_happens start run Number reply s' quiet h = h
 run_stays : (start : Start) (run : Run) {event : Event} {reply : Reply} {next : Run} → IsQuiet event → LineOf start run event reply next → next ≡ run
 run_stays start run {event = event} {reply = reply} quiet (LineOf.happens {s' = s'} h) = absurd (nothing_happens start run event reply s' quiet h)
 run_stays start run quiet (LineOf.refused wrong) = refl
+run_stays start run quiet (LineOf.needs idle need) = absurd quiet
 run_stays start run quiet (LineOf.roots on) = refl
 run_stays start run quiet (LineOf.mark on few) = refl
 run_stays start run quiet (LineOf.retrace on few) = refl

@@ -26,7 +26,7 @@ use Rattle.heap_spec.specs.Room.{length_of}
 use Rattle.std.specs.Prelude.{Bool}
 use Rattle.std.proofs.lemmas.Bool.{false≢true, cases_eq}
 use Rattle.marker.specs.Mutations.{IsFreed}
-use Rattle.marker.specs.Marking.{IsMarked}
+use Rattle.marker.specs.Marking.{Marking, IsMarked}
 use Rattle.block_map.specs.Objects.{IsMap}
 use Rattle.block_map.specs.Changes.{IsRemoved}
 use Rattle.std.proofs.Common.{get_or-set_other}
@@ -38,7 +38,7 @@ use Rattle.links.specs.declared.row.Link.{Link}
 use Rattle.roots.specs.Roots.{RootSet, HasMutator, SetsWord}
 use Rattle.object_space.specs.Store.{Store, IsSwept}
 use Rattle.heap_core.specs.Contents.{Cycle}
-use Rattle.heap_core.specs.Calls.{IsCall}
+use Rattle.heap_core.specs.Calls.{IsCall, Frees}
 use Rattle.heap_core.specs.Beside.{NotesObject}
 use Rattle.object_space.specs.Sweeps.{Gains, Loses, Sweeps}
 use Rattle.heap_view.specs.Shows.{Shows}
@@ -54,7 +54,7 @@ use Rattle.object_space.proofs.Sweeping.{read_or_not}
 use Rattle.object_space.specs.Rooms.{HasRoomAt, HasNoRoom}
 use Rattle.heap_core.proofs.Lookups.{finds}
 use Rattle.heap_core.proofs.Forgotten.{forgotten_added, forgotten_removed, forgotten_swept}
-use Rattle.heap_core.proofs.Roots.{not_done, dirty_event, refused_clean, core_of, attached, stands_set, none_some}
+use Rattle.heap_core.proofs.Roots.{not_done, dirty_event, refused_clean, core_of, attached, stands_set, none_some, frees_event, frees_reply}
 
 -- pages were swept
 pub swept_stands : (roots : RootSet) (t0 t : Store) (y : Cycle) {ls : List Link} → Sweeps t0 y.marking.marks t → (s : Heap) → StandsFor (core_of roots t0 y ls) s → StandsFor (core_of roots t y ls) s
@@ -132,12 +132,16 @@ allocated_step roots roots' t t' y y' {ls = ls} slot d n base kind place m at is
     )
 
 pub allocated : (roots roots' : RootSet) (t0 t t' : Store) (y y' : Cycle) {ls : List Link} (slot d n base : ℕ) (kind : Kind) (place : Placement) (m : HeapMutator) → HasMutator roots slot m → placement_of n ≡ Some place
-    → Sweeps t0 y.marking.marks t → HasRoomAt t place kind base → Gains t place kind base t' → SetsWord roots slot d base roots' → NotesObject y.is_marking base y.marking y'.marking → y'.is_marking ≡ y.is_marking → y'.count ≡ y.count
+    → Sweeps t0 y.marking.marks t → HasRoomAt t place kind base → (gains : Gains t place kind base t') → SetsWord roots slot d base roots' → NotesObject y.is_marking base y.marking y'.marking → (IsMarked y.marking gains.object.base → ⊥) → y'.is_marking ≡ y.is_marking → y'.count ≡ y.count → y'.needs_full ≡ y.needs_full
     → IsCall (core_of roots t0 y ls) (Mutator slot (Alloc d n kind)) Done (core_of roots' t' y' ls)
-allocated roots roots' t0 t t' y y' {ls = ls} slot d n base kind place m at is sweeps room gains sets notes phase count = record {
+allocated roots roots' t0 t t' y y' {ls = ls} slot d n base kind place m at is sweeps room gains sets notes unmarked phase count needs = record {
   steps = λ s h. allocated_step roots roots' t t' y y' slot d n base kind place m at is room gains sets notes s (swept_stands roots t0 t y sweeps s h);
   phase = phase;
   count = count;
+  freed = λ h. absurd (no_free (frees_event (Mutator slot (Alloc d n kind)) Done h));
+  needs_full = λ _. needs;
+  idle = λ is f there marked. let now = kept_cases (is_kept t'.pending y'.marking.marks) (found_in t'.states) f.base f there in was_there is f now.0 now.1 (subst (λ (m : Marking). IsMarked m f.base) (notes.idle is) marked);
+  carried = notes.carried;
   stays = λ f there marked. notes.stays (granule f.base) marked;
   came = λ is f there none. let now = kept_cases (is_kept t'.pending y'.marking.marks) (found_in t'.states) f.base f there in came_marked is f now.0 now.1 none;
   stays_dirty = λ p h. subst (λ ds. Has ds p) (sym notes.dirty) h;
@@ -161,6 +165,9 @@ allocated roots roots' t0 t t' y y' {ls = ls} slot d n base kind place m at is s
     clean : ((s a i q : ℕ) × (Mutator slot (Alloc d n kind) ≡ Mutator s (StoreCall a i q))) → ⊥
     clean (s, a, i, q, e) = cc
 
+    no_free : ((s q : ℕ) × (Mutator slot (Alloc d n kind) ≡ Mutator s (Free q))) → ⊥
+    no_free (s, q, e) = cc
+
     -- the object at the granule is the one that came
     new : (f : Found) → found_in t'.states f.base ≡ Some f → granule f.base ≡ granule base → restrict (is_kept t0.pending y.marking.marks) (found_in t0.states) f.base ≡ None
     new f there same =
@@ -177,6 +184,19 @@ allocated roots roots' t0 t t' y y' {ls = ls} slot d n base kind place m at is s
         was : (IsInside f.base gains.object → ⊥) → found_in t.states f.base ≡ Some f
         was not = sym (gains.added.others f.base not) ∙ there
 
+    -- an object that has a mark of before was there
+    was_there : y.is_marking ≡ false → (f : Found) → found_in t'.states f.base ≡ Some f → is_kept t'.pending y'.marking.marks f ≡ true → IsMarked y.marking f.base → (restrict (is_kept t0.pending y.marking.marks) (found_in t0.states) f.base ≡ Some f) × IsMarked y.marking f.base
+    was_there is f there kept marked = (
+      ⊎_elim
+          (λ r. absurd (unmarked (subst (IsMarked y.marking) (ap (λ (x : Found). x.base) (same_Some f gains.object (sym there ∙ gains.added.after f.base r))) marked)))
+          (λ not. sym (sweeps.same.same f.base) ∙ kept_is (is_kept t.pending y.marking.marks) (found_in t.states) f.base f (was not) (sym (keeps_same t t' y y' place kind base gains notes f.base f (was not)) ∙ kept))
+          (read_or_not f.base gains.object),
+      marked,
+    )
+      where
+        was : (IsInside f.base gains.object → ⊥) → found_in t.states f.base ≡ Some f
+        was not = sym (gains.added.others f.base not) ∙ there
+
 -- a store with nothing to be swept keeps all its objects
 all_kept : (keep : Found → Bool) (t : Store) (s : Heap) → ((f : Found) → keep f ≡ true) → Stores keep t s → Stores (λ _. true) t s
 all_kept keep t s all stores = record {
@@ -184,9 +204,16 @@ all_kept keep t s all stores = record {
   shows = shows_same (restrict keep (found_in t.states)) (restrict (λ _. true) (found_in t.states)) t.words s.objects s.births (kept_same keep (λ _. true) (found_in t.states) (λ w f there. sym (all f))) stores.shows;
 }
 
+refused_done : Refused Full ≡ Done → ⊥
+refused_done e = cc
+
 pub full : (roots : RootSet) (t0 t : Store) (y : Cycle) {ls : List Link} (slot d n : ℕ) (kind : Kind) (place : Placement) (m : HeapMutator) → HasMutator roots slot m → placement_of n ≡ Some place → Sweeps t0 y.marking.marks t → IsSwept t → HasNoRoom t place kind
     → IsCall (core_of roots t0 y ls) (Mutator slot (Alloc d n kind)) (Refused Full) (core_of roots t y ls)
 full roots t0 t y {ls = ls} slot d n kind place m at is sweeps swept none = record {
+  freed = λ h. absurd (refused_done (frees_reply (Mutator slot (Alloc d n kind)) (Refused Full) h));
+  needs_full = λ _. refl;
+  idle = λ is f there marked. (sym (sweeps.same.same f.base) ∙ there, marked);
+  carried = refl;
   steps = λ s h.
       let now = swept_stands roots t0 t y sweeps s h in
       (s, Calls.acts (attached roots t0 y s slot m h at) (Acts.full is (none s (all_kept (is_kept t.pending y.marking.marks) t s (λ f. nothing_pending t.pending y.marking.marks f (swept f.page)) now.store))), now);
@@ -237,19 +264,19 @@ module _ (t t' : Store) (y y' : Cycle) (f : Found) (map : IsMap (length t.states
   kept_left = kept_removed (is_kept t.pending y.marking.marks) (is_kept t'.pending y'.marking.marks) (found_in t.states) (found_in t'.states) f loses.removed
       (kept_cases (is_kept t.pending y.marking.marks) (found_in t.states) f.base f is).1 keeps_left
 
+  -- what is left was there
+  still_there : (g : Found) → restrict (is_kept t'.pending y'.marking.marks) (found_in t'.states) g.base ≡ Some g → restrict (is_kept t.pending y.marking.marks) (found_in t.states) g.base ≡ Some g
+  still_there g there = ⊎_elim (λ r. absurd (none_some g (sym (kept_left.before g.base r) ∙ there))) (λ not. kept_left.others g.base not ∙ there) (read_or_not g.base f)
+
   stores_less : (s : Heap) → Stores (is_kept t.pending y.marking.marks) t s → Stores (is_kept t'.pending y'.marking.marks) t' (less s (f.base ∷ []))
   stores_less s stores = record {
     pages = stores.pages ∙ sym loses.pages;
     shows = shows_kept (kept_in t'.states t'.pending y'.marking.marks) t.words t'.words (without_at s.objects (f.base ∷ [])) s.births
-        (λ g there. (map.placed g.base g (kept_cases (is_kept t.pending y.marking.marks) (found_in t.states) g.base g (still g there)).0).above)
+        (λ g there. (map.placed g.base g (kept_cases (is_kept t.pending y.marking.marks) (found_in t.states) g.base g (still_there g there)).0).above)
         (λ g i there lt. loses.words g i (kept_cases (is_kept t'.pending y'.marking.marks) (found_in t'.states) g.base g there).0 lt)
         (shows_removed (restrict (is_kept t.pending y.marking.marks) (found_in t.states)) (restrict (is_kept t'.pending y'.marking.marks) (found_in t'.states)) (length t.states)
         (kept_map (length t.states) (is_kept t.pending y.marking.marks) (found_in t.states) map) t.words s.objects s.births stores.shows f is kept_left);
   }
-    where
-      -- what is left was there
-      still : (g : Found) → kept_in t'.states t'.pending y'.marking.marks g.base ≡ Some g → kept_in t.states t.pending y.marking.marks g.base ≡ Some g
-      still g there = ⊎_elim (λ r. absurd (none_some g (sym (kept_left.before g.base r) ∙ there))) (λ not. kept_left.others g.base not ∙ there) (read_or_not g.base f)
 
   -- what is there now was there before
   was_kept : (g : Found) → restrict (is_kept t'.pending y'.marking.marks) (found_in t'.states) g.base ≡ Some g → restrict (is_kept t.pending y.marking.marks) (found_in t.states) g.base ≡ None → ⊥
@@ -258,8 +285,12 @@ module _ (t t' : Store) (y y' : Cycle) (f : Found) (map : IsMap (length t.states
 freed_along : (roots : RootSet) (t t1 : Store) (words : List ℕ) (y y' : Cycle) {ls : List Link} (slot r : ℕ) (m : HeapMutator) (f : Found) → IsLawful t.states → HasMutator roots slot m → restrict (is_kept t.pending y.marking.marks) (found_in t.states) (register m r) ≡ Some f → f.base ≡ register m r
     → Loses t f t1 → IsFreed f.base y.marking y'.marking → y'.is_marking ≡ y.is_marking → y'.count ≡ y.count → IsLawful t1.states
     → ((k : ℕ) → slice_index words k ≡ cond (clears (kept_in t1.states t1.pending y'.marking.marks) ls k) 0 (slice_index t1.words k))
-    → IsCall (core_of roots t y ls) (Mutator slot (Free r)) Done (core_of roots (record t1 { words = words }) y' (filter (stays (kept_in t1.states t1.pending y'.marking.marks)) ls))
-freed_along roots t t' words y y' {ls = ls} slot r m f lawful at is base loses frees phase count lawful' changed = record {
+    → y'.needs_full ≡ true → IsCall (core_of roots t y ls) (Mutator slot (Free r)) Done (core_of roots (record t1 { words = words }) y' (filter (stays (kept_in t1.states t1.pending y'.marking.marks)) ls))
+freed_along roots t t' words y y' {ls = ls} slot r m f lawful at is base loses frees phase count lawful' changed needs = record {
+  freed = λ _. needs;
+  needs_full = λ not. absurd (not Frees.freed);
+  idle = λ marking g now marked. (still_there t t' y y' f lawful.map there loses others g now, sym (others (granule g.base) (left g now)) ∙ marked);
+  carried = frees.carried;
   steps = λ s h.
       let found = finds (is_kept t.pending y.marking.marks) t s (register m r) f lawful h.store is in
       let has = ap s.objects (sym base) ∙ found.1.0 in
@@ -307,12 +338,12 @@ freed_along roots t t' words y y' {ls = ls} slot r m f lawful at is base loses f
 
 pub freed : (roots : RootSet) (t t1 t' : Store) (y y' : Cycle) {ls : List Link} (ls' : List Link) (slot r : ℕ) (m : HeapMutator) (f : Found) → IsLawful t.states → HasMutator roots slot m → restrict (is_kept t.pending y.marking.marks) (found_in t.states) (register m r) ≡ Some f → f.base ≡ register m r
     → Loses t f t1 → IsFreed f.base y.marking y'.marking → y'.is_marking ≡ y.is_marking → y'.count ≡ y.count → IsLawful t1.states
-    → TakesAlong (kept_in t1.states t1.pending y'.marking.marks) ls t1 t' → ls' ≡ filter (stays (kept_in t1.states t1.pending y'.marking.marks)) ls
+    → TakesAlong (kept_in t1.states t1.pending y'.marking.marks) ls t1 t' → ls' ≡ filter (stays (kept_in t1.states t1.pending y'.marking.marks)) ls → y'.needs_full ≡ true
     → IsCall (core_of roots t y ls) (Mutator slot (Free r)) Done (core_of roots t' y' ls')
-freed roots t t1 t' y y' {ls = ls} ls' slot r m f lawful at is base loses frees phase count lawful' along same =
+freed roots t t1 t' y y' {ls = ls} ls' slot r m f lawful at is base loses frees phase count lawful' along same needs =
     subst (λ x. IsCall (core_of roots t y ls) (Mutator slot (Free r)) Done (core_of roots x y' ls')) (sym (beside_is t1 t' along.beside))
     (subst (λ row. IsCall (core_of roots t y ls) (Mutator slot (Free r)) Done (core_of roots (record t1 { words = t'.words }) y' row)) (sym same)
-    (freed_along roots t t1 t'.words y y' slot r m f lawful at is base loses frees phase count lawful' along.words))
+    (freed_along roots t t1 t'.words y y' slot r m f lawful at is base loses frees phase count lawful' along.words needs))
 
 pub inside : (keep : Found → Bool) (t : Store) (s : Heap) (slot r : ℕ) (m : HeapMutator) (f : Found) → IsLawful t.states → restrict keep (found_in t.states) (register m r) ≡ Some f → f.base ≢ register m r → Stores keep t s → Acts s slot m (Free r) (Refused NotBase) s
 inside keep t s slot r m f lawful is ne stores = let found = finds keep t s (register m r) f lawful stores is in Acts.free_inside found.1 ne

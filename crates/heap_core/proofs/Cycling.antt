@@ -8,6 +8,7 @@ use Rattle.heap_spec.specs.Layout.{word_end}
 use Rattle.marker.specs.Closure.{AreClosed}
 use Rattle.marker.specs.Marking.{Marking, IsFresh, IsDone}
 use Rattle.marker.specs.Growth.{Traces}
+use Rattle.marker.specs.Mutations.{BeginsPartial}
 use Rattle.roots.specs.Roots.{root_words_of}
 use Rattle.object_space.specs.Store.{Store, IsSwept}
 use Rattle.links.specs.declared.row.Link.{Link}
@@ -21,7 +22,7 @@ use Rattle.object_space.specs.Kept.{restrict, is_kept, kept_in, IsPendingAfter}
 use Rattle.object_space.proofs.Kept.{kept_same, nothing_pending}
 use Rattle.object_space.proofs.Allocations.{shows_same}
 use Rattle.heap_core.proofs.Calls.{swept_stands}
-use Rattle.heap_core.specs.Collections.{BeginsCycle, MarksOn, ClosesMarks, EndsCycle, CollectsAll, SweepsOne}
+use Rattle.heap_core.specs.Collections.{BeginsCycle, BeginsPartialCycle, MarksOn, ClosesMarks, EndsCycle, CollectsAll, SweepsOne}
 use Rattle.heap_core.proofs.Collecting.{grows_within, all_marked, ends, collects}
 
 none_in : (w : ℕ) → Contains [] w → ⊥
@@ -42,13 +43,26 @@ stands_still c y swept s h = record {
 }
 
 pub begins : (c : Contents) (t : Store) (m : Marking) → Sweeps c.store c.cycle.marking.marks t → IsSwept t → IsFresh (length c.store.states) m
-    → BeginsCycle c (record { roots = c.roots; store = t; cycle = record { marking = m; is_marking = true; count = c.cycle.count }; links = c.links })
+    → BeginsCycle c (record { roots = c.roots; store = t; cycle = record { marking = m; is_marking = true; needs_full = false; count = c.cycle.count }; links = c.links })
 begins c t m sweeps swept fresh = record {
+  needs_full = refl;
   stands = λ s h. stands_still (record c { store = t }) _ swept s (swept_stands c.roots c.store t c.cycle sweeps s h);
   roots = refl;
   phase = refl;
   count = refl;
   fresh = fresh;
+  swept = swept;
+}
+
+pub begins_partial : (c : Contents) (t : Store) (m : Marking) → Sweeps c.store c.cycle.marking.marks t → IsSwept t → c.cycle.needs_full ≡ false → BeginsPartial c.cycle.marking m
+    → BeginsPartialCycle c (record { roots = c.roots; store = t; cycle = record { marking = m; is_marking = true; needs_full = c.cycle.needs_full; count = c.cycle.count }; links = c.links })
+begins_partial c t m sweeps swept needs begins = record {
+  stands = λ s h. stands_still (record c { store = t }) _ swept s (swept_stands c.roots c.store t c.cycle sweeps s h);
+  roots = refl;
+  phase = refl;
+  count = refl;
+  needs_full = needs;
+  marking = begins;
   swept = swept;
 }
 
@@ -90,11 +104,12 @@ closes_marks c m map swept traces done closed = record {
 
 pub ends_cycle : (c : Contents) (t1 t' : Store) (m : Marking) (count n : ℕ) (ls' : List Link) → IsMap (length c.store.states) (found_in c.store.states) → IsSwept c.store → ForgetsUnreached c.store (root_words_of c.roots) c.cycle.marking n m.marks t1 → KeepsCells c.store t1 → IsPendingAfter t1.states m.marks t1.pending → IsDone m
     → count ≡ (c.cycle.count + 1) % word_end → IsMap (length t1.states) (found_in t1.states) → TakesAlong (kept_in t1.states t1.pending m.marks) c.links t1 t' → ls' ≡ filter (stays (kept_in t1.states t1.pending m.marks)) c.links
-    → EndsCycle c n (record { roots = c.roots; store = t'; cycle = record { marking = m; is_marking = false; count = count }; links = ls' })
+    → EndsCycle c n (record { roots = c.roots; store = t'; cycle = record { marking = m; is_marking = false; needs_full = c.cycle.needs_full; count = count }; links = ls' })
 ends_cycle c t1 t' m count n ls' map swept x cells pending done counts map' along same =
-    subst (λ z. EndsCycle c n (record { roots = c.roots; store = z; cycle = record { marking = m; is_marking = false; count = count }; links = ls' })) (sym (beside_is t1 t' along.beside))
-    (subst (λ row. EndsCycle c n (record { roots = c.roots; store = record t1 { words = t'.words }; cycle = record { marking = m; is_marking = false; count = count }; links = row })) (sym same)
+    subst (λ z. EndsCycle c n (record { roots = c.roots; store = z; cycle = record { marking = m; is_marking = false; needs_full = c.cycle.needs_full; count = count }; links = ls' })) (sym (beside_is t1 t' along.beside))
+    (subst (λ row. EndsCycle c n (record { roots = c.roots; store = record t1 { words = t'.words }; cycle = record { marking = m; is_marking = false; needs_full = c.cycle.needs_full; count = count }; links = row })) (sym same)
     (record {
+      needs_full = refl;
       ends = record { roots = refl; phase = refl; count = counts; done = done; marked = x.marked };
       forgets = λ s h. ends c map swept s h t1 t'.words _ n x map' along.words;
       cells = record { less = cells.less; small = cells.small };
@@ -105,11 +120,12 @@ ends_cycle c t1 t' m count n ls' map swept x cells pending done counts map' alon
 pub collects_all : (c : Contents) (t : Store) (dropped : Marking) (t1 t' : Store) (m : Marking) (count n : ℕ) (ls' : List Link) → IsMap (length t.states) (found_in t.states) → Sweeps c.store c.cycle.marking.marks t → IsSwept t → IsFresh (length t.states) dropped
     → ForgetsUnreached t (root_words_of c.roots) dropped n m.marks t1 → IsSwept t1 → IsDone m → count ≡ (c.cycle.count + 1) % word_end
     → IsMap (length t1.states) (found_in t1.states) → TakesAlong (kept_in t1.states t1.pending m.marks) c.links t1 t' → ls' ≡ filter (stays (kept_in t1.states t1.pending m.marks)) c.links
-    → CollectsAll c n (record { roots = c.roots; store = t'; cycle = record { marking = m; is_marking = false; count = count }; links = ls' })
+    → CollectsAll c n (record { roots = c.roots; store = t'; cycle = record { marking = m; is_marking = false; needs_full = false; count = count }; links = ls' })
 collects_all c t dropped t1 t' m count n ls' map sweeps swept fresh x swept' done counts map' along same =
-    subst (λ z. CollectsAll c n (record { roots = c.roots; store = z; cycle = record { marking = m; is_marking = false; count = count }; links = ls' })) (sym (beside_is t1 t' along.beside))
-    (subst (λ row. CollectsAll c n (record { roots = c.roots; store = record t1 { words = t'.words }; cycle = record { marking = m; is_marking = false; count = count }; links = row })) (sym same)
+    subst (λ z. CollectsAll c n (record { roots = c.roots; store = z; cycle = record { marking = m; is_marking = false; needs_full = false; count = count }; links = ls' })) (sym (beside_is t1 t' along.beside))
+    (subst (λ row. CollectsAll c n (record { roots = c.roots; store = record t1 { words = t'.words }; cycle = record { marking = m; is_marking = false; needs_full = false; count = count }; links = row })) (sym same)
     (record {
+      needs_full = refl;
       ends = record { roots = refl; phase = refl; count = counts; done = done; marked = x.marked };
       swept = swept';
       collects = λ s h. collects (record { roots = c.roots; store = t; cycle = record c.cycle { marking = dropped }; links = c.links }) map swept s (stands_still (record c { store = t }) _ swept s (swept_stands c.roots c.store t c.cycle sweeps s h)) t1 t'.words _ n x map' along.words fresh;

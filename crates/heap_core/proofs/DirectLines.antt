@@ -19,7 +19,8 @@ use Rattle.pages.specs.Memory.{IsWordAddress, word_at, with_word_at}
 use Rattle.block_map.specs.declared.found.Found.{Found}
 use Rattle.block_map.specs.FoundIn.{IsLawful}
 use Rattle.marker.specs.Marking.{with_dirty}
-use Rattle.marker.proofs.Mutating.{store_traced}
+use Rattle.marker.specs.Mutations.{DirtiesPage}
+use Rattle.marker.proofs.Mutating.{store_traced, store_carried}
 use Rattle.marker.proofs.Spreads.{has_set, has_set_back}
 use Rattle.links.specs.declared.row.Link.{Link}
 use Rattle.roots.specs.Roots.{RootSet, HasMutator, IsNextSlot, SetsWord, with_word}
@@ -51,43 +52,26 @@ set_call roots t y ls slot r w m at =
     let is : SetsWord roots slot r w (with_slot roots slot (with_word m r w)) = (refl, record { before = m; after = with_word m r w; at = at; change = refl; only = refl }) in
     steps_roots roots (with_slot roots slot (with_word m r w)) t y (Mutator slot (Set r w)) Done (λ h. h) (sets roots (with_slot roots slot (with_word m r w)) slot r w m (Set r w) Done at is (λ s. Acts.set))
 
--- the cycle once a page is dirty, if it is marking
-abbrev noted : Bool → Cycle → ℕ → Cycle
-noted false y p = y
-noted true y p = record y { marking = with_dirty y.marking (set y.marking.dirty p true) }
+-- the cycle once a page is dirty
+abbrev noted : Cycle → ℕ → Cycle
+noted y p = record y { marking = with_dirty y.marking (set y.marking.dirty p true) }
 
-notes : (b : Bool) (y : Cycle) (a : ℕ) → y.is_marking ≡ b → page_of a < length y.marking.dirty → NotesWrite y.is_marking a y.marking (noted b y (page_of a)).marking
-notes false y a off inside = record {
-  marks = refl;
-  dirty_len = refl;
-  dirty = λ p h. inl h;
-  written = λ on. absurd (clash (sym off ∙ on));
-  stays_dirty = λ p h. h;
-  current = refl;
-  stack = refl;
-  keeps = λ on. absurd (clash (sym off ∙ on));
-}
-  where
-    clash : false ≡ true → ⊥
-    clash e = cc
-notes true y a on inside = record {
+notes : (y : Cycle) (a : ℕ) → page_of a < length y.marking.dirty → NotesWrite a y.marking (noted y (page_of a)).marking
+notes y a inside = record {
   marks = refl;
   dirty_len = length-set y.marking.dirty (page_of a) true;
-  dirty = λ p h. ⊎_elim (λ old. inl old) (λ e. inr (on, e)) (has_set_back y.marking.dirty (page_of a) p h);
-  written = λ _. get_or-set_same y.marking.dirty (page_of a) true false inside;
+  dirty = λ p h. has_set_back y.marking.dirty (page_of a) p h;
+  written = get_or-set_same y.marking.dirty (page_of a) true false inside;
   stays_dirty = λ p h. has_set y.marking.dirty (page_of a) p inside h;
+  carried = refl;
   current = refl;
   stack = refl;
-  keeps = λ _ found words w old. store_traced found words a w y.marking (with_dirty y.marking (set y.marking.dirty (page_of a) true)) (record { marks = refl; dirty = refl; current = refl; stack = refl }) inside old;
+  keeps = λ found words w old. store_traced found words a w y.marking (noted y (page_of a)).marking dirties inside old;
+  carries = λ found words w old. store_carried found words a w y.marking (noted y (page_of a)).marking dirties inside old;
 }
-
-noted_marking : (b : Bool) (y : Cycle) (p : ℕ) → (noted b y p).is_marking ≡ y.is_marking
-noted_marking false y p = refl
-noted_marking true y p = refl
-
-noted_count : (b : Bool) (y : Cycle) (p : ℕ) → (noted b y p).count ≡ y.count
-noted_count false y p = refl
-noted_count true y p = refl
+  where
+    dirties : DirtiesPage a y.marking (noted y (page_of a)).marking
+    dirties = record { marks = refl; dirty = refl; carried = refl; current = refl; stack = refl }
 
 -- the dirty pages are nothing to a run
 follows_dirty : (roots : RootSet) (t : Store) (y : Cycle) (ls : List Link) (dirty : List Bool) (start : Start) (run : Run) → Follows (core_of roots t (record y { marking = with_dirty y.marking dirty }) ls) start run → Follows (core_of roots t y ls) start run
@@ -96,12 +80,12 @@ follows_dirty roots t y ls dirty start run f = record {
   phase = f.phase;
   count = f.count;
   small = f.small;
+  needs = f.needs;
+  past = f.past;
+  aged = f.aged;
+  kept = f.kept;
   touched = f.touched;
 }
-
-follows_noted : (b : Bool) (roots : RootSet) (t : Store) (y : Cycle) (ls : List Link) (p : ℕ) (start : Start) (run : Run) → Follows (core_of roots t (noted b y p) ls) start run → Follows (core_of roots t y ls) start run
-follows_noted false roots t y ls p start run f = f
-follows_noted true roots t y ls p start run f = follows_dirty roots t y ls (set y.marking.dirty p true) start run f
 
 other_dirty : (old : Contents) (words : List ℕ) (dirty : List Bool) (start : Start) (run : Run) → Follows (with_memory old words old.cycle.marking.dirty) start run → Follows (with_memory old words dirty) start run
 other_dirty old words dirty start run f = record {
@@ -109,6 +93,10 @@ other_dirty old words dirty start run f = record {
   phase = f.phase;
   count = f.count;
   small = f.small;
+  needs = f.needs;
+  past = f.past;
+  aged = f.aged;
+  kept = f.kept;
   touched = f.touched;
 }
 
@@ -154,7 +142,7 @@ module _ (roots : RootSet) (t : Store) (y : Cycle) (ls : List Link) (slot a v : 
   t' = record t { words = with_word_at t.words a v }
 
   abbrev y' : Cycle
-  y' = noted y.is_marking y (page_of a)
+  y' = noted y (page_of a)
 
   at_address : address m2 0 0 ≡ a
   at_address =
@@ -169,8 +157,8 @@ module _ (roots : RootSet) (t : Store) (y : Cycle) (ls : List Link) (slot a v : 
       (subst (λ x. x % 8 ≡ 0) (sym at_address) aligned)
       (subst (λ x. objects_of (core_of roots t y ls) x ≡ Some f) (sym at_address) is)
       (ap (λ x. record t { words = with_word_at t.words x v }) (sym at_address) ∙ ap (λ w. record t { words = with_word_at t.words (address m2 0 0) w }) (sym has_word))
-      (subst (λ x. NotesWrite y.is_marking x y.marking y'.marking) (sym at_address) (notes y.is_marking y a refl inside))
-      (noted_marking y.is_marking y (page_of a)) (noted_count y.is_marking y (page_of a))
+      (subst (λ x. NotesWrite x y.marking y'.marking) (sym at_address) (notes y a inside))
+      refl refl refl
 
   back : r4 ≡ roots
   back =
@@ -185,22 +173,22 @@ module _ (roots : RootSet) (t : Store) (y : Cycle) (ls : List Link) (slot a v : 
       → (more : List Told) × All (IsWriteLine slot) more × AreLines old more (core_of roots t' y ls)
   one_word old lines words word fine so =
       let h1 = slot_has roots slot m m1 at in let h2 = slot_has r1 slot m1 m2 h1 in let h3 = slot_has r2 slot m2 m3 h2 in
-      let s1 = lines_more old (core_of roots t y ls) (core_of r1 t y ls) lines (Mutator slot (Set 0 a)) Done so (call_line _ _ _ _ (set_call roots t y ls slot 0 a m at)) in
+      let s1 = lines_more old (core_of roots t y ls) (core_of r1 t y ls) lines (Mutator slot (Set 0 a)) Done so (call_line _ _ _ _ lawful (set_call roots t y ls slot 0 a m at)) in
       let l1 = lines ++ told (Mutator slot (Set 0 a)) ∷ [] in
-      let s2 = lines_more old (core_of r1 t y ls) (core_of r2 t y ls) l1 (Mutator slot (Set 1 v)) Done s1 (call_line _ _ _ _ (set_call r1 t y ls slot 1 v m1 h1)) in
+      let s2 = lines_more old (core_of r1 t y ls) (core_of r2 t y ls) l1 (Mutator slot (Set 1 v)) Done s1 (call_line _ _ _ _ lawful (set_call r1 t y ls slot 1 v m1 h1)) in
       let l2 = l1 ++ told (Mutator slot (Set 1 v)) ∷ [] in
-      let s3 = lines_more old (core_of r2 t y ls) (core_of r2 t' y' ls) l2 (Mutator slot (StoreCall 0 0 1)) Done s2 (call_line _ _ _ _ stored) in
+      let s3 = lines_more old (core_of r2 t y ls) (core_of r2 t' y' ls) l2 (Mutator slot (StoreCall 0 0 1)) Done s2 (call_line _ _ _ _ lawful stored) in
       let l3 = l2 ++ told (Mutator slot (StoreCall 0 0 1)) ∷ [] in
-      let s4 = lines_more old (core_of r2 t' y' ls) (core_of r3 t' y' ls) l3 (Mutator slot (Set 1 (register m 1))) Done s3 (call_line _ _ _ _ (set_call r2 t' y' ls slot 1 (register m 1) m2 h2)) in
+      let s4 = lines_more old (core_of r2 t' y' ls) (core_of r3 t' y' ls) l3 (Mutator slot (Set 1 (register m 1))) Done s3 (call_line _ _ _ _ lawful (set_call r2 t' y' ls slot 1 (register m 1) m2 h2)) in
       let l4 = l3 ++ told (Mutator slot (Set 1 (register m 1))) ∷ [] in
-      let s5 = lines_more old (core_of r3 t' y' ls) (core_of r4 t' y' ls) l4 (Mutator slot (Set 0 (register m 0))) Done s4 (call_line _ _ _ _ (set_call r3 t' y' ls slot 0 (register m 0) m3 h3)) in
+      let s5 = lines_more old (core_of r3 t' y' ls) (core_of r4 t' y' ls) l4 (Mutator slot (Set 0 (register m 0))) Done s4 (call_line _ _ _ _ lawful (set_call r3 t' y' ls slot 0 (register m 0) m3 h3)) in
       let l5 = l4 ++ told (Mutator slot (Set 0 (register m 0))) ∷ [] in
       let fine1 = All-push (IsWriteLine slot) lines (told (Mutator slot (Set 0 a))) fine (IsWriteLine.set (omega arith) small) in
       let fine2 = All-push (IsWriteLine slot) l1 (told (Mutator slot (Set 1 v))) fine1 (IsWriteLine.set (omega arith) word) in
       let fine3 = All-push (IsWriteLine slot) l2 (told (Mutator slot (StoreCall 0 0 1))) fine2 (IsWriteLine.store (omega arith) (omega arith) (omega arith)) in
       let fine4 = All-push (IsWriteLine slot) l3 (told (Mutator slot (Set 1 (register m 1)))) fine3 (IsWriteLine.set (omega arith) (words 1 0 (omega (arith, registers)))) in
       let fine5 = All-push (IsWriteLine slot) l4 (told (Mutator slot (Set 0 (register m 0)))) fine4 (IsWriteLine.set (omega arith) (words 0 0 (omega (arith, registers)))) in
-      (l5, fine5, λ start run follows. let w = s5 start run follows in (w.0, w.1, follows_noted y.is_marking roots t' y ls (page_of a) start w.0 (subst (λ (rs : RootSet). Follows (core_of rs t' y' ls) start w.0) back w.2)))
+      (l5, fine5, λ start run follows. let w = s5 start run follows in (w.0, w.1, follows_dirty roots t' y ls (set y.marking.dirty (page_of a) true) start w.0 (subst (λ (rs : RootSet). Follows (core_of rs t' y' ls) start w.0) back w.2)))
 
 -- lines of the mutator lead to what the core with these words follows
 abbrev LinesTo : Contents → ℕ → List ℕ → Type 0
@@ -249,7 +237,7 @@ module _ (roots : RootSet) (t : Store) (y : Cycle) (ls : List Link) (slot a v : 
   u' = record t { words = with_word_at t.words a v }
 
   abbrev z' : Cycle
-  z' = noted y.is_marking y (page_of a)
+  z' = noted y (page_of a)
 
   came : HasMutator c0 slot newcomer
   came =
@@ -268,22 +256,22 @@ module _ (roots : RootSet) (t : Store) (y : Cycle) (ls : List Link) (slot a v : 
       → (more : List Told) × All (IsVisitLine slot) more × AreLines old more (core_of roots u' y ls)
   one_visit old lines word fine so =
       let h1 = slot_has c0 slot newcomer n1 came in let h2 = slot_has c1 slot n1 n2 h1 in
-      let s0 = lines_more old (core_of roots t y ls) (core_of c0 t y ls) lines Attach (Slot slot) so (call_line _ _ _ _ (comes_call roots t y ls slot next)) in
+      let s0 = lines_more old (core_of roots t y ls) (core_of c0 t y ls) lines Attach (Slot slot) so (call_line _ _ _ _ lawful (comes_call roots t y ls slot next)) in
       let l0 = lines ++ record { event = Attach; reply = Slot slot } ∷ [] in
-      let s1 = lines_more old (core_of c0 t y ls) (core_of c1 t y ls) l0 (Mutator slot (Set 0 a)) Done s0 (call_line _ _ _ _ (set_call c0 t y ls slot 0 a newcomer came)) in
+      let s1 = lines_more old (core_of c0 t y ls) (core_of c1 t y ls) l0 (Mutator slot (Set 0 a)) Done s0 (call_line _ _ _ _ lawful (set_call c0 t y ls slot 0 a newcomer came)) in
       let l1 = l0 ++ told (Mutator slot (Set 0 a)) ∷ [] in
-      let s2 = lines_more old (core_of c1 t y ls) (core_of c2 t y ls) l1 (Mutator slot (Set 1 v)) Done s1 (call_line _ _ _ _ (set_call c1 t y ls slot 1 v n1 h1)) in
+      let s2 = lines_more old (core_of c1 t y ls) (core_of c2 t y ls) l1 (Mutator slot (Set 1 v)) Done s1 (call_line _ _ _ _ lawful (set_call c1 t y ls slot 1 v n1 h1)) in
       let l2 = l1 ++ told (Mutator slot (Set 1 v)) ∷ [] in
-      let s3 = lines_more old (core_of c2 t y ls) (core_of c2 u' z' ls) l2 (Mutator slot (StoreCall 0 0 1)) Done s2 (call_line _ _ _ _ (stored c0 t y ls slot a v newcomer f lawful long came (length-replicate {A = ℕ} REGISTERS 0) aligned small inside is)) in
+      let s3 = lines_more old (core_of c2 t y ls) (core_of c2 u' z' ls) l2 (Mutator slot (StoreCall 0 0 1)) Done s2 (call_line _ _ _ _ lawful (stored c0 t y ls slot a v newcomer f lawful long came (length-replicate {A = ℕ} REGISTERS 0) aligned small inside is)) in
       let l3 = l2 ++ told (Mutator slot (StoreCall 0 0 1)) ∷ [] in
-      let s4 = lines_more old (core_of c2 u' z' ls) (core_of (without_slot c2 slot) u' z' ls) l3 (Mutator slot Detach) Done s3 (call_line _ _ _ _ (goes_call c2 u' z' ls slot n2 h2)) in
+      let s4 = lines_more old (core_of c2 u' z' ls) (core_of (without_slot c2 slot) u' z' ls) l3 (Mutator slot Detach) Done s3 (call_line _ _ _ _ lawful (goes_call c2 u' z' ls slot n2 h2)) in
       let l4 = l3 ++ told (Mutator slot Detach) ∷ [] in
       let fine0 = All-push (IsVisitLine slot) lines (record { event = Attach; reply = Slot slot }) fine IsVisitLine.comes in
       let fine1 = All-push (IsVisitLine slot) l0 (told (Mutator slot (Set 0 a))) fine0 (IsVisitLine.writes (IsWriteLine.set (omega arith) small)) in
       let fine2 = All-push (IsVisitLine slot) l1 (told (Mutator slot (Set 1 v))) fine1 (IsVisitLine.writes (IsWriteLine.set (omega arith) word)) in
       let fine3 = All-push (IsVisitLine slot) l2 (told (Mutator slot (StoreCall 0 0 1))) fine2 (IsVisitLine.writes (IsWriteLine.store (omega arith) (omega arith) (omega arith))) in
       let fine4 = All-push (IsVisitLine slot) l3 (told (Mutator slot Detach)) fine3 IsVisitLine.goes in
-      (l4, fine4, λ start run follows. let w = s4 start run follows in (w.0, w.1, follows_noted y.is_marking roots u' y ls (page_of a) start w.0 (subst (λ (rs : RootSet). Follows (core_of rs u' z' ls) start w.0) gone w.2)))
+      (l4, fine4, λ start run follows. let w = s4 start run follows in (w.0, w.1, follows_dirty roots u' y ls (set y.marking.dirty (page_of a) true) start w.0 (subst (λ (rs : RootSet). Follows (core_of rs u' z' ls) start w.0) gone w.2)))
 
 -- lines of visits lead to what the core with these words follows
 abbrev VisitsTo : Contents → ℕ → List ℕ → Type 0

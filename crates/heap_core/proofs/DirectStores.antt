@@ -56,7 +56,7 @@ module _ (c : Contents) (words : List ℕ) (dirty : List Bool) (size : length wo
         rest = λ j from. w.rest j (omega arith);
         holds = w.holds;
       }
-      by (IsLeftOrWritten.written f kept word on) = record {
+      by (IsLeftOrWritten.written f kept word on off) = record {
         now = with_word_at w.now (address_of k) (word_at words (address_of k));
         len = length-set w.now (place (address_of k)) (word_at words (address_of k)) ∙ w.len;
         done = λ j below. ⊎_elim

@@ -3,6 +3,8 @@ use Rattle.std.proofs.Common.{◌≡◌, ◌≢◌, ℕ, ◌<◌, length, Some, 
 use Rattle.std.specs.Prelude.{List}
 use Rattle.std.proofs.lemmas.Bool.{cases_eq}
 use Rattle.heap_spec.specs.Ranges.{IsWord}
+use Rattle.words.specs.Bits.{Has}
+use Rattle.words.specs.Layout.{page_of}
 use Rattle.pages.specs.Memory.{IsWordAddress, place, with_word_at}
 use Rattle.block_map.specs.FoundIn.{found_in}
 use Rattle.object_space.proofs.Kept.{kept_cases}
@@ -38,5 +40,7 @@ told_written old new address w f whole tells kept aligned word = record {
     here : (a : ℕ) → a ≡ address → IsLeftOrWritten new (with_word_at new.store.words address w) new.cycle.marking.dirty a
     here a e = subst (IsLeftOrWritten new (with_word_at new.store.words address w) new.cycle.marking.dirty) (sym e)
         (IsLeftOrWritten.written f kept (subst IsWord (sym (get_or-set_same new.store.words (place address) w 0 inside)) word)
-        (λ is normal. inr (tells.written (sym (ap (λ (c : Contents). c.cycle.is_marking) tells.alone) ∙ is) there.above
-        (let size = whole.space.whole.listed.size in let above = there.above in let below = there.below in omega arith))))
+        (λ is normal. inr dirty) (λ is normal marked. inr dirty))
+      where
+        dirty : Has new.cycle.marking.dirty (page_of address)
+        dirty = tells.written there.above (let size = whole.space.whole.listed.size in let above = there.above in let below = there.below in omega arith)

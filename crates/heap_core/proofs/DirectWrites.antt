@@ -1,5 +1,5 @@
 -- Words that are written past the calls of a core.
-use Rattle.std.proofs.Common.{◌≡◌, ℕ, ◌<◌, ◌⊎◌, true, List, length, Some, None, sym, ap, ◌∙◌, subst, inl, inr, ⊎_elim, arith}
+use Rattle.std.proofs.Common.{◌≡◌, ℕ, ◌*◌, ◌<◌, ◌⊎◌, true, false, List, length, Some, None, sym, ap, ◌∙◌, subst, inl, inr, ⊎_elim, arith}
 use Rattle.std.specs.Prelude.{Bool}
 use Rattle.std.proofs.lemmas.Option.{same_Some}
 use Rattle.words.specs.Bits.{Has}
@@ -9,8 +9,9 @@ use Rattle.block_map.specs.declared.found.Found.{Found}
 use Rattle.block_map.specs.FoundIn.{found_in, IsLawful}
 use Rattle.block_map.specs.Listed.{AreListed}
 use Rattle.block_map.proofs.Unread.{listed_unread}
-use Rattle.marker.specs.Marking.{with_dirty, word_address}
-use Rattle.marker.specs.Invariant.{DirtyPageInvariant, IsAwaited}
+use Rattle.words.specs.declared.limits.TheConstants.{PAGE_BYTES}
+use Rattle.marker.specs.Marking.{IsMarked, IsOutside, with_dirty, word_address}
+use Rattle.marker.specs.Invariant.{DirtyPageInvariant, CarriedPageInvariant, IsAwaited, IsSettled}
 use Rattle.object_space.proofs.Kept.{kept_cases, kept_none}
 use Rattle.object_space.specs.Store.{IsWholeSpace}
 use Rattle.heap_view.proofs.Shows.{is_word}
@@ -32,7 +33,7 @@ module _ (c : Contents) (words : List ℕ) (dirty : List Bool) (each : (a : ℕ)
     where
       by : IsLeftOrWritten c words dirty a → word_at words a ≡ word_at c.store.words a
       by (IsLeftOrWritten.left same) = same
-      by (IsLeftOrWritten.written f is word on) = absurd (no_found f (sym (kept_none (keeps c) (found_in c.store.states) a none) ∙ is))
+      by (IsLeftOrWritten.written f is word on off) = absurd (no_found f (sym (kept_none (keeps c) (found_in c.store.states) a none) ∙ is))
 
   -- the marker will still come to a word
   awaited : (f : Found) (i : ℕ) → ((p : ℕ) → Has c.cycle.marking.dirty p → Has dirty p) → IsAwaited c.cycle.marking f i → IsAwaited (with_dirty c.cycle.marking dirty) f i
@@ -51,9 +52,38 @@ module _ (c : Contents) (words : List ℕ) (dirty : List Bool) (each : (a : ℕ)
 
       by : IsLeftOrWritten c words dirty (word_address f i) → ((g : Found) → found_in c.store.states (word_at words (word_address f i)) ≡ Some g → Has c.cycle.marking.marks (granule g.base)) ⊎ IsAwaited (with_dirty c.cycle.marking dirty) f i
       by (IsLeftOrWritten.left same) = ⊎_elim (λ t. inl (λ g e. t g (ap (found_in c.store.states) (sym same) ∙ e))) (λ a. inr (awaited f i more a)) (old f there normal marked i lt)
-      by (IsLeftOrWritten.written g kept word on) =
+      by (IsLeftOrWritten.written g kept word on off) =
           let one : g ≡ f = same_Some g f (sym (kept_cases (keeps c) (found_in c.store.states) (word_address f i) g kept).0 ∙ found) in
           ⊎_elim (λ t. inl (λ x e. t x e)) (λ d. inr (inl d)) (on is (ap (λ (x : Found). x.kind) one ∙ normal))
+
+  -- what is settled stays so, whatever pages are dirty
+  settled : (a w : ℕ) → length dirty ≡ length c.cycle.marking.dirty → IsSettled (found_in c.store.states) c.cycle.marking a w → IsSettled (found_in c.store.states) (with_dirty c.cycle.marking dirty) a w
+  settled a w size (IsSettled.held g is marked) = IsSettled.held g is marked
+  settled a w size (IsSettled.outside out) = IsSettled.outside (subst (λ n. IsOutside (PAGE_BYTES * n) w) (sym size) out)
+  settled a w size (IsSettled.carried on) = IsSettled.carried on
+
+  carried : IsLawful c.store.states → AreListed c.store.words c.store.states → ((p : ℕ) → Has c.cycle.marking.dirty p → Has dirty p) → length dirty ≡ length c.cycle.marking.dirty → c.cycle.needs_full ≡ false
+      → CarriedPageInvariant (found_in c.store.states) c.store.words c.cycle.marking → CarriedPageInvariant (found_in c.store.states) words (with_dirty c.cycle.marking dirty)
+  carried lawful listed more size needs old f there normal marked i lt = by (each (word_address f i) at)
+    where
+      found : found_in c.store.states (word_address f i) ≡ Some f
+      found = word_found c f i lawful there lt
+
+      at : IsWordAddress c.store.words (word_address f i)
+      at = is_word (found_in c.store.states) (length c.store.states) lawful.map c.store.words listed.size (word_address f i) f found (let even = (lawful.map.placed f.base f there).aligned in omega arith)
+
+      by : IsLeftOrWritten c words dirty (word_address f i) → IsSettled (found_in c.store.states) (with_dirty c.cycle.marking dirty) (word_address f i) (word_at words (word_address f i)) ⊎ IsAwaited (with_dirty c.cycle.marking dirty) f i
+      by (IsLeftOrWritten.left same) =
+          ⊎_elim
+          (λ s. inl (settled (word_address f i) (word_at words (word_address f i)) size (subst (IsSettled (found_in c.store.states) c.cycle.marking (word_address f i)) (sym same) s)))
+          (λ a. inr (awaited f i more a))
+          (old f there normal marked i lt)
+      by (IsLeftOrWritten.written g kept word on off) =
+          let one : g ≡ f = same_Some g f (sym (kept_cases (keeps c) (found_in c.store.states) (word_address f i) g kept).0 ∙ found) in
+          ⊎_elim
+          (λ s. inl (settled (word_address f i) (word_at words (word_address f i)) size s))
+          (λ d. inr (inl d))
+          (off needs (ap (λ (x : Found). x.kind) one ∙ normal) (subst (λ (x : Found). IsMarked c.cycle.marking x.base) (sym one) marked))
 
 keeps_space : (c : Contents) (words : List ℕ) (dirty : List Bool) (whole : IsWholeCore c) → length words ≡ length c.store.words
     → ((a : ℕ) → IsWordAddress c.store.words a → IsLeftOrWritten c words dirty a) → IsWholeSpace (record c.store { words = words }) whole.space.ready whole.space.waiting
@@ -83,11 +113,13 @@ keeps_core c words dirty whole size each dirty_len more = record {
       objects = whole.core.traced.objects;
       swept = whole.core.traced.swept;
       invariant = λ is. invariant c words dirty each whole.core.lawful whole.space.whole.listed more is (whole.core.traced.invariant is);
+      carried = λ is. carried c words dirty each whole.core.lawful whole.space.whole.listed more dirty_len is (whole.core.traced.carried is);
     };
   };
   space = record { ready = whole.space.ready; waiting = whole.space.waiting; whole = keeps_space c words dirty whole size each };
   marker = record {
     marks = let old = whole.marker.marks in let len = dirty_len in omega arith;
+    carried = let old = whole.marker.carried in let len = dirty_len in omega arith;
     few = let old = whole.marker.few in let len = dirty_len in omega arith;
     room = whole.marker.room;
     unread = whole.marker.unread;

@@ -1,22 +1,26 @@
 -- How a core follows a run.
-use Rattle.std.proofs.Common.{Result, Ok, Err, ◌++◌, ◌≡◌, ℕ, ◌+◌, ◌%◌, ◌<◌, ◌≤◌, ◌⊎◌, true, false, List, [], ◌∷◌, Some, None, refl, sym, ap, ◌∙◌, subst, inl, inr, ⊎_elim, arith}
+use Rattle.std.proofs.Common.{Result, Ok, Err, ◌++◌, ◌≡◌, ℕ, ◌+◌, ◌%◌, ◌<◌, ◌≤◌, ◌⊎◌, true, false, List, length, [], ◌∷◌, Bool, Some, None, refl, sym, ap, ◌∙◌, subst, inl, inr, ⊎_elim, arith}
 use Rattle.std.specs.Prelude.{⊤}
 use Rattle.words.specs.declared.refusal.Refusal.{Refusal}
-use Rattle.words.specs.declared.refusal.Refusal.TheVariants.{WrongPhase}
+use Rattle.words.specs.declared.refusal.Refusal.TheVariants.{WrongPhase, NeedsFull}
 use Rattle.words.specs.Layout.{granule}
 use Rattle.heap_spec.specs.Replies.{done_reply, count_reply}
 use Rattle.roots.specs.Roots.{root_words_of}
 use Rattle.std.proofs.lemmas.Bool.{false≢true}
 use Rattle.heap_spec.specs.declared.event.Event.{Event}
-use Rattle.heap_spec.specs.declared.event.Event.TheVariants.{Attach, Mutator, Begin, Roots, Mark, Retrace, Finish, Sweep, Collect, Number}
+use Rattle.heap_spec.specs.declared.event.Event.TheVariants.{Attach, Mutator, Begin, BeginPartial, Roots, Mark, Retrace, Finish, Sweep, Collect, Number}
 use Rattle.heap_spec.specs.declared.reply.Reply.{Reply}
-use Rattle.heap_spec.specs.declared.reply.Reply.TheVariants.{Done, Count, Refused}
+use Rattle.heap_spec.specs.declared.reply.Reply.TheVariants.{Slot as SlotReply, Done, Word, Count, Refused}
 use Rattle.heap_spec.specs.Layout.{word_end}
-use Rattle.heap_spec.specs.Heap.{Heap, Object, HasObject}
+use Rattle.heap_spec.specs.Heap.{Heap, Object, Mutator as HeapMutator, HasObject}
 use Rattle.heap_spec.specs.Closure.{Closure, IsInClosure, given}
 use Rattle.heap_spec.specs.Histories.{Happens}
-use Rattle.heap_spec.specs.Steps.{Step}
-use Rattle.heap_spec.specs.Runs.{Start, Run, Told, heap_after, is_marking, marking_after, count, counted, goes_on, Touched, touched_after, IsBornSince}
+use Rattle.heap_spec.specs.Steps.{Step, Acts, Calls, Attaches}
+use Rattle.heap_spec.specs.declared.call.Call.{Call}
+use Rattle.heap_spec.specs.declared.call.Call.TheVariants.{Detach, Set, Copy, Add, Sub, Get, Push, Pop, Load, Store, Alloc, Free, Base, Size, GlobalGet, GlobalPut}
+use Rattle.words.specs.Bits.{Has}
+use Rattle.heap_core.specs.Calls.{Frees}
+use Rattle.heap_spec.specs.Runs.{Start, Run, Told, heap_after, is_marking, marking_after, count, counted, needs_full, needs_full_after, old_births, old_births_after, goes_on, Touched, touched_after, IsBornSince}
 use Rattle.heap_spec.specs.Transcripts.{LineOf, LegalTranscript}
 use Rattle.heap_spec.proofs.Births.{step_births}
 use Rattle.heap_spec.proofs.Closures.{closure_mono}
@@ -24,9 +28,13 @@ use Rattle.heap_spec.proofs.Runs.{touched_closed}
 use Rattle.marker.specs.Marking.{IsMarked}
 use Rattle.heap_view.specs.Shows.{IsMarkedBirth}
 use Rattle.heap_core.specs.Contents.{Contents, Cycle}
-use Rattle.heap_core.specs.Standing.{StandsFor, objects_of}
+use Rattle.heap_core.specs.Standing.{StandsFor, keeps, objects_of}
+use Rattle.block_map.specs.FoundIn.{found_in, IsLawful}
+use Rattle.object_space.proofs.Kept.{kept_map}
+use Rattle.heap_view.proofs.Shows.{seen}
+use Rattle.heap_core.proofs.Births.{HasCountedObjects, born_apart}
 use Rattle.heap_core.specs.Calls.{IsCall}
-use Rattle.heap_core.specs.Collections.{IsGrantedInPhase, IsAlwaysGranted, BeginsCycle, MarksOn, ReadsRoots, TakesWords, RetracesPage, ReadsPage, EndsCycle, CollectsAll, SweepsOne}
+use Rattle.heap_core.specs.Collections.{IsGrantedInPhase, IsGrantedPartial, RefusesPartial, IsAlwaysGranted, BeginsCycle, BeginsPartialCycle, EndsMarking, MarksOn, ReadsRoots, TakesWords, RetracesPage, ReadsPage, EndsCycle, CollectsAll, SweepsOne}
 use Rattle.heap_core.specs.Following.{Follows, IsLine, AreLines}
 
 -- what a step is to a run
@@ -34,12 +42,14 @@ pub record IsMoment (start : Start) (run : Run) (event : Event) (reply : Reply) 
   pub happens : Happens start run event reply s'
   pub marking : marking_after event (is_marking start run) ≡ is_marking start run
   pub counts : counted event ≡ 0
-  pub touches : (birth : ℕ) → IsInClosure s' (λ b. Touched start run b ⊎ IsBornSince (heap_after start run) b) birth → touched_after event (Touched start run) (heap_after start run) s' birth
+  pub ages : old_births_after event s'.births (old_births start run) ≡ old_births start run
+  pub touches : (birth : ℕ) → IsInClosure s' (λ b. Touched start run b ⊎ IsBornSince (heap_after start run) b) birth → touched_after event (old_births start run) (Touched start run) (heap_after start run) s' birth
 
 step_moment : (start : Start) (run : Run) (event : Event) (reply : Reply) (s' : Heap) → Step (heap_after start run) event reply s' → IsMoment start run event reply s'
-step_moment start run Attach reply s' step = record { happens = step; marking = refl; counts = refl; touches = λ b x. x }
-step_moment start run (Mutator slot call) reply s' step = record { happens = step; marking = refl; counts = refl; touches = λ b x. x }
+step_moment start run Attach reply s' step = record { happens = step; marking = refl; counts = refl; ages = refl; touches = λ b x. x }
+step_moment start run (Mutator slot call) reply s' step = record { happens = step; marking = refl; counts = refl; ages = refl; touches = λ b x. x }
 step_moment start run Begin reply s' step = absurd step
+step_moment start run BeginPartial reply s' step = absurd step
 step_moment start run Roots reply s' step = absurd step
 step_moment start run (Mark n) reply s' step = absurd step
 step_moment start run Retrace reply s' step = absurd step
@@ -48,12 +58,69 @@ step_moment start run Sweep reply s' step = absurd step
 step_moment start run Collect reply s' step = absurd step
 step_moment start run Number reply s' step = absurd step
 
+-- no step takes births back
+acts_more : (s : Heap) (slot : ℕ) (m : HeapMutator) {call : Call} {reply : Reply} {s' : Heap} → Acts s slot m call reply s' → s.births ≤ s'.births
+acts_more s slot m (Acts.allocated a e room) = omega arith
+acts_more s slot m _ = omega arith
+
+calls_more : (s : Heap) (slot : ℕ) (call : Call) {reply : Reply} {s' : Heap} → Calls s slot call reply s' → s.births ≤ s'.births
+calls_more s slot call (Calls.acts {m = m} at acts) = acts_more s slot m acts
+calls_more s slot call (Calls.vacant none) = omega arith
+
+attaches_more : (s : Heap) {reply : Reply} {s' : Heap} → Attaches s reply s' → s.births ≤ s'.births
+attaches_more s (Attaches.attached lowest) = omega arith
+attaches_more s (Attaches.no_slot none) = omega arith
+
+births_more : (s : Heap) (event : Event) (reply : Reply) (s' : Heap) → Step s event reply s' → s.births ≤ s'.births
+births_more s Attach reply s' step = attaches_more s step
+births_more s (Mutator slot call) reply s' step = calls_more s slot call step
+births_more s _ reply s' step = absurd step
+
+-- whether an event is a free, and whether a reply is that it is done
+abbrev is_free : Event → Bool
+is_free (Mutator slot (Free r)) = true
+is_free _ = false
+
+abbrev is_done : Reply → Bool
+is_done Done = true
+is_done _ = false
+
+free_flags : (event : Event) (reply : Reply) → Frees event reply → (is_free event ≡ true) × (is_done reply ≡ true)
+free_flags event reply Frees.freed = (refl, refl)
+
+not_free : (event : Event) (reply : Reply) → is_free event ≡ false → Frees event reply → ⊥
+not_free event reply other f = false≢true (sym other ∙ (free_flags event reply f).0)
+
+not_done : (event : Event) (reply : Reply) → is_done reply ≡ false → Frees event reply → ⊥
+not_done event reply other f = false≢true (sym other ∙ (free_flags event reply f).1)
+
+-- what a step is to the need of a full cycle
+need_call : (slot : ℕ) (call : Call) (reply : Reply) (b now : Bool) → (Frees (Mutator slot call) reply → now ≡ true) → ((Frees (Mutator slot call) reply → ⊥) → now ≡ b) → now ≡ needs_full_after (Mutator slot call) reply b
+need_call slot (Free r) Done b now freed not = freed Frees.freed
+need_call slot (Free r) reply b now freed not = not (not_done (Mutator slot (Free r)) reply refl)
+need_call slot call reply b now freed not = not (not_free (Mutator slot call) reply refl)
+
+need_after : (s : Heap) (event : Event) (reply : Reply) (s' : Heap) → Step s event reply s' → (b now : Bool) → (Frees event reply → now ≡ true) → ((Frees event reply → ⊥) → now ≡ b) → now ≡ needs_full_after event reply b
+need_after s Attach reply s' step b now freed not = not (not_free Attach reply refl)
+need_after s (Mutator slot call) reply s' step b now freed not = need_call slot call reply b now freed not
+need_after s _ reply s' step b now freed not = absurd step
+
 none_some : {A : Type 0} (x : A) → None ≡ Some x → ⊥
 none_some x e = cc
 
 -- A call of a mutator is a line.
-module _ (old : Contents) (event : Event) (reply : Reply) (new : Contents) (call : IsCall old event reply new) (start : Start) (run : Run) (follows : Follows old start run)
+module _ (old : Contents) (event : Event) (reply : Reply) (new : Contents) (lawful : IsLawful old.store.states) (call : IsCall old event reply new) (start : Start) (run : Run) (follows : Follows old start run)
     (after : Heap) (step : Step (heap_after start run) event reply after) (stands : StandsFor new after) where
+  -- the objects of the heap before have words
+  counted_objects : HasCountedObjects (heap_after start run)
+  counted_objects = record {
+    some = λ b p has.
+        let map = kept_map (length old.store.states) (keeps old) (found_in old.store.states) lawful.map in
+        let x = seen (objects_of old) (length old.store.states) map old.store.words (heap_after start run).objects follows.stands.store.shows.shown b p has in
+        let size = x.3.size in let some = (map.placed b x.0 x.1).some in omega arith;
+    born = λ b p has. (follows.stands.store.shows.born b p has).1;
+  }
+
   touches : old.cycle.is_marking ≡ true → (base : ℕ) (o : Object) → HasObject after base o → IsMarked new.cycle.marking base → Touched start run o.birth ⊎ ((heap_after start run).births < o.birth)
   touches is base o has marked =
       let f = stands.store.shows.shown.only base o has in
@@ -64,6 +131,30 @@ module _ (old : Contents) (event : Event) (reply : Reply) (new : Contents) (call
       (λ none. let g = follows.stands.store.shows.shown.only base old_one.0 old_one.1 in absurd (none_some g.0 (sym (ap (objects_of old) (sym f.2) ∙ none) ∙ g.1)))
       (call.marks f.0 there (subst (IsMarked new.cycle.marking) (sym f.2) marked)))
       (λ born. inr born)
+      (step_births (heap_after start run) event reply after step base o has)
+
+  -- the old objects are still exactly the marked ones
+  aged : old.cycle.is_marking ≡ false → (base : ℕ) (o : Object) → HasObject after base o → IsMarked new.cycle.marking base → o.birth ≤ old_births start run
+  aged is base o has marked =
+      let f = stands.store.shows.shown.only base o has in
+      let there = ap (objects_of new) f.2 ∙ f.1 in
+      let now : IsMarked new.cycle.marking f.0.base = subst (IsMarked new.cycle.marking) (sym f.2) marked in
+      let was = call.idle is f.0 there now in
+      let before = follows.stands.store.shows.shown.kept f.0 was.0 in
+      ⊎_elim
+      (λ old_one. let le = follows.aged is base old_one.0 old_one.1 (subst (IsMarked old.cycle.marking) f.2 was.1) in let same = old_one.2.birth in omega arith)
+      (λ born. absurd (born_apart (heap_after start run) counted_objects event reply after step base o has born before.0 (subst (λ b. HasObject (heap_after start run) b before.0) f.2 before.1)))
+      (step_births (heap_after start run) event reply after step base o has)
+
+  kept : old.cycle.is_marking ≡ false → (base : ℕ) (o : Object) → HasObject after base o → o.birth ≤ old_births start run → IsMarked new.cycle.marking base
+  kept is base o has before =
+      let f = stands.store.shows.shown.only base o has in
+      let there = ap (objects_of new) f.2 ∙ f.1 in
+      ⊎_elim
+      (λ old_one. let same = old_one.2.birth in
+      let was = follows.kept is base old_one.0 old_one.1 (omega arith) in
+      subst (IsMarked new.cycle.marking) f.2 (call.stays f.0 there (subst (IsMarked old.cycle.marking) (sym f.2) was)))
+      (λ born. let past = follows.past in absurd (omega arith))
       (step_births (heap_after start run) event reply after step base o has)
 
   moment : IsMoment start run event reply after
@@ -78,16 +169,20 @@ module _ (old : Contents) (event : Event) (reply : Reply) (new : Contents) (call
     phase = call.phase ∙ follows.phase ∙ sym moment.marking;
     count = call.count ∙ follows.count ∙ count_same;
     small = subst (λ n. n < word_end) (sym call.count) follows.small;
+    needs = need_after (heap_after start run) event reply after step (needs_full start run) new.cycle.needs_full call.freed (λ not. call.needs_full not ∙ follows.needs);
+    past = (let past = follows.past in let more = births_more (heap_after start run) event reply after step in let same = moment.ages in omega arith);
+    aged = λ is base o has marked. subst (λ n. o.birth ≤ n) (sym moment.ages) (aged (sym call.phase ∙ is) base o has marked);
+    kept = λ is base o has before. kept (sym call.phase ∙ is) base o has (subst (λ n. o.birth ≤ n) moment.ages before);
     touched = λ is base o has marked. moment.touches o.birth (base, o, has, refl, given has (touches (sym call.phase ∙ is) base o has marked));
   }
 
   line : (next : Run) × LineOf start run event reply next × Follows new start next
   line = (goes_on run event reply after, LineOf.happens moment.happens, next_follows)
 
-pub call_line : (old : Contents) (event : Event) (reply : Reply) (new : Contents) → IsCall old event reply new → IsLine old event reply new
-call_line old event reply new call start run follows =
+pub call_line : (old : Contents) (event : Event) (reply : Reply) (new : Contents) → IsLawful old.store.states → IsCall old event reply new → IsLine old event reply new
+call_line old event reply new lawful call start run follows =
     let went = call.steps (heap_after start run) follows.stands in
-    line old event reply new call start run follows went.0 went.1 went.2
+    line old event reply new lawful call start run follows went.0 went.1 went.2
 
 -- A granted begin is a line.
 pub begin_line : (old new : Contents) → old.cycle.is_marking ≡ false → BeginsCycle old new → IsLine old Begin Done new
@@ -99,7 +194,29 @@ begin_line old new idle begins start run follows = (
     phase = begins.phase;
     count = begins.count ∙ follows.count ∙ (let small = follows.small in let same = follows.count in omega arith);
     small = subst (λ n. n < word_end) (sym begins.count) follows.small;
+    needs = begins.needs_full;
+    past = follows.past;
+    aged = λ is. absurd (false≢true (sym is ∙ begins.phase));
+    kept = λ is. absurd (false≢true (sym is ∙ begins.phase));
     touched = λ is base o has marked. absurd (false≢true (sym (begins.fresh.marks.clear (granule base)) ∙ marked));
+  },
+)
+
+-- A granted begin with the marks of the last cycle is a line: each marked object is old, and so touched.
+pub partial_line : (old new : Contents) → old.cycle.is_marking ≡ false → old.cycle.needs_full ≡ false → BeginsPartialCycle old new → IsLine old BeginPartial Done new
+partial_line old new idle needs begins start run follows = (
+  goes_on run BeginPartial Done (heap_after start run),
+  LineOf.happens (sym follows.phase ∙ idle, sym follows.needs ∙ needs, (refl, refl)),
+  record {
+    stands = begins.stands (heap_after start run) follows.stands;
+    phase = begins.phase;
+    count = begins.count ∙ follows.count ∙ (let small = follows.small in let same = follows.count in omega arith);
+    small = subst (λ n. n < word_end) (sym begins.count) follows.small;
+    needs = begins.needs_full ∙ sym needs ∙ follows.needs;
+    past = follows.past;
+    aged = λ is. absurd (false≢true (sym is ∙ begins.phase));
+    kept = λ is. absurd (false≢true (sym is ∙ begins.phase));
+    touched = λ is base o has marked. (base, o, has, refl, given has (follows.aged idle base o has (subst (λ r. Has r (granule base)) begins.marking.marks marked)));
   },
 )
 
@@ -128,8 +245,18 @@ marks_follow roots old new is marks start run follows = record {
   phase = marks.phase ∙ follows.phase;
   count = marks.count ∙ follows.count;
   small = subst (λ n. n < word_end) (sym marks.count) follows.small;
+  needs = ap (λ (c : Contents). c.cycle.needs_full) marks.alone ∙ follows.needs;
+  past = follows.past;
+  aged = λ now. absurd (false≢true (sym now ∙ (marks.phase ∙ is)));
+  kept = λ now. absurd (false≢true (sym now ∙ (marks.phase ∙ is)));
   touched = λ now base o has marked. reached_touched old start run follows is base o has (marks.within (heap_after start run) follows.stands base o has marked);
 }
+
+-- once a cycle has ended each object is marked
+all_marked : {old new : Contents} → EndsMarking old new → (s : Heap) → StandsFor new s → (base : ℕ) (o : Object) → HasObject s base o → IsMarked new.cycle.marking base
+all_marked {new = new} ends s stands base o has =
+    let f = stands.store.shows.shown.only base o has in
+    subst (IsMarked new.cycle.marking) f.2 (ends.marked f.0 (ap (objects_of new) f.2 ∙ f.1))
 
 -- A granted finish is a line: each object that is not touched goes.
 pub finish_line : (old new : Contents) (n : ℕ) → old.cycle.is_marking ≡ true → EndsCycle old n new → IsLine old Finish (Count n) new
@@ -149,6 +276,10 @@ finish_line old new n is ends start run follows =
         phase = ends.ends.phase;
         count = ends.ends.count ∙ ap (λ k. (k + 1) % word_end) follows.count;
         small = subst (λ k. k < word_end) (sym ends.ends.count) (omega arith);
+        needs = ends.needs_full ∙ follows.needs;
+        past = omega arith;
+        aged = λ idle base o has marked. (went.2.store.shows.born base o has).1;
+        kept = λ idle base o has before. all_marked ends.ends went.0 went.2 base o has;
         touched = λ now base o has marked. absurd (false≢true (sym ends.ends.phase ∙ now));
       },
     )
@@ -164,6 +295,10 @@ collect_line old new n all start run follows =
         phase = all.ends.phase;
         count = all.ends.count ∙ ap (λ k. (k + 1) % word_end) follows.count;
         small = subst (λ k. k < word_end) (sym all.ends.count) (omega arith);
+        needs = all.needs_full;
+        past = omega arith;
+        aged = λ idle base o has marked. (went.2.store.shows.born base o has).1;
+        kept = λ idle base o has before. all_marked all.ends went.0 went.2 base o has;
         touched = λ now base o has marked. absurd (false≢true (sym all.ends.phase ∙ now));
       },
     )
@@ -176,6 +311,14 @@ wrong_line old new event why is same line start run follows =
 pub begin_result : (old new : Contents) (r : Result ⊤ Refusal) → IsGrantedInPhase false old r new (λ _. BeginsCycle old new) → IsLine old Begin (done_reply r) new
 begin_result old new (Ok done) g = begin_line old new g.0 g.1
 begin_result old new (Err why) g = wrong_line old new Begin why g.1 g.2 (λ start run follows. LineOf.refused (sym follows.phase ∙ g.0))
+
+partial_refused : (old new : Contents) {why : Refusal} → RefusesPartial old why → new ≡ old → IsLine old BeginPartial (Refused why) new
+partial_refused old new (RefusesPartial.wrong_phase is) same start run follows = (run, LineOf.refused (sym follows.phase ∙ is), subst (λ c. Follows c start run) (sym same) follows)
+partial_refused old new (RefusesPartial.needs idle is) same start run follows = (run, LineOf.needs (sym follows.phase ∙ idle) (sym follows.needs ∙ is), subst (λ c. Follows c start run) (sym same) follows)
+
+pub partial_result : (old new : Contents) (r : Result ⊤ Refusal) → IsGrantedPartial old r new (BeginsPartialCycle old new) → IsLine old BeginPartial (done_reply r) new
+partial_result old new (Ok done) g = partial_line old new g.0 g.1 g.2
+partial_result old new (Err why) g = partial_refused old new g.0 g.1
 
 pub roots_result : (old new : Contents) (r : Result ⊤ Refusal) → IsGrantedInPhase true old r new (λ _. ReadsRoots old new) → IsLine old Roots (done_reply r) new
 roots_result old new (Ok done) g = λ start run follows. (run, LineOf.roots (sym follows.phase ∙ g.0), marks_follow (root_words_of old.roots) old new g.0 g.1.marks start run follows)
@@ -210,6 +353,10 @@ sweep_result old new (Ok n) g = λ start run follows. (
     phase = ap (λ (y : Cycle). y.is_marking) g.cycle ∙ follows.phase;
     count = ap (λ (y : Cycle). y.count) g.cycle ∙ follows.count;
     small = subst (λ (y : Cycle). y.count < word_end) (sym g.cycle) follows.small;
+    needs = ap (λ (y : Cycle). y.needs_full) g.cycle ∙ follows.needs;
+    past = follows.past;
+    aged = λ is base o has marked. follows.aged (ap (λ (y : Cycle). y.is_marking) (sym g.cycle) ∙ is) base o has (subst (λ (y : Cycle). IsMarked y.marking base) g.cycle marked);
+    kept = λ is base o has before. subst (λ (y : Cycle). IsMarked y.marking base) (sym g.cycle) (follows.kept (ap (λ (y : Cycle). y.is_marking) (sym g.cycle) ∙ is) base o has before);
     touched = λ is base o has marked. follows.touched (ap (λ (y : Cycle). y.is_marking) (sym g.cycle) ∙ is) base o has (subst (λ (y : Cycle). IsMarked y.marking base) g.cycle marked);
   },
 )

@@ -1,5 +1,6 @@
 pub mod Forgotten
 pub mod Roots
+pub mod Births
 pub mod Along
 pub mod Lookups
 pub mod Linking
@@ -7,6 +8,7 @@ pub mod Calls
 pub mod Tracing
 pub mod Collecting
 pub mod Following
+pub mod Opening
 pub mod Acting
 pub mod Cycling
 pub mod AsObject
@@ -14,3 +16,4 @@ pub mod DirectWrites
 pub mod DirectStores
 pub mod DirectLines
 pub mod DirectTold
+pub mod Held

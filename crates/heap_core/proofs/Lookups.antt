@@ -1,12 +1,12 @@
 -- The calls that look an address up: which object of the heap it reads.
-use Rattle.std.proofs.Common.{List, inl, inr, ⊎_elim, ◌≡◌, ℕ, ◌-◌, ◌*◌, ◌/◌, ◌%◌, ◌<◌, length, set, Some, None, refl, sym, ◌∙◌, subst, arith, ap}
-use Rattle.heap_spec.specs.declared.call.Call.TheVariants.{Load, Store as StoreCall, Base, Size}
+use Rattle.std.proofs.Common.{List, inl, inr, ⊎_elim, ◌≡◌, ℕ, ◌-◌, ◌*◌, ◌/◌, ◌%◌, ◌<◌, ◌≤◌, length, set, Some, None, refl, sym, ◌∙◌, subst, arith, ap}
+use Rattle.heap_spec.specs.declared.call.Call.TheVariants.{Load, Store as StoreCall, Base, Size, Free as FreeCall}
 use Rattle.heap_spec.specs.declared.event.Event.TheVariants.{Mutator}
 use Rattle.heap_spec.specs.declared.reply.Reply.TheVariants.{Done, Word, Count}
 use Rattle.heap_spec.specs.Heap.{Heap, Object, Mutator as HeapMutator, ReadsObject, ReadsNothing}
 use Rattle.heap_spec.specs.Replies.{IsStep}
 use Rattle.heap_spec.specs.Steps.{Acts, Calls, address, register, with_register, with_object}
-use Rattle.words.specs.declared.limits.TheConstants.{PAGE_WORDS}
+use Rattle.words.specs.declared.limits.TheConstants.{FIRST_ADDRESS, PAGE_GRANULES, PAGE_WORDS}
 use Rattle.words.specs.Bits.{Has}
 use Rattle.words.specs.Layout.{granule, page_of}
 use Rattle.pages.specs.Memory.{IsWordAddress, place, word_at, with_word_at}
@@ -15,7 +15,9 @@ use Rattle.block_map.specs.declared.found.Found.{Found}
 use Rattle.links.specs.declared.row.Link.{Link}
 use Rattle.roots.specs.Roots.{RootSet, HasMutator, SetsWord}
 use Rattle.object_space.specs.Store.{Store}
-use Rattle.heap_core.specs.Contents.{Contents, Cycle}
+use Rattle.marker.specs.Marking.{IsConsistent}
+use Rattle.marker.proofs.MarkWord.{markable}
+use Rattle.heap_core.specs.Contents.{Contents, Cycle, IsCore}
 use Rattle.heap_core.specs.Calls.{IsCall, MakesDirty}
 use Rattle.heap_core.specs.Beside.{NotesWrite}
 use Rattle.std.specs.Prelude.{Bool, IfSome, Option}
@@ -30,7 +32,7 @@ use Rattle.object_space.proofs.Changes.{shows_stored}
 use Rattle.links.proofs.Named.{named_kept}
 use Rattle.heap_core.proofs.Along.{stored_same}
 use Rattle.heap_core.proofs.Forgotten.{forgotten_same}
-use Rattle.heap_core.proofs.Roots.{core_of, attached, stands_set, quiet, not_done, none_some}
+use Rattle.heap_core.proofs.Roots.{core_of, attached, stands_set, quiet, not_done, none_some, frees_event}
 
 -- an address that finds a kept object reads it in the heap
 pub finds : (keep : Found → Bool) (t : Store) (s : Heap) (w : ℕ) (f : Found) → IsLawful t.states → Stores keep t s → restrict keep (found_in t.states) w ≡ Some f → (o : Object) × ReadsObject s w f.base o × IsShown t.words f o
@@ -44,6 +46,13 @@ kept_if_found c w None lawful is = tt
 kept_if_found c w (Some f) lawful is = λ s h.
     let found = finds (keeps c) c.store s w f lawful h.store (sym is) in
     record { object = found.0; reads = found.1; size = found.2.size; kind = found.2.kind }
+
+-- the base of a kept object has a mark
+pub markable_at : (c : Contents) (base : ℕ) (f : Found) → IsCore c → IsConsistent c.cycle.marking → objects_of c base ≡ Some f → f.base ≡ base → (FIRST_ADDRESS ≤ base) × (granule base < length c.cycle.marking.marks)
+markable_at c base f core consistent is begins =
+    let size : length c.cycle.marking.marks ≡ PAGE_GRANULES * length c.store.states = consistent.marks ∙ ap (λ n. PAGE_GRANULES * n) core.traced.pages in
+    let map = kept_map (length c.store.states) (keeps c) (found_in c.store.states) core.lawful.map in
+    subst (λ b. (FIRST_ADDRESS ≤ b) × (granule b < length c.cycle.marking.marks)) begins (markable (length c.store.states) (objects_of c) base f c.cycle.marking.marks map is size)
 
 -- an address that finds nothing reads nothing in the heap
 pub finds_nothing : (keep : Found → Bool) (t : Store) (s : Heap) (w : ℕ) → IsLawful t.states → Stores keep t s → restrict keep (found_in t.states) w ≡ None → ReadsNothing s w
@@ -85,15 +94,19 @@ stores_step roots t t' y y' {ls = ls} slot a n r m f lawful long at aligned is w
 
 pub stores : (roots : RootSet) (t t' : Store) (y y' : Cycle) {ls : List Link} (slot a n r : ℕ) (m : HeapMutator) (f : Found) → IsLawful t.states → length t.words ≡ PAGE_WORDS * length t.states → HasMutator roots slot m → address m a n % 8 ≡ 0 → restrict (is_kept t.pending y.marking.marks) (found_in t.states) (address m a n) ≡ Some f
     → t' ≡ record t { words = with_word_at t.words (address m a n) (register m r) }
-    → NotesWrite y.is_marking (address m a n) y.marking y'.marking → y'.is_marking ≡ y.is_marking → y'.count ≡ y.count → IsCall (core_of roots t y ls) (Mutator slot (StoreCall a n r)) Done (core_of roots t' y' ls)
-stores roots t t' y y' {ls = ls} slot a n r m f lawful long at aligned is writes notes phase count = record {
+    → NotesWrite (address m a n) y.marking y'.marking → y'.is_marking ≡ y.is_marking → y'.count ≡ y.count → y'.needs_full ≡ y.needs_full → IsCall (core_of roots t y ls) (Mutator slot (StoreCall a n r)) Done (core_of roots t' y' ls)
+stores roots t t' y y' {ls = ls} slot a n r m f lawful long at aligned is writes notes phase count needs = record {
   steps = stores_step roots t t' y y' slot a n r m f lawful long at aligned is writes notes.marks;
   phase = phase;
   count = count;
+  freed = λ h. absurd (no_free (frees_event (Mutator slot (StoreCall a n r)) Done h));
+  needs_full = λ _. needs;
+  idle = λ is g there marked. (sym (same g.base) ∙ there, subst (λ ms. Has ms (granule g.base)) notes.marks marked);
+  carried = notes.carried;
   marks = λ g there marked. inl (subst (λ ms. Has ms (granule g.base)) notes.marks marked);
   stays = λ g there marked. subst (λ ms. Has ms (granule g.base)) (sym notes.marks) marked;
   came = λ is g there none. absurd (none_some g (sym none ∙ sym (same g.base) ∙ there));
-  dirty = λ p h. ⊎_elim (λ old. inl old) (λ new. inr (MakesDirty.store m new.0 at new.1)) (notes.dirty p h);
+  dirty = λ p h. ⊎_elim (λ old. inl old) (λ new. inr (MakesDirty.store m at new)) (notes.dirty p h);
   written = wrote;
   stays_dirty = notes.stays_dirty;
   current = notes.current;
@@ -108,9 +121,12 @@ stores roots t t' y y' {ls = ls} slot a n r m f lawful long at aligned is writes
     mutator_one : {x z : HeapMutator} → Some (Some x) ≡ Some (Some z) → x ≡ z
     mutator_one e = cc
 
+    no_free : ((s q : ℕ) × (Mutator slot (StoreCall a n r) ≡ Mutator s (FreeCall q))) → ⊥
+    no_free (s, q, e) = cc
+
     -- the slot's mutator is the one that stored
     wrote : (p : ℕ) → MakesDirty (core_of roots t y ls) (Mutator slot (StoreCall a n r)) Done p → Has y'.marking.dirty p
-    wrote p (MakesDirty.store other on here same) = subst (Has y'.marking.dirty) (ap (λ (x : HeapMutator). page_of (address x a n)) (mutator_one (sym at ∙ here)) ∙ sym same) (notes.written on)
+    wrote p (MakesDirty.store other here same) = subst (Has y'.marking.dirty) (ap (λ (x : HeapMutator). page_of (address x a n)) (mutator_one (sym at ∙ here)) ∙ sym same) notes.written
 
     same : (b : ℕ) → restrict (is_kept t'.pending y'.marking.marks) (found_in t'.states) b ≡ restrict (is_kept t.pending y.marking.marks) (found_in t.states) b
     same b = ap (λ (x : Store). restrict (is_kept x.pending y'.marking.marks) (found_in x.states) b) writes ∙ ap (λ ms. restrict (is_kept t.pending ms) (found_in t.states) b) notes.marks

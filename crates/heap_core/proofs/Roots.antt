@@ -4,7 +4,7 @@ use Rattle.std.specs.Prelude.{slice_get}
 use Rattle.words.specs.declared.refusal.Refusal.{Refusal}
 use Rattle.words.specs.declared.refusal.Refusal.TheVariants.{NoSlot, Full}
 use Rattle.heap_spec.specs.declared.call.Call.{Call}
-use Rattle.heap_spec.specs.declared.call.Call.TheVariants.{Store as StoreCall}
+use Rattle.heap_spec.specs.declared.call.Call.TheVariants.{Store as StoreCall, Free as FreeCall}
 use Rattle.heap_spec.specs.declared.event.Event.{Event}
 use Rattle.heap_spec.specs.declared.event.Event.TheVariants.{Mutator}
 use Rattle.heap_spec.specs.declared.reply.Reply.{Reply}
@@ -18,7 +18,7 @@ use Rattle.roots.specs.Roots.{RootSet, HasMutator, HasNoMutator, with_word, with
 use Rattle.roots.proofs.Steps.{set_mutators}
 use Rattle.object_space.specs.Store.{Store}
 use Rattle.heap_core.specs.Contents.{Contents, Cycle}
-use Rattle.heap_core.specs.Calls.{IsCall, IsFullAlloc, MakesDirty, ReachesPages}
+use Rattle.heap_core.specs.Calls.{IsCall, IsFullAlloc, Frees, MakesDirty, ReachesPages}
 use Rattle.object_space.specs.Kept.{is_kept}
 use Rattle.links.specs.Named.{AreNamed}
 use Rattle.object_space.specs.Stores.{Stores}
@@ -41,14 +41,24 @@ full_reply event reply IsFullAlloc.full = refl
 
 -- a store that was done reaches them
 dirty_reaches : (c : Contents) (event : Event) (reply : Reply) (p : ℕ) → MakesDirty c event reply p → ReachesPages event reply
-dirty_reaches c event reply p (MakesDirty.store m on at same) = tt
+dirty_reaches c event reply p (MakesDirty.store m at same) = tt
+
+-- and so does a free that was done
+frees_reaches : (event : Event) (reply : Reply) → Frees event reply → ReachesPages event reply
+frees_reaches event reply Frees.freed = tt
+
+pub frees_reply : (event : Event) (reply : Reply) → Frees event reply → reply ≡ Done
+frees_reply event reply Frees.freed = refl
+
+pub frees_event : (event : Event) (reply : Reply) → Frees event reply → (slot r : ℕ) × (event ≡ Mutator slot (FreeCall r))
+frees_event event reply (Frees.freed {slot = slot} {r = r}) = (slot, r, refl)
 
 -- what makes a page dirty was done, and is a store
 dirty_reply : (c : Contents) (event : Event) (reply : Reply) (p : ℕ) → MakesDirty c event reply p → reply ≡ Done
-dirty_reply c event reply p (MakesDirty.store m on at same) = refl
+dirty_reply c event reply p (MakesDirty.store m at same) = refl
 
 pub dirty_event : (c : Contents) (event : Event) (reply : Reply) (p : ℕ) → MakesDirty c event reply p → (slot a n r : ℕ) × (event ≡ Mutator slot (StoreCall a n r))
-dirty_event c event reply p (MakesDirty.store {slot = slot} {a = a} {n = n} {r = r} m on at same) = (slot, a, n, r, refl)
+dirty_event c event reply p (MakesDirty.store {slot = slot} {a = a} {n = n} {r = r} m at same) = (slot, a, n, r, refl)
 
 -- nor is one that was done
 pub not_done : (event : Event) → IsFullAlloc event Done → ⊥
@@ -58,12 +68,16 @@ not_done event h = other (full_reply event Done h)
     other e = cc
 
 -- a call that leaves the store and the cycle as they are
-changes_beside : (c : Contents) (roots : RootSet) (ls : List Link) (event : Event) (reply : Reply) → (IsFullAlloc event reply → ⊥) → ((p : ℕ) → MakesDirty c event reply p → ⊥)
+changes_beside : (c : Contents) (roots : RootSet) (ls : List Link) (event : Event) (reply : Reply) → (IsFullAlloc event reply → ⊥) → ((p : ℕ) → MakesDirty c event reply p → ⊥) → (Frees event reply → ⊥)
     → IsStep (StandsFor c) event reply (StandsFor (record c { roots = roots; links = ls })) → IsCall c event reply (record c { roots = roots; links = ls })
-changes_beside c roots ls event reply not_full not_dirty steps = record {
+changes_beside c roots ls event reply not_full not_dirty need steps = record {
   steps = steps;
   phase = refl;
   count = refl;
+  freed = λ f. absurd (need f);
+  needs_full = λ _. refl;
+  idle = λ is f there marked. (there, marked);
+  carried = refl;
   marks = λ f is m. inl m;
   stays = λ f is m. m;
   came = λ is f there none. absurd (none_some f (sym none ∙ there));
@@ -79,19 +93,19 @@ changes_beside c roots ls event reply not_full not_dirty steps = record {
   roots_alone = λ not. (refl, refl);
 }
 
-roots_change : (c : Contents) (roots : RootSet) (event : Event) (reply : Reply) → (IsFullAlloc event reply → ⊥) → ((p : ℕ) → MakesDirty c event reply p → ⊥)
+roots_change : (c : Contents) (roots : RootSet) (event : Event) (reply : Reply) → (IsFullAlloc event reply → ⊥) → ((p : ℕ) → MakesDirty c event reply p → ⊥) → (Frees event reply → ⊥)
     → IsStep (StandsFor c) event reply (StandsFor (record c { roots = roots })) → IsCall c event reply (record c { roots = roots })
-roots_change c roots event reply not_full not_dirty steps = changes_beside c roots c.links event reply not_full not_dirty steps
+roots_change c roots event reply not_full not_dirty need steps = changes_beside c roots c.links event reply not_full not_dirty need steps
 
 -- one that changes the links
 pub links_change : (c : Contents) (ls : List Link) (event : Event) (reply : Reply) → (ReachesPages event reply → ⊥)
     → IsStep (StandsFor c) event reply (StandsFor (record c { links = ls })) → IsCall c event reply (record c { links = ls })
-links_change c ls event reply apart steps = changes_beside c c.roots ls event reply (λ h. apart (full_reaches event reply h)) (λ p h. apart (dirty_reaches c event reply p h)) steps
+links_change c ls event reply apart steps = changes_beside c c.roots ls event reply (λ h. apart (full_reaches event reply h)) (λ p h. apart (dirty_reaches c event reply p h)) (λ f. apart (frees_reaches event reply f)) steps
 
 -- one that doesn't reach the pages
 pub quiet : (c : Contents) (roots : RootSet) (event : Event) (reply : Reply) → (ReachesPages event reply → ⊥)
     → IsStep (StandsFor c) event reply (StandsFor (record c { roots = roots })) → IsCall c event reply (record c { roots = roots })
-quiet c roots event reply apart steps = roots_change c roots event reply (λ h. apart (full_reaches event reply h)) (λ p h. apart (dirty_reaches c event reply p h)) steps
+quiet c roots event reply apart steps = roots_change c roots event reply (λ h. apart (full_reaches event reply h)) (λ p h. apart (dirty_reaches c event reply p h)) (λ f. apart (frees_reaches event reply f)) steps
 
 -- a step that changes no more than the roots
 pub steps_roots : (roots roots' : RootSet) (t : Store) (y : Cycle) {ls : List Link} (event : Event) (reply : Reply) → (ReachesPages event reply → ⊥) → StepsRoots roots event reply roots'
@@ -117,10 +131,13 @@ refused_clean c event refusal p h = other (dirty_reply c event (Refused refusal)
 
 -- a call for a slot that has no mutator
 pub refused_vacant : (c : Contents) (slot : ℕ) (call : Call) → HasNoMutator c.roots slot → IsCall c (Mutator slot call) (Refused NoSlot) c
-refused_vacant c slot call none = roots_change c c.roots (Mutator slot call) (Refused NoSlot) (λ h. other (full_reply (Mutator slot call) (Refused NoSlot) h)) (refused_clean c (Mutator slot call) NoSlot) (λ s h. (s, Calls.vacant (ap (λ ms. slice_get ms slot) h.mutators ∙ none), h))
+refused_vacant c slot call none = roots_change c c.roots (Mutator slot call) (Refused NoSlot) (λ h. other (full_reply (Mutator slot call) (Refused NoSlot) h)) (refused_clean c (Mutator slot call) NoSlot) (λ f. other_done (frees_reply (Mutator slot call) (Refused NoSlot) f)) (λ s h. (s, Calls.vacant (ap (λ ms. slice_get ms slot) h.mutators ∙ none), h))
   where
     other : Refused NoSlot ≡ Refused Full → ⊥
     other e = cc
+
+    other_done : Refused NoSlot ≡ Done → ⊥
+    other_done e = cc
 
 -- a call of a mutator that is refused
 pub refused : (roots : RootSet) (t : Store) (y : Cycle) {ls : List Link} (slot : ℕ) (m : HeapMutator) (call : Call) (refusal : Refusal) → HasMutator roots slot m → (ReachesPages (Mutator slot call) (Refused refusal) → ⊥)

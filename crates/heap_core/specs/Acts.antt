@@ -2,14 +2,14 @@
 use Rattle.std.specs.Prelude.{◌≡◌, true, false, List, [], ◌∷◌, ◌++◌, Result}
 use Rattle.words.specs.declared.refusal.Refusal.{Refusal}
 use Rattle.heap_spec.specs.declared.event.Event.{Event}
-use Rattle.heap_spec.specs.declared.event.Event.TheVariants.{Attach, Mutator, Begin, Roots, Mark, Retrace, Finish, Sweep, Collect, Number}
+use Rattle.heap_spec.specs.declared.event.Event.TheVariants.{Attach, Mutator, Begin, BeginPartial, Roots, Mark, Retrace, Finish, Sweep, Collect, Number}
 use Rattle.heap_spec.specs.declared.reply.Reply.{Reply}
 use Rattle.heap_spec.specs.declared.reply.Reply.TheVariants.{Count}
 use Rattle.heap_spec.specs.Replies.{count_reply, done_reply}
 use Rattle.heap_spec.specs.Runs.{Told}
 use Rattle.heap_core.specs.Contents.{Contents, IsCore}
 use Rattle.heap_core.specs.Calls.{IsCall}
-use Rattle.heap_core.specs.Collections.{IsGrantedInPhase, IsAlwaysGranted, BeginsCycle, ReadsRoots, TakesWords, RetracesPage, EndsCycle, CollectsAll, SweepsOne}
+use Rattle.heap_core.specs.Collections.{IsGrantedInPhase, IsGrantedPartial, IsAlwaysGranted, BeginsCycle, BeginsPartialCycle, ReadsRoots, TakesWords, RetracesPage, EndsCycle, CollectsAll, SweepsOne}
 
 -- the reply is that of a result of which this is true
 abbrev pub Tells : {A : Type 0} → (Result A Refusal → Reply) → Reply → (Result A Refusal → Type 0) → Type 0
@@ -20,6 +20,7 @@ abbrev pub IsAct : Contents → Event → Reply → Contents → Type 0
 IsAct old Attach reply new = IsCall old Attach reply new
 IsAct old (Mutator slot call) reply new = IsCall old (Mutator slot call) reply new
 IsAct old Begin reply new = Tells done_reply reply (λ r. IsGrantedInPhase false old r new (λ _. BeginsCycle old new))
+IsAct old BeginPartial reply new = Tells done_reply reply (λ r. IsGrantedPartial old r new (BeginsPartialCycle old new))
 IsAct old Roots reply new = Tells done_reply reply (λ r. IsGrantedInPhase true old r new (λ _. ReadsRoots old new))
 IsAct old (Mark most) reply new = Tells count_reply reply (λ r. IsGrantedInPhase true old r new (λ n. TakesWords most old n new))
 IsAct old Retrace reply new = Tells count_reply reply (λ r. IsGrantedInPhase true old r new (λ n. RetracesPage old n new))

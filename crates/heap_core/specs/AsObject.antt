@@ -2,7 +2,7 @@
 use Rattle.std.specs.Prelude.{◌≡◌, ℕ, ◌<◌, true, false}
 use Rattle.words.specs.declared.limits.TheConstants.{SLOTS}
 use Rattle.heap_spec.specs.declared.event.Event.{Event}
-use Rattle.heap_spec.specs.declared.event.Event.TheVariants.{Attach, Mutator, Begin, Roots, Mark, Retrace, Finish, Sweep, Collect, Number}
+use Rattle.heap_spec.specs.declared.event.Event.TheVariants.{Attach, Mutator, Begin, BeginPartial, Roots, Mark, Retrace, Finish, Sweep, Collect, Number}
 use Rattle.heap_spec.specs.Heap.{Mutator as HeapMutator}
 use Rattle.heap_spec.specs.Runs.{fresh}
 use Rattle.heap_spec.specs.SequentialObject.{HeapState}
@@ -10,8 +10,8 @@ use Rattle.roots.specs.Roots.{HasMutator, IsNextSlot}
 use Rattle.heap_core.specs.Contents.{Contents}
 use Rattle.heap_core.specs.Following.{Follows}
 
--- The core stands for a state where the state's run from a new heap has led: it has its heap, its phase and its count, and while marking
--- each marked object is touched.
+-- The core stands for a state where the state's run from a new heap has led: it has its heap, its phase and its count, needs a
+-- full cycle where the run does, and its marks are those that the run allows.
 abbrev pub Stands : Contents → HeapState → Type 0
 Stands c state = Follows c (fresh state.pages) state.run
 
@@ -27,6 +27,7 @@ abbrev pub Can : Contents → ℕ → Event → Type 0
 Can c who Attach = (who < SLOTS) × IsNextSlot c.roots who
 Can c who (Mutator slot call) = HasCaller c who slot
 Can c who Begin = (who ≡ SLOTS) × (c.cycle.is_marking ≡ false)
+Can c who BeginPartial = (who ≡ SLOTS) × (c.cycle.is_marking ≡ false) × (c.cycle.needs_full ≡ false)
 Can c who Roots = ⊥
 Can c who (Mark n) = ⊥
 Can c who Retrace = ⊥

@@ -1,5 +1,5 @@
 -- What calls of mutators do to a core.
-use Rattle.std.specs.Prelude.{◌≡◌, ◌↔◌, ℕ, ◌⊎◌, Some, None, true}
+use Rattle.std.specs.Prelude.{◌≡◌, ◌↔◌, ℕ, ◌⊎◌, Some, None, true, false}
 use Rattle.words.specs.declared.class.Kind.{Kind}
 use Rattle.words.specs.declared.refusal.Refusal.TheVariants.{Full}
 use Rattle.words.specs.Bits.{Has}
@@ -20,9 +20,9 @@ use Rattle.object_space.specs.Store.{IsSwept}
 use Rattle.heap_core.specs.Contents.{Contents}
 use Rattle.heap_core.specs.Standing.{StandsFor, IsForgotten, objects_of}
 
--- the page that an event with this reply makes dirty: that of a store that was done while a cycle is marking
+-- the page that an event with this reply makes dirty: that of a store that was done
 pub data MakesDirty (c : Contents) : Event → Reply → ℕ → Type 0 where
-  store : {slot a n r p : ℕ} (m : HeapMutator) → c.cycle.is_marking ≡ true → HasMutator c.roots slot m → p ≡ page_of (address m a n) → MakesDirty c (Mutator slot (Store a n r)) Done p
+  store : {slot a n r p : ℕ} (m : HeapMutator) → HasMutator c.roots slot m → p ≡ page_of (address m a n) → MakesDirty c (Mutator slot (Store a n r)) Done p
 
 -- the call with this reply reaches the pages: a store, an allocation or a free that was done, or an allocation with no place
 abbrev pub CallReachesPages : Call → Reply → Type 0
@@ -41,6 +41,10 @@ ReachesPages _ _ = ⊥
 pub data IsFullAlloc : Event → Reply → Type 0 where
   full : {slot d n : ℕ} {kind : Kind} → IsFullAlloc (Mutator slot (Alloc d n kind)) (Refused Full)
 
+-- the event with this reply is a free that was done
+pub data Frees : Event → Reply → Type 0 where
+  freed : {slot r : ℕ} → Frees (Mutator slot (Free r)) Done
+
 -- a page that a call of the slot may sweep: an allocation any, as it needs, and a free that of its object, which may become free
 abbrev pub CallMaySweep : Contents → ℕ → Call → ℕ → Type 0
 CallMaySweep c slot (Alloc d n kind) p = Unit {0}
@@ -54,20 +58,24 @@ MaySweep c _ p = ⊥
 
 -- A call of a mutator is a step of the heap. It leaves the phase and the count as they are, and the work of the marker too,
 -- but for its own part of it: no object that is there before and after is newly marked or loses its mark, an object that
--- comes while a cycle is marking is marked, and of the pages exactly the one that it has stored to becomes dirty, while a
--- cycle is marking. No page becomes pending, few calls sweep, and an allocation for which there was no place has left none
--- pending. The forgotten objects are those of before whose pages are still pending. Unless it reaches the pages it changes
--- nothing but the roots.
+-- comes while a cycle is marking is marked, and while none is what is marked was there and was marked. Of the pages exactly
+-- the one that it has stored to becomes dirty. Exactly a free that was done makes that a full cycle is needed. No page
+-- becomes pending, few calls sweep, and an allocation for which there was no place has left none pending. The forgotten
+-- objects are those of before whose pages are still pending. Unless it reaches the pages it changes nothing but the roots.
 pub record IsCall (old : Contents) (event : Event) (reply : Reply) (new : Contents) : Type 0 where
   pub steps : IsStep (StandsFor old) event reply (StandsFor new)
   pub phase : new.cycle.is_marking ≡ old.cycle.is_marking
   pub count : new.cycle.count ≡ old.cycle.count
+  pub freed : Frees event reply → new.cycle.needs_full ≡ true
+  pub needs_full : (Frees event reply → ⊥) → new.cycle.needs_full ≡ old.cycle.needs_full
   pub marks : (f : Found) → objects_of new f.base ≡ Some f → IsMarked new.cycle.marking f.base → IsMarked old.cycle.marking f.base ⊎ (objects_of old f.base ≡ None)
   pub stays : (f : Found) → objects_of new f.base ≡ Some f → IsMarked old.cycle.marking f.base → IsMarked new.cycle.marking f.base
   pub came : old.cycle.is_marking ≡ true → (f : Found) → objects_of new f.base ≡ Some f → objects_of old f.base ≡ None → IsMarked new.cycle.marking f.base
+  pub idle : old.cycle.is_marking ≡ false → (f : Found) → objects_of new f.base ≡ Some f → IsMarked new.cycle.marking f.base → (objects_of old f.base ≡ Some f) × IsMarked old.cycle.marking f.base
   pub dirty : (p : ℕ) → Has new.cycle.marking.dirty p → Has old.cycle.marking.dirty p ⊎ MakesDirty old event reply p
   pub written : (p : ℕ) → MakesDirty old event reply p → Has new.cycle.marking.dirty p
   pub stays_dirty : (p : ℕ) → Has old.cycle.marking.dirty p → Has new.cycle.marking.dirty p
+  pub carried : new.cycle.marking.carried ≡ old.cycle.marking.carried
   pub current : new.cycle.marking.current ≡ old.cycle.marking.current
   pub stack : new.cycle.marking.stack ≡ old.cycle.marking.stack
   pub fewer : (p : ℕ) → Has new.store.pending p → Has old.store.pending p

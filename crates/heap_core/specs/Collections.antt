@@ -2,7 +2,7 @@
 use Rattle.std.specs.Prelude.{◌≡◌, ℕ, ◌+◌, ◌%◌, ◌<◌, ◌≤◌, Bool, true, false, List, [], length, count_by, Contains, Some, Result, Ok, Err, if◌then◌else◌}
 use Rattle.words.specs.Bits.{Has}
 use Rattle.words.specs.declared.refusal.Refusal.{Refusal}
-use Rattle.words.specs.declared.refusal.Refusal.TheVariants.{WrongPhase}
+use Rattle.words.specs.declared.refusal.Refusal.TheVariants.{WrongPhase, NeedsFull}
 use Rattle.heap_spec.specs.declared.reply.Reply.{Reply}
 use Rattle.heap_spec.specs.declared.reply.Reply.TheVariants.{Count}
 use Rattle.heap_spec.specs.Layout.{word_end}
@@ -15,6 +15,7 @@ use Rattle.marker.specs.Invariant.{AreRootsMarked}
 use Rattle.marker.specs.Growth.{MarksWords, Traces}
 use Rattle.marker.specs.Entries.{Takes, TakesOff}
 use Rattle.marker.specs.Retracing.{Retraces}
+use Rattle.marker.specs.Mutations.{BeginsPartial}
 use Rattle.heap_view.specs.Shows.{IsMarkedBirth}
 use Rattle.roots.specs.Roots.{root_words_of}
 use Rattle.object_space.specs.Store.{IsSwept}
@@ -35,13 +36,36 @@ abbrev pub IsAlwaysGranted : {A : Type 0} → Result A Refusal → (A → Type 0
 IsAlwaysGranted (Ok x) P = P x
 IsAlwaysGranted (Err refusal) P = ⊥
 
--- A cycle begins: the core is marking, with no mark, no dirty page, no entry, and no pending page.
+-- A cycle begins: the core is marking, with no mark, no dirty or carried page, no entry, and no pending page, and no full cycle
+-- is needed after it.
 pub record BeginsCycle (old new : Contents) : Type 0 where
   pub stands : (s : Heap) → StandsFor old s → StandsFor new s
   pub roots : new.roots ≡ old.roots
   pub phase : new.cycle.is_marking ≡ true
   pub count : new.cycle.count ≡ old.cycle.count
+  pub needs_full : new.cycle.needs_full ≡ false
   pub fresh : IsFresh (length old.store.states) new.cycle.marking
+  pub swept : IsSwept new.store
+
+-- Why a cycle may not begin with the marks of the last one: one is marking, or none is and a full one is needed.
+pub data RefusesPartial (old : Contents) : Refusal → Type 0 where
+  wrong_phase : old.cycle.is_marking ≡ true → RefusesPartial old WrongPhase
+  needs : old.cycle.is_marking ≡ false → old.cycle.needs_full ≡ true → RefusesPartial old NeedsFull
+
+-- Granted exactly where neither holds, and refused it changes nothing.
+abbrev pub IsGrantedPartial : {A : Type 0} → Contents → Result A Refusal → Contents → Type 0 → Type 0
+IsGrantedPartial old (Ok x) new P = (old.cycle.is_marking ≡ false) × (old.cycle.needs_full ≡ false) × P
+IsGrantedPartial old (Err refusal) new P = RefusesPartial old refusal × (new ≡ old)
+
+-- A cycle begins with the marks of the last one: the core is marking, the marks and the entries are what they were, dirty are the
+-- pages that were dirty or carried, none is carried, and no page is pending.
+pub record BeginsPartialCycle (old new : Contents) : Type 0 where
+  pub stands : (s : Heap) → StandsFor old s → StandsFor new s
+  pub roots : new.roots ≡ old.roots
+  pub phase : new.cycle.is_marking ≡ true
+  pub count : new.cycle.count ≡ old.cycle.count
+  pub needs_full : new.cycle.needs_full ≡ false
+  pub marking : BeginsPartial old.cycle.marking new.cycle.marking
   pub swept : IsSwept new.store
 
 -- The marker went on, with these roots, and nothing but its work has changed. The core stands for what it stood for, in the
@@ -109,6 +133,7 @@ pub record EndsMarking (old new : Contents) : Type 0 where
 -- swept. The pending pages are then the blocks with an unmarked allocated object.
 pub record EndsCycle (old : Contents) (n : ℕ) (new : Contents) : Type 0 where
   pub ends : EndsMarking old new
+  pub needs_full : new.cycle.needs_full ≡ old.cycle.needs_full
   pub forgets : (s : Heap) → StandsFor old s → (s' : Heap) × ForgetsOutside s (IsMarkedBirth s old.cycle.marking) (Count n) s' × StandsFor new s'
   pub cells : KeepsCells old.store new.store
   pub pending : IsPendingAfter new.store.states new.cycle.marking.marks new.store.pending
@@ -116,6 +141,7 @@ pub record EndsCycle (old : Contents) (n : ℕ) (new : Contents) : Type 0 where
 -- A full collection: exactly the objects that are not reached go, so many, and no page is pending.
 pub record CollectsAll (old : Contents) (n : ℕ) (new : Contents) : Type 0 where
   pub ends : EndsMarking old new
+  pub needs_full : new.cycle.needs_full ≡ false
   pub swept : IsSwept new.store
   pub collects : (s : Heap) → StandsFor old s → (s' : Heap) × CollectsFully s (Count n) s' × StandsFor new s'
 

@@ -1,17 +1,19 @@
 -- What a core contains.
-use Rattle.std.specs.Prelude.{◌≡◌, ℕ, true, Bool, List, length}
+use Rattle.std.specs.Prelude.{◌≡◌, ℕ, true, false, Bool, List, length}
 use Rattle.links.specs.declared.row.Link.{Link}
 use Rattle.roots.specs.Roots.{RootSet}
 use Rattle.marker.specs.Marking.{Marking, AreMarksObjects}
-use Rattle.marker.specs.Invariant.{DirtyPageInvariant}
+use Rattle.marker.specs.Invariant.{DirtyPageInvariant, CarriedPageInvariant}
 use Rattle.block_map.specs.FoundIn.{found_in, IsLawful}
 use Rattle.block_map.specs.States.{IsLaid}
 use Rattle.object_space.specs.Store.{Store, AreEmptyPages, IsPendingRow, HasSoundPages, IsSwept}
 
--- What a core has of the collector: what the marker has, whether a cycle is marking, and the count of collections.
+-- What a core has of the collector: what the marker has, whether a cycle is marking, whether a full cycle is needed before one
+-- may begin with the marks of the last, and the count of collections.
 pub record Cycle : Type 0 where
   pub marking : Marking
   pub is_marking : Bool
+  pub needs_full : Bool
   pub count : ℕ
 
 -- What a core contains. A link names an object by its base.
@@ -22,12 +24,14 @@ pub record Contents : Type 0 where
   pub links : List Link
 
 -- What is true of each core's collector: its marker is one of the store's pages, each mark is that of an allocated object,
--- and while a cycle is marking no page is pending and the dirty-page invariant holds.
+-- while a cycle is marking no page is pending and the dirty-page invariant holds, and where no full cycle is needed the invariant
+-- of carried pages holds, in both phases.
 pub record IsTraced (t : Store) (y : Cycle) : Type 0 where
   pub pages : length y.marking.dirty ≡ length t.states
   pub objects : AreMarksObjects (found_in t.states) y.marking
   pub swept : y.is_marking ≡ true → IsSwept t
   pub invariant : y.is_marking ≡ true → DirtyPageInvariant (found_in t.states) t.words y.marking
+  pub carried : y.needs_full ≡ false → CarriedPageInvariant (found_in t.states) t.words y.marking
 
 -- What is true of every core, whatever calls made it: its map is that of laid-out blocks, with the laws of a map, its free
 -- pages are exactly those on which no allocated object lies, those still to be swept are cut, and it is traced.

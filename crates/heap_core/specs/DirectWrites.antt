@@ -1,6 +1,6 @@
 -- Words that are written past the calls of a core, as by a program in C that has the heap's memory in its own address space:
 -- what such writes may change, and what they are to the heap.
-use Rattle.std.specs.Prelude.{◌≡◌, ℕ, ◌+◌, ◌*◌, ◌%◌, ◌<◌, ◌≤◌, ◌⊎◌, true, Bool, List, All, Some, length, slice_index, slice_set}
+use Rattle.std.specs.Prelude.{◌≡◌, ℕ, ◌+◌, ◌*◌, ◌%◌, ◌<◌, ◌≤◌, ◌⊎◌, true, false, Bool, List, All, Some, length, slice_index, slice_set}
 use Rattle.words.specs.declared.class.Kind.TheVariants.{Normal}
 use Rattle.words.specs.declared.limits.TheConstants.{FIRST_ADDRESS, REGISTERS, WORD_BYTES}
 use Rattle.words.specs.Bits.{Has}
@@ -16,8 +16,8 @@ use Rattle.heap_spec.specs.Steps.{with_object}
 use Rattle.pages.specs.Memory.{IsWordAddress, word_at, with_word_at}
 use Rattle.block_map.specs.declared.found.Found.{Found}
 use Rattle.block_map.specs.FoundIn.{found_in}
-use Rattle.marker.specs.Invariant.{IsTargetMarked}
-use Rattle.marker.specs.Marking.{IsConsistent, StaysDirty, with_dirty}
+use Rattle.marker.specs.Invariant.{IsTargetMarked, IsSettled}
+use Rattle.marker.specs.Marking.{IsConsistent, IsMarked, StaysDirty, with_dirty}
 use Rattle.roots.specs.Roots.{HasMutator, IsNextSlot}
 use Rattle.object_space.specs.Store.{IsWholeStore}
 use Rattle.heap_core.specs.Contents.{Contents, IsCore}
@@ -28,15 +28,16 @@ use Rattle.heap_core.specs.Following.{AreLines, Follows}
 abbrev pub with_memory : Contents → List ℕ → List Bool → Contents
 with_memory c words dirty = record c { store = record c.store { words = words }; cycle = record c.cycle { marking = with_dirty c.cycle.marking dirty } }
 
--- The word at the address is as it was; or the address is one of a kept object, and what stands there is a word. While a cycle
--- is marking its page is then dirty, unless the collector never reads the object's words, or what stands there points into
--- nothing or into a marked object.
+-- The word at the address is as it was; or the address is one of a kept object, and what stands there is a word. Its page is
+-- then dirty, unless the collector never reads the object's words, or needs no more: while a cycle is marking what stands there
+-- points into nothing or into a marked object, and where no full cycle is needed the object has no mark or the word is settled.
 pub data IsLeftOrWritten (old : Contents) (words : List ℕ) (dirty : List Bool) (address : ℕ) : Type 0 where
   left : word_at words address ≡ word_at old.store.words address → IsLeftOrWritten old words dirty address
   written : (f : Found) → objects_of old address ≡ Some f → IsWord (word_at words address) → (old.cycle.is_marking ≡ true → f.kind ≡ Normal → IsTargetMarked (found_in old.store.states) old.cycle.marking (word_at words address) ⊎ Has dirty (page_of address))
+      → (old.cycle.needs_full ≡ false → f.kind ≡ Normal → IsMarked old.cycle.marking f.base → IsSettled (found_in old.store.states) old.cycle.marking address (word_at words address) ⊎ Has dirty (page_of address))
       → IsLeftOrWritten old words dirty address
 
--- Words of kept objects are others, on dirty pages while a cycle is marking and they need it, and pages may have become dirty.
+-- Words of kept objects are others, on dirty pages where they need it, and pages may have become dirty.
 -- Nothing else has changed: no word of a free cell, of a forgotten object or of a free page.
 pub record WritesWords (old new : Contents) : Type 0 where
   pub alone : new ≡ with_memory old new.store.words new.cycle.marking.dirty
@@ -108,14 +109,14 @@ abbrev pub WritesAreVisits : Type 0
 WritesAreVisits = (old new : Contents) (slot : ℕ) → IsWholeCore old → IsNextSlot old.roots slot
     → WritesWords old new → (lines : List Told) × All (IsVisitLine slot) lines × AreLines old lines new
 
--- An address was told: while a cycle is marking its page is dirty, if the heap has it, and no other page has become so. This is
+-- An address was told: its page is dirty, if the heap has it, and no other page has become so. This is
 -- no event: the core stands for what it stood for and follows the runs that it followed, and nothing else has changed.
 pub record TellsWritten (address : ℕ) (old new : Contents) : Type 0 where
   pub alone : new ≡ with_memory old old.store.words new.cycle.marking.dirty
   pub dirty_len : length new.cycle.marking.dirty ≡ length old.cycle.marking.dirty
-  pub dirty : (p : ℕ) → Has new.cycle.marking.dirty p → Has old.cycle.marking.dirty p ⊎ ((old.cycle.is_marking ≡ true) × (p ≡ page_of address))
+  pub dirty : (p : ℕ) → Has new.cycle.marking.dirty p → Has old.cycle.marking.dirty p ⊎ (p ≡ page_of address)
   pub stays_dirty : StaysDirty old.cycle.marking new.cycle.marking
-  pub written : old.cycle.is_marking ≡ true → FIRST_ADDRESS ≤ address → page_of address < length old.store.states → Has new.cycle.marking.dirty (page_of address)
+  pub written : FIRST_ADDRESS ≤ address → page_of address < length old.store.states → Has new.cycle.marking.dirty (page_of address)
   pub stands : (s : Heap) → StandsFor old s → StandsFor new s
   pub follows : (start : Start) (run : Run) → Follows old start run → Follows new start run
 

@@ -3,6 +3,7 @@ pub mod Standing
 pub mod Opening
 pub mod Beside
 pub mod KeptAt
+pub mod Looks
 pub mod Calls
 pub mod Collections
 pub mod Acts
@@ -10,3 +11,4 @@ pub mod Following
 pub mod AsObject
 pub mod DirectWrites
 pub mod Granted
+pub mod Held

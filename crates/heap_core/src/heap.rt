@@ -12,7 +12,9 @@ mod cycle;
 mod events;
 mod kept;
 mod linked;
+mod looking;
 mod objects;
+mod partial;
 mod registers;
 mod written;
 
@@ -32,6 +34,7 @@ pub struct Core {
     objects: ObjectSpace,
     marker: Marker,
     is_marking: bool,
+    needs_full: bool,
     count: u64,
     links: Links,
     root_words: ArrayVec<u64, ROOT_WORDS>,
@@ -42,9 +45,9 @@ impl Model for Core {
 
     ghost Value = { Contents };
 
-    ghost view = { λ c. record { roots = c.roots; store = c.objects; cycle = record { marking = c.marker; is_marking = c.is_marking; count = c.count }; links = c.links } };
+    ghost view = { λ c. record { roots = c.roots; store = c.objects; cycle = record { marking = c.marker; is_marking = c.is_marking; needs_full = c.needs_full; count = c.count }; links = c.links } };
 
-    ghost invariant = { λ c. IsTraced c.objects (record { marking = c.marker; is_marking = c.is_marking; count = c.count }) };
+    ghost invariant = { λ c. IsTraced c.objects (record { marking = c.marker; is_marking = c.is_marking; needs_full = c.needs_full; count = c.count }) };
 }
 
 impl Core {
@@ -65,6 +68,7 @@ impl Core {
             objects,
             marker,
             is_marking: false,
+            needs_full: true,
             count: 0,
             links: Links::new(),
             root_words: ArrayVec::new(),
@@ -73,7 +77,8 @@ impl Core {
 
     /// What is true of every core, whatever calls made it. Of its pages: free are exactly those on which no allocated
     /// object lies, and the pending ones are cut. Of its collector: each mark is that of an allocated object, and while a
-    /// cycle is marking no page is pending and the dirty-page invariant holds.
+    /// cycle is marking no page is pending and the dirty-page invariant holds. Where no full cycle is needed the invariant of
+    /// carried pages holds.
     #[inline]
     pub fn laws(&self)
         ensures { IsCore self.now }

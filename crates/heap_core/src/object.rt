@@ -32,6 +32,7 @@ impl Object for Core {
             Event::Finish | Event::Collect => Rank::Counted,
             Event::Mutator(_, _)
             | Event::Begin
+            | Event::BeginPartial
             | Event::Roots
             | Event::Mark(_)
             | Event::Retrace

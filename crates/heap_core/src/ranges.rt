@@ -60,6 +60,7 @@ pub(crate) fn in_range(event: &Event)
         }
         Event::Attach => {}
         Event::Begin => {}
+        Event::BeginPartial => {}
         Event::Roots => {}
         Event::Retrace => {}
         Event::Finish => {}

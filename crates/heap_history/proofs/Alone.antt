@@ -50,7 +50,10 @@ module _ (pages : ℕ) (history : List Entry) (legal : Legal (Opens pages) State
 -- the slot of such a pass is one to which a mutator came
 came_in : (pages : ℕ) (history : List Entry) (pass : HeapPass) → CameIn pages history pass → 1 ≤ firsts_of pass.slot history
 came_in pages history pass c =
-    let begins : begins_with_attach (own rank_of pass.slot pass.seen) ≡ true = sym (ap begins_with_attach c.fine.owned.own_is) ∙ mine_begins pages pass c.fine c.mutator in
+    let begins : begins_with_attach (own rank_of pass.slot pass.seen) ≡ true = ⊎_elim
+    (λ here. sym (ap begins_with_attach here.owned.own_is) ∙ mine_begins pages pass here c.mutator)
+    (λ gone. sym (ap begins_with_attach gone.recalls.own_is) ∙ gone.begins)
+    c.fine in
     let had = own_came pass.slot pass.seen begins in
     let more = firsts_more pass.slot pass.seen c.within.0 in
     let whole = ap (firsts_of pass.slot) c.within.1 in

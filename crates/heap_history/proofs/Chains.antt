@@ -7,12 +7,12 @@ use Rattle.history.proofs.Snocs.{count_snoc}
 use Rattle.heap_spec.specs.declared.call.Call.{Call}
 use Rattle.heap_spec.specs.declared.call.Call.TheVariants.{Detach}
 use Rattle.heap_spec.specs.declared.event.Event.{Event}
-use Rattle.heap_spec.specs.declared.event.Event.TheVariants.{Attach, Mutator, Begin, Roots, Mark, Retrace, Finish, Sweep, Collect, Number}
+use Rattle.heap_spec.specs.declared.event.Event.TheVariants.{Attach, Mutator, Begin, BeginPartial, Roots, Mark, Retrace, Finish, Sweep, Collect, Number}
 use Rattle.heap_spec.specs.declared.reply.Reply.{Reply}
-use Rattle.heap_spec.specs.Runs.{fresh, heap_after, marking_after, is_marking}
+use Rattle.heap_spec.specs.Runs.{fresh, heap_after, marking_after, is_marking, needs_full_after, needs_full}
 use Rattle.heap_history.specs.Ranks.{rank_of, rank_of_call}
 use Rattle.heap_spec.specs.SequentialObject.{HeapState, heap_of, Opens, StateStep}
-use Rattle.heap_history.specs.Passes.{Entry, HeapPass, IsLegalPass, begins_with_attach, marking_from, is_marking as marks}
+use Rattle.heap_history.specs.Passes.{Entry, HeapPass, IsLegalPass, begins_with_attach, marking_from, is_marking as marks, needs_full_from, needs_full as needs}
 use Rattle.heap_history.proofs.Slots.{is_attached, is_there, step_other, step_here}
 
 step_live : (s u : HeapState) (e : Entry) (who : ℕ) (b : Bool) → who < 16 → StateStep s e.who e.call e.reply u → is_attached (heap_of s) who ≡ b → Dec (e.who ≡ who) → is_attached (heap_of u) who ≡ cond (e.who == who) (not (is_last (rank_of e.call))) b
@@ -45,6 +45,7 @@ step_mutator : (s u : HeapState) (by : ℕ) (event : Event) (reply : Reply) (b :
 step_mutator s u by Attach reply b ne h = refl
 step_mutator s u by (Mutator slot call) reply b ne h = refl
 step_mutator s u by Begin reply b ne h = absurd (ne h.fits)
+step_mutator s u by BeginPartial reply b ne h = absurd (ne h.fits)
 step_mutator s u by Finish reply b ne h = absurd (ne h.fits)
 step_mutator s u by Collect reply b ne h = absurd (ne h.fits)
 step_mutator s u by Roots reply b ne h = absurd h.fits
@@ -58,6 +59,7 @@ pub step_collector : (s u : HeapState) (by : ℕ) (event : Event) (reply : Reply
 step_collector s u by Attach reply e h = let lt = h.fits.0 in absurd (omega arith)
 step_collector s u by (Mutator slot call) reply e h = let lt = h.fits.range in absurd (omega arith)
 step_collector s u by Begin reply e h = refl
+step_collector s u by BeginPartial reply e h = refl
 step_collector s u by Finish reply e h = refl
 step_collector s u by Collect reply e h = refl
 step_collector s u by Roots reply e h = absurd h.fits
@@ -95,6 +97,7 @@ step_weight : (s u : HeapState) (by : ℕ) (event : Event) (reply : Reply) → b
 step_weight s u by Attach reply ne h = refl
 step_weight s u by (Mutator slot call) reply ne h = call_weight call
 step_weight s u by Begin reply ne h = refl
+step_weight s u by BeginPartial reply ne h = refl
 step_weight s u by Finish reply ne h = absurd (ne h.fits)
 step_weight s u by Collect reply ne h = absurd (ne h.fits)
 step_weight s u by Roots reply ne h = refl
@@ -139,6 +142,7 @@ own_begins s u who (Mutator slot call) reply mine lt h before =
     let more = begins_more mine (event who (Mutator slot call) reply) (before (ap is_there h.fits.attached)) in
     ap (λ (b : Bool). begins_with_attach (cond b (event who (Mutator slot call) reply ∷ []) (mine ++ event who (Mutator slot call) reply ∷ []))) (call_between call) ∙ more
 own_begins s u who Begin reply mine lt h before = absurd (omega (arith, h.fits))
+own_begins s u who BeginPartial reply mine lt h before = absurd (omega (arith, h.fits))
 own_begins s u who Finish reply mine lt h before = absurd (omega (arith, h.fits))
 own_begins s u who Collect reply mine lt h before = absurd (omega (arith, h.fits))
 own_begins s u who Roots reply mine lt h before = absurd h.fits
@@ -168,3 +172,13 @@ mine_begins pages pass fine lt =
     ap begins_with_attach fine.owned.own_is
     ∙ walks_begins r.0 fine.legal.0 pass.seen [] pass.slot lt r.2 (λ is. absurd (true≢false (sym is ∙ none_at_first r.0 pass.slot r.1.nothing)))
     (attached_live pass.seen fine.legal.0 pass.slot lt r ∙ fine.owned.live)
+
+-- the need of a full cycle goes by all events
+walks_need : (s t : HeapState) (log : List Entry) (b : Bool) → Walks StateStep s log t → needs_full (fresh s.pages) s.run ≡ b → needs_full (fresh t.pages) t.run ≡ needs_full_from b log
+walks_need s t [] b w is = ap (λ (x : HeapState). needs_full (fresh x.pages) x.run) (sym w) ∙ is
+walks_need s t (e ∷ es) b w is =
+    walks_need w.0 t es (needs_full_after e.call e.reply b) w.2
+    (ap (λ (x : HeapState). needs_full (fresh x.pages) x.run) w.1.goes ∙ ap (needs_full_after e.call e.reply) is)
+
+pub need_is : {pages : ℕ} → (log : List Entry) (t : HeapState) → Reaches (Opens pages) StateStep log t → needs_full (fresh t.pages) t.run ≡ needs log
+need_is {pages = pages} log t r = walks_need r.0 t log true r.2 (ap (needs_full (fresh r.0.pages)) r.1.nothing)

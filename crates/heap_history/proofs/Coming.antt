@@ -8,7 +8,7 @@ use Rattle.std.proofs.lemmas.Map.Keys.{IsDistinct-cons, IsDistinct-head, IsDisti
 use Rattle.std.proofs.lemmas.List.Elements.{All-nil, All-cons}
 use Rattle.history.specs.Histories.{begins, is_first, own_with, own_from, own, Walks}
 use Rattle.heap_spec.specs.declared.event.Event.{Event}
-use Rattle.heap_spec.specs.declared.event.Event.TheVariants.{Attach, Mutator, Begin, Roots, Mark, Retrace, Finish, Sweep, Collect, Number}
+use Rattle.heap_spec.specs.declared.event.Event.TheVariants.{Attach, Mutator, Begin, BeginPartial, Roots, Mark, Retrace, Finish, Sweep, Collect, Number}
 use Rattle.heap_spec.specs.declared.reply.Reply.{Reply}
 use Rattle.heap_spec.specs.SequentialObject.{HeapState, heap_of, StateStep}
 use Rattle.heap_history.specs.Ranks.{rank_of}
@@ -159,6 +159,7 @@ vacant_first : (s u : HeapState) (who : ℕ) (asked : Event) (reply : Reply) →
 vacant_first s u who Attach reply lt h none = refl
 vacant_first s u who (Mutator slot call) reply lt h none = absurd (true≢false (sym (ap is_there h.fits.attached) ∙ none))
 vacant_first s u who Begin reply lt h none = absurd (omega (arith, h.fits, lt))
+vacant_first s u who BeginPartial reply lt h none = absurd (omega (arith, h.fits, lt))
 vacant_first s u who Finish reply lt h none = absurd (omega (arith, h.fits, lt))
 vacant_first s u who Collect reply lt h none = absurd (omega (arith, h.fits, lt))
 vacant_first s u who Roots reply lt h none = absurd h.fits
@@ -224,6 +225,7 @@ pub step_who : (s u : HeapState) (who : ℕ) (asked : Event) (reply : Reply) →
 step_who s u who Attach reply h = inl h.fits.0
 step_who s u who (Mutator slot call) reply h = inl h.fits.range
 step_who s u who Begin reply h = inr h.fits
+step_who s u who BeginPartial reply h = inr h.fits
 step_who s u who Finish reply h = inr h.fits
 step_who s u who Collect reply h = inr h.fits
 step_who s u who Roots reply h = absurd h.fits

@@ -12,7 +12,7 @@ use Rattle.words.specs.declared.class.Placement.TheVariants.{Small, Large}
 use Rattle.history.specs.Histories.{AreOfOthers, Walks}
 use Rattle.heap_spec.specs.declared.call.Call.{Call}
 use Rattle.heap_spec.specs.declared.event.Event.{Event}
-use Rattle.heap_spec.specs.declared.event.Event.TheVariants.{Attach, Mutator, Begin, Roots, Mark, Retrace, Finish, Sweep, Collect, Number}
+use Rattle.heap_spec.specs.declared.event.Event.TheVariants.{Attach, Mutator, Begin, BeginPartial, Roots, Mark, Retrace, Finish, Sweep, Collect, Number}
 use Rattle.heap_spec.specs.declared.reply.Reply.{Reply}
 use Rattle.heap_spec.specs.Heap.{Heap, Object, Mutator as HeapMutator, IsSameObject, HasObject, IsAttached, words_of}
 use Rattle.heap_spec.specs.Room.{HasRoom}
@@ -83,6 +83,7 @@ heap_stays : (s t : HeapState) (by : ℕ) (event : Event) (reply : Reply) (h : S
 heap_stays s t by Attach reply h sound free base o has reached = attaches_stay (heap_of s) h.happens base o has
 heap_stays s t by (Mutator slot call) reply h sound free base o has reached = calls_stay (heap_of s) slot sound h.happens free base o has
 heap_stays s t by Begin reply h sound free base o has reached = (o, ap (λ (x : Heap). x.objects base) h.happens.1.1 ∙ has, same_object o)
+heap_stays s t by BeginPartial reply h sound free base o has reached = (o, ap (λ (x : Heap). x.objects base) h.happens.2.1 ∙ has, same_object o)
 heap_stays s t by Finish reply h sound free base o has reached = (keeps_reached _ _ _ _ h.happens.1.takes).stays base o has reached
 heap_stays s t by Collect reply h sound free base o has reached = (keeps_reached _ _ _ _ h.happens.takes).stays base o has reached
 heap_stays s t by Roots reply h sound free base o has reached = absurd h.fits

@@ -8,7 +8,7 @@ use Rattle.words.specs.declared.class.Kind.TheVariants.{Normal, PointerFree}
 use Rattle.heap_spec.specs.declared.call.Call.{Call}
 use Rattle.heap_spec.specs.declared.call.Call.TheVariants.{Detach, Set, Copy, Add, Sub, Get, Push, Pop, Load, Store, Alloc, Free, Base, Size, GlobalGet, GlobalPut, Link, Unlink}
 use Rattle.heap_spec.specs.declared.event.Event.{Event}
-use Rattle.heap_spec.specs.declared.event.Event.TheVariants.{Attach, Mutator, Begin, Roots, Mark, Retrace, Finish, Sweep, Collect, Number}
+use Rattle.heap_spec.specs.declared.event.Event.TheVariants.{Attach, Mutator, Begin, BeginPartial, Roots, Mark, Retrace, Finish, Sweep, Collect, Number}
 use Rattle.heap_spec.specs.declared.reply.Reply.{Reply}
 use Rattle.heap_spec.specs.declared.reply.Reply.TheVariants.{Slot, Done, Word, Count, Refused}
 use Rattle.heap_history.specs.Laws.{LeavesRegister, LeavesWordsCall, LeavesWords}
@@ -123,6 +123,7 @@ pub sorted : (known : ℕ → Content) (asked : Event) → KeepsToOwn known aske
 sorted known Attach keeps = inl tt
 sorted known (Mutator slot call) keeps = call_sorted known slot call keeps
 sorted known Begin keeps = inl tt
+sorted known BeginPartial keeps = inl tt
 sorted known Roots keeps = inl tt
 sorted known (Mark n) keeps = inl tt
 sorted known Retrace keeps = inl tt

@@ -12,6 +12,8 @@ pub mod Loaded
 pub mod Owning
 pub mod OwnWords
 pub mod Coming
+pub mod Gone
+pub mod OwnRegisters
 pub mod Alone
 pub mod Others
 pub mod KnownRegisters

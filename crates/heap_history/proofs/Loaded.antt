@@ -9,7 +9,7 @@ use Rattle.history.specs.Histories.{event, AreOfOthers, Walks, Legal}
 use Rattle.heap_spec.specs.declared.call.Call.{Call}
 use Rattle.heap_spec.specs.declared.call.Call.TheVariants.{Set, Load, Store}
 use Rattle.heap_spec.specs.declared.event.Event.{Event}
-use Rattle.heap_spec.specs.declared.event.Event.TheVariants.{Attach, Mutator, Begin, Roots, Mark, Retrace, Finish, Sweep, Collect, Number}
+use Rattle.heap_spec.specs.declared.event.Event.TheVariants.{Attach, Mutator, Begin, BeginPartial, Roots, Mark, Retrace, Finish, Sweep, Collect, Number}
 use Rattle.heap_spec.specs.declared.reply.Reply.{Reply}
 use Rattle.heap_spec.specs.declared.reply.Reply.TheVariants.{Done, Word}
 use Rattle.heap_spec.specs.Layout.{index_in}
@@ -95,11 +95,11 @@ acts_leave s slot m h (Acts.allocated {n = n} {kind = kind} {place = place} a e 
 acts_leave s slot m h (Acts.freed gone) left base o has = absurd left
 acts_leave s slot m h _ left base o has = has
 
-calls_leave : (s : Heap) (slot : ℕ) → IsSound s → {call : Call} {reply : Reply} {s' : Heap} → Calls s slot call reply s' → LeavesWordsCall call → (base : ℕ) (o : Object) → HasObject s base o → HasObject s' base o
+pub calls_leave : (s : Heap) (slot : ℕ) → IsSound s → {call : Call} {reply : Reply} {s' : Heap} → Calls s slot call reply s' → LeavesWordsCall call → (base : ℕ) (o : Object) → HasObject s base o → HasObject s' base o
 calls_leave s slot h (Calls.acts {m = m} at act) left base o has = acts_leave s slot m h act left base o has
 calls_leave s slot h (Calls.vacant none) left base o has = has
 
-attaches_leave : (s : Heap) {reply : Reply} {s' : Heap} → Attaches s reply s' → (base : ℕ) (o : Object) → HasObject s base o → HasObject s' base o
+pub attaches_leave : (s : Heap) {reply : Reply} {s' : Heap} → Attaches s reply s' → (base : ℕ) (o : Object) → HasObject s base o → HasObject s' base o
 attaches_leave s (Attaches.attached lowest) base o has = has
 attaches_leave s (Attaches.no_slot none) base o has = has
 
@@ -127,7 +127,7 @@ no_link s h bases base o has kind a reads = list_any_none (λ l. (l.address == a
         (cases_eq l.address a)
 
 -- so a collection leaves what is reached and Normal as it is
-takes_leave : (s : Heap) → IsSound s → (bases : List ℕ) (reply : Reply) (s' : Heap) → TakesOut s bases reply s' → (base : ℕ) (o : Object) → HasObject s base o → Reached s base → o.kind ≡ Normal → HasObject s' base o
+pub takes_leave : (s : Heap) → IsSound s → (bases : List ℕ) (reply : Reply) (s' : Heap) → TakesOut s bases reply s' → (base : ℕ) (o : Object) → HasObject s base o → Reached s base → o.kind ≡ Normal → HasObject s' base o
 takes_leave s h bases reply s' takes base o has r kind =
     ap (λ (x : Heap). x.objects base) takes.after
     ∙ stays_by s bases base o has (λ among. All-contains (λ b. Reached s b → ⊥) bases base takes.unreached among r)
@@ -139,6 +139,7 @@ pub step_leaves : (s t : HeapState) (by : ℕ) (event : Event) (reply : Reply) (
 step_leaves s t by Attach reply h sound left base o safe has = attaches_leave (heap_of s) h.happens base o has
 step_leaves s t by (Mutator slot call) reply h sound left base o safe has = calls_leave (heap_of s) slot sound h.happens left base o has
 step_leaves s t by Begin reply h sound left base o safe has = ap (λ (x : Heap). x.objects base) h.happens.1.1 ∙ has
+step_leaves s t by BeginPartial reply h sound left base o safe has = ap (λ (x : Heap). x.objects base) h.happens.2.1 ∙ has
 step_leaves s t by Finish reply h sound left base o safe has = ⊎_elim (λ none. absurd none) (λ r. takes_leave _ sound _ _ _ h.happens.1.takes base o has r.0 r.1) safe
 step_leaves s t by Collect reply h sound left base o safe has = ⊎_elim (λ none. absurd none) (λ r. takes_leave _ sound _ _ _ h.happens.takes base o has r.0 r.1) safe
 step_leaves s t by Roots reply h sound left base o safe has = absurd h.fits

@@ -8,13 +8,14 @@ use Rattle.history.specs.Histories.{event, own, AreOfOthers, Walks, Legal}
 use Rattle.heap_spec.specs.declared.call.Call.{Call}
 use Rattle.heap_spec.specs.declared.call.Call.TheVariants.{Detach, Set, Copy, Add, Sub, Get, Push, Pop, Load, Store, Alloc, Free, Base, Size, GlobalGet, GlobalPut, Link, Unlink}
 use Rattle.heap_spec.specs.declared.event.Event.{Event}
-use Rattle.heap_spec.specs.declared.event.Event.TheVariants.{Attach, Mutator, Begin, Roots, Mark, Retrace, Finish, Sweep, Collect, Number}
+use Rattle.heap_spec.specs.declared.event.Event.TheVariants.{Attach, Mutator, Begin, BeginPartial, Roots, Mark, Retrace, Finish, Sweep, Collect, Number}
 use Rattle.heap_spec.specs.declared.reply.Reply.{Reply}
 use Rattle.heap_spec.specs.SequentialObject.{HeapState, Opens, StateStep}
 use Rattle.heap_history.specs.Ranks.{rank_of}
 use Rattle.heap_history.specs.Passes.{Entry, HeapPass}
 use Rattle.heap_history.specs.Headline.{Looks, Makes}
 use Rattle.heap_history.specs.Alone.{all_of, slots_of, AreAlone}
+use Rattle.heap_history.proofs.Gone.{known_mine}
 use Rattle.heap_history.specs.Laws.{IsNoFreeCall, IsNoFree, LeavesWordsCall, LeavesWords, LeftWords, MakesAfterNoWrite, MakesAfterNoFree}
 
 -- what holds of all that a test keeps holds where it is passed
@@ -42,6 +43,7 @@ step_leaves : (s u : HeapState) (who : ℕ) (asked : Event) (reply : Reply) → 
 step_leaves s u who Attach reply h is = tt
 step_leaves s u who (Mutator slot call) reply h is = let lt = h.fits.range in absurd (omega (arith, lt, is))
 step_leaves s u who Begin reply h is = tt
+step_leaves s u who BeginPartial reply h is = tt
 step_leaves s u who Finish reply h is = tt
 step_leaves s u who Collect reply h is = tt
 step_leaves s u who Roots reply h is = tt
@@ -78,6 +80,7 @@ event_frees : (asked : Event) → LeavesWords asked → IsNoFree asked
 event_frees Attach l = tt
 event_frees (Mutator slot call) l = call_frees call l
 event_frees Begin l = tt
+event_frees BeginPartial l = tt
 event_frees Finish l = tt
 event_frees Collect l = tt
 event_frees Roots l = tt
@@ -102,7 +105,7 @@ module _ (pages : ℕ) (history : List Entry) (legal : Legal (Opens pages) State
       let by = All-contains Other (me ∷ slots_of others) slot each_other among ne in
       let p = by.0 in
       let all : own rank_of slot history ≡ all_of slot history = All-contains (λ s. own rank_of s history ≡ all_of s history) (me ∷ slots_of others) slot alone.lives among in
-      let mine : p.mine ≡ all_of slot history = by.1.fine.owned.own_is ∙ ((λ j. own rank_of (by.2 j) (by.1.seen j)) ∙ all) in
+      let mine = known_mine pages history legal p slot by.2 all by.1.known in
       unfilter (λ (e : Entry). LeavesWords e.call) (λ (e : Entry). e.who == slot) history (subst (λ (l : List Entry). All (λ (e : Entry). LeavesWords e.call) l) mine by.1.left) k d lt (eq-eqb _ slot is)
 
   pub others_left : All (λ (e : Entry). e.who ≢ me → LeavesWords e.call) history

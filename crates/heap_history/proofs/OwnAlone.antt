@@ -1,5 +1,5 @@
 -- Where all that had a part in a history are known and keep to their own objects, each is answered as it is known.
-use Rattle.std.proofs.Common.{◌≡◌, ◌≢◌, ℕ, ◌<◌, Bool, false, cond, List, [], ◌∷◌, refl, sym, ap, ◌∙◌, subst, arith, true≢false, eq-eqb, ne_eqb, ⊎_elim}
+use Rattle.std.proofs.Common.{◌≡◌, ◌≢◌, ℕ, ◌<◌, false, List, [], ◌∷◌, refl, sym, ◌∙◌, subst, arith, true≢false, eq-eqb, ⊎_elim}
 use Rattle.std.specs.Prelude.{All, Contains, nat_eq, slice_index_or}
 use Rattle.std.proofs.lemmas.List.Elements.{All-nil, All-cons, All-head, All-tail, All-map, All-weaker, All-contains, All-contains_itself, All-from_recursion}
 use Rattle.history.specs.Histories.{own, Legal}
@@ -10,14 +10,9 @@ use Rattle.heap_history.specs.Alone.{all_of, slots_of, AreAlone}
 use Rattle.heap_history.specs.Laws.{KeptToOwn}
 use Rattle.heap_history.specs.OwnObjects.{unknown, nothing_known, AllKeepToOwn, AreAsKnown}
 use Rattle.heap_history.proofs.Alone.{one_or_none}
+use Rattle.heap_history.proofs.Gone.{none_of, known_mine}
 use Rattle.heap_history.proofs.Stored.{reached_fresh}
 use Rattle.heap_history.proofs.Privacy.{Private, walks_as_known}
-
--- a slot that made no event
-none_of : (x : ℕ) (es : List Entry) → All (λ (e : Entry). e.who ≢ x) es → all_of x es ≡ []
-none_of x [] none = refl
-none_of x (e ∷ es) none =
-    ap (λ (b : Bool). cond b (e ∷ all_of x es) (all_of x es)) (ne_eqb e.who x (All-head (λ (y : Entry). y.who ≢ x) e es none)) ∙ none_of x es (All-tail (λ (y : Entry). y.who ≢ x) e es none)
 
 -- what holds of each slot holds of each pass's
 each_slot : (P : ℕ → Type 0) (passes : List HeapPass) → All P (slots_of passes) → All (λ (p : HeapPass). P p.slot) passes
@@ -34,7 +29,7 @@ module _ (pages : ℕ) (history : List Entry) (passes : List HeapPass) (legal : 
 
   mine_is : (p : HeapPass) → KeptToOwn pages history p → (slot : ℕ) → p.slot ≡ slot → Contains (slots_of passes) slot → p.mine ≡ all_of slot history
   mine_is p k slot is among =
-      k.fine.owned.own_is ∙ ((λ j. own rank_of (is j) (k.seen j)) ∙ All-contains (λ s. own rank_of s history ≡ all_of s history) (slots_of passes) slot alone.lives among)
+      known_mine pages history legal p slot is (All-contains (λ s. own rank_of s history ≡ all_of s history) (slots_of passes) slot alone.lives among) k.known
 
   slot_keeps : (x : ℕ) → x < 16 → AllKeepToOwn nothing_known (all_of x history)
   slot_keeps x lt = ⊎_elim

@@ -4,7 +4,6 @@ use Rattle.std.specs.Prelude.{Some, All, slice_set}
 use Rattle.std.proofs.Math.Nat.{mod-eq_of_lt}
 use Rattle.std.proofs.lemmas.Option.{slice_get_within, same_Some}
 use Rattle.std.proofs.lemmas.List.{length-set, get_or-set_other}
-use Rattle.words.specs.declared.class.Kind.{Kind}
 use Rattle.words.specs.declared.class.Kind.TheVariants.{Normal}
 use Rattle.history.specs.Histories.{AreOfOthers, Walks}
 use Rattle.heap_spec.specs.declared.call.Call.TheVariants.{Set, Load, Store, Alloc}

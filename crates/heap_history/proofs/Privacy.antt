@@ -8,7 +8,7 @@ use Rattle.history.specs.Histories.{Walks}
 use Rattle.heap_spec.specs.declared.call.Call.{Call}
 use Rattle.heap_spec.specs.declared.call.Call.TheVariants.{Set, Store, Alloc}
 use Rattle.heap_spec.specs.declared.event.Event.{Event}
-use Rattle.heap_spec.specs.declared.event.Event.TheVariants.{Attach, Mutator, Begin, Roots, Mark, Retrace, Finish, Sweep, Collect, Number}
+use Rattle.heap_spec.specs.declared.event.Event.TheVariants.{Attach, Mutator, Begin, BeginPartial, Roots, Mark, Retrace, Finish, Sweep, Collect, Number}
 use Rattle.heap_spec.specs.declared.reply.Reply.{Reply}
 use Rattle.heap_spec.specs.declared.reply.Reply.TheVariants.{Done}
 use Rattle.heap_spec.specs.Heap.{Heap, Object, Mutator as HeapMutator, HasObject, IsAttached}
@@ -208,6 +208,7 @@ module _ (s t : HeapState) (who : ℕ) (reply : Reply) (sound : IsSound (heap_of
   own_outcome Attach h keeps lt d m at = nothing_of (heap_of s) (heap_of t) known who 0 who d m unknown refl
   own_outcome (Mutator slot call) h keeps lt d m at = call_is slot call h keeps d m at (told (known who) call reply d keeps)
   own_outcome Begin h keeps lt d m at = absurd (omega (arith, h.fits, lt))
+  own_outcome BeginPartial h keeps lt d m at = absurd (omega (arith, h.fits, lt))
   own_outcome Finish h keeps lt d m at = absurd (omega (arith, h.fits, lt))
   own_outcome Collect h keeps lt d m at = absurd (omega (arith, h.fits, lt))
   own_outcome Roots h keeps lt d m at = absurd h.fits
@@ -235,6 +236,7 @@ module _ (s t : HeapState) (who : ℕ) (reply : Reply) (sound : IsSound (heap_of
       let there : IsAttached (heap_of s) slot h.fits.mutator = ap (λ (i : ℕ). slice_get (heap_of s).mutators i) (sym h.fits.own) ∙ h.fits.attached in
       call_as_known (heap_of s) sound slot h.fits.mutator (known who) there (λ d. p.as_known who d h.fits.mutator h.fits.range h.fits.attached) call h.happens
   step_as_known Begin h lt = tt
+  step_as_known BeginPartial h lt = tt
   step_as_known Finish h lt = tt
   step_as_known Collect h lt = tt
   step_as_known Roots h lt = tt
@@ -248,6 +250,7 @@ collector_keeps : (s u : HeapState) (who : ℕ) (known : ℕ → Content) (asked
 collector_keeps s u who known Attach reply h is = tt
 collector_keeps s u who known (Mutator slot call) reply h is = let lt = h.fits.range in absurd (omega (arith, lt, is))
 collector_keeps s u who known Begin reply h is = tt
+collector_keeps s u who known BeginPartial reply h is = tt
 collector_keeps s u who known Finish reply h is = tt
 collector_keeps s u who known Collect reply h is = tt
 collector_keeps s u who known Roots reply h is = tt

@@ -7,7 +7,7 @@ use Rattle.std.proofs.lemmas.Bool.{cases_order, true≢false}
 use Rattle.history.specs.Histories.{is_last}
 use Rattle.heap_spec.specs.declared.call.Call.{Call}
 use Rattle.heap_spec.specs.declared.event.Event.{Event}
-use Rattle.heap_spec.specs.declared.event.Event.TheVariants.{Attach, Mutator, Begin, Roots, Mark, Retrace, Finish, Sweep, Collect, Number}
+use Rattle.heap_spec.specs.declared.event.Event.TheVariants.{Attach, Mutator, Begin, BeginPartial, Roots, Mark, Retrace, Finish, Sweep, Collect, Number}
 use Rattle.heap_spec.specs.declared.reply.Reply.{Reply}
 use Rattle.heap_spec.specs.declared.reply.Reply.TheVariants.{Slot}
 use Rattle.heap_spec.specs.Heap.{Heap, Mutator as HeapMutator, IsAttached, IsVacant}
@@ -92,7 +92,7 @@ acts_leave s slot m at lt Acts.unlinked = keeps s _ slot m at refl
 pub not_both : (s : Heap) (slot : ℕ) (m : HeapMutator) → IsAttached s slot m → IsVacant s slot → ⊥
 not_both s slot m at none = none-some m (same_Some None (Some m) (sym none ∙ at))
 
-calls_leave : (s : Heap) (slot : ℕ) (m : HeapMutator) (call : Call) → IsAttached s slot m → {reply : Reply} {s' : Heap} → Calls s slot call reply s' → Leaves s s' slot (not (is_last (rank_of_call call)))
+pub calls_leave : (s : Heap) (slot : ℕ) (m : HeapMutator) (call : Call) → IsAttached s slot m → {reply : Reply} {s' : Heap} → Calls s slot call reply s' → Leaves s s' slot (not (is_last (rank_of_call call)))
 calls_leave s slot m call at (acts {m = k} at' act) = acts_leave s slot k at' (slice_get_within s.mutators slot (Some k) at') act
 calls_leave s slot m call at (vacant none) = absurd (not_both s slot m at none)
 
@@ -115,6 +115,7 @@ event_leaves s t who (Mutator slot call) reply lt h =
     (subst (λ (n : ℕ). Leaves (heap_of s) h.heap n (not (is_last (rank_of_call call)))) (sym h.fits.own)
     (calls_leave (heap_of s) slot h.fits.mutator call (subst (λ (n : ℕ). IsAttached (heap_of s) n h.fits.mutator) h.fits.own h.fits.attached) h.happens))
 event_leaves s t who Begin reply lt h = absurd (omega (arith, h.fits))
+event_leaves s t who BeginPartial reply lt h = absurd (omega (arith, h.fits))
 event_leaves s t who Finish reply lt h = absurd (omega (arith, h.fits))
 event_leaves s t who Collect reply lt h = absurd (omega (arith, h.fits))
 event_leaves s t who Roots reply lt h = absurd h.fits
@@ -128,6 +129,7 @@ pub step_mutators : (s t : HeapState) (by who : ℕ) (event : Event) (reply : Re
 step_mutators s t by who Attach reply ne h = (event_leaves s t by Attach reply h.fits.0 h).else who (λ e. ne (sym e))
 step_mutators s t by who (Mutator slot call) reply ne h = (event_leaves s t by (Mutator slot call) reply h.fits.range h).else who (λ e. ne (sym e))
 step_mutators s t by who Begin reply ne h = ap (λ (x : HeapState). slice_get (heap_of x).mutators who) h.goes ∙ ap (λ (x : Heap). slice_get x.mutators who) h.happens.1.1
+step_mutators s t by who BeginPartial reply ne h = ap (λ (x : HeapState). slice_get (heap_of x).mutators who) h.goes ∙ ap (λ (x : Heap). slice_get x.mutators who) h.happens.2.1
 step_mutators s t by who Finish reply ne h = ap (λ (x : HeapState). slice_get (heap_of x).mutators who) h.goes ∙ ap (λ (x : Heap). slice_get x.mutators who) h.happens.1.takes.after
 step_mutators s t by who Collect reply ne h = ap (λ (x : HeapState). slice_get (heap_of x).mutators who) h.goes ∙ ap (λ (x : Heap). slice_get x.mutators who) h.happens.takes.after
 step_mutators s t by who Roots reply ne h = absurd h.fits

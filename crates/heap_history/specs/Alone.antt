@@ -5,7 +5,7 @@ use Rattle.words.specs.declared.limits.TheConstants.{SLOTS}
 use Rattle.history.specs.declared.object.TheConstants.{COLLECTOR}
 use Rattle.history.specs.Histories.{firsts, own}
 use Rattle.heap_history.specs.Ranks.{rank_of}
-use Rattle.heap_history.specs.Passes.{Entry, HeapPass, IsLegalPass}
+use Rattle.heap_history.specs.Passes.{Entry, HeapPass, IsLegalPass, IsLegalPast, IsOfMutator}
 
 -- How many mutators came. An attach is an event only where it is granted.
 abbrev pub attaches : List Entry → ℕ
@@ -25,8 +25,12 @@ pub record AreAlone (slots : List ℕ) (history : List Entry) : Type 0 where
   pub lives : All (λ slot. own rank_of slot history ≡ all_of slot history) slots
   pub collector : own rank_of COLLECTOR history ≡ all_of COLLECTOR history
 
--- the pass is that of a mutator that came in this history
+-- a mutator came in this history: this is what it has seen of it, or had seen when it left
 pub record CameIn (pages : ℕ) (history : List Entry) (pass : HeapPass) : Type 0 where
   pub mutator : pass.slot < SLOTS
-  pub fine : IsLegalPass pages pass
+  pub fine : IsOfMutator pages pass
   pub within : IsPrefix pass.seen history
+
+-- All that a mutator did in the history is known: it has seen the whole, or had left when it had seen a beginning of it.
+abbrev pub IsKnownWhole : ℕ → List Entry → HeapPass → Type 0
+IsKnownWhole pages history pass = ((pass.seen ≡ history) × IsLegalPass pages pass) ⊎ (IsPrefix pass.seen history × IsLegalPast pages pass)

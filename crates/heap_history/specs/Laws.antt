@@ -18,7 +18,7 @@ use Rattle.words.specs.declared.class.Kind.TheVariants.{Normal}
 use Rattle.heap_history.specs.Ranks.{rank_of}
 use Rattle.heap_history.specs.Passes.{Entry, HeapPass, IsLegalPass, begins_with_attach}
 use Rattle.heap_history.specs.Headline.{Looks, Makes}
-use Rattle.heap_history.specs.Alone.{attaches, slots_of, AreAlone, CameIn}
+use Rattle.heap_history.specs.Alone.{attaches, slots_of, AreAlone, CameIn, IsKnownWhole}
 use Rattle.heap_history.specs.OwnObjects.{nothing_known, AllKeepToOwn, AreAsKnown}
 
 -- what these events tell after those that were told, the newest first
@@ -72,6 +72,10 @@ pub record MakesUndisturbed (pages : ℕ) (old : HeapPass) (call : Call) (reply 
 abbrev pub OwnLoadAnswers : Type 0
 OwnLoadAnswers = (pages a n r d w : ℕ) (reply : Reply) (start set stored loaded : HeapPass)
     → Makes pages start (Set r w) Done set → Makes pages set (Store a n r) Done stored → MakesUndisturbed pages stored (Load d a n) reply loaded → reply ≡ Word w
+
+-- A mutator puts a word into a register. Its next call, if it asks for the register, answers that word, whatever others do between.
+abbrev pub OwnRegisterAnswers : Type 0
+OwnRegisterAnswers = (pages r w : ℕ) (reply : Reply) (start set asked : HeapPass) → Makes pages start (Set r w) Done set → Makes pages set (Get r) reply asked → reply ≡ Word w
 
 -- A call with no free between it and what its caller had seen, whatever else others did.
 pub record MakesAfterNoFree (pages : ℕ) (old : HeapPass) (call : Call) (reply : Reply) (new : HeapPass) : Type 0 where
@@ -139,10 +143,9 @@ abbrev pub NobodyElseCame : Type 0
 NobodyElseCame = (pages : ℕ) (history : List Entry) (passes : List HeapPass) → Legal (Opens pages) StateStep history → IsDistinct nat_eq (slots_of passes) → All (CameIn pages history) passes
     → attaches history ≤ length passes → AreAlone (slots_of passes) history
 
--- Another mutator, which has seen this whole history, stored and freed nothing since it came.
+-- Another mutator, which has seen this whole history or had left, stored and freed nothing since it came.
 pub record LeftWords (pages : ℕ) (history : List Entry) (pass : HeapPass) : Type 0 where
-  pub seen : pass.seen ≡ history
-  pub fine : IsLegalPass pages pass
+  pub known : IsKnownWhole pages history pass
   pub left : All (λ (e : Entry). LeavesWords e.call) pass.mine
 
 -- A call after a look is a call: so a mutator may look, and wait by it, between two calls.
@@ -156,11 +159,10 @@ OthersLeaveWords = (pages : ℕ) (history : List Entry) → Legal (Opens pages) 
     → All (LeftWords pages history) others → (old new : HeapPass) (call : Call) (reply : Reply) → old.slot ≡ me → IsPrefix new.seen history → Makes pages old call reply new
     → MakesAfterNoWrite pages old call reply new × MakesAfterNoFree pages old call reply new
 
--- A mutator, which has seen this whole history, stored in no object but its own Normal ones, and freed none, since it came.
+-- A mutator, which has seen this whole history or had left, stored in no object but its own Normal ones, and freed none, since it came.
 pub record KeptToOwn (pages : ℕ) (history : List Entry) (pass : HeapPass) : Type 0 where
   pub mutator : pass.slot < SLOTS
-  pub seen : pass.seen ≡ history
-  pub fine : IsLegalPass pages pass
+  pub known : IsKnownWhole pages history pass
   pub kept : AllKeepToOwn nothing_known pass.mine
 
 -- Where nobody but these mutators had a part in a history, and each stored in its own Normal objects alone and freed none, what each loads

@@ -5,7 +5,7 @@ use Rattle.words.specs.declared.class.Kind.TheVariants.{Normal}
 use Rattle.heap_spec.specs.declared.call.Call.{Call}
 use Rattle.heap_spec.specs.declared.call.Call.TheVariants.{Detach, Set, Copy, Add, Sub, Get, Push, Pop, Load, Store, Alloc, Free, Base, Size, GlobalGet, GlobalPut, Link, Unlink}
 use Rattle.heap_spec.specs.declared.event.Event.{Event}
-use Rattle.heap_spec.specs.declared.event.Event.TheVariants.{Attach, Mutator}
+use Rattle.heap_spec.specs.declared.event.Event.TheVariants.{Attach, Mutator, Begin, BeginPartial, Roots, Mark, Retrace, Finish, Sweep, Collect, Number}
 use Rattle.heap_spec.specs.declared.reply.Reply.{Reply}
 use Rattle.heap_spec.specs.declared.reply.Reply.TheVariants.{Done, Word}
 use Rattle.heap_history.specs.Passes.{Entry}
@@ -78,7 +78,15 @@ known_after_call known (Unlink a n) reply = known
 abbrev pub known_after : (ℕ → Content) → Event → Reply → ℕ → Content
 known_after known Attach reply = nothing_known
 known_after known (Mutator slot call) reply = known_after_call known call reply
-known_after known _ reply = known
+known_after known Begin reply = known
+known_after known BeginPartial reply = known
+known_after known Roots reply = known
+known_after known (Mark n) reply = known
+known_after known Retrace reply = known
+known_after known Finish reply = known
+known_after known Sweep reply = known
+known_after known Collect reply = known
+known_after known Number reply = known
 
 -- The call stores in no object but the mutator's own Normal ones, and frees none.
 abbrev pub KeepsToOwnCall : (ℕ → Content) → Call → Type 0
@@ -88,7 +96,16 @@ KeepsToOwnCall known _ = Unit {0}
 
 abbrev pub KeepsToOwn : (ℕ → Content) → Event → Type 0
 KeepsToOwn known (Mutator slot call) = KeepsToOwnCall known call
-KeepsToOwn known _ = Unit {0}
+KeepsToOwn known Attach = Unit {0}
+KeepsToOwn known Begin = Unit {0}
+KeepsToOwn known BeginPartial = Unit {0}
+KeepsToOwn known Roots = Unit {0}
+KeepsToOwn known (Mark n) = Unit {0}
+KeepsToOwn known Retrace = Unit {0}
+KeepsToOwn known Finish = Unit {0}
+KeepsToOwn known Sweep = Unit {0}
+KeepsToOwn known Collect = Unit {0}
+KeepsToOwn known Number = Unit {0}
 
 -- and so does each of these events, one after the other
 abbrev pub AllKeepToOwn : (ℕ → Content) → List Entry → Type 0
@@ -103,7 +120,16 @@ IsAsKnownCall known _ reply = Unit {0}
 
 abbrev pub IsAsKnown : (ℕ → Content) → Event → Reply → Type 0
 IsAsKnown known (Mutator slot call) reply = IsAsKnownCall known call reply
-IsAsKnown known _ reply = Unit {0}
+IsAsKnown known Attach reply = Unit {0}
+IsAsKnown known Begin reply = Unit {0}
+IsAsKnown known BeginPartial reply = Unit {0}
+IsAsKnown known Roots reply = Unit {0}
+IsAsKnown known (Mark n) reply = Unit {0}
+IsAsKnown known Retrace reply = Unit {0}
+IsAsKnown known Finish reply = Unit {0}
+IsAsKnown known Sweep reply = Unit {0}
+IsAsKnown known Collect reply = Unit {0}
+IsAsKnown known Number reply = Unit {0}
 
 -- and so is each reply of these events
 abbrev pub AreAsKnown : (ℕ → Content) → List Entry → Type 0

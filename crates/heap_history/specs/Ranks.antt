@@ -4,7 +4,7 @@ use Rattle.history.specs.declared.object.Rank.TheVariants.{First, Plain, Counted
 use Rattle.heap_spec.specs.declared.call.Call.{Call}
 use Rattle.heap_spec.specs.declared.call.Call.TheVariants.{Detach}
 use Rattle.heap_spec.specs.declared.event.Event.{Event}
-use Rattle.heap_spec.specs.declared.event.Event.TheVariants.{Attach, Mutator, Finish, Collect}
+use Rattle.heap_spec.specs.declared.event.Event.TheVariants.{Attach, Mutator, Begin, BeginPartial, Roots, Mark, Retrace, Finish, Sweep, Collect, Number}
 
 -- a mutator's calls end with its detach
 abbrev pub rank_of_call : Call → Rank
@@ -15,6 +15,12 @@ rank_of_call _ = Plain
 abbrev pub rank_of : Event → Rank
 rank_of Attach = First
 rank_of (Mutator slot call) = rank_of_call call
+rank_of Begin = Plain
+rank_of BeginPartial = Plain
+rank_of Roots = Plain
+rank_of (Mark n) = Plain
+rank_of Retrace = Plain
 rank_of Finish = Counted
+rank_of Sweep = Plain
 rank_of Collect = Counted
-rank_of _ = Plain
+rank_of Number = Plain

@@ -1,5 +1,5 @@
 //! What follows from the headline for a caller, whatever others do. Each law is a function that does nothing, and its contract is the law.
-ghost use Rattle.heap_history.specs.Laws.{SeenIsLegal, OwnLoadAnswers, OwnObjectStays, OwnWordStays, OwnObjectsApart, MineBegins, CountGrows, NobodyElseCame, LooksThenMakes, OthersLeaveWords, OwnWordsAsKnown};
+ghost use Rattle.heap_history.specs.Laws.{SeenIsLegal, OwnLoadAnswers, OwnRegisterAnswers, OwnObjectStays, OwnWordStays, OwnObjectsApart, MineBegins, CountGrows, NobodyElseCame, LooksThenMakes, OthersLeaveWords, OwnWordsAsKnown};
 
 /// What a pass has seen is a legal history of the sequential heap.
 pub fn seen_is_legal()
@@ -10,6 +10,11 @@ pub fn seen_is_legal()
 /// between.
 pub fn own_load_answers()
     ensures { OwnLoadAnswers }
+{}
+
+/// A mutator is told the word that it put into a register, whatever others do.
+pub fn own_register_answers()
+    ensures { OwnRegisterAnswers }
 {}
 
 /// The register of a mutator that allocated an object still has the base of an object, while its calls leave the

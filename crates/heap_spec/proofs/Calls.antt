@@ -20,7 +20,7 @@ use Rattle.heap_spec.specs.Cycles.{TakesOut}
 use Rattle.heap_spec.specs.Ranges.{IsWord, CallInRange}
 use Rattle.heap_spec.specs.Sound.{IsSound, IsRow, IsMutator, IsSlot, AreObjects, IsCell, ArePages, LieInHeap, AreLinks, IsLink}
 use Rattle.heap_spec.proofs.Layouts.{AreApart, placed, cell_lies, pages_lie}
-use Rattle.heap_spec.proofs.Objects.{Was, at_cases, with_at-same, with_at-other, same_object, objects_kept, objects_stored, objects_more, object_lies, room_laid, room_apart, no_object_at}
+use Rattle.heap_spec.proofs.Objects.{Was, with_at-same, with_at-other, same_object, objects_kept, objects_stored, objects_more, object_lies, room_laid, room_apart, no_object_at}
 use Rattle.std.specs.Prelude.{◌≢◌}
 use Rattle.std.proofs.lemmas.Bool.{cases_eq}
 use Rattle.std.proofs.lemmas.Option.{same_Some}

@@ -7,4 +7,6 @@ pub mod Runs
 pub mod Loads
 pub mod Outcomes
 pub mod Births
+pub mod Gaining
 pub mod Touching
+pub mod PartialCycles

@@ -1,21 +1,21 @@
 -- What leaves a heap takes its links along.
-use Rattle.std.proofs.Common.{suc, zero, ◌≡◌, ◌≢◌, ℕ, ◌+◌, ◌*◌, ◌%◌, ◌<◌, ◌≤◌, ◌⊎◌, Bool, true, false, List, length, get_or, cond, eqb, [], ◌∷◌, ◌++◌, refl, sym, ap, ◌∙◌, subst, arith, inl, inr, ⊎_elim}
-use Rattle.std.specs.Prelude.{Option, Some, None, option_map, All, AllPairs, Contains, not, ◌&&◌, ◌||◌, ◌==◌, nat_le, nat_lt, if◌then◌else◌, filter, count_by}
+use Rattle.std.proofs.Common.{suc, zero, ◌≡◌, ◌≢◌, ℕ, ◌+◌, ◌*◌, ◌%◌, ◌<◌, ◌≤◌, ◌⊎◌, Bool, true, false, List, length, get_or, cond, [], ◌∷◌, ◌++◌, refl, sym, ap, ◌∙◌, subst, arith, inl, inr, ⊎_elim}
+use Rattle.std.specs.Prelude.{Option, Some, None, option_map, All, AllPairs, Contains, not, ◌||◌, ◌==◌, filter}
 use Rattle.std.specs.List.{list_any}
-use Rattle.std.proofs.lemmas.Bool.{true≢false, eq-eqb, ne_eqb, eqb-true, le-leb, lt-ltb, and_from}
+use Rattle.std.proofs.lemmas.Bool.{true≢false, eq-eqb, le-leb, lt-ltb, and_from}
 use Rattle.std.proofs.lemmas.Option.{same_Some, none-some}
 use Rattle.std.proofs.lemmas.List.{length_push}
-use Rattle.std.proofs.lemmas.List.Elements.{All-filter, filter_passes, All-push, All-nil, All-weaker, All-contains}
+use Rattle.std.proofs.lemmas.List.Elements.{All-filter, filter_passes, All-push, All-weaker}
 use Rattle.std.proofs.lemmas.List.Kept.{AllPairs-filter}
 use Rattle.std.proofs.lemmas.List.Quantifiers.{all_pairs_push}
-use Rattle.std.proofs.lemmas.List.Folds.{list_any-from_Any, list_any_none}
+use Rattle.std.proofs.lemmas.List.Folds.{list_any-from_Any}
 use Rattle.std.proofs.lemmas.List.Sums.{length-filter, count_by-le-length}
 use Rattle.words.specs.declared.limits.TheConstants.{MAX_LINKS}
 use Rattle.words.specs.declared.class.Kind.TheVariants.{PointerFree}
 use Rattle.heap_spec.specs.Ranges.{IsWord}
 use Rattle.heap_spec.specs.Heap.{Heap, Object, Link, IsSameObject, HasObject, ReadsObject, is_born, covers, names, lies_in, loses_word, cleared, with_cleared, without, without_at}
-use Rattle.heap_spec.specs.Steps.{links_but, with_link, without_link, has_link, HasLinkRoom}
-use Rattle.heap_spec.specs.Sound.{IsSound, IsLink, AreLinks}
+use Rattle.heap_spec.specs.Steps.{links_but, with_link, without_link, HasLinkRoom}
+use Rattle.heap_spec.specs.Sound.{IsLink, AreLinks}
 use Rattle.heap_spec.proofs.Objects.{without_some, without_other}
 
 -- words of which some are cleared

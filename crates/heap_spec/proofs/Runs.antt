@@ -6,11 +6,11 @@ use Rattle.std.proofs.lemmas.List.Folds.{Any-from_list_any}
 use Rattle.std.proofs.lemmas.Option.{none-some, same_Some}
 use Rattle.std.proofs.lemmas.List.Elements.{All-head, All-tail, All-contains}
 use Rattle.heap_spec.specs.declared.event.Event.{Event}
-use Rattle.heap_spec.specs.declared.event.Event.TheVariants.{Attach, Mutator, Begin, Roots, Mark, Retrace, Finish, Sweep, Collect, Number}
+use Rattle.heap_spec.specs.declared.event.Event.TheVariants.{Attach, Mutator, Begin, BeginPartial, Roots, Mark, Retrace, Finish, Sweep, Collect, Number}
 use Rattle.heap_spec.specs.declared.reply.Reply.{Reply}
 use Rattle.heap_spec.specs.Heap.{Heap, Object, HasObject, is_born, names, loses_word, with_cleared}
 use Rattle.heap_spec.specs.Closure.{Reached, IsInClosure}
-use Rattle.heap_spec.specs.Runs.{Start, Run, Moment, fresh, heap_after, Touched, touched_after}
+use Rattle.heap_spec.specs.Runs.{Start, Run, Moment, fresh, heap_after, old_births, Touched, touched_after}
 use Rattle.heap_spec.specs.Cycles.{TakesOut, CollectsFully}
 use Rattle.heap_spec.specs.Histories.{Happens, IsRun}
 use Rattle.heap_spec.specs.Ranges.{InRange}
@@ -25,6 +25,7 @@ pub happens_kept : (start : Start) (run : Run) (event : Event) (reply : Reply) (
 happens_kept start run Attach reply s' h range step = attaches_kept _ h step
 happens_kept start run (Mutator slot call) reply s' h range step = calls_kept _ slot call h range.1 step
 happens_kept start run Begin reply s' h range step = subst IsSound (sym step.1.1) h
+happens_kept start run BeginPartial reply s' h range step = subst IsSound (sym step.2.1) h
 happens_kept start run Finish reply s' h range step = takes_out_kept _ _ _ s' h step.1.takes
 happens_kept start run Collect reply s' h range step = takes_out_kept _ _ _ s' h step.takes
 happens_kept start run Roots reply s' h range step = absurd step
@@ -42,24 +43,26 @@ pub fresh_sound : (pages : ℕ) (run : Run) → IsFreshRun pages run → IsSound
 fresh_sound pages run h = run_kept (fresh pages) run (opening_is pages h.some_page h.few_pages) h.in_range h.is_run
 
 -- after any event the touched births are closed
-after_closed : (event : Event) (before : ℕ → Type 0) (old new : Heap) → HaveDistinctBirths new.objects → (birth : ℕ) → IsInClosure new (touched_after event before old new) birth → touched_after event before old new birth
-after_closed Begin before old new d birth x = in_idem new _ d birth x
-after_closed _ before old new d birth x = in_idem new _ d birth x
+after_closed : (event : Event) (aged : ℕ) (before : ℕ → Type 0) (old new : Heap) → HaveDistinctBirths new.objects → (birth : ℕ) → IsInClosure new (touched_after event aged before old new) birth → touched_after event aged before old new birth
+after_closed Begin aged before old new d birth x = in_idem new _ d birth x
+after_closed BeginPartial aged before old new d birth x = in_idem new _ d birth x
+after_closed _ aged before old new d birth x = in_idem new _ d birth x
 
 pub touched_closed : (start : Start) (m : Moment) (run : Run) → HaveDistinctBirths m.heap.objects → (birth : ℕ) → IsInClosure m.heap (Touched start (m ∷ run)) birth → Touched start (m ∷ run) birth
-touched_closed start m run d birth x = after_closed m.told.event (Touched start run) (heap_after start run) m.heap d birth x
+touched_closed start m run d birth x = after_closed m.told.event (old_births start run) (Touched start run) (heap_after start run) m.heap d birth x
 
 pub fresh_touched_closed : (pages : ℕ) (run : Run) → IsFreshRun pages run → (birth : ℕ) → IsInClosure (heap_after (fresh pages) run) (Touched (fresh pages) run) birth → Touched (fresh pages) run birth
 fresh_touched_closed pages [] h birth x = absurd (none-some x.1 x.2)
 fresh_touched_closed pages (m ∷ run) h birth x = let sound = fresh_sound pages (m ∷ run) h in touched_closed (fresh pages) m run sound.objects.distinct birth x
 
 -- and they hold what is reached
-after_reached : (event : Event) (before : ℕ → Type 0) (old new : Heap) (base : ℕ) (o : Object) → HasObject new base o → Reached new base → touched_after event before old new o.birth
-after_reached Begin before old new base o has r = (base, o, has, refl, r)
-after_reached _ before old new base o has r = (base, o, has, refl, reached_in new _ r)
+after_reached : (event : Event) (aged : ℕ) (before : ℕ → Type 0) (old new : Heap) (base : ℕ) (o : Object) → HasObject new base o → Reached new base → touched_after event aged before old new o.birth
+after_reached Begin aged before old new base o has r = (base, o, has, refl, r)
+after_reached BeginPartial aged before old new base o has r = (base, o, has, refl, reached_in new _ r)
+after_reached _ aged before old new base o has r = (base, o, has, refl, reached_in new _ r)
 
 pub touched_reached : (start : Start) (m : Moment) (run : Run) (base : ℕ) (o : Object) → HasObject m.heap base o → Reached m.heap base → Touched start (m ∷ run) o.birth
-touched_reached start m run base o has r = after_reached m.told.event (Touched start run) (heap_after start run) m.heap base o has r
+touched_reached start m run base o has r = after_reached m.told.event (old_births start run) (Touched start run) (heap_after start run) m.heap base o has r
 
 pub fresh_touched_reached : (pages : ℕ) (run : Run) (base : ℕ) (o : Object) → HasObject (heap_after (fresh pages) run) base o → Reached (heap_after (fresh pages) run) base → Touched (fresh pages) run o.birth
 fresh_touched_reached pages [] base o has r = absurd (none-some o has)

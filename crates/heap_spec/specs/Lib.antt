@@ -16,3 +16,4 @@ pub mod SequentialObject
 pub mod Sound
 pub mod Laws
 pub mod Touching
+pub mod PartialCycles

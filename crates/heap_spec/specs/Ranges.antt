@@ -4,7 +4,7 @@ use Rattle.words.specs.declared.limits.TheConstants.{SLOTS, REGISTERS, GLOBALS}
 use Rattle.heap_spec.specs.declared.call.Call.{Call}
 use Rattle.heap_spec.specs.declared.call.Call.TheVariants.{Detach, Set, Copy, Add, Sub, Get, Push, Pop, Load, Store, Alloc, Free, Base, Size, GlobalGet, GlobalPut, Link, Unlink}
 use Rattle.heap_spec.specs.declared.event.Event.{Event}
-use Rattle.heap_spec.specs.declared.event.Event.TheVariants.{Attach, Mutator, Begin, Roots, Mark, Retrace, Finish, Sweep, Collect, Number}
+use Rattle.heap_spec.specs.declared.event.Event.TheVariants.{Attach, Mutator, Begin, BeginPartial, Roots, Mark, Retrace, Finish, Sweep, Collect, Number}
 use Rattle.heap_spec.specs.Layout.{word_end}
 
 -- the number of a register
@@ -46,6 +46,7 @@ InRange (Mutator slot call) = (slot < SLOTS) × CallInRange call
 InRange (Mark n) = IsWord n
 InRange Attach = Unit {0}
 InRange Begin = Unit {0}
+InRange BeginPartial = Unit {0}
 InRange Roots = Unit {0}
 InRange Retrace = Unit {0}
 InRange Finish = Unit {0}

@@ -2,7 +2,7 @@
 use Rattle.std.specs.Prelude.{◌≡◌, ℕ, ◌<◌, ◌≤◌, []}
 use Rattle.words.specs.declared.limits.TheConstants.{SLOTS, MAX_PAGES}
 use Rattle.heap_spec.specs.declared.event.Event.{Event}
-use Rattle.heap_spec.specs.declared.event.Event.TheVariants.{Attach, Mutator, Begin, Finish, Collect}
+use Rattle.heap_spec.specs.declared.event.Event.TheVariants.{Attach, Mutator, Begin, BeginPartial, Roots, Mark, Retrace, Finish, Sweep, Collect, Number}
 use Rattle.heap_spec.specs.declared.reply.Reply.{Reply}
 use Rattle.heap_spec.specs.Heap.{Heap, Mutator as HeapMutator, IsAttached}
 use Rattle.heap_spec.specs.Steps.{IsLowestVacant}
@@ -39,9 +39,14 @@ abbrev pub MayMake : Heap → ℕ → Event → Type 0
 MayMake s who Attach = (who < SLOTS) × IsLowestVacant s who
 MayMake s who (Mutator slot call) = IsCaller s who slot
 MayMake s who Begin = who ≡ SLOTS
+MayMake s who BeginPartial = who ≡ SLOTS
 MayMake s who Finish = who ≡ SLOTS
 MayMake s who Collect = who ≡ SLOTS
-MayMake s who _ = ⊥
+MayMake s who Roots = ⊥
+MayMake s who (Mark n) = ⊥
+MayMake s who Retrace = ⊥
+MayMake s who Sweep = ⊥
+MayMake s who Number = ⊥
 
 -- One step of a state: who makes the event fits it, its numbers are in range, and the run goes on by it.
 pub record StateStep (state : HeapState) (who : ℕ) (event : Event) (reply : Reply) (next : HeapState) : Type 0 where

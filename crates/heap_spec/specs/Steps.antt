@@ -10,7 +10,7 @@ use Rattle.words.specs.Placing.{placement_of}
 use Rattle.heap_spec.specs.declared.call.Call.{Call}
 use Rattle.heap_spec.specs.declared.call.Call.TheVariants.{Detach, Set, Copy, Add, Sub, Get, Push, Pop, Load, Store, Alloc, Free, Base, Size, GlobalGet, GlobalPut, Link, Unlink}
 use Rattle.heap_spec.specs.declared.event.Event.{Event}
-use Rattle.heap_spec.specs.declared.event.Event.TheVariants.{Attach, Mutator}
+use Rattle.heap_spec.specs.declared.event.Event.TheVariants.{Attach, Mutator, Begin, BeginPartial, Roots, Mark, Retrace, Finish, Sweep, Collect, Number}
 use Rattle.heap_spec.specs.declared.reply.Reply.{Reply}
 use Rattle.heap_spec.specs.declared.reply.Reply.TheVariants.{Slot, Done, Word, Count, Refused}
 use Rattle.heap_spec.specs.Layout.{word_end, index_in}
@@ -143,4 +143,12 @@ pub data Calls (s : Heap) (slot : ℕ) (call : Call) : Reply → Heap → Type 0
 abbrev pub Step : Heap → Event → Reply → Heap → Type 0
 Step s Attach reply s' = Attaches s reply s'
 Step s (Mutator slot call) reply s' = Calls s slot call reply s'
-Step s _ reply s' = ⊥
+Step s Begin reply s' = ⊥
+Step s BeginPartial reply s' = ⊥
+Step s Roots reply s' = ⊥
+Step s (Mark n) reply s' = ⊥
+Step s Retrace reply s' = ⊥
+Step s Finish reply s' = ⊥
+Step s Sweep reply s' = ⊥
+Step s Collect reply s' = ⊥
+Step s Number reply s' = ⊥

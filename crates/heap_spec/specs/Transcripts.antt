@@ -1,12 +1,12 @@
 -- Legal transcripts of scripts.
 use Rattle.std.specs.Prelude.{◌≡◌, ℕ, ◌≤◌, Bool, true, false, List, [], ◌∷◌}
-use Rattle.words.specs.declared.refusal.Refusal.TheVariants.{WrongPhase}
+use Rattle.words.specs.declared.refusal.Refusal.TheVariants.{WrongPhase, NeedsFull}
 use Rattle.heap_spec.specs.declared.event.Event.{Event}
-use Rattle.heap_spec.specs.declared.event.Event.TheVariants.{Attach, Mutator, Begin, Roots, Mark, Retrace, Finish, Sweep, Collect, Number}
+use Rattle.heap_spec.specs.declared.event.Event.TheVariants.{Attach, Mutator, Begin, BeginPartial, Roots, Mark, Retrace, Finish, Sweep, Collect, Number}
 use Rattle.heap_spec.specs.declared.reply.Reply.{Reply}
 use Rattle.heap_spec.specs.declared.reply.Reply.TheVariants.{Done, Count, Refused}
 use Rattle.heap_spec.specs.Heap.{Heap}
-use Rattle.heap_spec.specs.Runs.{Start, Run, Told, is_marking, count, goes_on}
+use Rattle.heap_spec.specs.Runs.{Start, Run, Told, is_marking, needs_full, count, goes_on}
 use Rattle.heap_spec.specs.Histories.{Happens}
 
 -- The phase forbids the command: a cycle begins only while none is marking, and marks and ends only while one is.
@@ -14,6 +14,7 @@ abbrev pub IsWrongPhase : Bool → Event → Type 0
 IsWrongPhase marking Attach = ⊥
 IsWrongPhase marking (Mutator slot call) = ⊥
 IsWrongPhase marking Begin = marking ≡ true
+IsWrongPhase marking BeginPartial = marking ≡ true
 IsWrongPhase marking Roots = marking ≡ false
 IsWrongPhase marking (Mark n) = marking ≡ false
 IsWrongPhase marking Retrace = marking ≡ false
@@ -27,6 +28,7 @@ IsWrongPhase marking Number = ⊥
 pub data LineOf (start : Start) (run : Run) : Event → Reply → Run → Type 0 where
   happens : {event : Event} {reply : Reply} {s' : Heap} → Happens start run event reply s' → LineOf start run event reply (goes_on run event reply s')
   refused : {event : Event} → IsWrongPhase (is_marking start run) event → LineOf start run event (Refused WrongPhase) run
+  needs : is_marking start run ≡ false → needs_full start run ≡ true → LineOf start run BeginPartial (Refused NeedsFull) run
   roots : is_marking start run ≡ true → LineOf start run Roots Done run
   mark : {most n : ℕ} → is_marking start run ≡ true → n ≤ most → LineOf start run (Mark most) (Count n) run
   retrace : {n : ℕ} → is_marking start run ≡ true → n ≤ 1 → LineOf start run Retrace (Count n) run

@@ -16,6 +16,9 @@ pub enum Event {
     /// Begins a cycle.
     Begin,
 
+    /// Begins a cycle with the marks of the last one.
+    BeginPartial,
+
     /// Marks what root words point into.
     Roots,
 

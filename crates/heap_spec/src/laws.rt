@@ -1,6 +1,7 @@
 //! The laws of the sequential heap. Each is a function that does nothing, and its contract is the law: what the
 //! definitions in `specs/` say must be right if these hold.
 ghost use Rattle.heap_spec.specs.Laws.{ClosureIsLeast, ClosureIsMonotone, ClosureIsIdempotent, RunsAreSound, HappensKeepsSound, ObjectsLieInHeap, ReadsAtMostOne, TouchedIsClosed, TouchedHoldsReached, FinishKeepsReached, CollectKeepsReached, StepBirths, LoadAnswersStored, RefusedChangesNothing, CallsHaveOneOutcome};
+ghost use Rattle.heap_spec.specs.PartialCycles.{UntouchedAreYoung};
 ghost use Rattle.heap_spec.specs.Touching.{CallTouches, AttachTouches, RootTouchesNothing, StoreTouchesNothing, SoundObjectsAreApart};
 
 /// The closure of some births is the least set of objects that its rules keep.
@@ -46,6 +47,11 @@ pub fn touched_is_closed()
 /// What is reached is touched.
 pub fn touched_holds_reached()
     ensures { TouchedHoldsReached }
+{}
+
+/// In a cycle that began with the marks of the last one, what isn't touched was allocated since the last collection.
+pub fn untouched_are_young()
+    ensures { UntouchedAreYoung }
 {}
 
 /// The end of a cycle keeps each reached object.

@@ -14,6 +14,7 @@ use Rattle.history.specs.Passes.{Owned}
 use Rattle.history.specs.Plays.{MayAppend, acted, Acted, began, Began, ended, Ended}
 use Rattle.history.specs.Rules.{tally, keeping, holding, IsTrueOfView, Standing, Kept}
 use Rattle.history.specs.Views.{opener}
+use Rattle.history.proofs.Fronts.{prefix_self}
 use Rattle.history.proofs.Fitting.{off, has_one, has_none, alone, sole, owned_whole, follows_whole, follows_longer, fits_longer, fits_set, at_keeper}
 use Rattle.history.proofs.Tallies.{tally_set, tally_one, tally_none}
 use Rattle.history.proofs.Snocs.{count_snoc, own_first, own_more, live_here}
@@ -52,6 +53,7 @@ module _ {C R : Type 0} (rank : C → Rank) (legal : List (Event C R) → Type 0
       let f = st.fits id v at in
       appends ws views id v (acted (e ∷ []) v) said e k st at may
       (record {
+        part = prefix_self (v.log ++ e ∷ []);
         keeper = λ _. refl;
         pass = λ t. follows_longer rank v.log e v.pass (f.pass t) (guest_alone views id v e.who (st.holders e.who) at hv sv t);
         guest = λ _. follows_whole rank (v.log ++ e ∷ []) v.guest.slot (v.guest.mine ++ e ∷ []) (owned_more v.guest.slot v.log v.guest.mine e sv nf nl (owned_whole rank v.log v.guest (f.guest hv)));
@@ -81,6 +83,7 @@ module _ {C R : Type 0} (rank : C → Rank) (legal : List (Event C R) → Type 0
       let f = st.fits id v at in
       appends ws views id v (ended (e ∷ []) v) said e k st at may
       (record {
+        part = prefix_self (v.log ++ e ∷ []);
         keeper = λ _. refl;
         pass = λ t. follows_longer rank v.log e v.pass (f.pass t) (guest_alone views id v e.who (st.holders e.who) at hv sv t);
         guest = λ t. absurd (off t);
@@ -133,6 +136,7 @@ module _ {C R : Type 0} (rank : C → Rank) (legal : List (Event C R) → Type 0
       let f = st.fits id v at in
       appends ws views id v (began (e ∷ []) v) said e k st at may
       (record {
+        part = prefix_self (v.log ++ e ∷ []);
         keeper = λ _. refl;
         pass = λ t. follows_longer rank v.log e v.pass (f.pass t) (λ same. omega (arith, free id v at, has_one e.who v.holds v.pass t (sym same)));
         guest = λ _. follows_whole rank (v.log ++ e ∷ []) e.who (e ∷ []) (owned_first v.log e yf nl);
@@ -168,7 +172,7 @@ module _ {C R : Type 0} (rank : C → Rank) (legal : List (Event C R) → Type 0
   )
     where
       only : (by : ℕ) (v : View C R) → get_elem? (opener ∷ []) by ≡ some v → IsTrueOfView rank [] v
-      only zero v e = subst (λ (y : View C R). IsTrueOfView rank [] y) (some-injective _ _ e) (record { keeper = λ _. refl; pass = λ _. follows_whole rank [] COLLECTOR [] (record { own_is = refl; live = refl }); guest = λ t. absurd (off t) })
+      only zero v e = subst (λ (y : View C R). IsTrueOfView rank [] y) (some-injective _ _ e) (record { part = ([], refl); keeper = λ _. refl; pass = λ _. follows_whole rank [] COLLECTOR [] (record { own_is = refl; live = refl }); guest = λ t. absurd (off t) })
       only (suc by) v e = absurd (some-ne-none v (sym e))
 
       one_slot : (who : ℕ) → Dec (COLLECTOR ≡ who) → tally (holding {C = C} {R = R} who) (opener ∷ []) ≤ 1

@@ -1,5 +1,5 @@
 -- What a call leaves of the keeper's seat and of the caller's. Before the call they are k and p, with the guest at the keeper's k1 and p1, after the step k2, and at the end k3 and p3.
-use Rattle.std.proofs.Common.{◌≡◌, List, [], ◌++◌, true, ap, ◌∙◌, subst}
+use Rattle.std.proofs.Common.{◌≡◌, ℕ, List, [], ◌∷◌, ◌++◌, true, false, ap, sym, ◌∙◌, subst}
 use Rattle.atomic_table.specs.Table.{Me}
 use Rattle.history.specs.declared.object.Rank.{Rank}
 use Rattle.history.specs.declared.event.Event.{Event}
@@ -7,7 +7,9 @@ use Rattle.history.specs.declared.view.Known.{Known}
 use Rattle.history.specs.declared.view.View.{View}
 use Rattle.history.specs.Passes.{Owned}
 use Rattle.history.specs.Plays.{Acted, Began, Ended, first_slot}
-use Rattle.history.specs.Views.{with_guest, without_guest, only_guest, only_pass, with_pass}
+use Rattle.history.specs.Views.{with_guest, without_guest, only_guest, only_pass, with_pass, only_log}
+use Rattle.history.specs.Histories.{event, own, is_first, is_last, is_live}
+use Rattle.history.proofs.Snocs.{own_more, live_gone}
 
 module _ {C R : Type 0} where
   -- the keeper has these events more
@@ -56,3 +58,30 @@ module _ {C R : Type 0} where
     keeps_is = ap (λ m. m.0.keeps) step.view_is ∙ ap (λ m. m.0.keeps) lent;
     log_is = ap (λ m. m.0.log) step.view_is ∙ ap (λ m. m.0.log ++ said) lent;
   }
+
+  -- what a spent pass had seen is the whole history, with its last event
+  pub record Spent (rank : C → Rank) (e : Event C R) (k p r : Me Unit (View C R)) : Type 0 where
+    pub log_is : r.0.log ≡ k.0.log ++ e ∷ []
+    pub own_is : own rank p.0.pass.slot r.0.log ≡ p.0.pass.mine ++ e ∷ []
+    pub dead : is_live rank p.0.pass.slot r.0.log ≡ false
+
+  pub end_spent : (rank : C → Rank) (e : Event C R) (k p k1 k2 r : Me Unit (View C R)) → k1 ≡ (with_guest k.0 (only_pass p.0), k.1) → Ended rank (e ∷ []) k1 k2 → r ≡ (only_log k2.0, []) → e.who ≡ p.0.pass.slot → is_first (rank e.call) ≡ false → is_last (rank e.call) ≡ true
+      → Spent rank e k p r
+  end_spent rank e k p k1 k2 r lent step part who nf yl =
+      let log_is : r.0.log ≡ k.0.log ++ e ∷ [] = ap (λ m. m.0.log) part ∙ (end_longer rank (e ∷ []) k p k1 k2 lent step).log_is in
+      let owned = subst (λ (m : Me Unit (View C R)). Owned rank m.0.guest.slot m.0.log m.0.guest.mine) lent step.owned in
+      record {
+        log_is = log_is;
+        own_is = ap (own rank p.0.pass.slot) log_is ∙ (own_more rank p.0.pass.slot k.0.log e who nf ∙ ap (λ l. l ++ e ∷ []) (sym owned.own_is));
+        dead = ap (is_live rank p.0.pass.slot) log_is ∙ live_gone rank p.0.pass.slot k.0.log e who yl;
+      }
+
+  -- so it is as contracts see it
+  abbrev pub has_seen : ℕ → List (Event C R) → List (Event C R) → Known C R
+  has_seen slot seen mine = record { slot = slot; seen = seen; mine = mine }
+
+  pub past_is : (rank : C → Rank) (slot : ℕ) (p : Known C R) (call : C) (reply : R) (seen seen' : List (Event C R)) → p.slot ≡ slot → own rank p.slot seen ≡ p.mine ++ event slot call reply ∷ [] → seen ≡ seen'
+      → has_seen slot seen (own rank slot seen) ≡ has_seen p.slot seen' (p.mine ++ event p.slot call reply ∷ [])
+  past_is rank slot p call reply seen seen' is own_is same =
+      let mine : own rank slot seen ≡ p.mine ++ event p.slot call reply ∷ [] = ap (λ n. own rank n seen) (sym is) ∙ (own_is ∙ ap (λ n. p.mine ++ event n call reply ∷ []) (sym is)) in
+      λ i. record { slot = sym is i; seen = same i; mine = mine i }

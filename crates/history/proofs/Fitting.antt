@@ -10,6 +10,7 @@ use Rattle.history.specs.declared.view.View.{View}
 use Rattle.history.specs.Passes.{Owned}
 use Rattle.history.specs.Rules.{tally, keeping, has, holding, HasSeenPart, IsTrueOfView, Standing, Kept}
 use Rattle.history.specs.Views.{nobody}
+use Rattle.history.proofs.Fronts.{prefix_more}
 use Rattle.history.proofs.Growing.{grows_self, grows_more, owned_grows}
 use Rattle.history.proofs.Tallies.{tally_two}
 
@@ -51,6 +52,7 @@ module _ {C R : Type 0} (rank : C → Rank) where
   -- an event of a slot of which the seat has no pass leaves its view as it fits, if it doesn't keep the history
   pub fits_longer : (log : List (Event C R)) (e : Event C R) (u : View C R) → IsTrueOfView rank log u → (u.keeps ≡ true → ⊥) → (1 ≤ holding e.who u → ⊥) → IsTrueOfView rank (log ++ e ∷ []) u
   fits_longer log e u f k h = record {
+    part = prefix_more u.log log (e ∷ []) f.part;
     keeper = λ t. absurd (k t);
     pass = λ t. follows_longer log e u.pass (f.pass t) (λ same. h (omega (arith, has_one e.who u.holds u.pass t (sym same))));
     guest = λ t. follows_longer log e u.guest (f.guest t) (λ same. h (omega (arith, has_one e.who u.hosts u.guest t (sym same))));
@@ -66,7 +68,7 @@ module _ {C R : Type 0} (rank : C → Rank) where
       (at_set views id j w u e)
 
   pub fits_nobody : (log : List (Event C R)) → IsTrueOfView rank log nobody
-  fits_nobody log = record { keeper = λ t. absurd (off t); pass = λ t. absurd (off t); guest = λ t. absurd (off t) }
+  fits_nobody log = record { part = (log, refl); keeper = λ t. absurd (off t); pass = λ t. absurd (off t); guest = λ t. absurd (off t) }
 
   -- the keeper's history is the history
   pub at_keeper : (legal : List (Event C R) → Type 0) (ws : List ℕ) (views : List (View C R)) (id : ℕ) (v : View C R) → Kept rank legal ws views → get_elem? views id ≡ some v → v.keeps ≡ true → Standing rank legal ws views v.log

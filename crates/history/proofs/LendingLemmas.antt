@@ -1,5 +1,5 @@
 -- Rights that go from one seat to another keep the rule: nothing is added to what two seats have together.
-use Rattle.std.proofs.Common.{◌≡◌, ℕ, ◌+◌, ◌≤◌, ◌≢◌, List, set, ⊎_elim, arith, subst}
+use Rattle.std.proofs.Common.{◌≡◌, ℕ, ◌+◌, ◌≤◌, ◌≢◌, List, set, refl, ⊎_elim, arith, subst}
 use mathlib.Core.Option.{some}
 use lib.ListN.{get_elem?}
 use Rattle.atomic_table.specs.Table.{State, Splits, Joins}
@@ -8,7 +8,7 @@ use Rattle.history.specs.declared.object.Rank.{Rank}
 use Rattle.history.specs.declared.event.Event.{Event}
 use Rattle.history.specs.declared.view.View.{View}
 use Rattle.history.specs.Rules.{keeping, holding, IsTrueOfView, Kept}
-use Rattle.history.specs.Views.{nobody, without_pass, only_pass, with_guest, without_guest, only_guest, with_pass}
+use Rattle.history.specs.Views.{nobody, without_pass, only_pass, with_guest, without_guest, only_guest, with_pass, itself, only_log, with_log}
 use Rattle.history.proofs.Fitting.{off, fits_set, fits_nobody}
 use Rattle.history.proofs.Tallies.{tally_set, tally_snoc}
 
@@ -49,27 +49,41 @@ module _ {C R : Type 0} (rank : C → Rank) (legal : List (Event C R) → Type 0
   -- a seat's pass leaves it
   pub kept_lends : (id : ℕ) (v : View C R) → Splits (λ (s : State Unit (View C R)). Kept rank legal s.words s.views) id v (without_pass v) (only_pass v)
   kept_lends id v = splits id v (without_pass v) (only_pass v)
-      (λ log f. (record { keeper = f.keeper; pass = λ t. absurd (off t); guest = f.guest }, record { keeper = λ t. absurd (off t); pass = f.pass; guest = λ t. absurd (off t) }))
+      (λ log f. (record { part = f.part; keeper = f.keeper; pass = λ t. absurd (off t); guest = f.guest }, record { part = (log, refl); keeper = λ t. absurd (off t); pass = f.pass; guest = λ t. absurd (off t) }))
       (omega arith)
       (λ who. omega arith)
 
   -- and is taken in
   pub kept_hosts : (id : ℕ) (v : View C R) (other : ℕ) (w : View C R) → Joins (λ (s : State Unit (View C R)). Kept rank legal s.words s.views) id v other w (with_guest v w) nobody
   kept_hosts id v other w = joins id v other w (with_guest v w)
-      (λ log f h. record { keeper = f.keeper; pass = f.pass; guest = h.pass })
+      (λ log f h. record { part = f.part; keeper = f.keeper; pass = f.pass; guest = h.pass })
       (omega arith)
       (λ who. omega arith)
 
   -- a guest leaves
   pub kept_returns : (id : ℕ) (v : View C R) → Splits (λ (s : State Unit (View C R)). Kept rank legal s.words s.views) id v (without_guest v) (only_guest v)
   kept_returns id v = splits id v (without_guest v) (only_guest v)
-      (λ log f. (record { keeper = f.keeper; pass = f.pass; guest = λ t. absurd (off t) }, record { keeper = λ t. absurd (off t); pass = f.guest; guest = λ t. absurd (off t) }))
+      (λ log f. (record { part = f.part; keeper = f.keeper; pass = f.pass; guest = λ t. absurd (off t) }, record { part = (log, refl); keeper = λ t. absurd (off t); pass = f.guest; guest = λ t. absurd (off t) }))
       (omega arith)
       (λ who. omega arith)
 
   -- and is back
   pub kept_takes_back : (id : ℕ) (v : View C R) (other : ℕ) (w : View C R) → Joins (λ (s : State Unit (View C R)). Kept rank legal s.words s.views) id v other w (with_pass v w) nobody
   kept_takes_back id v other w = joins id v other w (with_pass v w)
-      (λ log f h. record { keeper = f.keeper; pass = h.pass; guest = f.guest })
+      (λ log f h. record { part = f.part; keeper = f.keeper; pass = h.pass; guest = f.guest })
+      (omega arith)
+      (λ who. omega arith)
+
+  -- what a seat knows of the history leaves it, and stays
+  pub kept_recalls : (id : ℕ) (v : View C R) → Splits (λ (s : State Unit (View C R)). Kept rank legal s.words s.views) id v (itself v) (only_log v)
+  kept_recalls id v = splits id v (itself v) (only_log v)
+      (λ log f. (f, record { part = f.part; keeper = λ t. absurd (off t); pass = λ t. absurd (off t); guest = λ t. absurd (off t) }))
+      (omega arith)
+      (λ who. omega arith)
+
+  -- and is told
+  pub kept_tells : (id : ℕ) (v : View C R) (other : ℕ) (w : View C R) → Joins (λ (s : State Unit (View C R)). Kept rank legal s.words s.views) id v other w (with_log v w) nobody
+  kept_tells id v other w = joins id v other w (with_log v w)
+      (λ log f h. record { part = h.part; keeper = λ t. absurd (off t); pass = f.pass; guest = f.guest })
       (omega arith)
       (λ who. omega arith)

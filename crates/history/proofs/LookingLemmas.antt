@@ -13,7 +13,7 @@ use Rattle.history.specs.declared.view.Known.{Known}
 use Rattle.history.specs.declared.view.View.{View}
 use Rattle.history.specs.Histories.{GrowsByOthers}
 use Rattle.history.specs.Passes.{longer}
-use Rattle.history.specs.Plays.{learnt, Learnt, saw, Saw, met, Met}
+use Rattle.history.specs.Plays.{learnt, Learnt, saw, Saw, met, Met, heard, Heard}
 use Rattle.history.specs.Rules.{keeping, holding, HasSeenPart, IsTrueOfView, Standing, Kept}
 use Rattle.history.proofs.Fronts.{prefix_self, prefix_shorter}
 use Rattle.history.proofs.Growing.{prefix_of, grows_within, owned_grows}
@@ -42,7 +42,7 @@ module _ {C R : Type 0} (rank : C → Rank) (legal : List (Event C R) → Type 0
         learnt me.0,
         keeps,
         tt,
-        (me.0.log, stays s.words s.views me.0.log id me.0 (learnt me.0) st at (record { keeper = f.keeper; pass = f.pass; guest = λ t. follows_whole rank me.0.log me.0.guest.slot me.0.guest.mine o }) refl (λ who. refl)),
+        (me.0.log, stays s.words s.views me.0.log id me.0 (learnt me.0) st at (record { part = f.part; keeper = f.keeper; pass = f.pass; guest = λ t. follows_whole rank me.0.log me.0.guest.slot me.0.guest.mine o }) refl (λ who. refl)),
         record { before = (f.guest hv).grows; owned = o; view_is = refl },
       )
 
@@ -59,7 +59,7 @@ module _ {C R : Type 0} (rank : C → Rank) (legal : List (Event C R) → Type 0
         saw kept.0 me.0,
         keeps,
         tt,
-        (kept.0, stays s.words s.views kept.0 id me.0 (saw kept.0 me.0) st at (record { keeper = f.keeper; pass = λ t. follows_whole rank kept.0 me.0.pass.slot me.0.pass.mine o; guest = f.guest }) refl (λ who. refl)),
+        (kept.0, stays s.words s.views kept.0 id me.0 (saw kept.0 me.0) st at (record { part = f.part; keeper = f.keeper; pass = λ t. follows_whole rank kept.0 me.0.pass.slot me.0.pass.mine o; guest = f.guest }) refl (λ who. refl)),
         record { log = kept.0; before = (f.pass hv).grows; is_legal = st.is_legal; owned = o; found_is = index_of s.words _ st.words_are; view_is = refl },
       )
 
@@ -109,6 +109,29 @@ module _ {C R : Type 0} (rank : C → Rank) (legal : List (Event C R) → Type 0
         met me.0,
         keeps,
         tt,
-        (kept.0, stays s.words s.views kept.0 id me.0 (met me.0) st at (record { keeper = f.keeper; pass = λ t. pass; guest = λ t. guest }) refl (λ who. refl)),
+        (kept.0, stays s.words s.views kept.0 id me.0 (met me.0) st at (record { part = f.part; keeper = f.keeper; pass = λ t. pass; guest = λ t. guest }) refl (λ who. refl)),
         record { one = one_grows kept.0 me.0.pass me.0.guest p q (dec_le (length a) (length b)); apart = apart; pass_owned = pass.owned; guest_owned = guest.owned; view_is = refl },
       )
+
+  -- a pass takes the longer of what it has seen and what its seat was told
+  pub kept_hears : (slots id : ℕ) (me : Me Unit (View C R)) → me.0.holds ≡ true
+      → Allows (λ (s : State Unit (View C R)). Kept rank legal s.words s.views) slots id me 0 (λ n. n) (λ n w. Heard rank me w)
+  kept_hears slots id me hp s kept len at lt =
+      let st = kept.1 in
+      let f = st.fits id me.0 at in
+      let p = f.pass hp in
+      let a = me.0.pass.seen in
+      let b = me.0.log in
+      let a_in = prefix_of me.0.pass.slot a kept.0 p.grows in
+      let top = longer_prefix a b kept.0 (leb (length a) (length b)) refl a_in f.part in
+      let pass = follows_more kept.0 (longer a b) me.0.pass p (first_begins a b kept.0 (leb (length a) (length b)) refl a_in f.part) top in (
+        heard me.0,
+        keeps,
+        tt,
+        (kept.0, stays s.words s.views kept.0 id me.0 (heard me.0) st at (record { part = f.part; keeper = f.keeper; pass = λ t. pass; guest = f.guest }) refl (λ who. refl)),
+        record { one = told_grows kept.0 me.0.pass b p f.part (dec_le (length a) (length b)); owned = pass.owned; view_is = refl },
+      )
+    where
+      told_grows : (log : List (Event C R)) (p : Known C R) (b : List (Event C R)) → HasSeenPart rank log p → IsPrefix b log → Dec (length p.seen ≤ length b) → GrowsByOthers p.slot p.seen b ⊎ IsPrefix b p.seen
+      told_grows log p b q top (yes h) = inl (grows_within p.slot p.seen b log (prefix_shorter p.seen b log (prefix_of p.slot p.seen log q.grows) top h) top q.grows).0
+      told_grows log p b q top (no n) = inr (prefix_shorter b p.seen log top (prefix_of p.slot p.seen log q.grows) (omega arith))

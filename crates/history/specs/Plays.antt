@@ -1,5 +1,6 @@
 -- What each step of the table does to the view of its seat, and what it tells.
 use Rattle.std.specs.Prelude.{◌≡◌, ℕ, ◌%◌, ◌^◌, ◌⊎◌, true, false, List, [], ◌∷◌, ◌++◌}
+use mathlib.Core.List.{IsPrefix}
 use Rattle.atomic_table.specs.Table.{Me}
 use Rattle.history.specs.declared.object.Rank.{Rank}
 use Rattle.history.specs.declared.event.Event.{Event}
@@ -89,3 +90,13 @@ module _ {C R : Type 0} where
     pub pass_owned : Owned rank v.0.pass.slot (longer v.0.pass.seen v.0.guest.seen) v.0.pass.mine
     pub guest_owned : Owned rank v.0.guest.slot (longer v.0.pass.seen v.0.guest.seen) v.0.guest.mine
     pub view_is : w ≡ (met v.0, v.1)
+
+  -- A pass takes the longer of what it has seen and what its seat was told.
+  abbrev pub heard : View C R → View C R
+  heard v = record v { pass = record { slot = v.pass.slot; seen = longer v.pass.seen v.log; mine = v.pass.mine } }
+
+  -- The step of that: what is new to the pass is all of others, or it had seen all that it was told; its own events are still exactly its slot's.
+  pub record Heard (rank : C → Rank) (v w : Me Unit (View C R)) : Type 0 where
+    pub one : GrowsByOthers v.0.pass.slot v.0.pass.seen v.0.log ⊎ IsPrefix v.0.log v.0.pass.seen
+    pub owned : Owned rank v.0.pass.slot (longer v.0.pass.seen v.0.log) v.0.pass.mine
+    pub view_is : w ≡ (heard v.0, v.1)

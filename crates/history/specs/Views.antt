@@ -40,3 +40,15 @@ module _ {C R : Type 0} where
   -- the seat that lent it holds the pass of another again
   abbrev pub with_pass : View C R → View C R → View C R
   with_pass v w = record v { holds = w.holds; pass = w.pass }
+
+  -- a seat that tells another what it knows of the history keeps all its rights
+  abbrev pub itself : View C R → View C R
+  itself v = v
+
+  -- what goes: a seat that knows that much of the history, and has no right
+  abbrev pub only_log : View C R → View C R
+  only_log v = record nobody { log = v.log }
+
+  -- a seat that keeps no history knows what another told it
+  abbrev pub with_log : View C R → View C R → View C R
+  with_log v w = record v { keeps = false; log = w.log }

@@ -5,7 +5,7 @@ ghost use Rattle.history.specs.declared.object.TheConstants.{COLLECTOR as collec
 ghost use Rattle.history.specs.declared.object.Rank.TheVariants.{First, Last};
 ghost use Rattle.history.specs.Histories.{event, is_first, is_last, is_live, GrowsByOthers, Legal};
 ghost use Rattle.history.specs.Objects.{StepsFrom};
-ghost use Rattle.history.specs.Passes.{Agrees, Owned};
+ghost use Rattle.history.specs.Passes.{Agrees, Owned, Recalls};
 
 use crate::appending::weight_of;
 use crate::lending::Returns;
@@ -13,6 +13,7 @@ use crate::log::Log;
 use crate::logged::Logged;
 use crate::object::Object;
 use crate::pass::Pass;
+use crate::past::Past;
 use crate::rule::Naming;
 use std::marker::{Brand, PhantomData};
 
@@ -74,15 +75,26 @@ impl<O: Object, J: Naming> Log<O, J> {
         reply
     }
 
-    /// The last call of a pass, which is spent.
-    pub fn last(&self, logged: &mut Logged<O, J>, pass: Pass<O, J>, call: &O::Call) -> O::Reply
+    /// The last call of a pass, which is spent. What it had seen, with this call, stays.
+    pub fn last(
+        &self,
+        logged: &mut Logged<O, J>,
+        pass: Pass<O, J>,
+        call: &O::Call,
+    ) -> (Past<O, J>, O::Reply)
         requires can { O.can logged.old.object pass.slot call.now }
         requires rank { O.rank_of call.now ≡ Last }
-        ensures step { StepsFrom O.stands O.step logged.old.object pass.slot call.now result logged.new.object }
-        ensures history { logged.new.history ≡ logged.old.history ++ event pass.slot call.now result ∷ [] }
+        ensures step { StepsFrom O.stands O.step logged.old.object pass.slot call.now result.1 logged.new.object }
+        ensures history { logged.new.history ≡ logged.old.history ++ event pass.slot call.now result.1 ∷ [] }
         ensures before { GrowsByOthers pass.slot pass.seen logged.old.history }
         ensures owned { Owned O.rank_of pass.slot logged.old.history pass.mine }
         ensures legal { Legal (O.opens J.origin) O.step logged.new.history }
+        ensures past { result.0 ≡ record {
+          slot = pass.slot;
+          seen = logged.new.history;
+          mine = pass.mine ++ event pass.slot call.now result.1 ∷ [];
+        } }
+        ensures recalls { Recalls O.rank_of (O.opens J.origin) O.step result.0 }
     {
         let add = weight_of(&O::rank(call));
         let Pass {
@@ -93,6 +105,12 @@ impl<O: Object, J: Naming> Log<O, J> {
         let reply = logged.object.act(who, call);
         self.lend(&mut seat, &mut logged.keeper);
         self.end::<Brand>(&mut logged.keeper, add, who, call, &reply);
-        reply
+        let part = self.recall(&mut logged.keeper);
+        let past = Past {
+            slot: who,
+            seat: part,
+            of: PhantomData,
+        };
+        (past, reply)
     }
 }

@@ -1,7 +1,7 @@
 //! How the rights of a pass go to another seat and back. Each half is a load of the word, which it ignores: a view changes only at a
 //! step. What two seats have together stays the same, so the rule is kept whatever the table is.
-ghost use Rattle.std.specs.Prelude.{◌≡◌};
-ghost use Rattle.history.specs.Views.{without_pass, only_pass, with_guest, without_guest, only_guest, with_pass, nobody};
+ghost use Rattle.std.specs.Prelude.{◌≡◌, []};
+ghost use Rattle.history.specs.Views.{without_pass, only_pass, with_guest, without_guest, only_guest, with_pass, itself, only_log, with_log, nobody};
 
 use crate::log::Log;
 use crate::object::Object;
@@ -39,6 +39,21 @@ impl<C, R> Join<View<C, R>> for Returns {
     ghost spent = { nobody };
 }
 
+/// A seat tells another what it knows of the history.
+pub struct Recalls;
+
+impl<C, R> Split<View<C, R>> for Recalls {
+    ghost left = { itself };
+
+    ghost right = { only_log };
+}
+
+impl<C, R> Join<View<C, R>> for Recalls {
+    ghost both = { with_log };
+
+    ghost spent = { nobody };
+}
+
 impl<O: Object, J: Naming> Log<O, J> {
     // The pass of `owner` becomes the guest of `host`.
     pub(crate) fn lend(
@@ -72,5 +87,35 @@ impl<O: Object, J: Naming> Log<O, J> {
     {
         let rights = self.table.shared.split_seat::<Returns>(host);
         self.table.shared.join_seat::<Returns>(owner, rights);
+    }
+    // What the seat knows of the history, in a seat of its own.
+    pub(crate) fn recall(
+        &self,
+        knower: &mut Seat<(), View<O::Call, O::Reply>>,
+    ) -> Seat<(), View<O::Call, O::Reply>>
+        requires knower { knower.old.table_id ≡ J.table }
+        ensures knower_here { knower.new.table_id ≡ J.table }
+        ensures knower_is { knower.new.me ≡ knower.old.me }
+        ensures part_here { result.table_id ≡ J.table }
+        ensures part_is { result.me ≡ (only_log knower.old.me.0, []) }
+    {
+        self.table.shared.split_seat::<Recalls>(knower)
+    }
+
+    // What `knower` knows of the history, `other` then knows, too, and it keeps no history itself.
+    pub(crate) fn tell(
+        &self,
+        knower: &mut Seat<(), View<O::Call, O::Reply>>,
+        other: &mut Seat<(), View<O::Call, O::Reply>>,
+    )
+        requires knower { knower.old.table_id ≡ J.table }
+        requires other { other.old.table_id ≡ J.table }
+        ensures knower_here { knower.new.table_id ≡ J.table }
+        ensures knower_is { knower.new.me ≡ knower.old.me }
+        ensures other_here { other.new.table_id ≡ J.table }
+        ensures other_is { other.new.me ≡ (with_log other.old.me.0 (only_log knower.old.me.0), other.old.me.1) }
+    {
+        let part = self.recall(knower);
+        self.table.shared.join_seat::<Recalls>(other, part);
     }
 }

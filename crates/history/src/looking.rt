@@ -1,13 +1,15 @@
 //! The calls that are no events: a pass learns more of the history, which stays as it is. Each has one load by which it learns.
 ghost use Rattle.std.specs.Prelude.{◌≡◌, ◌≢◌, ◌%◌, ◌^◌, ◌⊎◌};
+ghost use mathlib.Core.List.{IsPrefix};
 ghost use Rattle.history.specs.Histories.{count, GrowsByOthers, Legal};
 ghost use Rattle.history.specs.Passes.{Agrees, longer};
-ghost use Rattle.history.specs.Plays.{Learnt, Saw, Met};
+ghost use Rattle.history.specs.Plays.{Learnt, Saw, Met, Heard};
 
 use crate::log::Log;
 use crate::logged::Logged;
 use crate::object::Object;
 use crate::pass::Pass;
+use crate::past::Past;
 use crate::rule::Naming;
 use crate::view::View;
 use atomic_table::Play;
@@ -38,6 +40,15 @@ pub struct Meets<O> {
 
 impl<O: Object> Play<(), View<O::Call, O::Reply>> for Meets<O> {
     ghost then = { λ s v n w. Met O.rank_of v w };
+}
+
+/// A pass takes the longer of what it has seen and what its seat was told.
+pub struct Hears<O> {
+    of: PhantomData<O>,
+}
+
+impl<O: Object> Play<(), View<O::Call, O::Reply>> for Hears<O> {
+    ghost then = { λ s v n w. Heard O.rank_of v w };
 }
 
 impl<O: Object, J: Naming> Log<O, J> {
@@ -78,5 +89,16 @@ impl<O: Object, J: Naming> Log<O, J> {
         // Both have seen beginnings of one history, so one begins the other. A step tells of one seat, so both are at `a`'s for it.
         self.table.shared.load::<Meets<O>>(&mut a.seat, 0);
         self.give_back(&mut b.seat, &mut a.seat);
+    }
+    /// The pass has then seen all that the other had when it was spent. It waits for nobody.
+    pub fn hear(&self, pass: &mut Pass<O, J>, past: &mut Past<O, J>)
+        ensures one { GrowsByOthers pass.old.slot pass.old.seen past.old.seen ⊎ IsPrefix past.old.seen pass.old.seen }
+        ensures pass { pass.new ≡ record { slot = pass.old.slot; seen = longer pass.old.seen past.old.seen; mine = pass.old.mine } }
+        ensures past { past.new ≡ past.old }
+        ensures agrees { Agrees O.rank_of (O.opens J.origin) O.step pass.new }
+    {
+        self.tell(&mut past.seat, &mut pass.seat);
+        // What the seat was told is a beginning of the one history, and so is what its pass has seen.
+        self.table.shared.load::<Hears<O>>(&mut pass.seat, 0);
     }
 }

@@ -95,6 +95,14 @@ impl Marks {
         self.as_words()[j]
     }
 
+    /// The row of the granules itself.
+    #[inline]
+    pub fn row(&self) -> &BitRow
+        ensures { result.now ≡ self.now }
+    {
+        &self.row
+    }
+
     // The words of the row, lowest bits first, and no word beyond them.
     pub(crate) fn as_words(&self) -> &[u64]
         ensures bits { bits result.now (length self.now) ≡ self.now }

@@ -14,10 +14,10 @@ use Rattle.block_map.specs.Objects.{IsMap}
 use Rattle.block_map.specs.States.{PageState}
 use Rattle.block_map.specs.FoundIn.{found_in, IsLawful}
 use Rattle.marker.specs.declared.entry.Entry.{Entry}
-use Rattle.marker.specs.Marking.{Marking, IsConsistent, IsMarked, word_address, last_page, pages_of, Covers}
+use Rattle.marker.specs.Marking.{Marking, IsConsistent, IsMarked, IsOutside, word_address, last_page, pages_of, Covers}
 use Rattle.marker.specs.Work.{left, left_of, page_words, unmarked, unmarked_from, span, cost}
 use Rattle.marker.specs.Invariant.{IsAwaited}
-use Rattle.marker.specs.Growth.{IsOutside, MarksWord, MarksObject, Awaits, IsDirtied, entry_of, nothing, object, pointer_free, pushed, dirtied}
+use Rattle.marker.specs.Growth.{IsNoStray, TellsStray, MarksWord, MarksObject, Awaits, IsDirtied, entry_of, nothing, object, pointer_free, pushed, dirtied}
 use Rattle.marker.specs.Entries.{IsBelow}
 use Rattle.marker.proofs.Closures.{same_object}
 use Rattle.marker.proofs.Growing.{Extends, below_refl}
@@ -43,6 +43,25 @@ outside pages found w map out = unfound (found w) (λ f e.
     let a = r.from in let b = r.below in let c = p.above in let d = p.below in
     ⊎_elim (λ (low : w < FIRST_ADDRESS). omega arith) (λ high. omega arith) out)
 
+-- one word, and whether it is stray
+one_in : (w v : ℕ) → Contains (w ∷ []) v → v ≡ w
+one_in w v h = let l = h.1 in let z : h.0 ≡ 0 = omega arith in sym h.2 ∙ ap (λ j. get_or (w ∷ []) j v) z
+
+pub tells_none : (found : ℕ → Option Found) (bytes w : ℕ) → IsNoStray found bytes w → TellsStray found bytes (w ∷ []) false
+tells_none found bytes w is = record {
+  some = λ e. absurd (false≢true e);
+  none = λ e v h. subst (IsNoStray found bytes) (sym (one_in w v h)) is;
+}
+
+pub tells_stray : (found : ℕ → Option Found) (bytes w : ℕ) → found w ≡ None → FIRST_ADDRESS ≤ w → w < FIRST_ADDRESS + bytes → TellsStray found bytes (w ∷ []) true
+tells_stray found bytes w none from below = record {
+  some = λ e. (w, (0, (let l : 0 < 1 = omega arith in l), refl), record { nothing = none; from = from; below = below });
+  none = λ e v h. absurd (false≢true (sym e));
+}
+
+pub tells_far : (pages bytes w : ℕ) (found : ℕ → Option Found) → bytes ≡ PAGE_BYTES * pages → w < 2 ^ 64 → bytes ≤ (w + (2 ^ 64 - FIRST_ADDRESS)) % 2 ^ 64 → TellsStray found (PAGE_BYTES * pages) (w ∷ []) false
+tells_far pages bytes w found b fits far = tells_none found (PAGE_BYTES * pages) w (inr (⊎_elim (λ low. inl low) (λ (high : FIRST_ADDRESS ≤ w). inr (omega (arith, b, fits, far, high))) (cases_lt w FIRST_ADDRESS)))
+
 -- no object is pointed into
 pub word_none : (found : ℕ → Option Found) (w : ℕ) (m : Marking) → found w ≡ None → MarksWord found w m m
 word_none found w m n = nothing (λ g e. let x : None ≡ Some g = sym n ∙ e in absurd (cc x)) refl
@@ -64,19 +83,21 @@ awaits_same f a b new s d (dirtied k r x y) = dirtied k (ap length (sym s) ∙ r
 
 -- An unmarked object is pointed into, whose granule is n: it is marked, and then its words await reading.
 pub word_object : (found : ℕ → Option Found) (w : ℕ) (g : Found) (n : ℕ) (old from mid new : Marking) → from ≡ old → found w ≡ Some g → n ≡ granule g.base → get_or from.marks n false ≡ false
-    → mid.marks ≡ set from.marks n true → mid.current ≡ from.current → mid.stack ≡ from.stack → mid.dirty ≡ from.dirty → new.marks ≡ mid.marks → new.current ≡ mid.current → Awaits g mid new → MarksWord found w old new
-word_object found w g n old from mid new view is e clear marks current stack dirty same still awaits =
+    → mid.marks ≡ set from.marks n true → mid.current ≡ from.current → mid.stack ≡ from.stack → mid.dirty ≡ from.dirty → mid.carried ≡ from.carried → new.marks ≡ mid.marks → new.carried ≡ mid.carried → new.current ≡ mid.current → Awaits g mid new → MarksWord found w old new
+word_object found w g n old from mid new view is e clear marks current stack dirty carried same as_it_was still awaits =
     subst (λ o. MarksWord found w o new) view
     (object g is (record {
       unmarked = λ h. false≢true (sym clear ∙ ap (λ j. get_or from.marks j false) e ∙ h);
       marks = same ∙ marks ∙ ap (λ j. set from.marks j true) e;
+      carried = as_it_was ∙ carried;
       current = still ∙ current;
       awaits = awaits_same g from mid new stack dirty awaits;
     }))
 
 -- an entry is pushed that is unread
-pub consistent_push : (m : Marking) (e : Entry) (new : Marking) → IsConsistent m → e.next ≡ 0 → length m.stack < MARK_STACK_ENTRIES → length new.marks ≡ length m.marks → new.dirty ≡ m.dirty → new.stack ≡ m.stack ++ e ∷ [] → IsConsistent new
-consistent_push m e new c z room k d s = record {
+pub consistent_push : (m : Marking) (e : Entry) (new : Marking) → IsConsistent m → e.next ≡ 0 → length m.stack < MARK_STACK_ENTRIES → length new.marks ≡ length m.marks → new.dirty ≡ m.dirty → new.carried ≡ m.carried → new.stack ≡ m.stack ++ e ∷ [] → IsConsistent new
+consistent_push m e new c z room k d a s = record {
+  carried = ap length a ∙ c.carried ∙ ap length (sym d);
   marks = k ∙ c.marks ∙ ap (λ r. PAGE_GRANULES * length r) (sym d);
   few = (let l : length new.dirty ≡ length m.dirty = ap length d in let f = c.few in omega arith);
   room = (let l : length new.stack ≡ length m.stack + 1 = ap length s ∙ length_push m.stack e in omega arith);
@@ -84,8 +105,9 @@ consistent_push m e new c z room k d s = record {
 }
 
 -- the entry on top is taken
-pub consistent_pop : (m : Marking) (o : Option Entry) (new : Marking) → IsConsistent m → new.marks ≡ m.marks → new.dirty ≡ m.dirty → m.stack ≡ new.stack ++ option_to_list o → IsConsistent new
-consistent_pop m o new c k d s = record {
+pub consistent_pop : (m : Marking) (o : Option Entry) (new : Marking) → IsConsistent m → new.marks ≡ m.marks → new.dirty ≡ m.dirty → new.carried ≡ m.carried → m.stack ≡ new.stack ++ option_to_list o → IsConsistent new
+consistent_pop m o new c k d a s = record {
+  carried = ap length a ∙ c.carried ∙ ap length (sym d);
   marks = ap length k ∙ c.marks ∙ ap (λ r. PAGE_GRANULES * length r) (sym d);
   few = (let l : length new.dirty ≡ length m.dirty = ap length d in let f = c.few in omega arith);
   room = (let l : length m.stack ≡ length new.stack + length (option_to_list o) = ap length s ∙ length-append new.stack (option_to_list o) in let r = c.room in omega arith);
@@ -125,6 +147,7 @@ module _ (pages : ℕ) (found : ℕ → Option Found) (map : IsMap pages found) 
     marks = grows;
     objects = λ k h. ⊎_elim (λ o. inl o) (λ (s : granule g.base ≡ k). inr (record { object = g; is = is; first = s })) (object_only k h);
     dirty = dirty;
+    carried = x.carried;
     current = x.current;
     stack = stack;
     fresh = λ f e k. ⊎_elim (λ o. inl o)

@@ -1,18 +1,18 @@
 -- What mutators do while the heap is marked keeps the invariant.
-use Rattle.std.proofs.Common.{◌≡◌, ◌≢◌, ℕ, ◌+◌, ◌*◌, ◌<◌, ◌≤◌, List, length, Bool, true, false, get_or, set, Contains, Option, Some, None, sym, ap, ◌∙◌, subst, inl, inr, ⊎_elim, arith, length-set, get_or-set_same, get_or-set_other}
+use Rattle.std.proofs.Common.{◌≡◌, ◌≢◌, ℕ, ◌+◌, ◌*◌, ◌<◌, ◌≤◌, List, length, Bool, true, false, get_or, set, Contains, Option, Some, None, refl, sym, ap, ◌∙◌, subst, inl, inr, ⊎_elim, arith, length-set, get_or-set_same, get_or-set_other}
 use Rattle.std.specs.Prelude.{◌⊎◌}
 use Rattle.std.proofs.lemmas.Option.{same_Some}
 use Rattle.std.proofs.lemmas.Bool.{false≢true, cases_eq, cases_lt}
 use Rattle.std.proofs.lemmas.List.{get_or_past}
 use Rattle.block_map.specs.declared.found.Found.{Found}
 use Rattle.block_map.specs.Objects.{IsInside, IsMap}
-use Rattle.words.specs.declared.limits.TheConstants.{WORD_BYTES}
+use Rattle.words.specs.declared.limits.TheConstants.{FIRST_ADDRESS, PAGE_BYTES, WORD_BYTES}
 use Rattle.words.specs.Bits.{Has}
 use Rattle.words.specs.Layout.{page_of, granule}
 use Rattle.pages.specs.Memory.{place, word_at, with_word_at}
-use Rattle.marker.specs.Marking.{Marking, IsFresh, IsMarked, IsLeftToEntry, word_address}
-use Rattle.marker.specs.Invariant.{DirtyPageInvariant}
-use Rattle.marker.specs.Mutations.{DirtiesPage, IsAllocated, IsFreed, HasNoNew, KeepsWords, HasZeroWords}
+use Rattle.marker.specs.Marking.{Marking, IsFresh, IsMarked, IsDirtyAt, IsLeftToEntry, IsOutside, word_address}
+use Rattle.marker.specs.Invariant.{DirtyPageInvariant, CarriedPageInvariant, IsSettled, IsTargetMarked, IsAwaited}
+use Rattle.marker.specs.Mutations.{BeginsPartial, DirtiesPage, IsAllocated, IsFreed, HasNoNew, KeepsWords, HasZeroWords}
 use Rattle.block_map.specs.Changes.{IsAdded, IsRemoved, IsSameMap}
 use Rattle.marker.proofs.Closures.{at_base, same_object}
 use Rattle.marker.proofs.Spreads.{has_set, has_set_back}
@@ -101,6 +101,10 @@ pub freed_keeps : (pages : ℕ) (found after : ℕ → Option Found) (words word
 freed_keeps pages found after words words' f base old new x b map object removed same t =
     freed_traced pages found after words words' f old new map object removed same (subst (λ (a : ℕ). IsFreed a old new) (sym b) x) t
 
+-- where an object has come, the others are there
+pub added_still : (found after : ℕ → Option Found) (f : Found) → IsAdded found after f → (w : ℕ) (o : Found) → found w ≡ Some o → after w ≡ Some o
+added_still found after f added w o e = added.others w (λ r. let z : None ≡ Some o = sym (added.before w r) ∙ e in absurd (cc z)) ∙ e
+
 -- an object comes, with words 0
 pub alloc_traced : (pages : ℕ) (found after : ℕ → Option Found) (words words' : List ℕ) (f : Found) (old new : Marking) → IsMap pages after → after f.base ≡ Some f → IsAdded found after f
     → KeepsWords found words words' → HasZeroWords words' f → IsAllocated f.base old new → granule f.base < length old.marks
@@ -141,4 +145,112 @@ alloc_keeps pages found after words words' f base old new inside x b map object 
 pub fresh_traced : (pages : ℕ) (found : ℕ → Option Found) (words : List ℕ) (m : Marking) → IsFresh pages m → DirtyPageInvariant found words m
 fresh_traced pages found words m fresh f e n k i lt = absurd (false≢true (sym (fresh.marks.clear (granule f.base)) ∙ k))
 
-pub ruleset mutating = (store_traced, fresh_traced)
+pub fresh_carried : (pages : ℕ) (found : ℕ → Option Found) (words : List ℕ) (m : Marking) → IsFresh pages m → CarriedPageInvariant found words m
+fresh_carried pages found words m fresh f e n k i lt = absurd (false≢true (sym (fresh.marks.clear (granule f.base)) ∙ k))
+
+-- what is settled stays settled
+pub settled_same : (found after : ℕ → Option Found) (old new : Marking) (p w : ℕ) → ((g : Found) → found w ≡ Some g → IsMarked old g.base → (after w ≡ Some g) × IsMarked new g.base) → length new.dirty ≡ length old.dirty
+    → ((q : ℕ) → Has old.carried q → Has new.carried q) → IsSettled found old p w → IsSettled after new p w
+settled_same found after old new p w held size carried (IsSettled.held g e k) = let h = held g e k in IsSettled.held g h.0 h.1
+settled_same found after old new p w held size carried (IsSettled.outside o) = IsSettled.outside (subst (λ (n : ℕ). IsOutside (PAGE_BYTES * n) w) (sym size) o)
+settled_same found after old new p w held size carried (IsSettled.carried h) = IsSettled.carried (carried _ h)
+
+-- a word is stored
+pub store_carried : (found : ℕ → Option Found) (words : List ℕ) (address w : ℕ) (old new : Marking) → DirtiesPage address old new → page_of address < length old.dirty
+    → CarriedPageInvariant found words old → CarriedPageInvariant found (with_word_at words address w) new
+store_carried found words address w old new x inside t f e n k i lt =
+    ⊎_elim
+    (λ (z : page_of (word_address f i) ≡ page_of address).
+    inr (inl (ap (λ q. get_or new.dirty q false) z ∙ ap (λ y. get_or y (page_of address) false) x.dirty ∙ get_or-set_same old.dirty (page_of address) true false inside)))
+    (λ ne.
+    let apart : place (word_address f i) ≢ place address = λ m. ne (omega arith) in
+    let same : word_at (with_word_at words address w) (word_address f i) ≡ word_at words (word_address f i) = get_or-set_other words (place address) (place (word_address f i)) w 0 apart in
+    ⊎_elim
+    (λ g. inl (subst (IsSettled found new (word_address f i)) (sym same)
+    (settled_same found found old new _ _ (λ o y k. (y, subst (λ q. Has q (granule o.base)) (sym x.marks) k)) (ap length x.dirty ∙ length-set old.dirty (page_of address) true) (λ q h. subst (λ r. Has r q) (sym x.carried) h) g)))
+    (λ a. inr (⊎_elim (λ d. inl (subst (λ q. Has q (page_of (word_address f i))) (sym x.dirty) (has_set old.dirty (page_of address) (page_of (word_address f i)) inside d)))
+    (λ p. inr (pending_same old new x.current x.stack f.base i p)) a))
+    (t f e n (subst (λ q. Has q (granule f.base)) x.marks k) i lt))
+    (cases_eq (page_of (word_address f i)) (page_of address))
+
+-- unmarked objects leave, and none comes
+pub left_carried : (found after : ℕ → Option Found) (words words' : List ℕ) (m : Marking) → HasNoNew found after → ((w : ℕ) (g : Found) → found w ≡ Some g → IsMarked m g.base → after w ≡ Some g) → KeepsWords after words words'
+    → CarriedPageInvariant found words m → CarriedPageInvariant after words' m
+left_carried found after words words' m r stay same t f e n k i lt =
+    ⊎_elim
+    (λ g. inl (subst (IsSettled after m (word_address f i)) (sym (same f i e lt)) (settled_same found after m m _ _ (λ o y z. (stay _ o y z, z)) refl (λ q h. h) g)))
+    (λ a. inr a)
+    (t f (r.before f.base f e) n k i lt)
+
+-- an object comes and isn't marked
+pub came_carried : (found after : ℕ → Option Found) (words words' : List ℕ) (f : Found) (m : Marking) → IsAdded found after f → (IsMarked m f.base → ⊥) → after f.base ≡ Some f → KeepsWords found words words'
+    → CarriedPageInvariant found words m → CarriedPageInvariant after words' m
+came_carried found after words words' f m added unmarked object same t g e n k i lt =
+    ⊎_elim
+    (λ (r : IsInside g.base f).
+    let s : g ≡ f = same_Some g f (sym e ∙ added.after g.base r) in
+    absurd (unmarked (subst (λ (h : Found). IsMarked m h.base) s k)))
+    (λ not.
+    let was : found g.base ≡ Some g = sym (added.others g.base not) ∙ e in
+    ⊎_elim
+    (λ h. inl (subst (IsSettled after m (word_address g i)) (sym (same g i was lt)) (settled_same found after m m _ _ (λ o y z. (added_still found after f added _ o y, z)) refl (λ q h. h) h)))
+    (λ a. inr a)
+    (t g was n k i lt))
+    (reads_cases g.base f)
+
+-- an object comes and is marked, with words 0
+pub alloc_carried : (pages : ℕ) (found after : ℕ → Option Found) (words words' : List ℕ) (f : Found) (base : ℕ) (old new : Marking) → granule base < length old.marks → IsAllocated base old new → f.base ≡ base
+    → IsMap pages after → after f.base ≡ Some f → IsAdded found after f → KeepsWords found words words' → HasZeroWords words' f → CarriedPageInvariant found words old → CarriedPageInvariant after words' new
+alloc_carried pages found after words words' f base old new inside x b map object added same zero t g e n k i lt =
+    ⊎_elim
+    (λ (r : IsInside g.base f).
+    let s : g ≡ f = same_Some g f (sym e ∙ added.after g.base r) in
+    let z : word_at words' (word_address g i) ≡ 0 = ap (λ h. word_at words' (word_address h i)) s ∙ zero i (subst (λ (h : Found). i < h.len) s lt) in
+    inl (subst (IsSettled after new (word_address g i)) (sym z) (IsSettled.outside (inl (let l : 0 < FIRST_ADDRESS = omega arith in l)))))
+    (λ not.
+    let was : found g.base ≡ Some g = sym (added.others g.base not) ∙ e in
+    let some = (map.placed f.base f object).some in
+    let marked : IsMarked old g.base =
+    ⊎_elim (λ h. h)
+    (λ (z : granule g.base ≡ granule base). absurd (not (subst (λ (h : Found). IsInside h.base f) (sym (same_object pages after map g f e object (z ∙ ap granule (sym b)))) (record { from = omega arith; below = omega arith }))))
+    (has_set_back old.marks (granule base) (granule g.base) (subst (λ q. Has q (granule g.base)) x.marks k)) in
+    let more = λ (o : Found) (h : IsMarked old o.base). let y : IsMarked new o.base = subst (λ q. Has q (granule o.base)) (sym x.marks) (has_set old.marks (granule base) (granule o.base) inside h) in y in
+    ⊎_elim
+    (λ h. inl (subst (IsSettled after new (word_address g i)) (sym (same g i was lt)) (settled_same found after old new _ _ (λ o y z. (added_still found after f added _ o y, more o z)) (ap length x.dirty) (λ q h. subst (λ r. Has r q) (sym x.carried) h) h)))
+    (λ a. inr (⊎_elim (λ d. inl (subst (λ q. Has q (page_of (word_address g i))) (sym x.dirty) d)) (λ p. inr (pending_same old new x.current x.stack g.base i p)) a))
+    (t g was n marked i lt))
+    (reads_cases g.base f)
+
+-- the carried pages become dirty: what is settled by its page is awaited now
+pub partial_traced : (pages : ℕ) (found : ℕ → Option Found) (words : List ℕ) (old new : Marking) → IsMap pages found → pages ≡ length old.dirty → BeginsPartial old new → CarriedPageInvariant found words old → DirtyPageInvariant found words new
+partial_traced pages found words old new map size x t f e n k i lt =
+    ⊎_elim
+    (λ s. by_settled s)
+    (λ a. inr (awaited a))
+    (t f e n (subst (λ q. Has q (granule f.base)) x.marks k) i lt)
+  where
+    awaited : IsDirtyAt old (word_address f i) ⊎ IsLeftToEntry old f.base i → IsAwaited new f i
+    awaited a = ⊎_elim (λ d. inl (x.dirty _ d)) (λ p. inr (pending_same old new x.current x.stack f.base i p)) a
+
+    by_settled : IsSettled found old (word_address f i) (word_at words (word_address f i)) → IsTargetMarked found new (word_at words (word_address f i)) ⊎ IsAwaited new f i
+    by_settled (IsSettled.held g there marked) = inl (λ o y. subst (λ q. Has q (granule o.base)) (sym x.marks) (subst (λ (z : Found). IsMarked old z.base) (same_Some g o (sym there ∙ y)) marked))
+    by_settled (IsSettled.outside out) = inl (λ o y. absurd (
+        let r = map.reads _ o y in let p = map.placed _ o y in
+        let a = r.from in let b = r.below in let c = p.above in let d = p.below in
+        ⊎_elim (λ low. omega arith) (λ high. omega arith) out))
+    by_settled (IsSettled.carried h) = inr (inl (x.carried _ h))
+
+-- and the invariant of carried pages stays
+pub partial_carried : (found : ℕ → Option Found) (words : List ℕ) (old new : Marking) → BeginsPartial old new → CarriedPageInvariant found words old → CarriedPageInvariant found words new
+partial_carried found words old new x t f e n k i lt =
+    ⊎_elim
+    (λ s. by_settled s)
+    (λ a. inr (⊎_elim (λ d. inl (x.dirty _ d)) (λ p. inr (pending_same old new x.current x.stack f.base i p)) a))
+    (t f e n (subst (λ q. Has q (granule f.base)) x.marks k) i lt)
+  where
+    by_settled : IsSettled found old (word_address f i) (word_at words (word_address f i)) → IsSettled found new (word_address f i) (word_at words (word_address f i)) ⊎ IsAwaited new f i
+    by_settled (IsSettled.held g there marked) = inl (IsSettled.held g there (subst (λ q. Has q (granule g.base)) (sym x.marks) marked))
+    by_settled (IsSettled.outside out) = inl (IsSettled.outside (subst (λ (n : ℕ). IsOutside (PAGE_BYTES * n) (word_at words (word_address f i))) (sym x.dirty_len) out))
+    by_settled (IsSettled.carried h) = inr (inl (x.carried _ h))
+
+pub ruleset mutating = (store_traced, store_carried, fresh_traced, fresh_carried, partial_traced, partial_carried)

@@ -1,14 +1,14 @@
 -- A page that is cut is read again, by its mark bits.
-use Rattle.std.proofs.Common.{◌≡◌, ℕ, ◌+◌, ◌*◌, ◌<◌, ◌≤◌, ◌⊎◌, List, [], ◌++◌, length, Bool, true, false, Contains, Option, Some, None, refl, sym, ap, ◌∙◌, subst, ⊎_elim, arith, get_or}
+use Rattle.std.proofs.Common.{◌≡◌, ℕ, ◌+◌, ◌*◌, ◌<◌, ◌≤◌, ◌⊎◌, List, [], ◌++◌, length, Bool, true, false, Contains, Option, Some, None, refl, sym, ap, ◌∙◌, subst, inl, inr, ⊎_elim, arith, get_or}
 use Rattle.std.proofs.lemmas.Option.{same_Some}
 use Rattle.std.proofs.lemmas.Bool.{cases_lt, false≢true}
 use Rattle.std.proofs.lemmas.List.Elements.{Contains-append_cases, Contains-append_left, Contains-append_right}
 use Rattle.std.specs.Prelude.{◌==◌, ◌%◌, ◌/◌, if◌then◌else◌}
 use Rattle.std.specs.Int.{bit_at}
 use Rattle.words.specs.declared.class.Kind.TheVariants.{Normal}
-use Rattle.words.specs.declared.limits.TheConstants.{FIRST_ADDRESS, GRANULE_BYTES, PAGE_GRANULES, PAGE_WORDS, WORD_BYTES}
+use Rattle.words.specs.declared.limits.TheConstants.{FIRST_ADDRESS, GRANULE_BYTES, PAGE_BYTES, PAGE_GRANULES, PAGE_WORDS, WORD_BYTES}
 use Rattle.words.specs.Bits.{Has, HasBit}
-use Rattle.words.specs.Layout.{granule, page_start, IsOnPage}
+use Rattle.words.specs.Layout.{granule, page_of, page_start, IsOnPage}
 use Rattle.pages.specs.Memory.{word_at}
 use Rattle.blocks.specs.Cells.{Cells}
 use Rattle.block_map.specs.declared.found.Found.{Found}
@@ -16,13 +16,15 @@ use Rattle.block_map.specs.Objects.{IsMap, cell_object}
 use Rattle.block_map.specs.FoundIn.{found_in, cell_at}
 use Rattle.block_map.specs.States.{PageState, free, cut, head, body, state_at, IsCut}
 use Rattle.block_map.proofs.Finding.{found_as}
-use Rattle.marker.specs.Marking.{Marking, IsMarked, word_address}
+use Rattle.marker.specs.Marking.{Marking, IsMarked, with_carried, word_address}
 use Rattle.marker.specs.Closure.{held}
-use Rattle.marker.specs.Growth.{MarksWords, begun, words_of}
+use Rattle.marker.specs.Invariant.{IsSettled}
+use Rattle.marker.specs.Growth.{MarksWords, CarriesPage, begun, words_of}
 use Rattle.marker.specs.Retracing.{Rereads, IsBefore, RereadsObjects}
 use Rattle.marker.proofs.Closures.{closure_more, same_object}
-use Rattle.marker.proofs.Rescanning.{reads_own, between_more}
-use Rattle.marker.proofs.Words.{words_append, words_extends, words_within, word_of, contains_word}
+use Rattle.marker.proofs.Growing.{settled_grows, stray_page_more}
+use Rattle.marker.proofs.Rescanning.{reads_own, between_more, run_settled}
+use Rattle.marker.proofs.Words.{words_append, words_carried, words_extends, words_within, word_of, contains_word, run_strays}
 
 -- on a page that is cut, an object begins there that a word of it points into
 found_begins : (page w : ℕ) (b : Cells) (f : Found) (taken : Bool) → (if taken then Some (cell_object page b (cell_at b w)) else None) ≡ Some f → page_start page ≤ f.base
@@ -47,6 +49,10 @@ pub objects_none : (found : ℕ → Option Found) (words : List ℕ) (first : Ma
 objects_none found words first high low past n m le not = record {
   read = [];
   marks = begun;
+  carried_len = refl;
+  carried = λ p h. h;
+  strays = λ p h. inl h;
+  settled = λ f e k o from below i lt b. absurd (not f e k o from below);
   all = λ f e k o from below i lt b. absurd (not f e k o from below);
   only = λ w c. let l = c.1 in absurd (omega arith);
   within = λ f e k. held e k;
@@ -59,6 +65,10 @@ pub objects_fewer : (found : ℕ → Option Found) (words : List ℕ) (first few
 objects_fewer found words first fewer high low past n k old new more x = record {
   read = x.read;
   marks = x.marks;
+  carried_len = x.carried_len;
+  carried = x.carried;
+  strays = x.strays;
+  settled = λ f e h o. x.settled f e h (more f.base o);
   all = λ f e h o. x.all f e h (more f.base o);
   only = x.only;
   within = x.within;
@@ -84,21 +94,32 @@ module _ (pages : ℕ) (found : ℕ → Option Found) (map : IsMap pages found) 
       not f (sym (ap found base) ∙ e) base normal)
 
   -- the words of a marked object are read up to an address
-  pub objects_words : (first : Marking) (high g stop n r k : ℕ) (f : Found) (old new : Marking) → length old.marks ≡ PAGE_GRANULES * pages → f.base < high
+  pub objects_words : (first : Marking) (high g stop n r k page : ℕ) (f : Found) (old new : Marking) → ((i : ℕ) → 0 ≤ i → i < 0 + n → page_of (word_address f i) ≡ page)
+      → CarriesPage found (PAGE_BYTES * length old.dirty) (words_of words f 0 n) page old.carried new.carried → length old.marks ≡ PAGE_GRANULES * pages → f.base < high
       → found f.base ≡ Some f → f.kind ≡ Normal → IsMarked old f.base → granule f.base ≡ g → n ≤ f.len → stop ≡ f.base + WORD_BYTES * n → stop ≤ high
       → (stop ≡ f.base + WORD_BYTES * f.len) ⊎ (stop ≡ high) → k ≡ r + n
-      → MarksWords found old (words_of words f 0 n) new → RereadsObjects found words first high g (g + 1) r old k new
-  objects_words first high g stop n r k f old new size below is normal marked at fits end within whole reads x =
+      → MarksWords found old (words_of words f 0 n) (with_carried new old.carried) → RereadsObjects found words first high g (g + 1) r old k new
+  objects_words first high g stop n r k page f old new one_page carries size below is normal marked at fits end within whole reads x =
       let extends = words_extends pages found map old size x in
       let placed = map.placed f.base f is in
+      let among = λ (h : Found) (e : found h.base ≡ Some h) (from : g ≤ granule h.base) (past : granule h.base < g + 1) (i : ℕ) (lt : i < h.len) (b : word_address h i < high).
+      let s : f ≡ h = same_object pages found map f h is e (omega arith) in
+      let base = ap (λ (z : Found). z.base) s in let len = ap (λ (z : Found). z.len) s in
+      let inside : i < n = ⊎_elim (λ (q : stop ≡ f.base + WORD_BYTES * f.len). omega arith) (λ (q : stop ≡ high). omega arith) whole in
+      let both : (f ≡ h) × (i < n) = (s, inside) in both in
       record {
         read = words_of words f 0 n;
         marks = x;
+        carried_len = carries.len;
+        carried = carries.stays;
+        strays = run_strays found words f 0 n page old new.carried one_page carries is normal marked (omega arith);
+        settled = λ h e m o from past i lt b.
+            let s = among h e from past i lt b in let inside = s.1 in
+            subst (λ (z : Found). IsSettled found new (word_address z i) (word_at words (word_address z i))) s.0
+            (run_settled pages found map words f 0 n page old new one_page carries size x i (omega arith) (omega arith));
         all = λ h e m o from past i lt b.
-            let s : f ≡ h = same_object pages found map f h is e (omega arith) in
-            let base = ap (λ (z : Found). z.base) s in let len = ap (λ (z : Found). z.len) s in
-            let inside : i < n = ⊎_elim (λ (q : stop ≡ f.base + WORD_BYTES * f.len). omega arith) (λ (q : stop ≡ high). omega arith) whole in
-            subst (λ (z : Found). Contains (words_of words f 0 n) (word_at words (word_address z i))) s (contains_word words f 0 n i (omega arith) (omega arith));
+            let s = among h e from past i lt b in let inside = s.1 in
+            subst (λ (z : Found). Contains (words_of words f 0 n) (word_at words (word_address z i))) s.0 (contains_word words f 0 n i (omega arith) (omega arith));
         only = λ w c.
             let y = word_of words f 0 n w c in let lt = y.2 in let above = placed.above in
             record {
@@ -137,7 +158,14 @@ module _ (pages : ℕ) (found : ℕ → Option Found) (map : IsMap pages found) 
       let bc = words_extends pages found map b (ab.marks_len ∙ size) y.marks in
       record {
         read = x.read ++ y.read;
-        marks = words_append found a x.read b x.marks y.marks;
+        marks = words_append found a x.read (with_carried b a.carried) x.marks (words_carried found b a.carried y.marks);
+        carried_len = y.carried_len ∙ x.carried_len;
+        carried = λ p h. y.carried p (x.carried p h);
+        strays = λ p h. ⊎_elim (λ o. x.strays p o) (λ s. inr (stray_page_more found words [] [] a b ab.dirty_len (λ w r. r) x.within p s)) (y.strays p h);
+        settled = λ f e m o from below i lt h. ⊎_elim
+            (λ before. settled_grows found b c bc.marks bc.dirty_len y.carried _ _ (x.settled f e m o from before i lt h))
+            (λ after. y.settled f e m o after below i lt h)
+            (cases_lt (granule f.base) mid);
         all = λ f e m o from below i lt h. ⊎_elim
             (λ before. Contains-append_left x.read y.read _ (x.all f e m o from before i lt h))
             (λ after. Contains-append_right x.read y.read _ (y.all f e m o after below i lt h))
@@ -174,6 +202,12 @@ module _ (pages : ℕ) (found : ℕ → Option Found) (map : IsMap pages found) 
     record {
       read = x.read;
       marks = x.marks;
+      carried_len = x.carried_len;
+      carried = x.carried;
+      strays = x.strays;
+      settled = λ f is normal marked i lt from below.
+          let base = begins (word_address f i) f from below (reads_own pages found map f i is lt) in
+          x.settled f is normal marked (omega arith) (omega arith) i lt below;
       all = λ w y.
           let from = y.from in let below = y.below in
           let base = begins (word_address y.object y.index) y.object y.from y.below (reads_own pages found map y.object y.index y.is y.inside) in

@@ -1,5 +1,5 @@
 -- Entries are dropped.
-use Rattle.std.proofs.Common.{◌≡◌, ℕ, ◌+◌, ◌-◌, ◌<◌, ◌≤◌, Bool, true, false, List, [], ◌∷◌, ◌++◌, length, get_or, sum_by, Contains, Option, Some, None, refl, sym, ap, ◌∙◌, subst, inl, inr, ⊎_elim, append_assoc, append-nil, length-append, arith}
+use Rattle.std.proofs.Common.{◌≡◌, ℕ, ◌+◌, ◌-◌, ◌*◌, ◌<◌, ◌≤◌, Bool, true, false, List, [], ◌∷◌, ◌++◌, length, get_or, sum_by, Contains, Option, Some, None, refl, sym, ap, ◌∙◌, subst, inl, inr, ⊎_elim, append_assoc, append-nil, length-append, arith}
 use Rattle.std.specs.Prelude.{◌⊎◌, option_to_list}
 use Rattle.std.proofs.lemmas.Option.{same_Some}
 use Rattle.std.proofs.lemmas.Bool.{cases_eq}
@@ -7,13 +7,14 @@ use Rattle.std.proofs.lemmas.List.Sums.{sum_by-append}
 use Rattle.std.proofs.lemmas.List.Elements.{Contains-append_cases, Contains-append_left, Contains-push}
 use Rattle.std.proofs.lemmas.List.{same_from_push, length_push, get_or_push}
 use Rattle.std.proofs.lemmas.List.{get_or-append-add}
+use Rattle.words.specs.declared.limits.TheConstants.{PAGE_BYTES}
 use Rattle.words.specs.Bits.{Has}
 use Rattle.words.specs.Layout.{granule, page_of}
 use Rattle.block_map.specs.declared.found.Found.{Found}
 use Rattle.marker.specs.declared.entry.Entry.{Entry}
-use Rattle.marker.specs.Marking.{Marking, IsEmpty, IsEntry, IsLeftToEntry, entries, word_address}
+use Rattle.marker.specs.Marking.{Marking, IsEmpty, IsEntry, IsLeftToEntry, IsOutside, entries, word_address}
 use Rattle.marker.specs.Work.{left, left_of, page_words, unmarked_from, cost}
-use Rattle.marker.specs.Invariant.{DirtyPageInvariant}
+use Rattle.marker.specs.Invariant.{DirtyPageInvariant, CarriedPageInvariant, IsSettled}
 use Rattle.marker.specs.Closure.{held}
 use Rattle.marker.specs.Growth.{Traces}
 use Rattle.marker.specs.Entries.{IsSpent, IsLive, ReadsOn, read_on, Settles, IsReadOut, TakesOff, IsBelow}
@@ -23,6 +24,7 @@ use Rattle.marker.proofs.Growing.{below_refl}
 pub record Drops (found : ℕ → Option Found) (old new : Marking) : Type 0 where
   pub marks : new.marks ≡ old.marks
   pub dirty : new.dirty ≡ old.dirty
+  pub carried : new.carried ≡ old.carried
   pub dropped : List Entry
   pub entries_are : entries old ≡ entries new ++ dropped
   pub spent : (e : Entry) → Contains dropped e → IsSpent found old e
@@ -90,11 +92,12 @@ read_out found words n old on f r l all e is g there base normal marked =
 
 module _ (found : ℕ → Option Found) where
   pub drops_refl : (m : Marking) → Drops found m m
-  drops_refl m = record { marks = refl; dirty = refl; dropped = []; entries_are = sym (append-nil (entries m)); spent = λ e h. absurd (none_in e h) }
+  drops_refl m = record { marks = refl; dirty = refl; carried = refl; dropped = []; entries_are = sym (append-nil (entries m)); spent = λ e h. absurd (none_in e h) }
 
   -- the next entry is taken
-  pub drops_more : (a b c : Marking) → Drops found a b → c.marks ≡ b.marks → c.dirty ≡ b.dirty → b.stack ≡ entries c → ((e : Entry) → b.current ≡ Some e → IsSpent found b e) → Drops found a c
-  drops_more a b c x m d s spent = record {
+  pub drops_more : (a b c : Marking) → Drops found a b → c.marks ≡ b.marks → c.dirty ≡ b.dirty → c.carried ≡ b.carried → b.stack ≡ entries c → ((e : Entry) → b.current ≡ Some e → IsSpent found b e) → Drops found a c
+  drops_more a b c x m d r s spent = record {
+    carried = r ∙ x.carried;
     marks = m ∙ x.marks;
     dirty = d ∙ x.dirty;
     dropped = option_to_list b.current ++ x.dropped;
@@ -105,16 +108,16 @@ module _ (found : ℕ → Option Found) where
   }
 
   pub drops_settles : (a b : Marking) → Drops found a b → (b.current ≡ None → b.stack ≡ []) → Settles found a b
-  drops_settles a b x n = record { marks = x.marks; dirty = x.dirty; dropped = x.dropped; entries_are = x.entries_are; spent = x.spent; next = n }
+  drops_settles a b x n = record { marks = x.marks; dirty = x.dirty; carried = x.carried; dropped = x.dropped; entries_are = x.entries_are; spent = x.spent; next = n }
 
   -- an entry is being read, and nothing is dropped
   pub settles_none : (m : Marking) (e : Entry) → m.current ≡ Some e → Settles found m m
   settles_none m e is = drops_settles m m (drops_refl m) (λ n. let z : None ≡ Some e = sym n ∙ is in absurd (cc z))
 
   -- the entry that is being read has no word left, and the next one is taken
-  pub settles_next : (m new : Marking) (taken : Bool) → new.marks ≡ m.marks → new.dirty ≡ m.dirty → m.stack ≡ entries new → ((e : Entry) → m.current ≡ Some e → IsSpent found m e)
+  pub settles_next : (m new : Marking) (taken : Bool) → new.marks ≡ m.marks → new.dirty ≡ m.dirty → new.carried ≡ m.carried → m.stack ≡ entries new → ((e : Entry) → m.current ≡ Some e → IsSpent found m e)
       → (taken ≡ true → length new.stack + 1 ≡ length m.stack) → (taken ≡ false → IsEmpty new) → Settles found m new
-  settles_next m new taken k d s spent fewer none = drops_settles m new (drops_more m m new (drops_refl m) k d s spent) (empty taken fewer none)
+  settles_next m new taken k d r s spent fewer none = drops_settles m new (drops_more m m new (drops_refl m) k d r s spent) (empty taken fewer none)
     where
       empty : (t : Bool) → (t ≡ true → length new.stack + 1 ≡ length m.stack) → (t ≡ false → IsEmpty new) → new.current ≡ None → new.stack ≡ []
       empty false f n c = (n refl).stack
@@ -146,6 +149,19 @@ module _ (found : ℕ → Option Found) where
         (λ (s : IsSpent found a p.entry). absurd (let l = s f is (sym p.same) n (subst (λ y. Has y (granule f.base)) x.marks k) in let q = p.left in omega arith)) (settled_entry p.entry p.one)) w))
         (t f is n (subst (λ y. Has y (granule f.base)) x.marks k) i lt)
 
+    still_settled : (p w : ℕ) → IsSettled found a p w → IsSettled found b p w
+    still_settled p w (IsSettled.held g e k) = IsSettled.held g e (subst (λ y. Has y (granule g.base)) (sym x.marks) k)
+    still_settled p w (IsSettled.outside o) = IsSettled.outside (subst (λ (n : ℕ). IsOutside (PAGE_BYTES * n) w) (sym (ap length x.dirty)) o)
+    still_settled p w (IsSettled.carried h) = IsSettled.carried (subst (λ r. Has r (page_of p)) (sym x.carried) h)
+
+    settled_carried : (words : List ℕ) → CarriedPageInvariant found words a → CarriedPageInvariant found words b
+    settled_carried words t f is n k i lt =
+        ⊎_elim (λ g. inl (still_settled _ _ g))
+        (λ w. inr (⊎_elim (λ d. inl (subst (λ y. Has y (page_of (word_address f i))) (sym x.dirty) d))
+        (λ (p : IsLeftToEntry a f.base i). ⊎_elim (λ one. inr (record { entry = p.entry; one = one; same = p.same; left = p.left }))
+        (λ (s : IsSpent found a p.entry). absurd (let l = s f is (sym p.same) n (subst (λ y. Has y (granule f.base)) x.marks k) in let q = p.left in omega arith)) (settled_entry p.entry p.one)) w))
+        (t f is n (subst (λ y. Has y (granule f.base)) x.marks k) i lt)
+
     pub settled_traces : (words : List ℕ) → Traces found words [] a b
     settled_traces words = record {
       marks_len = ap length x.marks;
@@ -155,6 +171,10 @@ module _ (found : ℕ → Option Found) where
       within = λ f e k. held e (subst (λ y. Has y (granule f.base)) x.marks k);
       dirtied = λ p h. inl (subst (λ y. Has y p) x.dirty h);
       keeps = settled_traced words;
+      carried_len = ap length x.carried;
+      carried = λ p h. subst (λ y. Has y p) (sym x.carried) h;
+      strays = λ p h. inl (subst (λ y. Has y p) x.carried h);
+      carries = settled_carried words;
     }
 
     -- the entry that is being read is dropped only if it is spent

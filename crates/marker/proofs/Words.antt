@@ -1,25 +1,27 @@
 -- What words that are done with come to.
-use Rattle.std.proofs.Common.{◌≡◌, ℕ, ◌+◌, ◌-◌, ◌*◌, ◌<◌, ◌≤◌, List, [], ◌∷◌, ◌++◌, length, get_or, take, Contains, Option, Some, refl, sym, ap, ◌∙◌, subst, inl, inr, ⊎_elim, append_assoc, append-nil, arith}
-use Rattle.std.specs.Prelude.{◌⊎◌}
+use Rattle.std.proofs.Common.{◌≡◌, ℕ, ◌+◌, ◌-◌, ◌*◌, ◌<◌, ◌≤◌, Bool, true, false, ◌||◌, List, [], ◌∷◌, ◌++◌, length, get_or, set, take, Contains, Option, Some, refl, sym, ap, ◌∙◌, subst, inl, inr, ⊎_elim, append_assoc, append-nil, arith, length-set, get_or-set_same}
+use Rattle.std.specs.Prelude.{◌⊎◌, All}
 use Rattle.std.proofs.lemmas.Option.{same_Some}
+use Rattle.std.proofs.lemmas.Bool.{false≢true, true≢false}
 use Rattle.std.specs.Prelude.{drop, slice_range}
 use Rattle.std.proofs.lemmas.List.{ext_get_or, get_or-take, get_or-drop, length-drop, length-take-le}
 use Rattle.std.proofs.lemmas.List.FromFn.{length-map-range_with_len, get_or-map-range_with_len}
-use Rattle.std.proofs.lemmas.List.Elements.{Contains-append_left, Contains-append_right, Contains-append_cases}
+use Rattle.std.proofs.lemmas.List.Elements.{All-contains, Contains-append_left, Contains-append_right, Contains-append_cases}
 use Rattle.words.specs.declared.class.Kind.TheVariants.{Normal}
-use Rattle.words.specs.declared.limits.TheConstants.{FIRST_ADDRESS, PAGE_GRANULES}
+use Rattle.words.specs.declared.limits.TheConstants.{FIRST_ADDRESS, PAGE_BYTES, PAGE_GRANULES}
 use Rattle.words.specs.Bits.{Has}
-use Rattle.words.specs.Layout.{granule}
+use Rattle.words.specs.Layout.{granule, page_of}
 use Rattle.pages.specs.Memory.{place, word_at}
 use Rattle.block_map.specs.declared.found.Found.{Found}
-use Rattle.block_map.specs.Objects.{IsMap}
-use Rattle.marker.specs.Marking.{Marking, IsConsistent, IsMarked, StaysDirty, word_address}
+use Rattle.block_map.specs.Objects.{IsMap, IsPlaced}
+use Rattle.marker.specs.Marking.{Marking, IsConsistent, IsMarked, IsOutside, StaysDirty, with_carried, word_address}
 use Rattle.marker.specs.Work.{cost}
 use Rattle.marker.specs.Closure.{Closure, held, root, word}
 use Rattle.marker.specs.Invariant.{IsTargetMarked, AreRootsMarked}
-use Rattle.marker.specs.Growth.{MarksFirst, MarksWord, MarksWords, Traces, Awaits, words_of, nothing, object, begun, and_word, pointer_free, pushed, dirtied}
+use Rattle.marker.specs.Growth.{MarksFirst, MarksWord, MarksWords, TellsFirst, TellsStray, CarriesPage, IsStray, IsStrayPage, Traces, Awaits, words_of, nothing, object, begun, and_word, pointer_free, pushed, dirtied}
 use Rattle.marker.proofs.Closures.{at_base, marks_of, same_object}
-use Rattle.marker.proofs.Growing.{Extends, extends_refl, extends_trans, target_more, traced_more}
+use Rattle.marker.proofs.Growing.{Extends, extends_refl, extends_trans, target_more, traced_more, carried_more}
+use Rattle.marker.proofs.Spreads.{has_set, has_set_back}
 use Rattle.marker.proofs.MarkWord.{object_extends, object_marked, object_only}
 
 awaits_pages : (f : Found) (old new : Marking) → Awaits f old new → length new.dirty ≡ length old.dirty
@@ -35,6 +37,105 @@ word_pages found w old new (object f is x) = awaits_pages f old new x.awaits
 pub words_pages : (found : ℕ → Option Found) (old : Marking) {ws : List ℕ} {new : Marking} → MarksWords found old ws new → length new.dirty ≡ length old.dirty
 words_pages found old begun = refl
 words_pages found old (and_word {m = m} x y) = word_pages found _ m _ y ∙ words_pages found old x
+
+-- the carried pages stay, and what is done with words doesn't look at them
+awaits_carried : (f : Found) (a b : Marking) (r : List Bool) → Awaits f a b → Awaits f (with_carried a r) (with_carried b r)
+awaits_carried f a b r (pointer_free k s d) = pointer_free k s d
+awaits_carried f a b r (pushed k l s d) = pushed k l s d
+awaits_carried f a b r (dirtied k l s d) = dirtied k l s d
+
+word_carried : (found : ℕ → Option Found) (w : ℕ) (a b : Marking) (r : List Bool) → MarksWord found w a b → MarksWord found w (with_carried a r) (with_carried b r)
+word_carried found w a b r (nothing t e) = nothing t (ap (λ m. with_carried m r) e)
+word_carried found w a b r (object f is x) = object f is (record { unmarked = x.unmarked; marks = x.marks; carried = refl; current = x.current; awaits = awaits_carried f a b r x.awaits })
+
+pub words_carried : (found : ℕ → Option Found) (a : Marking) (r : List Bool) {ws : List ℕ} {b : Marking} → MarksWords found a ws b → MarksWords found (with_carried a r) ws (with_carried b r)
+words_carried found a r begun = begun
+words_carried found a r (and_word {w = w} {m = m} {new = b} x y) = and_word (words_carried found a r x) (word_carried found w m b r y)
+
+-- whether one of more words is stray
+or_true : (a b : Bool) → (a || b) ≡ true → (a ≡ true) ⊎ (b ≡ true)
+or_true true b e = inl refl
+or_true false b e = inr e
+
+or_false : (a b : Bool) → (a || b) ≡ false → (a ≡ false) × (b ≡ false)
+or_false true b e = absurd (true≢false e)
+or_false false b e = (refl, e)
+
+pub tells_append : (found : ℕ → Option Found) (bytes : ℕ) (ws vs : List ℕ) (a b : Bool) → TellsStray found bytes ws a → TellsStray found bytes vs b → TellsStray found bytes (ws ++ vs) (a || b)
+tells_append found bytes ws vs a b x y = record {
+  some = λ e. ⊎_elim
+      (λ h. let s = x.some h in (s.0, Contains-append_left ws vs s.0 s.1, s.2))
+      (λ h. let s = y.some h in (s.0, Contains-append_right ws vs s.0 s.1, s.2)) (or_true a b e);
+  none = λ e w h. let both = or_false a b e in ⊎_elim (x.none both.0 w) (y.none both.1 w) (Contains-append_cases ws vs w h);
+}
+
+pub tells_nothing : (found : ℕ → Option Found) (bytes : ℕ) → TellsStray found bytes [] false
+tells_nothing found bytes = record { some = λ e. absurd (false≢true e); none = λ e w h. absurd (let l = h.1 in omega arith) }
+
+pub tells_further : (found : ℕ → Option Found) (bytes : ℕ) {ws vs : List ℕ} {a b : Bool} → TellsFirst found bytes ws vs a → (done rest : List ℕ) → vs ≡ done ++ rest → TellsStray found bytes done b → TellsFirst found bytes ws rest (a || b)
+tells_further found bytes {a = a} {b = b} x done rest e y = record {
+  done = x.done ++ done;
+  parts = x.parts ∙ ap (λ l. x.done ++ l) e ∙ sym (append_assoc x.done done rest);
+  tells = tells_append found bytes x.done done a b x.tells y;
+}
+
+-- words that lie outside are not stray
+pub first_outside : (pages bytes : ℕ) (found : ℕ → Option Found) → bytes ≡ PAGE_BYTES * pages → {ws vs : List ℕ} {a : Bool} → TellsFirst found (PAGE_BYTES * pages) ws vs a → (done rest : List ℕ) → vs ≡ done ++ rest → All (IsOutside bytes) done
+    → TellsFirst found (PAGE_BYTES * pages) ws rest a
+first_outside pages bytes found b {a = a} x done rest e all = record {
+  done = x.done ++ done;
+  parts = x.parts ∙ ap (λ l. x.done ++ l) e ∙ sym (append_assoc x.done done rest);
+  tells = record {
+    some = λ t. let s = x.tells.some t in (s.0, Contains-append_left x.done done s.0 s.1, s.2);
+    none = λ t w h. ⊎_elim (x.tells.none t w) (λ k. inr (subst (λ (n : ℕ). IsOutside n w) b (All-contains (IsOutside bytes) done w all k))) (Contains-append_cases x.done done w h);
+  };
+}
+
+pub tells_all : (found : ℕ → Option Found) (bytes : ℕ) {ws vs : List ℕ} {a b : Bool} → TellsFirst found bytes ws vs a → TellsStray found bytes vs b → TellsStray found bytes ws (a || b)
+tells_all found bytes {vs = vs} {a = a} {b = b} x y = subst (λ (l : List ℕ). TellsStray found bytes l (a || b)) (sym x.parts) (tells_append found bytes x.done vs a b x.tells y)
+
+-- the page was made carried where a word is stray, and else nothing was done
+pub carries_some : (found : ℕ → Option Found) (bytes : ℕ) (ws : List ℕ) (page : ℕ) (old : List Bool) → page < length old → TellsStray found bytes ws true → CarriesPage found bytes ws page old (set old page true)
+carries_some found bytes ws page old inside x = record {
+  len = length-set old page true;
+  stays = λ p h. has_set old page p inside h;
+  only = λ p h. ⊎_elim (λ o. inl o) (λ s. inr (s, x.some refl)) (has_set_back old page p h);
+  all = λ w h. inl (get_or-set_same old page true false inside);
+}
+
+pub carries_none : (found : ℕ → Option Found) (bytes : ℕ) (ws : List ℕ) (page : ℕ) (old : List Bool) → TellsStray found bytes ws false → CarriesPage found bytes ws page old old
+carries_none found bytes ws page old x = record {
+  len = refl;
+  stays = λ p h. h;
+  only = λ p h. inl h;
+  all = λ w h. inr (x.none refl w h);
+}
+
+-- what words lead to leaves the carried pages
+word_same : (found : ℕ → Option Found) (w : ℕ) (a b : Marking) → MarksWord found w a b → b.carried ≡ a.carried
+word_same found w a b (nothing t e) = ap (λ (m : Marking). m.carried) e
+word_same found w a b (object f is x) = x.carried
+
+pub words_same : (found : ℕ → Option Found) (a : Marking) {ws : List ℕ} {b : Marking} → MarksWords found a ws b → b.carried ≡ a.carried
+words_same found a begun = refl
+words_same found a (and_word {w = w} {m = m} {new = b} x y) = word_same found w m b y ∙ words_same found a x
+
+-- the words were marked, and then their page was carried or not
+pub run_marked : (found : ℕ → Option Found) (old mid : Marking) (ws vs : List ℕ) → ws ≡ vs → MarksWords found old ws mid → MarksWords found old vs (with_carried mid old.carried)
+run_marked found old mid ws vs e x = subst (λ l. MarksWords found old l (with_carried mid old.carried)) e (subst (λ r. MarksWords found old ws (with_carried mid r)) (words_same found old x) x)
+
+pub run_carried : (found : ℕ → Option Found) (bytes : ℕ) (old mid : Marking) (ws vs : List ℕ) (page at : ℕ) (b : Bool) → ws ≡ vs → MarksWords found old ws mid → TellsStray found bytes ws b → b ≡ true → page ≡ at → page < length mid.carried
+    → CarriesPage found bytes vs at old.carried (set mid.carried page true)
+run_carried found bytes old mid ws vs page at b e x tells is on inside =
+    let same = words_same found old x in
+    subst (λ r. CarriesPage found bytes vs at r (set mid.carried page true)) same
+    (subst (λ p. CarriesPage found bytes vs p mid.carried (set mid.carried page true)) on
+    (carries_some found bytes vs page mid.carried inside (subst (λ l. TellsStray found bytes l true) e (subst (TellsStray found bytes ws) is tells))))
+
+pub run_left : (found : ℕ → Option Found) (bytes : ℕ) (old mid : Marking) (ws vs : List ℕ) (page : ℕ) (b : Bool) → ws ≡ vs → MarksWords found old ws mid → TellsStray found bytes ws b → b ≡ false → CarriesPage found bytes vs page old.carried mid.carried
+run_left found bytes old mid ws vs page b e x tells is =
+    subst (λ r. CarriesPage found bytes vs page r mid.carried) (words_same found old x)
+    (carries_none found bytes vs page mid.carried (subst (λ l. TellsStray found bytes l false) e (subst (TellsStray found bytes ws) is tells)))
 
 -- words after words
 pub words_append : (found : ℕ → Option Found) (a : Marking) (ws : List ℕ) (b : Marking) → MarksWords found a ws b → {vs : List ℕ} {c : Marking} → MarksWords found b vs c → MarksWords found a (ws ++ vs) c
@@ -162,6 +263,10 @@ module _ (pages : ℕ) (found : ℕ → Option Found) (map : IsMap pages found) 
           within = λ f is h. ⊎_elim (λ o. held is o) (λ (t : (w : ℕ) × Contains roots w × (found w ≡ Some f)). root t.1 t.2) (words_cases x f is h);
           dirtied = e.dirtied;
           keeps = traced_more found words old new e;
+          carried_len = ap length e.carried;
+          carried = λ p h. subst (λ r. Has r p) (sym e.carried) h;
+          strays = λ p h. inl (subst (λ r. Has r p) e.carried h);
+          carries = carried_more found words old new e;
         }
 
     -- words of a marked Normal object point into objects of the closure
@@ -191,3 +296,31 @@ scanned {pages = pages} {found = found} {old = old} {new = new} map consistent s
       dirty = e.dirty;
       cost = e.cost;
     }
+
+-- words of a marked Normal object were read on one page, and where one of them is stray it is carried
+pub run_strays : (found : ℕ → Option Found) (words : List ℕ) (f : Found) (first n page : ℕ) (old : Marking) (carried : List Bool) → ((i : ℕ) → first ≤ i → i < first + n → page_of (word_address f i) ≡ page)
+    → CarriesPage found (PAGE_BYTES * length old.dirty) (words_of words f first n) page old.carried carried → found f.base ≡ Some f → f.kind ≡ Normal → IsMarked old f.base → first + n ≤ f.len
+    → (p : ℕ) → Has carried p → Has old.carried p ⊎ IsStrayPage found words [] old p
+run_strays found words f first n page old carried one_page carries is normal marked fits p h =
+    ⊎_elim (λ o. inl o)
+    (λ (s : (p ≡ page) × ((w : ℕ) × Contains (words_of words f first n) w × IsStray found (PAGE_BYTES * length old.dirty) w)).
+    let y = word_of words f first n s.1.0 s.1.1 in let lt = y.2 in
+    inr (record {
+      object = f;
+      is = is;
+      normal = normal;
+      reached = held is marked;
+      index = y.0;
+      inside = omega arith;
+      on = one_page y.0 y.1 y.2 ∙ sym s.0;
+      stray = subst (IsStray found (PAGE_BYTES * length old.dirty)) y.3 s.1.2;
+    }))
+    (carries.only p h)
+
+-- where a word of a run is stray, there is one, and its page is one of the heap
+pub run_page : (pages : ℕ) (words : List ℕ) (f : Found) (first n : ℕ) (found : ℕ → Option Found) (bytes : ℕ) (ws : List ℕ) (b : Bool) → IsPlaced pages f → first + n ≤ f.len → ws ≡ words_of words f first n → TellsStray found bytes ws b → b ≡ true
+    → page_of (word_address f first) < pages
+run_page pages words f first n found bytes ws b placed fits e tells is =
+    let s = tells.some is in
+    let y = word_of words f first n s.0 (subst (λ l. Contains l s.0) e s.1) in
+    let from = y.1 in let below = y.2 in let p = placed.below in let q = placed.above in omega arith

@@ -1,12 +1,13 @@
 -- What becomes of the entries.
-use Rattle.std.specs.Prelude.{◌≡◌, ℕ, ◌+◌, ◌<◌, ◌≤◌, List, [], ◌++◌, Contains, Option, Some, None, ◌⊎◌}
+use Rattle.std.specs.Prelude.{◌≡◌, ℕ, ◌+◌, ◌<◌, ◌≤◌, Bool, List, [], ◌++◌, Contains, Option, Some, None, ◌⊎◌}
 use Rattle.words.specs.declared.class.Kind.TheVariants.{Normal}
+use Rattle.words.specs.Layout.{page_of}
 use Rattle.pages.specs.Memory.{word_at}
 use Rattle.block_map.specs.declared.found.Found.{Found}
 use Rattle.marker.specs.declared.entry.Entry.{Entry}
-use Rattle.marker.specs.Marking.{Marking, IsMarked, IsEntry, entries, with_current, word_address}
+use Rattle.marker.specs.Marking.{Marking, IsMarked, IsEntry, entries, with_current, with_carried, bytes_of, word_address}
 use Rattle.marker.specs.Invariant.{IsTargetMarked}
-use Rattle.marker.specs.Growth.{MarksWords, words_of}
+use Rattle.marker.specs.Growth.{MarksWords, CarriesPage, words_of}
 
 -- no object reads on at the entry: none with its base is Normal and marked and has the word
 abbrev pub IsSpent : (ℕ → Option Found) → Marking → Entry → Type 0
@@ -31,6 +32,7 @@ pub record IsLive (found : ℕ → Option Found) (m : Marking) (f : Found) : Typ
 pub record Settles (found : ℕ → Option Found) (old new : Marking) : Type 0 where
   pub marks : new.marks ≡ old.marks
   pub dirty : new.dirty ≡ old.dirty
+  pub carried : new.carried ≡ old.carried
   pub dropped : List Entry
   pub entries_are : entries old ≡ entries new ++ dropped
   pub spent : (e : Entry) → Contains dropped e → IsSpent found old e
@@ -40,14 +42,18 @@ pub record Settles (found : ℕ → Option Found) (old new : Marking) : Type 0 w
 abbrev pub read_on : Entry → ℕ → Entry
 read_on e n = record { base = e.base; next = e.next + n }
 
--- The next n words of the entry that is being read are done with, and it goes on by n.
+-- The next n words of the entry that is being read, which stand on one page, are done with, and it goes on by n.
 pub record ReadsOn (found : ℕ → Option Found) (words : List ℕ) (n : ℕ) (old new : Marking) : Type 0 where
   pub object : Found
   pub live : IsLive found old object
   pub fits : live.entry.next + n ≤ object.len
   pub mid : Marking
   pub reads : MarksWords found old (words_of words object live.entry.next n) mid
-  pub new_is : new ≡ with_current mid (read_on live.entry n)
+  pub page : ℕ
+  pub one_page : (i : ℕ) → live.entry.next ≤ i → i < live.entry.next + n → page_of (word_address object i) ≡ page
+  pub carried : List Bool
+  pub carries : CarriesPage found (bytes_of old) (words_of words object live.entry.next n) page old.carried carried
+  pub new_is : new ≡ with_current (with_carried mid carried) (read_on live.entry n)
 
 -- The next n words of the entry that is being read are done with, and it goes on by n, or is dropped where none is left.
 pub record ReadsOff (found : ℕ → Option Found) (words : List ℕ) (n : ℕ) (old new : Marking) : Type 0 where

@@ -1,5 +1,5 @@
 -- What is done with words that are read.
-use Rattle.std.specs.Prelude.{◌≡◌, ℕ, ◌+◌, ◌<◌, ◌≤◌, Bool, true, List, [], ◌∷◌, ◌++◌, length, map, slice_set, Option, Some, ◌⊎◌}
+use Rattle.std.specs.Prelude.{◌≡◌, ℕ, ◌+◌, ◌<◌, ◌≤◌, Bool, true, false, List, [], ◌∷◌, ◌++◌, length, map, slice_set, Contains, Option, Some, None, ◌⊎◌}
 use Rattle.std.specs.List.{range_with_len}
 use Rattle.words.specs.declared.class.Kind.TheVariants.{Normal, PointerFree}
 use Rattle.words.specs.declared.limits.TheConstants.{FIRST_ADDRESS, MARK_STACK_ENTRIES}
@@ -8,8 +8,8 @@ use Rattle.words.specs.Layout.{granule, page_of}
 use Rattle.pages.specs.Memory.{word_at}
 use Rattle.block_map.specs.declared.found.Found.{Found}
 use Rattle.marker.specs.declared.entry.Entry.{Entry}
-use Rattle.marker.specs.Marking.{Marking, IsMarked, IsNewlyMarked, IsObjectGranule, Covers, last_page, word_address}
-use Rattle.marker.specs.Invariant.{DirtyPageInvariant, IsTargetMarked}
+use Rattle.marker.specs.Marking.{Marking, IsMarked, IsNewlyMarked, IsObjectGranule, IsOutside, bytes_of, Covers, last_page, word_address}
+use Rattle.marker.specs.Invariant.{DirtyPageInvariant, CarriedPageInvariant, IsTargetMarked}
 use Rattle.marker.specs.Closure.{Closure}
 
 -- The pages from `first` on, up to `end`, have become dirty, and no others.
@@ -34,6 +34,7 @@ pub data Awaits (f : Found) (old new : Marking) : Type 0 where
 pub record MarksObject (f : Found) (old new : Marking) : Type 0 where
   pub unmarked : IsMarked old f.base → ⊥
   pub marks : new.marks ≡ slice_set old.marks (granule f.base) true
+  pub carried : new.carried ≡ old.carried
   pub current : new.current ≡ old.current
   pub awaits : Awaits f old new
 
@@ -53,16 +54,51 @@ pub record MarksFirst (found : ℕ → Option Found) (old : Marking) (words left
   pub parts : words ≡ done ++ left
   pub marks : MarksWords found old done new
 
--- the address is none of so many bytes of a heap
-abbrev pub IsOutside : ℕ → ℕ → Type 0
-IsOutside bytes address = (address < FIRST_ADDRESS) ⊎ (FIRST_ADDRESS + bytes ≤ address)
+-- the word is stray: it lies in a heap of so many bytes and points into no object
+pub record IsStray (found : ℕ → Option Found) (bytes w : ℕ) : Type 0 where
+  pub nothing : found w ≡ None
+  pub from : FIRST_ADDRESS ≤ w
+  pub below : w < FIRST_ADDRESS + bytes
+
+-- the word is not: it points into an object or lies outside of the heap
+abbrev pub IsNoStray : (ℕ → Option Found) → ℕ → ℕ → Type 0
+IsNoStray found bytes w = ((g : Found) × (found w ≡ Some g)) ⊎ IsOutside bytes w
+
+-- whether one of these words is stray
+pub record TellsStray (found : ℕ → Option Found) (bytes : ℕ) (ws : List ℕ) (b : Bool) : Type 0 where
+  pub some : b ≡ true → (w : ℕ) × Contains ws w × IsStray found bytes w
+  pub none : b ≡ false → (w : ℕ) → Contains ws w → IsNoStray found bytes w
+
+-- The same of the first of some words, where these are left.
+pub record TellsFirst (found : ℕ → Option Found) (bytes : ℕ) (words left : List ℕ) (b : Bool) : Type 0 where
+  pub done : List ℕ
+  pub parts : words ≡ done ++ left
+  pub tells : TellsStray found bytes done b
+
+-- The page on which these words stand has become carried, if one of them is stray, and no other.
+pub record CarriesPage (found : ℕ → Option Found) (bytes : ℕ) (ws : List ℕ) (page : ℕ) (old new : List Bool) : Type 0 where
+  pub len : length new ≡ length old
+  pub stays : (p : ℕ) → Has old p → Has new p
+  pub only : (p : ℕ) → Has new p → Has old p ⊎ ((p ≡ page) × ((w : ℕ) × Contains ws w × IsStray found bytes w))
+  pub all : (w : ℕ) → Contains ws w → Has new page ⊎ IsNoStray found bytes w
+
+-- a stray word of a Normal object that the marks and the roots lead to stands on the page
+pub record IsStrayPage (found : ℕ → Option Found) (words roots : List ℕ) (m : Marking) (p : ℕ) : Type 0 where
+  pub object : Found
+  pub is : found object.base ≡ Some object
+  pub normal : object.kind ≡ Normal
+  pub reached : Closure found words roots (IsMarked m) object
+  pub index : ℕ
+  pub inside : index < object.len
+  pub on : page_of (word_address object index) ≡ p
+  pub stray : IsStray found (bytes_of m) (word_at words (word_address object index))
 
 -- n words of an object from its word `first` on
 abbrev pub words_of : List ℕ → Found → ℕ → ℕ → List ℕ
 words_of words f first n = map (λ i. word_at words (word_address f i)) (range_with_len first n)
 
 -- What a call of the marker does: it keeps the invariant, marks only objects, and only those of the closure of the marks
--- before and the roots, and makes only pages of newly marked objects dirty.
+-- before and the roots, makes only pages of newly marked objects dirty, and makes only pages carried on which a stray word stands.
 pub record Traces (found : ℕ → Option Found) (words roots : List ℕ) (old new : Marking) : Type 0 where
   pub marks_len : length new.marks ≡ length old.marks
   pub dirty_len : length new.dirty ≡ length old.dirty
@@ -71,3 +107,7 @@ pub record Traces (found : ℕ → Option Found) (words roots : List ℕ) (old n
   pub within : (f : Found) → found f.base ≡ Some f → IsMarked new f.base → Closure found words roots (IsMarked old) f
   pub dirtied : (p : ℕ) → Has new.dirty p → Has old.dirty p ⊎ ((f : Found) × IsNewlyMarked found old new f × Covers f p)
   pub keeps : DirtyPageInvariant found words old → DirtyPageInvariant found words new
+  pub carried_len : length new.carried ≡ length old.carried
+  pub carried : (p : ℕ) → Has old.carried p → Has new.carried p
+  pub strays : (p : ℕ) → Has new.carried p → Has old.carried p ⊎ IsStrayPage found words roots old p
+  pub carries : CarriedPageInvariant found words old → CarriedPageInvariant found words new

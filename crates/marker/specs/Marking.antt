@@ -1,15 +1,17 @@
 -- What contracts see of a marker.
-use Rattle.std.specs.Prelude.{◌≡◌, ℕ, ◌+◌, ◌-◌, ◌*◌, ◌≤◌, ◌++◌, Bool, List, [], length, Contains, Option, Some, None, option_to_list, ◌⊎◌}
+use Rattle.std.specs.Prelude.{◌≡◌, ℕ, ◌+◌, ◌-◌, ◌*◌, ◌<◌, ◌≤◌, ◌++◌, Bool, List, [], length, Contains, Option, Some, None, option_to_list, ◌⊎◌}
 use Rattle.words.specs.Bits.{Has, IsClear}
-use Rattle.words.specs.declared.limits.TheConstants.{MARK_STACK_ENTRIES, MAX_PAGES, PAGE_GRANULES, WORD_BYTES}
+use Rattle.words.specs.declared.limits.TheConstants.{FIRST_ADDRESS, MARK_STACK_ENTRIES, MAX_PAGES, PAGE_BYTES, PAGE_GRANULES, WORD_BYTES}
 use Rattle.words.specs.Layout.{granule, page_of}
 use Rattle.block_map.specs.declared.found.Found.{Found}
 use Rattle.marker.specs.declared.entry.Entry.{Entry}
 
--- The marks by granules, the dirty pages, the entry that is being read, and the other entries, the next one last.
+-- The marks by granules, the dirty pages, the carried pages, the entry that is being read, and the other entries, the next one
+-- last.
 pub record Marking : Type 0 where
   pub marks : List Bool
   pub dirty : List Bool
+  pub carried : List Bool
   pub current : Option Entry
   pub stack : List Entry
 
@@ -17,16 +19,29 @@ pub record Marking : Type 0 where
 pub record IsConsistent (m : Marking) : Type 0 where
   pub marks : length m.marks ≡ PAGE_GRANULES * length m.dirty
   pub few : length m.dirty ≤ MAX_PAGES
+  pub carried : length m.carried ≡ length m.dirty
   pub room : length m.stack ≤ MARK_STACK_ENTRIES
   pub unread : (e : Entry) → Contains m.stack e → e.next ≡ 0
 
 -- the same with other dirty pages
 abbrev pub with_dirty : Marking → List Bool → Marking
-with_dirty m dirty = record { marks = m.marks; dirty = dirty; current = m.current; stack = m.stack }
+with_dirty m dirty = record { marks = m.marks; dirty = dirty; carried = m.carried; current = m.current; stack = m.stack }
 
 -- the same with another entry that is being read
 abbrev pub with_current : Marking → Entry → Marking
-with_current m e = record { marks = m.marks; dirty = m.dirty; current = Some e; stack = m.stack }
+with_current m e = record { marks = m.marks; dirty = m.dirty; carried = m.carried; current = Some e; stack = m.stack }
+
+-- the same with other carried pages
+abbrev pub with_carried : Marking → List Bool → Marking
+with_carried m carried = record { marks = m.marks; dirty = m.dirty; carried = carried; current = m.current; stack = m.stack }
+
+-- the address is none of so many bytes of a heap
+abbrev pub IsOutside : ℕ → ℕ → Type 0
+IsOutside bytes address = (address < FIRST_ADDRESS) ⊎ (FIRST_ADDRESS + bytes ≤ address)
+
+-- how many bytes the heap of a marker has
+abbrev pub bytes_of : Marking → ℕ
+bytes_of m = PAGE_BYTES * length m.dirty
 
 -- the address of the word i of an object
 abbrev pub word_address : Found → ℕ → ℕ
@@ -99,8 +114,9 @@ pub record IsDone (m : Marking) : Type 0 where
   pub clean : IsClean m
   pub empty : IsEmpty m
 
--- nothing is marked, no page is dirty and no entry is left
+-- nothing is marked, no page is dirty or carried and no entry is left
 pub record IsFresh (pages : ℕ) (m : Marking) : Type 0 where
   pub marks : IsClear m.marks (PAGE_GRANULES * pages)
   pub dirty : IsClear m.dirty pages
+  pub carried : IsClear m.carried pages
   pub empty : IsEmpty m

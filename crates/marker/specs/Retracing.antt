@@ -1,15 +1,16 @@
 -- A dirty page is read again.
-use Rattle.std.specs.Prelude.{◌≡◌, ◌≢◌, ℕ, ◌+◌, ◌*◌, ◌<◌, ◌≤◌, false, List, [], Contains, slice_set, Option, Some}
+use Rattle.std.specs.Prelude.{◌≡◌, ◌≢◌, ◌⊎◌, ℕ, ◌+◌, ◌*◌, ◌<◌, ◌≤◌, false, List, [], length, Contains, slice_set, Option, Some}
 use Rattle.words.specs.declared.class.Kind.TheVariants.{Normal}
 use Rattle.words.specs.declared.limits.TheConstants.{FIRST_ADDRESS, GRANULE_BYTES, PAGE_WORDS, WORD_BYTES}
 use Rattle.words.specs.Bits.{Has, IsFirstFrom}
 use Rattle.words.specs.Layout.{granule, page_start}
 use Rattle.pages.specs.Memory.{word_at}
 use Rattle.block_map.specs.declared.found.Found.{Found}
-use Rattle.marker.specs.Marking.{Marking, IsMarked, IsNewlyMarked, Covers, with_dirty, word_address}
+use Rattle.marker.specs.Marking.{Marking, IsMarked, IsNewlyMarked, Covers, with_dirty, with_carried, word_address}
 use Rattle.marker.specs.Closure.{Closure}
 use Rattle.marker.specs.Work.{cost}
-use Rattle.marker.specs.Growth.{MarksWords}
+use Rattle.marker.specs.Invariant.{IsSettled}
+use Rattle.marker.specs.Growth.{MarksWords, IsStrayPage}
 
 -- the word is one of a marked Normal object's, and stands from one address on and below another
 pub record IsWordBetween (found : ℕ → Option Found) (words : List ℕ) (low high : ℕ) (m : Marking) (w : ℕ) : Type 0 where
@@ -24,10 +25,15 @@ pub record IsWordBetween (found : ℕ → Option Found) (words : List ℕ) (low 
   pub word : w ≡ word_at words (word_address object index)
 
 -- The words of marked Normal objects that stand between two addresses were read again: all words of those that were
--- marked before, and no words but those of objects that are marked afterwards.
+-- marked before, which are settled now, and no words but those of objects that are marked afterwards.
 pub record Rereads (found : ℕ → Option Found) (words : List ℕ) (low high : ℕ) (old new : Marking) : Type 0 where
   pub read : List ℕ
-  pub marks : MarksWords found old read new
+  pub marks : MarksWords found old read (with_carried new old.carried)
+  pub carried_len : length new.carried ≡ length old.carried
+  pub carried : (p : ℕ) → Has old.carried p → Has new.carried p
+  pub strays : (p : ℕ) → Has new.carried p → Has old.carried p ⊎ IsStrayPage found words [] old p
+  pub settled : (f : Found) → found f.base ≡ Some f → f.kind ≡ Normal → IsMarked old f.base → (i : ℕ) → i < f.len → low ≤ word_address f i → word_address f i < high
+      → IsSettled found new (word_address f i) (word_at words (word_address f i))
   pub all : (w : ℕ) → IsWordBetween found words low high old w → Contains read w
   pub only : (w : ℕ) → Contains read w → IsWordBetween found words low high new w
   pub within : (f : Found) → found f.base ≡ Some f → IsMarked new f.base → Closure found words [] (IsMarked old) f
@@ -47,11 +53,16 @@ pub record IsBefore (found : ℕ → Option Found) (high low at : ℕ) : Type 0 
   pub before : (f : Found) → found f.base ≡ Some f → low ≤ granule f.base → f.base < high → at ≤ f.base
 
 -- Of the objects that begin from the granule `low` on and before the granule `past`, the words below the address `high`
--- were read again: all words of the Normal ones that were marked at first, and no words but those of Normal objects that
--- are marked afterwards, none of them twice.
+-- were read again: all words of the Normal ones that were marked at first, which are settled now, and no words but those of
+-- Normal objects that are marked afterwards, none of them twice.
 pub record RereadsObjects (found : ℕ → Option Found) (words : List ℕ) (first : Marking) (high low past : ℕ) (reads : ℕ) (old : Marking) (reads' : ℕ) (new : Marking) : Type 0 where
   pub read : List ℕ
-  pub marks : MarksWords found old read new
+  pub marks : MarksWords found old read (with_carried new old.carried)
+  pub carried_len : length new.carried ≡ length old.carried
+  pub carried : (p : ℕ) → Has old.carried p → Has new.carried p
+  pub strays : (p : ℕ) → Has new.carried p → Has old.carried p ⊎ IsStrayPage found words [] old p
+  pub settled : (f : Found) → found f.base ≡ Some f → f.kind ≡ Normal → IsMarked first f.base → low ≤ granule f.base → granule f.base < past
+      → (i : ℕ) → i < f.len → word_address f i < high → IsSettled found new (word_address f i) (word_at words (word_address f i))
   pub all : (f : Found) → found f.base ≡ Some f → f.kind ≡ Normal → IsMarked first f.base → low ≤ granule f.base → granule f.base < past
       → (i : ℕ) → i < f.len → word_address f i < high → Contains read (word_at words (word_address f i))
   pub only : (w : ℕ) → Contains read w → IsWordBetween found words (FIRST_ADDRESS + GRANULE_BYTES * low) high new w

@@ -17,6 +17,23 @@
 //! Dirty pages become clean by [`Marker::begin`] and [`Marker::retrace`] alone. Marks go by [`Marker::begin`] and
 //! [`Marker::freed`] alone, and each is that of an allocated object.
 //!
+//! # Carried pages
+//!
+//! A cycle may begin with the marks of the last one, and then reads only roots, new objects and some pages again. A word
+//! that points into a marked object needn't be read again until it is written, and neither does one that lies outside of
+//! the heap. But one that lies in the heap and points into nothing may come to point into an object that is allocated
+//! later: where such a stray word is read, its page is carried.
+//!
+//! Between cycles too, as long as no object is freed, for each word of a marked Normal object: the word points into a
+//! marked object, or it lies outside of the heap, or its page is carried; or its page is dirty, or an entry with that
+//! object's base still has the word to read. Unlike the dirty-page invariant it stays when an unmarked object comes.
+//!
+//! - [`Marker::begin`] makes it true, and leaves no page carried.
+//! - [`Marker::scan_roots`], [`Marker::step`] and [`Marker::retrace`] keep it, and so do [`Marker::written`] and
+//!   [`Marker::allocated`]. What [`Marker::freed`] takes away may have been what a word that was read pointed into.
+//! - [`Marker::begin_partial`] keeps it, and makes the dirty-page invariant of it: carried pages are dirty then, and none
+//!   is carried.
+//!
 //! Where nothing is left to read, no page dirty and no entry on the stack, the invariant says that the marks are
 //! closed. Closing them in one pause is the matter of the crate above.
 //!

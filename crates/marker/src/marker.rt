@@ -7,7 +7,9 @@ ghost use Rattle.pages.specs.Opening.{IsOpened};
 ghost use Rattle.block_map.specs.declared.found.Found.{Found};
 ghost use Rattle.block_map.specs.FoundIn.{IsLawful};
 ghost use Rattle.marker.specs.Marking.{IsConsistent, IsFresh};
-ghost use Rattle.marker.specs.Invariant.{DirtyPageInvariant};
+ghost use Rattle.block_map.specs.Objects.{IsMap};
+ghost use Rattle.marker.specs.Invariant.{DirtyPageInvariant, CarriedPageInvariant};
+ghost use Rattle.marker.specs.Mutations.{BeginsPartial};
 
 use crate::entry::Entry;
 use arrayvec::ArrayVec;
@@ -18,7 +20,7 @@ use pages::is_page_count;
 use std::alloc::Global;
 use std::marker::Model;
 use words::limits::{MARK_STACK_ENTRIES, PAGE_BYTES};
-use words::{OpenError, granule_of};
+use words::{BitRow, OpenError, granule_of};
 
 // The entries of the mark stack.
 const ENTRIES: usize = MARK_STACK_ENTRIES as usize;
@@ -28,6 +30,7 @@ const ENTRIES: usize = MARK_STACK_ENTRIES as usize;
 pub struct Marker {
     pub(crate) marks: Marks,
     pub(crate) dirty: DirtyPages,
+    pub(crate) carried: DirtyPages,
     pub(crate) current: Option<Entry>,
     pub(crate) stack: ArrayVec<Entry, ENTRIES>,
 }
@@ -37,9 +40,9 @@ impl Model for Marker {
 
     ghost Value = { Marking };
 
-    ghost view = { λ m. record { marks = m.marks; dirty = m.dirty; current = m.current; stack = m.stack.items } };
+    ghost view = { λ m. record { marks = m.marks; dirty = m.dirty; carried = m.carried; current = m.current; stack = m.stack.items } };
 
-    ghost invariant = { λ m. IsConsistent (record { marks = m.marks; dirty = m.dirty; current = m.current; stack = m.stack.items }) };
+    ghost invariant = { λ m. IsConsistent (record { marks = m.marks; dirty = m.dirty; carried = m.carried; current = m.current; stack = m.stack.items }) };
 }
 
 // The bytes of a heap.
@@ -61,9 +64,11 @@ impl Marker {
         }
         let marks = Marks::new(alloc, pages)?;
         let dirty = DirtyPages::new(alloc, pages)?;
+        let carried = DirtyPages::new(alloc, pages)?;
         Ok(Marker {
             marks,
             dirty,
+            carried,
             current: None,
             stack: ArrayVec::new(),
         })
@@ -82,9 +87,11 @@ impl Marker {
     pub fn begin(&mut self)
         ensures fresh { IsFresh (length self.old.dirty) self.new }
         ensures invariant { (found : ℕ → Option Found) (words : List ℕ) → DirtyPageInvariant found words self.new }
+        ensures carried { (found : ℕ → Option Found) (words : List ℕ) → CarriedPageInvariant found words self.new }
     {
         self.marks.clear_all();
         self.dirty.clear_all();
+        self.carried.clear_all();
         self.current = None;
         self.stack.clear();
     }
@@ -96,6 +103,18 @@ impl Marker {
         self.dirty.count()
     }
 
+    /// Begins a cycle with the marks of the last one: the carried pages are dirty now, and none is carried.
+    pub fn begin_partial(&mut self)
+        ensures begins { BeginsPartial self.old self.new }
+        ensures invariant { (found : ℕ → Option Found) (words : List ℕ) → IsMap (length self.old.dirty) found → CarriedPageInvariant found words self.old → DirtyPageInvariant found words self.new }
+        ensures carried { (found : ℕ → Option Found) (words : List ℕ) → CarriedPageInvariant found words self.old → CarriedPageInvariant found words self.new }
+    {
+        // Its clauses tell that both rows have the same pages.
+        self.laws();
+        self.dirty.add(&self.carried);
+        self.carried.clear_all();
+    }
+
     /// Whether the object with this base is marked.
     #[inline]
     pub fn is_marked(&self, base: u64) -> bool
@@ -104,5 +123,13 @@ impl Marker {
         ensures { result ≡ slice_index_or self.now.marks (granule base) false }
     {
         self.marks.is_set(granule_of(base))
+    }
+
+    /// The marks, as the row of the heap's granules.
+    #[inline]
+    pub fn mark_row(&self) -> &BitRow
+        ensures { result.now ≡ self.now.marks }
+    {
+        self.marks.row()
     }
 }

@@ -5,7 +5,7 @@ ghost use Rattle.words.specs.Layout.{granule, page_of};
 ghost use Rattle.block_map.specs.declared.found.Found.{Found};
 ghost use Rattle.block_map.specs.Changes.{IsAdded, IsRemoved};
 ghost use Rattle.marker.specs.Marking.{AreMarksObjects};
-ghost use Rattle.marker.specs.Mutations.{DirtiesPage, IsAllocated, IsFreed, StaysOnWrite, StaysOnAllocation, StaysOnFree};
+ghost use Rattle.marker.specs.Mutations.{DirtiesPage, IsAllocated, IsFreed, StaysOnWrite, StaysOnAllocation, StaysOnFree, StaysCarriedOnWrite, StaysCarriedOnAllocation};
 
 use crate::marker::Marker;
 use words::limits::FIRST_ADDRESS;
@@ -19,6 +19,7 @@ impl Marker {
         requires inside { page_of address < length self.old.dirty }
         ensures written { DirtiesPage address self.old self.new }
         ensures keeps { StaysOnWrite address self.old self.new }
+        ensures carries { StaysCarriedOnWrite address self.old self.new }
     {
         self.dirty.set(page_of(address) as PageNo);
     }
@@ -30,6 +31,7 @@ impl Marker {
         ensures allocated { IsAllocated base self.old self.new }
         ensures objects { (found after : ℕ → Option Found) (f : Found) → f.base ≡ base → after base ≡ Some f → IsAdded found after f → AreMarksObjects found self.old → AreMarksObjects after self.new }
         ensures keeps { StaysOnAllocation base self.old self.new }
+        ensures carries { StaysCarriedOnAllocation base self.old self.new }
     {
         self.marks.set(granule_of(base));
     }

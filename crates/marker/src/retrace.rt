@@ -1,5 +1,5 @@
 //! The reading again of dirty pages.
-ghost use Rattle.std.specs.Prelude.{◌≡◌, ◌+◌, ◌*◌, ◌%◌, ◌<◌, ◌≤◌, [], true, false, length, slice_set, MatchOption, IfSome, IfNone};
+ghost use Rattle.std.specs.Prelude.{◌≡◌, ℕ, ◌+◌, ◌*◌, ◌%◌, ◌<◌, ◌≤◌, [], true, false, length, slice_set, MatchOption, IfSome, IfNone};
 ghost use Rattle.words.specs.declared.limits.TheConstants.{FIRST_ADDRESS, GRANULE_BYTES, MAX_PAGES, PAGE_BYTES, PAGE_WORDS, WORD_BYTES};
 ghost use Rattle.words.specs.declared.class.Kind.TheVariants.{Normal};
 ghost use Rattle.words.specs.Bits.{Has, HasNoBit, IsFirstBit, IsFirstFrom};
@@ -123,6 +123,7 @@ impl Marker {
         requires inside { 64 * j < length self.old.marks }
         requires below { FIRST_ADDRESS + GRANULE_BYTES * (64 * (j + 1)) ≤ high }
         requires high { high % WORD_BYTES ≡ 0 }
+        requires one_page { (page : ℕ) × (page_start page ≤ FIRST_ADDRESS + GRANULE_BYTES * (64 * j)) × (high ≤ page_start (page + 1)) }
         ensures rereads { RereadsObjects (found_in map.now) reader.old.words self.old high (64 * j) (64 * (j + 1)) reader.old.reads self.old reader.new.reads self.new }
         ensures words { reader.new.words ≡ reader.old.words }
     {
@@ -153,6 +154,7 @@ impl Marker {
         requires marked { Has self.old.marks granule }
         requires below { FIRST_ADDRESS + GRANULE_BYTES * granule < high }
         requires high { high % WORD_BYTES ≡ 0 }
+        requires one_page { (page : ℕ) × (page_start page ≤ FIRST_ADDRESS + GRANULE_BYTES * granule) × (high ≤ page_start (page + 1)) }
         ensures rereads { RereadsObjects (found_in map.now) reader.old.words self.old high granule (granule + 1) reader.old.reads self.old reader.new.reads self.new }
         ensures words { reader.new.words ≡ reader.old.words }
     {
@@ -206,6 +208,7 @@ impl Marker {
         requires next { IsNextObject (found_in map.now) low high found }
         requires low { low % WORD_BYTES ≡ 0 }
         requires high { high % WORD_BYTES ≡ 0 }
+        requires one_page { (page : ℕ) × (page_start page ≤ low) × (high ≤ page_start (page + 1)) }
         ensures rereads { Rereads (found_in map.now) reader.old.words low result self.old self.new }
         ensures further { low < result }
         ensures inside { result ≤ found.base + WORD_BYTES * found.len }

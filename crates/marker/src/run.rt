@@ -1,18 +1,20 @@
 //! The marking of what words in a row point into: roots, and words of an object. Most words lie outside of the heap's
 //! range, so that four are tested at a time.
-ghost use Rattle.std.specs.Prelude.{◌≡◌, ℕ, ◌+◌, ◌*◌, ◌≤◌, List, [], ◌∷◌, length, true, All};
+ghost use Rattle.std.specs.Prelude.{◌≡◌, ℕ, ◌+◌, ◌*◌, ◌<◌, ◌≤◌, List, [], ◌∷◌, length, slice_set, true, All};
 ghost use Rattle.words.specs.declared.limits.TheConstants.{PAGE_BYTES, PAGE_WORDS};
+ghost use Rattle.words.specs.Layout.{page_of};
 ghost use Rattle.block_map.specs.Objects.{IsPlaced};
 ghost use Rattle.block_map.specs.FoundIn.{found_in, IsLawful};
-ghost use Rattle.marker.specs.Marking.{StaysDirty};
+ghost use Rattle.marker.specs.Marking.{IsOutside, StaysDirty, with_carried, word_address};
 ghost use Rattle.marker.specs.Work.{cost};
 ghost use Rattle.marker.specs.Invariant.{AreRootsMarked};
-ghost use Rattle.marker.specs.Growth.{IsOutside, MarksFirst, MarksWords, Traces, words_of};
+ghost use Rattle.marker.specs.Growth.{CarriesPage, MarksFirst, MarksWords, TellsFirst, TellsStray, Traces, words_of};
 
 use crate::marker::{Marker, heap_bytes};
 use block_map::{BlockMap, Found};
 use pages::{Reader, Words};
 use words::limits::{FIRST_ADDRESS, WORD_BYTES};
+use words::{PageNo, page_of};
 
 // Whether none of four words lies in the heap's range. The least distance from its start tells, by one test.
 #[inline]
@@ -25,77 +27,107 @@ fn are_outside(heap_bytes: u64, first: u64, second: u64, third: u64, fourth: u64
 }
 
 impl Marker {
-    // Marks the objects that four words point into, one of which at least lies in the heap's range.
+    // Marks the objects that four words point into, one of which at least lies in the heap's range. Answers whether one
+    // is stray.
     #[inline(never)]
-    fn mark_four(&mut self, map: &BlockMap, first: u64, second: u64, third: u64, fourth: u64)
+    fn mark_four(
+        &mut self,
+        map: &BlockMap,
+        first: u64,
+        second: u64,
+        third: u64,
+        fourth: u64,
+    ) -> bool
         requires pages { length self.old.dirty ≡ length map.now }
-        ensures { MarksWords (found_in map.now) self.old (first ∷ second ∷ third ∷ fourth ∷ []) self.new }
+        ensures marks { MarksWords (found_in map.now) self.old (first ∷ second ∷ third ∷ fourth ∷ []) self.new }
+        ensures stray { TellsStray (found_in map.now) (PAGE_BYTES * length map.now) (first ∷ second ∷ third ∷ fourth ∷ []) result }
     {
         let bytes = heap_bytes(map);
-        self.mark_word(map, bytes, first);
-        self.mark_word(map, bytes, second);
-        self.mark_word(map, bytes, third);
-        self.mark_word(map, bytes, fourth);
+        let a = self.mark_word(map, bytes, first);
+        let b = self.mark_word(map, bytes, second);
+        let c = self.mark_word(map, bytes, third);
+        let d = self.mark_word(map, bytes, fourth);
+        a | b | c | d
     }
 
     // Marks what words point into, four at a time, until fewer are left.
     #[inline]
-    fn mark_fours(&mut self, map: &BlockMap, heap_bytes: u64, words: &mut Words)
+    fn mark_fours(&mut self, map: &BlockMap, heap_bytes: u64, words: &mut Words) -> bool
         requires pages { length self.old.dirty ≡ length map.now }
         requires lawful { IsLawful map.now }
         requires bytes { heap_bytes ≡ PAGE_BYTES * length map.now }
-        ensures { MarksFirst (found_in map.now) self.old words.old words.new self.new }
+        ensures marks { MarksFirst (found_in map.now) self.old words.old words.new self.new }
+        ensures stray { TellsFirst (found_in map.now) (PAGE_BYTES * length map.now) words.old words.new result }
     {
+        let mut stray = false;
         while let Some((first, second, third, fourth)) = words.next_four() {
             if !are_outside(heap_bytes, first, second, third, fourth) {
-                self.mark_four(map, first, second, third, fourth);
+                stray |= self.mark_four(map, first, second, third, fourth);
             }
         }
+        stray
     }
 
     // Marks what words point into, one at a time.
     #[inline]
-    fn mark_each(&mut self, map: &BlockMap, heap_bytes: u64, words: Words)
+    fn mark_each(&mut self, map: &BlockMap, heap_bytes: u64, words: Words) -> bool
         requires pages { length self.old.dirty ≡ length map.now }
         requires lawful { IsLawful map.now }
         requires bytes { heap_bytes ≡ PAGE_BYTES * length map.now }
-        ensures { MarksWords (found_in map.now) self.old words.entry self.new }
+        ensures marks { MarksWords (found_in map.now) self.old words.entry self.new }
+        ensures stray { TellsStray (found_in map.now) (PAGE_BYTES * length map.now) words.entry result }
     {
+        let mut stray = false;
         for word in words {
-            self.mark_word(map, heap_bytes, word);
+            stray |= self.mark_word(map, heap_bytes, word);
         }
+        stray
     }
 
     // Marks what words point into, four at a time and then those that are left.
     #[inline(never)]
-    fn mark_many(&mut self, map: &BlockMap, heap_bytes: u64, words: Words)
+    fn mark_many(&mut self, map: &BlockMap, heap_bytes: u64, words: Words) -> bool
         requires pages { length self.old.dirty ≡ length map.now }
         requires lawful { IsLawful map.now }
         requires bytes { heap_bytes ≡ PAGE_BYTES * length map.now }
-        ensures { MarksWords (found_in map.now) self.old words.entry self.new }
+        ensures marks { MarksWords (found_in map.now) self.old words.entry self.new }
+        ensures stray { TellsStray (found_in map.now) (PAGE_BYTES * length map.now) words.entry result }
     {
         let mut left = words;
-        self.mark_fours(map, heap_bytes, &mut left);
-        self.mark_each(map, heap_bytes, left);
+        let first = self.mark_fours(map, heap_bytes, &mut left);
+        let last = self.mark_each(map, heap_bytes, left);
+        first | last
     }
 
-    // Marks what words point into. No mark between two of them can move them, since they lie in a row of their own. The
-    // loop over fours stands in no caller, so that one that has few words is no longer for it.
+    // Marks what words point into, and answers whether one is stray. No mark between two of them can move them, since
+    // they lie in a row of their own. The loop over fours stands in no caller, so that one that has few words is no longer
+    // for it.
     #[inline]
-    fn mark_all(&mut self, map: &BlockMap, heap_bytes: u64, words: Words)
+    fn mark_all(&mut self, map: &BlockMap, heap_bytes: u64, words: Words) -> bool
         requires pages { length self.old.dirty ≡ length map.now }
         requires lawful { IsLawful map.now }
         requires bytes { heap_bytes ≡ PAGE_BYTES * length map.now }
-        ensures { MarksWords (found_in map.now) self.old words.entry self.new }
+        ensures marks { MarksWords (found_in map.now) self.old words.entry self.new }
+        ensures stray { TellsStray (found_in map.now) (PAGE_BYTES * length map.now) words.entry result }
     {
         if words.len() < 4 {
-            self.mark_each(map, heap_bytes, words);
+            self.mark_each(map, heap_bytes, words)
         } else {
-            self.mark_many(map, heap_bytes, words);
+            self.mark_many(map, heap_bytes, words)
         }
     }
 
-    // Marks what words of an object point into: so many, from its word `first` on.
+    // Makes the page carried.
+    #[cold]
+    fn carry(&mut self, page: PageNo)
+        requires { page < length self.old.carried }
+        ensures { self.new ≡ with_carried self.old (slice_set self.old.carried page true) }
+    {
+        self.carried.set(page);
+    }
+
+    // Marks what words of an object point into: so many, from its word `first` on, which stand on one page. The page is
+    // carried if one of them is stray.
     #[inline]
     pub(crate) fn mark_words(
         &mut self,
@@ -112,13 +144,17 @@ impl Marker {
         requires memory { length reader.old.words ≡ PAGE_WORDS * length map.now }
         requires placed { IsPlaced (length map.now) found }
         requires fits { first + count ≤ found.len }
-        ensures marks { MarksWords (found_in map.now) self.old (words_of reader.old.words found first count) self.new }
+        requires one_page { (i : ℕ) → first ≤ i → i < first + count → page_of (word_address found i) ≡ page_of (word_address found first) }
+        ensures marks { MarksWords (found_in map.now) self.old (words_of reader.old.words found first count) (with_carried self.new self.old.carried) }
+        ensures carries { CarriesPage (found_in map.now) (PAGE_BYTES * length map.now) (words_of reader.old.words found first count) (page_of (word_address found first)) self.old.carried self.new.carried }
         ensures words { reader.new.words ≡ reader.old.words }
         ensures counted { reader.new.reads ≡ reader.old.reads + count }
     {
         self.laws();
         let start = found.base + WORD_BYTES * u64::from(first);
-        self.mark_all(map, heap_bytes, reader.read_run(start, count));
+        if self.mark_all(map, heap_bytes, reader.read_run(start, count)) {
+            self.carry(page_of(start) as PageNo);
+        }
     }
 
     /// Marks the objects that root words point into. Entries stay where they are.

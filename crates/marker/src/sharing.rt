@@ -1,7 +1,8 @@
 //! What the marker lends to the helpers of a pause, and takes back from them.
-ghost use Rattle.std.specs.Prelude.{◌≡◌, ℕ, ◌<◌, ◌≤◌, [], None, true, false, length, slice_index_or, IfOk, IfErr, IfSome, MatchOption};
+ghost use Rattle.std.specs.Prelude.{◌≡◌, ◌⊎◌, ℕ, ◌<◌, ◌≤◌, [], None, true, false, length, slice_index_or, IfOk, IfErr, IfSome, MatchOption};
 ghost use Rattle.words.specs.declared.limits.TheConstants.{MAX_PAGES};
 ghost use Rattle.words.specs.declared.refusal.OpenError.TheVariants.{Memory};
+ghost use Rattle.words.specs.Bits.{Has};
 ghost use Rattle.mark_bits.specs.Tables.{view, start_of, IsOf};
 ghost use Rattle.mark_bits.specs.Claims.{all_parts, first_view, knows, Gathers};
 ghost use Rattle.block_map.specs.Objects.{IsPlaced};
@@ -32,6 +33,13 @@ impl Marker {
         ensures { result.now ≡ self.now.dirty }
     {
         &self.dirty
+    }
+
+    /// The carried pages.
+    pub fn carried_pages(&self) -> &DirtyPages
+        ensures { result.now ≡ self.now.carried }
+    {
+        &self.carried
     }
 
     /// The entry that is being read.
@@ -73,21 +81,33 @@ impl Marker {
         }
     }
 
-    /// Ends the work of helpers: the marks are those of the table, the dirty pages are these, and no entry is left. It takes
-    /// the claimer to which all others were joined.
-    pub fn take_back(&mut self, table: MarkTable, claimer: Claimer, dirty: DirtyPages)
+    /// Ends the work of helpers: the marks are those of the table, the dirty pages are these, these too are carried, and no
+    /// entry is left. It takes the claimer to which all others were joined.
+    pub fn take_back(
+        &mut self,
+        table: MarkTable,
+        claimer: Claimer,
+        dirty: DirtyPages,
+        carried: &DirtyPages,
+    )
         requires of { IsOf table claimer }
         requires all { (view claimer).parts ≡ all_parts }
         requires size { length (start_of table) ≡ length self.old.marks }
         requires pages { length dirty ≡ length self.old.dirty }
+        requires carried { length carried.now ≡ length self.old.carried }
         ensures gathered { Gathers (start_of table) (view claimer).won self.new.marks }
         ensures known { (k : ℕ) → knows (view claimer) k ≡ true → slice_index_or self.new.marks k false ≡ true }
         ensures dirty { self.new.dirty ≡ dirty }
+        ensures carried_len { length self.new.carried ≡ length self.old.carried }
+        ensures each { (p : ℕ) → Has self.new.carried p → Has self.old.carried p ⊎ Has carried.now p }
+        ensures old { (p : ℕ) → Has self.old.carried p → Has self.new.carried p }
+        ensures more { (p : ℕ) → Has carried.now p → Has self.new.carried p }
         ensures current { self.new.current ≡ None }
         ensures stack { self.new.stack ≡ [] }
     {
         table.finish(claimer, &mut self.marks);
         self.dirty = dirty;
+        self.carried.add(carried);
         self.current = None;
         self.stack.clear();
     }

@@ -15,6 +15,7 @@ use crate::marker::{Marker, heap_bytes};
 use block_map::{BlockMap, Found};
 use pages::Reader;
 use words::Kind;
+use words::limits::{PAGE_BYTES, WORD_BYTES};
 
 /// What a call of `step` did.
 #[derive(Clone, Copy, Debug)]
@@ -85,6 +86,7 @@ impl Marker {
     fn take_entry(&mut self) -> bool
         ensures marks { self.new.marks ≡ self.old.marks }
         ensures dirty { self.new.dirty ≡ self.old.dirty }
+        ensures carried { self.new.carried ≡ self.old.carried }
         ensures taken { self.old.stack ≡ entries self.new }
         ensures fewer { result ≡ true → length self.new.stack + 1 ≡ length self.old.stack }
         ensures none { result ≡ false → IsEmpty self.new }
@@ -135,7 +137,7 @@ impl Marker {
         count
     }
 
-    // Reads words of the entry that is being read, at most so many, and answers how many.
+    // Reads words of the entry that is being read, at most so many and none past its page, and answers how many.
     fn read_on(
         &mut self,
         map: &BlockMap,
@@ -160,7 +162,9 @@ impl Marker {
         let Some(entry) = self.current else {
             unreachable!();
         };
-        let count = u64::from(found.len - entry.next).min(most);
+        let address = found.base + WORD_BYTES * u64::from(entry.next);
+        let on_page = (PAGE_BYTES - address % PAGE_BYTES) / WORD_BYTES;
+        let count = u64::from(found.len - entry.next).min(most).min(on_page);
         self.mark_words(map, heap_bytes, reader, found, entry.next, count);
         self.current = Some(Entry {
             base: entry.base,

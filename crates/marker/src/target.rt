@@ -1,9 +1,9 @@
 //! The marking of the object that one word points into.
-ghost use Rattle.std.specs.Prelude.{◌≡◌, ◌*◌, length};
-ghost use Rattle.words.specs.declared.limits.TheConstants.{PAGE_BYTES};
+ghost use Rattle.std.specs.Prelude.{◌≡◌, ◌+◌, ◌*◌, ◌<◌, ◌≤◌, [], ◌∷◌, length};
+ghost use Rattle.words.specs.declared.limits.TheConstants.{FIRST_ADDRESS, PAGE_BYTES};
 ghost use Rattle.block_map.specs.Objects.{IsPlaced};
 ghost use Rattle.block_map.specs.FoundIn.{found_in, IsLawful};
-ghost use Rattle.marker.specs.Growth.{Awaits, MarksWord};
+ghost use Rattle.marker.specs.Growth.{Awaits, MarksWord, TellsStray};
 
 use crate::entry::Entry;
 use crate::marker::Marker;
@@ -13,36 +13,43 @@ use words::limits::FIRST_ADDRESS;
 use words::{Kind, granule_of};
 
 impl Marker {
-    // Marks the object that the word points into. The heap's range is tested here, before the map is asked.
+    // Marks the object that the word points into. The heap's range is tested here, before the map is asked. Answers
+    // whether the word is stray: it lies in the range and points into no object.
     #[inline]
-    pub(crate) fn mark_word(&mut self, map: &BlockMap, heap_bytes: u64, word: u64)
+    pub(crate) fn mark_word(&mut self, map: &BlockMap, heap_bytes: u64, word: u64) -> bool
         requires pages { length self.old.dirty ≡ length map.now }
         requires lawful { IsLawful map.now }
         requires bytes { heap_bytes ≡ PAGE_BYTES * length map.now }
-        ensures { MarksWord (found_in map.now) word self.old self.new }
+        ensures marks { MarksWord (found_in map.now) word self.old self.new }
+        ensures stray { TellsStray (found_in map.now) (PAGE_BYTES * length map.now) (word ∷ []) result }
     {
         if word.wrapping_sub(FIRST_ADDRESS) >= heap_bytes {
-            return;
+            return false;
         }
-        self.mark_target(map, word);
+        // Its clauses tell how many pages there are.
+        self.laws();
+        self.mark_target(map, word)
     }
 
     // Marks the object that a word points into, if it points into one. Most words point into none, so that the loop over
-    // words is to hold the test of the range and not this.
+    // words is to hold the test of the range and not this. Answers whether it points into none.
     #[inline(never)]
-    fn mark_target(&mut self, map: &BlockMap, word: u64)
+    fn mark_target(&mut self, map: &BlockMap, word: u64) -> bool
         requires pages { length self.old.dirty ≡ length map.now }
+        requires inside { (FIRST_ADDRESS ≤ word) × (word < FIRST_ADDRESS + PAGE_BYTES * length map.now) }
         ensures marks { MarksWord (found_in map.now) word self.old self.new }
+        ensures stray { TellsStray (found_in map.now) (PAGE_BYTES * length map.now) (word ∷ []) result }
     {
         let Some(found) = map.find(word) else {
-            return;
+            return true;
         };
         let granule = granule_of(found.base);
         if self.marks.is_set(granule) {
-            return;
+            return false;
         }
         self.marks.set(granule);
         self.await_words(found);
+        false
     }
 
     // Sees to it that the words of a newly marked object are read.
@@ -50,6 +57,7 @@ impl Marker {
     fn await_words(&mut self, found: Found)
         requires placed { IsPlaced (length self.old.dirty) found }
         ensures marks { self.new.marks ≡ self.old.marks }
+        ensures carried { self.new.carried ≡ self.old.carried }
         ensures current { self.new.current ≡ self.old.current }
         ensures awaits { Awaits found self.old self.new }
     {

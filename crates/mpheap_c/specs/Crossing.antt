@@ -32,21 +32,21 @@ IsDoneCall event status old new = (r : Result ⊤ Refusal) × TellsDone status r
 abbrev pub IsWordCall : Event → ℕ → ℕ → ℕ → Contents → Contents → Type 0
 IsWordCall event status before word old new = (r : Result ℕ Refusal) × TellsWord status before word r × IsCall old event (word_reply r) new
 
--- The numbers are good and P is what happened to the core; or they are not, the status is 10, and nothing has changed.
+-- The numbers are good and P is what happened to the core; or they are not, the status is 100, and nothing has changed.
 pub data IsServed (good : Type 0) (P : Contents → Contents → Type 0) (status : ℕ) (old new : Option Contents) : Type 0 where
   served : (c d : Contents) → good → old ≡ Some c → new ≡ Some d → P c d → IsServed good P status old new
-  bad : (good → ⊥) → status ≡ 10 → new ≡ old → IsServed good P status old new
+  bad : (good → ⊥) → status ≡ 100 → new ≡ old → IsServed good P status old new
 
 -- The same of a call that answers a number, which was `before` and is `after`: where the numbers are not good, it stays too.
 pub data IsAnswered (good : Type 0) (P : Contents → Contents → Type 0) (status before after : ℕ) (old new : Option Contents) : Type 0 where
   answered : (c d : Contents) → good → old ≡ Some c → new ≡ Some d → P c d → IsAnswered good P status before after old new
-  bad : (good → ⊥) → status ≡ 10 → after ≡ before → new ≡ old → IsAnswered good P status before after old new
+  bad : (good → ⊥) → status ≡ 100 → after ≡ before → new ≡ old → IsAnswered good P status before after old new
 
 -- A heap of so many pages was opened, or it has no or too many pages, or memory was refused.
 pub data IsOpenedAs (pages status : ℕ) (old new : Option Contents) : Type 0 where
   opened : (c : Contents) → status ≡ 0 → IsPageCount pages → IsNew pages c → new ≡ Some c → IsOpenedAs pages status old new
-  bad_pages : status ≡ 11 → IsNoPageCount pages → new ≡ old → IsOpenedAs pages status old new
-  memory : status ≡ 12 → IsPageCount pages → new ≡ old → IsOpenedAs pages status old new
+  bad_pages : status ≡ 101 → IsNoPageCount pages → new ≡ old → IsOpenedAs pages status old new
+  memory : status ≡ 102 → IsPageCount pages → new ≡ old → IsOpenedAs pages status old new
 
 -- The status and the slot that was written tell a result. A refused call leaves the slot as it was.
 abbrev pub TellsSlot : ℕ → ℕ → ℕ → Result ℕ Refusal → Type 0

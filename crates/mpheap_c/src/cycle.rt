@@ -1,6 +1,6 @@
 //! The calls of the collector.
 ghost use Rattle.std.specs.Prelude.{◌≡◌, true, false};
-ghost use Rattle.heap_core.specs.Collections.{IsGrantedInPhase, IsAlwaysGranted, BeginsCycle, ReadsRoots, TakesWords, RetracesPage, EndsCycle, CollectsAll, SweepsOne};
+ghost use Rattle.heap_core.specs.Collections.{IsGrantedInPhase, IsGrantedPartial, IsAlwaysGranted, BeginsCycle, BeginsPartialCycle, ReadsRoots, TakesWords, RetracesPage, EndsCycle, CollectsAll, SweepsOne};
 ghost use Rattle.mpheap_c.specs.Handle.{IsOpen};
 ghost use Rattle.mpheap_c.specs.Crossing.{Holds, TellsDoneOf, TellsWordOf, HasCount, HasPhase};
 
@@ -14,6 +14,15 @@ pub extern "C" fn mpheap_begin(heap: &mut Heap) -> u32
     ensures { Holds (TellsDoneOf result (λ old r new. IsGrantedInPhase false old r new (λ _. BeginsCycle old new))) heap.old.core heap.new.core }
 {
     done(heap.core().begin())
+}
+
+/// Begins a cycle with the marks of the last one.
+#[unsafe(no_mangle)]
+pub extern "C" fn mpheap_begin_partial(heap: &mut Heap) -> u32
+    requires open { IsOpen heap.old.core }
+    ensures { Holds (TellsDoneOf result (λ old r new. IsGrantedPartial old r new (BeginsPartialCycle old new))) heap.old.core heap.new.core }
+{
+    done(heap.core().begin_partial())
 }
 
 /// Marks what root words point into.

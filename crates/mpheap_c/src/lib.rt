@@ -4,6 +4,7 @@
 mod beside;
 mod cycle;
 mod handle;
+mod linked;
 mod objects;
 mod open;
 mod registers;

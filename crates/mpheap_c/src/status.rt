@@ -1,4 +1,4 @@
-//! Statuses. 0 says that a call was done, and 1 to 9 are the codes of refusals.
+//! Statuses. 0 says that a call was done, 1 to 99 are the codes of refusals, and what only the library refuses begins at 100.
 ghost use Rattle.mpheap_c.specs.Crossing.{TellsDone, TellsSlot, TellsWord};
 
 use words::{Refusal, Slot};
@@ -7,13 +7,13 @@ use words::{Refusal, Slot};
 pub const NO_OBJECT: u32 = 3;
 
 /// A number names no slot, register or global.
-pub const BAD_NUMBER: u32 = 10;
+pub const BAD_NUMBER: u32 = 100;
 
 /// No page, or more than the limit.
-pub const BAD_PAGES: u32 = 11;
+pub const BAD_PAGES: u32 = 101;
 
 /// A growth of memory was refused.
-pub const NO_MEMORY: u32 = 12;
+pub const NO_MEMORY: u32 = 102;
 
 /// The status of a call that answers no word.
 #[inline(always)]

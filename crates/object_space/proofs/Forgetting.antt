@@ -1,5 +1,5 @@
 -- What is closed and then forgotten.
-use Rattle.std.proofs.Common.{◌≡◌, ℕ, ◌⊎◌, ⊎_elim, subst, sym, refl, ◌∙◌, Bool, true, false, List, get_or, Option}
+use Rattle.std.proofs.Common.{length, ◌≡◌, ℕ, ◌⊎◌, ⊎_elim, subst, sym, refl, ◌∙◌, Bool, true, false, List, get_or, Option}
 use Rattle.std.proofs.lemmas.Bool.{false≢true}
 use Rattle.words.specs.Bits.{Has}
 use Rattle.words.specs.Layout.{granule}
@@ -7,6 +7,10 @@ use Rattle.block_map.specs.declared.found.Found.{Found}
 use Rattle.block_map.specs.FoundIn.{found_in}
 use Rattle.marker.specs.Marking.{Marking, IsMarked, IsObjectGranule, AreMarksObjects}
 use Rattle.marker.specs.Closure.{AreClosed}
+use Rattle.marker.specs.Invariant.{CarriedPageInvariant}
+use Rattle.marker.proofs.Closures.{at_base}
+use Rattle.marker.proofs.Mutating.{left_carried}
+use Rattle.block_map.specs.Objects.{IsMap}
 use Rattle.object_space.specs.Store.{Store}
 use Rattle.object_space.specs.Kept.{is_kept}
 use Rattle.object_space.specs.Sweeps.{ForgetsUnreached, ForgetsLazily, Sweeps}
@@ -71,3 +75,17 @@ objects_forgotten old new m n x objects k marked =
     let is : IsMarked m o.object.base = subst (Has m.marks) (sym o.first) marked in
     let kept = x.without.kept o.object.base o.object o.is (λ has. (x.unmarked o.object o.is).0 has is) in
     record { object = o.object; is = (kept_cases (is_kept new.pending m.marks) (found_in new.states) o.object.base o.object kept).0; first = o.first }
+
+-- the carried invariant stays while unmarked objects are forgotten
+pub carried_lazily : (old new : Store) (m : Marking) (n : ℕ) → IsMap (length old.states) (found_in old.states) → ForgetsLazily old m.marks n new → CarriedPageInvariant (found_in old.states) old.words m → CarriedPageInvariant (found_in new.states) new.words m
+carried_lazily old new m n map x =
+    left_carried (found_in old.states) (found_in new.states) old.words new.words m (record { before = λ w f e. x.cells.less w f e })
+    (λ w g there marked. (kept_cases (is_kept new.pending m.marks) (found_in new.states) w g (x.without.kept w g there (λ has. (x.unmarked g (at_base (length old.states) (found_in old.states) map w g there)).0 has marked))).0)
+    x.words
+
+-- and while pages are swept
+pub carried_swept : (mid new : Store) (m : Marking) → Sweeps mid m.marks new → CarriedPageInvariant (found_in mid.states) mid.words m → CarriedPageInvariant (found_in new.states) new.words m
+carried_swept mid new m y =
+    left_carried (found_in mid.states) (found_in new.states) mid.words new.words m y.less
+    (λ w g there marked. (kept_cases (is_kept new.pending m.marks) (found_in new.states) w g (y.same.same w ∙ kept_is (is_kept mid.pending m.marks) (found_in mid.states) w g there (marked_kept mid.pending m.marks g marked))).0)
+    y.words

@@ -13,16 +13,15 @@ use Rattle.mark_bits.specs.Granules.{marks_on}
 use Rattle.blocks.specs.Cells.{Cells}
 use Rattle.block_map.specs.Changes.{IsCleared}
 use Rattle.block_map.specs.FoundIn.{found_in, IsLawful}
-use Rattle.block_map.specs.Objects.{IsObjectOn}
-use Rattle.block_map.specs.States.{PageState, free, cut, state_at, IsBlockFor, IsCut, IsLaid, IsSpanSet}
+use Rattle.block_map.specs.Objects.{cell_object, IsObjectOn}
+use Rattle.block_map.specs.States.{PageState, free, cut, head, body, state_at, IsBlockFor, IsCut, IsLaid, IsSpanSet}
 use Rattle.block_map.specs.declared.found.Found.{Found}
 use Rattle.object_space.specs.AvailableRows.{IsAvailable, AreReady, AreWaiting, IsBitSet}
 use Rattle.object_space.specs.Store.{Store, KeepsPending}
 use Rattle.object_space.specs.Sweeps.{SweepsPage}
 use Rattle.object_space.proofs.AvailablePages.{OffersOnly, cut_offers, free_offers, BlockOnly, cut_block, free_block, ready_changed, waiting_changed}
 use Rattle.object_space.proofs.Counting.{begins_on}
-use Rattle.object_space.proofs.Passing.{cut_page_object}
-use Rattle.object_space.proofs.Rooms.{in_row}
+use Rattle.object_space.proofs.Rooms.{Lies, in_cell, in_large, in_row, large_page, lies_cases}
 
 abbrev one_if : Bool → ℕ
 one_if b = cond b 1 0
@@ -43,6 +42,24 @@ nothing k is = false≢true (sym (get_or_past [] k false (omega arith)) ∙ is)
 
 out_of : (p page : ℕ) → p ≢ page → (p < page) ⊎ (page + 1 ≤ p)
 out_of p page ne = ⊎_elim (λ lt. inl lt) (λ ge. inr (omega arith)) (cases_lt p page)
+
+-- an object that an address of a cut page reads is one of the page
+pub cut_page_object : (states : List PageState) (page : ℕ) (b : Cells) → IsLaid states → IsLawful states → state_at states page ≡ cut b → (w : ℕ) (f : Found) → page_start page ≤ w → w < page_start (page + 1) → found_in states w ≡ Some f → f.page ≡ page
+cut_page_object states page b laid lawful is w f low high there =
+    by (lies_cases states laid f page (lawful.object w f there) (let r = lawful.map.reads w f there in let a = r.from in let z = r.below in (omega arith, omega arith)))
+  where
+    one_page : f ≡ cell_object page b f.cell → f.page ≡ page
+    one_page e = ap (λ (x : Found). x.page) e
+
+    clash_head : (n : ℕ) (k : Kind) → cut b ≡ head n k → ⊥
+    clash_head n k e = cc
+
+    clash_body : (q : ℕ) → cut b ≡ body q → ⊥
+    clash_body q e = cc
+
+    by : Lies states f page → f.page ≡ page
+    by (in_cell c same e taken) = ap (λ (x : Found). x.page) e
+    by (in_large n k at from below len) = absurd (⊎_elim (λ e. clash_head n k (sym is ∙ e)) (λ e. clash_body f.page (sym is ∙ e)) (large_page states laid f.page n k page (lawful.object w f there).page at from below))
 
 -- no object is one of a page that is free
 gone_from : (states : List PageState) (page : ℕ) → ((k : ℕ) → page ≤ k → k < page + 1 → state_at states k ≡ free) → IsLawful states → (w : ℕ) (f : Found) → found_in states w ≡ Some f → f.page ≡ page → ⊥

@@ -118,18 +118,19 @@ pub frees_kept : (row : List Bool) (states states' : List PageState) (page cell 
     → IsRemoved (found_in states) (found_in states') (object_on page (state_at states page) cell) → FreesCell row row states states' page cell
 frees_kept row states states' page cell b became is first removed = record { pages = keeps b first.0 is first.1.member refl became; removed = removed }
 
+-- no cell is allocated
+pub no_object : (row : List Bool) → IsEmptyFrom row 0 → HasNoObject row
+no_object row empty k = ⊎_elim (λ lt. empty k (omega arith) lt) (λ past. get_or_past row k false past) (cases_lt k (length row))
+
 -- the last cell of a page is freed
 pub frees_last : (row row' : List Bool) (states mid states' : List PageState) (page cell : ℕ) (b : Cells) → mid ≡ without_cell states page cell → state_at mid page ≡ cut b → IsEmptyFrom b.taken 0
     → IsRemoved (found_in states) (found_in mid) (object_on page (state_at states page) cell) → IsSpanSet mid states' page (span_of (state_at mid page)) (λ _. free)
     → IsUncut page (state_at mid page) (found_in mid) (found_in states') → IsFilled row row' page 1 true → FreesCell row row' states states' page cell
 frees_last row row' states mid states' page cell b became is empty removed span uncut given = record {
   pages = gives given (subst (λ m. IsSpanSet m states' page 1 (λ _. free)) became (subst (λ n. IsSpanSet mid states' page n (λ _. free)) (ap span_of is) span));
-  removed = removed_same (found_in states) (found_in mid) (found_in states') (object_on page (state_at states page) cell) removed (same none);
+  removed = removed_same (found_in states) (found_in mid) (found_in states') (object_on page (state_at states page) cell) removed (same (no_object b.taken empty));
 }
   where
-    none : HasNoObject b.taken
-    none k = ⊎_elim (λ lt. empty k (omega arith) lt) (λ past. get_or_past b.taken k false past) (cases_lt k (length b.taken))
-
     same : HasNoObject b.taken → IsSameMap (found_in mid) (found_in states')
     same = subst (λ st. IsUncut page st (found_in mid) (found_in states')) is uncut
 

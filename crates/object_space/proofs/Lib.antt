@@ -9,6 +9,7 @@ pub mod Placing
 pub mod Rooms
 pub mod EmptyPages
 pub mod AvailablePages
+pub mod FreedCells
 pub mod Allocations
 pub mod Opening
 pub mod Frees
@@ -16,10 +17,10 @@ pub mod Pending
 pub mod Swept
 pub mod Searching
 pub mod Sweeping
-pub mod Passing
 pub mod Forgetting
 pub mod Counting
 pub mod Forgets
 pub mod FreePages
+pub mod SweptCells
 pub mod Putting
 pub mod Along

@@ -1,42 +1,23 @@
--- Objects that go, one after another.
-use Rattle.std.proofs.Common.{◌≡◌, ℕ, ◌+◌, ◌*◌, ◌<◌, ◌⊎◌, Bool, true, false, List, [], ◌++◌, ◌∷◌, Contains, nat_eq, Option, Some, None, refl, sym, ◌∙◌, subst, inl, inr, ⊎_elim, arith, eq-eqb, cond}
+-- What is left once objects are gone.
+use Rattle.std.proofs.Common.{◌≡◌, ℕ, ◌+◌, ◌*◌, ◌<◌, ◌⊎◌, Bool, true, false, List, [], Contains, nat_eq, Option, Some, None, refl, sym, ◌∙◌, subst, inl, inr, ⊎_elim, arith, eq-eqb, cond}
 use Rattle.std.specs.Prelude.{◌==◌}
 use Rattle.std.specs.List.{list_any}
 use Rattle.std.specs.List.{IsDistinct}
 use Rattle.std.proofs.lemmas.Map.Made.{IsDistinct-from_count}
 use Rattle.std.proofs.lemmas.Bool.{cases_lt, eqb-true, cond-true, cond-false}
 use Rattle.std.proofs.lemmas.Cmp.{nat_eq_equiv}
-use Rattle.std.proofs.lemmas.List.Elements.{All-push, Contains-push_cases, Contains-append_left, Contains-push}
 use Rattle.std.proofs.lemmas.List.Folds.{list_any-from_Any, Any-from_list_any}
-use Rattle.std.proofs.lemmas.Map.Keys.{IsDistinct-push}
 use Rattle.std.proofs.lemmas.Map.Views.{Contains-from_any}
-use Rattle.std.proofs.lemmas.Option.{same_Some}
 use Rattle.heap_spec.specs.Heap.{Object}
 use Rattle.block_map.specs.declared.found.Found.{Found}
-use Rattle.block_map.specs.Objects.{IsMap, IsInside}
-use Rattle.block_map.specs.Changes.{IsRemoved}
+use Rattle.block_map.specs.Objects.{IsInside}
 use Rattle.heap_view.specs.Shows.{Shows}
 use Rattle.object_space.specs.Sweeps.{IsWithout}
-use Rattle.heap_view.proofs.Shows.{at_base, one_at_base}
-
-none_in : (b : ℕ) → Contains [] b → ⊥
-none_in b h = let l = h.1 in omega arith
-
-none_some : (f : Found) → None ≡ Some f → ⊥
-none_some f e = cc
 
 pub distinct_none : IsDistinct nat_eq []
 distinct_none = IsDistinct-from_count nat_eq_equiv [] refl
 
--- nothing is gone
-pub without_none : (found : ℕ → Option Found) → IsWithout found found []
-without_none found = record {
-  gone = λ k d lt. absurd (omega arith);
-  distinct = distinct_none;
-  left = λ w f e. (e, none_in f.base);
-  kept = λ w f e n. e;
-}
-
+-- whether an object has a word
 pub read_or_not : (w : ℕ) (f : Found) → IsInside w f ⊎ (IsInside w f → ⊥)
 read_or_not w f =
     ⊎_elim (λ (lt : w < f.base). inr (λ (r : IsInside w f). let a = r.from in absurd (omega arith)))
@@ -72,29 +53,6 @@ has_false bases b n = by (has bases b) refl
 
 pub false_has : (bases : List ℕ) (b : ℕ) → has bases b ≡ false → Contains bases b → ⊥
 false_has bases b e h = false_true (sym e ∙ has_true bases b h)
-
--- one object more is gone
-pub without_more : (pages : ℕ) (found mid after : ℕ → Option Found) (bases : List ℕ) (f : Found) → IsMap pages found → IsWithout found mid bases → mid f.base ≡ Some f → IsRemoved mid after f
-    → IsWithout found after (bases ++ f.base ∷ [])
-without_more pages found mid after bases f map so is gone = record {
-  gone = All-push (λ b. (g : Found) × (found b ≡ Some g) × (g.base ≡ b)) bases f.base so.gone (f, (so.left f.base f is).0, refl);
-  distinct = IsDistinct-push nat_eq_equiv bases f.base so.distinct (not_any bases f.base (so.left f.base f is).1);
-  left = λ w g e.
-      let l = so.left w g (before w g e) in
-      (l.0, λ h. ⊎_elim (λ old. l.1 old) (λ same. other w g e same) (Contains-push_cases bases f.base g.base h));
-  kept = λ w g e n.
-      let was : mid w ≡ Some g = so.kept w g e (λ h. n (Contains-append_left bases (f.base ∷ []) g.base h)) in
-      sym (gone.others w (λ r. n (subst (λ (x : Found). Contains (bases ++ f.base ∷ []) x.base) (same_Some f g (sym (gone.after w r) ∙ was)) (Contains-push bases f.base)))) ∙ was;
-}
-  where
-    before : (w : ℕ) (g : Found) → after w ≡ Some g → mid w ≡ Some g
-    before w g e = ⊎_elim (λ r. absurd (none_some g (sym (gone.before w r) ∙ e))) (λ not. gone.others w not ∙ e) (read_or_not w f)
-
-    other : (w : ℕ) (g : Found) → after w ≡ Some g → f.base ≡ g.base → ⊥
-    other w g e same =
-        let was = (so.left w g (before w g e)).0 in
-        let one : g ≡ f = one_at_base found pages map f g (so.left f.base f is).0 (at_base found pages map w g was) (sym same) in
-        none_some g (sym (gone.before w (subst (IsInside w) one (map.reads w g was))) ∙ e)
 
 -- what is left of the objects of a heap
 pub shows_without : (pages : ℕ) (found after : ℕ → Option Found) (words : List ℕ) (objects : ℕ → Option Object) (births : ℕ) (bases : List ℕ) → Shows found words objects births → IsWithout found after bases

@@ -1,5 +1,5 @@
 -- What goes takes its links along.
-use Rattle.std.specs.Prelude.{◌≡◌, ℕ, ◌&&◌, ◌==◌, not, Bool, true, false, is_some, List, slice_index, Option, Some, None, if◌then◌else◌, slice_set, length}
+use Rattle.std.specs.Prelude.{◌≡◌, ℕ, ◌&&◌, ◌==◌, not, Bool, false, is_some, List, slice_index, Option, Some, None, if◌then◌else◌, length}
 use Rattle.std.specs.List.{list_any}
 use Rattle.pages.specs.Memory.{place}
 use Rattle.block_map.specs.declared.found.Found.{Found}

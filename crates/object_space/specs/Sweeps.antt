@@ -1,17 +1,16 @@
 -- Objects that go, and objects that come, as changes of the store.
-use Rattle.std.specs.Prelude.{◌≡◌, ◌↔◌, ℕ, ◌+◌, ◌*◌, ◌<◌, ◌≤◌, ◌≢◌, count_by, Bool, false, slice_index_or, slice_set, List, length, Contains, All, nat_eq, Option, Some}
+use Rattle.std.specs.Prelude.{◌≡◌, ◌↔◌, ℕ, ◌<◌, ◌≤◌, ◌≢◌, count_by, Bool, false, slice_index_or, slice_set, List, length, Contains, All, nat_eq, Option, Some}
 use Rattle.std.specs.List.{IsDistinct}
-use Rattle.words.specs.declared.limits.TheConstants.{PAGE_WORDS, WORD_BYTES}
+use Rattle.words.specs.declared.limits.TheConstants.{PAGE_WORDS}
 use Rattle.words.specs.declared.class.Kind.{Kind}
 use Rattle.words.specs.declared.class.Placement.{Placement}
 use Rattle.heap_spec.specs.Room.{length_of}
 use Rattle.words.specs.Bits.{Has}
-use Rattle.words.specs.Layout.{granule, page_start, page_of}
+use Rattle.words.specs.Layout.{granule}
 use Rattle.object_space.specs.Store.{IsSwept}
 use Rattle.object_space.specs.Rooms.{HasRoomAt, HasNoRoom}
 use Rattle.object_space.specs.Kept.{kept_in, IsPendingAfter}
 use Rattle.block_map.specs.Changes.{IsSameMap}
-use Rattle.block_map.specs.Walks.{IsNextObject, IsNoObject}
 use Rattle.block_map.specs.declared.found.Found.{Found}
 use Rattle.block_map.specs.Changes.{IsAdded, IsRemoved}
 use Rattle.block_map.specs.FoundIn.{found_in}
@@ -53,18 +52,6 @@ pub record Gains (old : Store) (place : Placement) (kind : Kind) (base : ℕ) (n
   pub words : KeepsWords (found_in old.states) old.words new.words
   pub pending : new.pending ≡ old.pending
   pub swept : slice_index_or old.pending object.page false ≡ false
-
--- the object is the next one at or after the address on its page, and `next` is where it ends
-pub record IsNextUpTo (old : Store) (address next : ℕ) (f : Found) : Type 0 where
-  pub first : IsNextObject (found_in old.states) address (page_start (page_of address + 1)) f
-  pub end : next ≡ f.base + WORD_BYTES * f.len
-
--- The objects from one address up to another were looked at: there is none, or one that is marked, or one that is not and
--- is gone now.
-pub data Passes (old : Store) (marking : Marking) (address next : ℕ) (new : Store) : Type 0 where
-  none : address < next → IsNoObject (found_in old.states) address next → new ≡ old → Passes old marking address next new
-  marked : (f : Found) → IsNextUpTo old address next f → IsMarked marking f.base → new ≡ old → Passes old marking address next new
-  forgot : (f : Found) → IsNextUpTo old address next f → (IsMarked marking f.base → ⊥) → Loses old f new → Passes old marking address next new
 
 -- To the heap exactly the objects outside of the closure of the marks and the roots are gone, so many. The others are marked
 -- now, and their words stay.

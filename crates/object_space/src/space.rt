@@ -21,6 +21,7 @@ mod close;
 mod forget;
 mod free;
 mod free_page;
+mod looks;
 mod mark;
 mod page_row;
 mod sweep;

@@ -27,22 +27,9 @@ none_before (y ∷ xs) d (suc k) x lt is zero less =
     λ same. none_later y xs (IsDistinct-head nat_eq y xs d) k (omega arith) (ap (get_or xs k) same ∙ is ∙ sym same)
 none_before (y ∷ xs) d (suc k) x lt is (suc j) less = none_before xs (IsDistinct-tail nat_eq y xs d) k x (omega arith) is j (omega arith)
 
-module _ (row : List Extent) (one : HasOneEach row) (marks : List Bool) where
-  pub free_none : AreFreeToGo row marks []
-  free_none = record { each = All-nil (IsFreeToGo row marks); distinct = IsDistinct-from_count nat_eq_equiv [] refl }
-
-  -- one base more
-  module _ (bases : List ℕ) (flags : List Bool) (free : AreFreeToGo row marks bases) (unset : AreUnset row bases flags) (index base : ℕ) (e : Extent) (at : slice_get row index ≡ Some e) (is : e.base ≡ base) where
-    pub free_more : get_or marks index false ≡ false → get_or flags index false ≡ true → AreFreeToGo row marks (bases ++ base ∷ [])
-    free_more unmarked flag = record {
-      each = All-push (IsFreeToGo row marks) bases base free.each (record { place = index; object = e; there = at; is_base = is; unmarked = unmarked });
-      distinct = IsDistinct-push nat_eq_equiv bases base free.distinct
-          (list_any_none (eqb base) bases (λ k d lt. ne_eqb base (get_or bases k d) (λ same. among (subst (Contains bases) (sym same) (Contains-get_or bases k d lt)))));
-    }
-      where
-        among : Contains bases base → ⊥
-        among has = true≢false (sym flag ∙ unset.unset index e at (subst (Contains bases) (sym is) has))
-
+-- the flag of one object more is unset
+module _ (row : List Extent) (one : HasOneEach row) (bases : List ℕ) (flags : List Bool) (unset : AreUnset row bases flags) where
+  module _ (index base : ℕ) (e : Extent) (at : slice_get row index ≡ Some e) (is : e.base ≡ base) where
     pub unset_more : AreUnset row (bases ++ base ∷ []) (set flags index false)
     unset_more = record {
       size = let size = unset.size in let same : length (set flags index false) ≡ length flags = length-set flags index false in omega arith;
@@ -62,12 +49,39 @@ module _ (row : List Extent) (one : HasOneEach row) (marks : List Bool) where
         short : index < length flags
         short = let size = unset.size in let lt : index < length row = slice_get_within row index e at in omega arith
 
+  -- and none where no object has the base
+  pub unset_past : (base : ℕ) → All (λ (e : Extent). e.base ≡ base → ⊥) row → AreUnset row (bases ++ base ∷ []) flags
+  unset_past base none = record {
+    size = unset.size;
+    unset = λ i f there among. ⊎_elim
+        (λ before. unset.unset i f there before)
+        (λ last. absurd (All-contains (λ (e : Extent). e.base ≡ base → ⊥) row f none (i, slice_get_within row i f there, get_or_from_slice_get row i f f there) (sym last)))
+        (Contains-push_cases bases base f.base among);
+    only = λ i f there flag. Contains-append_left bases (base ∷ []) f.base (unset.only i f there flag);
+  }
+
+module _ (row : List Extent) (one : HasOneEach row) (marks : List Bool) where
+  pub free_none : AreFreeToGo row marks []
+  free_none = record { each = All-nil (IsFreeToGo row marks); distinct = IsDistinct-from_count nat_eq_equiv [] refl }
+
+  -- one base more
+  module _ (bases : List ℕ) (flags : List Bool) (free : AreFreeToGo row marks bases) (unset : AreUnset row bases flags) (index base : ℕ) (e : Extent) (at : slice_get row index ≡ Some e) (is : e.base ≡ base) where
+    pub free_more : get_or marks index false ≡ false → get_or flags index false ≡ true → AreFreeToGo row marks (bases ++ base ∷ [])
+    free_more unmarked flag = record {
+      each = All-push (IsFreeToGo row marks) bases base free.each (record { place = index; object = e; there = at; is_base = is; unmarked = unmarked });
+      distinct = IsDistinct-push nat_eq_equiv bases base free.distinct
+          (list_any_none (eqb base) bases (λ k d lt. ne_eqb base (get_or bases k d) (λ same. among (subst (Contains bases) (sym same) (Contains-get_or bases k d lt)))));
+    }
+      where
+        among : Contains bases base → ⊥
+        among has = true≢false (sym flag ∙ unset.unset index e at (subst (Contains bases) (sym is) has))
+
   pub claimed_take : (bases : List ℕ) (flags : List Bool) (k d index : ℕ) (e : Extent) → k < length bases → AreFreeToGo row marks (take k bases) → AreUnset row (take k bases) flags → slice_get row index ≡ Some e → e.base ≡ get_or bases k d
       → get_or marks index false ≡ false → get_or flags index false ≡ true → AreFreeToGo row marks (take (k + 1) bases) × AreUnset row (take (k + 1) bases) (set flags index false)
   claimed_take bases flags k d index e lt free unset at is unmarked flag =
       let more : take (k + 1) bases ≡ take k bases ++ get_or bases k d ∷ [] = take_more bases k d lt in (
         subst (AreFreeToGo row marks) (sym more) (free_more (take k bases) flags free unset index (get_or bases k d) e at is unmarked flag),
-        subst (λ l. AreUnset row l (set flags index false)) (sym more) (unset_more (take k bases) flags free unset index (get_or bases k d) e at is),
+        subst (λ l. AreUnset row l (set flags index false)) (sym more) (unset_more row one (take k bases) flags unset index (get_or bases k d) e at is),
       )
 
   -- where there is a base that can't go, they can't go

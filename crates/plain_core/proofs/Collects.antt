@@ -85,7 +85,7 @@ pub are_bases : (gone : List Extent) → AreBases gone (map (λ (e : Extent). e.
 are_bases gone = record { of = mapped_from gone; all = mapped gone }
 
 module _ (c : Contents) (sound : IsLaidOut c) (s : Heap) (h : StandsFor c s) where
-  roots_are : root_words s ≡ root_words_of c.roots
+  pub roots_are : root_words s ≡ root_words_of c.roots
   roots_are = ap (λ ms. flat_map words_of ms ++ s.globals) h.mutators ∙ ap (λ gs. flat_map words_of c.roots.mutators ++ gs) h.globals
 
   -- where a word points into, the heap has an object that it reads

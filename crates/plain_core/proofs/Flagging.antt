@@ -2,7 +2,7 @@
 use Rattle.std.proofs.Common.{◌≡◌, ◌↔◌, ◌⊎◌, ℕ, ◌+◌, ◌<◌, ◌≤◌, Bool, true, false, List, [], ◌∷◌, length, get_or, refl, sym, ap, ◌∙◌, subst, arith, inl, inr, ⊎_elim}
 use Rattle.std.specs.Prelude.{Some, All, Contains, slice_get, slice_set}
 use Rattle.std.proofs.lemmas.Bool.{true≢false, cases_eq, cases_lt}
-use Rattle.std.proofs.lemmas.Option.{same_Some, slice_get_within}
+use Rattle.std.proofs.lemmas.Option.{same_Some, slice_get_within, slice_get-get_or}
 use Rattle.std.proofs.lemmas.List.{length-set, get_or-set_same, get_or-set_other, get_or_past}
 use Rattle.std.proofs.lemmas.List.Elements.{All-contains, Contains-get_or}
 use Rattle.words.specs.declared.limits.TheConstants.{FIRST_ADDRESS}
@@ -20,7 +20,8 @@ use Rattle.plain_core.specs.Contents.{Contents, IsLaidOut, IsInHeap}
 use Rattle.plain_core.specs.Collections.{TakesBases, CantTake}
 use Rattle.plain_core.specs.Reached.{IsReachedPlace, by_root, by_link, MarksReached, links_of}
 use Rattle.plain_core.specs.Standing.{StandsFor, place, words_at}
-use Rattle.plain_core.specs.Flags.{IsFlagged, HasFlags, FlagsMarked, FlagsReached, FlagsLed, FlagsBrought, NamesRow, ForgetsUnflagged, CantForget}
+use Rattle.plain_core.specs.Flags.{IsFlagged, HasFlags, FlagsMarked, FlagsReached, FlagsLed, FlagsBrought, NamesRow, AreGone, ForgetsUnflagged, CantForget}
+use Rattle.plain_core.specs.Claims.{AreUnset}
 use Rattle.plain_core.proofs.Objects.{in_heap, extent_of, reads_object, reads_nothing}
 use Rattle.plain_core.proofs.Collects.{in_row, read_of, read_in, reads_at, points_at, reached_out, reached_in}
 
@@ -101,14 +102,14 @@ apart c sound s h = record {
 }
 
 -- two objects whose bases have one place are one
-one_place : (c : Contents) (sound : IsLaidOut c) (e f : Extent) → Contains c.objects e → Contains c.objects f → place e.base ≡ place f.base → e.base ≡ f.base
+pub one_place : (c : Contents) (sound : IsLaidOut c) (e f : Extent) → Contains c.objects e → Contains c.objects f → place e.base ≡ place f.base → e.base ≡ f.base
 one_place c sound e f has also same =
     let i : IsInHeap c.pages e = in_heap c sound e has in
     let j : IsInHeap c.pages f = in_heap c sound f also in
     omega (arith, i.start, i.aligned, j.start, j.aligned, same)
 
 -- the base of an object has a flag
-has_flag : (c : Contents) (sound : IsLaidOut c) (flags : List Bool) → HasFlags c.pages flags → (e : Extent) → Contains c.objects e → place e.base < length flags
+pub has_flag : (c : Contents) (sound : IsLaidOut c) (flags : List Bool) → HasFlags c.pages flags → (e : Extent) → Contains c.objects e → place e.base < length flags
 has_flag c sound flags room e has =
     let i : IsInHeap c.pages e = in_heap c sound e has in omega (arith, i.start, i.aligned, i.some, i.ends, room)
 
@@ -145,7 +146,7 @@ module _ (c : Contents) (sound : IsLaidOut c) (s : Heap) (h : StandsFor c s) (w 
 -- what the marked objects' flags tell
 module _ (c : Contents) (sound : IsLaidOut c) (marks old new : List Bool) (f : FlagsMarked c.objects marks old new) where
   -- the marked object that a flag is of
-  flag_of : (s : Heap) → StandsFor c s → (base : ℕ) (o : Object) → HasObject s base o → IsFlagged new base
+  pub flag_of : (s : Heap) → StandsFor c s → (base : ℕ) (o : Object) → HasObject s base o → IsFlagged new base
       → IsFlagged old base ⊎ ((i : ℕ) × (e : Extent) × (slice_get c.objects i ≡ Some e) × (get_or marks i false ≡ true) × (e.base ≡ base))
   flag_of s h base o has is = ⊎_elim
       (λ before. inl before)
@@ -154,7 +155,7 @@ module _ (c : Contents) (sound : IsLaidOut c) (marks old new : List Bool) (f : F
       inr (x.0, x.1, x.2, x.3, one_place c sound x.1 e.0 (in_row c.objects x.0 x.1 x.2) e.1 (x.4 ∙ ap place (sym e.2)) ∙ e.2))
       (f.only (place base) is)
 
-  flag_sets : HasFlags c.pages old → (i : ℕ) (e : Extent) → slice_get c.objects i ≡ Some e → get_or marks i false ≡ true → IsFlagged new e.base
+  pub flag_sets : HasFlags c.pages old → (i : ℕ) (e : Extent) → slice_get c.objects i ≡ Some e → get_or marks i false ≡ true → IsFlagged new e.base
   flag_sets room i e at is = f.sets i e at is (has_flag c sound old room e (in_row c.objects i e at))
 
   pub led_flagged : (w : ℕ) → MarksReached (w ∷ []) c.words c.objects marks → FlagsLed c w old new
@@ -268,3 +269,15 @@ brought_flagged c slot call r w old new is stands f = record {
       let same : v ≡ w = stands_one s' slot r v w ((is s s' v).0 x) (stands s' h) in
       f.adds room s' h (subst (λ k. (at : ℕ) (o : Object) → ReadsObject s' k at o → IsFlagged old at → (b : ℕ) → LedTo s' k b → IsFlagged old b) same lead) base (subst (λ k. LedTo s' k base) same led);
 }
+
+-- the flags by which objects stay tell which are named
+module _ (row : List Extent) (flags : List Bool) (bases : List ℕ) (stays : List Bool) (unset : AreUnset row bases stays) where
+  pub gone_named : AreGone row flags stays → NamesRow row flags bases
+  gone_named gone k d lt =
+      let at : slice_get row k ≡ Some (get_or row k d) = slice_get-get_or row k d lt in
+      ⊎_elim (λ flag. inl flag) (λ off. inr (unset.only k (get_or row k d) at off)) (gone k (get_or row k d) at)
+
+  pub named_gone : NamesRow row flags bases → AreGone row flags stays
+  named_gone names i e at =
+      let both : IsFlagged flags e.base ⊎ Contains bases e.base = All-contains (λ (x : Extent). IsFlagged flags x.base ⊎ Contains bases x.base) row e names (in_row row i e at) in
+      ⊎_elim (λ flag. inl flag) (λ among. inr (unset.unset i e at among)) both

@@ -42,21 +42,25 @@ one_each c sound = record {
 }
 
 -- where all flags are set no object is named
-pub all_set : (c : Contents) → IsLaidOut c → (flags : List Bool) (n : ℕ) → flags ≡ replicate n true → PAGE_GRANULES * c.pages ≤ n → AreUnset c.objects [] flags
-all_set c sound flags n is room = record {
+pub all_set_of : (row : List Extent) (flags : List Bool) (n : ℕ) → flags ≡ replicate n true → length row ≤ n → AreUnset row [] flags
+all_set_of row flags n is room = record {
   size = long;
   unset = λ i e at among. absurd (nothing_in e.base among);
-  only = λ i e at flag. absurd (set i (let lt = slice_get_within c.objects i e at in omega arith) flag);
+  only = λ i e at flag. absurd (set i (let lt = slice_get_within row i e at in omega arith) flag);
 }
   where
-    few : length c.objects ≤ PAGE_GRANULES * c.pages
-    few = few_objects c.pages c.objects sound.in_heap sound.distinct
+    long : length row ≤ length flags
+    long = let size : length flags ≡ n = ap length is ∙ length-replicate n true in omega arith
 
-    long : length c.objects ≤ length flags
-    long = let size : length flags ≡ n = ap length is ∙ length-replicate n true in let most = few in omega arith
+    set : (i : ℕ) → i < length row → get_or flags i false ≡ false → ⊥
+    set i lt flag = true≢false (sym (ap (λ l. get_or l i false) is ∙ get_or-replicate n i true false (omega arith)) ∙ flag)
 
-    set : (i : ℕ) → i < length c.objects → get_or flags i false ≡ false → ⊥
-    set i lt flag = let most = few in true≢false (sym (ap (λ l. get_or l i false) is ∙ get_or-replicate n i true false (omega arith)) ∙ flag)
+-- the flags of a core have room for its objects
+pub room_of_flags : (c : Contents) → IsLaidOut c → (n : ℕ) → PAGE_GRANULES * c.pages ≤ n → length c.objects ≤ n
+room_of_flags c sound n room = let few : length c.objects ≤ PAGE_GRANULES * c.pages = few_objects c.pages c.objects sound.in_heap sound.distinct in omega arith
+
+pub all_set : (c : Contents) → IsLaidOut c → (flags : List Bool) (n : ℕ) → flags ≡ replicate n true → PAGE_GRANULES * c.pages ≤ n → AreUnset c.objects [] flags
+all_set c sound flags n is room = all_set_of c.objects flags n is (room_of_flags c sound n room)
 
 -- there is an object at each place
 get_at : (row : List Extent) (i : ℕ) → i < length row → (e : Extent) × (slice_get row i ≡ Some e)

@@ -1,5 +1,5 @@
 -- The objects that are left tell which links stay, and which words become 0.
-use Rattle.std.proofs.Common.{◌≡◌, ℕ, ◌+◌, ◌-◌, ◌*◌, ◌/◌, ◌%◌, ◌<◌, ◌≤◌, Bool, true, false, cond, List, [], ◌∷◌, ◌++◌, length, get_or, take, drop, refl, sym, ap, ◌∙◌, arith}
+use Rattle.std.proofs.Common.{◌≡◌, ℕ, ◌+◌, ◌*◌, ◌<◌, ◌≤◌, Bool, true, false, cond, List, [], ◌∷◌, ◌++◌, length, get_or, take, drop, refl, sym, ap, ◌∙◌, arith}
 use Rattle.std.specs.Prelude.{All, Contains, ◌==◌, ◌&&◌, filter, nat_le, nat_lt}
 use Rattle.std.proofs.lemmas.Bool.{true≢false, eq-eqb, eqb-true, le-leb, lt-ltb, leb-true, ltb-true, and_from}
 use Rattle.std.proofs.lemmas.List.{ext_get_or, get_or-take, get_or-drop}
@@ -10,10 +10,10 @@ use Rattle.heap_spec.specs.Layout.{Reads}
 use Rattle.heap_spec.specs.Heap.{cleared}
 use Rattle.heap_spec.proofs.Links.{length-cleared, cleared_at}
 use Rattle.links.specs.declared.row.Link.{Link}
-use Rattle.links.specs.Leaving.{stays_with, ClearsWords}
+use Rattle.links.specs.Leaving.{ClearsWords}
 use Rattle.links.proofs.Leaving.{clears_more}
 use Rattle.plain_core.specs.declared.extent.Extent.{Extent}
-use Rattle.plain_core.specs.Contents.{Contents, IsInHeap}
+use Rattle.plain_core.specs.Contents.{IsInHeap}
 use Rattle.plain_core.specs.Standing.{LiesIn, place, words_at}
 use Rattle.plain_core.specs.Along.{holds_word, has_base, ClearsWord}
 use Rattle.plain_core.proofs.Memory.{length_words}

@@ -8,7 +8,7 @@ pub mod Placing
 pub mod Freshness
 pub mod Rooms
 pub mod Alloc
-pub mod Taking
+pub mod Granules
 pub mod Free
 pub mod Lists
 pub mod Reaching
@@ -20,3 +20,4 @@ pub mod Forgets
 pub mod Answering
 pub mod Cells
 pub mod Flagging
+pub mod Aging

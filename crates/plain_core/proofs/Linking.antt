@@ -1,5 +1,5 @@
 -- The calls on links.
-use Rattle.std.proofs.Common.{inl, inr, ◌≡◌, ℕ, ◌%◌, ◌<◌, Bool, true, false, length, refl, sym, ap, ◌∙◌, subst, arith}
+use Rattle.std.proofs.Common.{inl, inr, ◌≡◌, ℕ, ◌%◌, ◌<◌, Bool, refl, sym, ap, ◌∙◌, subst, arith}
 use Rattle.std.specs.Prelude.{Contains, if◌then◌else◌}
 use Rattle.words.specs.declared.limits.TheConstants.{MAX_LINKS}
 use Rattle.words.specs.declared.class.Kind.TheVariants.{PointerFree}
@@ -10,7 +10,6 @@ use Rattle.heap_spec.specs.Layout.{Reads}
 use Rattle.heap_spec.specs.Heap.{Heap, Object, Mutator, ReadsObject}
 use Rattle.heap_spec.specs.Steps.{Acts, acts, address, register, with_link, without_link, HasLinkRoom}
 use Rattle.links.specs.Rows.{has_at, but_at, with_link_at, HasRowRoom, LacksRowRoom}
-use Rattle.links.specs.Named.{AreNamed}
 use Rattle.links.proofs.Named.{named_length, named_at, named_but, named_push}
 use Rattle.roots.specs.Roots.{HasMutator}
 use Rattle.plain_core.specs.declared.extent.Extent.{Extent}

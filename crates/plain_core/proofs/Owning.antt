@@ -1,14 +1,18 @@
 -- Each word of an object has the place of that object, written down one object after another.
-use Rattle.std.proofs.Common.{◌≡◌, ℕ, ◌+◌, ◌<◌, ◌≤◌, ◌⊎◌, List, length, get_or, sym, ap, ◌∙◌, subst, arith, inl, inr, ⊎_elim}
-use Rattle.std.specs.Prelude.{Some, All, slice_get}
+use Rattle.std.proofs.Common.{◌≡◌, ℕ, ◌+◌, ◌-◌, ◌%◌, ◌<◌, ◌≤◌, ◌⊎◌, List, [], ◌∷◌, ◌++◌, length, get_or, sym, ap, ◌∙◌, subst, arith, inl, inr, ⊎_elim, get_or-set_other}
+use Rattle.std.specs.Prelude.{Some, All, slice_get, slice_set}
+use Rattle.std.specs.List.{swap_remove}
 use Rattle.std.proofs.lemmas.Bool.{cases_eq, cases_lt}
-use Rattle.std.proofs.lemmas.Option.{same_Some, slice_get_within, get_or_from_slice_get, slice_get-get_or}
-use Rattle.words.specs.declared.limits.TheConstants.{FIRST_ADDRESS}
+use Rattle.std.proofs.lemmas.List.{get_or_append_left, get_or-take, length-take, length_push}
+use Rattle.std.proofs.lemmas.List.Elements.{All-nil, All-weaker}
+use Rattle.std.proofs.lemmas.Option.{same_Some, none-some, slice_get_within, get_or_from_slice_get, slice_get-get_or}
+use Rattle.words.specs.declared.limits.TheConstants.{FIRST_ADDRESS, GRANULE_BYTES}
 use Rattle.heap_spec.specs.Layout.{Reads}
 use Rattle.plain_core.specs.declared.extent.Extent.{Extent}
 use Rattle.plain_core.specs.Standing.{LiesIn, place}
 use Rattle.plain_core.specs.Reached.{PointsIntoPlace, AreApart}
-use Rattle.plain_core.specs.Owners.{AreOwners}
+use Rattle.plain_core.specs.Contents.{Contents, IsLaidOut, IsInHeap}
+use Rattle.plain_core.specs.Owners.{AreOwners, AreOwnersBut, AreFound}
 
 -- the object at a place of the row lies in it
 pub lies_at : (row : List Extent) (words : List ℕ) → All (LiesIn words) row → (i : ℕ) (e : Extent) → slice_get row i ≡ Some e → LiesIn words e
@@ -30,33 +34,53 @@ module _ (row : List Extent) (apart : AreApart row) (words : List ℕ) (lie : Al
   pub own_none : (owners : List ℕ) → OwnSoFar row 0 owners
   own_none owners = record { owned = λ w i few p. absurd (omega (arith, few)) }
 
-  -- one object more
-  pub own_more : (n : ℕ) (e : Extent) (start : ℕ) (old new : List ℕ) → slice_get row n ≡ Some e → start ≡ place e.base → OwnSoFar row n old
-      → ((k : ℕ) → start ≤ k → k < start + e.length → get_or new k 0 ≡ n)
-      → ((k : ℕ) → (k < start) ⊎ (start + e.length ≤ k) → get_or new k 0 ≡ get_or old k 0)
-      → OwnSoFar row (n + 1) new
-  own_more n e start old new at begins before filled others = record {
-    owned = λ w i few p. ⊎_elim
-        (λ same. let is : p.0 ≡ e = same_Some p.0 e (sym p.1 ∙ ap (slice_get row) same ∙ at) in here w i same (subst (λ (x : Extent). Reads w x.base x.length) is p.2))
-        (λ ne. others (place w) (outside w i ne p) ∙ before.owned w i (omega arith) p)
-        (cases_eq i n);
-  }
-    where
-      lies : LiesIn words e
-      lies = lies_at row words lie n e at
+  -- the words of the object at a place, and all others
+  module _ (n : ℕ) (e : Extent) (start : ℕ) (at : slice_get row n ≡ Some e) (begins : start ≡ place e.base) where
+    lies : LiesIn words e
+    lies = lies_at row words lie n e at
 
-      here : (w i : ℕ) → i ≡ n → Reads w e.base e.length → get_or new (place w) 0 ≡ i
-      here w i same reads = let in_it = placed_in words e w lies reads in filled (place w) (let b = begins in omega (arith, in_it.1)) (let b = begins in omega (arith, in_it.2)) ∙ sym same
+    inside : (w i : ℕ) → i ≡ n → PointsIntoPlace row w i → (start ≤ place w) × (place w < start + e.length)
+    inside w i same p =
+        let is : p.0 ≡ e = same_Some p.0 e (sym p.1 ∙ ap (slice_get row) same ∙ at) in
+        let in_it = placed_in words e w lies (subst (λ (x : Extent). Reads w x.base x.length) is p.2) in
+        (let b = begins in omega (arith, in_it.1), let b = begins in omega (arith, in_it.2))
 
-      outside : (w i : ℕ) → (i ≡ n → ⊥) → PointsIntoPlace row w i → (place w < start) ⊎ (start + e.length ≤ place w)
-      outside w i ne p =
-          let low = (placed_in words p.0 w (lies_at row words lie i p.0 p.1) p.2).0 in
-          ⊎_elim (λ under. inl under)
-          (λ from. ⊎_elim
-          (λ inside. absurd (ne (apart.one w i n p (e, at, reads_in words e w lies low (let b = begins in omega (arith, from)) (let b = begins in omega (arith, inside))))))
-          (λ past. inr past)
-          (cases_lt (place w) (start + e.length)))
-          (cases_lt (place w) start)
+    outside : (w i : ℕ) → (i ≡ n → ⊥) → PointsIntoPlace row w i → (place w < start) ⊎ (start + e.length ≤ place w)
+    outside w i ne p =
+        let low = (placed_in words p.0 w (lies_at row words lie i p.0 p.1) p.2).0 in
+        ⊎_elim (λ under. inl under)
+        (λ from. ⊎_elim
+        (λ within. absurd (ne (apart.one w i n p (e, at, reads_in words e w lies low (let b = begins in omega (arith, from)) (let b = begins in omega (arith, within))))))
+        (λ past. inr past)
+        (cases_lt (place w) (start + e.length)))
+        (cases_lt (place w) start)
+
+    -- once they are written down
+    pub own_more : (old new : List ℕ) → OwnSoFar row n old
+        → ((k : ℕ) → start ≤ k → k < start + e.length → get_or new k 0 ≡ n)
+        → ((k : ℕ) → (k < start) ⊎ (start + e.length ≤ k) → get_or new k 0 ≡ get_or old k 0)
+        → OwnSoFar row (n + 1) new
+    own_more old new before filled others = record {
+      owned = λ w i few p. ⊎_elim
+          (λ same. let here = inside w i same p in filled (place w) here.0 here.1 ∙ sym same)
+          (λ ne. others (place w) (outside w i ne p) ∙ before.owned w i (omega arith) p)
+          (cases_eq i n);
+    }
+
+    pub own_last : (old new : List ℕ) → AreOwnersBut n row old
+        → ((k : ℕ) → start ≤ k → k < start + e.length → get_or new k 0 ≡ n)
+        → ((k : ℕ) → (k < start) ⊎ (start + e.length ≤ k) → get_or new k 0 ≡ get_or old k 0)
+        → OwnSoFar row (length row) new
+    own_last old new before filled others = record {
+      owned = λ w i few p. ⊎_elim
+          (λ same. let here = inside w i same p in filled (place w) here.0 here.1 ∙ sym same)
+          (λ ne. others (place w) (outside w i ne p) ∙ before.owned w i ne p)
+          (cases_eq i n);
+    }
+
+  -- none is left
+  pub own_past : (n : ℕ) (owners : List ℕ) → length row ≤ n → AreOwnersBut n row owners → OwnSoFar row (length row) owners
+  own_past n owners past but = record { owned = λ w i few p. but.owned w i (λ same. absurd (omega arith)) p }
 
   -- all have theirs
   pub own_all : (n : ℕ) (owners : List ℕ) → length row ≤ n → length owners ≡ length words → OwnSoFar row n owners → AreOwners row owners
@@ -105,3 +129,48 @@ module _ (row : List Extent) (owners : List ℕ) (own : AreOwners row owners) (w
       let same : k ≡ i = sym (own.owned w k p) ∙ own.owned w i (e, at, reads) in
       let one : p.0 ≡ e = same_Some p.0 e (sym p.1 ∙ ap (slice_get row) same ∙ at) in
       ne (ap (λ (x : Extent). x.base) (sym one) ∙ is)
+
+  -- two that it points into are one
+  pub one_there : (i : ℕ) (e : Extent) → slice_get row i ≡ Some e → Reads w e.base e.length → (k : ℕ) (d : Extent) → k < length row → Reads w (get_or row k d).base (get_or row k d).length → e ≡ get_or row k d
+  one_there i e at reads k d lt there =
+      let p = points k d lt there in
+      let same : i ≡ k = sym (own.owned w i (e, at, reads)) ∙ own.owned w k p in
+      same_Some e (get_or row k d) (sym at ∙ ap (slice_get row) same ∙ p.1)
+
+-- no object has words
+pub own_nothing : (row : List Extent) (owners : List ℕ) → row ≡ [] → AreOwners row owners
+own_nothing row owners is = subst (λ r. AreOwners r owners) (sym is) (record {
+  some = All-nil (λ (e : Extent). 0 < e.length);
+  start = λ w i p. absurd (none-some p.0 p.1);
+  within = λ w i p. absurd (none-some p.0 p.1);
+  owned = λ w i p. absurd (none-some p.0 p.1);
+})
+
+-- one object more comes last
+pub own_pushed : (row : List Extent) (e : Extent) (owners : List ℕ) → AreOwners row owners → AreOwnersBut (length row) (row ++ e ∷ []) owners
+own_pushed row e owners own = record {
+  owned = λ w i ne p.
+      let long : length (row ++ e ∷ []) ≡ length row + 1 = length_push row e in
+      let within = slice_get_within (row ++ e ∷ []) i p.0 p.1 in
+      let lt : i < length row = omega arith in
+      let is : get_or row i p.0 ≡ p.0 = sym (get_or_append_left row (e ∷ []) p.0 i lt) ∙ get_or_from_slice_get (row ++ e ∷ []) i p.0 p.0 p.1 in
+      own.owned w i (p.0, slice_get-get_or row i p.0 lt ∙ ap Some is, p.2);
+}
+
+-- an object goes, and the last one comes to its place
+pub own_removed : (row : List Extent) (index : ℕ) (e : Extent) (owners : List ℕ) → AreOwners row owners → AreOwnersBut index (swap_remove row index e) owners
+own_removed row index e owners own = record {
+  owned = λ w i ne p.
+      let short : length (swap_remove row index e) ≤ length row - 1 = rw length-take (omega arith) in
+      let within = slice_get_within (swap_remove row index e) i p.0 p.1 in
+      let lt : i < length row - 1 = omega arith in
+      let all : i < length row = omega arith in
+      let is : get_or row i p.0 ≡ p.0 =
+      sym (get_or-take (length row - 1) (slice_set row index (get_or row (length row - 1) e)) i p.0 lt ∙ get_or-set_other row index i (get_or row (length row - 1) e) p.0 ne)
+      ∙ get_or_from_slice_get (swap_remove row index e) i p.0 p.0 p.1 in
+      own.owned w i (p.0, slice_get-get_or row i p.0 all ∙ ap Some is, p.2);
+}
+
+-- objects of a core are found by granules too
+pub found_by : (c : Contents) → IsLaidOut c → (owners : List ℕ) → AreOwners c.objects owners → AreFound c.objects owners
+found_by c sound owners own = record { owned = own; aligned = All-weaker (IsInHeap c.pages) (λ (e : Extent). e.base % GRANULE_BYTES ≡ 0) (λ e i. i.aligned) c.objects sound.in_heap }

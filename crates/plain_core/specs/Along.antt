@@ -3,7 +3,7 @@ use Rattle.std.specs.Prelude.{◌≡◌, ℕ, ◌*◌, ◌+◌, ◌&&◌, ◌==�
 use Rattle.std.specs.List.{list_any}
 use Rattle.words.specs.declared.limits.TheConstants.{WORD_BYTES}
 use Rattle.links.specs.declared.row.Link.{Link}
-use Rattle.links.specs.Leaving.{loses_with, stays_with, ClearsWords}
+use Rattle.links.specs.Leaving.{loses_with}
 use Rattle.plain_core.specs.declared.extent.Extent.{Extent}
 use Rattle.plain_core.specs.Standing.{place}
 

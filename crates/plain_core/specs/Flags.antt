@@ -46,6 +46,10 @@ pub record FlagsLed (c : Contents) (w : ℕ) (old new : List Bool) : Type 0 wher
 abbrev pub NamesRow : List Extent → List Bool → List ℕ → Type 0
 NamesRow row flags bases = All (λ e. IsFlagged flags e.base ⊎ Contains bases e.base) row
 
+-- each object of the row has its flag, or the flag by which it stays is unset
+abbrev pub AreGone : List Extent → List Bool → List Bool → Type 0
+AreGone row flags stays = (i : ℕ) (e : Extent) → slice_get row i ≡ Some e → IsFlagged flags e.base ⊎ (slice_index_or stays i false ≡ false)
+
 -- every object without a flag is among these
 abbrev pub NamesUnflagged : Heap → List Bool → List ℕ → Type 0
 NamesUnflagged s flags bases = (base : ℕ) (o : Object) → HasObject s base o → (IsFlagged flags base → ⊥) → Contains bases base

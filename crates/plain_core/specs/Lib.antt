@@ -10,3 +10,4 @@ pub mod Claims
 pub mod Collections
 pub mod Answering
 pub mod Flags
+pub mod Aging

@@ -1,9 +1,9 @@
 -- Where a row of objects leaves room.
-use Rattle.std.specs.Prelude.{◌≡◌, ℕ, ◌+◌, ◌*◌, ◌%◌, ◌<◌, ◌≤◌, ◌⊎◌, Bool, true, false, List, All, length, slice_index_or}
+use Rattle.std.specs.Prelude.{◌≡◌, ℕ, ◌+◌, ◌*◌, ◌%◌, ◌<◌, ◌≤◌, ◌⊎◌, List, All, length}
 use Rattle.words.specs.declared.class.Kind.{Kind}
 use Rattle.words.specs.declared.class.Placement.{Placement}
 use Rattle.words.specs.declared.class.Placement.TheVariants.{Small, Large}
-use Rattle.words.specs.declared.limits.TheConstants.{WORD_BYTES, GRANULE_WORDS, GRANULE_BYTES, PAGE_WORDS, PAGE_GRANULES, MAX_SMALL_WORDS}
+use Rattle.words.specs.declared.limits.TheConstants.{WORD_BYTES, GRANULE_WORDS, GRANULE_BYTES, PAGE_WORDS, MAX_SMALL_WORDS}
 use Rattle.words.specs.Layout.{page_start}
 use Rattle.heap_spec.specs.Layout.{LiesOn}
 use Rattle.plain_core.specs.declared.extent.Extent.{Extent}
@@ -23,18 +23,6 @@ IsNoBase row a = All (λ e. e.base ≡ a → ⊥) row
 -- the address of a granule of the page
 abbrev pub granule_start : ℕ → ℕ → ℕ
 granule_start page g = page_start page + GRANULE_BYTES * g
-
--- A row of bits has exactly the granules of the page at which objects begin.
-pub record AreTaken (row : List Extent) (page : ℕ) (taken : List Bool) : Type 0 where
-  pub size : length taken ≡ PAGE_GRANULES
-  pub clear : (g : ℕ) → g < PAGE_GRANULES → slice_index_or taken g false ≡ false → IsNoBase row (granule_start page g)
-  pub set : (g : ℕ) → g < PAGE_GRANULES → slice_index_or taken g false ≡ true → IsNoBase row (granule_start page g) → ⊥
-
--- The bit of the page's granule that has this address is set, if one has it, and all others are as they were.
-pub record IsBitOf (page address : ℕ) (old new : List Bool) : Type 0 where
-  pub size : length new ≡ length old
-  pub here : (g : ℕ) → g < PAGE_GRANULES → address ≡ granule_start page g → slice_index_or new g false ≡ true
-  pub others : (g : ℕ) → g < PAGE_GRANULES → (address ≡ granule_start page g → ⊥) → slice_index_or new g false ≡ slice_index_or old g false
 
 -- the address of a cell of the page, for so many words
 pub record IsCellAt (page length a : ℕ) : Type 0 where

@@ -6,9 +6,10 @@ ghost use Rattle.links.specs.Rows.{IsAlignedRow};
 ghost use Rattle.links.specs.Leaving.{ClearsWords, stays_with};
 ghost use Rattle.plain_core.specs.Standing.{LiesIn};
 ghost use Rattle.plain_core.specs.Along.{ClearsWord, holds_word, has_base};
+ghost use Rattle.plain_core.specs.Owners.{AreOwners};
 
-use crate::extent::{Extent, index_at};
-use crate::owners::place_of;
+use crate::extent::Extent;
+use crate::owners::{owner_at, owner_of, place_of};
 use arrayvec::ArrayVec;
 use links::{Link, Links};
 use words::limits::MAX_LINKS;
@@ -16,37 +17,38 @@ use words::limits::MAX_LINKS;
 const MOST: usize = MAX_LINKS as usize;
 
 // Whether one of the objects has the word at an address.
-fn holds_word(objects: &[Extent], address: u64) -> bool
+fn holds_word(objects: &[Extent], owners: &[u64], address: u64) -> bool
+    requires { AreOwners objects.now owners.now }
     ensures { result ≡ holds_word objects.now address }
 {
-    let Some(_) = index_at(objects, address) else {
+    let Some(_) = owner_at(objects, owners, address) else {
         return false;
     };
     true
 }
 
 // Whether one of the objects has the base.
-fn has_base(objects: &[Extent], base: u64) -> bool
+pub(crate) fn has_base(objects: &[Extent], owners: &[u64], base: u64) -> bool
+    requires { AreOwners objects.now owners.now }
     ensures { result ≡ has_base objects.now base }
 {
-    for object in objects {
-        if object.base == base {
-            return true;
-        }
-    }
-    false
+    let Some(_) = owner_of(objects, owners, base) else {
+        return false;
+    };
+    true
 }
 
 // Whether a link stays. Where its holder does and the object that it names doesn't, its word becomes 0.
-fn keep_link(words: &mut [u64], objects: &[Extent], link: Link) -> bool
-    requires { All (LiesIn words.old) objects.now }
+fn keep_link(words: &mut [u64], objects: &[Extent], owners: &[u64], link: Link) -> bool
+    requires lie { All (LiesIn words.old) objects.now }
+    requires owners { AreOwners objects.now owners.now }
     ensures stays { result ≡ stays_with (holds_word objects.now) (has_base objects.now) link }
     ensures words { ClearsWord objects.now link words.old words.new }
 {
-    if !holds_word(objects, link.address) {
+    if !holds_word(objects, owners, link.address) {
         return false;
     }
-    if has_base(objects, link.base) {
+    if has_base(objects, owners, link.base) {
         return true;
     }
     let place = place_of(link.address);
@@ -55,27 +57,35 @@ fn keep_link(words: &mut [u64], objects: &[Extent], link: Link) -> bool
 }
 
 // The same of some links, and copies those that stay.
-fn keep_links(words: &mut [u64], objects: &[Extent], row: &[Link], into: &mut ArrayVec<Link, MOST>)
+fn keep_links(
+    words: &mut [u64],
+    objects: &[Extent],
+    owners: &[u64],
+    row: &[Link],
+    into: &mut ArrayVec<Link, MOST>,
+)
     requires lie { All (LiesIn words.old) objects.now }
+    requires owners { AreOwners objects.now owners.now }
     requires empty { into.old.items ≡ [] }
     requires few { length row.now ≤ MAX_LINKS }
     ensures links { into.new.items ≡ filter (stays_with (holds_word objects.now) (has_base objects.now)) row.now }
     ensures words { ClearsWords (holds_word objects.now) (has_base objects.now) row.now words.old words.new }
 {
     for link in row {
-        if keep_link(words, objects, *link) {
+        if keep_link(words, objects, owners, *link) {
             into.push(*link);
         }
     }
 }
 
 // Takes the links along with the objects that have left: these are the objects that stay.
-pub(crate) fn take_along(words: &mut [u64], objects: &[Extent], links: &mut Links)
-    requires { All (LiesIn words.old) objects.now }
+pub(crate) fn take_along(words: &mut [u64], objects: &[Extent], owners: &[u64], links: &mut Links)
+    requires lie { All (LiesIn words.old) objects.now }
+    requires owners { AreOwners objects.now owners.now }
     ensures links { links.new ≡ filter (stays_with (holds_word objects.now) (has_base objects.now)) links.old }
     ensures words { ClearsWords (holds_word objects.now) (has_base objects.now) links.old words.old words.new }
 {
     let mut kept = ArrayVec::new();
-    keep_links(words, objects, links.as_slice(), &mut kept);
+    keep_links(words, objects, owners, links.as_slice(), &mut kept);
     links.keep(kept);
 }

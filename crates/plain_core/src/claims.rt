@@ -1,5 +1,5 @@
 //! Objects are named by their bases, to be taken out.
-ghost use Rattle.std.specs.Prelude.{◌≡◌, ◌≤◌, IsTrue, true, false, [], length};
+ghost use Rattle.std.specs.Prelude.{◌≡◌, ◌≤◌, ℕ, List, ◌++◌, ◌∷◌, IsTrue, true, false, [], length};
 ghost use Rattle.plain_core.specs.Claims.{HasOneEach, AreFreeToGo, AreUnset, AreAllUnset};
 ghost use Rattle.plain_core.specs.Owners.{AreOwners};
 
@@ -35,6 +35,33 @@ pub(crate) fn unset_flags(
         flags[index] = false;
     }
     true
+}
+
+// Unsets the flag of the object that has this base, if there is one.
+fn unset_one(base: u64, objects: &[Extent], owners: &[u64], flags: &mut Vec<bool>)
+    requires owners { AreOwners objects.now owners.now }
+    requires one { HasOneEach objects.now }
+    requires flags { length objects.now ≤ length flags.old.items }
+    ensures unset { (bases : List ℕ) → AreUnset objects.now bases flags.old.items → AreUnset objects.now (bases ++ base ∷ []) flags.new.items }
+    ensures size { length flags.new.items ≡ length flags.old.items }
+{
+    let Some(index) = owner_of(objects, owners, base) else {
+        return;
+    };
+    flags[index] = false;
+}
+
+// Unsets the flags of the objects that have one of these bases.
+pub(crate) fn unset_named(bases: &[u64], objects: &[Extent], owners: &[u64], flags: &mut Vec<bool>)
+    requires owners { AreOwners objects.now owners.now }
+    requires one { HasOneEach objects.now }
+    requires flags { AreUnset objects.now [] flags.old.items }
+    ensures unset { AreUnset objects.now bases.now flags.new.items }
+    ensures size { length flags.new.items ≡ length flags.old.items }
+{
+    for base in bases {
+        unset_one(*base, objects, owners, flags);
+    }
 }
 
 // Whether of the first objects each that is not marked has an unset flag.

@@ -1,9 +1,9 @@
 //! Where an object lies.
-ghost use Rattle.std.specs.Prelude.{◌≡◌, ◌+◌, ◌*◌, ◌<◌, IfSome, IfNone, IfOk, IfErr, IsTrue, false, Contains, All, Some, slice_get};
+ghost use Rattle.std.specs.Prelude.{◌≡◌, IsTrue, false};
 ghost use Rattle.heap_spec.specs.Layout.{Reads, LiesOn};
 
+use words::Kind;
 use words::limits::{FIRST_ADDRESS, PAGE_BYTES, PageNo, WORD_BYTES};
-use words::{Kind, Refusal};
 
 /// Where an object lies, from its base and over so many words, and its kind.
 #[derive(Clone, Copy, Debug, PartialEq, Eq)]
@@ -31,34 +31,4 @@ impl Extent {
         let end = u128::from(self.base) + u128::from(WORD_BYTES) * u128::from(self.length);
         u128::from(self.base) < start + u128::from(PAGE_BYTES) && start < end
     }
-}
-
-// The index of the object that the address points into.
-pub(crate) fn index_at(objects: &[Extent], address: u64) -> Option<usize>
-    ensures some { IfSome result (λ i. (e : Extent) × (slice_get objects.now i ≡ Some e) × Reads address e.base e.length) }
-    ensures none { IfNone result (All (λ e. Reads address e.base e.length → ⊥) objects.now) }
-{
-    for index in 0..objects.len() {
-        if objects[index].contains(address) {
-            return Some(index);
-        }
-    }
-    None
-}
-
-// The object that the address points into.
-pub(crate) fn object_at(objects: &[Extent], address: u64) -> Option<Extent>
-    ensures some { IfSome result (λ e. Contains objects.now e × Reads address e.base e.length) }
-    ensures none { IfNone result (All (λ e. Reads address e.base e.length → ⊥) objects.now) }
-{
-    let index = index_at(objects, address)?;
-    Some(objects[index])
-}
-
-// The object that the address points into, for a call that is refused where there is none.
-pub(crate) fn find_in(objects: &[Extent], address: u64) -> Result<Extent, Refusal>
-    ensures ok { IfOk result (λ e. Contains objects.now e × Reads address e.base e.length) }
-    ensures err { IfErr result (λ refusal. (refusal ≡ Refusal.NoObject) × All (λ e. Reads address e.base e.length → ⊥) objects.now) }
-{
-    object_at(objects, address).ok_or(Refusal::NoObject)
 }

@@ -1,11 +1,14 @@
 //! Flags of objects, by where the words at their bases stand in the row of all words: so no flag moves when an object does in
 //! the row of objects, and one that is left by an object that went stands where the next one at that base is.
-ghost use Rattle.std.specs.Prelude.{◌≡◌, ◌≤◌, ◌⊎◌, All, IsTrue, false, true, ℕ, length, Contains, slice_index_or, slice_set};
+ghost use Rattle.std.specs.Prelude.{◌≡◌, ◌<◌, ◌≤◌, ◌⊎◌, All, IsTrue, false, true, ℕ, length, Contains, slice_index_or, slice_set};
 ghost use Rattle.words.specs.declared.limits.TheConstants.{FIRST_ADDRESS};
 ghost use Rattle.plain_core.specs.Standing.{place, LiesIn};
 ghost use Rattle.plain_core.specs.Reached.{links_of};
-ghost use Rattle.plain_core.specs.Flags.{IsFlagged, FlagsMarked, NamesRow};
+ghost use Rattle.plain_core.specs.Claims.{HasOneEach};
+ghost use Rattle.plain_core.specs.Owners.{AreOwners};
+ghost use Rattle.plain_core.specs.Flags.{IsFlagged, FlagsMarked, NamesRow, AreGone};
 
+use crate::claims::unset_named;
 use crate::extent::Extent;
 use crate::owners::place_of;
 use words::Kind;
@@ -27,6 +30,27 @@ pub(crate) fn unset_all(flags: &mut [bool])
 {
     for index in 0..flags.len() {
         flags[index] = false;
+    }
+}
+
+// Sets all flags.
+pub(crate) fn set_all(flags: &mut [bool])
+    ensures all { (k : ℕ) → k < length flags.new → slice_index_or flags.new k false ≡ true }
+    ensures size { length flags.new ≡ length flags.old }
+{
+    for index in 0..flags.len() {
+        flags[index] = true;
+    }
+}
+
+// Unsets the flag of the object with this base, if there is room for it.
+pub(crate) fn unset_flag(flags: &mut [bool], base: u64)
+    requires { FIRST_ADDRESS ≤ base }
+    ensures { flags.new ≡ slice_set flags.old (place base) false }
+{
+    let place = place_of(base);
+    if place < flags.len() {
+        flags[place] = false;
     }
 }
 
@@ -79,33 +103,47 @@ pub(crate) fn flag_marked(objects: &[Extent], marks: &[bool], flags: &mut [bool]
     }
 }
 
-// Whether a base is among these.
-fn is_among(bases: &[u64], base: u64) -> bool
-    ensures yes { IsTrue result → Contains bases.now base }
-    ensures no { result ≡ false → Contains bases.now base → ⊥ }
-{
-    bases.contains(&base)
-}
-
-// Whether an object has its flag, or is named by its base.
-fn is_named(object: &Extent, flags: &[bool], bases: &[u64]) -> bool
+// Whether an object has its flag, or is one that doesn't stay.
+fn is_named(object: &Extent, flags: &[bool], stays: bool) -> bool
     requires { FIRST_ADDRESS ≤ object.now.base }
-    ensures yes { IsTrue result → IsFlagged flags.now object.now.base ⊎ Contains bases.now object.now.base }
-    ensures no { result ≡ false → IsFlagged flags.now object.now.base ⊎ Contains bases.now object.now.base → ⊥ }
+    ensures yes { IsTrue result → IsFlagged flags.now object.now.base ⊎ (stays ≡ false) }
+    ensures no { result ≡ false → IsFlagged flags.now object.now.base ⊎ (stays ≡ false) → ⊥ }
 {
-    is_flagged(flags, object.base) || is_among(bases, object.base)
+    is_flagged(flags, object.base) || !stays
 }
 
-// Whether each object without a flag is named by its base.
-pub(crate) fn are_named(objects: &[Extent], flags: &[bool], bases: &[u64]) -> bool
-    requires { All (λ e. FIRST_ADDRESS ≤ e.base) objects.now }
-    ensures yes { IsTrue result → NamesRow objects.now flags.now bases.now }
-    ensures no { result ≡ false → NamesRow objects.now flags.now bases.now → ⊥ }
+// Whether each object without a flag is one that doesn't stay.
+fn are_gone(objects: &[Extent], flags: &[bool], stays: &[bool]) -> bool
+    requires starts { All (λ e. FIRST_ADDRESS ≤ e.base) objects.now }
+    requires stays { length objects.now ≤ length stays.now }
+    ensures yes { IsTrue result → AreGone objects.now flags.now stays.now }
+    ensures no { result ≡ false → AreGone objects.now flags.now stays.now → ⊥ }
 {
-    for object in objects {
-        if !is_named(object, flags, bases) {
+    for index in 0..objects.len() {
+        if !is_named(&objects[index], flags, stays[index]) {
             return false;
         }
     }
     true
+}
+
+// Whether each object without a flag is named by its base.
+pub(crate) fn are_named(
+    objects: &[Extent],
+    owners: &[u64],
+    flags: &[bool],
+    bases: &[u64],
+    stays: &mut Vec<bool>,
+) -> bool
+    requires owners { AreOwners objects.now owners.now }
+    requires one { HasOneEach objects.now }
+    requires starts { All (λ e. FIRST_ADDRESS ≤ e.base) objects.now }
+    requires stays { length objects.now ≤ length stays.old.items }
+    ensures yes { IsTrue result → NamesRow objects.now flags.now bases.now }
+    ensures no { result ≡ false → NamesRow objects.now flags.now bases.now → ⊥ }
+    ensures size { length stays.new.items ≡ length stays.old.items }
+{
+    stays.fill(true);
+    unset_named(bases, objects, owners, stays);
+    are_gone(objects, flags, stays)
 }

@@ -3,6 +3,7 @@ ghost use Rattle.std.specs.Prelude.{◌≡◌, ℕ, ◌<◌, ◌≤◌, ◌+◌,
 ghost use Rattle.words.specs.declared.limits.TheConstants.{MAX_PAGES, MAX_SMALL_WORDS, PAGE_BYTES};
 ghost use Rattle.words.specs.Layout.{page_start};
 ghost use Rattle.heap_spec.specs.Room.{length_of};
+ghost use Rattle.plain_core.specs.Owners.{AreFound};
 ghost use Rattle.plain_core.specs.Places.{IsCellAt, IsPlace, IsPlaceOn, IsSmallPlace, IsLargePlace, IsSized};
 
 use crate::extent::Extent;
@@ -39,7 +40,15 @@ fn is_cell(page: PageNo, length: u64, address: u64) -> bool
 }
 
 // Whether an object of a class may go to the address, which lies on the page.
-fn is_place_on(objects: &[Extent], page: PageNo, length: u64, kind: Kind, address: u64) -> bool
+fn is_place_on(
+    objects: &[Extent],
+    owners: &[u64],
+    page: PageNo,
+    length: u64,
+    kind: Kind,
+    address: u64,
+) -> bool
+    requires found { AreFound objects.now owners.now }
     requires some { (0 < length) × (length ≤ MAX_SMALL_WORDS) }
     requires on { (page_start page ≤ address) × (address < page_start page + PAGE_BYTES) }
     ensures yes { IsTrue result → IsPlaceOn objects.now page length kind address }
@@ -48,17 +57,25 @@ fn is_place_on(objects: &[Extent], page: PageNo, length: u64, kind: Kind, addres
     if !is_cell(page, length, address) {
         return false;
     }
-    if is_free(objects, page) {
+    if is_free(objects, owners, page) {
         return true;
     }
-    if !is_cut_for(objects, page, length, kind) {
+    if !is_cut_for(objects, owners, page, length, kind) {
         return false;
     }
-    !is_base(objects, address)
+    !is_base(objects, owners, address)
 }
 
 // Whether an object of a class may go to the address.
-fn is_small_place(objects: &[Extent], pages: u32, length: u64, kind: Kind, address: u64) -> bool
+fn is_small_place(
+    objects: &[Extent],
+    owners: &[u64],
+    pages: u32,
+    length: u64,
+    kind: Kind,
+    address: u64,
+) -> bool
+    requires found { AreFound objects.now owners.now }
     requires some { (0 < length) × (length ≤ MAX_SMALL_WORDS) }
     requires pages { pages ≤ MAX_PAGES }
     ensures yes { IsTrue result → IsSmallPlace objects.now pages length kind address }
@@ -67,11 +84,12 @@ fn is_small_place(objects: &[Extent], pages: u32, length: u64, kind: Kind, addre
     let Some(page) = page_at(pages, address) else {
         return false;
     };
-    is_place_on(objects, page, length, kind, address)
+    is_place_on(objects, owners, page, length, kind, address)
 }
 
 // Whether a large object may go to the address.
-fn is_large_place(objects: &[Extent], pages: u32, count: u32, address: u64) -> bool
+fn is_large_place(objects: &[Extent], owners: &[u64], pages: u32, count: u32, address: u64) -> bool
+    requires found { AreFound objects.now owners.now }
     requires some { 1 ≤ count }
     requires pages { pages ≤ MAX_PAGES }
     ensures yes { IsTrue result → IsLargePlace objects.now pages count address }
@@ -86,12 +104,13 @@ fn is_large_place(objects: &[Extent], pages: u32, count: u32, address: u64) -> b
     if count > pages - first {
         return false;
     }
-    is_free_run(objects, first, count)
+    is_free_run(objects, owners, first, count)
 }
 
 // A new object of a placement at this base, as the extent that it has there, if it may go there.
 pub(crate) fn place_at(
     objects: &[Extent],
+    owners: &[u64],
     pages: u32,
     placement: Placement,
     kind: Kind,
@@ -99,20 +118,21 @@ pub(crate) fn place_at(
 ) -> Option<Extent>
     requires pages { pages ≤ MAX_PAGES }
     requires sized { IsSized placement }
+    requires found { AreFound objects.now owners.now }
     ensures some { IfSome result (λ e. (e.base ≡ base) × (e.kind ≡ kind) × (e.length ≡ length_of placement) × IsPlace objects.now pages placement kind base) }
     ensures none { IfNone result (IsPlace objects.now pages placement kind base → ⊥) }
 {
     match placement {
         Placement::Small(class) => {
             let length = u64::from(class.words());
-            if !is_small_place(objects, pages, length, kind, base) {
+            if !is_small_place(objects, owners, pages, length, kind, base) {
                 return None;
             }
             Some(Extent { base, kind, length })
         }
         Placement::Large(count) => {
             let length = PAGE_WORDS * u64::from(count);
-            if !is_large_place(objects, pages, count, base) {
+            if !is_large_place(objects, owners, pages, count, base) {
                 return None;
             }
             Some(Extent { base, kind, length })

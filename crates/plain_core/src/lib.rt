@@ -1,5 +1,5 @@
-//! A heap core that is plain and slow: one row of words, one list of objects, and nothing of blocks, marks or dirty
-//! pages. Each of its calls is proved to be a step of the sequential heap. It takes memory when it is made and never
+//! A heap core that is plain: one row of words, one list of objects, a row that says of each word which object it is of, and
+//! nothing of blocks, marks or dirty pages. Each of its calls is proved to be a step of the sequential heap. It takes memory when it is made and never
 //! again, and has no thread, lock or atomic word.
 #![tactic(auto)]
 
@@ -13,6 +13,6 @@ mod owners;
 mod parting;
 mod places;
 mod plain;
-mod taken;
 
+pub use extent::Extent;
 pub use plain::Core;

@@ -1,11 +1,14 @@
 //! The objects that are reached: a list that grows while it is gone along, and a row that marks what is listed.
-ghost use Rattle.std.specs.Prelude.{◌≡◌, ◌<◌, [], ◌∷◌, Some, IfOk, All, length, slice_get};
+ghost use Rattle.std.specs.Prelude.{◌≡◌, ◌<◌, ◌≤◌, [], ◌∷◌, Some, IfOk, All, length, slice_get};
+ghost use Rattle.words.specs.declared.limits.TheConstants.{FIRST_ADDRESS};
 ghost use Rattle.plain_core.specs.Reached.{AreApart, MarksReached, links_of};
 ghost use Rattle.plain_core.specs.Owners.{AreOwners};
 ghost use Rattle.plain_core.specs.Standing.{LiesIn};
 ghost use Rattle.plain_core.specs.Listing.{HasListRoom, IsListing, ListsAll, KeepsRoom};
+ghost use Rattle.plain_core.specs.Aging.{ListsFlagged, MarksClosure};
 
 use crate::extent::Extent;
+use crate::flags::is_flagged;
 use crate::owners::{owner_at, place_of};
 use std::alloc::{AllocError, Global};
 use words::Kind;
@@ -67,6 +70,36 @@ fn list_all(words: &[u64], objects: &[Extent], owners: &[u64], listing: &mut Lis
     }
 }
 
+// Lists an object, if it has its flag.
+fn list_if_flagged(
+    object: Extent,
+    flags: &[bool],
+    objects: &[Extent],
+    owners: &[u64],
+    listing: &mut Listing,
+)
+    requires start { FIRST_ADDRESS ≤ object.base }
+    requires ready { IsListing objects.now listing.old }
+    requires owners { AreOwners objects.now owners.now }
+    ensures { ListsFlagged objects.now (object ∷ []) flags.now listing.old listing.new }
+{
+    if is_flagged(flags, object.base) {
+        list_one(object.base, objects, owners, listing);
+    }
+}
+
+// Lists the objects that have their flags.
+fn list_flagged(flags: &[bool], objects: &[Extent], owners: &[u64], listing: &mut Listing)
+    requires starts { All (λ e. FIRST_ADDRESS ≤ e.base) objects.now }
+    requires ready { IsListing objects.now listing.old }
+    requires owners { AreOwners objects.now owners.now }
+    ensures { ListsFlagged objects.now objects.now flags.now listing.old listing.new }
+{
+    for object in objects {
+        list_if_flagged(*object, flags, objects, owners, listing);
+    }
+}
+
 // The object at a place.
 fn at(objects: &[Extent], index: usize) -> Extent
     requires { index < length objects.now }
@@ -96,6 +129,33 @@ fn list_links(
     list_all(&words[start..end], objects, owners, listing);
 }
 
+// Lists the objects that are reached from these roots, or from the objects with flags.
+pub(crate) fn list_closure(
+    roots: &[u64],
+    flags: &[bool],
+    words: &[u64],
+    objects: &[Extent],
+    owners: &[u64],
+    listing: &mut Listing,
+)
+    requires apart { AreApart objects.now }
+    requires owners { AreOwners objects.now owners.now }
+    requires room { HasListRoom (length objects.now) listing.old }
+    requires within { All (LiesIn words.now) objects.now }
+    ensures marks { MarksClosure roots.now words.now objects.now flags.now listing.new.marks.items }
+    ensures room { KeepsRoom listing.old listing.new }
+{
+    clear(objects, listing);
+    list_all(roots, objects, owners, listing);
+    list_flagged(flags, objects, owners, listing);
+    for next in 0..objects.len() {
+        if next < listing.order.len() {
+            let object = at(objects, listing.order[next]);
+            list_links(object, words, objects, owners, listing);
+        }
+    }
+}
+
 // Lists the objects that are reached from these roots.
 pub(crate) fn list_reached(
     roots: &[u64],
@@ -111,12 +171,5 @@ pub(crate) fn list_reached(
     ensures marks { MarksReached roots.now words.now objects.now listing.new.marks.items }
     ensures room { KeepsRoom listing.old listing.new }
 {
-    clear(objects, listing);
-    list_all(roots, objects, owners, listing);
-    for next in 0..objects.len() {
-        if next < listing.order.len() {
-            let object = at(objects, listing.order[next]);
-            list_links(object, words, objects, owners, listing);
-        }
-    }
+    list_closure(roots, &[], words, objects, owners, listing);
 }

@@ -1,12 +1,13 @@
 //! Which object each word of the heap belongs to, written down so that an object is found without a search.
-ghost use Rattle.std.specs.Prelude.{◌≡◌, ◌≤◌, ◌<◌, ◌+◌, ◌⊎◌, ℕ, IfSome, IfNone, All, Some, length, slice_get, slice_index};
+ghost use Rattle.std.specs.Prelude.{◌≡◌, ◌≤◌, ◌<◌, ◌+◌, ◌⊎◌, ℕ, IfSome, IfNone, IfOk, IfErr, All, Contains, Some, length, slice_get, slice_index};
 ghost use Rattle.words.specs.declared.limits.TheConstants.{FIRST_ADDRESS};
 ghost use Rattle.heap_spec.specs.Layout.{Reads};
 ghost use Rattle.plain_core.specs.Standing.{LiesIn, place};
 ghost use Rattle.plain_core.specs.Reached.{AreApart};
-ghost use Rattle.plain_core.specs.Owners.{AreOwners};
+ghost use Rattle.plain_core.specs.Owners.{AreOwners, AreOwnersBut};
 
 use crate::extent::Extent;
+use words::Refusal;
 use words::limits::{FIRST_ADDRESS, WORD_BYTES};
 
 // Puts a word into so many places of a row.
@@ -39,6 +40,21 @@ pub(crate) fn write_owners(objects: &[Extent], owners: &mut [u64])
         let start = place_of(object.base);
         fill(owners, start, object.length as usize, index as u64);
     }
+}
+
+// Writes down where one object stands, if there is one: all others have their words.
+pub(crate) fn write_owner(objects: &[Extent], owners: &mut [u64], index: usize)
+    requires apart { AreApart objects.now }
+    requires within { All (LiesIn owners.old) objects.now }
+    requires others { AreOwnersBut index objects.now owners.old }
+    ensures { AreOwners objects.now owners.new }
+{
+    if index >= objects.len() {
+        return;
+    }
+    let object = objects[index];
+    let start = place_of(object.base);
+    fill(owners, start, object.length as usize, index as u64);
 }
 
 // Where the object stands that the address points into.
@@ -76,4 +92,23 @@ pub(crate) fn owner_of(objects: &[Extent], owners: &[u64], base: u64) -> Option<
         return None;
     }
     Some(index)
+}
+
+// The object that the address points into.
+pub(crate) fn object_at(objects: &[Extent], owners: &[u64], address: u64) -> Option<Extent>
+    requires { AreOwners objects.now owners.now }
+    ensures some { IfSome result (λ e. Contains objects.now e × Reads address e.base e.length) }
+    ensures none { IfNone result (All (λ e. Reads address e.base e.length → ⊥) objects.now) }
+{
+    let index = owner_at(objects, owners, address)?;
+    Some(objects[index])
+}
+
+// The object that the address points into, for a call that is refused where there is none.
+pub(crate) fn find_in(objects: &[Extent], owners: &[u64], address: u64) -> Result<Extent, Refusal>
+    requires { AreOwners objects.now owners.now }
+    ensures ok { IfOk result (λ e. Contains objects.now e × Reads address e.base e.length) }
+    ensures err { IfErr result (λ refusal. (refusal ≡ Refusal.NoObject) × All (λ e. Reads address e.base e.length → ⊥) objects.now) }
+{
+    object_at(objects, owners, address).ok_or(Refusal::NoObject)
 }

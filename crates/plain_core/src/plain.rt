@@ -4,9 +4,11 @@ ghost use Rattle.words.specs.declared.limits.TheConstants.{MAX_PAGES};
 ghost use Rattle.words.specs.declared.refusal.OpenError.TheVariants.{BadPages};
 ghost use Rattle.heap_spec.specs.Heap.{opening};
 
+mod aging;
 mod answers;
 mod collections;
 mod linked;
+mod looking;
 mod objects;
 mod registers;
 mod replaying;
@@ -40,13 +42,15 @@ impl Model for Core {
     ghost use Rattle.std.specs.Vec.{vec_capacity, vec_len};
     ghost use Rattle.plain_core.specs.Contents.{Contents, IsLaidOut};
     ghost use Rattle.plain_core.specs.Listing.{HasMemory};
+    ghost use Rattle.plain_core.specs.Owners.{AreOwners};
 
     ghost Value = { Contents };
 
     ghost view = { λ c. record { pages = c.pages; words = c.words.items; objects = c.objects.items; roots = c.roots; links = c.links } };
 
     ghost invariant = { λ c. IsLaidOut (record { pages = c.pages; words = c.words.items; objects = c.objects.items; roots = c.roots; links = c.links })
-        × HasMemory c.pages (vec_capacity c.objects) c.listing (vec_len c.stays) (vec_len c.owners) };
+        × HasMemory c.pages (vec_capacity c.objects) c.listing (vec_len c.stays) (vec_len c.owners)
+        × AreOwners c.objects.items c.owners.items };
 }
 
 impl Core {

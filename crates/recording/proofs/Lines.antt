@@ -7,7 +7,7 @@ use Rattle.words.specs.declared.refusal.Refusal.{Refusal}
 use Rattle.heap_spec.specs.declared.call.Call.{Call}
 use Rattle.heap_spec.specs.declared.call.Call.TheVariants.{Alloc, Free}
 use Rattle.heap_spec.specs.declared.event.Event.{Event}
-use Rattle.heap_spec.specs.declared.event.Event.TheVariants.{Attach, Mutator, Begin, Roots, Mark, Retrace, Finish, Sweep, Collect, Number}
+use Rattle.heap_spec.specs.declared.event.Event.TheVariants.{Attach, Mutator, Begin, BeginPartial, Roots, Mark, Retrace, Finish, Sweep, Collect, Number}
 use Rattle.heap_spec.specs.declared.reply.Reply.{Reply}
 use Rattle.heap_spec.specs.declared.reply.Reply.TheVariants.{Done, Refused}
 use Rattle.heap_spec.specs.Heap.{Heap, Object, Mutator as HeapMutator, HasObject, with_at}
@@ -38,6 +38,7 @@ happens_few start run (Mutator slot call) reply s' h = calls h
     calls (acts {m = m} at act) = acts_few (heap_after start run) slot m act
     calls (vacant none) = omega arith
 happens_few start run Begin reply s' h = let same = ap (λ (s : Heap). s.births) h.1.1 in omega arith
+happens_few start run BeginPartial reply s' h = let same = ap (λ (s : Heap). s.births) h.2.1 in omega arith
 happens_few start run Finish reply s' h = let same = ap (λ (s : Heap). s.births) h.1.takes.after in omega arith
 happens_few start run Collect reply s' h = let same = ap (λ (s : Heap). s.births) h.takes.after in omega arith
 happens_few start run _ reply s' h = absurd h
@@ -58,6 +59,7 @@ refused_same start run event reply why is (LineOf.happens {s' = s'} h) = by even
     by Attach h = attach refl h
     by (Mutator slot call) h = calls_refused (heap_after start run) slot call h
     by Begin h = h.1.1
+    by BeginPartial h = h.2.1
     by Finish h = absurd (let number = h.1.takes.number in cc)
     by Collect h = absurd (let number = h.takes.number in cc)
     by _ h = absurd h
@@ -90,9 +92,16 @@ free_less s slot m (Acts.free_inside reads ne) b p there = (p, there)
 -- events that leave the bases
 abbrev pub IsStill : Event → Type 0
 IsStill (Mutator slot call) = IsNoBirth call
+IsStill Attach = Unit {0}
+IsStill Begin = Unit {0}
+IsStill BeginPartial = Unit {0}
+IsStill Roots = Unit {0}
+IsStill (Mark n) = Unit {0}
+IsStill Retrace = Unit {0}
 IsStill Finish = ⊥
+IsStill Sweep = Unit {0}
 IsStill Collect = ⊥
-IsStill _ = Unit {0}
+IsStill Number = Unit {0}
 
 pub same_heap : (s s' : Heap) → s' ≡ s → HasIn s s' × HasIn s' s
 same_heap s s' is = (λ b o has. (o, ap (λ (x : Heap). x.objects b) is ∙ has), λ b o has. (o, ap (λ (x : Heap). x.objects b) (sym is) ∙ has))
@@ -109,6 +118,7 @@ happens_leaves start run (Mutator slot call) reply s' still h = calls h
     calls (acts {m = m} at act) = acts_leave (heap_after start run) slot m act still
     calls (vacant none) = (λ b o has. (o, has), λ b o has. (o, has))
 happens_leaves start run Begin reply s' still h = same_heap _ s' h.1.1
+happens_leaves start run BeginPartial reply s' still h = same_heap _ s' h.2.1
 happens_leaves start run Finish reply s' still h = absurd still
 happens_leaves start run Collect reply s' still h = absurd still
 happens_leaves start run _ reply s' still h = absurd h

@@ -1,5 +1,6 @@
 -- How a run goes on as it is noted.
 use Rattle.std.proofs.Common.{◌≡◌, ◌⊎◌, ◌<◌, ℕ, List, refl, sym, subst, arith, inl, inr, ⊎_elim}
+use Rattle.std.specs.Prelude.{Result, Ok, Err, IfErr}
 use Rattle.words.specs.declared.class.Kind.{Kind}
 use Rattle.words.specs.declared.refusal.Refusal.{Refusal}
 use Rattle.heap_spec.specs.declared.call.Call.{Call}
@@ -173,3 +174,8 @@ noted old before new event reply fair same line core notes start run f =
   where
     known : IsKnown old.bases (heap_after start run) → IsKnown before.bases (heap_after start run)
     known k = subst (λ l. IsKnown l (heap_after start run)) (sym same) k
+
+-- of whatever error there is, nothing
+pub all_err : {T E : Type 0} → (r : Result T E) → IfErr r (λ error. Unit {0})
+all_err (Ok x) = tt
+all_err (Err e) = tt

@@ -6,7 +6,7 @@ use Rattle.words.specs.declared.refusal.Refusal.{Refusal}
 use Rattle.heap_spec.specs.declared.call.Call.{Call}
 use Rattle.heap_spec.specs.declared.call.Call.TheVariants.{Alloc, Free, Get}
 use Rattle.heap_spec.specs.declared.event.Event.{Event}
-use Rattle.heap_spec.specs.declared.event.Event.TheVariants.{Mutator, Finish, Collect}
+use Rattle.heap_spec.specs.declared.event.Event.TheVariants.{Attach, Mutator, Begin, BeginPartial, Roots, Mark, Retrace, Finish, Sweep, Collect, Number}
 use Rattle.heap_spec.specs.declared.reply.Reply.{Reply}
 use Rattle.heap_spec.specs.declared.reply.Reply.TheVariants.{Count}
 use Rattle.heap_spec.specs.Layout.{word_end}
@@ -91,4 +91,11 @@ abbrev pub NotesEvent : CoreContents → Event → Contents → Contents → Typ
 NotesEvent c (Mutator slot call) old new = NotesCall c slot call old new
 NotesEvent c Finish old new = NotesGone c old new
 NotesEvent c Collect old new = NotesGone c old new
-NotesEvent c _ old new = new.bases ≡ old.bases
+NotesEvent c Attach old new = new.bases ≡ old.bases
+NotesEvent c Begin old new = new.bases ≡ old.bases
+NotesEvent c BeginPartial old new = new.bases ≡ old.bases
+NotesEvent c Roots old new = new.bases ≡ old.bases
+NotesEvent c (Mark n) old new = new.bases ≡ old.bases
+NotesEvent c Retrace old new = new.bases ≡ old.bases
+NotesEvent c Sweep old new = new.bases ≡ old.bases
+NotesEvent c Number old new = new.bases ≡ old.bases

@@ -49,6 +49,13 @@ impl Recorder {
         }
     }
 
+    /// The heap.
+    pub fn core(&self) -> &Core
+        ensures { result.now ≡ self.now.core }
+    {
+        &self.core
+    }
+
     // Looks which objects the heap still keeps.
     fn sort_out(&mut self) -> Result<(), AllocError>
         ensures core { self.new.core ≡ self.old.core }
@@ -117,6 +124,7 @@ impl Recorder {
             Event::Finish | Event::Collect => self.note_gone(),
             Event::Attach
             | Event::Begin
+            | Event::BeginPartial
             | Event::Roots
             | Event::Mark(_)
             | Event::Retrace

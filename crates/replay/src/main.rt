@@ -1,4 +1,4 @@
-//! The program that checks a written run: `replay --pages N FILE` says `legal`, or which line isn't and what rule it breaks.
+//! The program that checks a written run: `replay --pages N FILE` says `legal, N lines`, or which line isn't and what rule it breaks.
 //!
 //! The lines of FILE are those of docs/REPLAY.md.
 #![tactic(auto)]
@@ -10,12 +10,13 @@ use commands::{Fault, end, own_words};
 use scripts::Std;
 use std::fs;
 use std::process::ExitCode;
-use written_runs::{Verdict, judge, words_given};
+use written_runs::{Judgement, Verdict, judge, reply_text, words_given};
 
 // Prints what is said of a run, and gives the status that goes with it.
 fn print_verdict(rt: &HostRuntime, verdict: Verdict) -> Result<u8, Fault> {
     let (printed, status) = match verdict {
-        Verdict::Legal => (println!(rt; "legal"), 0),
+        Verdict::Legal(count) => (println!(rt; "legal, {count} lines"), 0),
+        Verdict::NoLines => (println!(rt; "no lines"), 2),
         Verdict::Bad(line) => (println!(rt; "line {line}: not a line of a run"), 2),
         Verdict::Breaks(line, rule) => (println!(rt; "line {line}: {}", rule.text()), 1),
     };
@@ -23,6 +24,30 @@ fn print_verdict(rt: &HostRuntime, verdict: Verdict) -> Result<u8, Fault> {
         Ok(()) => Ok(status),
         Err(_) => Err(Fault::Write),
     }
+}
+
+// Prints which reply a line had to have, if one is told.
+fn print_expected(rt: &HostRuntime, judgement: Judgement) -> Result<(), Fault> {
+    let Verdict::Breaks(line, _) = judgement.verdict else {
+        return Ok(());
+    };
+    let Some(reply) = judgement.expected else {
+        return Ok(());
+    };
+    let Ok(text) = reply_text(rt.alloc(), &reply) else {
+        return Err(Fault::Memory);
+    };
+    match println!(rt; "line {line}: a sequential heap answers {text}") {
+        Ok(()) => Ok(()),
+        Err(_) => Err(Fault::Write),
+    }
+}
+
+// Prints all that is said of a run, and gives the status that goes with it.
+fn print_judgement(rt: &HostRuntime, judgement: Judgement) -> Result<u8, Fault> {
+    let status = print_verdict(rt, judgement.verdict)?;
+    print_expected(rt, judgement)?;
+    Ok(status)
 }
 
 // Checks the run in a file, and gives the status that goes with what is said of it.
@@ -34,7 +59,7 @@ fn check(rt: &HostRuntime, pages: u32, file: &str) -> Result<u8, Fault>
         Err(error) => return Err(Fault::of_read(&error)),
     };
     match judge(rt.alloc(), pages, text.as_str()) {
-        Ok(verdict) => print_verdict(rt, verdict),
+        Ok(judgement) => print_judgement(rt, judgement),
         Err(_) => Err(Fault::Memory),
     }
 }

@@ -11,10 +11,10 @@ use Rattle.words.specs.declared.class.Placement.{Placement}
 use Rattle.heap_spec.specs.declared.call.Call.{Call}
 use Rattle.heap_spec.specs.declared.call.Call.TheVariants.{Detach, Set, Copy, Add, Sub, Get, Push, Pop, Load, Store, Alloc, Free, Base, Size, GlobalGet, GlobalPut, Link, Unlink}
 use Rattle.heap_spec.specs.declared.event.Event.{Event}
-use Rattle.heap_spec.specs.declared.event.Event.TheVariants.{Attach, Mutator, Begin, Roots, Mark, Retrace, Finish, Sweep, Collect, Number}
+use Rattle.heap_spec.specs.declared.event.Event.TheVariants.{Attach, Mutator, Begin, BeginPartial, Roots, Mark, Retrace, Finish, Sweep, Collect, Number}
 use Rattle.heap_spec.specs.declared.reply.Reply.{Reply}
 use Rattle.heap_spec.specs.declared.reply.Reply.TheVariants.{Done, Count, Refused}
-use Rattle.words.specs.declared.refusal.Refusal.TheVariants.{WrongPhase}
+use Rattle.words.specs.declared.refusal.Refusal.TheVariants.{WrongPhase, NeedsFull}
 use Rattle.heap_spec.specs.Heap.{Heap, Object, Mutator as HeapMutator, Link as HeapLink, HasObject, IsAttached, without, without_at, with_cleared, names, lies_in, is_born, covers}
 use Rattle.heap_spec.specs.Room.{length_of}
 use Rattle.heap_spec.specs.Ranges.{InRange}
@@ -149,6 +149,9 @@ module _ (s : Heap) (reply : Reply) where
 refused_done : Refused WrongPhase ≡ Done → ⊥
 refused_done e = cc
 
+needed_done : Refused NeedsFull ≡ Done → ⊥
+needed_done e = cc
+
 refused_count : (n : ℕ) → Refused WrongPhase ≡ Count n → ⊥
 refused_count n e = cc
 
@@ -163,6 +166,7 @@ module _ (start : Start) (run : Run) (h : IsSound (heap_after start run)) where
   happens_next Attach reply t t' one other said = attach_next (heap_after start run) one other
   happens_next (Mutator slot call) reply t t' one other said = call_next (heap_after start run) h slot call reply t t' one other (λ into words kind e done. said.born slot into words kind (ap (Mutator slot) e) done)
   happens_next Begin reply t t' one other said = one.1.1 ∙ sym other.1.1
+  happens_next BeginPartial reply t t' one other said = one.2.1 ∙ sym other.2.1
   happens_next Finish reply t t' one other said = said.ended (length one.1.bases) refl one.1.takes.number
   happens_next Collect reply t t' one other said = collect_next (heap_after start run) reply one other
   happens_next Roots reply t t' one other said = absurd one
@@ -176,6 +180,7 @@ module _ (start : Start) (run : Run) (h : IsSound (heap_after start run)) where
   not_refused Attach t one wrong = wrong
   not_refused (Mutator slot call) t one wrong = wrong
   not_refused Begin t one wrong = refused_done one.1.0
+  not_refused BeginPartial t one wrong = refused_done one.2.0
   not_refused Finish t one wrong = refused_count (length one.1.bases) one.1.takes.number
   not_refused Collect t one wrong = wrong
   not_refused Roots t one wrong = one
@@ -188,6 +193,7 @@ module _ (start : Start) (run : Run) (h : IsSound (heap_after start run)) where
   happens_kept Attach range reply t step = attaches_kept (heap_after start run) h step
   happens_kept (Mutator slot call) range reply t step = calls_kept (heap_after start run) slot call h range.1 step
   happens_kept Begin range reply t step = subst IsSound (sym step.1.1) h
+  happens_kept BeginPartial range reply t step = subst IsSound (sym step.2.1) h
   happens_kept Finish range reply t step = takes_out_kept (heap_after start run) step.1.bases reply t h step.1.takes
   happens_kept Collect range reply t step = takes_out_kept (heap_after start run) step.bases reply t h step.takes
   happens_kept Roots range reply t step = absurd step
@@ -199,6 +205,7 @@ module _ (start : Start) (run : Run) (h : IsSound (heap_after start run)) where
   line_kept : (event : Event) → InRange event → {reply : Reply} {next : Run} → LineOf start run event reply next → IsSound (heap_after start next)
   line_kept event range (LineOf.happens {reply = reply} {s' = t} step) = happens_kept event range reply t step
   line_kept event range (LineOf.refused wrong) = h
+  line_kept event range (LineOf.needs m need) = h
   line_kept event range (LineOf.roots m) = h
   line_kept event range (LineOf.mark m few) = h
   line_kept event range (LineOf.retrace m one) = h
@@ -213,6 +220,7 @@ module _ (start : Start) (run : Run) (h : IsSound (heap_after start run)) where
   line_next : {event : Event} {reply : Reply} {next next' : Run} → LineOf start run event reply next → LineOf start run event reply next' → SaidOf event reply (heap_after start next) (heap_after start next') → next ≡ next'
   line_next (LineOf.happens {event = event} {reply = reply} {s' = t} one) (LineOf.happens {s' = t'} other) said = ap (goes_on run event reply) (happens_next event reply t t' one other said)
   line_next (LineOf.happens {event = event} {s' = t} one) (LineOf.refused wrong) said = absurd (not_refused event t one wrong)
+  line_next (LineOf.happens one) (LineOf.needs m need) said = absurd (needed_done one.2.0)
   line_next (LineOf.happens one) (LineOf.roots m) said = absurd one
   line_next (LineOf.happens one) (LineOf.mark m few) said = absurd one
   line_next (LineOf.happens one) (LineOf.retrace m few) said = absurd one
@@ -220,6 +228,8 @@ module _ (start : Start) (run : Run) (h : IsSound (heap_after start run)) where
   line_next (LineOf.happens one) LineOf.number said = absurd one
   line_next (LineOf.refused {event = event} wrong) (LineOf.happens {s' = t} one) said = absurd (not_refused event t one wrong)
   line_next (LineOf.refused wrong) (LineOf.refused wrong') said = refl
+  line_next (LineOf.needs m need) (LineOf.happens other) said = absurd (needed_done other.2.0)
+  line_next (LineOf.needs m need) (LineOf.needs m' need') said = refl
   line_next (LineOf.roots m) (LineOf.happens other) said = absurd other
   line_next (LineOf.roots m) (LineOf.roots m') said = refl
   line_next (LineOf.mark m few) (LineOf.happens other) said = absurd other

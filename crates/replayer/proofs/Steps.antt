@@ -1,22 +1,22 @@
 -- How a run goes on, as a replayer follows it.
-use Rattle.std.proofs.Common.{◌≡◌, ◌⊎◌, ℕ, ◌+◌, ◌%◌, ◌<◌, ◌≤◌, Bool, true, false, List, Bor, length, cond, eqb, refl, sym, ap, ◌∙◌, subst, arith, inl, inr, ⊎_elim}
+use Rattle.std.proofs.Common.{◌≡◌, ◌⊎◌, ℕ, ◌+◌, ◌%◌, ◌<◌, ◌≤◌, Bool, true, false, List, Bor, length, eqb, refl, sym, ap, ◌∙◌, subst, arith, inl, inr, ⊎_elim}
 use Rattle.std.specs.Prelude.{Contains}
 use Rattle.std.specs.List.{list_any}
 use Rattle.std.proofs.lemmas.Bool.{eqb-true, eq-eqb, true≢false}
 use Rattle.std.proofs.lemmas.List.Folds.{Any-from_list_any, list_any-from_Any}
 use Rattle.words.specs.declared.class.Kind.{Kind}
-use Rattle.words.specs.declared.refusal.Refusal.TheVariants.{WrongPhase}
+use Rattle.words.specs.declared.refusal.Refusal.TheVariants.{WrongPhase, NeedsFull}
 use Rattle.heap_spec.specs.declared.call.Call.{Call}
 use Rattle.heap_spec.specs.declared.call.Call.TheVariants.{Alloc}
 use Rattle.heap_spec.specs.declared.event.Event.{Event}
-use Rattle.heap_spec.specs.declared.event.Event.TheVariants.{Attach, Mutator, Begin, Roots, Mark, Retrace, Finish, Sweep, Collect, Number}
+use Rattle.heap_spec.specs.declared.event.Event.TheVariants.{Attach, Mutator, Begin, BeginPartial, Roots, Mark, Retrace, Finish, Sweep, Collect, Number}
 use Rattle.heap_spec.specs.declared.reply.Reply.{Reply}
 use Rattle.heap_spec.specs.declared.reply.Reply.TheVariants.{Done, Count, Refused}
 use Rattle.heap_spec.specs.Layout.{word_end}
 use Rattle.heap_spec.specs.Heap.{Heap, Object, Mutator as HeapMutator, HasObject, without}
 use Rattle.heap_spec.specs.Cycles.{TakesOut, CollectsFully}
 use Rattle.heap_spec.specs.Replies.{IsStep}
-use Rattle.heap_spec.specs.Runs.{Start, Run, heap_after, is_marking, count, goes_on, marking_after, counted}
+use Rattle.heap_spec.specs.Runs.{Start, Run, heap_after, is_marking, needs_full, needs_full_after, old_births, count, goes_on, marking_after, counted}
 use Rattle.heap_spec.specs.Steps.{Acts, Calls, acts, vacant, Attaches}
 use Rattle.heap_spec.specs.Transcripts.{LineOf, IsWrongPhase}
 use Rattle.plain_core.specs.Contents.{Contents as PlainContents}
@@ -24,6 +24,7 @@ use Rattle.plain_core.specs.Standing.{StandsFor}
 use Rattle.plain_core.specs.Answering.{IsNoStep, IsBornAt, IsAllocatedAt, CantAllocateAt}
 use Rattle.plain_core.specs.Collections.{IsCollected, CantCollect, TakesBases, CantTake, HasUnreached}
 use Rattle.plain_core.specs.Flags.{HasFlags, FlagsReached, FlagsLed, FlagsBrought, NamesUnflagged, ForgetsUnflagged, CantForget}
+use Rattle.plain_core.specs.Aging.{TellOld, FlagsAll, FlagUnset, FlagsClosure}
 use Rattle.heap_spec.specs.Touching.{HasApartObjects}
 use Rattle.heap_spec.proofs.Links.{left_by, stays_by}
 use Rattle.heap_spec.proofs.Touching.{calls_pages, attach_pages}
@@ -32,6 +33,7 @@ use Rattle.replayer.specs.declared.hint.Hint.TheVariants.{Nothing, Place, Forgot
 use Rattle.replayer.specs.Contents.{Contents, Follows}
 use Rattle.replayer.specs.Replays.{IsGrant, NamesPlace, NamesBases, MayNameBases, IsReplayed, IsNoReplay}
 use Rattle.replayer.proofs.Telling.{attach_tell, call_tell, grant_tell, begin_tell}
+use Rattle.replayer.proofs.Aging.{old_tell, new_tell, all_tell, partial_tell}
 
 -- a call of a mutator leaves the count of births, but for a granted request
 acts_births : (s : Heap) (slot : ℕ) (m : HeapMutator) {call : Call} {reply : Reply} {s' : Heap} → Acts s slot m call reply s' → (IsGrant call reply → ⊥) → s'.births ≡ s.births
@@ -117,8 +119,12 @@ module _ (old : Contents) (small : old.number < word_end) (few : old.births < wo
         record {
           stands = x.2;
           phase = f.phase;
+          needs = f.needs;
           number = sym (ap (λ k. (k + 0) % word_end) (sym f.number) ∙ same_number old.number small);
           births = f.births ∙ sym births;
+          aged_room = room_as _ _ _ _ f.aged_room (attach_pages (heap_after start run) x.1) refl;
+          past = subst (λ n. old_births start run ≤ n) (sym births) f.past;
+          aged = old_tell (heap_after start run) x.0 (apart' x.0 x.2) Attach reply x.1 births old.aged (old_births start run) f.aged;
           room = room_as _ _ _ _ f.room (attach_pages (heap_after start run) x.1) refl;
           touched = λ marks. attach_tell start run x.0 (sym f.phase ∙ marks) (apart (heap_after start run) f.stands) (apart' x.0 x.2) reply old.touched x.1 (f.touched marks);
         },
@@ -132,10 +138,10 @@ module _ (old : Contents) (small : old.number < word_end) (few : old.births < wo
       stuck q is (LineOf.refused wrong) = wrong
 
   -- a call of a mutator that grants no request
-  pub calls : (new : PlainContents) (flags : List Bool) (slot : ℕ) (call : Call) (reply : Reply) (hint : Hint) → AreApartIn old.core → AreApartIn new → (IsGrant call reply → ⊥)
-      → IsStep (StandsFor old.core) (Mutator slot call) reply (StandsFor new) → length flags ≡ length old.touched → (old.marking ≡ true → FlagsBrought new slot call old.touched flags)
-      → IsReplayed old (Mutator slot call) reply hint (record old { core = new; touched = flags })
-  calls new flags slot call reply hint apart apart' none steps size brought start run f =
+  pub calls : (new : PlainContents) (need : Bool) (flags : List Bool) (slot : ℕ) (call : Call) (reply : Reply) (hint : Hint) → AreApartIn old.core → AreApartIn new → (IsGrant call reply → ⊥)
+      → IsStep (StandsFor old.core) (Mutator slot call) reply (StandsFor new) → need ≡ needs_full_after (Mutator slot call) reply old.needs_full → length flags ≡ length old.touched
+      → (old.marking ≡ true → FlagsBrought new slot call old.touched flags) → IsReplayed old (Mutator slot call) reply hint (record old { core = new; needs_full = need; touched = flags })
+  calls new need flags slot call reply hint apart apart' none steps needed size brought start run f =
       let x = steps (heap_after start run) f.stands in
       let births : x.0.births ≡ (heap_after start run).births = calls_births (heap_after start run) slot call reply x.0 x.1 none in
       let known = f.births in (
@@ -150,8 +156,12 @@ module _ (old : Contents) (small : old.number < word_end) (few : old.births < wo
         record {
           stands = x.2;
           phase = f.phase;
+          needs = needed ∙ ap (needs_full_after (Mutator slot call) reply) f.needs;
           number = sym (ap (λ k. (k + 0) % word_end) (sym f.number) ∙ same_number old.number small);
           births = f.births ∙ sym births;
+          aged_room = room_as _ _ _ _ f.aged_room (calls_pages (heap_after start run) slot call x.1) refl;
+          past = subst (λ n. old_births start run ≤ n) (sym births) f.past;
+          aged = old_tell (heap_after start run) x.0 (apart' x.0 x.2) (Mutator slot call) reply x.1 births old.aged (old_births start run) f.aged;
           room = room_as _ _ _ _ f.room (calls_pages (heap_after start run) slot call x.1) size;
           touched = λ marks. call_tell start run x.0 (sym f.phase ∙ marks) (apart (heap_after start run) f.stands) (apart' x.0 x.2) new x.2 old.touched flags
               (room_as _ _ _ _ f.room (sym x.2.pages ∙ calls_pages (heap_after start run) slot call x.1) refl) (f.touched marks) slot call reply x.1 none (brought marks);
@@ -167,10 +177,10 @@ module _ (old : Contents) (small : old.number < word_end) (few : old.births < wo
 
   -- a granted request
   module _ (slot into words base : ℕ) (kind : Kind) where
-    pub grants : (new : PlainContents) (flags : List Bool) → AreApartIn old.core → AreApartIn new → IsAllocatedAt old.core slot into words kind base new → old.births + 1 < word_end
-        → length flags ≡ length old.touched → (old.marking ≡ true → FlagsLed new base old.touched flags)
-        → IsReplayed old (Mutator slot (Alloc into words kind)) Done (Place base) (record old { core = new; births = old.births + 1; touched = flags })
-    grants new flags apart apart' steps room size led start run f =
+    pub grants : (new : PlainContents) (flags aged : List Bool) → AreApartIn old.core → AreApartIn new → IsAllocatedAt old.core slot into words kind base new → old.births + 1 < word_end
+        → length flags ≡ length old.touched → (old.marking ≡ true → FlagsLed new base old.touched flags) → FlagUnset new base old.aged aged
+        → IsReplayed old (Mutator slot (Alloc into words kind)) Done (Place base) (record old { core = new; births = old.births + 1; touched = flags; aged = aged })
+    grants new flags aged apart apart' steps room size led unset start run f =
         let x = steps (heap_after start run) f.stands in
         let births : x.0.births ≡ (heap_after start run).births + 1 = call_birth (heap_after start run) slot into words kind x.1 in
         let known = f.births in (
@@ -185,8 +195,12 @@ module _ (old : Contents) (small : old.number < word_end) (few : old.births < wo
           record {
             stands = x.3;
             phase = f.phase;
+            needs = f.needs;
             number = sym (ap (λ k. (k + 0) % word_end) (sym f.number) ∙ same_number old.number small);
             births = ap (λ k. k + 1) f.births ∙ sym births;
+            aged_room = room_as _ _ _ _ f.aged_room (calls_pages (heap_after start run) slot (Alloc into words kind) x.1) unset.size;
+            past = subst (λ n. old_births start run ≤ n) (sym births) (let past = f.past in omega arith);
+            aged = new_tell (heap_after start run) x.0 (apart' x.0 x.3) (Mutator slot (Alloc into words kind)) Done x.1 births base x.2 new x.3 old.aged aged unset (old_births start run) f.past f.aged;
             room = room_as _ _ _ _ f.room (calls_pages (heap_after start run) slot (Alloc into words kind) x.1) size;
             touched = λ marks. grant_tell start run x.0 (sym f.phase ∙ marks) (apart (heap_after start run) f.stands) (apart' x.0 x.3) new x.3 old.touched flags
                 (room_as _ _ _ _ f.room (sym x.3.pages ∙ calls_pages (heap_after start run) slot (Alloc into words kind) x.1) refl) (f.touched marks) slot into words base kind x.1 x.2 (led marks);
@@ -263,7 +277,7 @@ module _ (old : Contents) (small : old.number < word_end) (few : old.births < wo
 
   -- a cycle begins
   pub begins : (flags : List Bool) (hint : Hint) → AreApartIn old.core → length flags ≡ length old.touched → FlagsReached old.core flags → old.marking ≡ false
-      → IsReplayed old Begin Done hint (record old { marking = true; touched = flags })
+      → IsReplayed old Begin Done hint (record old { marking = true; needs_full = false; touched = flags })
   begins flags hint apart size reached m start run f = (
     goes_on run Begin Done (heap_after start run),
     record {
@@ -276,12 +290,47 @@ module _ (old : Contents) (small : old.number < word_end) (few : old.births < wo
     record {
       stands = f.stands;
       phase = refl;
+      needs = refl;
       number = sym (ap (λ k. (k + 0) % word_end) (sym f.number) ∙ same_number old.number small);
       births = f.births;
       room = room_as _ _ _ _ f.room refl size;
       touched = λ marks. begin_tell start run old.core f.stands (apart (heap_after start run) f.stands) flags (room_as _ _ _ _ f.room (sym f.stands.pages) size) reached;
+      aged_room = f.aged_room;
+      past = f.past;
+      aged = f.aged;
     },
   )
+
+  -- a cycle begins with the marks of the last one
+  pub begins_partial : (flags : List Bool) (hint : Hint) → AreApartIn old.core → length flags ≡ length old.touched → FlagsClosure old.core old.aged flags → old.marking ≡ false → old.needs_full ≡ false
+      → IsReplayed old BeginPartial Done hint (record old { marking = true; touched = flags })
+  begins_partial flags hint apart size closure m none start run f = (
+    goes_on run BeginPartial Done (heap_after start run),
+    record {
+      line = LineOf.happens (sym f.phase ∙ m, sym f.needs ∙ none, (refl, refl));
+      place = λ slot into words kind is done. absurd (cc);
+      finished = λ n which is. absurd (cc);
+      collected = λ n which is. absurd (cc);
+      births = let known = f.births in omega arith;
+    },
+    record {
+      stands = f.stands;
+      phase = refl;
+      needs = f.needs;
+      number = sym (ap (λ k. (k + 0) % word_end) (sym f.number) ∙ same_number old.number small);
+      births = f.births;
+      room = room_as _ _ _ _ f.room refl size;
+      touched = λ marks.
+          partial_tell start run old.core f.stands (apart (heap_after start run) f.stands) old.aged flags f.aged (room_as _ _ _ _ f.room (sym f.stands.pages) size) closure;
+      aged_room = f.aged_room;
+      past = f.past;
+      aged = f.aged;
+    },
+  )
+
+  -- a full cycle has to come first
+  pub needs_stay : (hint : Hint) → old.marking ≡ false → old.needs_full ≡ true → IsReplayed old BeginPartial (Refused NeedsFull) hint old
+  needs_stay hint m need = stays BeginPartial (Refused NeedsFull) hint (λ slot call e. cc) (λ w. ⊎_elim (λ e. cc) (λ e. cc) w) (λ start run f. LineOf.needs (sym f.phase ∙ m) (sym f.needs ∙ need))
 
   -- what else no reply is
   module _ (reply : Reply) (hint : Hint) where
@@ -291,6 +340,15 @@ module _ (old : Contents) (small : old.number < word_end) (few : old.births < wo
         stuck : (q : Reply) → q ≡ reply → {to : Run} → LineOf start run Begin q to → ⊥
         stuck q is (LineOf.happens happens) = done (f.phase ∙ happens.0) (sym is ∙ happens.1.0)
         stuck q is (LineOf.refused phase) = wrong (f.phase ∙ phase) (sym is)
+
+    pub no_partial : (old.marking ≡ false → old.needs_full ≡ false → reply ≡ Done → ⊥) → (old.marking ≡ true → reply ≡ Refused WrongPhase → ⊥) → (old.marking ≡ false → old.needs_full ≡ true → reply ≡ Refused NeedsFull → ⊥)
+        → IsNoReplay old BeginPartial reply hint
+    no_partial done wrong needs start run next f r = stuck reply refl r.line
+      where
+        stuck : (q : Reply) → q ≡ reply → {to : Run} → LineOf start run BeginPartial q to → ⊥
+        stuck q is (LineOf.happens happens) = done (f.phase ∙ happens.0) (f.needs ∙ happens.1) (sym is ∙ happens.2.0)
+        stuck q is (LineOf.refused phase) = wrong (f.phase ∙ phase) (sym is)
+        stuck q is (LineOf.needs m need) = needs (f.phase ∙ m) (f.needs ∙ need) (sym is)
 
     pub no_roots : (old.marking ≡ true → reply ≡ Done → ⊥) → (old.marking ≡ false → reply ≡ Refused WrongPhase → ⊥) → IsNoReplay old Roots reply hint
     no_roots done wrong start run next f r = stuck reply refl r.line
@@ -374,16 +432,21 @@ pub same_bases : (s s' : Heap) (mine theirs : List ℕ) → s' ≡ without s min
 same_bases s s' mine theirs is other all base o has out = same_among s s' mine theirs is other base o has (all base o has out)
 
 -- collections that are granted
-module _ (old : Contents) (small : old.number < word_end) (few : old.births < word_end) (new : PlainContents) (bases : Bor (List ℕ)) where
+module _ (old : Contents) (small : old.number < word_end) (few : old.births < word_end) (new : PlainContents) (aged : List Bool) (size : length aged ≡ length old.aged) (all : FlagsAll new aged) (bases : Bor (List ℕ)) where
   -- the replayer after one
-  abbrev pub ended : Contents
-  ended = record old { core = new; marking = false; number = (old.number + 1) % word_end }
+  abbrev pub ended : Bool → Contents
+  ended need = record old { core = new; marking = false; needs_full = need; number = (old.number + 1) % word_end; aged = aged }
 
-  follows : (start : Start) (run : Run) (f : Follows old start run) (s' : Heap) (event : Event) (reply : Reply) → counted event ≡ 1 → marking_after event (is_marking start run) ≡ false → s' ≡ without (heap_after start run) bases.now → StandsFor new s'
-      → Follows ended start (goes_on run event reply s')
-  follows start run f s' event reply one ends after stands = record {
+  follows : (start : Start) (run : Run) (f : Follows old start run) (s' : Heap) (event : Event) (reply : Reply) (need : Bool) → counted event ≡ 1 → marking_after event (is_marking start run) ≡ false
+      → need ≡ needs_full start (goes_on run event reply s') → old_births start (goes_on run event reply s') ≡ s'.births → s' ≡ without (heap_after start run) bases.now → StandsFor new s'
+      → Follows (ended need) start (goes_on run event reply s')
+  follows start run f s' event reply need one ends needed ages after stands = record {
     stands = stands;
     phase = sym ends;
+    needs = needed;
+    aged_room = room_as _ _ _ _ f.aged_room (ap (λ (x : Heap). x.pages) after) size;
+    past = omega (arith, ages);
+    aged = subst (TellOld s' aged) (sym ages) (all_tell s' new stands aged (room_as _ _ _ _ f.aged_room (sym stands.pages ∙ ap (λ (x : Heap). x.pages) after) size) all);
     number = ap (λ k. (k + 1) % word_end) f.number ∙ ap (λ k. (count start run + k) % word_end) (sym one);
     births = f.births ∙ sym (ap (λ (x : Heap). x.births) after);
     room = room_as _ _ _ _ f.room (ap (λ (x : Heap). x.pages) after) refl;
@@ -399,7 +462,7 @@ module _ (old : Contents) (small : old.number < word_end) (few : old.births < wo
   named : (n : ℕ) (s s' : Heap) → TakesOut s bases.now (Count (length bases.now)) s' → Count n ≡ Count (length bases.now) → TakesOut s bases.now (Count n) s'
   named n s s' takes is = subst (λ q. TakesOut s bases.now q s') (sym is) takes
 
-  pub finishes : ForgetsUnflagged old.core old.touched bases.now new → old.marking ≡ true → (n : ℕ) → n ≡ length bases.now → IsReplayed old Finish (Count n) (Forgot bases) ended
+  pub finishes : ForgetsUnflagged old.core old.touched bases.now new → old.marking ≡ true → (n : ℕ) → n ≡ length bases.now → IsReplayed old Finish (Count n) (Forgot bases) (ended old.needs_full)
   finishes takes m n long start run f =
       let x = takes (heap_after start run) f.stands in
       let counts : Count n ≡ Count (length bases.now) = ap Count long in (
@@ -411,10 +474,10 @@ module _ (old : Contents) (small : old.number < word_end) (few : old.births < wo
           collected = λ k which is. absurd (cc);
           births = below start run f x.0 x.1.after;
         },
-        follows start run f x.0 Finish (Count n) refl refl x.1.after x.3,
+        follows start run f x.0 Finish (Count n) old.needs_full refl refl f.needs refl x.1.after x.3,
       )
 
-  pub collects : TakesBases old.core bases.now true new → (n : ℕ) → n ≡ length bases.now → IsReplayed old Collect (Count n) (Forgot bases) ended
+  pub collects : TakesBases old.core bases.now true new → (n : ℕ) → n ≡ length bases.now → IsReplayed old Collect (Count n) (Forgot bases) (ended false)
   collects takes n long start run f =
       let x = takes (heap_after start run) f.stands in
       let counts : Count n ≡ Count (length bases.now) = ap Count long in (
@@ -426,7 +489,7 @@ module _ (old : Contents) (small : old.number < word_end) (few : old.births < wo
           collected = λ k which is. named k (heap_after start run) x.0 x.1 (sym is ∙ counts);
           births = below start run f x.0 x.1.after;
         },
-        follows start run f x.0 Collect (Count n) refl refl x.1.after x.3,
+        follows start run f x.0 Collect (Count n) false refl refl refl refl x.1.after x.3,
       )
 
 -- and those that are not
@@ -469,8 +532,9 @@ module _ (old : Contents) (small : old.number < word_end) (few : old.births < wo
   pub collect_unequal : CantCollect old.core n → IsNoReplay old Collect (Count n) Nothing
   collect_unequal cant = no_collect old small few (Count n) Nothing (λ s h k s' is names full. cant s h s' full)
 
-  pub collects_counted : (new : PlainContents) → IsCollected old.core n new → IsReplayed old Collect (Count n) Nothing (record old { core = new; marking = false; number = (old.number + 1) % word_end })
-  collects_counted new full start run f =
+  pub collects_counted : (new : PlainContents) (aged : List Bool) → length aged ≡ length old.aged → FlagsAll new aged → IsCollected old.core n new
+      → IsReplayed old Collect (Count n) Nothing (record old { core = new; marking = false; needs_full = false; number = (old.number + 1) % word_end; aged = aged })
+  collects_counted new aged size all full start run f =
       let x = full (heap_after start run) f.stands in
       let same : x.0.births ≡ (heap_after start run).births = ap (λ (s : Heap). s.births) x.1.takes.after in
       let known = f.births in (
@@ -485,6 +549,10 @@ module _ (old : Contents) (small : old.number < word_end) (few : old.births < wo
         record {
           stands = x.2;
           phase = refl;
+          needs = refl;
+          aged_room = room_as _ _ _ _ f.aged_room (ap (λ (s : Heap). s.pages) x.1.takes.after) size;
+          past = omega arith;
+          aged = all_tell x.0 new x.2 aged (room_as _ _ _ _ f.aged_room (sym x.2.pages ∙ ap (λ (s : Heap). s.pages) x.1.takes.after) size) all;
           number = ap (λ k. (k + 1) % word_end) f.number;
           births = f.births ∙ sym same;
           room = room_as _ _ _ _ f.room (ap (λ (s : Heap). s.pages) x.1.takes.after) refl;

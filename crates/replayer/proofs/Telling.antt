@@ -12,7 +12,8 @@ use Rattle.heap_spec.specs.Laws.{IsNoAlloc}
 use Rattle.heap_spec.specs.Runs.{Start, Run, Touched, heap_after, is_marking, goes_on}
 use Rattle.heap_spec.specs.Steps.{Attaches, Calls}
 use Rattle.heap_spec.specs.Touching.{LedTo, HasNewborn, IsBrought, HasApartObjects}
-use Rattle.heap_spec.proofs.Touching.{flags_tell, calls_gain, attach_gain, marking_closed, brought_one, calls_newborn, calls_refuse}
+use Rattle.heap_spec.proofs.Gaining.{calls_gain, attach_gain}
+use Rattle.heap_spec.proofs.Touching.{flags_tell, marking_closed, brought_one, calls_newborn, calls_refuse}
 use Rattle.plain_core.specs.Contents.{Contents as PlainContents}
 use Rattle.plain_core.specs.Standing.{StandsFor}
 use Rattle.plain_core.specs.Answering.{IsBornAt}

@@ -1,3 +1,4 @@
 pub mod Contents
 pub mod Replays
 pub mod Laws
+pub mod Expecting

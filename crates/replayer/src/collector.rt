@@ -5,7 +5,7 @@ ghost use Rattle.heap_spec.specs.Layout.{word_end};
 ghost use Rattle.replayer.specs.declared.hint.Hint.{Hint as HintValue};
 ghost use Rattle.replayer.specs.Replays.{IsReplayed, IsNoReplay};
 
-use crate::flags::{flag_begin, forget};
+use crate::flags::{age_all, flag_begin, flag_partial, forget};
 use crate::hint::Hint;
 use crate::replayer::Replayer;
 use heap_spec::{Event, Reply};
@@ -28,6 +28,17 @@ fn is_wrong_phase(reply: &Reply) -> bool
     ensures no { result ≡ false → reply.now ≡ Reply.Refused Refusal.WrongPhase → ⊥ }
 {
     let Reply::Refused(Refusal::WrongPhase) = reply else {
+        return false;
+    };
+    true
+}
+
+// Whether the reply is that a full cycle has to come first.
+fn is_needs_full(reply: &Reply) -> bool
+    ensures yes { IsTrue result → reply.now ≡ Reply.Refused Refusal.NeedsFull }
+    ensures no { result ≡ false → reply.now ≡ Reply.Refused Refusal.NeedsFull → ⊥ }
+{
+    let Reply::Refused(Refusal::NeedsFull) = reply else {
         return false;
     };
     true
@@ -71,15 +82,22 @@ impl Replayer {
         let _births = self.births;
     }
 
-    // Whether a cycle is marking.
-    fn is_marking(&self) -> bool
+    /// Whether a cycle is marking.
+    pub fn is_marking(&self) -> bool
         ensures { result ≡ self.now.marking }
     {
         self.marking
     }
 
-    // The count of collections.
-    fn collections(&self) -> u64
+    /// Whether a full cycle is needed.
+    pub fn needs_full(&self) -> bool
+        ensures { result ≡ self.now.needs_full }
+    {
+        self.needs_full
+    }
+
+    /// The count of collections.
+    pub fn collections(&self) -> u64
         ensures { result ≡ self.now.number }
     {
         self.number
@@ -100,6 +118,29 @@ impl Replayer {
         }
         self.core.objects_are_apart();
         flag_begin(&mut self.core, &mut self.touched);
+        self.marking = true;
+        self.needs_full = false;
+        true
+    }
+
+    // A cycle begins with the marks of the last one.
+    pub(crate) fn begin_partial(&mut self, reply: &Reply) -> bool
+        ensures yes { IsTrue result → (hint : HintValue) → IsReplayed self.old Event.BeginPartial reply.now hint self.new }
+        ensures no { result ≡ false → (hint : HintValue) → IsNoReplay self.old Event.BeginPartial reply.now hint }
+        ensures same { result ≡ false → self.new ≡ self.old }
+    {
+        self.limits();
+        if self.is_marking() {
+            return is_wrong_phase(reply);
+        }
+        if self.needs_full() {
+            return is_needs_full(reply);
+        }
+        if !is_done(reply) {
+            return false;
+        }
+        self.core.objects_are_apart();
+        flag_partial(&mut self.core, &self.aged, &mut self.touched);
         self.marking = true;
         true
     }
@@ -186,6 +227,7 @@ impl Replayer {
         if !forget(&mut self.core, bases, &self.touched) {
             return false;
         }
+        age_all(&self.core, &mut self.aged);
         self.marking = false;
         self.number = self.number.wrapping_add(1);
         true
@@ -204,7 +246,9 @@ impl Replayer {
         if !self.core.collect_counted(n) {
             return false;
         }
+        age_all(&self.core, &mut self.aged);
         self.marking = false;
+        self.needs_full = false;
         self.number = self.number.wrapping_add(1);
         true
     }
@@ -223,7 +267,9 @@ impl Replayer {
         if !self.core.collect_as(bases) {
             return false;
         }
+        age_all(&self.core, &mut self.aged);
         self.marking = false;
+        self.needs_full = false;
         self.number = self.number.wrapping_add(1);
         true
     }

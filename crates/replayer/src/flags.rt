@@ -1,6 +1,7 @@
-//! The flags of the touched objects, as a replayer has them.
+//! The flags of the touched objects and of the old ones, as a replayer has them.
 ghost use Rattle.std.specs.Prelude.{◌≡◌, IsTrue, true, false, length};
 ghost use Rattle.plain_core.specs.Flags.{FlagsReached, FlagsLed, FlagsBrought, ForgetsUnflagged, CantForget};
+ghost use Rattle.plain_core.specs.Aging.{FlagsAll, FlagUnset, FlagsClosure};
 
 use heap_spec::Call;
 use plain_core::Core;
@@ -13,6 +14,30 @@ pub(crate) fn flag_begin(core: &mut Core, flags: &mut Vec<bool>)
     ensures same { core.new ≡ core.old }
 {
     core.flag_reached(flags);
+}
+
+// Sets the flags of what roots or the old objects lead to, and no other.
+pub(crate) fn flag_partial(core: &mut Core, aged: &Vec<bool>, flags: &mut Vec<bool>)
+    ensures flags { FlagsClosure core.old aged.now.items flags.new.items }
+    ensures size { length flags.new.items ≡ length flags.old.items }
+    ensures same { core.new ≡ core.old }
+{
+    core.flag_closure(aged, flags);
+}
+
+// All objects are old.
+pub(crate) fn age_all(core: &Core, aged: &mut Vec<bool>)
+    ensures flags { FlagsAll core.now aged.new.items }
+    ensures size { length aged.new.items ≡ length aged.old.items }
+{
+    core.flag_all(aged);
+}
+
+// The object at this base is new.
+pub(crate) fn renew(core: &Core, base: u64, aged: &mut Vec<bool>)
+    ensures { FlagUnset core.now base aged.old.items aged.new.items }
+{
+    core.unflag(base, aged);
 }
 
 // Sets the flags of what a call brought, while a cycle marks.

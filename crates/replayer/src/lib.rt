@@ -3,13 +3,16 @@
 //! hint. It has objects, roots, globals, the phase and two counts, and no mark, dirty page or block of a collector.
 //!
 //! While a cycle marks it has a flag of each object that was touched since the cycle began, so that the end of the cycle has to
-//! forget all others.
+//! forget all others. A cycle that begins with the marks of the last one touches the old objects first, those that were born
+//! before the last collection: so it has a flag of each of these too.
 #![tactic(auto)]
 
 mod collector;
+mod expecting;
 mod flags;
 mod hint;
 pub mod laws;
+mod looking;
 mod replayer;
 
 pub use hint::Hint;

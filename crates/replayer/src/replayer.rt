@@ -1,13 +1,13 @@
 //! The replayer, how it is made, and its one question.
-ghost use Rattle.std.specs.Prelude.{◌≡◌, ◌+◌, ◌<◌, ◌≤◌, IfOk, IsTrue, false, []};
+ghost use Rattle.std.specs.Prelude.{◌≡◌, ℕ, ◌+◌, ◌<◌, ◌≤◌, IfOk, IsTrue, false, []};
 ghost use Rattle.words.specs.declared.limits.TheConstants.{MAX_PAGES};
 ghost use Rattle.heap_spec.specs.Layout.{word_end};
-ghost use Rattle.heap_spec.specs.Runs.{fresh};
+ghost use Rattle.heap_spec.specs.Runs.{fresh, needs_full_after as needs_full_by};
 ghost use Rattle.replayer.specs.Contents.{Follows};
 ghost use Rattle.replayer.specs.declared.hint.Hint.{Hint as HintValue};
 ghost use Rattle.replayer.specs.Replays.{IsReplayed, IsNoReplay, IsGrant};
 
-use crate::flags::{flag_call, flag_place};
+use crate::flags::{flag_call, flag_place, renew};
 use crate::hint::Hint;
 use faults::RunError;
 use heap_spec::{Call, Event, Reply};
@@ -22,9 +22,24 @@ use words::{Kind, Reg, Slot};
 pub struct Replayer {
     pub(crate) core: Core,
     pub(crate) marking: bool,
+    pub(crate) needs_full: bool,
     pub(crate) number: u64,
     pub(crate) births: u64,
     pub(crate) touched: Vec<bool>,
+    pub(crate) aged: Vec<bool>,
+}
+
+// Whether a full cycle is needed after a call, from whether one was before: a free that was done needs one.
+fn needs_full_after(call: &Call, reply: &Reply, before: bool) -> bool
+    ensures { (slot : ℕ) → result ≡ needs_full_by (Event.Mutator slot call.now) reply.now before }
+{
+    let Call::Free(_) = call else {
+        return before;
+    };
+    let Reply::Done = reply else {
+        return before;
+    };
+    true
 }
 
 impl Model for Replayer {
@@ -32,7 +47,7 @@ impl Model for Replayer {
 
     ghost Value = { Contents };
 
-    ghost view = { λ r. record { core = r.core; marking = r.marking; number = r.number; births = r.births; touched = r.touched.items } };
+    ghost view = { λ r. record { core = r.core; marking = r.marking; needs_full = r.needs_full; number = r.number; births = r.births; touched = r.touched.items; aged = r.aged.items } };
 }
 
 impl Replayer {
@@ -50,12 +65,17 @@ impl Replayer {
         let Ok(touched) = vec![in alloc; false; PAGE_WORDS as usize * pages as usize] else {
             return Err(RunError::Memory);
         };
+        let Ok(aged) = vec![in alloc; false; PAGE_WORDS as usize * pages as usize] else {
+            return Err(RunError::Memory);
+        };
         Ok(Replayer {
             core,
             marking: false,
+            needs_full: true,
             number: 0,
             births: 0,
             touched,
+            aged,
         })
     }
 
@@ -86,6 +106,7 @@ impl Replayer {
         }
         self.core.objects_are_apart();
         flag_place(self.marking, &mut self.core, base, &mut self.touched);
+        renew(&self.core, base, &mut self.aged);
         self.births += 1;
         true
     }
@@ -104,6 +125,7 @@ impl Replayer {
         }
         self.core.objects_are_apart();
         flag_call(self.marking, &mut self.core, slot, call, &mut self.touched);
+        self.needs_full = needs_full_after(call, reply, self.needs_full);
         true
     }
 
@@ -148,6 +170,7 @@ impl Replayer {
             Event::Attach => self.attach(reply),
             Event::Mutator(slot, call) => self.call(slot, &call, reply, hint),
             Event::Begin => self.begin(reply),
+            Event::BeginPartial => self.begin_partial(reply),
             Event::Roots => self.roots(reply),
             Event::Mark(most) => self.mark(most, reply),
             Event::Retrace => self.retrace(reply),

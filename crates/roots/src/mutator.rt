@@ -89,6 +89,13 @@ impl Mutator {
         self.stack.as_slice().last().copied()
     }
 
+    /// The stack, its bottom first.
+    pub fn stack(&self) -> &[u64]
+        ensures { result.now ≡ self.now.stack }
+    {
+        self.stack.as_slice()
+    }
+
     // Its words, registers first, behind those that are there.
     pub(crate) fn write_words(&self, into: &mut ArrayVec<u64, ROOT_WORDS>)
         requires { array_vec_len into.old + (REGISTERS + STACK_WORDS) ≤ ROOT_WORDS }

@@ -6,7 +6,7 @@ use Rattle.std.specs.Str.Parse.{AllDigits}
 use Rattle.std.proofs.lemmas.Fmt.{decimal_is_IsNumeral}
 use Rattle.words.specs.declared.limits.TheConstants.{SLOTS}
 use Rattle.heap_spec.specs.declared.event.Event.{Event}
-use Rattle.heap_spec.specs.declared.event.Event.TheVariants.{Attach, Mutator, Begin, Roots, Mark, Retrace, Finish, Sweep, Collect, Number}
+use Rattle.heap_spec.specs.declared.event.Event.TheVariants.{Attach, Mutator, Begin, BeginPartial, Roots, Mark, Retrace, Finish, Sweep, Collect, Number}
 use Rattle.scripts.specs.Calls.{AreCommandWords, ReadsCommand}
 
 abbrev head : List (List ℕ) → List ℕ
@@ -41,6 +41,7 @@ more_than_attach : (first : List ℕ) (rest : List (List ℕ)) → first ≡ cod
 more_than_attach first rest same more Attach are = more (rest_of are.are)
 more_than_attach first rest same more (Mutator slot call) are = not_attach slot are.in_range.0 (sym (first_of_words are.are) ∙ same)
 more_than_attach first rest same more Begin are = attach_is_not_gc same (first_of_words are.are)
+more_than_attach first rest same more BeginPartial are = attach_is_not_gc same (first_of_words are.are)
 more_than_attach first rest same more Roots are = attach_is_not_gc same (first_of_words are.are)
 more_than_attach first rest same more (Mark n) are = attach_is_not_gc same (first_of_words are.are)
 more_than_attach first rest same more Retrace are = attach_is_not_gc same (first_of_words are.are)
@@ -55,15 +56,16 @@ attach_words first rest false found same more e = rw e (more_than_attach first r
 
 -- a second word that is none of the collector's
 pub no_verb : (verb : List ℕ) (rest words : List (List ℕ)) → words ≡ verb ∷ rest
-    → (verb ≡ codes "begin" → ⊥) → (verb ≡ codes "roots" → ⊥) → (verb ≡ codes "mark" → ⊥) → (verb ≡ codes "retrace" → ⊥) → (verb ≡ codes "finish" → ⊥) → (verb ≡ codes "sweep" → ⊥) → (verb ≡ codes "collect" → ⊥) → (verb ≡ codes "no" → ⊥)
+    → (verb ≡ codes "begin" → ⊥) → (verb ≡ codes "partial" → ⊥) → (verb ≡ codes "roots" → ⊥) → (verb ≡ codes "mark" → ⊥) → (verb ≡ codes "retrace" → ⊥) → (verb ≡ codes "finish" → ⊥) → (verb ≡ codes "sweep" → ⊥) → (verb ≡ codes "collect" → ⊥) → (verb ≡ codes "no" → ⊥)
     → (command : Event) → AreCommandWords (codes "gc" ∷ words) command → ⊥
-no_verb verb rest words is begin roots mark retrace finish sweep collect number Attach are = attach_is_not_gc refl (sym (first_of_words are.are))
-no_verb verb rest words is begin roots mark retrace finish sweep collect number (Mutator slot call) are = not_gc slot are.in_range.0 (sym (first_of_words are.are))
-no_verb verb rest words is begin roots mark retrace finish sweep collect number Begin are = begin (first_of_words (sym is ∙ rest_of are.are))
-no_verb verb rest words is begin roots mark retrace finish sweep collect number Roots are = roots (first_of_words (sym is ∙ rest_of are.are))
-no_verb verb rest words is begin roots mark retrace finish sweep collect number (Mark n) are = mark (first_of_words (sym is ∙ rest_of are.are))
-no_verb verb rest words is begin roots mark retrace finish sweep collect number Retrace are = retrace (first_of_words (sym is ∙ rest_of are.are))
-no_verb verb rest words is begin roots mark retrace finish sweep collect number Finish are = finish (first_of_words (sym is ∙ rest_of are.are))
-no_verb verb rest words is begin roots mark retrace finish sweep collect number Sweep are = sweep (first_of_words (sym is ∙ rest_of are.are))
-no_verb verb rest words is begin roots mark retrace finish sweep collect number Collect are = collect (first_of_words (sym is ∙ rest_of are.are))
-no_verb verb rest words is begin roots mark retrace finish sweep collect number Number are = number (first_of_words (sym is ∙ rest_of are.are))
+no_verb verb rest words is begin partial roots mark retrace finish sweep collect number Attach are = attach_is_not_gc refl (sym (first_of_words are.are))
+no_verb verb rest words is begin partial roots mark retrace finish sweep collect number (Mutator slot call) are = not_gc slot are.in_range.0 (sym (first_of_words are.are))
+no_verb verb rest words is begin partial roots mark retrace finish sweep collect number Begin are = begin (first_of_words (sym is ∙ rest_of are.are))
+no_verb verb rest words is begin partial roots mark retrace finish sweep collect number BeginPartial are = partial (first_of_words (sym is ∙ rest_of are.are))
+no_verb verb rest words is begin partial roots mark retrace finish sweep collect number Roots are = roots (first_of_words (sym is ∙ rest_of are.are))
+no_verb verb rest words is begin partial roots mark retrace finish sweep collect number (Mark n) are = mark (first_of_words (sym is ∙ rest_of are.are))
+no_verb verb rest words is begin partial roots mark retrace finish sweep collect number Retrace are = retrace (first_of_words (sym is ∙ rest_of are.are))
+no_verb verb rest words is begin partial roots mark retrace finish sweep collect number Finish are = finish (first_of_words (sym is ∙ rest_of are.are))
+no_verb verb rest words is begin partial roots mark retrace finish sweep collect number Sweep are = sweep (first_of_words (sym is ∙ rest_of are.are))
+no_verb verb rest words is begin partial roots mark retrace finish sweep collect number Collect are = collect (first_of_words (sym is ∙ rest_of are.are))
+no_verb verb rest words is begin partial roots mark retrace finish sweep collect number Number are = number (first_of_words (sym is ∙ rest_of are.are))

@@ -1,5 +1,6 @@
 pub mod Bytes
 pub mod Decimals
+pub mod Digits
 pub mod Splitting
 pub mod FirstWords
 pub mod Turns

@@ -21,7 +21,8 @@ use Rattle.scripts.specs.Printing.{reply_line, printed}
 use Rattle.scripts.specs.Answers.{Answers, BeginsAnswer, IsAnswered, Serves}
 use Rattle.scripts.specs.Turns.{IsLineRun, IsTurn, text_of}
 use Rattle.scripts.proofs.Turns.{HasRun, IsUpTo}
-use Rattle.scripts.proofs.Cores.{follows_fresh, no_calls, call_on}
+use Rattle.scripts.proofs.Cores.{no_calls, call_on}
+use Rattle.heap_core.proofs.Opening.{new_follows}
 use Rattle.scripts.proofs.Bytes.{Appends-none, Appends-more, Consumes-none, Consumes-more}
 use Rattle.scripts.proofs.Inputs.{zip_push, length-push, known, at_end, no_buffer, no_left, more_lines, last_line, all_short}
 use Rattle.scripts.proofs.Texts.{lines_of-text, lines_of-last, first_line, whole_lines_of-text, take-front, at-front, text_of-push}
@@ -45,7 +46,7 @@ none_run pages core new = record {
   legal = ends;
   calls = no_calls pages core new;
   prints = refl;
-  follows = follows_fresh pages core new;
+  follows = new_follows pages core new;
 }
 
 -- one line more

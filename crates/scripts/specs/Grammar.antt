@@ -6,7 +6,7 @@ use Rattle.words.specs.declared.class.Kind.TheVariants.{Normal, PointerFree}
 use Rattle.heap_spec.specs.declared.call.Call.{Call}
 use Rattle.heap_spec.specs.declared.call.Call.TheVariants.{Detach, Set, Copy, Add, Sub, Get, Push, Pop, Load, Store, Alloc, Free, Base, Size, GlobalGet, GlobalPut, Link, Unlink}
 use Rattle.heap_spec.specs.declared.event.Event.{Event}
-use Rattle.heap_spec.specs.declared.event.Event.TheVariants.{Attach, Mutator, Begin, Roots, Mark, Retrace, Finish, Sweep, Collect, Number}
+use Rattle.heap_spec.specs.declared.event.Event.TheVariants.{Attach, Mutator, Begin, BeginPartial, Roots, Mark, Retrace, Finish, Sweep, Collect, Number}
 use Rattle.scripts.specs.declared.limits.TheConstants.{LINE_BYTES}
 use Rattle.heap_spec.specs.Ranges.{InRange}
 
@@ -41,6 +41,7 @@ abbrev pub command_words : Event → List (List ℕ)
 command_words Attach = codes "attach" ∷ []
 command_words (Mutator slot call) = decimal slot ∷ call_words call
 command_words Begin = codes "gc" ∷ codes "begin" ∷ []
+command_words BeginPartial = codes "gc" ∷ codes "partial" ∷ []
 command_words Roots = codes "gc" ∷ codes "roots" ∷ []
 command_words (Mark n) = codes "gc" ∷ codes "mark" ∷ decimal n ∷ []
 command_words Retrace = codes "gc" ∷ codes "retrace" ∷ []

@@ -45,6 +45,7 @@ fn collector_command(rest: &mut Words<'_>) -> Option<Event>
     let verb = rest.word()?;
     match verb {
         _ if is_text(verb, "begin") => rest.is_done().then_some(Event::Begin),
+        _ if is_text(verb, "partial") => rest.is_done().then_some(Event::BeginPartial),
         _ if is_text(verb, "roots") => rest.is_done().then_some(Event::Roots),
         _ if is_text(verb, "mark") => match rest.one() {
             Some(n) => Some(Event::Mark(n)),

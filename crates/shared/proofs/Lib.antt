@@ -1,2 +1,3 @@
 pub mod Passing
 pub mod Granting
+pub mod Departing

@@ -1,5 +1,5 @@
 -- What a pass that has learnt the history knows of the core under the lock.
-use Rattle.std.proofs.Common.{◌≡◌, ℕ, ◌<◌, false, List, [], refl, sym, ap, ◌∙◌, subst, true≢false, arith}
+use Rattle.std.proofs.Common.{◌≡◌, ℕ, ◌<◌, false, List, [], refl, sym, ap, ◌∙◌, subst, arith}
 use Rattle.std.specs.Prelude.{slice_get}
 use Rattle.history.specs.Histories.{is_live, Reaches}
 use Rattle.history.specs.Passes.{Owned}
@@ -7,18 +7,20 @@ use Rattle.heap_spec.specs.SequentialObject.{HeapState, Opens, StateStep}
 use Rattle.pages.specs.Opening.{IsPageCount}
 use Rattle.roots.specs.Roots.{IsNextSlot}
 use Rattle.heap_history.specs.Ranks.{rank_of}
-use Rattle.heap_history.specs.Passes.{Entry, HeapPass, IsMutatorPass, is_marking as marks}
+use Rattle.heap_history.specs.Passes.{Entry, HeapPass, IsMutatorPass, is_marking as marks, needs_full as needs}
 use Rattle.heap_history.proofs.Passing as pass
+use Rattle.heap_history.proofs.Chains.{need_is}
 use Rattle.heap_core.specs.Contents.{Contents}
 use Rattle.heap_core.specs.Opening.{IsNew}
 use Rattle.heap_core.specs.AsObject.{Stands, HasCaller}
+use Rattle.heap_core.proofs.Opening.{new_follows}
 
 -- the core of a new heap stands for a state that opens one of so many pages
 pub opening_stands : (c : Contents) (origin pages : ℕ) → origin ≡ pages → IsPageCount pages → IsNew pages c → (s : HeapState) × Opens origin s × Stands c s
 opening_stands c origin pages is range new = (
   record { pages = pages; run = [] },
   record { pages_are = sym is; some_page = omega (arith, range.0); few_pages = range.1; nothing = refl },
-  record { stands = new.stands; phase = new.phase; count = new.count; small = let none = new.count in omega arith; touched = λ on base o has marked. absurd (true≢false (sym on ∙ new.phase)) },
+  new_follows pages c new,
 )
 
 -- a pass that has learnt the history `log`, and what it was before
@@ -49,3 +51,9 @@ phase_is c t old new log log1 learns same is o r st =
     st.phase
     ∙ pass.phase_is t log1 new.mine new.slot (ap (λ (p : HeapPass). p.slot) learns ∙ is) (subst (λ l. Owned rank_of new.slot l new.mine) seen o) r
     ∙ ap (λ (p : HeapPass). marks p.mine) learns
+
+-- and it needs a full cycle where the events tell that were seen
+pub needs_is : {pages : ℕ} → (c : Contents) (t : HeapState) (old new : HeapPass) (log log1 : List Entry) → Learns old new log → log1 ≡ log → Reaches (Opens pages) StateStep log1 t → Stands c t → c.cycle.needs_full ≡ needs new.seen
+needs_is c t old new log log1 learns same r st =
+    let seen : new.seen ≡ log1 = ap (λ (p : HeapPass). p.seen) learns ∙ sym same in
+    st.needs ∙ need_is log1 t r ∙ ap needs (sym seen)

@@ -4,7 +4,7 @@ ghost use Rattle.heap_spec.specs.declared.event.Event.TheVariants.{Begin, Collec
 ghost use Rattle.heap_spec.specs.declared.reply.Reply.TheVariants.{Done, Count};
 ghost use Rattle.heap_core.specs.Contents.{Contents};
 ghost use Rattle.heap_history.specs.Passes.{is_marking};
-ghost use Rattle.heap_history.specs.Headline.{Extends, Looks, IsGrantedByOwnEvents};
+ghost use Rattle.heap_history.specs.Headline.{Extends, Looks, IsGrantedByOwnEvents, BeginsPartialByEvents};
 ghost use Rattle.shared.specs.Lending.{IsLent};
 
 use crate::heap::SharedHeap;
@@ -30,6 +30,29 @@ impl<J: Naming> SharedHeap<J> {
             return Err(Refusal::WrongPhase);
         }
         self.log.act(logged, &mut me.pass, &Event::Begin);
+        Ok(())
+    }
+
+    /// Begins a cycle with the marks of the last one.
+    ///
+    /// # Errors
+    /// [`Refusal::WrongPhase`] exactly while one is marking, which the collector's own events tell, and else
+    /// [`Refusal::NeedsFull`] exactly where a full cycle is needed, which all the events tell that the collector has then
+    /// seen.
+    pub fn begin_partial(&self, rt: &impl Wait, me: &mut Collector<J>) -> Result<(), Refusal>
+        ensures { BeginsPartialByEvents J.origin me.old result me.new }
+    {
+        let mut guard = self.lock.lock(rt);
+        let logged = &mut *guard;
+        self.log.learn(logged, &mut me.pass);
+        let core = logged.object();
+        if core.is_marking() {
+            return Err(Refusal::WrongPhase);
+        }
+        if core.needs_full() {
+            return Err(Refusal::NeedsFull);
+        }
+        self.log.act(logged, &mut me.pass, &Event::BeginPartial);
         Ok(())
     }
 

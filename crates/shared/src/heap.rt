@@ -2,11 +2,11 @@
 ghost use Rattle.std.specs.Prelude.{◌≡◌, [], MatchResult};
 ghost use Rattle.words.specs.declared.limits.TheConstants.{SLOTS};
 ghost use Rattle.words.specs.declared.refusal.Refusal.TheVariants.{NoSlot};
-ghost use Rattle.heap_history.specs.Headline.{Begun, Makes};
+ghost use Rattle.heap_history.specs.Headline.{Begun, Departs, Makes};
 ghost use Rattle.heap_history.specs.Replies.{IsReplyKind};
 ghost use Rattle.shared.specs.Calls.{IsNoDetach};
 
-use crate::tokens::{Collector, Mutator};
+use crate::tokens::{Collector, Departed, Mutator};
 use heap_core::Core;
 use heap_spec::{Call, Event, Reply};
 use history::{Log, Logged, Naming, Opened};
@@ -50,14 +50,23 @@ impl<J: Naming> SharedHeap<J> {
 
     /// A mutator's last call. Its slot is free from then on.
     pub fn detach(&self, rt: &impl Wait, me: Mutator<J>) {
+        self.depart(rt, me);
+    }
+
+    /// A mutator's last call, of which stays what the mutator had seen: those who hear it know all that it did. Its slot is
+    /// free from then on.
+    pub fn depart(&self, rt: &impl Wait, me: Mutator<J>) -> Departed<J>
+        ensures { Departs J.origin me result }
+    {
         let Mutator { slot, mut pass } = me;
         let mut guard = self.lock.lock(rt);
         let logged = &mut *guard;
         // The history says that the slot is attached, and the core stands for where it leads.
         self.log.learn(logged, &mut pass);
         let _object = logged.object();
-        self.log
-            .last(logged, pass, &Event::Mutator(slot, Call::Detach));
+        let detach = Event::Mutator(slot, Call::Detach);
+        let (past, _reply) = self.log.last(logged, pass, &detach);
+        Departed { slot, past }
     }
 
     /// A mutator's call, as a value.

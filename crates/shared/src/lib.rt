@@ -3,8 +3,8 @@
 //! that begins with all that the caller had seen and ends with the call.
 //!
 //! A call takes the lock, learns the history so far, and acts; what it learnt is how it knows that its slot is attached, and in which
-//! phase the heap is. `gc_no`, `gc_no_of`, `meet` and `meet_collector` take no lock and wait for nobody. After `open` no call takes
-//! memory, but for the helpers of `finish_with` and for what the caller's own work in `quiet` takes.
+//! phase the heap is. `gc_no`, `gc_no_of`, `meet`, `meet_collector`, `hear` and `hear_of` take no lock and wait for nobody. After `open`
+//! no call takes memory, but for the helpers of `finish_with` and for what the caller's own work in `quiet` takes.
 #![tactic(auto)]
 
 mod calls;
@@ -19,4 +19,4 @@ mod tokens;
 
 pub use heap::SharedHeap;
 pub use opening::open;
-pub use tokens::{Collector, Mutator};
+pub use tokens::{Collector, Departed, Mutator};

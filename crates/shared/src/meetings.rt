@@ -1,5 +1,6 @@
 //! The calls that take no lock and wait for nobody.
 ghost use Rattle.std.specs.Prelude.{◌≡◌, ◌≢◌, ◌%◌, ◌^◌, ◌⊎◌};
+ghost use mathlib.Core.List.{IsPrefix};
 ghost use Rattle.history.specs.Histories.{count, GrowsByOthers};
 ghost use Rattle.history.specs.Passes.{longer};
 ghost use Rattle.heap_history.specs.Ranks.{rank_of};
@@ -7,7 +8,7 @@ ghost use Rattle.heap_history.specs.Passes.{IsLegalPass};
 ghost use Rattle.heap_history.specs.Headline.{Looks};
 
 use crate::heap::SharedHeap;
-use crate::tokens::{Collector, Mutator};
+use crate::tokens::{Collector, Departed, Mutator};
 use history::Naming;
 
 impl<J: Naming> SharedHeap<J> {
@@ -48,5 +49,24 @@ impl<J: Naming> SharedHeap<J> {
         ensures collector_fine { IsLegalPass J.origin collector.new }
     {
         self.log.meet(&mut me.pass, &mut collector.pass);
+    }
+    /// The mutator has then seen all that the other had when it left.
+    pub fn hear(&self, me: &mut Mutator<J>, gone: &mut Departed<J>)
+        ensures one { GrowsByOthers me.old.slot me.old.seen gone.old.seen ⊎ IsPrefix gone.old.seen me.old.seen }
+        ensures me { me.new ≡ record { slot = me.old.slot; seen = longer me.old.seen gone.old.seen; mine = me.old.mine } }
+        ensures gone { gone.new ≡ gone.old }
+        ensures fine { IsLegalPass J.origin me.new }
+    {
+        self.log.hear(&mut me.pass, &mut gone.past);
+    }
+
+    /// The collector has then seen all that the mutator had when it left.
+    pub fn hear_of(&self, collector: &mut Collector<J>, gone: &mut Departed<J>)
+        ensures one { GrowsByOthers collector.old.slot collector.old.seen gone.old.seen ⊎ IsPrefix gone.old.seen collector.old.seen }
+        ensures collector { collector.new ≡ record { slot = collector.old.slot; seen = longer collector.old.seen gone.old.seen; mine = collector.old.mine } }
+        ensures gone { gone.new ≡ gone.old }
+        ensures fine { IsLegalPass J.origin collector.new }
+    {
+        self.log.hear(&mut collector.pass, &mut gone.past);
     }
 }

@@ -1,9 +1,9 @@
 //! What the holders of a shared heap hold. Contracts see each as its pass.
 ghost use Rattle.std.specs.Prelude.{◌≡◌};
-ghost use Rattle.heap_history.specs.Passes.{IsLegalPass};
+ghost use Rattle.heap_history.specs.Passes.{IsLegalPass, IsLegalPast};
 
 use heap_core::Core;
-use history::{Naming, Pass};
+use history::{Naming, Pass, Past};
 use std::marker::Model;
 use words::Slot;
 
@@ -49,6 +49,36 @@ impl<J: Naming> Mutator<J> {
         ensures fine { IsLegalPass J.origin self.now }
     {
         let _slot = self.pass.slot();
+        self.slot
+    }
+}
+
+/// What a mutator had seen when it left. It can make no call.
+#[derive(Drop)]
+pub struct Departed<J: Naming> {
+    pub(crate) slot: Slot,
+    pub(crate) past: Past<Core, J>,
+}
+
+impl<J: Naming> Model for Departed<J> {
+    ghost use Rattle.heap_history.specs.Passes.{HeapPass};
+    ghost use Rattle.shared.specs.Leaving.{IsPastOf};
+
+    ghost Value = { HeapPass };
+
+    ghost view = { λ d. d.past };
+
+    ghost invariant = { λ d. IsPastOf d.slot d.past };
+}
+
+impl<J: Naming> Departed<J> {
+    /// The slot that it had.
+    pub fn slot(&self) -> Slot
+        ensures slot { result ≡ self.now.slot }
+        // At any time what it had seen is legal, and its own events are exactly those of its slot in it, since its attach.
+        ensures fine { IsLegalPast J.origin self.now }
+    {
+        let _slot = self.past.slot();
         self.slot
     }
 }

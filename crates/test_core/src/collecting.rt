@@ -92,6 +92,7 @@ fn run(alloc: Global, plan: &Plan) -> Result<(u32, Cycle), Fail> {
 
 #[test]
 fn collector_among_random_calls(rt: HostRuntime) -> Result<(), Fail> {
+    let mut partial: u64 = 0;
     for plan in &PLANS {
         let (full, cycle) = run(rt.alloc(), plan)?;
         assert!(rt;
@@ -102,6 +103,8 @@ fn collector_among_random_calls(rt: HostRuntime) -> Result<(), Fail> {
             cycle.collections,
             cycle.swept
         );
+        partial = partial.wrapping_add(cycle.partial);
     }
+    assert!(rt; partial > 20, "{partial} partial cycles");
     Ok(())
 }

@@ -10,6 +10,8 @@ use words::{Refusal, Slot};
 
 const WRONG_PHASE: Reply = Reply::Refused(Refusal::WrongPhase);
 
+const NEEDS_FULL: Reply = Reply::Refused(Refusal::NeedsFull);
+
 /// A cycle, and what was made so far.
 #[derive(Drop)]
 pub(crate) struct Cycle {
@@ -21,6 +23,10 @@ pub(crate) struct Cycle {
 
     // Whether a number came to point into one of these since.
     is_found_again: bool,
+
+    // How many objects were born before the last collection.
+    old: u64,
+    pub(crate) partial: u64,
     pub(crate) collections: u64,
     pub(crate) forgotten: u64,
     pub(crate) swept: u64,
@@ -34,6 +40,8 @@ impl Cycle {
             is_marking: false,
             unreached: Vec::new(alloc),
             is_found_again: false,
+            old: 0,
+            partial: 0,
             collections: 0,
             forgotten: 0,
             swept: 0,
@@ -63,7 +71,7 @@ impl Cycle {
 
     fn begin(&mut self, pair: &mut Pair) -> Result<(), Fail> {
         let looker = Looker::new(pair)?;
-        look(pair, self.alloc, looker)?;
+        look(pair, self.alloc, looker, 0)?;
         let wanted = if self.is_marking {
             WRONG_PHASE
         } else {
@@ -73,6 +81,26 @@ impl Cycle {
         if self.is_marking {
             return Ok(());
         }
+        self.note_begun(pair)
+    }
+
+    // What is old, and what that leads to, may stay.
+    fn begin_partial(&mut self, pair: &mut Pair) -> Result<(), Fail> {
+        let looker = Looker::new(pair)?;
+        look(pair, self.alloc, looker, self.old)?;
+        let reply = pair.paged.act(Event::BeginPartial);
+        if self.is_marking {
+            return same(reply, WRONG_PHASE);
+        }
+        if reply == NEEDS_FULL {
+            return Ok(());
+        }
+        self.partial = self.partial.wrapping_add(1);
+        same(reply, Reply::Done)?;
+        self.note_begun(pair)
+    }
+
+    fn note_begun(&mut self, pair: &Pair) -> Result<(), Fail> {
         self.is_marking = true;
         self.is_found_again = false;
         let unreached = pair.twins.unreached(self.alloc)?;
@@ -135,7 +163,7 @@ impl Cycle {
             return same(pair.paged.act(Event::Finish), WRONG_PHASE);
         }
         let looker = Looker::new(pair)?;
-        look(pair, self.alloc, looker)?;
+        look(pair, self.alloc, looker, 0)?;
         let event = if is_full {
             Event::Collect
         } else {
@@ -144,6 +172,7 @@ impl Cycle {
         let reply = pair.paged.act(event);
         let gone = self.lose_all(pair, &looker, is_full)?;
         self.is_marking = false;
+        self.old = pair.twins.births();
         self.collections = self.collections.wrapping_add(1);
         self.forgotten = self.forgotten.wrapping_add(gone);
         same(reply, Reply::Count(gone))
@@ -179,6 +208,7 @@ impl Cycle {
     pub(crate) fn act(&mut self, pair: &mut Pair, event: Event) -> Result<(), Fail> {
         match event {
             Event::Begin => self.begin(pair),
+            Event::BeginPartial => self.begin_partial(pair),
             Event::Roots => self.roots(pair),
             Event::Mark(most) => self.marked(pair.paged.act(Event::Mark(most)), most),
             Event::Retrace => self.marked(pair.paged.act(Event::Retrace), 1),

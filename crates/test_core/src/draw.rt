@@ -1,7 +1,7 @@
 //! Random calls.
 use fixtures::Random;
 use heap_spec::{Call, Event};
-use words::limits::{FIRST_ADDRESS, PAGE_BYTES};
+use words::limits::{FIRST_ADDRESS, MAX_REQUEST_WORDS, PAGE_BYTES};
 use words::{Global, Kind, Reg, Slot};
 
 /// A source of calls.
@@ -52,7 +52,7 @@ impl Draw {
     fn request(&mut self) -> u64 {
         match self.random.below(40) {
             0 => 0,
-            1 => 16_385 + self.random.below(1_000),
+            1 => MAX_REQUEST_WORDS + 1 + self.random.below(1_000),
             2..=4 => 257 + self.random.below(2_000),
             5..=10 => 1 + self.random.below(256),
             11..=24 => 30,
@@ -126,7 +126,8 @@ impl Draw {
             return None;
         }
         let event = match self.random.below(24) {
-            0..=5 => Event::Begin,
+            0..=3 => Event::Begin,
+            4..=5 => Event::BeginPartial,
             6..=8 => Event::Roots,
             9..=13 => Event::Mark(self.random.below(60)),
             14..=16 => Event::Retrace,

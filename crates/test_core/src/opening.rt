@@ -5,7 +5,7 @@ use heap_spec::{Call, Reply};
 use std::alloc::Global;
 use std::process::Abort;
 use std::test::Fail;
-use words::limits::PAGE_WORDS;
+use words::limits::{MAX_PAGES, PAGE_WORDS};
 use words::{Kind, OpenError};
 
 // A heap of so many pages has room for one object of a page on each, and for no more.
@@ -30,7 +30,7 @@ fn opens_with(rt: &impl Abort, alloc: Global, pages: u32) -> Result<(), Fail> {
 
 #[test]
 fn heaps_open_with_their_pages(rt: HostRuntime) -> Result<(), Fail> {
-    for pages in [1, 2, 31, 1_024] {
+    for pages in [1, 2, 31, MAX_PAGES] {
         opens_with(&rt, rt.alloc(), pages)?;
     }
     Ok(())
@@ -43,7 +43,7 @@ fn refusal(alloc: Global, pages: u32) -> Option<OpenError> {
 
 #[test]
 fn heaps_of_no_or_too_many_pages_are_refused(rt: HostRuntime) {
-    for pages in [0, 1_025, u32::MAX] {
+    for pages in [0, MAX_PAGES + 1, u32::MAX] {
         let refused = refusal(rt.alloc(), pages);
         assert_eq!(rt; refused, Some(OpenError::BadPages), "{pages} pages");
     }

@@ -7,6 +7,7 @@ use plain_core::Core;
 use std::alloc;
 use std::process::Abort;
 use std::test::Fail;
+use words::limits::{MAX_PAGES, MAX_REQUEST_WORDS};
 use words::{Global, Kind, OpenError, Refusal, Reg, Slot};
 
 // Each of these has a function of its own: what a call promises isn't carried on to the next.
@@ -51,7 +52,7 @@ fn run_first(rt: &impl Abort, core: &mut Core) -> Result<(), Fail> {
             Call::Alloc(r1, 0, Kind::Normal),
             Reply::Refused(Refusal::BadSize),
         ),
-        (Call::Alloc(r1, 16384, Kind::Normal), FULL),
+        (Call::Alloc(r1, MAX_REQUEST_WORDS, Kind::Normal), FULL),
         (Call::Alloc(r1, 1025, Kind::Normal), Reply::Done),
         (Call::Alloc(r1, 257, Kind::Normal), FULL),
         (Call::Detach, Reply::Done),
@@ -76,9 +77,9 @@ fn refusal(alloc: alloc::Global, pages: u32) -> Option<OpenError> {
 fn pages_are_one_to_the_limit(rt: HostRuntime) {
     for (pages, wanted) in [
         (0, Some(OpenError::BadPages)),
-        (1025, Some(OpenError::BadPages)),
+        (MAX_PAGES + 1, Some(OpenError::BadPages)),
         (1, None),
-        (1024, None),
+        (MAX_PAGES, None),
     ] {
         let refused = refusal(rt.alloc(), pages);
         assert_eq!(rt; refused, wanted, "{pages} pages");

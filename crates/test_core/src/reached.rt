@@ -110,11 +110,17 @@ fn root_words(core: &mut Core, looker: Looker, words: &mut Vec<u64>) -> Result<(
     global_words(core, looker, words)
 }
 
-/// Finds out which objects are reached.
-pub(crate) fn look(pair: &mut Pair, alloc: alloc::Global, looker: Looker) -> Result<(), Fail> {
+/// Finds out which objects roots lead to, or the objects that were born before another.
+pub(crate) fn look(
+    pair: &mut Pair,
+    alloc: alloc::Global,
+    looker: Looker,
+    before: u64,
+) -> Result<(), Fail> {
     let mut words = Vec::new(alloc);
     pair.twins.forget_reached();
     root_words(&mut pair.paged, looker, &mut words)?;
+    pair.twins.push_bases(before, &mut words)?;
     for _ in 0..u32::MAX {
         let Some(word) = words.pop() else {
             return Ok(());

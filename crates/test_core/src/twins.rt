@@ -77,6 +77,21 @@ impl Twins {
         true
     }
 
+    /// How many objects there were so far.
+    pub(crate) fn births(&self) -> u64 {
+        self.births
+    }
+
+    /// Puts the bases in the paged heap of the objects that were born before another behind these words.
+    pub(crate) fn push_bases(&self, before: u64, words: &mut Vec<u64>) -> Result<(), AllocError> {
+        for twin in &self.live {
+            if twin.birth < before {
+                words.push(twin.paged)?;
+            }
+        }
+        Ok(())
+    }
+
     /// The differences between bases of one object, each once.
     pub(crate) fn shifts(&self) -> usize {
         self.shifts.len()

@@ -132,6 +132,7 @@ fn deny_ranges(replayer: &mut Replayer, event: &Event) -> Result<(), Fail> {
         Event::Attach
         | Event::Mutator(_, _)
         | Event::Begin
+        | Event::BeginPartial
         | Event::Roots
         | Event::Finish
         | Event::Collect
@@ -230,7 +231,8 @@ fn deny_forgotten(replayer: &mut Replayer, bases: &[u64]) -> Result<(), Fail> {
     for event in [Event::Finish, Event::Collect] {
         deny(replayer, &event, Reply::Count(1), Hint::Forgot(bases))?;
     }
-    deny(replayer, &Event::Begin, Reply::Done, Hint::Nothing)
+    deny(replayer, &Event::Begin, Reply::Done, Hint::Nothing)?;
+    deny(replayer, &Event::BeginPartial, Reply::Done, Hint::Nothing)
 }
 
 // An object that roots reach is forgotten by no collection, and the order of two lines matters.

@@ -2,7 +2,11 @@
 #![tactic(auto)]
 
 #[cfg(test)]
+mod answers;
+#[cfg(test)]
 mod changes;
+#[cfg(test)]
+mod linking;
 #[cfg(test)]
 mod orders;
 #[cfg(test)]

@@ -18,7 +18,7 @@ struct Row {
     breaks: &'static str,
 }
 
-const ROWS: [Row; 9] = [
+const ROWS: [Row; 13] = [
     // What is dead when the cycle begins is forgotten.
     Row {
         lines: &["0 set 1 0 => ok", "gc begin => ok"],
@@ -100,6 +100,53 @@ const ROWS: [Row; 9] = [
         legal: "gc finish => 2 - 268435456 268435472",
         breaks: "gc finish => 0 -",
     },
+    // A partial cycle forgets what is dead of the new objects; what is dead of the old ones it may keep.
+    Row {
+        lines: &[
+            "gc collect => 0",
+            "0 alloc 3 2 normal => ok @ 268435488",
+            "0 set 3 0 => ok",
+            "0 set 1 0 => ok",
+            "gc partial => ok",
+        ],
+        legal: "gc finish => 1 - 268435488",
+        breaks: "gc finish => 2 - 268435456 268435472",
+    },
+    // And may forget.
+    Row {
+        lines: &["gc collect => 0", "0 set 1 0 => ok", "gc partial => ok"],
+        legal: "gc finish => 2 - 268435456 268435472",
+        breaks: "gc finish => 1 - 268435488",
+    },
+    // A new object may stay to which a dead old one leads.
+    Row {
+        lines: &[
+            "gc collect => 0",
+            "0 alloc 3 2 normal => ok @ 268435488",
+            "0 store 1 1 3 => ok",
+            "0 set 3 0 => ok",
+            "0 set 1 0 => ok",
+            "gc partial => ok",
+        ],
+        legal: "gc finish => 0 -",
+        breaks: "gc finish => 0 - 268435488",
+    },
+    // What was allocated before the end of the last cycle is old, and what took a freed object's place is new.
+    Row {
+        lines: &[
+            "gc begin => ok",
+            "0 alloc 3 2 normal => ok @ 268435488",
+            "gc finish => 0 -",
+            "0 free 3 => ok",
+            "gc collect => 0",
+            "0 alloc 3 2 normal => ok @ 268435488",
+            "0 set 3 0 => ok",
+            "0 set 1 0 => ok",
+            "gc partial => ok",
+        ],
+        legal: "gc finish => 1 - 268435488",
+        breaks: "gc finish => 0 -",
+    },
 ];
 
 // What is said of the opening, the lines of a row, and a last line.
@@ -111,18 +158,18 @@ fn said(alloc: Global, row: &Row, last: &str) -> Result<Verdict, Fail> {
     }
     text.push_str(last)?;
     text.push_str("\n")?;
-    let verdict = judge(alloc, 1, text.as_str()).ok().ok_or("a verdict")?;
-    Ok(verdict)
+    let said = judge(alloc, 1, text.as_str()).ok().ok_or("a verdict")?;
+    Ok(said.verdict)
 }
 
 fn check_row(rt: &impl Abort, alloc: Global, row: &Row) -> Result<(), Fail> {
+    let line = NEXT + row.lines.len() as u64;
     assert_eq!(rt;
         said(alloc, row, row.legal)?,
-        Verdict::Legal,
+        Verdict::Legal(line),
         "{}",
         row.legal
     );
-    let line = NEXT + row.lines.len() as u64;
     assert_eq!(rt;
         said(alloc, row, row.breaks)?,
         Verdict::Breaks(line, Rule::Forgotten),

@@ -19,7 +19,7 @@ struct Row {
     keeps: &'static str,
 }
 
-const ROWS: [Row; 16] = [
+const ROWS: [Row; 17] = [
     Row {
         rule: Rule::Attach,
         words: "a mutator gets the lowest free slot, and is refused if there is none",
@@ -87,6 +87,12 @@ const ROWS: [Row; 16] = [
         keeps: "gc begin => refused 9 WrongPhase",
     },
     Row {
+        rule: Rule::BeginPartial,
+        words: "a cycle begins with the marks of the last one exactly while none is marking and no full cycle is needed first",
+        breaks: "gc partial => refused 12 NeedsFull",
+        keeps: "gc partial => refused 9 WrongPhase",
+    },
+    Row {
         rule: Rule::SmallStep,
         words: "the small steps of a cycle are granted exactly while one is marking, and answer within their range",
         breaks: "gc mark 2 => 3",
@@ -135,13 +141,18 @@ const BROKEN: [&str; 10] = [
 // What is said of the opening and more lines.
 fn said(alloc: Global, lines: &str) -> Result<Verdict, Fail> {
     let text = format!(in alloc; "{OPENING}{lines}")?;
-    let verdict = judge(alloc, 1, text.as_str()).ok().ok_or("a verdict")?;
-    Ok(verdict)
+    let said = judge(alloc, 1, text.as_str()).ok().ok_or("a verdict")?;
+    Ok(said.verdict)
 }
 
 fn check_row(rt: &impl Abort, alloc: Global, row: &Row) -> Result<(), Fail> {
     assert_eq!(rt; row.rule.text(), row.words);
-    assert_eq!(rt; said(alloc, row.keeps)?, Verdict::Legal, "{}", row.keeps);
+    assert_eq!(rt;
+        said(alloc, row.keeps)?,
+        Verdict::Legal(NEXT),
+        "{}",
+        row.keeps
+    );
     let broken = said(alloc, row.breaks)?;
     assert_eq!(rt; broken, Verdict::Breaks(NEXT, row.rule), "{}", row.breaks);
     Ok(())
@@ -175,11 +186,55 @@ fn check_first(rt: &impl Abort, alloc: Global) -> Result<(), Fail> {
     let breaks = said(alloc, "gc no => 0\ngc no => 1\ngc no\n")?;
     assert_eq!(rt; breaks, Verdict::Breaks(NEXT + 1, Rule::Number));
     assert_eq!(rt; said(alloc, "gc no\ngc no => 1\n")?, Verdict::Bad(NEXT));
-    assert_eq!(rt; said(alloc, "")?, Verdict::Legal);
+    assert_eq!(rt; said(alloc, "")?, Verdict::Legal(NEXT - 1));
     Ok(())
 }
 
 #[test]
 fn the_first_fault_is_told(rt: HostRuntime) -> Result<(), Fail> {
     check_first(&rt, rt.alloc())
+}
+
+// What is said of a text, on one page.
+fn said_of(alloc: Global, text: &str) -> Result<Verdict, Fail> {
+    let said = judge(alloc, 1, text).ok().ok_or("a verdict")?;
+    Ok(said.verdict)
+}
+
+// Comments are counted as lines of the text, and not as lines that are told.
+fn check_comments(rt: &impl Abort, alloc: Global) -> Result<(), Fail> {
+    let opens = "# a run\nattach => mutator 0\n#\n";
+    assert_eq!(rt; said_of(alloc, opens)?, Verdict::Legal(1));
+    let breaks = format!(in alloc; "{opens}gc no => 1\n")?;
+    assert_eq!(rt;
+        said_of(alloc, breaks.as_str())?,
+        Verdict::Breaks(4, Rule::Number)
+    );
+    let indented = format!(in alloc; "{opens} # gc no => 0\n")?;
+    assert_eq!(rt; said_of(alloc, indented.as_str())?, Verdict::Bad(4));
+    assert_eq!(rt; said_of(alloc, "gc no => 0 # none\n")?, Verdict::Bad(1));
+    assert_eq!(rt;
+        said_of(alloc, "# gc no => 1\ngc no => 0")?,
+        Verdict::Legal(1)
+    );
+    Ok(())
+}
+
+#[test]
+fn comments_tell_nothing(rt: HostRuntime) -> Result<(), Fail> {
+    check_comments(&rt, rt.alloc())
+}
+
+// A text of comments alone, or of nothing, has no line.
+fn check_no_lines(rt: &impl Abort, alloc: Global) -> Result<(), Fail> {
+    for text in ["", "#", "# a run\n", "#\n#\n"] {
+        assert_eq!(rt; said_of(alloc, text)?, Verdict::NoLines, "{text}");
+    }
+    assert_eq!(rt; said_of(alloc, "\n")?, Verdict::Bad(1));
+    Ok(())
+}
+
+#[test]
+fn a_text_without_lines_is_not_legal(rt: HostRuntime) -> Result<(), Fail> {
+    check_no_lines(&rt, rt.alloc())
 }

@@ -9,6 +9,8 @@ mod attached;
 #[cfg(test)]
 mod cycles;
 #[cfg(test)]
+mod departed;
+#[cfg(test)]
 mod helped;
 #[cfg(test)]
 mod register;

@@ -10,8 +10,14 @@ use std::marker::Brand;
 use std::process::Abort;
 use std::sync::Wait;
 use std::test::Fail;
-use words::limits::FIRST_ADDRESS;
+use words::limits::{FIRST_ADDRESS, PAGE_BYTES};
 use words::{Kind, Refusal, Slot};
+
+// The pages of each row's heap.
+const PAGES: u32 = 4;
+
+// The address at which it ends.
+const END: u64 = FIRST_ADDRESS + PAGES as u64 * PAGE_BYTES;
 
 // What a command is to be answered.
 #[derive(Clone, Copy)]
@@ -25,7 +31,8 @@ impl Wanted {
     fn fits(self, reply: Reply) -> bool {
         match self {
             Wanted::Is(wanted) => reply == wanted,
-            Wanted::Pointer => matches!(reply, Reply::Word(word) if word >= FIRST_ADDRESS),
+            Wanted::Pointer =>
+                matches!(reply, Reply::Word(word) if word >= FIRST_ADDRESS && word < END),
         }
     }
 }
@@ -33,6 +40,8 @@ impl Wanted {
 const OK: Wanted = Wanted::Is(Reply::Done);
 
 const WRONG_PHASE: Wanted = Wanted::Is(Reply::Refused(Refusal::WrongPhase));
+
+const NEEDS_FULL: Wanted = Wanted::Is(Reply::Refused(Refusal::NeedsFull));
 
 fn count(number: u64) -> Wanted {
     Wanted::Is(Reply::Count(number))
@@ -154,8 +163,30 @@ fn no_small_step(slot: Slot) -> [(Event, Wanted); 23] {
     ]
 }
 
+// A cycle with the marks of the last one reads the old object that was stored to, and takes the new one that nothing leads to;
+// after a free there is none.
+fn partial_cycle(slot: Slot) -> [(Event, Wanted); 14] {
+    let (old, young, lost) = (reg(1), reg(2), reg(3));
+    [
+        (call(slot, Call::Alloc(old, 2, Kind::Normal)), OK),
+        (Event::BeginPartial, NEEDS_FULL),
+        (Event::Collect, count(0)),
+        (call(slot, Call::Alloc(young, 2, Kind::Normal)), OK),
+        (call(slot, Call::Store(old, 0, young)), OK),
+        (call(slot, Call::Set(young, 0)), OK),
+        (call(slot, Call::Alloc(lost, 4, Kind::Normal)), OK),
+        (call(slot, Call::Set(lost, 0)), OK),
+        (Event::BeginPartial, OK),
+        (Event::Retrace, count(1)),
+        (Event::Finish, count(1)),
+        (call(slot, Call::Load(young, old, 0)), Wanted::Pointer),
+        (call(slot, Call::Free(young)), OK),
+        (Event::BeginPartial, NEEDS_FULL),
+    ]
+}
+
 // Each call of the collector in the wrong phase, which is no event, and collections that are counted.
-fn wrong_phases() -> [(Event, Wanted); 11] {
+fn wrong_phases() -> [(Event, Wanted); 14] {
     [
         (Event::Finish, WRONG_PHASE),
         (Event::Roots, WRONG_PHASE),
@@ -163,18 +194,21 @@ fn wrong_phases() -> [(Event, Wanted); 11] {
         (Event::Retrace, WRONG_PHASE),
         (Event::Number, count(0)),
         (Event::Collect, count(0)),
+        (Event::BeginPartial, OK),
+        (Event::BeginPartial, WRONG_PHASE),
+        (Event::Finish, count(0)),
         (Event::Begin, OK),
         (Event::Begin, WRONG_PHASE),
         (Event::Finish, count(0)),
         (Event::Finish, WRONG_PHASE),
-        (Event::Number, count(2)),
+        (Event::Number, count(3)),
     ]
 }
 
 #[test]
 fn the_hidden_pointer_stays(rt: HostRuntime) -> Result<(), Fail> {
     let slot = Slot::new(0).ok_or("a slot")?;
-    let opened = open(rt.alloc(), 4).ok().ok_or("a heap")?;
+    let opened = open(rt.alloc(), PAGES).ok().ok_or("a heap")?;
     check::<Brand, _>(&rt, opened, &hidden_pointer(slot));
     Ok(())
 }
@@ -182,7 +216,7 @@ fn the_hidden_pointer_stays(rt: HostRuntime) -> Result<(), Fail> {
 #[test]
 fn a_page_is_read_again(rt: HostRuntime) -> Result<(), Fail> {
     let slot = Slot::new(0).ok_or("a slot")?;
-    let opened = open(rt.alloc(), 4).ok().ok_or("a heap")?;
+    let opened = open(rt.alloc(), PAGES).ok().ok_or("a heap")?;
     check::<Brand, _>(&rt, opened, &page_read_again(slot));
     Ok(())
 }
@@ -190,7 +224,7 @@ fn a_page_is_read_again(rt: HostRuntime) -> Result<(), Fail> {
 #[test]
 fn pages_are_swept(rt: HostRuntime) -> Result<(), Fail> {
     let slot = Slot::new(0).ok_or("a slot")?;
-    let opened = open(rt.alloc(), 4).ok().ok_or("a heap")?;
+    let opened = open(rt.alloc(), PAGES).ok().ok_or("a heap")?;
     check::<Brand, _>(&rt, opened, &pages_swept(slot));
     Ok(())
 }
@@ -198,14 +232,22 @@ fn pages_are_swept(rt: HostRuntime) -> Result<(), Fail> {
 #[test]
 fn a_call_does_no_small_step(rt: HostRuntime) -> Result<(), Fail> {
     let slot = Slot::new(0).ok_or("a slot")?;
-    let opened = open(rt.alloc(), 4).ok().ok_or("a heap")?;
+    let opened = open(rt.alloc(), PAGES).ok().ok_or("a heap")?;
     check::<Brand, _>(&rt, opened, &no_small_step(slot));
     Ok(())
 }
 
 #[test]
+fn a_partial_cycle_keeps_marks(rt: HostRuntime) -> Result<(), Fail> {
+    let slot = Slot::new(0).ok_or("a slot")?;
+    let opened = open(rt.alloc(), PAGES).ok().ok_or("a heap")?;
+    check::<Brand, _>(&rt, opened, &partial_cycle(slot));
+    Ok(())
+}
+
+#[test]
 fn wrong_phases_are_refused(rt: HostRuntime) -> Result<(), Fail> {
-    let opened = open(rt.alloc(), 4).ok().ok_or("a heap")?;
+    let opened = open(rt.alloc(), PAGES).ok().ok_or("a heap")?;
     check::<Brand, _>(&rt, opened, &wrong_phases());
     Ok(())
 }

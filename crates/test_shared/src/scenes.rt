@@ -8,6 +8,7 @@ use std::marker::Brand;
 use std::process::Abort;
 use std::sync::Wait;
 use std::test::Fail;
+use words::limits::MAX_PAGES;
 use words::{OpenError, Reg};
 
 // Two at a time, of which one makes a call before the other comes. All but the first come while a cycle is marking.
@@ -86,7 +87,7 @@ fn a_refused_open_can_be_made_again(rt: HostRuntime) -> Result<(), Fail> {
 
 #[test]
 fn no_page_and_too_many_are_refused(rt: HostRuntime) {
-    for pages in [0, 1025] {
+    for pages in [0, MAX_PAGES + 1] {
         let refused = open(rt.alloc(), pages).err();
         assert_eq!(rt; refused, Some(OpenError::BadPages), "{pages} pages");
     }

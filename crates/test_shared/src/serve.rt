@@ -59,6 +59,7 @@ pub fn serve<J: Naming>(
         Event::Attach => Reply::Slot(me.slot()),
         Event::Mutator(_, call) => serve_call(rt, heap, me, call),
         Event::Begin => done(heap.begin(rt, collector)),
+        Event::BeginPartial => done(heap.begin_partial(rt, collector)),
         Event::Roots => done(heap.quiet(rt, collector, &mut Roots)),
         Event::Mark(most) => count(heap.quiet(rt, collector, &mut Mark(most))),
         Event::Retrace => count(heap.quiet(rt, collector, &mut Retrace)),

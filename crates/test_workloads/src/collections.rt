@@ -10,7 +10,7 @@ pub const HIDDEN_POINTER_REPLIES: &str =
     "mutator 0\nok\nok\nok\nok\nok\nok\nok\nok\nok\n2\nptr\nok\nok\nok\n0\nptr\n77\n";
 
 /// Rows of full collections, cycles and sweeps.
-pub const COLLECTIONS: [Row; 22] = [
+pub const COLLECTIONS: [Row; 23] = [
     Row {
         name: "pointer_free_holder",
         pages: 4,
@@ -130,6 +130,12 @@ pub const COLLECTIONS: [Row; 22] = [
         pages: 4,
         script: "attach\n0 alloc 1 2 normal\n0 alloc 2 4 normal\n0 set 1 0\n0 set 2 0\ngc begin\ngc finish\n0 alloc 1 2 normal\ngc sweep\ngc sweep\n",
         replies: "mutator 0\nok\nok\nok\nok\nok\n2\nok\n1\n0\n",
+    },
+    Row {
+        name: "swept_page_comes_first",
+        pages: 4,
+        script: "attach\n0 alloc 1 256 normal\n0 alloc 2 256 normal\n0 alloc 3 256 normal\n0 alloc 4 256 normal\n0 free 4\n0 set 4 0\n0 set 2 0\ngc begin\ngc finish\n0 alloc 5 256 normal\ngc sweep\ngc sweep\n",
+        replies: "mutator 0\nok\nok\nok\nok\nok\nok\nok\nok\n1\nok\n1\n0\n",
     },
     Row {
         name: "cut_again_under_the_marker",

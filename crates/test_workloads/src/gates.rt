@@ -4,18 +4,23 @@ use final_pause::{COLLECTOR_ACTOR, FIRST_HELPER, Gate};
 use std::sync::atomic::{AtomicU64, Ordering};
 use std::thread;
 
-// How often an actor looks for the others before it gives up.
-const TURNS: u64 = 10_000_000;
+/// How often an actor looks for the others before it gives up.
+pub const TURNS: u64 = 10_000_000;
 
-// Waits until as many have come as are awaited, or notes that it gave up.
-fn await_all(there: &AtomicU64, awaited: u64, missed: &AtomicU64) {
-    for _ in 0..TURNS {
+// Waits until as many have come as are awaited, or notes that it gave up after so many turns.
+fn await_for(turns: u64, there: &AtomicU64, awaited: u64, missed: &AtomicU64) {
+    for _ in 0..turns {
         if there.load(Ordering::SeqCst) >= awaited {
             return;
         }
         thread::yield_now();
     }
     missed.fetch_add(1, Ordering::SeqCst);
+}
+
+// The same, after the most turns.
+fn await_all(there: &AtomicU64, awaited: u64, missed: &AtomicU64) {
+    await_for(TURNS, there, awaited, missed);
 }
 
 /// Counts the calls that began and those that ended.
@@ -110,11 +115,12 @@ impl Gate for TwoThreads {
     }
 }
 
-/// A cycle between two calls of mutator 0: it begins after the fourth call and has ended before the fifth. Helpers that claim meet before
-/// their first claims.
+/// A cycle between two calls of mutator 0: it begins after the fourth call and has ended before the fifth, if it ends within so many turns
+/// of the mutator's. Helpers that claim meet before their first claims.
 #[derive(Drop)]
 pub struct HeldPause {
     pub claimers: u64,
+    pub turns: u64,
     pub claiming: AtomicU64,
     pub made: AtomicU64,
     pub ended: AtomicU64,
@@ -122,9 +128,10 @@ pub struct HeldPause {
 }
 
 impl HeldPause {
-    pub fn new(claimers: u64) -> HeldPause {
+    pub fn new(claimers: u64, turns: u64) -> HeldPause {
         HeldPause {
             claimers,
+            turns,
             claiming: AtomicU64::new(0),
             made: AtomicU64::new(0),
             ended: AtomicU64::new(0),
@@ -136,7 +143,7 @@ impl HeldPause {
 impl Gate for HeldPause {
     fn before(&self, actor: u8, call: u32) {
         match (actor, call) {
-            (0, 4) => await_all(&self.ended, 1, &self.missed),
+            (0, 4) => await_for(self.turns, &self.ended, 1, &self.missed),
             (COLLECTOR_ACTOR, 0) => await_all(&self.made, 1, &self.missed),
             (FIRST_HELPER.., 0) => {
                 self.claiming.fetch_add(1, Ordering::SeqCst);

@@ -67,11 +67,8 @@ pub(crate) fn drop_roots(core: &mut Core) -> Result<(), Fail> {
     run(core, b"0 detach\n1 detach\n2 detach\n")
 }
 
-// The helped core has nothing left to read, and its marks alone keep what the other one keeps.
-fn compare(rt: &impl Abort, helped: &mut Core, alone: &mut Core) -> Result<(), Fail> {
-    assert_eq!(rt; ask(helped, Event::Mark(u64::MAX)), Reply::Count(0));
-    assert_eq!(rt; ask(helped, Event::Retrace), Reply::Count(0));
-    drop_roots(helped)?;
+// Both end their cycles, and keep the same.
+fn end_alike(rt: &impl Abort, helped: &mut Core, alone: &mut Core) {
     assert_eq!(rt; ask(helped, Event::Finish), ask(alone, Event::Finish));
     for granule in 0..PAGE_GRANULES * u64::from(PAGES) {
         let address = FIRST_ADDRESS + GRANULE_BYTES * granule;
@@ -80,6 +77,14 @@ fn compare(rt: &impl Abort, helped: &mut Core, alone: &mut Core) -> Result<(), F
             "at {address}"
         );
     }
+}
+
+// The helped core has nothing left to read, and its marks alone keep what the other one keeps.
+fn compare(rt: &impl Abort, helped: &mut Core, alone: &mut Core) -> Result<(), Fail> {
+    assert_eq!(rt; ask(helped, Event::Mark(u64::MAX)), Reply::Count(0));
+    assert_eq!(rt; ask(helped, Event::Retrace), Reply::Count(0));
+    drop_roots(helped)?;
+    end_alike(rt, helped, alone);
     Ok(())
 }
 
@@ -130,6 +135,61 @@ fn draw(alloc: Global, seed: u64) -> Result<Vec<u8>, Fail> {
         .ok_or("a script")?;
     text.extend_from_slice(MARKING.as_bytes())?;
     Ok(text)
+}
+
+// New objects to which old ones lead, and new ones to which nothing does.
+const LATER: &str =
+    "0 alloc 4 2 normal\n0 store 5 0 4\n0 alloc 6 4 normal\n0 store 4 1 6\n0 set 6 0\n0 set 4 0\n1 alloc 2 2 normal\n1 set 2 0\n1 alloc 3 8 normal\n1 store 1 0 3\n2 copy 1 2\n";
+
+// A cycle begins with the marks that the last one left.
+fn begin_partial(rt: &impl Abort, core: &mut Core) -> Result<(), Fail> {
+    run(core, LATER.as_bytes())?;
+    assert_eq!(rt; ask(core, Event::BeginPartial), Reply::Done);
+    Ok(())
+}
+
+// Two cycles of one core end with so many helpers, and those of the other alone; the second is partial.
+fn check_partial(
+    rt: &(impl Abort + Threads + Wait + Sync),
+    alloc: Global,
+    helped: &mut Core,
+    alone: &mut Core,
+    text: &[u8],
+    helpers: Helpers,
+) -> Result<(), Fail> {
+    run(helped, text)?;
+    run(alone, text)?;
+    assert_eq!(rt; close_with(rt, alloc, helped, helpers), Ok(()));
+    end_alike(rt, helped, alone);
+    begin_partial(rt, helped)?;
+    begin_partial(rt, alone)?;
+    assert_eq!(rt; close_with(rt, alloc, helped, helpers), Ok(()));
+    end_alike(rt, helped, alone);
+    Ok(())
+}
+
+fn check_new_partial(
+    rt: &(impl Abort + Threads + Wait + Sync),
+    alloc: Global,
+    text: &[u8],
+    number: u8,
+) -> Result<(), Fail> {
+    let mut helped = Core::new(alloc, PAGES).ok().ok_or("a core")?;
+    let mut alone = Core::new(alloc, PAGES).ok().ok_or("a core")?;
+    let helpers = Helpers::new(number).ok_or("a number of helpers")?;
+    check_partial(rt, alloc, &mut helped, &mut alone, text, helpers)
+}
+
+// By one, two and eight helpers.
+#[test]
+fn partial_cycles_after_helpers_keep_the_same(rt: HostRuntime) -> Result<(), Fail> {
+    for seed in 1..=SEEDS {
+        let text = draw(rt.alloc(), seed)?;
+        for number in [1, 2, MAX_HELPERS] {
+            check_new_partial(&rt, rt.alloc(), text.as_slice(), number)?;
+        }
+    }
+    Ok(())
 }
 
 #[test]

@@ -23,11 +23,15 @@ mod linking;
 #[cfg(test)]
 mod overflow;
 #[cfg(test)]
+mod partial_cycles;
+#[cfg(test)]
 mod pause;
 #[cfg(test)]
 mod possible;
 #[cfg(test)]
 mod printed;
+#[cfg(test)]
+mod raced_links;
 #[cfg(test)]
 mod random;
 #[cfg(test)]

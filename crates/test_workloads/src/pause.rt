@@ -1,7 +1,7 @@
 //! A cycle that runs while a mutator is held back, ended with helpers that meet, and memory that is refused then.
 
 use crate::fakes::Taken;
-use crate::gates::HeldPause;
+use crate::gates::{HeldPause, TURNS};
 use crate::runs::{Setting, run};
 use scripts::ScriptError;
 use std::alloc::Global;
@@ -26,7 +26,7 @@ fn check_pause<R: Threads + Wait + Abort + Sync>(
     output: &mut Taken,
 ) {
     let (helpers, claimers) = numbers;
-    let gate = HeldPause::new(claimers);
+    let gate = HeldPause::new(claimers, TURNS);
     let setting = Setting {
         pages: PAGES,
         helpers,
@@ -49,13 +49,17 @@ fn parallel_pause(rt: HostRuntime) -> Result<(), Fail> {
     Ok(())
 }
 
+// How often the mutator looks for the cycle's end where memory is refused: the collector may not be there, and no reply of the row
+// depends on it.
+const FEW_TURNS: u64 = 1_000;
+
 // The row, with two helpers that don't wait for each other.
 fn run_row<R: Threads + Wait + Abort + Sync>(
     rt: &R,
     alloc: Global,
     output: &mut Taken,
 ) -> Result<(), ScriptError> {
-    let gate = HeldPause::new(0);
+    let gate = HeldPause::new(0, FEW_TURNS);
     let setting = Setting {
         pages: PAGES,
         helpers: 2,

@@ -115,10 +115,14 @@ impl Told {
         line == "ok"
     }
 
+    fn begin_partial(&mut self, line: &str) -> bool {
+        line == "refused 12 NeedsFull" || self.begin(line)
+    }
+
     // Whether a command is refused in this phase.
     fn is_refused(&self, command: &Event) -> bool {
         match command {
-            Event::Begin => self.is_marking,
+            Event::Begin | Event::BeginPartial => self.is_marking,
             Event::Roots | Event::Mark(_) | Event::Retrace | Event::Finish => !self.is_marking,
             Event::Sweep | Event::Collect | Event::Number => false,
             Event::Attach | Event::Mutator(_, _) => false,
@@ -132,6 +136,7 @@ impl Told {
         }
         match command {
             Event::Begin => self.begin(line),
+            Event::BeginPartial => self.begin_partial(line),
             Event::Roots => line == "ok",
             Event::Mark(most) => is_count(line, most),
             Event::Retrace | Event::Sweep => is_count(line, 1),

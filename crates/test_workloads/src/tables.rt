@@ -19,7 +19,7 @@ pub struct Repeated {
 }
 
 /// Rows of every part.
-pub const ROWS: [Row; 13] = [
+pub const ROWS: [Row; 15] = [
     Row {
         name: "empty_input",
         pages: 4,
@@ -36,7 +36,7 @@ pub const ROWS: [Row; 13] = [
         name: "request_sizes",
         pages: 4,
         script: "attach\n0 alloc 1 256 normal\n0 size 1\n0 alloc 2 257 normal\n0 size 2\n0 alloc 3 0 normal\n0 alloc 3 16385 normal\n",
-        replies: "mutator 0\nok\n256\nok\n512\nrefused 5 BadSize\nrefused 5 BadSize\n",
+        replies: "mutator 0\nok\n256\nok\n512\nrefused 5 BadSize\nrefused 6 Full\n",
     },
     Row {
         name: "page_stays_cut",
@@ -73,6 +73,18 @@ pub const ROWS: [Row; 13] = [
         pages: 4,
         script: "attach\n0 set 1 268435456\n0 get 1\n0 set 1 268451840\n0 get 1\n0 load 2 1 0\n",
         replies: "mutator 0\nok\nptr\nok\n268451840\nrefused 3 NoObject\n",
+    },
+    Row {
+        name: "largest_object_with_larger_limits",
+        pages: 128,
+        script: "attach\n0 alloc 1 65536 atomic\n0 size 1\n0 alloc 2 1 normal\n0 alloc 2 65537 normal\n",
+        replies: "mutator 0\nok\n65536\nrefused 6 Full\nrefused 5 BadSize\n",
+    },
+    Row {
+        name: "heap_ends_with_larger_limits",
+        pages: 4_096,
+        script: "attach\n0 set 1 285212671\n0 get 1\n0 set 1 285212672\n0 get 1\n",
+        replies: "mutator 0\nok\nptr\nok\n285212672\n",
     },
     Row {
         name: "base_of_interior",
@@ -182,7 +194,7 @@ pub const EDGES: [Row; 15] = [
     Row {
         name: "bad_sizes",
         pages: 4,
-        script: "attach\n0 alloc 1 0 normal\n0 alloc 1 16385 atomic\n",
+        script: "attach\n0 alloc 1 0 normal\n0 alloc 1 65537 atomic\n",
         replies: "mutator 0\nrefused 5 BadSize\nrefused 5 BadSize\n",
     },
     Row {
@@ -211,7 +223,7 @@ pub const EDGES: [Row; 15] = [
     },
     Row {
         name: "most_pages",
-        pages: 1_024,
+        pages: 4_096,
         script: "attach\n",
         replies: "mutator 0\n",
     },

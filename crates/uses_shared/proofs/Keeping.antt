@@ -1,5 +1,5 @@
 -- The events of the example's mutators.
-use Rattle.std.proofs.Common.{◌≡◌, ℕ, ◌<◌, List, [], ◌∷◌, ◌++◌, sym, ap, ◌∙◌, subst, arith}
+use Rattle.std.proofs.Common.{◌≡◌, ℕ, ◌<◌, List, [], ◌∷◌, ◌++◌, sym, ap, ◌∙◌, subst, arith, inl}
 use mathlib.Core.List.{IsPrefix}
 use Rattle.history.proofs.Fronts.{prefix_self}
 use Rattle.words.specs.declared.class.Kind.TheVariants.{Normal}
@@ -44,7 +44,7 @@ kept_is pages word loaded pass has =
 pub settled_came : (pages : ℕ) (old new : HeapPass) (history : List Entry) → IsSettled pages old history new → CameIn pages history new
 settled_came pages old new history settled = record {
   mutator = settled.range;
-  fine = settled.fine;
+  fine = inl settled.fine;
   within = subst (λ (l : List Entry). IsPrefix l history) (sym settled.seen) (prefix_self history);
 }
 
@@ -55,8 +55,7 @@ settled_kept pages word loaded old new history has settled =
     let all : AllKeepToOwn nothing_known (kept word loaded old.slot) = (tt, (tt, (tt, (first, (tt, tt))))) in
     record {
       mutator = settled.range;
-      seen = settled.seen;
-      fine = settled.fine;
+      known = inl (settled.seen, settled.fine);
       kept = subst (λ (es : List Entry). AllKeepToOwn nothing_known es) (sym (settled.mine ∙ kept_is pages word loaded old has)) all;
     }
 

@@ -1,7 +1,7 @@
 -- The codes and names of refusals, as they are printed.
 use Rattle.std.specs.Prelude.{ℕ, List, codes}
 use Rattle.words.specs.declared.refusal.Refusal.{Refusal}
-use Rattle.words.specs.declared.refusal.Refusal.TheVariants.{NoSlot, Misaligned, NoObject, NotBase, BadSize, Full, StackFull, StackEmpty, WrongPhase, LinksFull, NotPointerFree}
+use Rattle.words.specs.declared.refusal.Refusal.TheVariants.{NoSlot, Misaligned, NoObject, NotBase, BadSize, Full, StackFull, StackEmpty, WrongPhase, LinksFull, NotPointerFree, NeedsFull}
 
 -- The code that is printed of a refusal.
 abbrev pub code_of : Refusal → ℕ
@@ -16,6 +16,7 @@ code_of StackEmpty = 8
 code_of WrongPhase = 9
 code_of LinksFull = 10
 code_of NotPointerFree = 11
+code_of NeedsFull = 12
 
 -- The name that is printed of a refusal, in the codes of its letters.
 abbrev pub name_of : Refusal → List ℕ
@@ -30,3 +31,4 @@ name_of StackEmpty = codes "StackEmpty"
 name_of WrongPhase = codes "WrongPhase"
 name_of LinksFull = codes "LinksFull"
 name_of NotPointerFree = codes "NotPointerFree"
+name_of NeedsFull = codes "NeedsFull"

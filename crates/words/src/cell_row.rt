@@ -1,5 +1,6 @@
 //! A row of at most 256 bits that lies in the value itself, seen as the list of its bits.
-ghost use Rattle.std.specs.Prelude.{◌≡◌, ℕ, ◌/◌, ◌<◌, ◌≤◌, Bool, true, false, List, length, replicate, slice_index_or, slice_set, MatchOption, MatchBool};
+ghost use Rattle.std.specs.Prelude.{◌≡◌, ℕ, ◌/◌, ◌%◌, ◌==◌, ◌<◌, ◌≤◌, Bool, true, false, List, length, replicate, slice_index_or, slice_set, MatchOption, MatchBool};
+ghost use Rattle.std.specs.Int.{bit_at};
 ghost use Rattle.words.specs.declared.limits.TheConstants.{PAGE_GRANULES};
 ghost use Rattle.words.specs.Bits.{bits, members, IsEmptyFrom, IsFirstFrom};
 
@@ -63,6 +64,20 @@ impl CellRow {
     {
         let word = self.words[i as usize / 64];
         self.words[i as usize / 64] = word & !(1 << (i as usize % 64));
+    }
+
+    /// The 64 bits of the word j, the lowest bit first; those past the row are clear.
+    #[inline]
+    pub fn word(&self, j: u16) -> u64
+        requires { j < 4 }
+        ensures { (k : ℕ) → k / 64 ≡ j → slice_index_or self.now k false ≡ (bit_at result (k % 64) == 1) }
+    {
+        let word = self.words[j as usize];
+        let inside = self.len.saturating_sub(64 * j);
+        if inside >= 64 {
+            return word;
+        }
+        word & ((1 << inside) - 1)
     }
 
     /// How many members it has.

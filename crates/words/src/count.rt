@@ -2,10 +2,10 @@
 ghost use Rattle.std.specs.Prelude.{◌≡◌, ◌%◌, ◌^◌, ◌<◌, ◌≤◌, ◌*◌, length};
 ghost use Rattle.words.specs.Bits.{IsCount};
 
-// How many bits are set from a word's first one, `low`, on and below `high`. Of the word that `high` lies in, the bits from
-// there on are masked out.
+/// How many bits are set from a word's first one, `low`, on and below `high`. Of the word that `high` lies in, the bits from
+/// there on are masked out.
 #[tactic(auto, using(crate::proofs::Counts::counts))]
-pub(crate) fn ones_of(words: &[u64], low: usize, high: usize) -> u32
+pub fn ones_of(words: &[u64], low: usize, high: usize) -> u32
     requires whole { low % 64 ≡ 0 }
     requires order { low ≤ high }
     requires inside { high ≤ 64 * length words.now }

@@ -25,13 +25,13 @@ pub const PAGE_GRANULES: u64 = 256;
 pub const FIRST_ADDRESS: u64 = 268_435_456;
 
 /// The most pages of a heap.
-pub const MAX_PAGES: u32 = 1_024;
+pub const MAX_PAGES: u32 = 4_096;
 
 /// The most words of a request that takes a cell of a size class.
 pub const MAX_SMALL_WORDS: u64 = 256;
 
 /// The most words of a request.
-pub const MAX_REQUEST_WORDS: u64 = 16_384;
+pub const MAX_REQUEST_WORDS: u64 = 65_536;
 
 /// The places for mutators.
 pub const SLOTS: u8 = 16;

@@ -39,6 +39,9 @@ pub enum Refusal {
 
     /// The address points into an object whose words the collector reads.
     NotPointerFree,
+
+    /// Objects may have gone of which the marks that are kept don't know: a full cycle has to come first.
+    NeedsFull,
 }
 
 impl Refusal {
@@ -58,6 +61,7 @@ impl Refusal {
             Refusal::WrongPhase => 9,
             Refusal::LinksFull => 10,
             Refusal::NotPointerFree => 11,
+            Refusal::NeedsFull => 12,
         }
     }
 
@@ -77,6 +81,7 @@ impl Refusal {
             Refusal::WrongPhase => "WrongPhase",
             Refusal::LinksFull => "LinksFull",
             Refusal::NotPointerFree => "NotPointerFree",
+            Refusal::NeedsFull => "NeedsFull",
         }
     }
 }

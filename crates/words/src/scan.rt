@@ -11,9 +11,10 @@ fn turned(word: u64, value: bool) -> u64
     if value { word } else { !word }
 }
 
-// The lowest bit of a word from the bit `low` on that has the value.
+/// The lowest bit of a word from the bit `low` on that has the value.
+#[inline]
 #[tactic(auto, using(crate::proofs::Scans::in_word))]
-fn first_in(word: u64, value: bool, low: u32) -> Option<u32>
+pub fn first_in(word: u64, value: bool, low: u32) -> Option<u32>
     requires { low < 64 }
     ensures { MatchOption result (HasNoBit word value low) (λ i. IsFirstBit word value low i) }
 {

@@ -3,13 +3,13 @@ use Rattle.std.proofs.Common.{◌≡◌, ℕ, zero, suc, ◌+◌, ◌%◌, ◌^�
 use Rattle.std.specs.Prelude.{Result, Ok, Err, ⊤}
 use mathlib.Core.List.{IsPrefix}
 use Rattle.words.specs.declared.refusal.Refusal.{Refusal}
-use Rattle.words.specs.declared.refusal.Refusal.TheVariants.{WrongPhase}
+use Rattle.words.specs.declared.refusal.Refusal.TheVariants.{WrongPhase, NeedsFull}
 use Rattle.history.specs.declared.object.TheConstants.{COLLECTOR}
 use Rattle.history.specs.Histories.{event, own, count}
 use Rattle.history.proofs.Growing.{prefix_of}
 use Rattle.history.proofs.Fronts.{prefix_self, prefix_trans, prefix_more}
 use Rattle.heap_spec.specs.declared.event.Event.{Event}
-use Rattle.heap_spec.specs.declared.event.Event.TheVariants.{Begin, Roots, Mark, Retrace, Finish, Sweep, Collect, Number}
+use Rattle.heap_spec.specs.declared.event.Event.TheVariants.{Begin, BeginPartial, Roots, Mark, Retrace, Finish, Sweep, Collect, Number}
 use Rattle.heap_spec.specs.declared.reply.Reply.{Reply}
 use Rattle.heap_spec.specs.declared.reply.Reply.TheVariants.{Done, Count, Refused}
 use Rattle.heap_spec.specs.Replies.{done_reply, count_reply}
@@ -18,8 +18,9 @@ use Rattle.heap_spec.specs.Transcripts.{LineOf, IsWrongPhase}
 use Rattle.heap_spec.specs.SequentialObject.{HeapState}
 use Rattle.heap_history.specs.Ranks.{rank_of}
 use Rattle.heap_history.specs.Passes.{Entry, HeapPass, is_marking as marks}
-use Rattle.heap_history.specs.Headline.{Extends, Looks, IsGrantedByOwnEvents}
+use Rattle.heap_history.specs.Headline.{Extends, Looks, IsGrantedByOwnEvents, IsRefusedPartial, BeginsPartialByEvents}
 use Rattle.heap_history.proofs.Passing.{phase_is}
+use Rattle.heap_history.proofs.Chains.{need_is}
 use Rattle.heap_core.specs.Contents.{Contents}
 use Rattle.heap_core.specs.Collections.{IsGrantedInPhase, IsAlwaysGranted, ReadsRoots, TakesWords, ReadsPage, RetracesPage, SweepsOne}
 use Rattle.workloads.specs.OneHistory.{is_in_history, left_by, left_by_all, IsAnsweredAmong, AreAnswered}
@@ -81,6 +82,20 @@ module _ (pages : ℕ) (old new : HeapPass) (asked : Event) (reply : Reply) (slo
 
   pub begins : (r : Result ⊤ Refusal) → asked ≡ Begin → reply ≡ done_reply r → IsGrantedByOwnEvents false pages old Begin (λ _. Done) r new → Commanded pages old asked reply new
   begins r is said g = as_asked Begin (done_reply r) is said (begun r g)
+
+  -- refused where a cycle is marking, or where a full one is needed
+  partial_refused : {why : Refusal} → IsRefusedPartial old new why → Looks pages old new → Commanded pages old BeginPartial (Refused why) new
+  partial_refused (IsRefusedPartial.wrong_phase is) looks = looked pages old new slot looks BeginPartial (Refused WrongPhase) refl (LineOf.refused (phase pages old new slot looks ∙ is))
+  partial_refused (IsRefusedPartial.needs idle is) looks =
+      let t = state pages old new slot looks in
+      looked pages old new slot looks BeginPartial (Refused NeedsFull) refl (LineOf.needs (phase pages old new slot looks ∙ idle) (need_is new.seen t looks.fine.legal.1 ∙ is))
+
+  partly_begun : (r : Result ⊤ Refusal) → BeginsPartialByEvents pages old r new → Commanded pages old BeginPartial (done_reply r) new
+  partly_begun (Ok done) g = made pages old new BeginPartial Done slot refl g.1
+  partly_begun (Err why) g = partial_refused g.0 g.1
+
+  pub begins_partly : (r : Result ⊤ Refusal) → asked ≡ BeginPartial → reply ≡ done_reply r → BeginsPartialByEvents pages old r new → Commanded pages old asked reply new
+  begins_partly r is said g = as_asked BeginPartial (done_reply r) is said (partly_begun r g)
 
   finished : (r : Result ℕ Refusal) → IsGrantedByOwnEvents true pages old Finish Count r new → Commanded pages old Finish (count_reply r) new
   finished (Ok n) g = made pages old new Finish (Count n) slot refl g.1

@@ -11,7 +11,7 @@ use Rattle.words.specs.declared.class.Kind.TheVariants.{Normal, PointerFree}
 use Rattle.heap_spec.specs.declared.call.Call.{Call}
 use Rattle.heap_spec.specs.declared.call.Call.TheVariants.{Detach, Set, Copy, Add, Sub, Get, Push, Pop, Load, Store, Alloc, Free, Base, Size, GlobalGet, GlobalPut, Link, Unlink}
 use Rattle.heap_spec.specs.declared.event.Event.{Event}
-use Rattle.heap_spec.specs.declared.event.Event.TheVariants.{Attach, Mutator, Begin, Roots, Mark, Retrace, Finish, Sweep, Collect, Number}
+use Rattle.heap_spec.specs.declared.event.Event.TheVariants.{Attach, Mutator, Begin, BeginPartial, Roots, Mark, Retrace, Finish, Sweep, Collect, Number}
 use Rattle.heap_spec.specs.Ranges.{CallInRange, InRange}
 use Rattle.scripts.specs.Reading.{IsPlainLine}
 use Rattle.scripts.specs.Grammar.{kind_word, call_words, command_words, IsLineOf}
@@ -134,6 +134,7 @@ pub good_line : (command : Event) → InRange command → IsLineOf (command_line
 good_line Attach r = line_good Attach (codes "attach") [] refl (literal (codes "attach") refl (lit≤ tt), tt) (lit≤ tt) r
 good_line (Mutator slot call) r = line_good (Mutator slot call) (decimal slot) (call_words call) refl (small slot (omega (arith, r.0)), call_texts call r.1) (few_words call) r
 good_line Begin r = line_good Begin (codes "gc") (codes "begin" ∷ []) refl (literal (codes "gc") refl (lit≤ tt), (literal (codes "begin") refl (lit≤ tt), tt)) (lit≤ tt) r
+good_line BeginPartial r = line_good BeginPartial (codes "gc") (codes "partial" ∷ []) refl (literal (codes "gc") refl (lit≤ tt), (literal (codes "partial") refl (lit≤ tt), tt)) (lit≤ tt) r
 good_line Roots r = line_good Roots (codes "gc") (codes "roots" ∷ []) refl (literal (codes "gc") refl (lit≤ tt), (literal (codes "roots") refl (lit≤ tt), tt)) (lit≤ tt) r
 good_line (Mark n) r = line_good (Mark n) (codes "gc") (codes "mark" ∷ decimal n ∷ []) refl (literal (codes "gc") refl (lit≤ tt), (literal (codes "mark") refl (lit≤ tt), (number n r, tt))) (lit≤ tt) r
 good_line Retrace r = line_good Retrace (codes "gc") (codes "retrace" ∷ []) refl (literal (codes "gc") refl (lit≤ tt), (literal (codes "retrace") refl (lit≤ tt), tt)) (lit≤ tt) r

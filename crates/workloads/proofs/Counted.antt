@@ -4,7 +4,7 @@ use Rattle.history.specs.Histories.{weight, count, own, Walks, Reaches}
 use Rattle.heap_spec.specs.declared.call.Call.{Call}
 use Rattle.heap_spec.specs.declared.call.Call.TheVariants.{Detach}
 use Rattle.heap_spec.specs.declared.event.Event.{Event}
-use Rattle.heap_spec.specs.declared.event.Event.TheVariants.{Attach, Mutator, Begin, Roots, Mark, Retrace, Finish, Sweep, Collect, Number}
+use Rattle.heap_spec.specs.declared.event.Event.TheVariants.{Attach, Mutator, Begin, BeginPartial, Roots, Mark, Retrace, Finish, Sweep, Collect, Number}
 use Rattle.heap_spec.specs.Runs.{fresh, counted, count as collections}
 use Rattle.heap_spec.specs.SequentialObject.{HeapState, Opens, StateStep}
 use Rattle.heap_history.specs.Ranks.{rank_of, rank_of_call}
@@ -20,6 +20,7 @@ counted_is : (event : Event) → counted event ≡ weight (rank_of event)
 counted_is Attach = refl
 counted_is (Mutator slot call) = sym (counted_call call)
 counted_is Begin = refl
+counted_is BeginPartial = refl
 counted_is Roots = refl
 counted_is (Mark n) = refl
 counted_is Retrace = refl

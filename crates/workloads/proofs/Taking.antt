@@ -10,7 +10,7 @@ use Rattle.std.proofs.lemmas.Slice.Zip.{AllZip-long}
 use Rattle.words.specs.declared.limits.TheConstants.{SLOTS}
 use Rattle.heap_spec.specs.declared.call.Call.{Call}
 use Rattle.heap_spec.specs.declared.event.Event.{Event}
-use Rattle.heap_spec.specs.declared.event.Event.TheVariants.{Attach, Mutator, Begin, Roots, Mark, Retrace, Finish, Sweep, Collect, Number}
+use Rattle.heap_spec.specs.declared.event.Event.TheVariants.{Attach, Mutator, Begin, BeginPartial, Roots, Mark, Retrace, Finish, Sweep, Collect, Number}
 use Rattle.scripts.specs.declared.limits.TheConstants.{LAST_LINE}
 use Rattle.scripts.specs.Grammar.{IsLineOf}
 use Rattle.scripts.proofs.Inputs.{zip_push, length-push}
@@ -96,6 +96,7 @@ pub taken : (lines : List (List ℕ)) (lists : ActorLines) (line : List ℕ) (co
 taken lines lists line Attach w is may few = attach_on lines lists line w is may.0 may.1 few
 taken lines lists line (Mutator slot call) w is may few = call_on lines lists line slot call w is may few
 taken lines lists line Begin w is may few = command_on lines lists _ line Begin w is may few refl (λ k lt. sym (append-nil _)) refl
+taken lines lists line BeginPartial w is may few = command_on lines lists _ line BeginPartial w is may few refl (λ k lt. sym (append-nil _)) refl
 taken lines lists line Roots w is may few = command_on lines lists _ line Roots w is may few refl (λ k lt. sym (append-nil _)) refl
 taken lines lists line (Mark n) w is may few = command_on lines lists _ line (Mark n) w is may few refl (λ k lt. sym (append-nil _)) refl
 taken lines lists line Retrace w is may few = command_on lines lists _ line Retrace w is may few refl (λ k lt. sym (append-nil _)) refl

@@ -5,7 +5,7 @@ use Rattle.history.specs.declared.object.TheConstants.{COLLECTOR}
 use Rattle.history.specs.Histories.{event, own, Legal, Reaches}
 use Rattle.heap_spec.specs.declared.call.Call.{Call}
 use Rattle.heap_spec.specs.declared.event.Event.{Event}
-use Rattle.heap_spec.specs.declared.event.Event.TheVariants.{Attach, Mutator, Begin, Roots, Mark, Retrace, Finish, Sweep, Collect, Number}
+use Rattle.heap_spec.specs.declared.event.Event.TheVariants.{Attach, Mutator, Begin, BeginPartial, Roots, Mark, Retrace, Finish, Sweep, Collect, Number}
 use Rattle.heap_spec.specs.declared.reply.Reply.{Reply}
 use Rattle.heap_spec.specs.declared.reply.Reply.TheVariants.{Slot, Done, Word, Count, Refused}
 use Rattle.heap_spec.specs.Runs.{Touched, fresh}
@@ -41,6 +41,7 @@ abbrev pub is_in_history : Event → Reply → Bool
 is_in_history Attach reply = false
 is_in_history (Mutator slot call) reply = false
 is_in_history Begin reply = not (is_refusal reply)
+is_in_history BeginPartial reply = not (is_refusal reply)
 is_in_history Roots reply = false
 is_in_history (Mark n) reply = false
 is_in_history Retrace reply = false

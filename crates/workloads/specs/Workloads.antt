@@ -4,7 +4,7 @@ use Rattle.std.specs.List.{AllZip}
 use Rattle.words.specs.declared.limits.TheConstants.{SLOTS}
 use Rattle.heap_spec.specs.declared.call.Call.{Call}
 use Rattle.heap_spec.specs.declared.event.Event.{Event}
-use Rattle.heap_spec.specs.declared.event.Event.TheVariants.{Attach, Mutator}
+use Rattle.heap_spec.specs.declared.event.Event.TheVariants.{Attach, Mutator, Begin, BeginPartial, Roots, Mark, Retrace, Finish, Sweep, Collect, Number}
 use Rattle.shared.specs.Calls.{IsNoDetach}
 use Rattle.scripts.specs.declared.limits.TheConstants.{LAST_LINE}
 use Rattle.scripts.specs.Grammar.{IsLineOf, IsBad}
@@ -23,7 +23,15 @@ call_of slot _ = None
 abbrev pub is_collectors : Event → Bool
 is_collectors Attach = false
 is_collectors (Mutator who call) = false
-is_collectors _ = true
+is_collectors Begin = true
+is_collectors BeginPartial = true
+is_collectors Roots = true
+is_collectors (Mark n) = true
+is_collectors Retrace = true
+is_collectors Finish = true
+is_collectors Sweep = true
+is_collectors Collect = true
+is_collectors Number = true
 
 -- Lists that threads can run: at most one for each slot, no mutator detaches, and the collector's commands are its own.
 pub record CanBeRun (lists : ActorLines) : Type 0 where
@@ -35,7 +43,15 @@ pub record CanBeRun (lists : ActorLines) : Type 0 where
 abbrev pub MayRun : ℕ → Event → Type 0
 MayRun mutators Attach = ⊥
 MayRun mutators (Mutator slot call) = (slot < mutators) × IsNoDetach call
-MayRun mutators _ = Unit {0}
+MayRun mutators Begin = Unit {0}
+MayRun mutators BeginPartial = Unit {0}
+MayRun mutators Roots = Unit {0}
+MayRun mutators (Mark n) = Unit {0}
+MayRun mutators Retrace = Unit {0}
+MayRun mutators Finish = Unit {0}
+MayRun mutators Sweep = Unit {0}
+MayRun mutators Collect = Unit {0}
+MayRun mutators Number = Unit {0}
 
 -- Lines that are a workload: first an attach for each mutator, at most one for each slot, and then commands that may be run. Each
 -- mutator's calls, and the collector's commands, are those of the lines, in their order.

@@ -54,6 +54,7 @@ impl<'a, J: Naming, R: Threads + Wait + Sync, G: Gate> GatedHeap<'a, J, R, G> {
         let (rt, heap) = (self.rt, self.heap);
         match command {
             Event::Begin => done(heap.begin(rt, me)),
+            Event::BeginPartial => done(heap.begin_partial(rt, me)),
             Event::Roots => done(heap.quiet(rt, me, &mut Roots)),
             Event::Mark(most) => count(heap.quiet(rt, me, &mut Mark(most))),
             Event::Retrace => count(heap.quiet(rt, me, &mut Retrace)),

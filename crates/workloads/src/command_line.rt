@@ -99,6 +99,7 @@ pub(crate) fn put_command(line: &mut ArrayString<LINE_BYTES>, command: Event)
             put_call(line, call);
         }
         Event::Begin => line.push_str("gc begin"),
+        Event::BeginPartial => line.push_str("gc partial"),
         Event::Roots => line.push_str("gc roots"),
         Event::Mark(words) => put_words(line, "gc mark", &[words]),
         Event::Retrace => line.push_str("gc retrace"),

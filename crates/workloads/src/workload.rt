@@ -94,6 +94,7 @@ impl Workload {
             Event::Attach => lines == mutators as u64 && mutators < usize::from(SLOTS),
             Event::Mutator(slot, call) => slot.index() < mutators && !is_detach(*call),
             Event::Begin
+            | Event::BeginPartial
             | Event::Roots
             | Event::Mark(_)
             | Event::Retrace
@@ -113,6 +114,7 @@ impl Workload {
             Event::Attach => self.mutators.push(Lines::new(alloc))?,
             Event::Mutator(slot, call) => put(&mut self.mutators, slot.index(), call)?,
             Event::Begin
+            | Event::BeginPartial
             | Event::Roots
             | Event::Mark(_)
             | Event::Retrace

@@ -1,9 +1,6 @@
 -- The words that the programs are given.
 use Rattle.std.proofs.Common.{◌≡◌, ℕ, ◌<◌, ◌≤◌, List, [], ◌∷◌, map, length, get_or, sym, ap, ◌∙◌, arith}
-use Rattle.std.specs.Prelude.{codes, decimal}
-use Rattle.std.proofs.lemmas.Fmt.{decimal_injective}
-use Rattle.words.specs.declared.limits.TheConstants.{MAX_PAGES}
-use Rattle.heap_spec.specs.Ranges.{IsWord}
+use Rattle.std.specs.Prelude.{codes}
 use Rattle.written_runs.specs.Arguments.{IsPageCountText, AreGiven}
 
 -- the texts of three items

@@ -9,7 +9,7 @@ use Rattle.words.specs.declared.class.Kind.TheVariants.{Normal, PointerFree}
 use Rattle.heap_spec.specs.declared.call.Call.{Call}
 use Rattle.heap_spec.specs.declared.call.Call.TheVariants.{Detach, Set, Copy, Add, Sub, Get, Push, Pop, Load, Store, Alloc, Free, Base, Size, GlobalGet, GlobalPut, Link, Unlink}
 use Rattle.heap_spec.specs.declared.event.Event.{Event}
-use Rattle.heap_spec.specs.declared.event.Event.TheVariants.{Attach, Mutator, Begin, Roots, Mark, Retrace, Finish, Sweep, Collect, Number}
+use Rattle.heap_spec.specs.declared.event.Event.TheVariants.{Attach, Mutator, Begin, BeginPartial, Roots, Mark, Retrace, Finish, Sweep, Collect, Number}
 use Rattle.heap_spec.specs.Ranges.{InRange, CallInRange}
 use Rattle.scripts.specs.Grammar.{kind_word, call_words, command_words, IsLineOf}
 use Rattle.written_runs.specs.Cuts.{Lacks}
@@ -60,6 +60,7 @@ words_lack : (event : Event) → InRange event → EachLacks (command_words even
 words_lack Attach i = (lacks_by 61 (codes "attach") refl, tt)
 words_lack (Mutator slot call) i = (num slot (omega arith), call_lacks call i.1)
 words_lack Begin i = (gc, (lacks_by 61 (codes "begin") refl, tt))
+words_lack BeginPartial i = (gc, (lacks_by 61 (codes "partial") refl, tt))
 words_lack Roots i = (gc, (lacks_by 61 (codes "roots") refl, tt))
 words_lack (Mark n) i = (gc, (lacks_by 61 (codes "mark") refl, (num n (omega arith), tt)))
 words_lack Retrace i = (gc, (lacks_by 61 (codes "retrace") refl, tt))

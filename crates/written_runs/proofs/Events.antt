@@ -9,7 +9,7 @@ use Rattle.words.specs.declared.class.Kind.TheVariants.{Normal, PointerFree}
 use Rattle.heap_spec.specs.declared.call.Call.{Call}
 use Rattle.heap_spec.specs.declared.call.Call.TheVariants.{Detach, Set, Copy, Add, Sub, Get, Push, Pop, Load, Store, Alloc, Free, Base, Size, GlobalGet, GlobalPut, Link, Unlink}
 use Rattle.heap_spec.specs.declared.event.Event.{Event}
-use Rattle.heap_spec.specs.declared.event.Event.TheVariants.{Attach, Mutator, Begin, Roots, Mark, Retrace, Finish, Sweep, Collect, Number}
+use Rattle.heap_spec.specs.declared.event.Event.TheVariants.{Attach, Mutator, Begin, BeginPartial, Roots, Mark, Retrace, Finish, Sweep, Collect, Number}
 use Rattle.heap_spec.specs.Ranges.{InRange, CallInRange}
 use Rattle.scripts.specs.Grammar.{kind_word, call_words, command_words, IsLineOf}
 use Rattle.written_runs.proofs.Digits.{not_decimal}
@@ -110,12 +110,13 @@ call_back (Unlink a n) i = two (λ x y. Unlink x y) a n (omega arith) (omega ari
 abbrev collector_by : List ℕ → List (List ℕ) → Event
 collector_by verb words =
     cond (same_text verb (codes "begin")) Begin
+    (cond (same_text verb (codes "partial")) BeginPartial
     (cond (same_text verb (codes "roots")) Roots
     (cond (same_text verb (codes "mark")) (Mark (word_at 0 words))
     (cond (same_text verb (codes "retrace")) Retrace
     (cond (same_text verb (codes "finish")) Finish
     (cond (same_text verb (codes "sweep")) Sweep
-    (cond (same_text verb (codes "collect")) Collect Number))))))
+    (cond (same_text verb (codes "collect")) Collect Number)))))))
 
 abbrev collector_of : List (List ℕ) → Event
 collector_of [] = Number
@@ -138,6 +139,7 @@ event_back : (event : Event) → InRange event → event_of (command_words event
 event_back Attach i = refl
 event_back (Mutator slot call) i = mutator_back slot call (omega arith) i.1
 event_back Begin i = refl
+event_back BeginPartial i = refl
 event_back Roots i = refl
 event_back (Mark n) i = ap (λ x. Mark x) (back n (omega arith))
 event_back Retrace i = refl

@@ -1,6 +1,8 @@
 -- Runs that lines lead to.
-use Rattle.std.proofs.Common.{◌≡◌, ℕ, ◌+◌, ◌<◌, ◌≤◌, List, [], ◌∷◌, ◌++◌, length, refl, sym, ap, ◌∙◌, subst, arith, append_assoc, length-append}
+use Rattle.std.proofs.Common.{◌≡◌, ℕ, ◌+◌, ◌<◌, ◌≤◌, List, [], ◌∷◌, ◌++◌, length, refl, sym, ap, ◌∙◌, subst, arith, append_assoc, length-append, Bool, true, false}
+use Rattle.std.specs.Prelude.{Option, Some, None, cond, not}
 use Rattle.std.proofs.lemmas.List.{append-nil}
+use Rattle.std.proofs.lemmas.List.Elements.{filter-append}
 use Rattle.heap_spec.specs.declared.event.Event.{Event}
 use Rattle.heap_spec.specs.declared.reply.Reply.{Reply}
 use Rattle.heap_spec.specs.Runs.{Start, Run, fresh}
@@ -9,10 +11,12 @@ use Rattle.replayer.specs.Contents.{Contents, Follows}
 use Rattle.replayer.specs.Replays.{IsReplay}
 use Rattle.scripts.specs.Lines.{newline, lines_of}
 use Rattle.scripts.proofs.Texts.{lines_of-line, lines_of-last}
-use Rattle.written_runs.specs.declared.verdict.Verdict.TheVariants.{Legal}
+use Rattle.written_runs.specs.declared.verdict.Verdict.TheVariants.{Legal, NoLines, Bad, Breaks}
+use Rattle.written_runs.specs.declared.verdict.Verdict.{Verdict}
 use Rattle.written_runs.specs.Cuts.{IsEmptyOrFrom, IsTextCut}
 use Rattle.written_runs.specs.Written.{IsWritten}
-use Rattle.written_runs.specs.Judging.{Leads, ends, on, IsJudged, LeadsOn}
+use Rattle.written_runs.specs.Judging.{Leads, ends, on, IsUnwritten, IsBroken, HasFault, IsJudged, HadToAnswer, IsExplained, Takes, IsToldAt, IsLineVerdict, IsLineExplained}
+use Rattle.written_runs.specs.Told.{is_comment, told_lines}
 
 -- one line more
 leads_more : (start : Start) {run mid last : Run} {lines : List (List ℕ)} → Leads start run lines mid → (line : List ℕ) (event : Event) (reply : Reply) (hint : Hint)
@@ -20,39 +24,127 @@ leads_more : (start : Start) {run mid last : Run} {lines : List (List ℕ)} → 
 leads_more start ends line event reply hint written replay = on written replay ends
 leads_more start (on first going rest) line event reply hint written replay = on first going (leads_more start rest line event reply hint written replay)
 
+-- what a line tells
+abbrev pub told_of : List ℕ → List (List ℕ)
+told_of line = told_lines (line ∷ [])
+
+pub told_more : (lines : List (List ℕ)) (line : List ℕ) → told_lines (lines ++ line ∷ []) ≡ told_lines lines ++ told_of line
+told_more lines line = filter-append (λ l. not (is_comment l)) lines (line ∷ [])
+
 -- The lines that were read led the replayer from the opening to a run, and the rest is still to be read.
-pub record IsUpTo (pages : ℕ) (text rest : List ℕ) (number : ℕ) (replayer : Contents) : Type 0 where
+pub record IsUpTo (pages : ℕ) (text rest : List ℕ) (number told : ℕ) (replayer : Contents) : Type 0 where
   pub lines : List (List ℕ)
   pub run : Run
   pub are : lines_of text ≡ lines ++ lines_of rest
   pub counted : number ≡ length lines
+  pub told_are : told ≡ length (told_lines lines)
+  pub fewer : told ≤ number
   pub few : number + length rest ≤ length text
-  pub leads : Leads (fresh pages) [] lines run
+  pub leads : Leads (fresh pages) [] (told_lines lines) run
   pub follows : Follows replayer (fresh pages) run
 
-pub starts : (pages : ℕ) (text : List ℕ) (replayer : Contents) → Follows replayer (fresh pages) [] → IsUpTo pages text text 0 replayer
-starts pages text replayer follows = record { lines = []; run = []; are = refl; counted = refl; few = omega arith; leads = ends; follows = follows }
+pub starts : (pages : ℕ) (text : List ℕ) (replayer : Contents) → Follows replayer (fresh pages) [] → IsUpTo pages text text 0 0 replayer
+starts pages text replayer follows = record { lines = []; run = []; are = refl; counted = refl; told_are = refl; fewer = omega arith; few = omega arith; leads = ends; follows = follows }
 
-regroup : (pages : ℕ) (text rest behind line : List ℕ) (number : ℕ) (old : Contents) (u : IsUpTo pages text rest number old) → lines_of rest ≡ line ∷ lines_of behind → lines_of text ≡ (u.lines ++ line ∷ []) ++ lines_of behind
-regroup pages text rest behind line number old u e = u.are ∙ ap (λ ls. u.lines ++ ls) e ∙ sym (append_assoc u.lines (line ∷ []) (lines_of behind))
+regroup : (pages : ℕ) (text rest behind line : List ℕ) (number told : ℕ) (old : Contents) (u : IsUpTo pages text rest number told old) → lines_of rest ≡ line ∷ lines_of behind → lines_of text ≡ (u.lines ++ line ∷ []) ++ lines_of behind
+regroup pages text rest behind line number told old u e = u.are ∙ ap (λ ls. u.lines ++ ls) e ∙ sym (append_assoc u.lines (line ∷ []) (lines_of behind))
 
-pub goes_on : (pages : ℕ) (text rest behind line : List ℕ) (number : ℕ) (old new : Contents) → IsUpTo pages text rest number old → lines_of rest ≡ line ∷ lines_of behind → length behind < length rest → LeadsOn old line new → IsUpTo pages text behind (number + 1) new
-goes_on pages text rest behind line number old new u e shorter led =
-    let next = led.replayed (fresh pages) u.run u.follows in
+-- Where a line takes a run: what it tells leads there.
+record IsTaken (start : Start) (run : Run) (tells : List (List ℕ)) (new : Contents) : Type 0 where
+  next : Run
+  leads : (before : List (List ℕ)) → Leads start [] before run → Leads start [] (before ++ tells) next
+  follows : Follows new start next
+
+taken : (start : Start) (run : Run) (old new : Contents) (line : List ℕ) (comment : Bool) → Follows old start run → Takes comment old line new → IsTaken start run (cond (not comment) (line ∷ []) []) new
+taken start run old new line true follows same = record { next = run; leads = λ before leads. subst (λ ls. Leads start [] ls run) (sym (append-nil before)) leads; follows = subst (λ c. Follows c start run) (sym same) follows }
+taken start run old new line false follows led =
+    let next = led.replayed start run follows in
+    record { next = next.0; leads = λ before leads. leads_more start leads line led.event led.reply led.hint led.is_written next.1; follows = next.2 }
+
+one_at_most : (line : List ℕ) (comment : Bool) → length (cond (not comment) (line ∷ []) []) ≤ 1
+one_at_most line true = omega arith
+one_at_most line false = omega arith
+
+pub goes_on : (pages : ℕ) (text rest behind line : List ℕ) (number told : ℕ) (old new : Contents) → IsUpTo pages text rest number told old → lines_of rest ≡ line ∷ lines_of behind → length behind < length rest → Takes (is_comment line) old line new → (more : ℕ) → more ≡ length (told_lines (line ∷ [])) → IsUpTo pages text behind (number + 1) (told + more) new
+goes_on pages text rest behind line number told old new u e shorter takes more is =
+    let next = taken (fresh pages) u.run old new line (is_comment line) u.follows takes in
     record {
       lines = u.lines ++ line ∷ [];
-      run = next.0;
-      are = regroup pages text rest behind line number old u e;
+      run = next.next;
+      are = regroup pages text rest behind line number told old u e;
       counted = let h = u.counted in omega (arith, h, length-append u.lines (line ∷ []));
+      told_are = let h = u.told_are in let all = ap length (told_more u.lines line) in omega (arith, h, is, all, length-append (told_lines u.lines) (told_of line));
+      fewer = let h = u.fewer in omega (arith, h, is, one_at_most line (is_comment line));
       few = let h = u.few in omega arith;
-      leads = leads_more (fresh pages) u.leads line led.event led.reply led.hint led.is_written next.1;
-      follows = next.2;
+      leads = subst (λ ls. Leads (fresh pages) [] ls next.next) (sym (told_more u.lines line)) (next.leads (told_lines u.lines) u.leads);
+      follows = next.follows;
     }
 
+all_read : (pages : ℕ) (text rest : List ℕ) (number told : ℕ) (replayer : Contents) (u : IsUpTo pages text rest number told replayer) → length rest ≡ 0 → u.lines ≡ lines_of text
+all_read pages text [] number told replayer u none = sym (u.are ∙ append-nil u.lines)
+all_read pages text (b ∷ rest) number told replayer u none = absurd (omega arith)
+
 -- all lines were read
-pub ended : (pages : ℕ) (text rest : List ℕ) (number : ℕ) (replayer : Contents) → IsUpTo pages text rest number replayer → length rest ≡ 0 → IsJudged pages (lines_of text) Legal
-ended pages text [] number replayer u none = (u.run, subst (λ ls. Leads (fresh pages) [] ls u.run) (sym (u.are ∙ append-nil u.lines)) u.leads)
-ended pages text (b ∷ rest) number replayer u none = absurd (omega arith)
+pub ended : (pages : ℕ) (text rest : List ℕ) (number told : ℕ) (replayer : Contents) → IsUpTo pages text rest number told replayer → length rest ≡ 0 → 1 ≤ told → IsJudged pages (lines_of text) (Legal told)
+ended pages text rest number told replayer u none some =
+    let all = all_read pages text rest number told replayer u none in
+    record {
+      last = u.run;
+      leads = subst (λ ls. Leads (fresh pages) [] (told_lines ls) u.run) all u.leads;
+      counted = u.told_are ∙ ap (λ ls. length (told_lines ls)) all;
+      some = some;
+    }
+
+no_item : (lines : List (List ℕ)) → length lines ≡ 0 → lines ≡ []
+no_item [] none = refl
+no_item (l ∷ lines) none = absurd (omega arith)
+
+-- and none was told
+pub ended_empty : (pages : ℕ) (text rest : List ℕ) (number told : ℕ) (replayer : Contents) → IsUpTo pages text rest number told replayer → length rest ≡ 0 → told ≡ 0 → IsJudged pages (lines_of text) NoLines
+ended_empty pages text rest number told replayer u none zero =
+    ap told_lines (sym (all_read pages text rest number told replayer u none)) ∙ no_item (told_lines u.lines) (sym u.told_are ∙ zero)
+
+-- A line was reached that the replayer doesn't go on by.
+module _ (pages : ℕ) (text rest behind line : List ℕ) (number told : ℕ) (old : Contents) (u : IsUpTo pages text rest number told old) (parted : lines_of rest ≡ line ∷ lines_of behind) where
+  fault : (Fault : Run → List ℕ → Type 0) (n : ℕ) → IsToldAt n (number + 1) line → Fault u.run line → HasFault Fault (fresh pages) (lines_of text) n
+  fault Fault n at has = record {
+    before = u.lines;
+    line = line;
+    behind = lines_of behind;
+    run = u.run;
+    are = u.are ∙ ap (λ ls. u.lines ++ ls) parted;
+    counted = at.is ∙ ap (λ k. k + 1) u.counted;
+    told = at.told;
+    leads = u.leads;
+    fault = has;
+  }
+
+  pub stopped : (verdict : Verdict) → IsLineVerdict old (number + 1) line verdict → IsJudged pages (lines_of text) verdict
+  stopped (Legal count) is = absurd is
+  stopped NoLines is = absurd is
+  stopped (Bad n) is = fault (λ run l. IsUnwritten l) n is.0 is.1
+  stopped (Breaks n rule) is = let s = is.1 in fault (IsBroken (fresh pages) rule) n is.0 (record {
+    event = s.event;
+    reply = s.reply;
+    hint = s.hint;
+    is_written = s.is_written;
+    no_replay = λ next replay. s.no_replay (fresh pages) u.run next u.follows replay;
+    named = s.named;
+  })
+
+  pub explained : (verdict : Verdict) (expected : Option Reply) → IsLineVerdict old (number + 1) line verdict → IsLineExplained old line verdict expected → IsExplained pages (lines_of text) verdict expected
+  explained verdict None is why = tt
+  explained (Legal count) (Some reply) is why = absurd why
+  explained NoLines (Some reply) is why = absurd why
+  explained (Bad n) (Some reply) is why = absurd why
+  explained (Breaks n rule) (Some reply) is why = fault (HadToAnswer (fresh pages) reply) n is.0 (record {
+    event = why.event;
+    given = why.given;
+    hint = why.hint;
+    is_written = why.is_written;
+    other = why.other;
+    expected = why.expected (fresh pages) u.run u.follows;
+  })
 
 -- the first line of a text that was cut at its first newline
 pub line_with_newline : (text line rest behind : List ℕ) (b : ℕ) → IsTextCut newline text line rest → rest ≡ b ∷ behind → lines_of text ≡ line ∷ lines_of behind

@@ -3,7 +3,7 @@ use Rattle.std.proofs.Common.{◌≡◌, ℕ, ◌<◌, eqb, List, ◌++◌, refl
 use Rattle.std.specs.Prelude.{cond, codes}
 use Rattle.std.proofs.lemmas.List.{append_cancel_left}
 use Rattle.words.specs.declared.refusal.Refusal.{Refusal}
-use Rattle.words.specs.declared.refusal.Refusal.TheVariants.{NoSlot, Misaligned, NoObject, NotBase, BadSize, Full, StackFull, StackEmpty, WrongPhase, LinksFull, NotPointerFree}
+use Rattle.words.specs.declared.refusal.Refusal.TheVariants.{NoSlot, Misaligned, NoObject, NotBase, BadSize, Full, StackFull, StackEmpty, WrongPhase, LinksFull, NotPointerFree, NeedsFull}
 use Rattle.words.specs.Refusals.{code_of, name_of}
 use Rattle.written_runs.specs.Cuts.{Lacks, IsTextCut}
 use Rattle.written_runs.specs.Reading.{IsNumberAt, IsRefusalAt}
@@ -22,8 +22,9 @@ name_lacks StackEmpty = lacks_by 32 (name_of StackEmpty) refl
 name_lacks WrongPhase = lacks_by 32 (name_of WrongPhase) refl
 name_lacks LinksFull = lacks_by 32 (name_of LinksFull) refl
 name_lacks NotPointerFree = lacks_by 32 (name_of NotPointerFree) refl
+name_lacks NeedsFull = lacks_by 32 (name_of NeedsFull) refl
 
-code_small : (refusal : Refusal) → code_of refusal < 12
+code_small : (refusal : Refusal) → code_of refusal < 13
 code_small NoSlot = omega arith
 code_small Misaligned = omega arith
 code_small NoObject = omega arith
@@ -35,6 +36,7 @@ code_small StackEmpty = omega arith
 code_small WrongPhase = omega arith
 code_small LinksFull = omega arith
 code_small NotPointerFree = omega arith
+code_small NeedsFull = omega arith
 
 -- the number that a refusal's text begins with is its code
 pub code_at : (text : List ℕ) (refusal : Refusal) (rest : List ℕ) → IsRefusalAt text refusal rest → IsNumberAt text (code_of refusal) (codes " " ++ (name_of refusal ++ rest))
@@ -51,7 +53,8 @@ no_name text code r at none refusal s is = none (name_of refusal ++ s) (same_num
 -- the name of a code
 abbrev name_by : ℕ → List ℕ
 name_by code = cond (eqb code 1) (name_of NoSlot) (cond (eqb code 2) (name_of Misaligned) (cond (eqb code 3) (name_of NoObject) (cond (eqb code 4) (name_of NotBase) (cond (eqb code 5) (name_of BadSize)
-    (cond (eqb code 6) (name_of Full) (cond (eqb code 7) (name_of StackFull) (cond (eqb code 8) (name_of StackEmpty) (cond (eqb code 9) (name_of WrongPhase) (cond (eqb code 10) (name_of LinksFull) (name_of NotPointerFree))))))))))
+    (cond (eqb code 6) (name_of Full) (cond (eqb code 7) (name_of StackFull) (cond (eqb code 8) (name_of StackEmpty) (cond (eqb code 9) (name_of WrongPhase) (cond (eqb code 10) (name_of LinksFull)
+    (cond (eqb code 11) (name_of NotPointerFree) (name_of NeedsFull)))))))))))
 
 name_is : (refusal : Refusal) → name_by (code_of refusal) ≡ name_of refusal
 name_is NoSlot = refl
@@ -65,6 +68,7 @@ name_is StackEmpty = refl
 name_is WrongPhase = refl
 name_is LinksFull = refl
 name_is NotPointerFree = refl
+name_is NeedsFull = refl
 
 -- a code with another name behind it
 pub other_name : (text : List ℕ) (refusal : Refusal) (r more word rest : List ℕ) → IsNumberAt text (code_of refusal) r → r ≡ codes " " ++ more → IsTextCut 32 more word rest → (word ≡ name_of refusal → ⊥) → (other : Refusal) (s : List ℕ) → IsRefusalAt text other s → ⊥

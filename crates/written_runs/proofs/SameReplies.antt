@@ -5,7 +5,7 @@ use Rattle.std.proofs.lemmas.Fmt.{decimal_injective}
 use Rattle.std.proofs.lemmas.List.{append_cancel_left}
 use Rattle.std.proofs.lemmas.List.Elements.{All-head, All-tail}
 use Rattle.words.specs.declared.refusal.Refusal.{Refusal}
-use Rattle.words.specs.declared.refusal.Refusal.TheVariants.{NoSlot, Misaligned, NoObject, NotBase, BadSize, Full, StackFull, StackEmpty, WrongPhase, LinksFull, NotPointerFree}
+use Rattle.words.specs.declared.refusal.Refusal.TheVariants.{NoSlot, Misaligned, NoObject, NotBase, BadSize, Full, StackFull, StackEmpty, WrongPhase, LinksFull, NotPointerFree, NeedsFull}
 use Rattle.words.specs.Refusals.{code_of}
 use Rattle.heap_spec.specs.declared.event.Event.{Event}
 use Rattle.heap_spec.specs.declared.reply.Reply.{Reply}
@@ -26,7 +26,7 @@ use Rattle.written_runs.proofs.Events.{same_text, apart}
 -- a refusal is read back from its code
 abbrev refusal_by : ℕ → Refusal
 refusal_by code = cond (eqb code 1) NoSlot (cond (eqb code 2) Misaligned (cond (eqb code 3) NoObject (cond (eqb code 4) NotBase (cond (eqb code 5) BadSize
-    (cond (eqb code 6) Full (cond (eqb code 7) StackFull (cond (eqb code 8) StackEmpty (cond (eqb code 9) WrongPhase (cond (eqb code 10) LinksFull NotPointerFree)))))))))
+    (cond (eqb code 6) Full (cond (eqb code 7) StackFull (cond (eqb code 8) StackEmpty (cond (eqb code 9) WrongPhase (cond (eqb code 10) LinksFull (cond (eqb code 11) NotPointerFree NeedsFull))))))))))
 
 refusal_back : (refusal : Refusal) → refusal_by (code_of refusal) ≡ refusal
 refusal_back NoSlot = refl
@@ -40,6 +40,7 @@ refusal_back StackEmpty = refl
 refusal_back WrongPhase = refl
 refusal_back LinksFull = refl
 refusal_back NotPointerFree = refl
+refusal_back NeedsFull = refl
 
 -- the kind of a reply, from its first word
 abbrev sort_of : List ℕ → ℕ

@@ -1,15 +1,18 @@
 -- Of the lines of a run one verdict is true.
-use Rattle.std.proofs.Common.{◌≡◌, ◌⊎◌, ℕ, ◌+◌, ◌≤◌, List, [], ◌∷◌, ◌++◌, length, refl, sym, ap, ◌∙◌, subst, inl, inr, ⊎_elim}
+use Rattle.std.proofs.Common.{◌≡◌, ◌⊎◌, ℕ, ◌+◌, ◌≤◌, false, List, [], ◌∷◌, ◌++◌, length, refl, sym, ap, ◌∙◌, subst, arith, inl, inr, ⊎_elim, length-append}
+use Rattle.std.specs.Prelude.{cond, not}
+use Rattle.std.proofs.lemmas.List.Elements.{filter-append}
 use Rattle.words.specs.declared.limits.TheConstants.{MAX_PAGES}
 use Rattle.heap_spec.specs.Runs.{Start, Run, fresh, heap_after}
 use Rattle.heap_spec.specs.Sound.{IsSound}
 use Rattle.heap_spec.proofs.Calls.{opening_is}
 use Rattle.written_runs.specs.declared.rules.Rule.{Rule}
 use Rattle.written_runs.specs.declared.verdict.Verdict.{Verdict}
-use Rattle.written_runs.specs.declared.verdict.Verdict.TheVariants.{Legal, Bad, Breaks}
+use Rattle.written_runs.specs.declared.verdict.Verdict.TheVariants.{Legal, NoLines, Bad, Breaks}
 use Rattle.written_runs.specs.Written.{IsWritten}
 use Rattle.written_runs.specs.Rules.{rule_of}
 use Rattle.written_runs.specs.Judging.{Leads, ends, on, IsUnwritten, IsBroken, HasFault, IsJudged}
+use Rattle.written_runs.specs.Told.{is_comment, told_lines}
 use Rattle.written_runs.proofs.Readings.{one_reading, one_rule}
 use Rattle.written_runs.proofs.Rereading.{back_alike, replay_alike, reread, step_alike}
 
@@ -68,24 +71,39 @@ parted (x ∷ front) (y ∷ front') line line' behind behind' e =
     let same : x ≡ y = cc in
     parted_behind x y front front' line line' same (parted front front' line line' behind behind' more)
 
+-- what lines tell that are parted at one that is told
+told_parted : (before behind : List (List ℕ)) (line : List ℕ) → is_comment line ≡ false → told_lines (before ++ line ∷ behind) ≡ told_lines before ++ line ∷ told_lines behind
+told_parted before behind line told =
+    filter-append (λ l. not (is_comment l)) before (line ∷ behind)
+    ∙ ap (λ v. told_lines before ++ cond (not v) (line ∷ told_lines behind) (told_lines behind)) told
+
+told_where : (lines before behind : List (List ℕ)) (line : List ℕ) → lines ≡ before ++ line ∷ behind → is_comment line ≡ false → told_lines lines ≡ told_lines before ++ line ∷ told_lines behind
+told_where lines before behind line are told = ap told_lines are ∙ told_parted before behind line told
+
+-- lines that tell nothing have no fault
+no_fault : (Fault : Run → List ℕ → Type 0) (start : Start) (lines : List (List ℕ)) (number : ℕ) → told_lines lines ≡ [] → HasFault Fault start lines number → ⊥
+no_fault Fault start lines number none f =
+    let tell = ap length (sym none ∙ told_where lines f.before f.behind f.line f.are f.told) in
+    absurd (omega (arith, tell, length-append (told_lines f.before) (f.line ∷ told_lines f.behind)))
+
 module _ (start : Start) (opens : IsSound (heap_after start [])) (lines : List (List ℕ)) where
   -- lines with a fault lead to no run
-  no_run : (Fault : Run → List ℕ → Type 0) → StopsRuns start Fault → (number : ℕ) → HasFault Fault start lines number → (last : Run) → Leads start [] lines last → ⊥
+  no_run : (Fault : Run → List ℕ → Type 0) → StopsRuns start Fault → (number : ℕ) → HasFault Fault start lines number → (last : Run) → Leads start [] (told_lines lines) last → ⊥
   no_run Fault stops number f last leads =
-      let after = goes_on start [] opens f.before (f.line ∷ f.behind) f.run last f.leads (subst (λ ls. Leads start [] ls last) f.are leads) in
-      stops f.run last f.line f.behind after.sound f.fault after.leads
+      let after = goes_on start [] opens (told_lines f.before) (f.line ∷ told_lines f.behind) f.run last f.leads (subst (λ ls. Leads start [] ls last) (told_where lines f.before f.behind f.line f.are f.told) leads) in
+      stops f.run last f.line (told_lines f.behind) after.sound f.fault after.leads
 
   -- Two faults of the lines are at one place.
   module _ (Fault Other : Run → List ℕ → Type 0) (stops : StopsRuns start Fault) (stops' : StopsRuns start Other) (n k : ℕ) (f : HasFault Fault start lines n) (g : HasFault Other start lines k) where
     not_earlier : IsPartedEarlier f.before g.before f.line → ⊥
     not_earlier early =
-        let after = goes_on start [] opens f.before (f.line ∷ early.0) f.run g.run f.leads (subst (λ ls. Leads start [] ls g.run) early.1 g.leads) in
-        stops f.run g.run f.line early.0 after.sound f.fault after.leads
+        let after = goes_on start [] opens (told_lines f.before) (f.line ∷ told_lines early.0) f.run g.run f.leads (subst (λ ls. Leads start [] ls g.run) (told_where g.before f.before early.0 f.line early.1 f.told) g.leads) in
+        stops f.run g.run f.line (told_lines early.0) after.sound f.fault after.leads
 
     not_later : IsPartedEarlier g.before f.before g.line → ⊥
     not_later early =
-        let after = goes_on start [] opens g.before (g.line ∷ early.0) g.run f.run g.leads (subst (λ ls. Leads start [] ls f.run) early.1 f.leads) in
-        stops' g.run f.run g.line early.0 after.sound g.fault after.leads
+        let after = goes_on start [] opens (told_lines g.before) (g.line ∷ told_lines early.0) g.run f.run g.leads (subst (λ ls. Leads start [] ls f.run) (told_where f.before g.before early.0 g.line early.1 g.told) f.leads) in
+        stops' g.run f.run g.line (told_lines early.0) after.sound g.fault after.leads
 
     one_place : ArePartedAlike f.before g.before f.line g.line
     one_place = ⊎_elim (λ early. absurd (not_earlier early)) (λ rest. ⊎_elim (λ early. absurd (not_later early)) (λ alike. alike) rest) (parted f.before g.before f.line g.line f.behind g.behind (sym f.are ∙ g.are))
@@ -119,12 +137,22 @@ one_verdict pages some few lines verdict verdict' is is' = by_verdicts verdict v
     opens : IsSound (heap_after start [])
     opens = opening_is pages some few
 
+    some_told : (count : ℕ) → IsJudged pages lines (Legal count) → IsJudged pages lines NoLines → ⊥
+    some_told count x none = let h = x.counted in let k = x.some in let e = ap length none in absurd (omega (arith, h, k, e))
+
     by_verdicts : (v w : Verdict) → IsJudged pages lines v → IsJudged pages lines w → v ≡ w
-    by_verdicts Legal Legal x y = refl
-    by_verdicts Legal (Bad k) x y = absurd (no_run start opens lines (λ run line. IsUnwritten line) (unwritten_stops start) k y x.0 x.1)
-    by_verdicts Legal (Breaks k rule) x y = absurd (no_run start opens lines (IsBroken start rule) (broken_stops start rule) k y x.0 x.1)
-    by_verdicts (Bad n) Legal x y = absurd (no_run start opens lines (λ run line. IsUnwritten line) (unwritten_stops start) n x y.0 y.1)
-    by_verdicts (Breaks n rule) Legal x y = absurd (no_run start opens lines (IsBroken start rule) (broken_stops start rule) n x y.0 y.1)
+    by_verdicts (Legal n) (Legal k) x y = ap Legal (x.counted ∙ sym y.counted)
+    by_verdicts (Legal n) NoLines x y = absurd (some_told n x y)
+    by_verdicts (Legal n) (Bad k) x y = absurd (no_run start opens lines (λ run line. IsUnwritten line) (unwritten_stops start) k y x.last x.leads)
+    by_verdicts (Legal n) (Breaks k rule) x y = absurd (no_run start opens lines (IsBroken start rule) (broken_stops start rule) k y x.last x.leads)
+    by_verdicts NoLines (Legal k) x y = absurd (some_told k y x)
+    by_verdicts NoLines NoLines x y = refl
+    by_verdicts NoLines (Bad k) x y = absurd (no_fault (λ run line. IsUnwritten line) start lines k x y)
+    by_verdicts NoLines (Breaks k rule) x y = absurd (no_fault (IsBroken start rule) start lines k x y)
+    by_verdicts (Bad n) (Legal k) x y = absurd (no_run start opens lines (λ run line. IsUnwritten line) (unwritten_stops start) n x y.last y.leads)
+    by_verdicts (Bad n) NoLines x y = absurd (no_fault (λ run line. IsUnwritten line) start lines n y x)
+    by_verdicts (Breaks n rule) (Legal k) x y = absurd (no_run start opens lines (IsBroken start rule) (broken_stops start rule) n x y.last y.leads)
+    by_verdicts (Breaks n rule) NoLines x y = absurd (no_fault (IsBroken start rule) start lines n y x)
     by_verdicts (Bad n) (Bad k) x y = ap Bad (one_number start opens lines (λ run line. IsUnwritten line) (λ run line. IsUnwritten line) (unwritten_stops start) (unwritten_stops start) n k x y)
     by_verdicts (Bad n) (Breaks k rule) x y = absurd (not_both start opens lines rule n k x y)
     by_verdicts (Breaks n rule) (Bad k) x y = absurd (not_both start opens lines rule k n y x)

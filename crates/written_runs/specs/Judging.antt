@@ -1,16 +1,19 @@
 -- What is said of a written run.
-use Rattle.std.specs.Prelude.{◌≡◌, ℕ, ◌+◌, Option, Some, None, List, [], ◌∷◌, ◌++◌, length}
+use Rattle.std.specs.Prelude.{◌≡◌, ℕ, ◌+◌, ◌≤◌, Bool, true, false, Option, Some, None, List, [], ◌∷◌, ◌++◌, length}
 use Rattle.heap_spec.specs.declared.event.Event.{Event}
 use Rattle.heap_spec.specs.declared.reply.Reply.{Reply}
 use Rattle.heap_spec.specs.Runs.{Start, Run, fresh}
 use Rattle.replayer.specs.declared.hint.Hint.{Hint}
 use Rattle.replayer.specs.Contents.{Contents}
 use Rattle.replayer.specs.Replays.{IsReplay, IsReplayed, IsNoReplay}
+use Rattle.replayer.specs.Expecting.{IsTheReply, Expects}
 use Rattle.written_runs.specs.declared.rules.Rule.{Rule}
+use Rattle.written_runs.specs.declared.verdict.Judgement.{Judgement}
 use Rattle.written_runs.specs.declared.verdict.Verdict.{Verdict}
-use Rattle.written_runs.specs.declared.verdict.Verdict.TheVariants.{Legal, Bad, Breaks}
+use Rattle.written_runs.specs.declared.verdict.Verdict.TheVariants.{Legal, NoLines, Bad, Breaks}
 use Rattle.written_runs.specs.Written.{IsWritten}
 use Rattle.written_runs.specs.Rules.{rule_of}
+use Rattle.written_runs.specs.Told.{is_comment, told_lines}
 
 -- Lines lead from one run to another: each is written of an event, its reply and a hint that replay, one after another.
 pub data Leads (start : Start) : Run → List (List ℕ) → Run → Type 0 where
@@ -33,7 +36,8 @@ pub record IsBroken (start : Start) (rule : Rule) (run : Run) (line : List ℕ) 
   pub no_replay : (next : Run) → IsReplay hint start run event reply next → ⊥
   pub named : rule ≡ rule_of event reply hint
 
--- A line of this number, counted from 1, is the first with a fault: the lines before it lead to a run from which it has it.
+-- A line of this number, counted from 1 with the comments, is the first with a fault: it is told, and what is told by the
+-- lines before it leads to a run from which it has that fault.
 pub record HasFault (Fault : Run → List ℕ → Type 0) (start : Start) (lines : List (List ℕ)) (number : ℕ) : Type 0 where
   pub before : List (List ℕ)
   pub line : List ℕ
@@ -41,17 +45,44 @@ pub record HasFault (Fault : Run → List ℕ → Type 0) (start : Start) (lines
   pub run : Run
   pub are : lines ≡ before ++ line ∷ behind
   pub counted : number ≡ length before + 1
-  pub leads : Leads start [] before run
+  pub told : is_comment line ≡ false
+  pub leads : Leads start [] (told_lines before) run
   pub fault : Fault run line
 
--- What each verdict says of the lines of a run on a new heap of so many pages.
+-- What lines tell leads from the opening to some run, and they tell so many, at least one.
+pub record AreLegal (start : Start) (lines : List (List ℕ)) (count : ℕ) : Type 0 where
+  pub last : Run
+  pub leads : Leads start [] (told_lines lines) last
+  pub counted : count ≡ length (told_lines lines)
+  pub some : 1 ≤ count
+
+-- What each verdict says of the lines of a text on a new heap of so many pages.
 abbrev pub IsJudged : ℕ → List (List ℕ) → Verdict → Type 0
--- they lead from its opening to some run
-IsJudged pages lines Legal = (last : Run) × Leads (fresh pages) [] lines last
+-- they are legal, and tell so many
+IsJudged pages lines (Legal count) = AreLegal (fresh pages) lines count
+-- they tell nothing
+IsJudged pages lines NoLines = told_lines lines ≡ []
 -- the line of this number is written of nothing
 IsJudged pages lines (Bad number) = HasFault (λ run line. IsUnwritten line) (fresh pages) lines number
 -- the line of this number breaks the run, by this rule
 IsJudged pages lines (Breaks number rule) = HasFault (IsBroken (fresh pages) rule) (fresh pages) lines number
+
+-- A line had to have this reply: it is written of an event and another one, and the run goes on by the event with this one alone.
+pub record HadToAnswer (start : Start) (reply : Reply) (run : Run) (line : List ℕ) : Type 0 where
+  pub event : Event
+  pub given : Reply
+  pub hint : Hint
+  pub is_written : IsWritten line event given hint
+  pub other : reply ≡ given → ⊥
+  pub expected : IsTheReply start run event reply
+
+-- which reply the line that breaks a run had to have, if one is told
+abbrev pub IsExplained : ℕ → List (List ℕ) → Verdict → Option Reply → Type 0
+IsExplained pages lines verdict None = Unit {0}
+IsExplained pages lines (Legal count) (Some reply) = ⊥
+IsExplained pages lines NoLines (Some reply) = ⊥
+IsExplained pages lines (Bad number) (Some reply) = ⊥
+IsExplained pages lines (Breaks number rule) (Some reply) = HasFault (HadToAnswer (fresh pages) reply) (fresh pages) lines number
 
 -- A line leads a replayer on: it is written of an event, its reply and a hint that replay.
 pub record LeadsOn (old : Contents) (line : List ℕ) (new : Contents) : Type 0 where
@@ -71,9 +102,41 @@ pub record Stops (old : Contents) (rule : Rule) (line : List ℕ) : Type 0 where
   pub no_replay : IsNoReplay old event reply hint
   pub named : rule ≡ rule_of event reply hint
 
--- what a replayer finds of the line of this number
-abbrev pub IsLineVerdict : Contents → ℕ → List ℕ → Option Verdict → Contents → Type 0
-IsLineVerdict old number line None new = LeadsOn old line new
-IsLineVerdict old number line (Some Legal) new = ⊥
-IsLineVerdict old number line (Some (Bad n)) new = (n ≡ number) × IsUnwritten line
-IsLineVerdict old number line (Some (Breaks n rule)) new = (n ≡ number) × Stops old rule line
+-- where a line takes a replayer: a comment leaves it as it is, and a line that is told leads it on
+abbrev pub Takes : Bool → Contents → List ℕ → Contents → Type 0
+Takes true old line new = new ≡ old
+Takes false old line new = LeadsOn old line new
+
+-- A line that is told has this number.
+pub record IsToldAt (n number : ℕ) (line : List ℕ) : Type 0 where
+  pub is : n ≡ number
+  pub told : is_comment line ≡ false
+
+-- A line had to have this reply in each run that a replayer follows.
+pub record HasToAnswer (old : Contents) (reply : Reply) (line : List ℕ) : Type 0 where
+  pub event : Event
+  pub given : Reply
+  pub hint : Hint
+  pub is_written : IsWritten line event given hint
+  pub other : reply ≡ given → ⊥
+  pub expected : Expects old event reply
+
+-- what a replayer finds of the line of this number, by which it doesn't go on
+abbrev pub IsLineVerdict : Contents → ℕ → List ℕ → Verdict → Type 0
+IsLineVerdict old number line (Legal count) = ⊥
+IsLineVerdict old number line NoLines = ⊥
+IsLineVerdict old number line (Bad n) = IsToldAt n number line × IsUnwritten line
+IsLineVerdict old number line (Breaks n rule) = IsToldAt n number line × Stops old rule line
+
+-- and which reply the line had to have, if one is told
+abbrev pub IsLineExplained : Contents → List ℕ → Verdict → Option Reply → Type 0
+IsLineExplained old line verdict None = Unit {0}
+IsLineExplained old line (Legal count) (Some reply) = ⊥
+IsLineExplained old line NoLines (Some reply) = ⊥
+IsLineExplained old line (Bad n) (Some reply) = ⊥
+IsLineExplained old line (Breaks n rule) (Some reply) = HasToAnswer old reply line
+
+-- whether a line takes a replayer on, or else what is said of it
+abbrev pub IsLineJudged : Contents → ℕ → List ℕ → Option Judgement → Contents → Type 0
+IsLineJudged old number line None new = Takes (is_comment line) old line new
+IsLineJudged old number line (Some judgement) new = IsLineVerdict old number line judgement.verdict × IsLineExplained old line judgement.verdict judgement.expected

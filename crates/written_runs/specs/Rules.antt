@@ -2,13 +2,13 @@
 use Rattle.heap_spec.specs.declared.call.Call.{Call}
 use Rattle.heap_spec.specs.declared.call.Call.TheVariants.{Detach, Set, Copy, Add, Sub, Get, Push, Pop, Load, Store, Alloc, Free, Base, Size, GlobalGet, GlobalPut, Link, Unlink}
 use Rattle.heap_spec.specs.declared.event.Event.{Event}
-use Rattle.heap_spec.specs.declared.event.Event.TheVariants.{Attach, Mutator, Begin, Roots, Mark, Retrace, Finish, Sweep, Collect, Number}
+use Rattle.heap_spec.specs.declared.event.Event.TheVariants.{Attach, Mutator, Begin, BeginPartial, Roots, Mark, Retrace, Finish, Sweep, Collect, Number}
 use Rattle.heap_spec.specs.declared.reply.Reply.{Reply}
 use Rattle.heap_spec.specs.declared.reply.Reply.TheVariants.{Slot, Done, Word, Count, Refused}
 use Rattle.replayer.specs.declared.hint.Hint.{Hint}
 use Rattle.replayer.specs.declared.hint.Hint.TheVariants.{Nothing, Place, Forgot}
 use Rattle.written_runs.specs.declared.rules.Rule.{Rule}
-use Rattle.written_runs.specs.declared.rules.Rule.TheVariants.{Attach as AttachRule, GivenPlace, NoPlace, Refusal, Load as LoadRule, Store as StoreRule, Free as FreeRule, Base as BaseRule, Size as SizeRule, Link as LinkRule, Unlink as UnlinkRule, Roots as RootsRule, Begin as BeginRule, SmallStep, Forgotten, NoBases, Sweep as SweepRule, Number as NumberRule}
+use Rattle.written_runs.specs.declared.rules.Rule.TheVariants.{Attach as AttachRule, GivenPlace, NoPlace, Refusal, Load as LoadRule, Store as StoreRule, Free as FreeRule, Base as BaseRule, Size as SizeRule, Link as LinkRule, Unlink as UnlinkRule, Roots as RootsRule, Begin as BeginRule, BeginPartial as BeginPartialRule, SmallStep, Forgotten, NoBases, Sweep as SweepRule, Number as NumberRule}
 
 -- a granted request, with its place or without
 abbrev pub place_rule : Hint → Rule
@@ -56,6 +56,7 @@ abbrev pub rule_of : Event → Reply → Hint → Rule
 rule_of Attach reply hint = AttachRule
 rule_of (Mutator slot call) reply hint = call_rule call reply hint
 rule_of Begin reply hint = BeginRule
+rule_of BeginPartial reply hint = BeginPartialRule
 rule_of Roots reply hint = SmallStep
 rule_of (Mark n) reply hint = SmallStep
 rule_of Retrace reply hint = SmallStep

@@ -3,7 +3,7 @@ use Rattle.std.specs.Prelude.{◌≡◌, ℕ, ◌<◌, Bool, true, false, List, 
 use Rattle.words.specs.declared.limits.TheConstants.{SLOTS}
 use Rattle.heap_spec.specs.declared.call.Call.TheVariants.{Size, Unlink}
 use Rattle.heap_spec.specs.declared.event.Event.{Event}
-use Rattle.heap_spec.specs.declared.event.Event.TheVariants.{Attach, Mutator, Begin, Roots, Mark, Retrace, Finish, Sweep, Collect, Number}
+use Rattle.heap_spec.specs.declared.event.Event.TheVariants.{Attach, Mutator, Begin, BeginPartial, Roots, Mark, Retrace, Finish, Sweep, Collect, Number}
 use Rattle.heap_spec.specs.declared.reply.Reply.{Reply}
 use Rattle.heap_spec.specs.declared.reply.Reply.TheVariants.{Slot, Done, Word, Count, Refused}
 use Rattle.heap_spec.specs.Ranges.{IsWord}
@@ -33,6 +33,7 @@ answers_word (Mutator slot (Unlink a n)) = false
 answers_word (Mutator slot call) = true
 answers_word Attach = false
 answers_word Begin = false
+answers_word BeginPartial = false
 answers_word Roots = false
 answers_word (Mark n) = false
 answers_word Retrace = false

@@ -14,5 +14,5 @@ mod writing;
 
 pub use command::words_given;
 pub use rules::Rule;
-pub use verdict::{Verdict, judge};
-pub use writing::line_text;
+pub use verdict::{Judgement, Verdict, judge};
+pub use writing::{line_text, reply_text};

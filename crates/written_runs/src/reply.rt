@@ -58,6 +58,7 @@ fn refusal_with(code: u64) -> Option<Refusal>
         9 => Some(Refusal::WrongPhase),
         10 => Some(Refusal::LinksFull),
         11 => Some(Refusal::NotPointerFree),
+        12 => Some(Refusal::NeedsFull),
         _ => None,
     }
 }

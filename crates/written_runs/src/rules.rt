@@ -47,6 +47,9 @@ pub enum Rule {
     /// A cycle begins.
     Begin,
 
+    /// A cycle begins with the marks of the last one.
+    BeginPartial,
+
     /// A small step of a cycle.
     SmallStep,
 
@@ -84,6 +87,9 @@ impl Rule {
             Rule::Unlink => "an unlink answers how many links stood at the address",
             Rule::Roots => "registers, stacks and globals have what was put there last",
             Rule::Begin => "a cycle begins exactly while none is marking",
+            Rule::BeginPartial => {
+                "a cycle begins with the marks of the last one exactly while none is marking and no full cycle is needed first"
+            }
             Rule::SmallStep => {
                 "the small steps of a cycle are granted exactly while one is marking, and answer within their range"
             }
@@ -156,6 +162,7 @@ pub(crate) fn rule_of(event: &Event, reply: &Reply, hint: Hint) -> Rule
         Event::Attach => Rule::Attach,
         Event::Mutator(_, call) => of_call(call, reply, hint),
         Event::Begin => Rule::Begin,
+        Event::BeginPartial => Rule::BeginPartial,
         Event::Roots | Event::Mark(_) | Event::Retrace => Rule::SmallStep,
         Event::Finish => of_finish(hint),
         Event::Collect => Rule::Forgotten,

@@ -1,21 +1,27 @@
 //! A written run is replayed, line by line.
-ghost use Rattle.std.specs.Prelude.{◌≡◌, ◌<◌, ◌≤◌, ◌∷◌, length, IfOk};
+ghost use Rattle.std.specs.Prelude.{◌≡◌, ◌<◌, ◌≤◌, [], ◌∷◌, length, IfOk, IfSome, None};
 ghost use Rattle.words.specs.declared.limits.TheConstants.{MAX_PAGES};
 ghost use Rattle.scripts.specs.Lines.{lines_of};
-ghost use Rattle.written_runs.specs.Judging.{IsJudged, IsLineVerdict};
+ghost use Rattle.replayer.specs.Expecting.{Expects};
+ghost use Rattle.written_runs.specs.Judging.{IsExplained, IsJudged, IsLineJudged};
+ghost use Rattle.written_runs.specs.Told.{is_comment, told_lines};
 
 use crate::cut::cut;
 use crate::line::read_line;
 use crate::rules::{Rule, rule_of};
 use faults::RunError;
+use heap_spec::{Event, Reply};
 use replayer::Replayer;
 use std::alloc::{AllocError, Global};
 
 /// What is said of a written run.
 #[derive(Clone, Copy, Debug, PartialEq, Eq)]
 pub enum Verdict {
-    /// Each line is legal.
-    Legal,
+    /// Each line is legal, and there are so many that are no comments.
+    Legal(u64),
+
+    /// There is no line but comments.
+    NoLines,
 
     /// The line of this number, from 1, is no line of a run.
     Bad(u64),
@@ -24,24 +30,81 @@ pub enum Verdict {
     Breaks(u64, Rule),
 }
 
+/// What is said of a written run, and of a line that breaks it which reply it had to have, where just one is open.
+#[derive(Clone, Copy, Debug, PartialEq, Eq)]
+pub struct Judgement {
+    pub verdict: Verdict,
+    pub expected: Option<Reply>,
+}
+
+// A verdict of which there is no more to say.
+fn plainly(verdict: Verdict) -> Judgement
+    ensures verdict { result.verdict ≡ verdict }
+    ensures expected { result.expected ≡ None }
+{
+    Judgement {
+        verdict,
+        expected: None,
+    }
+}
+
+// The reply that a line had to have, where it is known and another one than it has.
+fn other_reply(replayer: &mut Replayer, event: &Event, reply: &Reply) -> Option<Reply>
+    ensures other { IfSome result (λ expected. expected ≡ reply.now → ⊥) }
+    ensures expected { IfSome result (λ expected. Expects replayer.old event.now expected) }
+    ensures same { replayer.new ≡ replayer.old }
+{
+    let Some(expected) = replayer.reply_to(event) else {
+        return None;
+    };
+    if expected == *reply {
+        return None;
+    }
+    Some(expected)
+}
+
+// Whether a line is a comment.
+fn is_comment(line: &[u8]) -> bool
+    ensures { result ≡ is_comment line.now }
+{
+    let Some((first, _)) = line.split_first() else {
+        return false;
+    };
+    *first == b'#'
+}
+
+// How many lines a line tells.
+fn told_by(line: &[u8]) -> u64
+    ensures { result ≡ length (told_lines (line.now ∷ [])) }
+{
+    if is_comment(line) { 0 } else { 1 }
+}
+
 // What is wrong with the next line, if anything is.
 fn judge_line(
     replayer: &mut Replayer,
     alloc: Global,
     number: u64,
     line: &[u8],
-) -> Result<Option<Verdict>, AllocError>
-    ensures { IfOk result (λ found. IsLineVerdict replayer.old number line.now found replayer.new) }
+) -> Result<Option<Judgement>, AllocError>
+    ensures { IfOk result (λ found. IsLineJudged replayer.old number line.now found replayer.new) }
 {
+    if is_comment(line) {
+        return Ok(None);
+    }
     let Some(line) = read_line(alloc, line)? else {
-        return Ok(Some(Verdict::Bad(number)));
+        return Ok(Some(plainly(Verdict::Bad(number))));
     };
     let hint = line.behind.hint();
     if replayer.step(&line.event, &line.reply, hint) {
         return Ok(None);
     }
     let rule = rule_of(&line.event, &line.reply, hint);
-    Ok(Some(Verdict::Breaks(number, rule)))
+    let expected = other_reply(replayer, &line.event, &line.reply);
+    Ok(Some(Judgement {
+        verdict: Verdict::Breaks(number, rule),
+        expected,
+    }))
 }
 
 // The first line of a text, without its newline, and the text behind it.
@@ -61,20 +124,26 @@ fn first_line(text: &[u8]) -> (&[u8], &[u8])
 ///
 /// # Errors
 /// [`RunError::Memory`] if memory was refused.
-pub fn judge(alloc: Global, pages: u32, text: &str) -> Result<Verdict, RunError>
+pub fn judge(alloc: Global, pages: u32, text: &str) -> Result<Judgement, RunError>
     requires { (1 ≤ pages) × (pages ≤ MAX_PAGES) }
-    ensures { IfOk result (λ verdict. IsJudged pages (lines_of text.now) verdict) }
+    ensures verdict { IfOk result (λ said. IsJudged pages (lines_of text.now) said.verdict) }
+    ensures expected { IfOk result (λ said. IsExplained pages (lines_of text.now) said.verdict said.expected) }
 {
     let mut replayer = Replayer::new(alloc, pages)?;
     let mut number = 0u64;
+    let mut told = 0u64;
     let mut rest = text.as_bytes();
     while !rest.is_empty() {
         let (line, behind) = first_line(rest);
         number += 1;
-        if let Some(verdict) = judge_line(&mut replayer, alloc, number, line)? {
-            return Ok(verdict);
+        told += told_by(line);
+        if let Some(judgement) = judge_line(&mut replayer, alloc, number, line)? {
+            return Ok(judgement);
         }
         rest = behind;
     }
-    Ok(Verdict::Legal)
+    if told == 0 {
+        return Ok(plainly(Verdict::NoLines));
+    }
+    Ok(plainly(Verdict::Legal(told)))
 }

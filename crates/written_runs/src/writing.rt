@@ -8,8 +8,8 @@ use heap_spec::Reply;
 use replayer::Hint;
 use std::alloc::{AllocError, Global};
 
-// A reply, with each word as its number.
-fn reply_text(alloc: Global, reply: &Reply) -> Result<String, AllocError>
+/// The text of a reply in a line: each word is its number.
+pub fn reply_text(alloc: Global, reply: &Reply) -> Result<String, AllocError>
     ensures { IfOk result (λ text. string_bytes text ≡ answer_of reply.now) }
 {
     match reply {

@@ -1,4 +1,4 @@
-//! What calls of mutators tell the marker, while a cycle is marking.
+//! What calls of mutators tell the marker.
 ghost use Rattle.std.specs.Prelude.{◌*◌, ◌<◌, ◌≤◌, length};
 ghost use Rattle.words.specs.declared.limits.TheConstants.{FIRST_ADDRESS, PAGE_GRANULES};
 ghost use Rattle.words.specs.Layout.{granule, page_of};
@@ -8,14 +8,12 @@ use marker::Marker;
 
 // A word was written at the address.
 #[inline]
-pub(crate) fn note_write(marker: &mut Marker, is_marking: bool, address: u64)
+pub(crate) fn note_write(marker: &mut Marker, address: u64)
     requires low { FIRST_ADDRESS ≤ address }
     requires inside { page_of address < length marker.old.dirty }
-    ensures { NotesWrite is_marking address marker.old marker.new }
+    ensures { NotesWrite address marker.old marker.new }
 {
-    if is_marking {
-        marker.written(address);
-    }
+    marker.written(address);
 }
 
 // An object of zero words was allocated at the base.

@@ -1,5 +1,5 @@
 //! How many pages are free, dirty and pending, for a caller that paces the collector. These are no events: nothing changes.
-//! Each is counted by whole words of a row with a bit a page, so a heap of 1,024 pages costs 16 words.
+//! Each is counted by whole words of a row with a bit a page, so the greatest heap costs 64 words.
 ghost use Rattle.std.specs.Prelude.{◌≡◌};
 ghost use Rattle.words.specs.Bits.{members};
 

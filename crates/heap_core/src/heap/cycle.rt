@@ -24,6 +24,7 @@ impl Core {
         self.objects.sweep_all(&self.marker);
         self.marker.begin();
         self.is_marking = true;
+        self.needs_full = false;
         Ok(())
     }
 
@@ -94,6 +95,7 @@ impl Core {
             .collect(&mut self.marker, self.root_words.as_slice());
         self.objects.take_along(&self.marker, &mut self.links);
         self.is_marking = false;
+        self.needs_full = false;
         self.count = self.count.wrapping_add(1);
         Ok(count)
     }

@@ -46,6 +46,7 @@ impl Core {
             Event::Attach => slot_of(self.attach()),
             Event::Mutator(slot, call) => self.serve_call(slot, call),
             Event::Begin => done(self.begin()),
+            Event::BeginPartial => done(self.begin_partial()),
             Event::Roots => done(self.roots()),
             Event::Mark(most) => count(self.mark(most)),
             Event::Retrace => count(self.retrace()),
@@ -62,6 +63,8 @@ impl Core {
         ensures acts { IsAct self.old event result self.new }
         ensures line { IsLine self.old event result self.new }
     {
+        // Its clauses tell that each object has words.
+        self.laws();
         self.serve(event)
     }
 
@@ -71,6 +74,7 @@ impl Core {
         ensures acts { AreActs self.old (told_of events.now out.new) self.new }
         ensures lines { AreLines self.old (told_of events.now out.new) self.new }
     {
+        self.laws();
         for i in 0..events.len() {
             out[i] = self.act(events[i]);
             self.laws();

@@ -65,7 +65,7 @@ impl Core {
         }
         find_in(&self.objects, &self.marker, target)?;
         self.objects.write(target, word);
-        note_write(&mut self.marker, self.is_marking, target);
+        note_write(&mut self.marker, target);
         Ok(())
     }
 
@@ -160,6 +160,7 @@ impl Core {
         self.objects.release(found);
         self.marker.freed(word);
         self.objects.take_along(&self.marker, &mut self.links);
+        self.needs_full = true;
         Ok(())
     }
 }

@@ -7,8 +7,8 @@ use words::limits::FIRST_ADDRESS;
 use words::page_of;
 
 impl Core {
-    /// Tells that the word at an address is written past the calls: while a cycle is marking, the page of the address becomes
-    /// dirty, if the heap has it. This is no event, and nothing else changes.
+    /// Tells that the word at an address is written past the calls: the page of the address becomes dirty, if the heap has it.
+    /// This is no event, and nothing else changes.
     #[inline]
     pub fn written(&mut self, address: u64)
         ensures { TellsWritten address self.old self.new }
@@ -17,7 +17,7 @@ impl Core {
             return;
         }
         if page_of(address) < u64::from(self.objects.pages()) {
-            note_write(&mut self.marker, self.is_marking, address);
+            note_write(&mut self.marker, address);
         }
     }
 }

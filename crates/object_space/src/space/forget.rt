@@ -5,7 +5,7 @@ ghost use Rattle.std.specs.Prelude.{◌≡◌, ◌<◌, length};
 ghost use Rattle.block_map.specs.FoundIn.{found_in, IsLawful};
 ghost use Rattle.block_map.specs.States.{IsCut, state_at};
 ghost use Rattle.marker.specs.Marking.{AreMarksObjects, IsDone};
-ghost use Rattle.marker.specs.Invariant.{DirtyPageInvariant};
+ghost use Rattle.marker.specs.Invariant.{DirtyPageInvariant, CarriedPageInvariant};
 ghost use Rattle.object_space.specs.Store.{IsSwept};
 ghost use Rattle.object_space.specs.Kept.{IsPendingAfter};
 ghost use Rattle.object_space.specs.Forgets.{ForgetsOn};
@@ -88,6 +88,7 @@ impl ObjectSpace {
         ensures pending { IsPendingAfter self.new.states marker.new.marks self.new.pending }
         ensures done { IsDone marker.new }
         ensures pages { length marker.new.dirty ≡ length self.new.states }
+        ensures carries { CarriedPageInvariant (found_in self.old.states) self.old.words marker.old → CarriedPageInvariant (found_in self.new.states) self.new.words marker.new }
         ensures objects { AreMarksObjects (found_in self.new.states) marker.new }
         ensures lawful { IsLawful self.old.states }
     {
@@ -106,6 +107,7 @@ impl ObjectSpace {
         ensures swept { IsSwept self.new }
         ensures done { IsDone marker.new }
         ensures pages { length marker.new.dirty ≡ length self.new.states }
+        ensures carries { CarriedPageInvariant (found_in self.old.states) self.old.words marker.old → CarriedPageInvariant (found_in self.new.states) self.new.words marker.new }
         ensures objects { AreMarksObjects (found_in self.new.states) marker.new }
         ensures lawful { IsLawful self.old.states }
     {

@@ -6,8 +6,8 @@ ghost use Rattle.plain_core.specs.Contents.{Contents, IsLaidOut};
 ghost use Rattle.plain_core.specs.Answering.{FindsExtent, HoldsWord, FindsNothing, MayAnswer, CanAnswer, CanAttach};
 
 use super::Core;
-use crate::extent::{Extent, object_at};
-use crate::owners::place_of;
+use crate::extent::Extent;
+use crate::owners::{object_at, place_of};
 use crate::places::place_for;
 use heap_spec::{Call, Reply};
 use links::is_normal;
@@ -52,19 +52,19 @@ impl Core {
     }
 
     // The object that an address points into.
-    fn found(&self, address: u64) -> Option<Extent>
+    pub(super) fn found(&self, address: u64) -> Option<Extent>
         ensures some { IfSome result (λ e. FindsExtent self.now address e) }
         ensures none { IfNone result (FindsNothing self.now address) }
     {
-        object_at(&self.objects, address)
+        object_at(&self.objects, &self.owners, address)
     }
 
     // The word at an address that points into an object.
-    fn word_at(&self, address: u64) -> Option<u64>
+    pub(super) fn word_at(&self, address: u64) -> Option<u64>
         ensures some { IfSome result (λ w. HoldsWord self.now address w) }
         ensures none { IfNone result (FindsNothing self.now address) }
     {
-        object_at(&self.objects, address)?;
+        object_at(&self.objects, &self.owners, address)?;
         let place = place_of(address);
         Some(self.words[place])
     }
@@ -104,7 +104,8 @@ impl Core {
         let Some(placement) = class_of(words) else {
             return Reply::Refused(Refusal::BadSize);
         };
-        let Some(_object) = place_for(&self.objects, self.pages, placement, kind) else {
+        let Some(_object) = place_for(&self.objects, &self.owners, self.pages, placement, kind)
+        else {
             return Reply::Refused(Refusal::Full);
         };
         Reply::Done

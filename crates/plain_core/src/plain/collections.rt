@@ -23,19 +23,17 @@ pub(super) fn list_from_roots(
     root_words: &mut ArrayVec<u64, ROOT_WORDS>,
     words: &[u64],
     objects: &[Extent],
-    owners: &mut [u64],
+    owners: &[u64],
     listing: &mut Listing,
 )
     requires apart { AreApart objects.now }
+    requires owners { AreOwners objects.now owners.now }
     requires lie { All (LiesIn words.now) objects.now }
-    requires within { All (LiesIn owners.old) objects.now }
     requires room { HasListRoom (length objects.now) listing.old }
     ensures marks { MarksReached (root_words_of roots.now) words.now objects.now listing.new.marks.items }
     ensures room { KeepsRoom listing.old listing.new }
-    ensures owners { AreOwners objects.now owners.new }
 {
     roots.write_words(root_words);
-    write_owners(objects, owners);
     let from = root_words.as_slice();
     list_reached(from, words, objects, owners, listing);
 }
@@ -50,16 +48,22 @@ impl Core {
             &mut self.root_words,
             &self.words,
             &self.objects,
-            &mut self.owners,
+            &self.owners,
             &mut self.listing,
         );
         let count = keep_flagged(&mut self.objects, &self.listing.marks);
-        take_along(&mut self.words, &self.objects, &mut self.links);
+        write_owners(&self.objects, &mut self.owners);
+        take_along(
+            &mut self.words,
+            &self.objects,
+            &self.owners,
+            &mut self.links,
+        );
         count as u64
     }
 
-    // How many objects are not reached.
-    fn count_unreached(&mut self) -> u64
+    /// How many objects are not reached.
+    pub fn count_unreached(&mut self) -> u64
         ensures garbage { HasGarbage self.old result }
         ensures same { self.new ≡ self.old }
     {
@@ -68,7 +72,7 @@ impl Core {
             &mut self.root_words,
             &self.words,
             &self.objects,
-            &mut self.owners,
+            &self.owners,
             &mut self.listing,
         );
         count_unflagged(&self.objects, &self.listing.marks) as u64
@@ -99,7 +103,7 @@ impl Core {
             &mut self.root_words,
             &self.words,
             &self.objects,
-            &mut self.owners,
+            &self.owners,
             &mut self.listing,
         );
         self.stays.fill(true);
@@ -116,7 +120,13 @@ impl Core {
             return false;
         }
         let _gone = keep_flagged(&mut self.objects, &self.stays);
-        take_along(&mut self.words, &self.objects, &mut self.links);
+        write_owners(&self.objects, &mut self.owners);
+        take_along(
+            &mut self.words,
+            &self.objects,
+            &self.owners,
+            &mut self.links,
+        );
         true
     }
 

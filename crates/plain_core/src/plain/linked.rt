@@ -3,7 +3,7 @@ ghost use Rattle.heap_spec.specs.Replies.{IsStep, count_reply, done_reply};
 ghost use Rattle.plain_core.specs.Standing.{StandsFor};
 
 use super::Core;
-use crate::extent::find_in;
+use crate::owners::find_in;
 use heap_spec::{Call, Event};
 use links::is_normal;
 use words::limits::WORD_BYTES;
@@ -20,11 +20,11 @@ impl Core {
         if address % WORD_BYTES != 0 {
             return Err(Refusal::Misaligned);
         }
-        let holder = find_in(&self.objects, address)?;
+        let holder = find_in(&self.objects, &self.owners, address)?;
         if is_normal(holder.kind) {
             return Err(Refusal::NotPointerFree);
         }
-        let named = find_in(&self.objects, word)?;
+        let named = find_in(&self.objects, &self.owners, word)?;
         if !self.links.has_room(address) {
             return Err(Refusal::LinksFull);
         }

@@ -8,9 +8,9 @@ ghost use Rattle.plain_core.specs.Answering.{MayBePut, IsPut, IsAllocatedAt, Can
 
 use super::Core;
 use crate::along::take_along;
-use crate::extent::{Extent, find_in, index_at};
+use crate::extent::Extent;
 use crate::given_place::place_at;
-use crate::owners::{fill, place_of};
+use crate::owners::{fill, find_in, owner_at, place_of, write_owner};
 use crate::places::place_for;
 use heap_spec::{Call, Event};
 use words::limits::WORD_BYTES;
@@ -28,7 +28,7 @@ impl Core {
         if address % WORD_BYTES != 0 {
             return Err(Refusal::Misaligned);
         }
-        find_in(&self.objects, address)?;
+        find_in(&self.objects, &self.owners, address)?;
         let place = place_of(address);
         let word = self.words[place];
         self.roots.set_word(slot, into, word);
@@ -45,7 +45,7 @@ impl Core {
         if address % WORD_BYTES != 0 {
             return Err(Refusal::Misaligned);
         }
-        find_in(&self.objects, address)?;
+        find_in(&self.objects, &self.owners, address)?;
         let place = place_of(address);
         self.words[place] = word;
         Ok(())
@@ -59,7 +59,9 @@ impl Core {
     {
         let start = place_of(object.base);
         fill(&mut self.words, start, object.length as usize, 0);
+        let index = self.objects.len();
         let _pushed = self.objects.push(object);
+        write_owner(&self.objects, &mut self.owners, index);
         self.roots.set_word(slot, into, object.base);
     }
 
@@ -69,7 +71,9 @@ impl Core {
     {
         self.mutator(slot).ok_or(Refusal::NoSlot)?;
         let placement = class_of(words).ok_or(Refusal::BadSize)?;
-        let object = place_for(&self.objects, self.pages, placement, kind).ok_or(Refusal::Full)?;
+        let object = place_for(&self.objects, &self.owners, self.pages, placement, kind).ok_or(
+            Refusal::Full,
+        )?;
         self.put(slot, into, object);
         Ok(())
     }
@@ -86,7 +90,14 @@ impl Core {
         let Some(placement) = class_of(words) else {
             return false;
         };
-        let Some(object) = place_at(&self.objects, self.pages, placement, kind, base) else {
+        let Some(object) = place_at(
+            &self.objects,
+            &self.owners,
+            self.pages,
+            placement,
+            kind,
+            base,
+        ) else {
             return false;
         };
         self.put(slot, into, object);
@@ -99,13 +110,19 @@ impl Core {
     {
         let mutator = self.roots.attached(slot)?;
         let address = mutator.word(at);
-        let index = index_at(&self.objects, address).ok_or(Refusal::NoObject)?;
+        let index = owner_at(&self.objects, &self.owners, address).ok_or(Refusal::NoObject)?;
         let object = self.objects[index];
         if object.base != address {
             return Err(Refusal::NotBase);
         }
         let _freed = self.objects.swap_remove(index);
-        take_along(&mut self.words, &self.objects, &mut self.links);
+        write_owner(&self.objects, &mut self.owners, index);
+        take_along(
+            &mut self.words,
+            &self.objects,
+            &self.owners,
+            &mut self.links,
+        );
         Ok(())
     }
 
@@ -115,7 +132,7 @@ impl Core {
     {
         let mutator = self.roots.attached(slot)?;
         let word = mutator.word(at);
-        let object = find_in(&self.objects, word)?;
+        let object = find_in(&self.objects, &self.owners, word)?;
         self.roots.set_word(slot, into, object.base);
         Ok(object.base)
     }
@@ -126,7 +143,7 @@ impl Core {
     {
         let mutator = self.roots.attached(slot)?;
         let word = mutator.word(at);
-        let object = find_in(&self.objects, word)?;
+        let object = find_in(&self.objects, &self.owners, word)?;
         Ok(object.length)
     }
 }

@@ -1,8 +1,9 @@
 //! Calls that are made only if they have a reply that is given: a checker replays a run by them.
 ghost use Rattle.std.specs.Prelude.{◌≡◌, IsTrue, false};
+ghost use Rattle.heap_spec.specs.declared.reply.Reply.{Reply as ReplyValue};
 ghost use Rattle.heap_spec.specs.Replies.{IsStep};
 ghost use Rattle.plain_core.specs.Standing.{StandsFor};
-ghost use Rattle.plain_core.specs.Answering.{IsNoStep, MakesCall};
+ghost use Rattle.plain_core.specs.Answering.{CanAnswer, CanAttach, IsNoStep, MakesCall};
 
 use super::Core;
 use heap_spec::{Call, Event, Reply};
@@ -20,6 +21,23 @@ fn is_same(a: &Reply, b: &Reply) -> bool
 fn ignore<T: Drop>(_reply: Result<T, Refusal>) {}
 
 impl Core {
+    /// The reply to the next mutator that comes, which is answered so and not otherwise.
+    pub fn attach_reply(&self) -> Reply
+        ensures may { CanAttach self.now result }
+        ensures only { (other : ReplyValue) → (result ≡ other → ⊥) → IsNoStep self.now Event.Attach other }
+    {
+        self.attach_answer()
+    }
+
+    /// The reply to a call, which is answered so and not otherwise.
+    pub fn call_reply(&self, slot: Slot, call: Call) -> Reply
+        ensures may { CanAnswer self.now slot call result }
+        ensures only { (other : ReplyValue) → (result ≡ other → ⊥) → IsNoStep self.now (Event.Mutator slot call) other }
+    {
+        self.laws();
+        self.answer(slot, call)
+    }
+
     // Makes a call, whatever its reply.
     fn make(&mut self, slot: Slot, call: Call)
         ensures { MakesCall self.old slot call self.new }

@@ -11,31 +11,12 @@ ghost use Rattle.plain_core.specs.Flags.{FlagsReached, FlagsLed, FlagsBrought, F
 
 use super::Core;
 use super::collections::list_from_roots;
-use crate::extent::{Extent, object_at};
+use crate::extent::Extent;
 use crate::flags::{are_named, flag_marked, has_no_links, is_flagged, set_flag, unset_all};
-use crate::listing::{Listing, list_reached};
-use crate::owners::write_owners;
+use crate::listing::list_reached;
+use crate::owners::object_at;
 use heap_spec::Call;
 use words::{Reg, Slot};
-
-// Lists the objects that a word leads to.
-fn list_from(
-    word: u64,
-    words: &[u64],
-    objects: &[Extent],
-    owners: &mut [u64],
-    listing: &mut Listing,
-)
-    requires apart { AreApart objects.now }
-    requires lie { All (LiesIn words.now) objects.now }
-    requires within { All (LiesIn owners.old) objects.now }
-    requires room { HasListRoom (length objects.now) listing.old }
-    ensures marks { MarksReached (word ∷ []) words.now objects.now listing.new.marks.items }
-    ensures room { KeepsRoom listing.old listing.new }
-{
-    write_owners(objects, owners);
-    list_reached(&[word], words, objects, owners, listing);
-}
 
 // The register whose word a call brings to where the collector reads it.
 fn moved(call: &Call) -> Option<Reg>
@@ -83,7 +64,7 @@ impl Core {
             &mut self.root_words,
             &self.words,
             &self.objects,
-            &mut self.owners,
+            &self.owners,
             &mut self.listing,
         );
         unset_all(flags);
@@ -95,7 +76,7 @@ impl Core {
         ensures flags { FlagsLed self.old word flags.old flags.new }
         ensures same { self.new ≡ self.old }
     {
-        let Some(object) = object_at(&self.objects, word) else {
+        let Some(object) = object_at(&self.objects, &self.owners, word) else {
             return;
         };
         if is_flagged(flags, object.base) {
@@ -106,11 +87,11 @@ impl Core {
             set_flag(flags, object.base);
             return;
         }
-        list_from(
-            word,
+        list_reached(
+            &[word],
             &self.words,
             &self.objects,
-            &mut self.owners,
+            &self.owners,
             &mut self.listing,
         );
         flag_marked(&self.objects, &self.listing.marks, flags);
@@ -123,8 +104,7 @@ impl Core {
         ensures no { result ≡ false → CantForget self.old flags.now bases.now }
         ensures same { result ≡ false → self.new ≡ self.old }
     {
-        self.laws();
-        if !are_named(&self.objects, flags, bases) {
+        if !are_named(&self.objects, &self.owners, flags, bases, &mut self.stays) {
             return false;
         }
         self.take(bases, false)

@@ -18,8 +18,8 @@ loop-helper-preserved c =
     let last : get_or c.loop-helper.crew.items low h ≡ h = ap (λ (l : List Helper). get_or l low h) pop.items ∙ (ap (λ (m : ℕ). get_or (rest ++ h ∷ []) m h) len ∙ get_or-append_seam rest h [] h) in
     let done : HasServed p low h = subst (HasServed p low) last (inv.done low h (omega (arith, is))) in
     record {
-      gathered = gathers_next p low c.loop-helper.first c.take_in.new.first c.loop-helper.dirty c.take_in.new.dirty h
-          (subst (λ (m : ℕ). HasGathered p m c.loop-helper.first c.loop-helper.dirty) is inv.gathered) done k.of k.joined k.size k.each k.old k.more;
+      gathered = gathers_next p low c.loop-helper.first c.take_in.new.first c.loop-helper.dirty c.take_in.new.dirty c.loop-helper.carried c.take_in.new.carried h
+          (subst (λ (m : ℕ). HasGathered p m c.loop-helper.first c.loop-helper.dirty c.loop-helper.carried) is inv.gathered) done k.of k.joined k.size k.each k.old k.more k.carried_size k.each_carried k.old_carried k.more_carried;
       done = λ i d lt.
           let same : get_or c.loop-helper.crew.items i d ≡ get_or rest i d = ap (λ (l : List Helper). get_or l i d) pop.items ∙ get_or-append rest (h ∷ []) d i (omega (arith, lt, len)) in
           subst (HasServed p i) same (inv.done i d (omega (arith, is, lt)));

@@ -7,7 +7,7 @@ use Rattle.final_pause.proofs.crew.gather.Given as goal
 
 abbrev pub invariant-loop-helper : goal.invariant-loop-helper
 invariant-loop-helper l = record {
-  gathered : HasGathered l.pause (vec_len l.crew) l.first l.dirty;
+  gathered : HasGathered l.pause (vec_len l.crew) l.first l.dirty l.carried;
   done : (i : ℕ) (d : Helper) → i < vec_len l.crew → HasServed l.pause i (slice_index_or l.crew.items i d);
 }
 

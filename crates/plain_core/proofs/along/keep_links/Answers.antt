@@ -2,14 +2,13 @@ use Rattle.std.proofs.Common.{length, ◌≡◌, true, false, get_or, refl, ap, 
 use Rattle.std.proofs.lemmas.List.{append-nil}
 use Rattle.links.specs.declared.row.Link.{Link}
 use Rattle.links.specs.Leaving.{stays_with}
-use Rattle.links.proofs.Leaving.{clears_none}
 use Rattle.plain_core.specs.Along.{holds_word, has_base}
 use Rattle.plain_core.proofs.Leaving.{along_more, kept_more, lie_same}
 use Rattle.plain_core.proofs.along.keep_links.Goals as goal
 use Rattle.plain_core.proofs.along.keep_links.Goals.{then-keep_link, else-keep_link}
 
-pub keep_link-requires : goal.keep_link-requires
-keep_link-requires c = lie_same _ _ _ c.loop-link.invariant.along.size c.requires.lie
+pub keep_link-requires-clause-lie : goal.keep_link-requires-clause-lie
+keep_link-requires-clause-lie c = lie_same _ _ _ c.loop-link.invariant.along.size c.requires.lie
 
 pub loop-link-preserved : goal.loop-link-preserved
 loop-link-preserved c =

@@ -1,13 +1,14 @@
-use Rattle.std.proofs.Common.{◌⊎◌, subst, sym}
-use Rattle.std.specs.Prelude.{Contains}
-use Rattle.std.proofs.lemmas.List.Elements.{AllWithin-more}
-use Rattle.std.proofs.lemmas.Option.{slice_get-get_or, get_or_from_slice_get}
-use Rattle.plain_core.specs.declared.extent.Extent.{Extent}
-use Rattle.plain_core.specs.Flags.{IsFlagged}
+use Rattle.std.proofs.Common.{subst, sym, arith}
+use Rattle.plain_core.specs.Flags.{AreGone}
+use Rattle.plain_core.proofs.Forgets.{all_set_of}
+use Rattle.plain_core.proofs.Flagging.{gone_named, named_gone}
 use Rattle.plain_core.proofs.flags.are_named.Goals as goal
 
-pub loop-object-preserved : goal.loop-object-preserved
-loop-object-preserved c = AllWithin-more (λ (e : Extent). IsFlagged c.args.flags.now e.base ⊎ Contains c.args.bases.now e.base) c.args.objects.now 0 c.loop-object.object-index c.loop-object.invariant
-    (λ d. subst (λ (e : Extent). IsFlagged c.args.flags.now e.base ⊎ Contains c.args.bases.now e.base)
-    (sym (get_or_from_slice_get c.args.objects.now c.loop-object.object-index _ d (slice_get-get_or c.args.objects.now c.loop-object.object-index _ c.loop-object-test.true)))
-    (c.is_named.ensures.yes c.if-not-is_named.false))
+pub unset_named-requires-clause-flags : goal.unset_named-requires-clause-flags
+unset_named-requires-clause-flags c = all_set_of _ _ _ (c.fill.ensures.items (λ y clone. clone)) (let room = c.requires.stays in omega (arith, c.args.stays.now.ok.0))
+
+pub returns-clause-yes : goal.returns-clause-yes
+returns-clause-yes c done = gone_named _ _ _ _ c.unset_named.ensures.unset (subst (AreGone c.args.objects.now c.args.flags.now) c.deref.ensures.value (c.are_gone.ensures.yes done))
+
+pub returns-clause-no : goal.returns-clause-no
+returns-clause-no c refused names = c.are_gone.ensures.no refused (subst (AreGone c.args.objects.now c.args.flags.now) (sym c.deref.ensures.value) (named_gone _ _ _ _ c.unset_named.ensures.unset names))

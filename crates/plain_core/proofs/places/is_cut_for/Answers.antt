@@ -1,12 +1,18 @@
-use Rattle.std.proofs.Common.{sym, ◌≡◌}
-use Rattle.std.proofs.lemmas.List.{take_all}
-use Rattle.std.proofs.lemmas.List.Elements.{All-more, All-same}
-use Rattle.heap_spec.specs.Layout.{LiesOn}
+use Rattle.std.proofs.Common.{◌≡◌, ℕ, below_more}
+use Rattle.std.specs.Prelude.{All}
+use Rattle.heap_spec.specs.Layout.{Reads}
 use Rattle.plain_core.specs.declared.extent.Extent.{Extent}
+use Rattle.plain_core.specs.Places.{granule_start}
+use Rattle.plain_core.proofs.Granules.{all_on, not_on}
 use Rattle.plain_core.proofs.places.is_cut_for.Goals as goal
 
-pub loop-object-preserved : goal.loop-object-preserved
-loop-object-preserved c = All-more (λ (e : Extent). LiesOn e.base e.length c.args.page → (e.length ≡ c.args.length) × (e.kind ≡ c.args.kind)) _ _ _ c.loop-object-test.true c.loop-object.invariant (c.agrees.ensures.yes c.if-not-agrees.false)
+pub loop-granule-preserved : goal.loop-granule-preserved
+loop-granule-preserved c = below_more (λ (g : ℕ). All (λ (e : Extent). Reads (granule_start c.args.page g) e.base e.length → (e.length ≡ c.args.length) × (e.kind ≡ c.args.kind)) c.args.objects.now) _ c.loop-granule.invariant
+    (rw c.granule_start.ensures at c.agrees_at.ensures.yes c.if-not-agrees_at.false)
+
+pub returns-then-not-agrees_at-clause-no : goal.returns-then-not-agrees_at-clause-no
+returns-then-not-agrees_at-clause-no c _ cut = not_on _ _ c.requires (λ e. (e.length ≡ c.args.length) × (e.kind ≡ c.args.kind)) c.args.page c.loop-granule.granule c.loop-granule-test.true
+    (rw c.granule_start.ensures at c.agrees_at.ensures.no c.if-not-agrees_at.true) cut
 
 pub returns-clause-yes : goal.returns-clause-yes
-returns-clause-yes c _ = All-same (λ (e : Extent). LiesOn e.base e.length c.args.page → (e.length ≡ c.args.length) × (e.kind ≡ c.args.kind)) _ _ (sym (take_all c.loop-object.object-index c.args.objects.now c.loop-object-test.false)) c.loop-object.invariant
+returns-clause-yes c _ = all_on _ _ c.requires (λ e. (e.length ≡ c.args.length) × (e.kind ≡ c.args.kind)) c.args.page _ c.loop-granule-test.false c.loop-granule.invariant

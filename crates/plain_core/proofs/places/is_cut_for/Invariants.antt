@@ -1,7 +1,9 @@
-use Rattle.std.proofs.Common.{take}
-use Rattle.plain_core.specs.Places.{IsCutPage}
+use Rattle.std.proofs.Common.{◌≡◌, ℕ, ◌<◌}
+use Rattle.std.specs.Prelude.{All}
+use Rattle.heap_spec.specs.Layout.{Reads}
+use Rattle.plain_core.specs.Places.{granule_start}
 use Rattle.plain_core.proofs.places.is_cut_for.Given as goal
 
 -- so far
-abbrev pub invariant-loop-object : goal.invariant-loop-object
-invariant-loop-object l = IsCutPage (take l.object-index l.objects) l.page l.length l.kind
+abbrev pub invariant-loop-granule : goal.invariant-loop-granule
+invariant-loop-granule l = (g : ℕ) → g < l.granule → All (λ e. Reads (granule_start l.page g) e.base e.length → (e.length ≡ l.length) × (e.kind ≡ l.kind)) l.objects

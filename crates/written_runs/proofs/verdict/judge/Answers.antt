@@ -1,13 +1,8 @@
-use Rattle.std.proofs.Common.{arith}
-use Rattle.std.proofs.lemmas.Bool.Decides.{nat_tests}
-use Rattle.written_runs.proofs.Judged.{starts, goes_on, ended}
+use Rattle.written_runs.proofs.Judged.{starts, goes_on}
 use Rattle.written_runs.proofs.verdict.judge.Goals as goal
 
 pub loop-rest-init : goal.loop-rest-init
 loop-rest-init c = rw c.as_bytes-rest.ensures.value (starts _ _ _ c.in_ok-replayer.ensures)
 
 pub loop-rest-preserved : goal.loop-rest-preserved
-loop-rest-preserved c = goes_on _ _ _ _ _ _ _ _ c.loop-rest.invariant c.first_line.ensures.lines c.first_line.ensures.shorter (rw c.in_default.is at c.in_ok-verdict.ensures)
-
-pub returns : goal.returns
-returns c = ended _ _ _ _ _ c.loop-rest.invariant (grind (arith, nat_tests))
+loop-rest-preserved c = goes_on _ _ _ _ _ _ _ _ _ c.loop-rest.invariant c.first_line.ensures.lines c.first_line.ensures.shorter (rw c.in_default.is at c.in_ok-judgement.ensures) _ c.told_by-told.ensures

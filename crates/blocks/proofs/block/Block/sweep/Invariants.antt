@@ -1,10 +1,7 @@
-use Rattle.std.proofs.Common.{◌-◌, length}
+use Rattle.std.proofs.Common.{◌*◌}
 use Rattle.blocks.specs.Lists.{IsListed}
-use Rattle.blocks.proofs.Sweeps.{HasSwept}
+use Rattle.blocks.specs.Sweeps.{SweepsRange}
 use Rattle.blocks.proofs.block.Block.sweep.Given as goal
 
-abbrev pub invariant-loop-cell : goal.invariant-loop-cell
-invariant-loop-cell l = HasSwept l.initial.memory l.memory l.marks l.page l.initial.self l.self l.from × IsListed l.memory l.page l.self
-
-abbrev pub decreases-loop-cell : goal.decreases-loop-cell
-decreases-loop-cell l = length l.self.taken - l.from
+abbrev pub invariant-loop-j : goal.invariant-loop-j
+invariant-loop-j l = SweepsRange l.initial.memory l.memory l.live l.page 0 (64 * l.j) l.initial.self l.self × IsListed l.memory l.page l.self

@@ -20,9 +20,9 @@ returns g c =
       empty = c.help_others.ensures.empty;
       read = record {
         roots = roots_more p (view h1.claimer) (view h6.claimer) s15.learns.known _ _ c.read_roots.ensures.roots;
-        entries = entries_more p (view h4.claimer) (view h6.claimer) s5.learns.known _ _ (subst (λ (s : ℕ). AreEntriesRead p (view h4.claimer) s (length p.marker.now.stack)) is3 c.read_entries.ensures.read);
-        current = current_more p (view h2.claimer) (view h6.claimer) s25.learns.known _ (subst (λ (s : ℕ). IsCurrentRead p (view h2.claimer) s) s1.share c.read_current.ensures.read);
-        pages = pages_more p (view h45.claimer) (view h6.claimer) s455.learns.known _ _
-            (subst (λ (s : ℕ). ArePagesRead p (view h45.claimer) s (length p.map.now)) (c.read_entries.ensures.serves.share ∙ is3) c.read_pages.ensures.read);
+        entries = entries_more p (view h4.claimer) (view h6.claimer) h4.carried h6.carried s5.learns.known s5.carried _ _ (subst (λ (s : ℕ). AreEntriesRead p (view h4.claimer) h4.carried s (length p.marker.now.stack)) is3 c.read_entries.ensures.read);
+        current = current_more p (view h2.claimer) (view h6.claimer) h2.carried h6.carried s25.learns.known s25.carried _ (subst (λ (s : ℕ). IsCurrentRead p (view h2.claimer) h2.carried s) s1.share c.read_current.ensures.read);
+        pages = pages_more p (view h45.claimer) (view h6.claimer) h45.carried h6.carried s455.learns.known s455.carried _ _
+            (subst (λ (s : ℕ). ArePagesRead p (view h45.claimer) h45.carried s (length p.map.now)) (c.read_entries.ensures.serves.share ∙ is3) c.read_pages.ensures.read);
       };
     }

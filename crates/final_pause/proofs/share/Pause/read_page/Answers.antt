@@ -21,8 +21,8 @@ loop-found-preserved g c =
     let h = c.loop-found.helper in let h' = c.read_part-address.new.helper in
     record {
       serves = serves_trans p c.args.helper.now h h' i.serves e.serves;
-      read = words_append p (view h'.claimer) (page_start c.args.page) c.loop-found.address c.read_part-address.result
-          (words_more p (view h.claimer) (view h'.claimer) e.serves.learns.known _ _ i.read) e.read;
+      read = words_append p (view h'.claimer) h'.carried (page_start c.args.page) c.loop-found.address c.read_part-address.result
+          (words_more p (view h.claimer) (view h'.claimer) h.carried h'.carried e.serves.learns.known e.serves.carried _ _ i.read) e.read;
       from = (let b = i.from in let a = e.further in omega arith);
       within = (let a = e.within in let f = c.page_start-address.ensures in omega arith);
       aligned = e.aligned;
@@ -31,5 +31,5 @@ loop-found-preserved g c =
 pub returns-clause-read : goal.returns-clause-read
 returns-clause-read g c =
     let p = c.args.self.now in let i = c.loop-found.invariant in
-    words_append p (view c.loop-found.helper.claimer) (page_start c.args.page) c.loop-found.address (page_start (c.args.page + 1)) i.read
-    (words_end p c.requires.serving.fits.ready.map (view c.loop-found.helper.claimer) c.loop-found.address (page_start (c.args.page + 1)) c.in_default.ensures)
+    words_append p (view c.loop-found.helper.claimer) c.loop-found.helper.carried (page_start c.args.page) c.loop-found.address (page_start (c.args.page + 1)) i.read
+    (words_end p c.requires.serving.fits.ready.map (view c.loop-found.helper.claimer) c.loop-found.helper.carried c.loop-found.address (page_start (c.args.page + 1)) c.in_default.ensures)

@@ -8,7 +8,7 @@ use Rattle.final_pause.proofs.share.Pause.read_page.Given as goal
 abbrev pub invariant-loop-found : goal.invariant-loop-found
 invariant-loop-found g l = record {
   serves : GoesOnServing l.self l.fn.helper l.helper;
-  read : AreWordsRead l.self (view l.helper.claimer) (page_start l.page) l.address;
+  read : AreWordsRead l.self (view l.helper.claimer) l.helper.carried (page_start l.page) l.address;
   from : page_start l.page ≤ l.address;
   within : l.address ≤ page_start (l.page + 1);
   aligned : l.address % WORD_BYTES ≡ 0;

@@ -25,12 +25,12 @@ is_marked-requires-clause-inside g c =
 pub returns-then-eq-clause-read : goal.returns-then-eq-clause-read
 returns-then-eq-clause-read g c =
     let k : c.args.found.kind ≡ PointerFree = search rules in
-    part_read c.args.self.now c.requires.serving.fits.ready.map (view c.args.helper.now.claimer) c.args.low c.args.high c.part_between-part.result.stop c.args.found c.requires.next c.part_between-part.ensures.inside
+    part_read c.args.self.now c.requires.serving.fits.ready.map (view c.args.helper.now.claimer) c.args.helper.now.carried c.args.low c.args.high c.part_between-part.result.stop c.args.found c.requires.next c.part_between-part.ensures.inside
     (λ n. let x : PointerFree ≡ Normal = sym k ∙ n in absurd (cc x))
 
 pub returns-then-not-is_marked-clause-read : goal.returns-then-not-is_marked-clause-read
 returns-then-not-is_marked-clause-read g c =
-    part_read c.args.self.now c.requires.serving.fits.ready.map (view c.args.helper.now.claimer) c.args.low c.args.high c.part_between-part.result.stop c.args.found c.requires.next c.part_between-part.ensures.inside
+    part_read c.args.self.now c.requires.serving.fits.ready.map (view c.args.helper.now.claimer) c.args.helper.now.carried c.args.low c.args.high c.part_between-part.result.stop c.args.found c.requires.next c.part_between-part.ensures.inside
     (λ n m. let t : c.is_marked.result ≡ true = c.is_marked.ensures ∙ m in grind (arith, t, c.if-not-is_marked.true))
 
 pub returns-clause-serves : goal.returns-clause-serves
@@ -44,5 +44,5 @@ returns-clause-serves g c =
 pub returns-clause-read : goal.returns-clause-read
 returns-clause-read g c =
     let e = c.part_between-part.ensures in let s = e.ends in
-    part_read c.args.self.now c.requires.serving.fits.ready.map (view c.read_words.new.helper.claimer) c.args.low c.args.high c.part_between-part.result.stop c.args.found c.requires.next e.inside
-    (λ n m i lt from below. c.read_words.ensures.targets i (e.reaches i from) (omega (arith, below, s)))
+    part_read c.args.self.now c.requires.serving.fits.ready.map (view c.read_words.new.helper.claimer) c.read_words.new.helper.carried c.args.low c.args.high c.part_between-part.result.stop c.args.found c.requires.next e.inside
+    (λ n m i lt from below. c.read_words.ensures.read i (e.reaches i from) (omega (arith, below, s)))

@@ -1,12 +1,12 @@
-use Rattle.std.proofs.Common.{◌≡◌, ◌+◌, ◌%◌, ℕ, Some, get_or, sym, ◌∙◌, subst, arith, below_more}
+use Rattle.std.proofs.Common.{◌≡◌, ◌+◌, ◌%◌, get_or, sym, ◌∙◌, subst, arith, below_more}
 use Rattle.std.proofs.lemmas.List.Elements.{Contains-get_or}
 use Rattle.mark_bits.specs.Tables.{view}
 use Rattle.marker.specs.Closure.{root}
 use Rattle.final_pause.specs.declared.helper.Helper.{Helper}
-use Rattle.final_pause.specs.Helping.{IsTargetKnown, found}
+use Rattle.final_pause.specs.Helping.{IsTargetKnown}
 use Rattle.final_pause.specs.Serving.{GoesOnServing, AreRootsRead}
 use Rattle.final_pause.proofs.Growing.{target_more}
-use Rattle.final_pause.proofs.Serving.{serves_more, serves_trans}
+use Rattle.final_pause.proofs.Serving.{serves_visit, serves_trans}
 use Rattle.final_pause.proofs.share.Pause.read_roots.Goals as goal
 use Rattle.final_pause.proofs.share.Pause.read_roots.Goals.{then-i-self, else-i-self}
 
@@ -16,16 +16,11 @@ loop-i-preserved g c =
     let inv = c.loop-i.invariant in
     elim c.if-i-self.branch [
       | then-i-self w ↦
-          let v = w.visit.ensures in
+          let v = w.visit.ensures.visits in
           let h' = w.visit.new.helper in
           subst (λ (b : Helper). GoesOnServing p old b × AreRootsRead p (view b.claimer) old.share (i + 1)) (sym w.helper-is) (
-            serves_trans p old h h' inv.0 (record {
-              serving = serves_more p c.requires.fits.ready.map (λ n. n ≡ get_or p.roots.now i 0)
-                  (λ n is f e. root (Contains-get_or p.roots.now i 0 (let lt = c.loop-i-test.true in omega (arith, lt))) (subst (λ (m : ℕ). found p m ≡ Some f) is e))
-                  h h' v.only v.extends inv.0.serving;
-              share = v.extends.share;
-              learns = v.extends.learns;
-            }),
+            serves_trans p old h h' inv.0 (serves_visit p c.requires.fits.ready.map (get_or p.roots.now i 0) h h'
+                (λ f e. root (Contains-get_or p.roots.now i 0 (let lt = c.loop-i-test.true in omega (arith, lt))) e) v inv.0.serving),
             below_more (λ j. j % p.helpers ≡ old.share → IsTargetKnown p (view h'.claimer) (get_or p.roots.now j 0)) i
                 (λ j low m. target_more p (view h.claimer) (view h'.claimer) v.extends.learns.known _ (inv.1 j low m)) (λ m. v.target),
           )

@@ -18,13 +18,13 @@ loop-base-preserved g c =
     let p = c.args.self.now in let h = c.loop-base.helper in let f = c.in-Some-find.found in let inv = c.loop-base.invariant in
     let m = record h { stack = c.pop.new.self } in let b = c.read_words.new.helper in
     serves_trans p c.args.helper.now h b inv
-    (serves_pop p inv.serving.fits.ready.map h m b c.in-Some.base f refl refl refl c.in-Some.ensures.items (sym c.find.ensures.found ∙ c.in-Some-find.is) inv.serving
+    (serves_pop p inv.serving.fits.ready.map h m b c.in-Some.base f refl refl refl refl c.in-Some.ensures.items (sym c.find.ensures.found ∙ c.in-Some-find.is) inv.serving
     (subst (λ (n : ℕ). ReadsWords p f 0 n m b) c.from.ensures c.read_words.ensures))
 
 pub offer_lowest-offered-requires : goal.offer_lowest-offered-requires
 offer_lowest-offered-requires g c =
     let p = c.args.self.now in let h = c.loop-base.helper in let f = c.in-Some-find.found in let inv = c.loop-base.invariant in
     let m = record h { stack = c.pop.new.self } in let b = c.read_words.new.helper in
-    let s : GoesOnServing p h b = serves_pop p inv.serving.fits.ready.map h m b c.in-Some.base f refl refl refl c.in-Some.ensures.items (sym c.find.ensures.found ∙ c.in-Some-find.is) inv.serving
+    let s : GoesOnServing p h b = serves_pop p inv.serving.fits.ready.map h m b c.in-Some.base f refl refl refl refl c.in-Some.ensures.items (sym c.find.ensures.found ∙ c.in-Some-find.is) inv.serving
     (subst (λ (n : ℕ). ReadsWords p f 0 n m b) c.from.ensures c.read_words.ensures) in
     λ k r. c.requires.offered.queued k (s.serving.queued k r)

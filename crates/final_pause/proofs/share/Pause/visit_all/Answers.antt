@@ -1,9 +1,19 @@
+use Rattle.std.proofs.Common.{[], ◌∷◌}
+use Rattle.marker.specs.Marking.{bytes_of}
+use Rattle.marker.proofs.Words.{tells_append, tells_nothing}
+use Rattle.final_pause.specs.Helping.{found}
 use Rattle.final_pause.proofs.Growing.{visits_none, visits_next}
 use Rattle.final_pause.proofs.share.Pause.visit_all.Goals as goal
 
 pub loop-word-init : goal.loop-word-init
-loop-word-init g c = visits_none c.args.self.now c.args.helper.now c.requires.of
+loop-word-init g c =
+    let p = c.args.self.now in
+    record { visits = visits_none p c.args.helper.now c.requires.of; stray = tells_nothing (found p) (bytes_of p.marker.now) }
 
 pub loop-word-preserved : goal.loop-word-preserved
 loop-word-preserved g c =
-    visits_next c.args.self.now _ _ c.args.helper.now c.loop-word.helper c.visit.new.helper c.loop-word.invariant c.visit.ensures
+    let p = c.args.self.now in let i = c.loop-word.invariant in let v = c.visit-stray.ensures in
+    record {
+      visits = visits_next p _ _ c.args.helper.now c.loop-word.helper c.visit-stray.new.helper i.visits v.visits;
+      stray = tells_append (found p) (bytes_of p.marker.now) _ (_ ∷ []) _ _ i.stray v.stray;
+    }

@@ -3,6 +3,8 @@ use Rattle.marker.specs.Marking.{IsFresh}
 use Rattle.roots.specs.Roots.{root_words_of}
 use Rattle.object_space.specs.Sweeps.{ForgetsUnreached}
 use Rattle.heap_core.proofs.Cycling.{collects_all}
+use Rattle.heap_core.proofs.Along.{traced_along}
+use Rattle.heap_core.proofs.Tracing.{traced_ended}
 use Rattle.heap_core.proofs.heap.Core.collect.Goals as goal
 
 pub returns : goal.returns
@@ -11,3 +13,6 @@ returns c =
     rw (← c.self.view_is)
     (collects_all _ c.sweep_all.new.self c.begin.new.self _ _ _ _ _ _ c.collect-count.ensures.lawful.map c.sweep_all.ensures.sweeps c.sweep_all.ensures.swept (subst (λ n. IsFresh n c.begin.new.self) (c.self.invariant.pages ∙ sym c.sweep_all.ensures.sweeps.pages) c.begin.ensures.fresh)
     (subst (λ rs. ForgetsUnreached c.sweep_all.new.self rs c.begin.new.self c.collect-count.result c.collect-count.new.marker.marks c.collect-count.new.self) e c.collect-count.ensures.forgets) c.collect-count.ensures.swept c.collect-count.ensures.done refl c.take_along.ensures.lawful.map c.take_along.ensures.along c.take_along.ensures.links)
+
+pub invariant_of-self : goal.invariant_of-self
+invariant_of-self c = traced_along _ _ _ _ _ c.take_along.ensures.lawful.map (traced_ended _ _ _ _ c.collect-count.ensures.pages c.collect-count.ensures.objects (λ _. c.collect-count.ensures.carries (c.begin.ensures.carried _ _))) c.take_along.ensures.along

@@ -2,6 +2,8 @@ use Rattle.std.proofs.Common.{◌≡◌, refl, subst, ◌∙◌}
 use Rattle.roots.specs.Roots.{root_words_of}
 use Rattle.object_space.specs.Sweeps.{ForgetsUnreached}
 use Rattle.heap_core.proofs.Cycling.{ends_cycle}
+use Rattle.heap_core.proofs.Along.{traced_along}
+use Rattle.heap_core.proofs.Tracing.{traced_ended}
 use Rattle.heap_core.proofs.heap.Core.finish.Goals as goal
 
 pub returns : goal.returns
@@ -12,3 +14,6 @@ returns c =
       ends_cycle _ _ _ _ _ _ _ c.finish-count.ensures.lawful.map (c.self.invariant.swept c.if-not-self.false)
           (subst (λ rs. ForgetsUnreached c.self.inside.objects rs c.self.inside.marker c.finish-count.result c.finish-count.new.marker.marks c.finish-count.new.self) e c.finish-count.ensures.forgets) c.finish-count.ensures.cells c.finish-count.ensures.pending c.finish-count.ensures.done refl c.take_along.ensures.lawful.map c.take_along.ensures.along c.take_along.ensures.links,
     )
+
+pub invariant_of-self : goal.invariant_of-self
+invariant_of-self c = traced_along _ _ _ _ _ c.take_along.ensures.lawful.map (traced_ended _ _ _ _ c.finish-count.ensures.pages c.finish-count.ensures.objects (λ is. c.finish-count.ensures.carries (c.self.invariant.carried is))) c.take_along.ensures.along

@@ -1,5 +1,6 @@
 use Rattle.links.specs.Named.{AreNamed, none}
 use Rattle.std.proofs.Common.{None, [], subst, true, refl, sym, ap, ◌∙◌}
+use Rattle.std.proofs.lemmas.Bool.{true≢false}
 use Rattle.heap_core.proofs.Tracing.{fresh_objects, traced_ended}
 use Rattle.roots.specs.Roots.{RootSet}
 use Rattle.heap_core.proofs.heap.Core.new.Goals as goal
@@ -14,7 +15,7 @@ returns c = (
       empty = c.laws.ensures.empty;
       lawful = c.laws.ensures.lawful;
       laid = c.laws.ensures.laid;
-      traced = let pages = (c.in_ok-objects.ensures.1.1 (λ _. true)).pages in let fresh = c.in_ok-marker.ensures.1 in traced_ended _ _ _ (fresh.dirty.size ∙ pages) (fresh_objects _ _ _ fresh);
+      traced = let pages = (c.in_ok-objects.ensures.1.1 (λ _. true)).pages in let fresh = c.in_ok-marker.ensures.1 in traced_ended _ _ _ _ (fresh.dirty.size ∙ pages) (fresh_objects _ _ _ fresh) (λ is. absurd (true≢false is));
     };
     stands = record {
       mutators = sym (ap (λ (r : RootSet). r.mutators) c.new-3.ensures);
@@ -24,6 +25,7 @@ returns c = (
     };
     phase = refl;
     count = refl;
+    needs_full = refl;
     swept = c.in_ok-objects.ensures.1.0;
     fresh = c.in_ok-marker.ensures.1;
   },
@@ -33,4 +35,4 @@ pub invariant_of-result : goal.invariant_of-result
 invariant_of-result c =
     let pages = (c.in_ok-objects.ensures.1.1 (λ _. true)).pages in
     let fresh = c.in_ok-marker.ensures.1 in
-    traced_ended _ _ _ (fresh.dirty.size ∙ pages) (fresh_objects _ _ _ fresh)
+    traced_ended _ _ _ _ (fresh.dirty.size ∙ pages) (fresh_objects _ _ _ fresh) (λ is. absurd (true≢false is))

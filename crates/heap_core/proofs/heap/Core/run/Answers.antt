@@ -7,10 +7,10 @@ pub loop-i-init : goal.loop-i-init
 loop-i-init c = AreActs.none
 
 pub loop-i-preserved : goal.loop-i-preserved
-loop-i-preserved c = run_more _ _ _ _ _ _ _ _ (omega arith) (omega arith) c.index-events-i.is c.loop-i.invariant c.act.ensures.acts c.laws.ensures
+loop-i-preserved c = run_more _ _ _ _ _ _ _ _ (omega arith) (omega arith) c.index-events-i.is c.loop-i.invariant c.act.ensures.acts c.laws-in-loop-i.ensures
 
 pub returns-clause-acts : goal.returns-clause-acts
 returns-clause-acts c = run_all _ _ _ _ c.loop-i.i (omega arith) (omega arith) c.loop-i.invariant
 
 pub returns-clause-lines : goal.returns-clause-lines
-returns-clause-lines c = acts_lines _ (run_all _ _ _ _ c.loop-i.i (omega arith) (omega arith) c.loop-i.invariant)
+returns-clause-lines c = acts_lines _ c.laws.ensures.lawful (run_all _ _ _ _ c.loop-i.i (omega arith) (omega arith) c.loop-i.invariant)

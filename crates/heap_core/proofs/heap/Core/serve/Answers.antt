@@ -30,3 +30,6 @@ returns-in-Collect c = rw c.in-Collect.is (_, c.count-in-Collect.ensures, c.coll
 
 pub returns-in-Number : goal.returns-in-Number
 returns-in-Number c = rw (c.in-Number.is, c.gc_no.ensures) (refl, refl)
+
+pub returns-in-BeginPartial : goal.returns-in-BeginPartial
+returns-in-BeginPartial c = rw c.in-BeginPartial.is (_, c.done-in-BeginPartial.ensures, c.begin_partial.ensures)

@@ -10,6 +10,7 @@ returns-clause-keeps c pages found after words words' f is map object removed sa
     (record {
       marks = c.clear.ensures ∙ ap (λ n. set c.self.inside.marks n false) c.granule_of.ensures ∙ ap (λ (m : Marking). set m.marks (granule c.args.base) false) c.self.view_is;
       dirty = ap (λ (m : Marking). m.dirty) c.self.view_is;
+      carried = ap (λ (m : Marking). m.carried) c.self.view_is;
       current = ap (λ (m : Marking). m.current) c.self.view_is;
       stack = ap (λ (m : Marking). m.stack) c.self.view_is;
     })

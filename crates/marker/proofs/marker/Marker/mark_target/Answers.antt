@@ -25,9 +25,7 @@ await_words-requires c =
       placed = subst (λ n. IsPlaced n c.in-Some.found) (sym (ap (λ (m : Marking). length m.dirty) c.self.view_is ∙ c.requires.pages)) (c.find.ensures.lawful.map.placed _ _ (sym c.find.ensures.found ∙ c.in-Some.is));
     }
 
-pub returns : goal.returns
-returns c =
-    record {
-      marks = word_object (found_in c.args.map.now) c.args.word c.in-Some.found c.granule_of-granule.result c.args.self.now _ _ c.await_words.new.self c.self.view_is (sym c.find.ensures.found ∙ c.in-Some.is) c.granule_of-granule.ensures
-          (sym c.is_set.ensures ∙ c.if-is_set.false) c.set.ensures refl refl refl c.await_words.ensures.marks c.await_words.ensures.current c.await_words.ensures.awaits;
-    }
+pub returns-clause-marks : goal.returns-clause-marks
+returns-clause-marks c =
+    word_object (found_in c.args.map.now) c.args.word c.in-Some.found c.granule_of-granule.result c.args.self.now _ _ c.await_words.new.self c.self.view_is (sym c.find.ensures.found ∙ c.in-Some.is) c.granule_of-granule.ensures
+    (sym c.is_set.ensures ∙ c.if-is_set.false) c.set.ensures refl refl refl refl c.await_words.ensures.marks c.await_words.ensures.carried c.await_words.ensures.current c.await_words.ensures.awaits

@@ -16,7 +16,7 @@ returns-then-count-left-clause-read c =
     record {
       on = c.read_on-count.new.self;
       reads = c.read_on-count.ensures.read;
-      settles = settles_next (found_in c.args.map.now) c.read_on-count.new.self c.take_entry.new.self c.take_entry.result e.marks e.dirty e.taken
+      settles = settles_next (found_in c.args.map.now) c.read_on-count.new.self c.take_entry.new.self c.take_entry.result e.marks e.dirty e.carried e.taken
           (read_out (found_in c.args.map.now) c.args.reader.now.words c.read_on-count.result c.args.self.now c.read_on-count.new.self c.args.found c.read_on-count.ensures.read c.requires.live (omega arith))
           e.fewer e.none;
     }

@@ -1,4 +1,8 @@
-use Rattle.std.proofs.Common.{length, ◌≡◌, true, false, rules, arith}
+use Rattle.std.proofs.Common.{length, ℕ, ◌≡◌, ◌+◌, ◌*◌, ◌<◌, ◌≤◌, true, false, sym, subst, rules, arith}
+use Rattle.words.specs.declared.limits.TheConstants.{PAGE_BYTES}
+use Rattle.words.specs.Layout.{page_of}
+use Rattle.marker.specs.Marking.{word_address}
+use Rattle.marker.specs.Growth.{CarriesPage, words_of}
 use Rattle.block_map.specs.FoundIn.{found_in}
 use Rattle.marker.proofs.Closures.{at_base, marks_of}
 use Rattle.marker.proofs.MarkWord.{markable}
@@ -24,12 +28,21 @@ returns-then-not-has_words_to_read-clause-rereads c =
     rereads_passed (length c.args.map.now) (found_in c.args.map.now) c.requires.lawful.map c.args.reader.now.words c.args.low c.args.high _ c.args.found _ c.requires.next c.part_between-part.ensures.inside
     (c.has_words_to_read.ensures.no f)
 
+-- the words that are read stand on one page
+one : (c : goal.After-mark_words) → (i : ℕ) → c.part_between-part.result.first ≤ i → i < c.part_between-part.result.first + c.part_between-part.result.count → page_of (word_address c.args.found i) ≡ page_of (word_address c.args.found c.part_between-part.result.first)
+one c i from below =
+    let p = c.part_between-part.ensures in
+    let a = p.back i from in let b = p.back c.part_between-part.result.first (omega arith) in
+    let e = p.ends in let w = p.within in
+    let low = c.requires.one_page.1 in let high = c.requires.one_page.2 in omega arith
+
 pub returns-clause-rereads : goal.returns-clause-rereads
 returns-clause-rereads c =
     let p = c.part_between-part.ensures in
     let t : c.has_words_to_read.result ≡ true = search rules in
     let is = c.has_words_to_read.ensures.yes t in
-    rereads_words (length c.args.map.now) (found_in c.args.map.now) c.requires.lawful.map c.args.reader.now.words c.args.low c.args.high c.part_between-part.result.stop _ _ c.args.found _ _
+    rereads_words (length c.args.map.now) (found_in c.args.map.now) c.requires.lawful.map c.args.reader.now.words c.args.low c.args.high c.part_between-part.result.stop _ _ _ c.args.found _ _ (one c)
+    (subst (λ (k : ℕ). CarriesPage (found_in c.args.map.now) (PAGE_BYTES * k) (words_of c.args.reader.now.words c.args.found c.part_between-part.result.first c.part_between-part.result.count) (page_of (word_address c.args.found c.part_between-part.result.first)) c.args.self.now.carried c.mark_words.new.self.carried) (sym c.requires.pages) c.mark_words.ensures.carries)
     (marks_of _ _ c.laws.ensures c.requires.pages) c.requires.next p.inside
     (at_base (length c.args.map.now) (found_in c.args.map.now) c.requires.lawful.map c.requires.next.at c.args.found c.requires.next.reads)
     is.0 is.1 p.fits p.reaches p.back p.ends c.mark_words.ensures.marks
@@ -39,3 +52,10 @@ returns-clause-reads c =
     let p = c.part_between-part.ensures in let e = p.ends in
     let b = p.back c.part_between-part.result.first (omega arith) in
     let k = c.mark_words.ensures.counted in omega arith
+
+pub mark_words-requires-clause-one_page : goal.mark_words-requires-clause-one_page
+mark_words-requires-clause-one_page c i from below =
+    let p = c.part_between-part.ensures in
+    let a = p.back i from in let b = p.back c.part_between-part.result.first (omega arith) in
+    let e = p.ends in let w = p.within in
+    let low = c.requires.one_page.1 in let high = c.requires.one_page.2 in omega arith

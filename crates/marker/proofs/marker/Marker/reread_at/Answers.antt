@@ -2,7 +2,10 @@ use Rattle.std.proofs.Common.{◌≡◌, ℕ, ◌+◌, ◌-◌, ◌*◌, ◌/◌
 use Rattle.std.proofs.lemmas.Option.{same_Some}
 use Rattle.std.proofs.lemmas.Bool.{cases_lt}
 use Rattle.words.specs.declared.class.Kind.TheVariants.{Normal, PointerFree}
-use Rattle.words.specs.declared.limits.TheConstants.{FIRST_ADDRESS, GRANULE_BYTES, WORD_BYTES}
+use Rattle.words.specs.declared.limits.TheConstants.{FIRST_ADDRESS, GRANULE_BYTES, PAGE_BYTES, WORD_BYTES}
+use Rattle.words.specs.Layout.{page_of}
+use Rattle.marker.specs.Marking.{word_address}
+use Rattle.marker.specs.Growth.{CarriesPage, words_of}
 use Rattle.words.specs.Bits.{Has}
 use Rattle.block_map.specs.declared.found.Found.{Found}
 use Rattle.block_map.specs.FoundIn.{found_in}
@@ -29,6 +32,12 @@ returns-then-eq-clause-rereads c =
 pub mark_words-requires-clause-placed : goal.mark_words-requires-clause-placed
 mark_words-requires-clause-placed c = c.requires.lawful.map.placed _ c.in-Some.found (sym c.in-Some.ensures.found)
 
+pub mark_words-requires-clause-one_page : goal.mark_words-requires-clause-one_page
+mark_words-requires-clause-one_page c i from below =
+    let base : c.in-Some.found.base ≡ FIRST_ADDRESS + GRANULE_BYTES * c.args.granule = c.if-found-base.false in
+    let stop = c.min-stop.ensures in let one = c.requires.one_page in let low = one.1 in let end = one.2 in
+    omega arith
+
 pub returns-clause-rereads : goal.returns-clause-rereads
 returns-clause-rereads c =
     let k : c.in-Some.found.kind ≡ Normal = search rules in
@@ -43,7 +52,9 @@ returns-clause-rereads c =
     let n : ℕ = (c.min-stop.result - (FIRST_ADDRESS + GRANULE_BYTES * c.args.granule)) / WORD_BYTES in
     let ends : c.min-stop.result ≡ c.in-Some.found.base + WORD_BYTES * n = ⊎_elim (λ (w : c.min-stop.result ≡ c.in-Some.found.base + WORD_BYTES * c.in-Some.found.len). omega arith) (λ (w : c.min-stop.result ≡ c.args.high). omega arith) whole in
     objects_words (length c.args.map.now) (found_in c.args.map.now) c.requires.lawful.map c.args.reader.now.words c.args.self.now c.args.high c.args.granule c.min-stop.result n
-    c.args.reader.now.reads c.mark_words.new.reader.reads c.in-Some.found c.args.self.now c.mark_words.new.self
+    c.args.reader.now.reads c.mark_words.new.reader.reads (page_of (word_address c.in-Some.found 0)) c.in-Some.found c.args.self.now c.mark_words.new.self
+    (λ i from below. let one = c.requires.one_page in let low = one.1 in let end = one.2 in omega arith)
+    (subst (λ (k : ℕ). CarriesPage (found_in c.args.map.now) (PAGE_BYTES * k) (words_of c.args.reader.now.words c.in-Some.found 0 n) (page_of (word_address c.in-Some.found 0)) c.args.self.now.carried c.mark_words.new.self.carried) (sym c.requires.pages) c.mark_words.ensures.carries)
     (marks_of _ _ c.laws.ensures c.requires.pages) (omega arith)
     (at_base (length c.args.map.now) (found_in c.args.map.now) c.requires.lawful.map _ c.in-Some.found (sym c.in-Some.ensures.found)) k
     (subst (Has c.args.self.now.marks) (omega arith) c.requires.marked) (omega arith) (omega arith) ends (omega arith) whole (omega arith) c.mark_words.ensures.marks

@@ -27,6 +27,9 @@ reread_marked-requires-clause-inside c =
     let same = (words_extends (length c.args.map.now) (found_in c.args.map.now) c.requires.lawful.map c.args.self.now size c.loop-j.invariant.rereads.marks).marks_len in
     let inside = c.requires.inside in let test = c.loop-j-test.true in omega arith
 
+pub reread_marked-requires-clause-one_page : goal.reread_marked-requires-clause-one_page
+reread_marked-requires-clause-one_page c = let from = c.loop-j.auto.j in let end = c.page_start-end.ensures in (c.args.page, omega arith, omega arith)
+
 pub loop-j-preserved : goal.loop-j-preserved
 loop-j-preserved c =
     let i = c.loop-j.invariant in let end = c.page_start-end.ensures in

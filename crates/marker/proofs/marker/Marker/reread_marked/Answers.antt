@@ -23,6 +23,9 @@ reread_at-requires-clause-marked c =
     objects_marked (length c.args.map.now) (found_in c.args.map.now) c.requires.lawful.map c.args.reader.now.words c.args.self.now c.args.high _ _ _ _ _ c.args.self.now c.loop-i.self (marks_of _ _ c.laws.ensures c.requires.pages) c.loop-i.invariant.rereads
     (mark_at c.args.self.now.marks c.word-marks.result c.args.j c.in-Some.i (subst (λ (r : List Bool). (k : ℕ) → k / 64 ≡ c.args.j → get_or r k false ≡ (bit_at c.word-marks.result (k % 64) == 1)) (ap (λ (m : Marking). m.marks) c.self.view_is) c.word-marks.ensures) c.in-Some.ensures.inside c.in-Some.ensures.here)
 
+pub reread_at-requires-clause-one_page : goal.reread_at-requires-clause-one_page
+reread_at-requires-clause-one_page c = let one = c.requires.one_page in let low = one.1 in (one.0, omega arith, one.2)
+
 pub loop-i-preserved : goal.loop-i-preserved
 loop-i-preserved c =
     let i = c.loop-i.invariant in let first = c.in-Some.ensures in let inside = first.inside in let from = first.from in

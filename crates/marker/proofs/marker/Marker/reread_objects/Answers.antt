@@ -26,6 +26,9 @@ next_on_page-requires c = record { inside = c.requires.inside; from = c.loop-fou
 pub reread-address-requires-clause-pages : goal.reread-address-requires-clause-pages
 reread-address-requires-clause-pages c = words_pages (found_in c.args.map.now) _ c.loop-found.invariant.rereads.marks ∙ c.requires.pages
 
+pub reread-address-requires-clause-one_page : goal.reread-address-requires-clause-one_page
+reread-address-requires-clause-one_page c = let f = c.page_start-address.ensures in (c.args.page, c.loop-found.invariant.from, omega arith)
+
 pub loop-found-preserved : goal.loop-found-preserved
 loop-found-preserved c =
     let i = c.loop-found.invariant in

@@ -7,7 +7,7 @@ use Rattle.marker.proofs.marker.Marker.settle.Goals.{After-take_entry}
 more : (c : After-take_entry) → Drops (found_in c.args.map.now) c.args.self.now c.take_entry.new.self
 more c =
     let e = c.take_entry.ensures in
-    drops_more (found_in c.args.map.now) _ _ _ c.loop-found.invariant e.marks e.dirty e.taken c.in_default.ensures.live
+    drops_more (found_in c.args.map.now) _ _ _ c.loop-found.invariant e.marks e.dirty e.carried e.taken c.in_default.ensures.live
 
 pub loop-found-init : goal.loop-found-init
 loop-found-init c = drops_refl (found_in c.args.map.now) c.args.self.now

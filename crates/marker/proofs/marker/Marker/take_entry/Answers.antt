@@ -3,4 +3,4 @@ use Rattle.marker.proofs.MarkWord.{consistent_pop}
 use Rattle.marker.proofs.marker.Marker.take_entry.Goals as goal
 
 pub invariant_of-self : goal.invariant_of-self
-invariant_of-self c = consistent_pop _ c.pop-self-inside.result _ c.self.invariant refl refl c.pop-self-inside.ensures.items
+invariant_of-self c = consistent_pop _ c.pop-self-inside.result _ c.self.invariant refl refl refl c.pop-self-inside.ensures.items

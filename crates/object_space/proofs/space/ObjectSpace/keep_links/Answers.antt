@@ -1,4 +1,4 @@
-use Rattle.std.proofs.Common.{length, ◌≡◌, Bool, true, false, get_or, ap, sym, ◌∙◌, arith}
+use Rattle.std.proofs.Common.{length, ◌≡◌, true, false, get_or, ap, sym, ◌∙◌, arith}
 use Rattle.std.proofs.lemmas.List.{append-nil}
 use Rattle.links.specs.declared.row.Link.{Link}
 use Rattle.object_space.specs.Kept.{kept_in}

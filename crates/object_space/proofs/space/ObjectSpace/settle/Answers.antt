@@ -3,26 +3,13 @@ use Rattle.block_map.specs.Listed.{IsListedOn}
 use Rattle.words.specs.Classes.{IsSizeClass}
 use Rattle.object_space.specs.AvailableRows.{AreReady, AreWaiting}
 use Rattle.object_space.specs.Store.{Store}
-use Rattle.object_space.proofs.AvailablePages.{ready_full, ready_swept, ready_uncut, waiting_swept, waiting_uncut}
+use Rattle.object_space.proofs.AvailablePages.{ready_full, ready_swept, waiting_swept}
 use Rattle.object_space.proofs.Pending.{pending_left}
 use Rattle.object_space.proofs.Stores.{store_of}
 use Rattle.object_space.proofs.space.ObjectSpace.settle.Goals as goal
 
 pub invariant_of-self : goal.invariant_of-self
 invariant_of-self c =
-    let t : Store = store_of c.self.inside.memory c.self.inside.pool c.self.inside.map c.self.inside.pending in
-    let inside : c.args.page < length t.states = rw (← c.self.view_is) at c.requires.inside in
-    let size = c.self.invariant.pending.size in
-    record {
-      sound = record { agree = c.self.invariant.sound.agree; used = c.self.invariant.sound.used };
-      listed = c.self.invariant.listed;
-      exact = subst (AreReady c.self.inside.ready t.states) (sym c.clear.ensures) (ready_uncut _ t.states t.pending c.args.page c.in_default.ensures c.self.invariant.exact);
-      awaited = subst (AreWaiting c.self.inside.waiting t.states) (sym c.clear.ensures) (waiting_uncut _ t.states t.pending c.args.page c.in_default.ensures c.self.invariant.awaited);
-      pending = pending_left t _ c.args.page c.self.invariant.pending (omega arith) c.clear.ensures;
-    }
-
-pub invariant_of-self-then-not-full : goal.invariant_of-self-then-not-full
-invariant_of-self-then-not-full c =
     let t : Store = store_of c.self.inside.memory c.self.inside.pool c.self.inside.map c.self.inside.pending in
     let inside : c.args.page < length t.states = rw (← c.self.view_is) at c.requires.inside in
     let size = c.self.invariant.pending.size in

@@ -1,4 +1,4 @@
-use Rattle.std.proofs.Common.{◌≡◌, ◌*◌, ◌%◌, sym, subst}
+use Rattle.std.proofs.Common.{◌≡◌, ◌%◌, sym, subst}
 use Rattle.std.proofs.lemmas.List.Elements.{All-filter}
 use Rattle.links.specs.Rows.{IsAlignedRow}
 use Rattle.links.specs.declared.row.Link.{Link}

@@ -5,7 +5,7 @@ use Rattle.object_space.proofs.Pending.{pending_put, pending_gone}
 use Rattle.object_space.proofs.Putting.{left, left_class, left_empty, left_allocated}
 use Rattle.block_map.proofs.Listed.{listed_span}
 use Rattle.block_map.specs.States.{IsCut, IsSpanSet, free, span_of}
-use Rattle.object_space.proofs.AvailablePages.{exact_entered, exact_kept, exact_unswept, exact_uncut, awaited_kept, awaited_uncut}
+use Rattle.object_space.proofs.FreedCells.{exact_entered, exact_kept, exact_unswept, exact_uncut, awaited_kept, awaited_uncut}
 use Rattle.object_space.proofs.space.free.free_cell.Goals as goal
 
 pub free_block-requires-clause-cut : goal.free_block-requires-clause-cut

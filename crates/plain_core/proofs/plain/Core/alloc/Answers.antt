@@ -6,7 +6,11 @@ use Rattle.roots.proofs.Refusals.{handed_on_none}
 use Rattle.plain_core.proofs.Stands.{refused_vacant, keeps_all}
 use Rattle.plain_core.proofs.Rooms.{place_of}
 use Rattle.plain_core.proofs.Alloc.{found_fits, put_steps}
+use Rattle.plain_core.proofs.Owning.{found_by}
 use Rattle.plain_core.proofs.plain.Core.alloc.Goals as goal
+
+pub place_for-requires-clause-found : goal.place_for-requires-clause-found
+place_for-requires-clause-found c = rw (c.deref.ensures.value, c.deref-2.ensures.value) (found_by _ c.self.invariant.0 _ c.self.invariant.2)
 
 pub returns-in_err-ok_or : goal.returns-in_err-ok_or
 returns-in_err-ok_or c = rw (handed_on_none _ _ _ _ c.from_residual.ensures.1 c.in_err-ok_or.ensures.value)

@@ -1,7 +1,11 @@
 use Rattle.std.proofs.Common.{sym, ◌∙◌, subst}
 use Rattle.plain_core.specs.Places.{IsPlace}
 use Rattle.plain_core.proofs.Alloc.{cant_place, cant_size, cant_call, found_fits, put_at}
+use Rattle.plain_core.proofs.Owning.{found_by}
 use Rattle.plain_core.proofs.plain.Core.alloc_at.Goals as goal
+
+pub place_at-requires-clause-found : goal.place_at-requires-clause-found
+place_at-requires-clause-found c = rw (c.deref.ensures.value, c.deref-2.ensures.value) (found_by _ c.self.invariant.0 _ c.self.invariant.2)
 
 pub returns-in_default-clause-no : goal.returns-in_default-clause-no
 returns-in_default-clause-no c refused = cant_call _ _ _ _ _ _ c.in_default.ensures.none

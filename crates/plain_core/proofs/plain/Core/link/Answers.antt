@@ -6,6 +6,12 @@ use Rattle.plain_core.proofs.Objects.{reads_object, reads_nothing}
 use Rattle.plain_core.proofs.Linking.{full_acts, linked}
 use Rattle.plain_core.proofs.plain.Core.link.Goals as goal
 
+pub find_in-requires : goal.find_in-requires
+find_in-requires c = rw (c.deref.ensures.value, c.deref-2.ensures.value) c.self.invariant.2
+
+pub find_in-requires-2 : goal.find_in-requires-2
+find_in-requires-2 c = rw (c.deref-3.ensures.value, c.deref-4.ensures.value) c.self.invariant.2
+
 pub returns-in_err-mutator : goal.returns-in_err-mutator
 returns-in_err-mutator c = rw (← c.self.view_is, handed_on _ _ _ c.from_residual.ensures.1 c.in_err-mutator.ensures.err.0) (refused_vacant _ _ _ c.in_err-mutator.ensures.err.1)
 
@@ -30,7 +36,7 @@ returns-then-is_normal c =
 pub returns-in_err-named : goal.returns-in_err-named
 returns-in_err-named c =
     rw (← c.self.view_is, handed_on _ _ _ c.from_residual-in_err-named.ensures.1 c.in_err-named.ensures.err.0)
-    (let none = rw (c.deref-2.ensures.value, c.word-word.ensures) at c.in_err-named.ensures.err.1 in
+    (let none = rw (c.deref-3.ensures.value, c.word-word.ensures) at c.in_err-named.ensures.err.1 in
     keeps_all _ _ _ _ c.in_ok-mutator.mutator.now c.in_ok-mutator.ensures.ok (λ s h.
     let holder = reads_object _ c.self.invariant.0 s h c.in_ok-holder.holder (rw c.deref.ensures.value at c.in_ok-holder.ensures.ok.0) _ (rw c.address-address.ensures at c.in_ok-holder.ensures.ok.1) in
     Acts.link_to_nothing (rw c.address-address.ensures at c.if-address-ne0.false) holder.1 (holder.3 ∙ c.if-is_normal.ensures) (reads_nothing _ c.self.invariant.0 s h _ none)))
@@ -40,7 +46,7 @@ returns-then-not-has_room c =
     rw (← c.self.view_is)
     (keeps_all _ _ _ _ c.in_ok-mutator.mutator.now c.in_ok-mutator.ensures.ok (λ s h.
     let holder = reads_object _ c.self.invariant.0 s h c.in_ok-holder.holder (rw c.deref.ensures.value at c.in_ok-holder.ensures.ok.0) _ (rw c.address-address.ensures at c.in_ok-holder.ensures.ok.1) in
-    let object = reads_object _ c.self.invariant.0 s h c.in_ok-named.named (rw c.deref-2.ensures.value at c.in_ok-named.ensures.ok.0) _ (rw c.word-word.ensures at c.in_ok-named.ensures.ok.1) in
+    let object = reads_object _ c.self.invariant.0 s h c.in_ok-named.named (rw c.deref-3.ensures.value at c.in_ok-named.ensures.ok.0) _ (rw c.word-word.ensures at c.in_ok-named.ensures.ok.1) in
     full_acts _ s h _ _ _ _ _ _ c.in_ok-mutator.mutator.now holder.0 object.0 (rw c.address-address.ensures at c.if-address-ne0.false) holder.1 (holder.3 ∙ c.if-is_normal.ensures) object.1
     (rw c.address-address.ensures at c.if-not-has_room.ensures)))
 
@@ -49,4 +55,4 @@ returns c =
     rw (← c.self.view_is, c.link.ensures, c.address-address.ensures)
     (linked _ c.self.invariant.0 _ _ _ _ c.in_ok-mutator.mutator.now c.in_ok-holder.holder c.in_ok-named.named c.in_ok-mutator.ensures.ok (rw c.address-address.ensures at c.if-address-ne0.false)
     (rw c.deref.ensures.value at c.in_ok-holder.ensures.ok.0) (rw c.address-address.ensures at c.in_ok-holder.ensures.ok.1) c.if-is_normal.ensures
-    (rw c.deref-2.ensures.value at c.in_ok-named.ensures.ok.0) (rw c.word-word.ensures at c.in_ok-named.ensures.ok.1) (rw c.address-address.ensures at c.if-not-has_room.ensures))
+    (rw c.deref-3.ensures.value at c.in_ok-named.ensures.ok.0) (rw c.word-word.ensures at c.in_ok-named.ensures.ok.1) (rw c.address-address.ensures at c.if-not-has_room.ensures))

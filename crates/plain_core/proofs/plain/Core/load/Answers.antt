@@ -5,6 +5,9 @@ use Rattle.plain_core.proofs.Objects.{reads_nothing}
 use Rattle.plain_core.proofs.LoadStore.{loads}
 use Rattle.plain_core.proofs.plain.Core.load.Goals as goal
 
+pub find_in-requires : goal.find_in-requires
+find_in-requires c = rw (c.deref.ensures.value, c.deref-2.ensures.value) c.self.invariant.2
+
 pub returns-in_err-mutator : goal.returns-in_err-mutator
 returns-in_err-mutator c = rw (← c.self.view_is, handed_on _ _ _ c.from_residual.ensures.1 c.in_err-mutator.ensures.err.0) (refused_vacant _ _ _ c.in_err-mutator.ensures.err.1)
 

@@ -6,6 +6,8 @@ use Rattle.roots.specs.Roots.{HasMutator}
 use Rattle.plain_core.specs.Contents.{Contents}
 use Rattle.plain_core.specs.Answering.{MayBePut}
 use Rattle.plain_core.proofs.Alloc.{pushed_items, place_from, IsZeroed, room_left, fits_row, alloc_sound, puts}
+use Rattle.plain_core.proofs.Collects.{sound_apart, lie_in}
+use Rattle.plain_core.proofs.Owning.{owners_as, own_pushed}
 use Rattle.plain_core.proofs.plain.Core.put.Goals as goal
 
 pub place_of-start-requires : goal.place_of-start-requires
@@ -15,6 +17,31 @@ pub fill-requires : goal.fill-requires
 fill-requires c =
     let fits = subst (λ (x : Contents). MayBePut x c.requires.fits.0 c.args.object) (sym c.self.view_is) c.requires.fits.1 in
     rw (c.place_of-start.ensures, c.deref_mut.ensures.value) (fits_row _ c.requires.fits.0 c.args.object.kind c.args.object c.self.invariant.0 fits.sized fits.size fits.place)
+
+pub write_owner-requires-clause-apart : goal.write_owner-requires-clause-apart
+write_owner-requires-clause-apart c =
+    let fits = subst (λ (x : Contents). MayBePut x c.requires.fits.0 c.args.object) (sym c.self.view_is) c.requires.fits.1 in
+    let left : length c.self.inside.objects.items < PAGE_GRANULES * c.self.inside.pages = room_left _ c.requires.fits.0 c.args.object.kind c.args.object c.self.invariant.0 fits.sized fits.size fits.place in
+    let spare : PAGE_GRANULES * c.self.inside.pages ≤ vec_capacity c.self.inside.objects = c.self.invariant.1.objects in
+    let pushed = pushed_items _ _ _ _ (c.push-pushed.ensures.succeeds (let ok = c.self.inside.objects.ok in omega (arith, ok.0))) c.push-pushed.ensures.items in
+    rw c.deref.ensures.value (sound_apart _ (alloc_sound _ c.requires.fits.0 c.args.object.kind c.args.object c.self.invariant.0 fits.sized fits.size fits.place c.self.inside.roots c.self.inside.words.items _ refl pushed))
+
+pub write_owner-requires-clause-within : goal.write_owner-requires-clause-within
+write_owner-requires-clause-within c =
+    let fits = subst (λ (x : Contents). MayBePut x c.requires.fits.0 c.args.object) (sym c.self.view_is) c.requires.fits.1 in
+    let left : length c.self.inside.objects.items < PAGE_GRANULES * c.self.inside.pages = room_left _ c.requires.fits.0 c.args.object.kind c.args.object c.self.invariant.0 fits.sized fits.size fits.place in
+    let spare : PAGE_GRANULES * c.self.inside.pages ≤ vec_capacity c.self.inside.objects = c.self.invariant.1.objects in
+    let pushed = pushed_items _ _ _ _ (c.push-pushed.ensures.succeeds (let ok = c.self.inside.objects.ok in omega (arith, ok.0))) c.push-pushed.ensures.items in
+    rw (c.deref.ensures.value, c.deref_mut-2.ensures.value) (lie_in _ (alloc_sound _ c.requires.fits.0 c.args.object.kind c.args.object c.self.invariant.0 fits.sized fits.size fits.place c.self.inside.roots c.self.inside.words.items _ refl pushed) _ (let is = c.self.invariant.1.words in omega (arith, c.self.inside.owners.ok.0)))
+
+pub write_owner-requires-clause-others : goal.write_owner-requires-clause-others
+write_owner-requires-clause-others c =
+    let fits = subst (λ (x : Contents). MayBePut x c.requires.fits.0 c.args.object) (sym c.self.view_is) c.requires.fits.1 in
+    let left : length c.self.inside.objects.items < PAGE_GRANULES * c.self.inside.pages = room_left _ c.requires.fits.0 c.args.object.kind c.args.object c.self.invariant.0 fits.sized fits.size fits.place in
+    let spare : PAGE_GRANULES * c.self.inside.pages ≤ vec_capacity c.self.inside.objects = c.self.invariant.1.objects in
+    let pushed = pushed_items _ _ _ _ (c.push-pushed.ensures.succeeds (let ok = c.self.inside.objects.ok in omega (arith, ok.0))) c.push-pushed.ensures.items in
+    let last : c.len-index.result ≡ length c.self.inside.objects.items = let is = c.len-index.ensures in omega (arith, c.self.inside.objects.ok.0) in
+    rw (c.deref.ensures.value, c.deref_mut-2.ensures.value, pushed, last) (own_pushed _ c.args.object _ c.self.invariant.2)
 
 pub invariant_of-self : goal.invariant_of-self
 invariant_of-self c =
@@ -26,6 +53,7 @@ invariant_of-self c =
           (ap length (with_items_is c.self.inside.words c.fill.new.row (long ∙ sym c.self.inside.words.ok.0)) ∙ long)
           (pushed_items _ _ _ _ (c.push-pushed.ensures.succeeds (let ok = c.self.inside.objects.ok in omega (arith, ok.0))) c.push-pushed.ensures.items),
       record { objects = omega (arith, c.push-pushed.ensures.capacity); lists = c.self.invariant.1.lists; flags = c.self.invariant.1.flags; words = c.self.invariant.1.words },
+      (let filed = c.write_owner.auto.owners ∙ ap length c.deref_mut-2.ensures.value in owners_as _ _ _ _ c.deref.ensures.value (sym (with_items_is c.self.inside.owners c.write_owner.new.owners (filed ∙ sym c.self.inside.owners.ok.0))) c.write_owner.ensures),
     )
 
 pub returns : goal.returns

@@ -2,6 +2,9 @@ use Rattle.plain_core.proofs.Objects.{reads_nothing}
 use Rattle.plain_core.proofs.Answering.{holds_word}
 use Rattle.plain_core.proofs.plain.Core.word_at.Goals as goal
 
+pub object_at-requires : goal.object_at-requires
+object_at-requires c = rw (c.deref.ensures.value, c.deref-2.ensures.value) c.self.invariant.2
+
 pub returns-in_err-object_at-clause-none : goal.returns-in_err-object_at-clause-none
 returns-in_err-object_at-clause-none c = rw (← c.self.view_is, c.from_residual.ensures) (λ s h. reads_nothing _ c.self.invariant.0 s h _ (rw c.deref.ensures.value at c.in_err-object_at.ensures.none))
 

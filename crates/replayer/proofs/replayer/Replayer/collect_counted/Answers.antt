@@ -17,4 +17,4 @@ pub returns-clause-yes : goal.returns-clause-yes
 returns-clause-yes c done =
     let small = subst (λ (r : Contents). r.number < word_end) (sym c.self.view_is) c.limits.ensures.number in
     let few = subst (λ (r : Contents). r.births < word_end) (sym c.self.view_is) c.limits.ensures.births in
-    rw (← c.self.view_is, c.in-Some.ensures.some) (collects_counted _ small few _ _ (c.collect_counted.ensures.yes c.if-not-collect_counted.false))
+    rw (← c.self.view_is, c.in-Some.ensures.some) (collects_counted _ small few _ _ _ c.age_all.ensures.size c.age_all.ensures.flags (c.collect_counted.ensures.yes c.if-not-collect_counted.false))

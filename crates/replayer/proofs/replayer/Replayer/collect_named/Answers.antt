@@ -18,4 +18,4 @@ returns-clause-yes c done =
     let small = subst (λ (r : Contents). r.number < word_end) (sym c.self.view_is) c.limits.ensures.number in
     let few = subst (λ (r : Contents). r.births < word_end) (sym c.self.view_is) c.limits.ensures.births in
     rw (← c.self.view_is, c.in-Some.ensures.some.0, c.in-Some.ensures.some.1)
-    (collects _ small few _ _ (c.collect_as.ensures.yes c.if-not-collect_as.false) _ refl)
+    (collects _ small few _ _ c.age_all.ensures.size c.age_all.ensures.flags _ (c.collect_as.ensures.yes c.if-not-collect_as.false) _ refl)

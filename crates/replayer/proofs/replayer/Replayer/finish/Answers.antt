@@ -26,4 +26,4 @@ returns-clause-yes c done =
     let few = subst (λ (r : Contents). r.births < word_end) (sym c.self.view_is) c.limits.ensures.births in
     let m = subst (λ (r : Contents). c.is_marking.result ≡ r.marking) (sym c.self.view_is) c.is_marking.ensures in
     rw (← c.self.view_is, c.in-Some.ensures.some.0, c.in-Some.ensures.some.1)
-    (finishes _ small few _ _ (c.forget.ensures.yes c.if-not-forget.false) (sym m ∙ c.if-not-is_marking.false) _ refl)
+    (finishes _ small few _ _ c.age_all.ensures.size c.age_all.ensures.flags _ (c.forget.ensures.yes c.if-not-forget.false) (sym m ∙ c.if-not-is_marking.false) _ refl)

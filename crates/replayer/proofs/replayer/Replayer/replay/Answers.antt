@@ -12,6 +12,12 @@ returns-in-Begin-clause-yes c done = rw c.in-Begin.is (c.begin.ensures.yes done 
 pub returns-in-Begin-clause-no : goal.returns-in-Begin-clause-no
 returns-in-Begin-clause-no c refused = rw c.in-Begin.is (c.begin.ensures.no refused c.args.hint)
 
+pub returns-in-BeginPartial-clause-yes : goal.returns-in-BeginPartial-clause-yes
+returns-in-BeginPartial-clause-yes c done = rw c.in-BeginPartial.is (c.begin_partial.ensures.yes done c.args.hint)
+
+pub returns-in-BeginPartial-clause-no : goal.returns-in-BeginPartial-clause-no
+returns-in-BeginPartial-clause-no c refused = rw c.in-BeginPartial.is (c.begin_partial.ensures.no refused c.args.hint)
+
 pub returns-in-Roots-clause-yes : goal.returns-in-Roots-clause-yes
 returns-in-Roots-clause-yes c done = rw c.in-Roots.is (c.roots.ensures.yes done c.args.hint)
 

@@ -1,9 +1,12 @@
 use Rattle.std.proofs.Common.{refl}
-use Rattle.workloads.proofs.Collected.{begins, finishes, numbers, roots, marking, retraces, sweeps}
+use Rattle.workloads.proofs.Collected.{begins, begins_partly, finishes, numbers, roots, marking, retraces, sweeps}
 use Rattle.workloads.proofs.collector_job.GatedHeap.command.Goals as goal
 
 pub returns-in-Begin : goal.returns-in-Begin
 returns-in-Begin g c = begins g.J.Naming.origin c.args.me.now c.begin.new.me c.args.command c.done.result c.requires.slot c.begin.result c.in-Begin.is c.done.ensures c.begin.ensures
+
+pub returns-in-BeginPartial : goal.returns-in-BeginPartial
+returns-in-BeginPartial g c = begins_partly g.J.Naming.origin c.args.me.now c.begin_partial.new.me c.args.command c.done-in-BeginPartial.result c.requires.slot c.begin_partial.result c.in-BeginPartial.is c.done-in-BeginPartial.ensures c.begin_partial.ensures
 
 pub returns-in-Roots : goal.returns-in-Roots
 returns-in-Roots g c =

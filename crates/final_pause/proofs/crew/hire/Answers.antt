@@ -1,0 +1,17 @@
+use Rattle.std.proofs.Common.{All, sym, subst, rules}
+use Rattle.std.proofs.lemmas.List.Elements.{All-push}
+use Rattle.final_pause.specs.declared.helper.Helper.{Helper}
+use Rattle.final_pause.specs.Serving.{IsHired}
+use Rattle.final_pause.proofs.crew.hire.Goals as goal
+
+pub loop-i-preserved : goal.loop-i-preserved
+loop-i-preserved c =
+    let hired = λ (h : Helper). IsHired c.args.table.now c.args.pages h in
+    record {
+      of = search rules;
+      won = search rules;
+      size = search rules;
+      parts = search rules;
+      hired = subst (All hired) (sym c.in_ok-push.ensures.items) (All-push hired c.loop-i.crew.items c.in_ok-new_helper.field-0 c.loop-i.invariant.hired c.in_ok-new_helper.ensures.hired);
+      numbered = search rules;
+    }

@@ -1,0 +1,73 @@
+use Rattle.std.proofs.Common.{◌≡◌, ◌∙◌, ℕ, true, false, List, length, set, refl, sym, ap, subst, arith}
+use Rattle.words.specs.Layout.{page_of}
+use Rattle.marker.specs.Marking.{bytes_of, word_address}
+use Rattle.marker.specs.Growth.{CarriesPage, TellsStray, words_of}
+use Rattle.marker.proofs.Words.{run_page, carries_some, carries_none}
+use Rattle.final_pause.specs.Helping.{found, VisitsAll}
+use Rattle.final_pause.proofs.Growing.{lent_words, reads_run}
+use Rattle.final_pause.proofs.share.Pause.read_run.Goals as goal
+
+pub overflow_add-start : goal.overflow_add-start
+overflow_add-start g c =
+    let f = c.from.ensures in let p = (c.requires.fits.ready.map.placed _ _ c.requires.object.points).below in
+    let s = c.requires.fits.ready.few in let l = c.requires.inside in omega arith
+
+pub read_run-requires-clause-above : goal.read_run-requires-clause-above
+read_run-requires-clause-above g c =
+    let q = (c.requires.fits.ready.map.placed _ _ c.requires.object.points).above in omega arith
+
+pub read_run-requires-clause-inside : goal.read_run-requires-clause-inside
+read_run-requires-clause-inside g c =
+    let r = c.requires.fits.ready in let at = r.map.placed _ _ c.requires.object.points in
+    let f = c.from.ensures in let p = at.below in let q = at.above in let a = at.aligned in let l = c.requires.inside in let m = r.memory in
+    let w = ap (λ (ws : List ℕ). length ws) c.new-reader.ensures.words in
+    omega arith
+
+pub page_of-requires : goal.page_of-requires
+page_of-requires g c =
+    let q = (c.requires.fits.ready.map.placed _ _ c.requires.object.points).above in omega arith
+
+-- where a word is stray, there is one, and so its page is one of the heap
+pub carry-requires : goal.carry-requires
+carry-requires g c =
+    let p = c.args.self.now in let object = c.args.found in let r = c.requires.fits.ready in let placed = r.map.placed _ _ c.requires.object.points in
+    let f = c.from.ensures in
+    let run = lent_words p.memory.now c.new-reader.result.words c.read_run.result (length p.map.now) object c.args.first c.args.count _ placed c.requires.inside r.memory (omega arith) c.read_run.ensures.run c.new-reader.ensures.words in
+    let tells : TellsStray (found p) (bytes_of p.marker.now) (words_of p.memory.now object c.args.first c.args.count) true =
+    subst (λ (ws : List ℕ). TellsStray (found p) (bytes_of p.marker.now) ws true) run (subst (TellsStray (found p) (bytes_of p.marker.now) c.read_run.result) c.if-visit_all.true c.visit_all.ensures.stray) in
+    let q = c.page_of.ensures in
+    let on = run_page (length p.map.now) p.memory.now object c.args.first c.args.count (found p) (bytes_of p.marker.now) _ true placed c.requires.inside refl tells refl in
+    let size = c.visit_all.ensures.visits.extends.carried_len in let pages = c.requires.fits.carried in
+    omega arith
+
+pub returns-then-visit_all : goal.returns-then-visit_all
+returns-then-visit_all g c =
+    let p = c.args.self.now in let object = c.args.found in let r = c.requires.fits.ready in let placed = r.map.placed _ _ c.requires.object.points in
+    let f = c.from.ensures in
+    let run = lent_words p.memory.now c.new-reader.result.words c.read_run.result (length p.map.now) object c.args.first c.args.count _ placed c.requires.inside r.memory (omega arith) c.read_run.ensures.run c.new-reader.ensures.words in
+    let tells : TellsStray (found p) (bytes_of p.marker.now) (words_of p.memory.now object c.args.first c.args.count) true =
+    subst (λ (ws : List ℕ). TellsStray (found p) (bytes_of p.marker.now) ws true) run (subst (TellsStray (found p) (bytes_of p.marker.now) c.read_run.result) c.if-visit_all.true c.visit_all.ensures.stray) in
+    let q = c.page_of.ensures in
+    let on = run_page (length p.map.now) p.memory.now object c.args.first c.args.count (found p) (bytes_of p.marker.now) _ true placed c.requires.inside refl tells refl in
+    let size = c.visit_all.ensures.visits.extends.carried_len in let pages = c.requires.fits.carried in
+    let k = c.carry.ensures in
+    let is : c.page_of.result ≡ page_of (word_address object c.args.first) = omega arith in
+    reads_run p object c.args.first c.args.count (page_of (word_address object c.args.first)) c.args.helper.now c.visit_all.new.helper c.carry.new.helper c.requires.inside c.requires.one_page
+    (subst (λ (ws : List ℕ). VisitsAll p ws c.args.helper.now c.visit_all.new.helper) run c.visit_all.ensures.visits)
+    k.claimer k.stack k.dirty k.share
+    (subst (CarriesPage (found p) (bytes_of p.marker.now) (words_of p.memory.now object c.args.first c.args.count) (page_of (word_address object c.args.first)) c.visit_all.new.helper.carried)
+    (ap (λ (n : ℕ). set c.visit_all.new.helper.carried n true) (sym is) ∙ sym k.carried)
+    (carries_some (found p) (bytes_of p.marker.now) _ (page_of (word_address object c.args.first)) c.visit_all.new.helper.carried (omega arith) tells))
+
+pub returns-else-visit_all : goal.returns-else-visit_all
+returns-else-visit_all g c =
+    let p = c.args.self.now in let object = c.args.found in let r = c.requires.fits.ready in let placed = r.map.placed _ _ c.requires.object.points in
+    let f = c.from.ensures in
+    let run = lent_words p.memory.now c.new-reader.result.words c.read_run.result (length p.map.now) object c.args.first c.args.count _ placed c.requires.inside r.memory (omega arith) c.read_run.ensures.run c.new-reader.ensures.words in
+    let tells : TellsStray (found p) (bytes_of p.marker.now) (words_of p.memory.now object c.args.first c.args.count) false =
+    subst (λ (ws : List ℕ). TellsStray (found p) (bytes_of p.marker.now) ws false) run (subst (TellsStray (found p) (bytes_of p.marker.now) c.read_run.result) c.if-visit_all.false c.visit_all.ensures.stray) in
+    let h = c.visit_all.new.helper in
+    reads_run p object c.args.first c.args.count (page_of (word_address object c.args.first)) c.args.helper.now h h c.requires.inside c.requires.one_page
+    (subst (λ (ws : List ℕ). VisitsAll p ws c.args.helper.now c.visit_all.new.helper) run c.visit_all.ensures.visits)
+    refl refl refl refl
+    (carries_none (found p) (bytes_of p.marker.now) _ (page_of (word_address object c.args.first)) h.carried tells)

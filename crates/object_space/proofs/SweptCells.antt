@@ -1,0 +1,151 @@
+-- A pending page whose cells are swept.
+use Rattle.std.proofs.Common.{◌≡◌, ℕ, ◌+◌, ◌*◌, ◌<◌, ◌≤◌, ◌⊎◌, Bool, true, false, List, length, get_or, set, Some, refl, sym, ap, ◌∙◌, subst, ⊎_elim, arith, length-set, get_or-set_other}
+use Rattle.std.specs.Prelude.{◌≢◌}
+use Rattle.std.proofs.lemmas.Bool.{cases_eq, true≢false}
+use Rattle.std.proofs.lemmas.Option.{same_Some}
+use Rattle.words.specs.declared.class.Kind.{Kind}
+use Rattle.words.specs.Bits.{Has}
+use Rattle.words.specs.Layout.{granule}
+use Rattle.pages.specs.Memory.{place}
+use Rattle.pages.specs.Runs.{IsFilled}
+use Rattle.blocks.specs.Cells.{Cells, IsCells}
+use Rattle.blocks.specs.Lists.{cell_start}
+use Rattle.blocks.specs.Sweeps.{IsDeadCell}
+use Rattle.blocks.proofs.Places.{class_bounds}
+use Rattle.block_map.specs.declared.found.Found.{Found}
+use Rattle.block_map.specs.Changes.{IsSameMap}
+use Rattle.block_map.specs.FoundIn.{found_in, IsLawful}
+use Rattle.block_map.specs.Objects.{cell_object, IsInside, IsObject, IsObjectOn}
+use Rattle.block_map.specs.States.{PageState, free, cut, state_at, IsBlockFor, IsCut, IsLaid, IsSpanSet, LaidAt}
+use Rattle.block_map.specs.Sweeps.{SweepsObjects, SweepsOn}
+use Rattle.block_map.proofs.Sweeping.{cell_granule}
+use Rattle.marker.specs.Marking.{word_address}
+use Rattle.object_space.specs.AvailableRows.{IsAvailable, AreReady, AreWaiting}
+use Rattle.object_space.specs.Store.{Store, Agree, HasObjects}
+use Rattle.object_space.specs.Sweeps.{SweepsPage}
+use Rattle.object_space.proofs.Frees.{agree_given, used_given}
+use Rattle.object_space.proofs.Rooms.{free_cut, same_block}
+
+-- the page is a block of the same class and kind as before
+module _ (states mid : List PageState) (page : ℕ) (a b : Cells) (was : state_at states page ≡ cut a) (is : state_at mid page ≡ cut b) (became : mid ≡ set states page (state_at mid page)) where
+  pub size_swept : length mid ≡ length states
+  size_swept = ap length became ∙ length-set states page _
+
+  other : (p : ℕ) → p ≢ page → state_at mid p ≡ state_at states p
+  other p ne = ap (λ x. state_at x p) became ∙ get_or-set_other states page p _ free ne
+
+  pub ready_cells : (rows : List (List Bool)) (row : List Bool) → Has row page → AreReady rows states row → AreReady rows mid row
+  ready_cells rows row pending exact = record {
+    long = λ c k is. exact.long c k is ∙ sym size_swept;
+    entered = λ c k p is has. exact.entered c k p is (subst (λ st. IsAvailable st c k) (other p (away p has.1)) has.0, has.1);
+    only = λ c k p is bit. let has = exact.only c k p is bit in (subst (λ st. IsAvailable st c k) (sym (other p (away p has.1))) has.0, has.1);
+  }
+    where
+      away : (p : ℕ) → (Has row p → ⊥) → p ≢ page
+      away p not e = not (subst (Has row) (sym e) pending)
+
+  pub waiting_cells : (rows : List (List Bool)) (row : List Bool) → b.class ≡ a.class → b.kind ≡ a.kind → AreWaiting rows states row → AreWaiting rows mid row
+  waiting_cells rows row class kind exact = record {
+    long = λ c k is. exact.long c k is ∙ sym size_swept;
+    entered = λ c k p is has. exact.entered c k p is (back p c k has.0, has.1);
+    only = λ c k p is bit. let has = exact.only c k p is bit in (onto p c k has.0, has.1);
+  }
+    where
+      onto : (p c : ℕ) (k : Kind) → IsBlockFor (state_at states p) c k → IsBlockFor (state_at mid p) c k
+      onto p c k has = ⊎_elim
+          (λ (e : p ≡ page).
+          let own : IsBlockFor (cut a) c k = subst (λ st. IsBlockFor st c k) (ap (state_at states) e ∙ was) has in
+          subst (λ st. IsBlockFor st c k) (sym (ap (state_at mid) e ∙ is)) (class ∙ own.0, kind ∙ own.1))
+          (λ ne. subst (λ st. IsBlockFor st c k) (sym (other p ne)) has)
+          (cases_eq p page)
+
+      back : (p c : ℕ) (k : Kind) → IsBlockFor (state_at mid p) c k → IsBlockFor (state_at states p) c k
+      back p c k has = ⊎_elim
+          (λ (e : p ≡ page).
+          let own : IsBlockFor (cut b) c k = subst (λ st. IsBlockFor st c k) (ap (state_at mid) e ∙ is) has in
+          subst (λ st. IsBlockFor st c k) (sym (ap (state_at states) e ∙ was)) (sym class ∙ own.0, sym kind ∙ own.1))
+          (λ ne. subst (λ st. IsBlockFor st c k) (other p ne) has)
+          (cases_eq p page)
+
+  pub cut_cells : (p : ℕ) → IsCut (state_at states p) → IsCut (state_at mid p)
+  cut_cells p has = ⊎_elim
+      (λ (e : p ≡ page). subst IsCut (sym (ap (state_at mid) e ∙ is)) tt)
+      (λ ne. subst IsCut (sym (other p ne)) has)
+      (cases_eq p page)
+
+  pub agree_cells : (row : List Bool) → Agree row states → Agree row mid
+  agree_cells row agree = record {
+    size = agree.size ∙ sym size_swept;
+    free_in_map = λ p h. ⊎_elim
+        (λ (e : p ≡ page). absurd (free_cut a (sym (agree.free_in_map p h) ∙ ap (state_at states) e ∙ was)))
+        (λ ne. other p ne ∙ agree.free_in_map p h)
+        (cases_eq p page);
+    free_in_pool = λ p lt h. ⊎_elim
+        (λ (e : p ≡ page). absurd (free_cut b (sym h ∙ ap (state_at mid) e ∙ is)))
+        (λ ne. agree.free_in_pool p (let z = size_swept in omega arith) (sym (other p ne) ∙ h))
+        (cases_eq p page);
+  }
+
+  pub used_cells : HasObjects states → (i : ℕ) → get_or b.taken i false ≡ true → HasObjects mid
+  used_cells used i bit p c h = ⊎_elim
+      (λ (e : p ≡ page). (i, ap (λ (x : Cells). get_or x.taken i false) (same_block c b (sym h ∙ ap (state_at mid) e ∙ is)) ∙ bit))
+      (λ ne. used p c (sym (other p ne) ∙ h))
+      (cases_eq p page)
+
+  -- and then free
+  module _ (row row' : List Bool) (states' : List PageState) (sound : Agree row states) (given : IsFilled row row' page 1 true) (span : IsSpanSet mid states' page 1 (λ _. free)) where
+    ne_of : (p : ℕ) → (p < page) ⊎ (page + 1 ≤ p) → p ≢ page
+    ne_of p out = ⊎_elim (λ lt (h : p ≡ page). omega arith) (λ ge (h : p ≡ page). omega arith) out
+
+    pub agree_gone : Agree row' states'
+    agree_gone = agree_given row row' mid states' page 1 given span (sound.size ∙ sym size_swept)
+        (λ p out h. other p (ne_of p out) ∙ sound.free_in_map p h)
+        (λ p out lt h. sound.free_in_pool p (let z = size_swept in omega arith) (sym (other p (ne_of p out)) ∙ h))
+
+    pub used_gone : HasObjects states → HasObjects states'
+    used_gone used = used_given row row' mid states' page 1 given span (λ p c out h. used p c (sym (other p (ne_of p out)) ∙ h))
+
+-- what it is to the store, whose map has the objects that are left and none more
+module _ (old new : Store) (marks : List Bool) (page : ℕ) (mid : List PageState) (laid : IsLaid old.states) (lawful : IsLawful old.states) (inside : page < length old.states)
+    (cells : SweepsOn old.words new.words marks page (state_at old.states page) (state_at mid page)) (objects : SweepsObjects (found_in old.states) (found_in mid) marks page) where
+  are_cells : IsCells cells.old
+  are_cells = subst (LaidAt old.states page) cells.was (laid.each page inside)
+
+  -- the object in a cell
+  there_was : (c : ℕ) → c < length cells.old.taken → get_or cells.old.taken c false ≡ true → IsObject old.states (cell_object page cells.old c)
+  there_was c lt taken = record { page = inside; on = subst (λ st. IsObjectOn st (cell_object page cells.old c)) (sym cells.was) (refl, lt, taken) }
+
+  -- an object that is left has no dead cell's first word
+  not_dead : (f : Found) (i : ℕ) → found_in mid f.base ≡ Some f → i < f.len → (c : ℕ) → IsDeadCell marks page cells.old c → place (word_address f i) ≢ place (cell_start page cells.old.class c)
+  not_dead f i there lt c dead same =
+      true≢false (sym (subst (Has marks) (ap (λ (x : Found). granule x.base) one ∙ cell_granule page c cells.old are_cells) (left.1 (ap (λ (x : Found). x.page) one))) ∙ dead.unmarked)
+    where
+      left : (found_in old.states f.base ≡ Some f) × (f.page ≡ page → Has marks (granule f.base))
+      left = objects.only f.base f there
+
+      at : word_address f i ≡ cell_start page cells.old.class c
+      at =
+          let p = lawful.map.placed f.base f left.0 in let aligned = p.aligned in let above = p.above in
+          let e : c * (8 * cells.old.class) ≡ 8 * (c * cells.old.class) = omega arith in
+          omega (arith, same, aligned, above, e)
+
+      in_cell : IsInside (word_address f i) (cell_object page cells.old c)
+      in_cell = let some = (class_bounds cells.old.class are_cells.class).0 in record { from = omega (arith, at); below = omega (arith, at, some) }
+
+      in_left : IsInside (word_address f i) f
+      in_left = record { from = omega arith; below = omega arith }
+
+      one : f ≡ cell_object page cells.old c
+      one = same_Some f (cell_object page cells.old c) (
+          sym (lawful.map.whole f.base (word_address f i) f left.0 in_left)
+          ∙ lawful.found (word_address f i) (cell_object page cells.old c) (there_was c dead.inside dead.taken) in_cell)
+
+  pub sweeps_cells : IsSameMap (found_in mid) (found_in new.states) → length new.states ≡ length old.states → new.pending ≡ set old.pending page false → SweepsPage old marks page new
+  sweeps_cells same size pending = record {
+    words = λ f i there lt. cells.cells.others (place (word_address f i)) (not_dead f i (sym (same.same f.base) ∙ there) lt);
+    pages = size;
+    pending = pending;
+    others = λ w f there ne. same.same w ∙ objects.others w f there ne;
+    marked = λ w f there on has. same.same w ∙ objects.marked w f there on has;
+    only = λ w f there. objects.only w f (sym (same.same w) ∙ there);
+  }

@@ -1,0 +1,135 @@
+//! Scripts of cycles that begin with the marks of the last one, and what is printed for them. None of the expected texts comes
+//! from the program.
+
+use crate::scene::Scene;
+use crate::tables::Row;
+use std::process::Abort;
+use std::test::Fail;
+
+const PARTIAL: [Row; 15] = [
+    Row {
+        name: "partial_needs_a_full_one_first",
+        pages: 4,
+        script: "attach\ngc partial\n",
+        replies: "mutator 0\nrefused 12 NeedsFull\n",
+    },
+    Row {
+        name: "partial_takes_what_is_young",
+        pages: 4,
+        script: "attach\n0 alloc 1 2 normal\ngc collect\n0 alloc 2 2 normal\n0 set 1 0\n0 set 2 0\ngc partial\ngc finish\ngc collect\n",
+        replies: "mutator 0\nok\n0\nok\nok\nok\nok\n1\n1\n",
+    },
+    Row {
+        name: "partial_reads_what_was_stored_before_it",
+        pages: 4,
+        script: "attach\n0 alloc 1 2 normal\ngc collect\n0 alloc 2 2 normal\n0 store 1 0 2\n0 set 2 0\ngc partial\ngc finish\n0 load 2 1 0\n0 size 2\n",
+        replies: "mutator 0\nok\n0\nok\nok\nok\nok\n0\nptr\n2\n",
+    },
+    Row {
+        name: "partial_reads_a_word_that_pointed_nowhere",
+        pages: 1,
+        script: "attach\n0 alloc 1 256 normal\n0 set 2 268435456\n0 store 1 0 2\n0 set 2 268437504\n0 store 1 1 2\n0 set 2 0\ngc collect\n0 alloc 2 256 normal\n0 set 2 0\ngc partial\ngc finish\ngc collect\n",
+        replies: "mutator 0\nok\nok\nok\nok\nok\nok\n0\nok\nok\nok\n0\n0\n",
+    },
+    Row {
+        name: "partial_after_a_free",
+        pages: 4,
+        script: "attach\n0 alloc 1 2 normal\ngc collect\n0 free 1\ngc partial\ngc begin\ngc finish\ngc partial\ngc partial\n",
+        replies: "mutator 0\nok\n0\nok\nrefused 12 NeedsFull\nok\n0\nok\nrefused 9 WrongPhase\n",
+    },
+    Row {
+        name: "partial_after_a_free_in_the_last_cycle",
+        pages: 4,
+        script: "attach\n0 alloc 1 2 normal\ngc begin\n0 free 1\ngc finish\ngc partial\n",
+        replies: "mutator 0\nok\nok\nok\n0\nrefused 12 NeedsFull\n",
+    },
+    Row {
+        name: "partial_after_a_free_before_the_last_cycle",
+        pages: 4,
+        script: "attach\n0 alloc 1 2 normal\n0 free 1\ngc begin\ngc finish\ngc partial\ngc finish\n",
+        replies: "mutator 0\nok\nok\nok\n0\nok\n0\n",
+    },
+    Row {
+        name: "partial_leaves_old_garbage",
+        pages: 4,
+        script: "attach\n0 alloc 1 2 normal\ngc collect\n0 set 1 0\ngc partial\ngc finish\ngc partial\ngc finish\ngc partial\ngc finish\ngc begin\ngc finish\ngc no\n",
+        replies: "mutator 0\nok\n0\nok\nok\n0\nok\n0\nok\n0\nok\n1\n5\n",
+    },
+    Row {
+        name: "partial_goes_from_old_to_new_to_old",
+        pages: 4,
+        script: "attach\n0 alloc 1 2 normal\n0 alloc 2 2 normal\n0 store 1 0 2\ngc collect\n0 alloc 3 2 normal\n0 store 1 1 3\n0 store 3 0 2\n0 set 4 0\n0 store 1 0 4\n0 set 2 0\n0 set 3 0\ngc partial\ngc finish\n0 load 5 1 1\n0 load 5 5 0\n0 size 5\n",
+        replies: "mutator 0\nok\nok\nok\n0\nok\nok\nok\nok\nok\nok\nok\nok\n0\nptr\nptr\n2\n",
+    },
+    Row {
+        name: "word_carried_by_a_cycle_in_small_steps",
+        pages: 1,
+        script: "attach\n0 alloc 1 256 normal\n0 set 2 268435456\n0 store 1 0 2\n0 set 2 268437504\n0 store 1 1 2\n0 set 2 0\ngc begin\ngc roots\ngc mark 1000\ngc finish\n0 alloc 2 256 normal\n0 set 2 0\ngc partial\ngc finish\ngc partial\ngc finish\n0 store 1 0 2\n0 store 1 1 2\ngc begin\ngc finish\n",
+        replies: "mutator 0\nok\nok\nok\nok\nok\nok\nok\nok\n256\n0\nok\nok\nok\n0\nok\n0\nok\nok\nok\n1\n",
+    },
+    Row {
+        name: "word_carried_by_a_partial_cycle",
+        pages: 1,
+        script: "attach\ngc collect\n0 alloc 1 256 normal\n0 set 2 268435456\n0 store 1 0 2\n0 set 2 268437504\n0 store 1 1 2\n0 set 2 0\ngc partial\ngc finish\n0 alloc 2 256 normal\n0 set 2 0\ngc partial\ngc finish\ngc collect\n",
+        replies: "mutator 0\n0\nok\nok\nok\nok\nok\nok\nok\n0\nok\nok\nok\n0\n0\n",
+    },
+    Row {
+        name: "free_in_a_partial_cycle",
+        pages: 4,
+        script: "attach\n0 alloc 1 2 normal\ngc collect\n0 alloc 2 2 normal\ngc partial\n0 free 2\ngc finish\ngc partial\ngc collect\ngc partial\ngc finish\n",
+        replies: "mutator 0\nok\n0\nok\nok\nok\n0\nrefused 12 NeedsFull\n0\nok\n0\n",
+    },
+    Row {
+        name: "collect_in_a_partial_cycle",
+        pages: 4,
+        script: "attach\n0 alloc 1 2 normal\ngc collect\n0 set 1 0\ngc partial\ngc collect\ngc finish\ngc partial\ngc finish\n",
+        replies: "mutator 0\nok\n0\nok\nok\n1\nrefused 9 WrongPhase\nok\n0\n",
+    },
+    Row {
+        name: "born_in_a_partial_cycle",
+        pages: 4,
+        script: "attach\n0 alloc 1 2 normal\ngc collect\ngc partial\n0 alloc 2 2 normal\n0 set 2 0\ngc finish\ngc partial\ngc finish\ngc collect\n",
+        replies: "mutator 0\nok\n0\nok\nok\nok\n0\nok\n0\n1\n",
+    },
+    Row {
+        name: "links_through_partial_cycles",
+        pages: 4,
+        script: "attach\n0 alloc 1 2 atomic\n0 alloc 2 2 normal\ngc collect\n0 alloc 3 2 normal\n0 store 1 0 2\n0 link 1 0 2\n0 store 1 1 3\n0 link 1 1 3\n0 set 2 0\n0 set 3 0\ngc partial\ngc finish\n0 load 4 1 1\n0 load 4 1 0\n0 set 4 0\ngc begin\ngc finish\n0 load 4 1 0\n",
+        replies: "mutator 0\nok\nok\n0\nok\nok\nok\nok\nok\nok\nok\nok\n1\n0\nptr\nok\nok\n1\n0\n",
+    },
+];
+
+#[test]
+fn partial_cycles_print_their_replies(rt: HostRuntime) -> Result<(), Fail> {
+    let mut scene = Scene::new(rt.alloc())?;
+    for row in &PARTIAL {
+        scene.check_row(&rt, row.name, row.pages, row.script, row.replies);
+    }
+    Ok(())
+}
+
+// Three hundred new objects to which one old object leads, each with its number, which are more than the mark stack holds.
+fn check_overflow(rt: &impl Abort, scene: &mut Scene) -> Result<(), Fail> {
+    let mut script = String::from_str(scene.alloc, "attach\n0 alloc 1 300 normal\ngc collect\n")?;
+    let mut replies = String::from_str(scene.alloc, "mutator 0\nok\n0\n")?;
+    for i in 0..300u32 {
+        write!(
+            script,
+            "0 alloc 2 2 normal\n0 set 3 {i}\n0 store 2 0 3\n0 store 1 {i} 2\n"
+        )?;
+        replies.push_str("ok\nok\nok\nok\n")?;
+    }
+    script.push_str("0 set 2 0\ngc partial\ngc finish\n0 load 4 1 299\n0 load 5 4 0\n0 set 4 0\n")?;
+    replies.push_str("ok\nok\n0\nptr\n299\nok\n")?;
+    script.push_str("0 set 1 0\ngc partial\ngc finish\ngc begin\ngc finish\n")?;
+    replies.push_str("ok\nok\n0\nok\n301\n")?;
+    let name = "overflow_in_a_partial_cycle";
+    scene.check_row(rt, name, 4, script.as_str(), replies.as_str());
+    Ok(())
+}
+
+#[test]
+fn an_overflow_in_a_partial_cycle_loses_nothing(rt: HostRuntime) -> Result<(), Fail> {
+    let mut scene = Scene::new(rt.alloc())?;
+    check_overflow(&rt, &mut scene)
+}
