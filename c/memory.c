@@ -2,11 +2,13 @@
  * and mpheap_open_mapped, by which the words of one heap stand at their own addresses.
  *
  * Trusted, not proved: the library's proofs take it that what these three answer is memory of so many bytes, aligned to 16 or
- * less, that nobody else uses until it is given back, and that a growth keeps the bytes that were there. */
+ * less, that nobody else uses until it is given back, and that a growth keeps the bytes that were there. And that memset
+ * leaves the byte in each place: what was just mapped has 0 in each, and is not written again. */
 #ifndef _GNU_SOURCE
 #define _GNU_SOURCE
 #endif
 #include "mpheap.h"
+#include <errno.h>
 #include <stdatomic.h>
 #include <stddef.h>
 #include <stdlib.h>
@@ -22,6 +24,9 @@ memory rattle_alloc(size_t bytes, size_t align);
 memory rattle_realloc(void *at, size_t kept, size_t bytes, size_t align);
 void rattle_dealloc(void *at);
 
+/* What the library calls in place of memset: c/archive renames it there. */
+void *mpheap_memset(void *at, int byte, size_t bytes);
+
 /* In a refusal no memory is named, but the pointer is none the less not null. */
 static char refused;
 
@@ -32,6 +37,9 @@ static atomic_size_t mapped;
 static _Thread_local size_t wanted;
 static _Thread_local uint32_t before;
 static _Thread_local bool is_taken;
+
+/* The bytes of words that this thread has just mapped, and that nobody has touched: the kernel has them 0. */
+static _Thread_local size_t untouched;
 
 static void *first_address(void) {
     return (void *)(uintptr_t)MPHEAP_FIRST_ADDRESS;
@@ -51,9 +59,10 @@ static void *map_words(size_t bytes) {
     void *at = mmap(first_address(), bytes, PROT_READ | PROT_WRITE, flags, -1, 0);
     if (at == first_address()) {
         atomic_store(&mapped, bytes);
+        untouched = bytes;
         return at;
     }
-    is_taken = true;
+    is_taken = at != MAP_FAILED || errno == EEXIST;
     if (at != MAP_FAILED) munmap(at, bytes);
     return NULL;
 }
@@ -76,6 +85,15 @@ void rattle_dealloc(void *at) {
     } else {
         free(at);
     }
+}
+
+/* The library clears a heap's words before anything else is done with them. Written, each page of them would have to be found by
+ * the kernel at once, however small the program. Each new object is cleared by a call of this too, so it is quick. */
+void *mpheap_memset(void *at, int byte, size_t bytes) {
+    if (at != first_address()) return memset(at, byte, bytes);
+    bool is_zero = byte == 0 && bytes <= untouched;
+    untouched = 0;
+    return is_zero ? at : memset(at, byte, bytes);
 }
 
 /* Whether what is mapped are the heap's words: a word that is stored into a new object stands at its address. The object and

@@ -1,55 +1,33 @@
-// Collections: full ones, and cycles that mark in small steps. Trusted, not proved.
+// Full collections, and what every collection does at its end. Trusted, not proved.
 //
 // What it owes the core, of mpheap.h:
 //
-//   "nothing changes the heap's words while a call runs"   Every signal but those of faults is blocked under these calls, so that no
-//                                                          handler of the program writes meanwhile. Requests and frees don't block
-//                                                          signals: a handler that writes into the heap under one isn't covered.
-//   "told first, then written", once a cycle marks         mpheap_begin cleans every page, and so does the end of a cycle: pages are
-//                                                          closed after the one and before the program runs on, and opened at the other
-//   the roots are as the program has them                  at mpheap_collect and mpheap_finish: they are read just before, with nothing
-//                                                          between. At mpheap_roots they needn't be.
+//   "nothing changes the heap's words while a call runs"   signals are blocked from the first call to the last (signals.c)
+//   the roots are as the program has them                  at mpheap_finish: they are read just before, with nothing between
+//   "told first, then written", once a cycle marks         from mpheap_begin to mpheap_finish the program doesn't run, and writes nothing
+//
+// The cells of what went are swept later, a few pages at a time (pacing.c): mpheap_collect would sweep them all in the stop.
 #include "layer.h"
-#include <pthread.h>
 #include <time.h>
 
-// A cycle reads dirty pages again for this many rounds, and ends at once with this many pages or fewer.
-enum { ROUNDS = 2, FEW_PAGES = 8, PAGE_WORDS = PAGE / WORD };
-
-static unsigned rounds;
-static size_t left_in_round;
-
-static double now(void)
+double mpgc_now(void)
 {
     struct timespec time;
     clock_gettime(CLOCK_MONOTONIC, &time);
     return (double)time.tv_sec * 1e6 + (double)time.tv_nsec / 1e3;
 }
 
-static void tell_program(GC_EventType event)
+void mpgc_tell_start(void)
+{
+    GC_start_callback_proc tell = GC_get_start_callback();
+    if (tell) tell();
+}
+
+void mpgc_tell_program(const GC_EventType *events, size_t count)
 {
     GC_on_collection_event_proc tell = GC_get_on_collection_event();
-    if (tell) tell(event);
+    for (size_t k = 0; tell && k < count; k++) tell(events[k]);
 }
-
-static void block_signals(sigset_t *old)
-{
-    static const int of_faults[] = { SIGSEGV, SIGBUS, SIGFPE, SIGILL, SIGTRAP, SIGABRT };
-    sigset_t all;
-    sigfillset(&all);
-    for (size_t k = 0; k < sizeof of_faults / sizeof *of_faults; k++) sigdelset(&all, of_faults[k]);
-    pthread_sigmask(SIG_SETMASK, &all, old);
-}
-
-static void restore_signals(const sigset_t *old) { pthread_sigmask(SIG_SETMASK, old, NULL); }
-
-// One call of the collector, which has to be granted.
-#define GRANTED(call) do { \
-        mpgc_call_begins(); \
-        uint32_t status_ = (call); \
-        mpgc_call_ends(); \
-        if (status_ != MPHEAP_OK) mpgc_stop("the heap refused " #call); \
-    } while (0)
 
 static bool core_is_marking(void)
 {
@@ -59,133 +37,65 @@ static bool core_is_marking(void)
     return is;
 }
 
-static double has_collected(double start, double *longest)
+// What follows each collection, full or in small steps.
+void mpgc_end_collection(double start, double *longest)
 {
-    double took = now() - start;
-    if (took > *longest) *longest = took;
     mpgc.is_marking = false;
+    mpgc_need_full_cycle();
+    mpgc_start_opening();
     mpgc_call_begins();
     GC_gc_no = mpheap_gc_no(&mpgc.heap);
     mpgc_call_ends();
+    mpgc_clear_links();
     mpgc_set_budget();
-    return took;
+    double took = mpgc_now() - start;
+    if (took > *longest) *longest = took;
 }
 
-// The heap has all its roots, and exactly what they don't reach goes. If the roots overflowed, they were marked into the cycle
-// that was marking: that one ends, and keeps too much, and the next one is exact.
-static void collect_roots(void)
+// Roots that don't fit the stacks are marked meanwhile. The words that are read are counted, to pace by.
+static void end_with_roots(void)
 {
-    uint64_t count;
-    bool was_marking = core_is_marking();
-    if (!mpgc_read_roots()) {
-        GRANTED(mpheap_collect(&mpgc.heap, &count));
-        return;
-    }
+    uint64_t count, read = 0;
+    mpgc_read_roots();
+    GRANTED(mpheap_roots(&mpgc.heap));
+    GRANTED(mpheap_mark(&mpgc.heap, UINT64_MAX, &read));
+    mpgc.marked = read;
     GRANTED(mpheap_finish(&mpgc.heap, &count));
-    if (was_marking) collect_roots();
+}
+
+// What the roots don't reach goes. A cycle that was marking ends first: it keeps what it has marked, and the next one is exact.
+static void collect(void)
+{
+    if (core_is_marking()) end_with_roots();
+    GRANTED(mpheap_begin(&mpgc.heap));
+    end_with_roots();
 }
 
 bool mpgc_collect_fully(void *unused)
 {
+    static const GC_EventType first[] = { GC_EVENT_START, GC_EVENT_MARK_START };
+    static const GC_EventType last[] = { GC_EVENT_MARK_END, GC_EVENT_RECLAIM_START, GC_EVENT_RECLAIM_END, GC_EVENT_END };
     (void)unused;
     sigset_t old;
-    double start = now();
-    tell_program(GC_EVENT_START);
-    tell_program(GC_EVENT_MARK_START);
-    block_signals(&old);
-    if (mpgc.is_marking) mpgc_open_all();
-    collect_roots();
-    mpgc.full++;
-    mpgc.full_time += has_collected(start, &mpgc.longest_full);
-    restore_signals(&old);
-    tell_program(GC_EVENT_MARK_END);
-    tell_program(GC_EVENT_RECLAIM_START);
-    tell_program(GC_EVENT_RECLAIM_END);
-    tell_program(GC_EVENT_END);
-    return true;
-}
-
-bool mpgc_begin_cycle(void *unused)
-{
-    (void)unused;
-    sigset_t old;
-    tell_program(GC_EVENT_START);
-    tell_program(GC_EVENT_MARK_START);
-    block_signals(&old);
-    GRANTED(mpheap_begin(&mpgc.heap));
-    mpgc.is_marking = true;
-    mpgc_close_all();
-    mpgc_read_roots();
-    GRANTED(mpheap_roots(&mpgc.heap));
-    rounds = 0;
-    left_in_round = 0;
-    restore_signals(&old);
-    return true;
-}
-
-static void end_cycle(void)
-{
-    uint64_t count;
-    double start = now();
+    mpgc_tell_program(first, 2);
+    mpgc_tell_start();
+    double start = mpgc_now();
+    mpgc_block_signals(&old);
     mpgc_open_all();
-    mpgc_read_roots();
-    GRANTED(mpheap_finish(&mpgc.heap, &count));
-    mpgc.cycles++;
-    (void)has_collected(start, &mpgc.longest_cycle_end);
-    tell_program(GC_EVENT_MARK_END);
-    tell_program(GC_EVENT_RECLAIM_START);
-    tell_program(GC_EVENT_RECLAIM_END);
-    tell_program(GC_EVENT_END);
-}
-
-// One dirty page is read again, if this round has one left. Without a bound a cycle would never end beside a program that writes.
-static bool reads_again(void)
-{
-    uint64_t count;
-    if (left_in_round == 0 && rounds < ROUNDS) {
-        mpgc_call_begins();
-        left_in_round = mpheap_dirty_pages(&mpgc.heap);
-        mpgc_call_ends();
-        if (left_in_round <= FEW_PAGES) left_in_round = 0;
-        rounds++;
-    }
-    if (left_in_round == 0) return false;
-    left_in_round--;
-    mpgc_close_lowest();
-    GRANTED(mpheap_retrace(&mpgc.heap, &count));
+    mpgc_drop_cycle();
+    collect();
+    mpgc.full++;
+    mpgc_end_collection(start, &mpgc.longest_full);
+    mpgc.full_time += mpgc_now() - start;
+    mpgc_restore_signals(&old);
+    mpgc_tell_program(last, 4);
     return true;
 }
 
-// The cycle goes on by about so many words, and ends if nothing is left.
-void mpgc_mark_on(size_t words)
-{
-    sigset_t old;
-    block_signals(&old);
-    while (words > 0) {
-        uint64_t read = 0;
-        GRANTED(mpheap_mark(&mpgc.heap, words, &read));
-        words -= read;
-        if (words == 0) break;
-        if (!reads_again()) {
-            end_cycle();
-            break;
-        }
-        words -= words < PAGE_WORDS ? words : PAGE_WORDS;
-    }
-    restore_signals(&old);
-}
-
-// One page is swept if one is to be.
-bool mpgc_sweep_some(void)
-{
-    uint64_t count = 0;
-    GRANTED(mpheap_sweep(&mpgc.heap, &count));
-    return count == 1;
-}
-
-// A collection that the program may break off, by the function at `at`: then the cycle stands, and the next collection drops it.
+// A collection that the program may break off, by the function at `at`: then the cycle stands, and the next collection ends it.
 bool mpgc_collect_unless(void *at)
 {
+    enum { WORDS = 4 * PAGE / WORD };
     GC_stop_func stop = at ? *(GC_stop_func *)at : NULL;
     if (GC_dont_gc || (stop && stop())) return false;
     if (!stop) return mpgc_collect_fully(NULL);
@@ -196,7 +106,7 @@ bool mpgc_collect_unless(void *at)
             if (!mpgc.is_incremental) mpgc_leave_open();
             return false;
         }
-        mpgc_mark_on(4 * PAGE_WORDS);
+        mpgc_go_on(WORDS);
     }
     return true;
 }

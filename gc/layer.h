@@ -11,11 +11,6 @@
 #include "../include/mpgc/gc.h"
 #include "mpheap.h"
 
-// A fault to plant, for tests/gc.sh alone; each is a test that has to fail.
-#ifndef BUG
-#define BUG 0
-#endif
-
 // The core's measures. All tables and tests follow from them.
 #define PAGE ((size_t)MPHEAP_PAGE_BYTES)
 #define FIRST ((uintptr_t)MPHEAP_FIRST_ADDRESS)
@@ -23,6 +18,7 @@
 #define GRANULE ((size_t)16)
 #define MAX_PAGES ((size_t)MPHEAP_MAX_PAGES)
 #define MAX_REQUEST_WORDS ((size_t)MPHEAP_MAX_REQUEST_WORDS)
+#define BLOCK ((MAX_PAGES + 63) / 64)  // pages: 64 blocks are all of the heap
 
 #define HIDDEN __attribute__((visibility("hidden")))
 #define LIKELY(x) __builtin_expect(!!(x), 1)
@@ -36,14 +32,15 @@ struct layer {
     uint8_t slot;                      // the mutator by which the layer allocates and frees
     bool is_open;                      // the heap was opened
     bool is_incremental;
-    bool is_marking;                   // a cycle marks, and pages are closed
+    bool is_closing;                   // pages are being closed, and then a cycle begins
+    bool is_marking;                   // a cycle marks
     volatile sig_atomic_t is_calling;  // a call of the core is under way
-    volatile sig_atomic_t has_noted;   // pages were opened under a call, and are to be told
+    _Atomic uint64_t noted;            // blocks with pages that were opened under a call, and are to be told: a bit each
     size_t pages;                      // of the heap as it was opened
     size_t limit;                      // the most pages that the program lets it use
     size_t size;                       // the pages that it has, of which the program is told
     uint64_t since, total, freed;      // words: asked for since the last collection and in all, and freed since
-    uint64_t kept;                     // words that the last collection left, by pages
+    uint64_t marked;                   // words of ordinary objects that the collection has read
     uint64_t budget;                   // words to ask for before the next collection
     uint64_t next;                     // words asked for at which the layer looks what there is to do
     uint8_t kind[MAX_PAGES];           // enum page_kind
@@ -70,20 +67,34 @@ static inline void mpgc_enter(void)
 static inline bool mpgc_is_inside(uintptr_t address) { return address - FIRST < mpgc.pages * PAGE; }
 static inline size_t mpgc_page_of(uintptr_t address) { return (address - FIRST) / PAGE; }
 
-// barrier.c
+// signals.c
+HIDDEN void mpgc_take_faults(void);
+HIDDEN bool mpgc_swap_handler(const struct sigaction *next, struct sigaction *old);
+HIDDEN void mpgc_block_signals(sigset_t *old);
+HIDDEN void mpgc_restore_signals(const sigset_t *old);
+
+// masks.c
+HIDDEN const sigset_t *mpgc_without_faults(const sigset_t *signals, sigset_t *room);
+
+// protection.c
 HIDDEN void mpgc_tell_noted(void);
-HIDDEN void mpgc_close_all(void);
-HIDDEN void mpgc_open_all(void);
+HIDDEN void mpgc_start_closing(void);
+HIDDEN bool mpgc_close_some(void);
+HIDDEN void mpgc_tell_open(void);
 HIDDEN void mpgc_close_lowest(void);
+HIDDEN void mpgc_start_opening(void);
+HIDDEN bool mpgc_open_some(void);
+HIDDEN void mpgc_open_all(void);
+HIDDEN void mpgc_leave_open(void);
 HIDDEN void mpgc_holds_ordinary(size_t page);
 HIDDEN void mpgc_holds_pointer_free(size_t page);
-HIDDEN void mpgc_leave_open(void);
+HIDDEN void mpgc_let_write(size_t page);
 HIDDEN void mpgc_will_write(const void *from, size_t bytes);
 
 // Every call of the core stands between these two: the fault handler then only notes a page, and it is told here.
 static inline void mpgc_call_begins(void)
 {
-    if (mpgc.is_calling) mpgc_stop("a signal handler called in while a call was under way");
+    if (mpgc.is_calling) mpgc_stop("a call was made under another one: by a signal handler, or after one that jumped out of it");
     mpgc.is_calling = 1;
     atomic_signal_fence(memory_order_seq_cst);
 }
@@ -91,8 +102,16 @@ static inline void mpgc_call_ends(void)
 {
     atomic_signal_fence(memory_order_seq_cst);
     mpgc.is_calling = 0;
-    if (!LIKELY(!mpgc.has_noted)) mpgc_tell_noted();
+    if (!LIKELY(!atomic_load_explicit(&mpgc.noted, memory_order_relaxed))) mpgc_tell_noted();
 }
+
+// One call of the collector, which has to be granted.
+#define GRANTED(call) do { \
+        mpgc_call_begins(); \
+        uint32_t status_ = (call); \
+        mpgc_call_ends(); \
+        if (status_ != MPHEAP_OK) mpgc_stop("the heap refused " #call); \
+    } while (0)
 
 // pages.c
 HIDDEN bool mpgc_learn(uintptr_t base, size_t words, enum page_kind kind);
@@ -110,12 +129,29 @@ HIDDEN char *mpgc_stack_bottom(void);
 // collect.c. What collects runs by mpgc_from_here, and answers whether it did.
 HIDDEN bool mpgc_collect_fully(void *unused);
 HIDDEN bool mpgc_collect_unless(void *stop);
+HIDDEN double mpgc_now(void);
+HIDDEN void mpgc_tell_start(void);
+HIDDEN void mpgc_tell_program(const GC_EventType *events, size_t count);
+HIDDEN void mpgc_end_collection(double start, double *longest);
+
+// cycle.c
 HIDDEN bool mpgc_begin_cycle(void *unused);
-HIDDEN void mpgc_mark_on(size_t words);
-HIDDEN bool mpgc_sweep_some(void);
+HIDDEN bool mpgc_is_in_cycle(void);
+HIDDEN void mpgc_go_on(size_t words);
+HIDDEN void mpgc_drop_cycle(void);
+
+// spare.c
+HIDDEN void mpgc_make_spare(void);
+HIDDEN void mpgc_need_full_cycle(void);
+
+// links.c
+HIDDEN void mpgc_clear_links(void);
+HIDDEN size_t mpgc_count_links(void);
 
 // pacing.c
 HIDDEN void mpgc_set_budget(void);
+HIDDEN void mpgc_settle_budget(void);
+HIDDEN bool mpgc_sweep_some(size_t pages);
 HIDDEN bool mpgc_pace(void *unused);
 HIDDEN bool mpgc_collect_a_little(void *unused);
 

@@ -9,11 +9,11 @@ static void learn_page(size_t page, enum page_kind kind)
 {
     enum page_kind old = mpgc.kind[page];
     mpgc.kind[page] = (uint8_t)kind;
-    if (!mpgc.is_marking || kind == old) return;
-    if (kind == ORDINARY)
-        mpgc_holds_ordinary(page);
-    else
+    if (kind == old) return;
+    if (kind == POINTER_FREE)
         mpgc_holds_pointer_free(page);
+    else if (mpgc.is_marking)
+        mpgc_holds_ordinary(page);
 }
 
 // An object was allocated. Answers false, and has learnt nothing, if it lies past what the heap may use.

@@ -17,12 +17,12 @@ enum { INTO = 0, FREED = 1 };  // registers
 struct sort { enum page_kind kind; bool is_uncollectable; };
 
 // One byte more than asked for, so that a pointer past the end points into its own object.
-static size_t extra(void) { return GC_all_interior_pointers && BUG != 10 ? 1 : 0; }
+static size_t extra(void) { return GC_all_interior_pointers ? 1 : 0; }
 
 static inline uint32_t ask(size_t words, enum page_kind kind, uint64_t *base)
 {
     mpgc_call_begins();
-    uint32_t status = kind == ORDINARY || BUG == 4 ? mpheap_alloc_base(&mpgc.heap, mpgc.slot, INTO, words, base)
+    uint32_t status = kind == ORDINARY ? mpheap_alloc_base(&mpgc.heap, mpgc.slot, INTO, words, base)
                                                    : mpheap_alloc_pointer_free_base(&mpgc.heap, mpgc.slot, INTO, words, base);
     mpgc_call_ends();
     return status;
@@ -61,25 +61,32 @@ __attribute__((noinline)) static void *ask_again(size_t bytes, size_t words, enu
     uint64_t base;
     if (GC_dont_gc || words > MAX_REQUEST_WORDS) return out_of_memory(bytes);
     (void)mpgc_from_here(mpgc_collect_fully, NULL);
+    if (ask_within(words, kind, &base) != MPHEAP_OK) return out_of_memory(bytes);
     mpgc.since += words;
-    return ask_within(words, kind, &base) == MPHEAP_OK ? (void *)base : out_of_memory(bytes);
+    return (void *)base;
 }
 
-static inline void *allocate(size_t bytes, enum page_kind kind)
+// Part of the two requests below, each with its kind.
+__attribute__((always_inline)) static inline void *allocate(size_t bytes, enum page_kind kind)
 {
     uint64_t base;
     mpgc_enter();
     size_t words = bytes > MAX_REQUEST_WORDS * WORD ? MAX_REQUEST_WORDS + 1 : (bytes + extra() + WORD - 1) / WORD;
     if (words == 0) words = 1;
+    if (!LIKELY(mpgc.since + words < mpgc.next)) (void)mpgc_from_here(mpgc_pace, NULL);
+    if (!LIKELY(ask_within(words, kind, &base) == MPHEAP_OK)) return ask_again(bytes, words, kind);
     mpgc.since += words;
-    if (!LIKELY(mpgc.since < mpgc.next)) (void)mpgc_from_here(mpgc_pace, NULL);
-    if (LIKELY(ask_within(words, kind, &base) == MPHEAP_OK)) return (void *)base;
-    return ask_again(bytes, words, kind);
+    return (void *)base;
 }
 
+void *GC_malloc(size_t bytes) { return allocate(bytes, ORDINARY); }
+
+void *GC_malloc_atomic(size_t bytes) { return allocate(bytes, POINTER_FREE); }
+
+// What the program's GC_oom_fn answered lies outside of the heap, and is no object of it.
 static void *keep(void *object)
 {
-    if (!object) return NULL;
+    if (!mpgc_is_inside((uintptr_t)object)) return object;
     mpgc_set_uncollectable((uintptr_t)object, true);
     GC_non_gc_bytes += GC_size(object);
     return object;
@@ -87,30 +94,27 @@ static void *keep(void *object)
 
 static void *allocate_sort(size_t bytes, struct sort sort)
 {
-    void *object = allocate(bytes, sort.kind);
+    void *object = sort.kind == ORDINARY ? GC_malloc(bytes) : GC_malloc_atomic(bytes);
     return sort.is_uncollectable ? keep(object) : object;
 }
 
-void *GC_malloc(size_t bytes) { return allocate(bytes, ORDINARY); }
+void *GC_malloc_uncollectable(size_t bytes) { return keep(GC_malloc(bytes)); }
 
-void *GC_malloc_atomic(size_t bytes) { return allocate(bytes, POINTER_FREE); }
+void *GC_malloc_atomic_uncollectable(size_t bytes) { return keep(GC_malloc_atomic(bytes)); }
 
-void *GC_malloc_uncollectable(size_t bytes) { return keep(allocate(bytes, ORDINARY)); }
+void *GC_malloc_ignore_off_page(size_t bytes) { return GC_malloc(bytes); }
 
-void *GC_malloc_atomic_uncollectable(size_t bytes) { return keep(allocate(bytes, POINTER_FREE)); }
+void *GC_malloc_atomic_ignore_off_page(size_t bytes) { return GC_malloc_atomic(bytes); }
 
-void *GC_malloc_ignore_off_page(size_t bytes) { return allocate(bytes, ORDINARY); }
+void *GC_malloc_stubborn(size_t bytes) { return GC_malloc(bytes); }
 
-void *GC_malloc_atomic_ignore_off_page(size_t bytes) { return allocate(bytes, POINTER_FREE); }
+void *GC_malloc_many(size_t bytes) { return GC_malloc(bytes); }
 
-void *GC_malloc_stubborn(size_t bytes) { return allocate(bytes, ORDINARY); }
-
-void *GC_malloc_many(size_t bytes) { return allocate(bytes, ORDINARY); }
-
-// Inner pointers count, so an aligned address in a larger object will do.
+// An object of more than half a page begins with a page. Else, inner pointers count, so an aligned address in a larger object will do.
 void *GC_memalign(size_t align, size_t bytes)
 {
     if (align <= GRANULE) return GC_malloc(bytes);
+    if (align <= PAGE && (align > PAGE / 2 || bytes > PAGE / 2)) return GC_malloc(bytes > PAGE / 2 ? bytes : PAGE / 2 + 1);
     if (bytes > SIZE_MAX - align) return out_of_memory(bytes);
     char *object = GC_malloc(bytes + align - 1);
     return object ? object + (-(uintptr_t)object & (align - 1)) : NULL;
@@ -157,7 +161,7 @@ int GC_is_heap_ptr(const void *address) { return (uintptr_t)address - FIRST < mp
 
 static struct sort sort_of(uintptr_t base)
 {
-    return (struct sort){ BUG == 9 ? ORDINARY : mpgc.kind[mpgc_page_of(base)], mpgc_is_uncollectable(base) };
+    return (struct sort){ mpgc.kind[mpgc_page_of(base)], mpgc_is_uncollectable(base) };
 }
 
 void GC_free(void *object)

@@ -49,7 +49,7 @@ static void empty_stacks(void)
 static void mark_stacks(void)
 {
     if (!mpheap_is_marking(&mpgc.heap)) must(mpheap_begin(&mpgc.heap));
-    if (BUG != 11) must(mpheap_roots(&mpgc.heap));
+    must(mpheap_roots(&mpgc.heap));
     empty_stacks();
     has_overflowed = true;
 }
@@ -112,8 +112,8 @@ static int scan_object(struct dl_phdr_info *object, size_t size, void *count)
     for (int k = 0; k < object->dlpi_phnum; k++) {
         const ElfW(Phdr) *part = &object->dlpi_phdr[k];
         bool is_data = part->p_type == PT_LOAD && (part->p_flags & PF_W) && (is_main || !GC_no_dls);
-        if (is_data && BUG != 3) scan_segment(object, part, constant);
-        bool is_local = part->p_type == PT_TLS && size >= sizeof *object && object->dlpi_tls_data && BUG != 6;
+        if (is_data) scan_segment(object, part, constant);
+        bool is_local = part->p_type == PT_TLS && size >= sizeof *object && object->dlpi_tls_data;
         if (is_local) scan(object->dlpi_tls_data, (const char *)object->dlpi_tls_data + part->p_memsz);
     }
     return 0;
@@ -125,25 +125,24 @@ __attribute__((noinline)) bool mpgc_from_here(bool (*work)(void *), void *data)
 {
     uint64_t saved[6] = { 0 };
     const char *outer = stack_top;
-#if BUG != 2
     __asm__ volatile(
-        "movq %%rbx, 0(%0)\n\tmovq %%rbp, 8(%0)\n\tmovq %%r12, 16(%0)\n\t"
-        "movq %%r13, 24(%0)\n\tmovq %%r14, 32(%0)\n\tmovq %%r15, 40(%0)"
+        "movq %%r15, 0(%0)\n\tmovq %%r14, 8(%0)\n\tmovq %%r13, 16(%0)\n\t"
+        "movq %%r12, 24(%0)\n\tmovq %%rbp, 32(%0)\n\tmovq %%rbx, 40(%0)"
         : : "r"(saved) : "memory");
-#endif
     stack_top = (const char *)saved;
     bool answer = work(data);
     stack_top = outer;
     return answer;
 }
 
+static bool is_on_stack(void) { return stack_top < mpgc_stack_bottom() && (GC_stackbottom || stack_top >= stack_low); }
+
+// The program may have asked for a larger stack since: so this is asked once more before it stops.
 static void scan_stack(void)
 {
-    const char *bottom = mpgc_stack_bottom();
-    bool is_own = !GC_stackbottom;
-    if (stack_top >= bottom || (is_own && stack_top < stack_low))
-        mpgc_stop("a collection on another stack than the thread's own: see GC_set_stackbottom");
-    scan(stack_top, bottom);
+    if (!is_on_stack()) mpgc_find_stack();
+    if (!is_on_stack()) mpgc_stop("a collection on another stack than the thread's own: see GC_set_stackbottom");
+    scan(stack_top, mpgc_stack_bottom());
 }
 
 static void scan_uncollectable(void)
@@ -165,18 +164,24 @@ bool mpgc_read_roots(void)
     empty_stacks();
     scan_stack();
     dl_iterate_phdr(scan_object, &objects);
-    for (size_t k = 0; k < added.count && BUG != 7; k++) scan(added.at[k].from, added.at[k].to);
-    if (BUG != 8) scan_uncollectable();
+    for (size_t k = 0; k < added.count; k++) scan(added.at[k].from, added.at[k].to);
+    scan_uncollectable();
     mpgc_call_ends();
     return has_overflowed;
 }
 
+// Where the main thread's stack began.
+extern void *__libc_stack_end;
+
+// Without /proc, as in a closed room, the C library doesn't tell where the stack may end: it is the main thread's then.
 void mpgc_find_stack(void)
 {
     pthread_attr_t attributes;
     void *low;
     size_t size;
-    if (pthread_getattr_np(pthread_self(), &attributes) != 0) mpgc_stop("the C library doesn't tell where the stack is");
+    stack_low = NULL;
+    stack_bottom = __libc_stack_end;
+    if (pthread_getattr_np(pthread_self(), &attributes) != 0) return;
     pthread_attr_getstack(&attributes, &low, &size);
     pthread_attr_destroy(&attributes);
     stack_low = low;

@@ -28,19 +28,13 @@ static size_t bytes_of(const char *name, size_t fallback)
     const char *text = getenv(name);
     char *end;
     if (!text) return fallback;
-    unsigned long long number = strtoull(text, &end, 10);
+    size_t number = strtoull(text, &end, 10);
     if (end == text || number == 0) return fallback;
-    if (*end == 'k' || *end == 'K') number <<= 10;
-    if (*end == 'm' || *end == 'M') number <<= 20;
-    if (*end == 'g' || *end == 'G') number <<= 30;
-    return (size_t)number;
+    unsigned shift = *end == 'k' || *end == 'K' ? 10 : *end == 'm' || *end == 'M' ? 20 : *end == 'g' || *end == 'G' ? 30 : 0;
+    return number > SIZE_MAX >> shift ? SIZE_MAX : number << shift;
 }
 
-static size_t pages_of(size_t bytes)
-{
-    size_t pages = (bytes + PAGE - 1) / PAGE;
-    return pages == 0 ? 1 : pages > MAX_PAGES ? MAX_PAGES : pages;
-}
+static size_t pages_of(size_t bytes) { return bytes / PAGE + (bytes % PAGE != 0); }
 
 static void read_environment(void)
 {
@@ -49,6 +43,7 @@ static void read_environment(void)
     if (least) GC_expand_hp(least);
     GC_free_space_divisor = bytes_of("GC_FREE_SPACE_DIVISOR", GC_free_space_divisor);
     if (getenv("GC_DONT_GC")) GC_dont_gc = 1;
+    if (getenv("GC_FIND_LEAK")) GC_set_find_leak(1);
     if (getenv("GC_PRINT_STATS")) atexit(mpgc_print_figures);
 }
 
@@ -62,6 +57,7 @@ void mpgc_open(void)
     if (mpheap_open_mapped((uint32_t)mpgc.pages, &mpgc.heap) != MPHEAP_OK)
         mpgc_stop("there is no memory at 0x10000000, where the heap's addresses begin");
     if (mpheap_attach(&mpgc.heap, &mpgc.slot) != MPHEAP_OK) mpgc_stop("a new heap has no slot");
+    mpgc_make_spare();
     read_environment();
     mpgc_set_budget();
     if (getenv("GC_ENABLE_INCREMENTAL")) GC_enable_incremental();
@@ -81,13 +77,16 @@ int GC_is_init_called(void) { return mpgc.is_open; }
 void GC_deinit(void) { }
 
 // Before the first request this says how large the heap may become; later how far it may grow. A heap never shrinks.
-void GC_set_max_heap_size(GC_word bytes) { mpgc.limit = bytes == 0 ? MAX_PAGES : pages_of(bytes); }
+void GC_set_max_heap_size(GC_word bytes)
+{
+    size_t pages = pages_of(bytes);
+    mpgc.limit = pages == 0 || pages > MAX_PAGES ? MAX_PAGES : pages;
+}
 
 int GC_expand_hp(size_t bytes)
 {
     mpgc_enter();
-    if (!mpgc_grow(mpgc.size + (bytes + PAGE - 1) / PAGE)) return 0;
-    return 1;
+    return mpgc_grow(mpgc.size + pages_of(bytes));
 }
 
 void GC_enable_incremental(void)
@@ -95,6 +94,7 @@ void GC_enable_incremental(void)
     mpgc_enter();
     if (GC_dont_gc || getenv("GC_DISABLE_INCREMENTAL")) return;
     mpgc.is_incremental = true;
+    mpgc_settle_budget();
     mpgc.next = 0;
 }
 

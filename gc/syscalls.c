@@ -1,91 +1,61 @@
-// Calls of the C library by which the kernel writes into the program's memory. A closed page makes no fault then: the call would answer
-// EFAULT. So the pages are told and opened first. Only in libmpgc.so; what isn't here answers EFAULT, as with bdwgc. Trusted, not proved.
+// Calls of the C library by which the kernel writes into the program's memory: files. A closed page makes no fault then: the call would
+// answer EFAULT. So the pages are told and opened first. Only in libmpgc.so, with those of sockets, waiting and times (syscalls_more.c) and
+// the checked names of these (syscalls_checked.c); what is in none of them answers EFAULT, as with bdwgc. Trusted, not proved.
 //
-// It owes the core the same as the fault handler does, and pays by the same function.
-#include "layer.h"
-#include <dlfcn.h>
+// It owes the core the same as the fault handler does (protection.c), and pays by the same function.
+#include "next.h"
 #include <stdio.h>
-#include <string.h>
-#include <sys/socket.h>
+#include <sys/stat.h>
+#include <sys/statvfs.h>
 #include <sys/types.h>
 #include <sys/uio.h>
+#include <sys/vfs.h>
 
 #undef fread_unlocked
-#define SHOWN __attribute__((visibility("default")))
 
-// The function that stands behind this one, kept in `at`.
-#define NEXT(name) do { \
-        if (!next_##name) { \
-            void *found_ = dlsym(RTLD_NEXT, #name); \
-            memcpy(&next_##name, &found_, sizeof found_); \
-        } \
-    } while (0)
+OPENS(ssize_t, read, (int file, void *into, size_t bytes), (file, into, bytes), into, bytes)
+OPENS(ssize_t, pread, (int file, void *into, size_t bytes, off_t from), (file, into, bytes, from), into, bytes)
+OPENS(ssize_t, pread64, (int file, void *into, size_t bytes, off64_t from), (file, into, bytes, from), into, bytes)
+OPENS(ssize_t, readlink, (const char *restrict path, char *restrict into, size_t bytes), (path, into, bytes), into, bytes)
+OPENS(ssize_t, readlinkat, (int folder, const char *restrict path, char *restrict into, size_t bytes), (folder, path, into, bytes), into, bytes)
+OPENS(char *, getcwd, (char *into, size_t bytes), (into, bytes), into, into ? bytes : 0)
+OPENS(int, pipe, (int ends[2]), (ends), ends, 2 * sizeof *ends)
+OPENS(int, pipe2, (int ends[2], int flags), (ends, flags), ends, 2 * sizeof *ends)
 
-static ssize_t (*next_read)(int, void *, size_t);
-static ssize_t (*next_pread)(int, void *, size_t, off_t);
-static ssize_t (*next_pread64)(int, void *, size_t, off64_t);
-static ssize_t (*next_readv)(int, const struct iovec *, int);
-static ssize_t (*next_recv)(int, void *, size_t, int);
-static ssize_t (*next_recvfrom)(int, void *, size_t, int, __SOCKADDR_ARG, socklen_t *);
-static size_t (*next_fread)(void *, size_t, size_t, FILE *);
-static size_t (*next_fread_unlocked)(void *, size_t, size_t, FILE *);
-
-SHOWN ssize_t read(int file, void *into, size_t bytes)
+static void will_write_parts(const struct iovec *parts, int count)
 {
-    NEXT(read);
-    mpgc_will_write(into, bytes);
-    return next_read(file, into, bytes);
-}
-
-SHOWN ssize_t pread(int file, void *into, size_t bytes, off_t from)
-{
-    NEXT(pread);
-    mpgc_will_write(into, bytes);
-    return next_pread(file, into, bytes, from);
-}
-
-SHOWN ssize_t pread64(int file, void *into, size_t bytes, off64_t from)
-{
-    NEXT(pread64);
-    mpgc_will_write(into, bytes);
-    return next_pread64(file, into, bytes, from);
+    for (int k = 0; k < count; k++) mpgc_will_write(parts[k].iov_base, parts[k].iov_len);
 }
 
 SHOWN ssize_t readv(int file, const struct iovec *parts, int count)
 {
-    NEXT(readv);
-    for (int k = 0; k < count; k++) mpgc_will_write(parts[k].iov_base, parts[k].iov_len);
-    return next_readv(file, parts, count);
+    NEXT(ssize_t, readv, (int, const struct iovec *, int));
+    will_write_parts(parts, count);
+    return next(file, parts, count);
 }
 
-SHOWN ssize_t recv(int file, void *into, size_t bytes, int flags)
+SHOWN ssize_t preadv(int file, const struct iovec *parts, int count, off_t from)
 {
-    NEXT(recv);
-    mpgc_will_write(into, bytes);
-    return next_recv(file, into, bytes, flags);
+    NEXT(ssize_t, preadv, (int, const struct iovec *, int, off_t));
+    will_write_parts(parts, count);
+    return next(file, parts, count, from);
 }
 
-SHOWN ssize_t recvfrom(int file, void *into, size_t bytes, int flags, __SOCKADDR_ARG from, socklen_t *length)
-{
-    NEXT(recvfrom);
-    mpgc_will_write(into, bytes);
-    if (length) {
-        mpgc_will_write(from.__sockaddr__, *length);
-        mpgc_will_write(length, sizeof *length);
-    }
-    return next_recvfrom(file, into, bytes, flags, from, length);
-}
+static size_t product(size_t size, size_t count) { return size != 0 && count > SIZE_MAX / size ? SIZE_MAX : size * count; }
 
-SHOWN size_t fread(void *into, size_t size, size_t count, FILE *file)
-{
-    NEXT(fread);
-    mpgc_will_write(into, size * count);
-    return next_fread(into, size, count, file);
-}
+OPENS(size_t, fread, (void *restrict into, size_t size, size_t count, FILE *restrict file), (into, size, count, file), into,
+      product(size, count))
+OPENS(size_t, fread_unlocked, (void *restrict into, size_t size, size_t count, FILE *restrict file), (into, size, count, file), into,
+      product(size, count))
 
-SHOWN size_t fread_unlocked(void *into, size_t size, size_t count, FILE *file)
-{
-    NEXT(fread_unlocked);
-    mpgc_will_write(into, size * count);
-    return next_fread_unlocked(into, size, count, file);
-}
+// Those of each length that tell of a file, and of a file system.
+#define STATS(end) \
+    OPENS(int, stat##end, (const char *restrict path, struct stat##end *restrict into), (path, into), into, sizeof *into) \
+    OPENS(int, lstat##end, (const char *restrict path, struct stat##end *restrict into), (path, into), into, sizeof *into) \
+    OPENS(int, fstat##end, (int file, struct stat##end *into), (file, into), into, sizeof *into) \
+    OPENS(int, fstatat##end, (int folder, const char *restrict path, struct stat##end *restrict into, int flags), \
+          (folder, path, into, flags), into, sizeof *into) \
+    OPENS(int, statfs##end, (const char *path, struct statfs##end *into), (path, into), into, sizeof *into) \
+    OPENS(int, fstatfs##end, (int file, struct statfs##end *into), (file, into), into, sizeof *into)
+STATS()
+STATS(64)

@@ -8,29 +8,6 @@
 
 #define SHOWN __attribute__((visibility("default")))
 
-// Disappearing links: there is room for none.
-int GC_general_register_disappearing_link(void **link, const void *object)
-{
-    (void)link;
-    (void)object;
-    return GC_NO_MEMORY;
-}
-int GC_register_disappearing_link(void **link) { return GC_general_register_disappearing_link(link, link); }
-int GC_register_long_link(void **link, const void *object) { return GC_general_register_disappearing_link(link, object); }
-int GC_unregister_disappearing_link(void **link)
-{
-    (void)link;
-    return 0;
-}
-int GC_unregister_long_link(void **link) { return GC_unregister_disappearing_link(link); }
-int GC_move_disappearing_link(void **link, void **new_link)
-{
-    (void)link;
-    (void)new_link;
-    return GC_NOT_FOUND;
-}
-int GC_move_long_link(void **link, void **new_link) { return GC_move_disappearing_link(link, new_link); }
-
 // Finalizers: to take one away is right, since there is none, and one outside of the heap is ignored as documented.
 static void refuse_finalizer(void *object, GC_finalization_proc finalizer, GC_finalization_proc *old, void **old_data)
 {
@@ -119,6 +96,7 @@ void *GC_generic_malloc_uncollectable(size_t bytes, int kind) { return of_kind(b
 SHOWN int GC_get_kind_and_size(const void *base, size_t *bytes);
 int GC_get_kind_and_size(const void *base, size_t *bytes)
 {
+    if (!GC_base((void *)(uintptr_t)base)) mpgc_stop("GC_get_kind_and_size of what isn't an object");
     int is_kept = mpgc_is_uncollectable((uintptr_t)base) ? 2 : 0;
     if (bytes) *bytes = GC_size(base);
     return is_kept | (mpgc.kind[mpgc_page_of((uintptr_t)base)] == ORDINARY ? KIND_NORMAL : KIND_ATOMIC);

@@ -1,16 +1,16 @@
 /* mpheap.h: a proved, collected heap for programs in C and C++ (C99 or later, C++11 or later).
  *
- * A heap has 1 to 1,024 pages of 512 words of 8 bytes. Its addresses begin at MPHEAP_FIRST_ADDRESS, whatever the process
+ * A heap has 1 to 4,096 pages of 512 words of 8 bytes. Its addresses begin at MPHEAP_FIRST_ADDRESS, whatever the process
  * maps there; a heap that mpheap_open_mapped opened has its words at these very addresses, so that an address of it is a
  * pointer. Objects do not move. What keeps an object is a root word that points into it (a register or the stack of a
  * mutator, or a global), or a word of a kept object that was not allocated pointer-free: reading is conservative, so any word
  * that is the address of one of the object's bytes points into it. A variable of C is no root.
  *
- * STATUSES. Each function that answers a uint32_t and is not a figure answers a status (enum mpheap_status). 0 is done. 1 to 9
- * is a refusal: nothing of the heap has changed, but that a Full has swept the pages that were still to be swept. 10: one of
- * the numbers names no slot, register or global; nothing has changed. Results go through the last parameters, which are
- * written only where the status is 0. Where a call could be refused for several reasons the first of these is told: 10, 1 (no
- * mutator), then in the order in which the call's own comment names them.
+ * STATUSES. Each function that answers a uint32_t and is not a figure answers a status (enum mpheap_status). 0 is done. 1 to 99
+ * is a refusal of the heap: nothing of it has changed, but that a FULL has swept the pages that were still to be swept. 100 and
+ * up is refused before the heap is asked: BAD_NUMBER says that a number names no slot, register or global. Results go through
+ * the last parameters, which are written only where the status is 0. Where a call could be refused for several reasons the
+ * first of these is told: BAD_NUMBER, NO_SLOT, then in the order in which the call's own comment names them.
  *
  * MEMORY. Only the two opens ask for memory, and only they and mpheap_close touch errno. No call prints, ends the process or
  * calls back.
@@ -41,34 +41,38 @@ typedef struct mpheap {
 
 enum mpheap_status {
     MPHEAP_OK = 0,
-    MPHEAP_NO_SLOT = 1,      /* the slot has no mutator; of attach: all slots have one */
-    MPHEAP_MISALIGNED = 2,   /* the address is not divisible by 8 */
-    MPHEAP_NO_OBJECT = 3,    /* the address points into no object */
-    MPHEAP_NOT_BASE = 4,     /* the address points into an object, and is not where it begins */
-    MPHEAP_BAD_SIZE = 5,     /* 0 words, or more than MPHEAP_MAX_REQUEST_WORDS */
-    MPHEAP_FULL = 6,         /* no place of the heap has room */
-    MPHEAP_STACK_FULL = 7,   /* the mutator's stack has MPHEAP_STACK_WORDS words */
-    MPHEAP_STACK_EMPTY = 8,  /* the mutator's stack has none */
-    MPHEAP_WRONG_PHASE = 9,  /* the call does not fit the phase of the collector */
-    MPHEAP_BAD_NUMBER = 10,  /* a slot, register or global is out of range */
-    MPHEAP_BAD_PAGES = 11,   /* 0 pages, or more than MPHEAP_MAX_PAGES */
-    MPHEAP_NO_MEMORY = 12,   /* memory was refused; nothing is left of the attempt */
-    MPHEAP_SECOND = 13,      /* this process has a mapped heap already */
-    MPHEAP_RANGE_TAKEN = 14  /* something else is mapped where the heap's words have to stand */
+    MPHEAP_NO_SLOT = 1,           /* the slot has no mutator; of attach: all slots have one */
+    MPHEAP_MISALIGNED = 2,        /* the address is not divisible by 8 */
+    MPHEAP_NO_OBJECT = 3,         /* the address points into no object */
+    MPHEAP_NOT_BASE = 4,          /* the address points into an object, and is not where it begins */
+    MPHEAP_BAD_SIZE = 5,          /* 0 words, or more than MPHEAP_MAX_REQUEST_WORDS */
+    MPHEAP_FULL = 6,              /* no place of the heap has room */
+    MPHEAP_STACK_FULL = 7,        /* the mutator's stack has MPHEAP_STACK_WORDS words */
+    MPHEAP_STACK_EMPTY = 8,       /* the mutator's stack has none */
+    MPHEAP_WRONG_PHASE = 9,       /* the call does not fit the phase of the collector */
+    MPHEAP_LINKS_FULL = 10,       /* MPHEAP_MAX_LINKS links stand, and none at the address */
+    MPHEAP_NOT_POINTER_FREE = 11, /* the address points into an object that is not pointer-free */
+    MPHEAP_NEEDS_FULL = 12,       /* a partial cycle has no marks to begin with: a full one comes first */
+    MPHEAP_BAD_NUMBER = 100,      /* a slot, register or global is out of range */
+    MPHEAP_BAD_PAGES = 101,       /* 0 pages, or more than MPHEAP_MAX_PAGES */
+    MPHEAP_NO_MEMORY = 102,       /* memory was refused; nothing is left of the attempt */
+    MPHEAP_SECOND = 103,          /* this process has a mapped heap already */
+    MPHEAP_RANGE_TAKEN = 104      /* something else is mapped where the heap's words have to stand */
 };
 
 enum {
-    MPHEAP_MAX_PAGES = 1024,
+    MPHEAP_MAX_PAGES = 4096,
     MPHEAP_PAGE_WORDS = 512,
     MPHEAP_PAGE_BYTES = 4096,
     MPHEAP_WORD_BYTES = 8,
     MPHEAP_FIRST_ADDRESS = 268435456, /* 0x10000000 */
     MPHEAP_MAX_SMALL_WORDS = 256,     /* a larger request takes whole pages, in a row */
-    MPHEAP_MAX_REQUEST_WORDS = 16384,
+    MPHEAP_MAX_REQUEST_WORDS = 65536,
     MPHEAP_SLOTS = 16,
     MPHEAP_REGISTERS = 16,
     MPHEAP_STACK_WORDS = 256,
-    MPHEAP_GLOBALS = 64
+    MPHEAP_GLOBALS = 64,
+    MPHEAP_MAX_LINKS = 64
 };
 
 /* ---- A heap ---- */
@@ -134,7 +138,8 @@ uint32_t mpheap_alloc_base(mpheap *heap, uint8_t slot, uint8_t into, uint64_t wo
 /* As mpheap_alloc_pointer_free, and *base becomes the base. */
 uint32_t mpheap_alloc_pointer_free_base(mpheap *heap, uint8_t slot, uint8_t into, uint64_t words, uint64_t *base);
 
-/* The object whose base is in register `base` goes, whatever still points into it. NO_OBJECT, NOT_BASE. */
+/* The object whose base is in register `base` goes, whatever still points into it; links to it are cleared. NO_OBJECT,
+ * NOT_BASE. */
 uint32_t mpheap_free(mpheap *heap, uint8_t slot, uint8_t base);
 
 /* The word `offset` words behind the address in register `at` goes into register `into`, and into *word. MISALIGNED,
@@ -154,16 +159,40 @@ uint32_t mpheap_size(mpheap *heap, uint8_t slot, uint8_t from, uint64_t *count);
  * takes it. NO_OBJECT. */
 uint32_t mpheap_kept_at(mpheap *heap, uint64_t word, uint64_t *base, uint64_t *words);
 
+/* ---- Links: words of pointer-free objects that become 0 when an object goes ----
+ *
+ * A link stands at the address of a word of a pointer-free object, its holder, and names an object. It keeps neither. Once the
+ * named object goes, by a free, a finish or a collect, that same call makes the word 0, whatever was there, and the link is
+ * gone; and so is each link whose holder goes. Between calls then, where the program put the address of the object that a link
+ * names into the link's word, it reads there that address while the object is kept, and 0 after. A heap has at most
+ * MPHEAP_MAX_LINKS links at a time, and no call on them takes memory. */
+
+/* The word `offset` words (of 8 bytes) behind the address in register `at` becomes a link to the object that register `to` points
+ * into; a link that stands there is replaced. No word and no register changes. MISALIGNED; NO_OBJECT where the address points
+ * into none; NOT_POINTER_FREE; NO_OBJECT where `to` points into none; LINKS_FULL. Where it is refused, all links stay. */
+uint32_t mpheap_link(mpheap *heap, uint8_t slot, uint8_t at, uint64_t offset, uint8_t to);
+
+/* The link at that address, if one stands there, is gone; its word stays. *count becomes 1, or 0 where none stood there: also
+ * where the address is misaligned, or points into no object. */
+uint32_t mpheap_unlink(mpheap *heap, uint8_t slot, uint8_t at, uint64_t offset, uint64_t *count);
+
 /* ---- The collector ---- */
 
 /* Forgets exactly the objects that are not reached, at once and in any phase; a cycle that is marking is dropped. *count
  * becomes how many. Always done. */
 uint32_t mpheap_collect(mpheap *heap, uint64_t *count);
 
-/* A cycle in small steps: begin; roots; marks and retraces, in any order and as often as one likes; finish. */
+/* A cycle in small steps: begin, or begin_partial; roots; marks and retraces, in any order and as often as one likes; finish. */
 
 /* A cycle begins to mark. The pages that are still to be swept are swept first. WRONG_PHASE: one is marking. */
 uint32_t mpheap_begin(mpheap *heap);
+
+/* A partial cycle begins, with the marks of the last one: all that was kept then is taken to be in use, and the cycle reads
+ * roots, objects that were allocated since, and pages that were written since. It forgets of the objects allocated since what
+ * is not in use, and of older ones none that it need not. WRONG_PHASE: one is marking. NEEDS_FULL: there was no finish and no
+ * collect yet; or a mpheap_free was done since the last of these or, where that was a finish, since its cycle began. Then
+ * mpheap_begin or mpheap_collect comes first. */
+uint32_t mpheap_begin_partial(mpheap *heap);
 
 /* What root words point into is marked. WRONG_PHASE, as in the next three: no cycle is marking. */
 uint32_t mpheap_roots(mpheap *heap);
@@ -205,15 +234,19 @@ uint32_t mpheap_pending_pages(mpheap *heap);
  *
  * Any word of a kept object may be read at any time between calls. To write, this is owed, and it is all:
  *
- *   Between calls, any 64-bit word may be put at any 8-aligned address of an object that is kept at that moment; and while a
- *   cycle is marking, if the object is not pointer-free and the word lies in the heap's range of addresses, the address was
- *   told by mpheap_written first, after the last mpheap_begin, mpheap_retrace, mpheap_finish or mpheap_collect.
+ *   Between calls, any 64-bit word may be put at any 8-aligned address of an object that is kept at that moment; and if the
+ *   object is not pointer-free and the word lies in the heap's range of addresses, the address was told by mpheap_written
+ *   first, after the last mpheap_begin, mpheap_retrace, mpheap_finish or mpheap_collect.
  *
+ * (It is owed whether a cycle is marking or none is, since a partial cycle reads what was written between two cycles. Before the
+ * first mpheap_begin or mpheap_collect of a heap nothing has to be told, nor after a mpheap_free until the next of these, while
+ * none is marking. So where cycles are never partial, an object of one's own that is freed behind each mpheap_finish and
+ * mpheap_collect is enough, or one mpheap_written_all there: no word has to be told then until the next mpheap_begin.)
  * (A byte that is written is its word written. A write through a dangling pointer, into a forgotten object or a free cell,
  * may break the heap's own lists.) Such writes are then stores to the heap, as if by mpheap_store. */
 
-/* Tells that the word at an address will be written by a pointer: while a cycle is marking, its page becomes dirty. An
- * address outside of the heap is ignored. */
+/* Tells that the word at an address will be written by a pointer: its page becomes dirty. An address outside of the heap is
+ * ignored. */
 void mpheap_written(mpheap *heap, uint64_t address);
 
 /* The same of each word of so many bytes at an address, all of one object. */
@@ -222,15 +255,20 @@ static inline void mpheap_written_range(mpheap *heap, uint64_t address, uint64_t
     for (; bytes != 0 && page < end; page++) mpheap_written(heap, page * MPHEAP_PAGE_BYTES);
 }
 
-/* The pages that need no telling now: all while no cycle is marking, and those that were told since a call last cleaned one.
- * mpheap_tells_anew sets it, after an open and after each begin, retrace, finish and collect; then mpheap_write tells a page
- * once, at a test of one byte for each further write. */
+/* The same of all words of a heap of so many pages. */
+static inline void mpheap_written_all(mpheap *heap, uint32_t pages) {
+    mpheap_written_range(heap, MPHEAP_FIRST_ADDRESS, (uint64_t)pages * MPHEAP_PAGE_BYTES);
+}
+
+/* The pages that need no telling now: those that were told since a call last cleaned one. mpheap_tells_anew empties it, after an
+ * open and after each begin, retrace, finish and collect; then mpheap_write tells a page once, at a test of one byte for each
+ * further write. */
 typedef struct mpheap_told {
     uint8_t pages[MPHEAP_MAX_PAGES];
 } mpheap_told;
 
-static inline void mpheap_tells_anew(mpheap *heap, mpheap_told *told) {
-    memset(told->pages, !mpheap_is_marking(heap), sizeof told->pages);
+static inline void mpheap_tells_anew(mpheap_told *told) {
+    memset(told->pages, 0, sizeof told->pages);
 }
 
 /* To be called before a write to a word of the mapped heap. */

@@ -112,15 +112,21 @@ programs_run() {
     local flags=("$@")
     works "hello" compile hello c99 examples/c/hello.c "${flags[@]}"
     works "lisp" compile lisp c99 examples/c/lisp.c "${flags[@]}"
+    works "intern" compile intern c99 examples/c/intern.c "${flags[@]}"
     works "exports" compile exports c99 tests/c/exports.c "${flags[@]}"
+    works "links" compile links c99 tests/c/links.c "${flags[@]}"
     works "mapped" compile mapped gnu99 tests/c/mapped.c "${flags[@]}"
+    works "partial" compile partial c99 tests/c/partial.c "${flags[@]}"
     works "writes" compile writes c99 tests/c/writes.c "${flags[@]}"
     works "script" compile script c99 tests/c/script.c "${flags[@]}"
     prints examples/c/hello.expected "$room/hello"
     prints examples/c/lisp.expected "$room/lisp" <"$top/examples/c/lisp.lisp"
     prints examples/c/lisp.expected "$room/lisp" 1024 <"$top/examples/c/lisp.lisp"
+    prints examples/c/intern.expected "$room/intern" <"$top/LICENSE-APACHE"
     counts_well "$room/exports"
+    counts_well "$room/links"
     counts_well "$room/mapped"
+    counts_well "$room/partial"
 }
 
 # Each request of an open is refused in turn: c/memory.c with its requests renamed, under the sanitizers.
@@ -149,7 +155,7 @@ misuse_is_stopped() {
 
 valgrind_sees_nothing() {
     has valgrind "its runs are" || return
-    for name in hello exports; do
+    for name in hello exports links; do
         works "$name under valgrind" valgrind --quiet --leak-check=full --show-leak-kinds=all --error-exitcode=9 "$room/$name"
     done
 }
@@ -171,14 +177,10 @@ rust_is_safe() {
     prints examples/rust/main.expected "$room/rust"
 }
 
-# The scripts of examples/, and random ones, through the calls of C. It has none for links yet.
+# The scripts of examples/, and random ones, through the calls of C.
 examples_have_their_replies() {
     local file
     for file in "$top"/examples/*.script; do
-        if grep -qE '^[0-9]+ (un)?link ' "$file"; then
-            echo "c: no call of C for the links of $(basename "$file"): left out"
-            continue
-        fi
         is "$(basename "$file") through C" "$(cat "${file%.script}.replies")" "$("$room/script" 4 <"$file" 2>&1)"
     done
     is "a bad line through C" "bad line 2" "$(printf 'attach\n0 get 16\n' | "$room/script" 4 2>&1 >/dev/null)"

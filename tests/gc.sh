@@ -29,7 +29,7 @@ skip() { printf 'gc: skipped, for want of %s: %s\n' "$1" "$2"; }
 counted() {
     local what=$1 said status
     shift
-    said=$(timeout 100 "$@" 2>&1)
+    said=$(timeout 500 "$@" 2>&1)
     status=$?
     if [ $status = 0 ] && [[ $said =~ ([0-9]+)\ passed,\ 0\ failed$ ]]; then
         passed=$((passed + BASH_REMATCH[1]))
@@ -42,7 +42,7 @@ counted() {
 shadow() {
     local what=$1 status
     shift
-    timeout 100 "$@" >"$room/said" 2>&1
+    timeout 500 "$@" >"$room/said" 2>&1
     status=$?
     [ $status = 0 ] || status="$status: $(tail -n 3 "$room/said")"
     is "$what" 0 "$status"
@@ -52,28 +52,33 @@ shadow() {
 fails() {
     local what=$1 status
     shift
-    { timeout 100 "$@" >"$room/said" 2>&1; } 2>>"$room/said"
+    { timeout 300 "$@" >"$room/said" 2>&1; } 2>>"$room/said"
     status=$?
     [ $status != 0 ] && [ $status != 124 ] && status=noticed
     is "$what" noticed "$status"
 }
 
-# plant NUMBER FILES -- TEST [SETTING..]: the layer with this fault, in these of its files, under this test.
-plant() {
-    local number=$1 files=()
-    shift
-    while [ "$1" != -- ]; do
-        files+=("$top/gc/$1.c")
-        shift
-    done
-    local test=$2 words=()
-    shift 2
-    [ "$test" = shadow ] && words=(3 200000)
-    if "${c[@]}" -fvisibility=hidden -Wno-unused "-I$include" "-DBUG=$number" -DWITHOUT_SYSCALLS "${files[@]}" "$top/tests/gc/$test.c" "$room/libmpgc.a" \
-        -pthread -o "$room/planted$number" 2>"$room/said"; then
-        fails "planted fault $number under $test" env "$@" "$room/planted$number" "${words[@]}"
+# planted EDIT: one file of the layer with a fault, under the test that has to notice it. `test:` names it, and settings; `file:` the
+# file; `old:` a text that stands once there, and `new:` what stands in its place.
+planted() {
+    local name file test words=() setting
+    name=$(basename "$1" .edit)
+    file=$(sed -n 's/^file: //p' "$1")
+    read -r test setting <<<"$(sed -n 's/^test: //p' "$1")"
+    [ "$test" = shadow ] && words=(3 300000)
+    if ! awk -v "old=$(sed -n 's/^old: //p' "$1" | sed 's/\\/\\\\/g')" -v "new=$(sed -n 's/^new: //p' "$1" | sed 's/\\/\\\\/g')" '
+        { at = index($0, old) }
+        at { count++; $0 = substr($0, 1, at - 1) new substr($0, at + length(old)) }
+        { print }
+        END { exit count != 1 }' "$top/gc/$file" >"$room/$name.c"; then
+        is "planted fault $name: its text stands once" yes no
+        return
+    fi
+    if cc -std=c11 -O1 -w -fvisibility=hidden "-I$top/include/mpgc" "-I$include" "-I$top/gc" "$room/$name.c" "$top/tests/gc/$test.c" \
+        "$room"/syscalls*.o "$room/libmpgc.a" -pthread -o "$room/planted_$name" 2>"$room/said"; then
+        fails "planted fault $name under $test" env $setting "$room/planted_$name" "${words[@]}"
     else
-        is "planted fault $number is built" yes "$(head -n 3 "$room/said")"
+        is "planted fault $name is built" yes "$(head -n 3 "$room/said")"
     fi
 }
 
@@ -87,7 +92,7 @@ if [ ! -e "$room/libmpgc.so" ]; then
 fi
 for language in "-x c -std=c99" "-x c -std=c11" "-x c++ -std=c++17"; do
     # shellcheck disable=SC2086
-    printf '#include "gc.h"\nint main(void) { return GC_malloc(1) == 0; }\n' |
+    printf '#include "gc.h"\n#include <gc/gc.h>\nint main(void) { return GC_malloc(1) == 0; }\n' |
         cc $language "${warnings[@]}" "-I$top/include/mpgc" -fsyntax-only - 2>"$room/said"
     is "the header as $language" 0 "$?"
 done
@@ -107,44 +112,64 @@ else
 fi
 
 # Each function, each place of roots, and what stands round the barrier.
-for test in functions roots barrier shadow; do
+for test in functions settings limits links roots barrier kernel signals shadow; do
     "${c[@]}" "$top/tests/gc/$test.c" "-L$room" -lmpgc "-Wl,-rpath,$room" -pthread -o "$room/$test" 2>"$room/said"
     is "$test is built" "" "$(cat "$room/said")"
 done
 counted functions "$room/functions"
 counted "functions, in small steps" env GC_ENABLE_INCREMENTAL=1 "$room/functions"
+counted settings "$room/settings"
+counted "settings, in small steps" env GC_ENABLE_INCREMENTAL=1 "$room/settings"
+counted limits "$room/limits"
+counted links "$room/links"
+counted "links, in small steps" env GC_ENABLE_INCREMENTAL=1 "$room/links"
 counted roots "$room/roots"
 counted "roots, in small steps" env INCREMENTAL=1 "$room/roots"
 counted barrier "$room/barrier"
-if "${c[@]}" -DWITHOUT_SYSCALLS "$top/tests/gc/barrier.c" "$room/libmpgc.a" -pthread -o "$room/archived" 2>"$room/said"; then
-    counted "barrier, of the archive" "$room/archived"
-else
-    is "the archive is linked" yes "$(head -n 3 "$room/said")"
-fi
+counted "kernel" "$room/kernel"
+counted "signals" "$room/signals"
+for test in barrier kernel signals; do
+    if "${c[@]}" -DWITHOUT_SYSCALLS "$top/tests/gc/$test.c" "$room/libmpgc.a" -pthread -o "$room/archived" 2>"$room/said"; then
+        counted "$test, of the archive" "$room/archived"
+    else
+        is "the archive is linked" yes "$(head -n 3 "$room/said")"
+    fi
+done
 if [ -e /usr/include/gc/gc_mark.h ]; then
-    cc -std=c11 -O1 -w -DOTHER "$top/tests/gc/functions.c" -lgc -o "$room/functions_bdw"
-    counted "functions, over bdwgc" "$room/functions_bdw"
+    for test in functions settings links; do
+        cc -std=c11 -O1 -w -DOTHER "$top/tests/gc/$test.c" -lgc -o "$room/${test}_bdw"
+        counted "$test, over bdwgc" "$room/${test}_bdw"
+    done
 else
-    skip libgc-dev "the functions over bdwgc"
+    skip libgc-dev "the functions, settings and links over bdwgc"
 fi
+
+# A program that was written for threads is compiled, and stops with a sentence where it makes one.
+cat >"$room/threads.c" <<'C'
+#define GC_THREADS
+#include "gc.h"
+static void *body(void *data) { return data; }
+int main(void)
+{
+    pthread_t thread;
+    GC_INIT();
+    return GC_malloc(10) == 0 || pthread_create(&thread, 0, body, 0) != 0 || pthread_join(thread, 0) != 0;
+}
+C
+"${c[@]}" "$room/threads.c" "-L$room" -lmpgc "-Wl,-rpath,$room" -pthread -o "$room/threads" 2>"$room/said"
+is "a program with GC_THREADS is built" "" "$(cat "$room/said")"
+{ "$room/threads" >"$room/said" 2>&1; } 2>>"$room/said"
+is "a program with GC_THREADS" "libmpgc: GC_pthread_create: libmpgc is for programs of one thread" "$(head -n 1 "$room/said")"
 
 # A million random operations, with a shadow of all.
 shadow shadow env FULL=1 "$room/shadow" 1 1000000
 shadow "shadow, in small steps" env INCREMENTAL=1 "$room/shadow" 2 1000000
 
 # Faults of the layer, each of which a test has to notice.
-plant 1 barrier -- barrier
-plant 2 roots requests settings start -- roots
-plant 3 roots -- roots
-plant 4 requests -- roots
-plant 5 barrier -- barrier
-plant 6 roots -- roots
-plant 7 roots -- roots
-plant 8 roots -- functions
-plant 9 requests -- functions
-plant 10 requests -- roots
-plant 11 roots -- roots
-plant 12 barrier -- barrier
+for file in syscalls syscalls_more syscalls_checked; do
+    cc -std=c11 -O1 -fvisibility=hidden "-I$include" -c "$top/gc/$file.c" -o "$room/$file.o"
+done
+for edit in "$top"/tests/gc/planted/*.edit; do planted "$edit"; done
 
 # Under AddressSanitizer and UndefinedBehaviorSanitizer. The stack is read word by word, so frames stay on it.
 sanitizers=(-fsanitize=address,undefined -fno-sanitize-recover=undefined -g)
@@ -156,6 +181,13 @@ if echo 'int main(void) { return 0; }' | cc "${sanitizers[@]}" -x c - -o "$room/
         shadow "shadow, sanitized, $setting" env $setting=1 "$room/sane/shadow" 4 100000
     done
     unset ASAN_OPTIONS
+    # AddressSanitizer has the C library's calls of signals to itself: so what stands round these runs under the other one alone.
+    build "$room/undefined" "${sanitizers[@]/address,/}"
+    for test in functions limits kernel signals barrier; do
+        "${c[@]}" -fsanitize=undefined "$top/tests/gc/$test.c" "-L$room/undefined" -lmpgc "-Wl,-rpath,$room/undefined" -pthread \
+            -o "$room/undefined/$test" 2>"$room/said" || is "$test, sanitized" built "$(head -n 3 "$room/said")"
+        counted "$test, sanitized" "$room/undefined/$test"
+    done
 else
     skip "a compiler with sanitizers" "the shadow under them"
 fi

@@ -58,6 +58,7 @@ static void open_heap(void) {
 static void collect(void) {
     uint64_t gone = 0;
     mpheap_collect(&heap, &gone);
+    mpheap_written_all(&heap, PAGES);
 }
 
 static void *new_object(uint64_t words, bool is_pointer_free) {
@@ -75,7 +76,7 @@ static void *new_object(uint64_t words, bool is_pointer_free) {
 static node *new_node(void) { return (node *)new_object(sizeof(node) / MPHEAP_WORD_BYTES, false); }
 static double *new_array(void) { return (double *)new_object(ARRAY, true); }
 
-/* No cycle is ever marking here, so what is written by a pointer needs no telling. */
+/* No cycle is ever marking here, and `collect` tells all words, so what is written by a pointer needs no telling. */
 static void put(node **at, node *to) { *at = to; }
 
 /* A node that only C knows goes on the root stack until it hangs on another. */

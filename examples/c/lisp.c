@@ -382,7 +382,7 @@ static void safe_point(void) {
     }
     allocated = 0;
     make_room();
-    mpheap_tells_anew(&heap, &told);
+    mpheap_tells_anew(&told);
 }
 
 static void run(word code) {
@@ -402,7 +402,7 @@ static void run(word code) {
 static void open_heap(uint32_t pages) {
     word base = 0;
     if (mpheap_open_mapped(pages, &heap) != MPHEAP_OK || mpheap_attach(&heap, &me) != MPHEAP_OK) stop("no heap");
-    mpheap_tells_anew(&heap, &told);
+    mpheap_tells_anew(&told);
     pace = mpheap_pace_of(pages);
     if (mpheap_alloc_base(&heap, me, NEW, STATE_WORDS, &base) != MPHEAP_OK) stop("no room for the machine");
     mpheap_gput(&heap, me, STATE, NEW);

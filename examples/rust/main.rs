@@ -39,6 +39,12 @@ fn run() -> Result<()> {
     let _floating = heap.finish()?;
     println!("the sum is {}", sum(&me)?);
     println!("{} objects are gone", heap.collect()?);
+    push_front(&me, 101)?;
+    (0..3).try_for_each(|_| me.alloc(CELL, 2).map(|_base| ()))?;
+    me.set(CELL, 0)?;
+    heap.begin_partial()?;
+    while heap.mark(16)? == 16 {}
+    println!("{} young objects are gone, and the sum is {}", heap.finish()?, sum(&me)?);
     me.set(CELL, 8)?;
     assert_eq!(me.load(NUMBER, CELL, 0), Err(Refusal::NoObject));
     assert_eq!(Heap::open(0).err(), Some(Refusal::BadPages));

@@ -21,12 +21,15 @@ pub enum Refusal {
     StackFull,
     StackEmpty,
     WrongPhase,
-    BadNumber,
+    LinksFull,
+    NotPointerFree,
+    NeedsFull,
+    BadNumber = 100,
     BadPages,
     NoMemory,
 }
 
-const REFUSALS: [Refusal; 12] = [
+const REFUSALS: [Refusal; 15] = [
     Refusal::NoSlot,
     Refusal::Misaligned,
     Refusal::NoObject,
@@ -36,6 +39,9 @@ const REFUSALS: [Refusal; 12] = [
     Refusal::StackFull,
     Refusal::StackEmpty,
     Refusal::WrongPhase,
+    Refusal::LinksFull,
+    Refusal::NotPointerFree,
+    Refusal::NeedsFull,
     Refusal::BadNumber,
     Refusal::BadPages,
     Refusal::NoMemory,
@@ -69,6 +75,7 @@ extern "C" {
     fn mpheap_load(heap: *mut Raw, slot: u8, into: u8, at: u8, offset: u64, word: *mut u64) -> u32;
     fn mpheap_store(heap: *mut Raw, slot: u8, at: u8, offset: u64, from: u8) -> u32;
     fn mpheap_begin(heap: *mut Raw) -> u32;
+    fn mpheap_begin_partial(heap: *mut Raw) -> u32;
     fn mpheap_roots(heap: *mut Raw) -> u32;
     fn mpheap_mark(heap: *mut Raw, most: u64, count: *mut u64) -> u32;
     fn mpheap_finish(heap: *mut Raw, count: *mut u64) -> u32;
@@ -77,10 +84,11 @@ extern "C" {
 
 // What a status says, of a call that answers no word.
 fn done(status: u32) -> Result<()> {
-    match status {
-        0 => Ok(()),
-        refused => Err(REFUSALS[refused as usize - 1]),
+    if status == 0 {
+        return Ok(());
     }
+    let refusal = REFUSALS.into_iter().find(|&refusal| refusal as u32 == status);
+    Err(refusal.expect("a status of mpheap.h"))
 }
 
 // A call that answers a word through its last parameter.
@@ -118,6 +126,12 @@ impl Heap {
     /// Begins a cycle that marks in small steps.
     pub fn begin(&self) -> Result<()> {
         done(unsafe { mpheap_begin(self.raw.get()) })?;
+        done(unsafe { mpheap_roots(self.raw.get()) })
+    }
+
+    /// Begins a cycle that takes what the last one kept to be in use, and forgets of what was allocated since.
+    pub fn begin_partial(&self) -> Result<()> {
+        done(unsafe { mpheap_begin_partial(self.raw.get()) })?;
         done(unsafe { mpheap_roots(self.raw.get()) })
     }
 

@@ -5,7 +5,7 @@
  *
  *   - what is here and means the same: everything below that isn't in the other two;
  *   - what can be called and has no effect, since what it sets doesn't exist here: these are marked "no effect";
- *   - what isn't here (finalizers, disappearing links, threads, new kinds, marking by the program): these are marked "stops".
+ *   - what isn't here (finalizers, threads, new kinds, marking by the program): these are marked "stops".
  *     Such a call writes a sentence to standard error and aborts. No call is silently wrong.
  *
  * Memory comes in pieces of 16 bytes, is aligned to 16, and is all 0. The heap holds at most MPHEAP_MAX_PAGES pages of
@@ -31,7 +31,11 @@
 #define GC_CALLBACK
 #ifdef __GNUC__
 #define GC_API extern __attribute__((visibility("default")))
+#ifdef GC_OOM_FUNC_RETURNS_ALIAS /* the program's GC_oom_fn answers memory that has another name too */
+#define GC_ATTR_MALLOC
+#else
 #define GC_ATTR_MALLOC __attribute__((malloc))
+#endif
 #define GC_ATTR_ALLOC_SIZE(n) __attribute__((alloc_size(n)))
 #else
 #define GC_API extern
@@ -107,7 +111,8 @@ GC_API int GC_is_disabled(void);
 
 /* While a cycle marks, pages of ordinary objects are write-protected, and never those of atomic ones. A system call that the
  * program makes and that writes into an ordinary object then answers EFAULT, as with bdwgc; libmpgc.so opens the pages first
- * for read, pread, readv, recv, recvfrom, fread and fread_unlocked. Use atomic objects as buffers of others. */
+ * for read, recv, stat, poll, select, wait and their kin, fread, getcwd, readlink, pipe, accept and its kin, times and ioctl
+ * (docs/PROGRAMS.md has them all). Use atomic objects as buffers of others. */
 #define GC_PROTECTS_NONE 0
 #define GC_PROTECTS_POINTER_HEAP 1
 #define GC_PROTECTS_PTRFREE_HEAP 2
@@ -245,7 +250,9 @@ GC_API void (*GC_is_visible_print_proc)(void *p);
 #define GC_POST_DECR(x) ((x)--)
 #define GC_PTR_STORE(p, q) (*(void **)(p) = (void *)(q))
 
-/* Disappearing links: this heap has room for none, so registering answers GC_NO_MEMORY. */
+/* Disappearing links: the word is cleared at the end of the collection that takes the object. An object that GC_free takes counts as
+ * taken by the next collection. There is room for 64 at a time: another one answers GC_NO_MEMORY. The object has to be one of the heap,
+ * else it stops; so does a word that isn't aligned. Long links are the same, since there are no finalizers. */
 GC_API int GC_general_register_disappearing_link(void **link, const void *object);
 GC_API int GC_register_disappearing_link(void **link);
 GC_API int GC_unregister_disappearing_link(void **link);
@@ -392,10 +399,30 @@ GC_API void GC_debug_ptr_store_and_dirty(void *at, const void *word);
 /* Threads: there is one. What asks for another stops; what asks about the one answers. */
 GC_API int GC_thread_is_registered(void);
 GC_API int GC_register_my_thread(const struct GC_stack_base *base); /* GC_DUPLICATE in the one thread; stops in any other */
+GC_API void GC_unregister_my_thread(void);                          /* stops */
 GC_API void GC_allow_register_threads(void);
 GC_API int GC_get_parallel(void);
 GC_API void GC_set_markers_count(unsigned count);
 GC_API void GC_start_mark_threads(void);
+#ifdef GC_THREADS
+/* A program that asks for threads is compiled, and stops where it makes one. */
+#include <pthread.h>
+#include <signal.h>
+GC_API int GC_pthread_create(pthread_t *thread, const pthread_attr_t *attributes, void *(*start)(void *), void *data);
+GC_API int GC_pthread_join(pthread_t thread, void **answer);
+GC_API int GC_pthread_detach(pthread_t thread);
+GC_API int GC_pthread_cancel(pthread_t thread);
+GC_API void GC_pthread_exit(void *answer);
+GC_API int GC_pthread_sigmask(int how, const sigset_t *set, sigset_t *old);
+#ifndef GC_NO_THREAD_REDIRECTS
+#define pthread_create GC_pthread_create
+#define pthread_join GC_pthread_join
+#define pthread_detach GC_pthread_detach
+#define pthread_cancel GC_pthread_cancel
+#define pthread_exit GC_pthread_exit
+#define pthread_sigmask GC_pthread_sigmask
+#endif
+#endif
 
 #ifdef __cplusplus
 }

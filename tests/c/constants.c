@@ -17,6 +17,7 @@ int main(void) {
     TELLS(REGISTERS);
     TELLS(STACK_WORDS);
     TELLS(GLOBALS);
+    TELLS(MAX_LINKS);
     TELLS(NO_OBJECT);
     TELLS(BAD_NUMBER);
     TELLS(BAD_PAGES);
@@ -30,5 +31,8 @@ int main(void) {
     REFUSES(StackFull, STACK_FULL);
     REFUSES(StackEmpty, STACK_EMPTY);
     REFUSES(WrongPhase, WRONG_PHASE);
+    REFUSES(LinksFull, LINKS_FULL);
+    REFUSES(NotPointerFree, NOT_POINTER_FREE);
+    REFUSES(NeedsFull, NEEDS_FULL);
     return 0;
 }

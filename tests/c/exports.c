@@ -50,6 +50,8 @@ static void no_mutator_is_there(void) {
     IS(mpheap_push(&heap, 0, 0), MPHEAP_NO_SLOT);
     IS(mpheap_gput(&heap, 0, 0, 0), MPHEAP_NO_SLOT);
     IS(mpheap_store(&heap, 0, 0, 0, 0), MPHEAP_NO_SLOT);
+    IS(mpheap_link(&heap, 0, 0, 0, 0), MPHEAP_NO_SLOT);
+    STAYS(MPHEAP_NO_SLOT, mpheap_unlink(&heap, 0, 0, 0, &word));
     IS(mpheap_alloc(&heap, 0, 0, 1), MPHEAP_NO_SLOT);
     IS(mpheap_alloc_pointer_free(&heap, 0, 0, 1), MPHEAP_NO_SLOT);
     IS(mpheap_free(&heap, 0, 0), MPHEAP_NO_SLOT);
@@ -115,6 +117,11 @@ static void numbers_are_out_of_range(void) {
     IS(mpheap_store(&heap, S, 0, 0, 0), MPHEAP_BAD_NUMBER);
     IS(mpheap_store(&heap, me, R, 0, 0), MPHEAP_BAD_NUMBER);
     IS(mpheap_store(&heap, me, 0, 0, R), MPHEAP_BAD_NUMBER);
+    IS(mpheap_link(&heap, S, 0, 0, 0), MPHEAP_BAD_NUMBER);
+    IS(mpheap_link(&heap, me, R, 0, 0), MPHEAP_BAD_NUMBER);
+    IS(mpheap_link(&heap, me, 0, 0, R), MPHEAP_BAD_NUMBER);
+    STAYS(MPHEAP_BAD_NUMBER, mpheap_unlink(&heap, S, 0, 0, &word));
+    STAYS(MPHEAP_BAD_NUMBER, mpheap_unlink(&heap, me, R, 0, &word));
     IS(mpheap_alloc(&heap, S, NUMBER, 1), MPHEAP_BAD_NUMBER);
     IS(mpheap_alloc(&heap, me, R, 1), MPHEAP_BAD_NUMBER);
     IS(mpheap_alloc_pointer_free(&heap, S, NUMBER, 1), MPHEAP_BAD_NUMBER);
@@ -220,8 +227,10 @@ static void the_wrong_phase(void) {
     STAYS(MPHEAP_WRONG_PHASE, mpheap_retrace(&heap, &word));
     STAYS(MPHEAP_WRONG_PHASE, mpheap_finish(&heap, &word));
     IS(mpheap_gc_no(&heap), 0);
+    IS(mpheap_begin_partial(&heap), MPHEAP_NEEDS_FULL);
     IS(mpheap_begin(&heap), MPHEAP_OK);
     IS(mpheap_begin(&heap), MPHEAP_WRONG_PHASE);
+    IS(mpheap_begin_partial(&heap), MPHEAP_WRONG_PHASE);
     IS(mpheap_is_marking(&heap), 1);
     IS(mpheap_gc_no(&heap), 0);
 }
@@ -262,6 +271,29 @@ static void a_cycle_marks_and_ends(void) {
     IS(mpheap_pending_pages(&heap), 0);
 }
 
+/* A partial cycle takes of what was allocated since the last collection what nothing leads to, and needs a full one after a
+ * free. */
+static void a_partial_cycle_keeps_marks(void) {
+    uint64_t word = UNTOUCHED;
+    IS(mpheap_alloc(&heap, me, LATER, 2), MPHEAP_OK);
+    IS(mpheap_alloc(&heap, me, OTHER, 2), MPHEAP_OK);
+    IS(mpheap_store(&heap, me, TWO, 1, OTHER), MPHEAP_OK);
+    IS(mpheap_dirty_pages(&heap), 1);
+    IS(mpheap_set(&heap, me, LATER, 0), MPHEAP_OK);
+    IS(mpheap_set(&heap, me, OTHER, 0), MPHEAP_OK);
+    IS(mpheap_begin_partial(&heap), MPHEAP_OK);
+    IS(mpheap_dirty_pages(&heap), 1);
+    IS(mpheap_finish(&heap, &word), MPHEAP_OK);
+    IS(word, 1);
+    IS(mpheap_gc_no(&heap), 3);
+    IS(mpheap_dirty_pages(&heap), 0);
+    IS(mpheap_load(&heap, me, OTHER, TWO, 1, &word), MPHEAP_OK);
+    IS(mpheap_free(&heap, me, OTHER), MPHEAP_OK);
+    IS(mpheap_set(&heap, me, OTHER, 0), MPHEAP_OK);
+    IS(mpheap_begin_partial(&heap), MPHEAP_NEEDS_FULL);
+    IS(mpheap_is_marking(&heap), 0);
+}
+
 /* A full collection leaves what a global leads to, also once its mutator is gone. */
 static void a_collection_takes_the_rest(void) {
     uint64_t word = UNTOUCHED;
@@ -273,7 +305,7 @@ static void a_collection_takes_the_rest(void) {
     IS(mpheap_gput(&heap, me, 0, NUMBER), MPHEAP_OK);
     IS(mpheap_collect(&heap, &word), MPHEAP_OK);
     IS(word, 2);
-    IS(mpheap_gc_no(&heap), 4);
+    IS(mpheap_gc_no(&heap), 5);
     IS(mpheap_free_pages(&heap), 4);
 }
 
@@ -287,6 +319,7 @@ int main(void) {
     sizes_and_room();
     the_wrong_phase();
     a_cycle_marks_and_ends();
+    a_partial_cycle_keeps_marks();
     a_collection_takes_the_rest();
     mpheap_close(&heap);
     IS(heap.core == NULL, 1);

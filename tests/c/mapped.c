@@ -68,15 +68,18 @@ static void a_range_is_taken(void) {
     mpheap_close(&heap);
 }
 
-/* Telling a range makes the pages of its bytes dirty, and no other; nothing does while no cycle is marking. */
+/* Telling a range makes the pages of its bytes dirty, and no other, in both phases; the beginning of a cycle cleans all. */
 static void ranges_are_told(void) {
     mpheap heap = MPHEAP_CLOSED;
     const uint64_t first = MPHEAP_FIRST_ADDRESS, page = MPHEAP_PAGE_BYTES;
     uint64_t count = 0;
     IS(mpheap_open_mapped(16, &heap), MPHEAP_OK);
     mpheap_written_range(&heap, first, 4 * page);
-    IS(mpheap_dirty_pages(&heap), 0);
+    IS(mpheap_dirty_pages(&heap), 4);
+    mpheap_written_all(&heap, 16);
+    IS(mpheap_dirty_pages(&heap), 16);
     IS(mpheap_begin(&heap), MPHEAP_OK);
+    IS(mpheap_dirty_pages(&heap), 0);
     mpheap_written_range(&heap, first + 8, 0);
     IS(mpheap_dirty_pages(&heap), 0);
     mpheap_written_range(&heap, first + 8, 8);

@@ -3,28 +3,25 @@
 #include "refused.h"
 #include "check.h"
 #include "mpheap.h"
+#include <errno.h>
 
 static long left;  /* so many requests are still granted */
 static long live;  /* what was granted and not given back */
-static bool maps;  /* the request that was refused last was one for the heap's addresses */
 
-static bool grants(bool is_map) {
-    if (left == 0) {
-        maps = is_map;
-        return false;
-    }
+static bool grants(void) {
+    if (left == 0) return false;
     left--;
     return true;
 }
 
 void *asked_malloc(size_t bytes) {
-    if (!grants(false)) return NULL;
+    if (!grants()) return NULL;
     live++;
     return malloc(bytes);
 }
 
 void *asked_realloc(void *at, size_t bytes) {
-    if (!grants(false)) return NULL;
+    if (!grants()) return NULL;
     if (at == NULL) live++;
     return realloc(at, bytes);
 }
@@ -35,7 +32,10 @@ void asked_free(void *at) {
 }
 
 void *asked_mmap(void *at, size_t bytes, int protection, int flags, int file, off_t offset) {
-    if (!grants(true)) return MAP_FAILED;
+    if (!grants()) {
+        errno = ENOMEM;
+        return MAP_FAILED;
+    }
     live++;
     return mmap(at, bytes, protection, flags, file, offset);
 }
@@ -53,7 +53,7 @@ static void each_request_is_refused(uint32_t (*open)(uint32_t, mpheap *), uint32
         left = ++granted;
         status = open(pages, &heap);
         if (status == MPHEAP_OK) break;
-        IS(status, maps ? MPHEAP_RANGE_TAKEN : MPHEAP_NO_MEMORY);
+        IS(status, MPHEAP_NO_MEMORY);
         IS(heap.core == NULL, 1);
         IS(live, 0);
     }

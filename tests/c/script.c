@@ -64,6 +64,8 @@ CALL(base, NUMBER(0), NUMBER(1), word)
 CALL(size, NUMBER(0), word)
 CALL(gget, NUMBER(0), NUMBER(1), word)
 CALL(gput, NUMBER(0), NUMBER(1))
+CALL(link, NUMBER(0), l->numbers[1], NUMBER(2))
+CALL(unlink, NUMBER(0), l->numbers[1], word)
 
 static uint32_t make_detach(mpheap *heap, const line *l, uint64_t *word) {
     (void)word;
@@ -77,6 +79,7 @@ static uint32_t make_detach(mpheap *heap, const line *l, uint64_t *word) {
         (void)word;                                                                    \
         return mpheap_##name
 STEP(begin)(heap); }
+STEP(begin_partial)(heap); }
 STEP(roots)(heap); }
 STEP(mark)(heap, l->numbers[0], word); }
 STEP(retrace)(heap, word); }
@@ -99,11 +102,13 @@ static const call calls[] = {
     { "store", "rnr", NOTHING, make_store }, { "free", "r", NOTHING, make_free },
     { "base", "rr", WORD, make_base },      { "size", "r", COUNT, make_size },
     { "gget", "rg", WORD, make_gget },      { "gput", "gr", NOTHING, make_gput },
+    { "link", "rnr", NOTHING, make_link },  { "unlink", "rn", COUNT, make_unlink },
     { NULL, NULL, NOTHING, NULL }
 };
 
 static const call steps[] = {
-    { "begin", "", NOTHING, gc_begin }, { "roots", "", NOTHING, gc_roots },  { "mark", "n", COUNT, gc_mark },
+    { "begin", "", NOTHING, gc_begin }, { "partial", "", NOTHING, gc_begin_partial },
+    { "roots", "", NOTHING, gc_roots },  { "mark", "n", COUNT, gc_mark },
     { "retrace", "", COUNT, gc_retrace }, { "finish", "", COUNT, gc_finish }, { "sweep", "", COUNT, gc_sweep },
     { "collect", "", COUNT, gc_collect }, { "no", "", COUNT, gc_no },         { NULL, NULL, NOTHING, NULL }
 };
@@ -163,9 +168,10 @@ static const call *call_of(line *l) {
 }
 
 static void print(uint32_t pages, uint32_t status, answers gives, uint64_t word) {
-    static const char *const names[] = { "NoSlot", "Misaligned", "NoObject", "NotBase", "BadSize", "Full", "StackFull", "StackEmpty", "WrongPhase" };
+    static const char *const names[] = { "NoSlot", "Misaligned", "NoObject", "NotBase", "BadSize", "Full", "StackFull", "StackEmpty", "WrongPhase",
+                                         "LinksFull", "NotPointerFree", "NeedsFull" };
     bool is_address = word - MPHEAP_FIRST_ADDRESS < (uint64_t)pages * MPHEAP_PAGE_BYTES;
-    if (status >= 1 && status <= 9) {
+    if (status >= 1 && status <= sizeof names / sizeof *names) {
         printf("refused %" PRIu32 " %s\n", status, names[status - 1]);
     } else if (status != MPHEAP_OK) {
         printf("status %" PRIu32 "\n", status);

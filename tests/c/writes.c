@@ -1,6 +1,6 @@
 /* A graph of objects whose words C writes by pointers, beside cycles that mark in small steps. After every few hundred steps
- * each object that C still reaches is looked up and compared with what was written into it. writes SEEDS tells each page
- * before it is written; writes SEEDS untold tells nothing, and then reached objects have to be lost, or the test shows
+ * each object that C still reaches is looked up and compared with what was written into it. Two of three cycles begin with the
+ * marks of the last one. writes SEEDS tells each page before it is written; writes SEEDS untold tells nothing, and then reached objects have to be lost, or the test shows
  * nothing. */
 #include "check.h"
 #include "mpheap.h"
@@ -19,7 +19,7 @@ static mpheap_told told;
 static uint8_t me;
 static node **top;
 static bool tells = true;
-static uint64_t state, made, lost, cycles;
+static uint64_t state, made, lost, cycles, partial;
 
 static uint64_t draw(uint64_t below) {
     state ^= state << 13;
@@ -46,7 +46,7 @@ static node *fresh(void) {
     uint32_t status = mpheap_alloc_base(&heap, me, 0, 4, &base);
     if (status == MPHEAP_FULL) {
         mpheap_collect(&heap, &gone);
-        mpheap_tells_anew(&heap, &told);
+        mpheap_tells_anew(&told);
         status = mpheap_alloc_base(&heap, me, 0, 4, &base);
     }
     if (status != MPHEAP_OK) exit(2);
@@ -99,7 +99,11 @@ static void collector_step(void) {
     uint64_t count = 0;
     if (!mpheap_is_marking(&heap)) {
         if (mpheap_free_pages(&heap) + mpheap_pending_pages(&heap) < PAGES * 3 / 4 || draw(256) == 0) {
-            mpheap_begin(&heap);
+            if (draw(3) == 0 || mpheap_begin_partial(&heap) != MPHEAP_OK) {
+                mpheap_begin(&heap);
+            } else {
+                partial++;
+            }
             mpheap_roots(&heap);
         } else if (draw(4) == 0) {
             mpheap_sweep(&heap, &count);
@@ -112,7 +116,7 @@ static void collector_step(void) {
             cycles++;
         }
     }
-    mpheap_tells_anew(&heap, &told);
+    mpheap_tells_anew(&told);
 }
 
 static bool is_fine(node *n) {
@@ -149,7 +153,7 @@ static uint64_t run(uint64_t seed) {
     uint64_t base = 0, reached = 0;
     state = 88172645463325252u + seed * 7919;
     if (mpheap_open_mapped(PAGES, &heap) != MPHEAP_OK) exit(2);
-    mpheap_tells_anew(&heap, &told);
+    mpheap_tells_anew(&told);
     mpheap_attach(&heap, &me);
     if (mpheap_alloc_base(&heap, me, TOPS, TOP, &base) != MPHEAP_OK) exit(2);
     top = (node **)(uintptr_t)base;
@@ -172,7 +176,7 @@ int main(int argc, char **argv) {
     for (uint64_t seed = 1; seed <= seeds && lost == 0; seed++) reached += run(seed);
     if (tells) {
         IS(lost, 0);
-        IS(reached > 0 && cycles > seeds, 1);
+        IS(reached > 0 && cycles > seeds && partial > seeds, 1);
     } else {
         IS(lost > 0, 1);
     }

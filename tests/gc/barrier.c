@@ -1,113 +1,23 @@
-/* What stands round the write barrier: system calls that write into the heap, faults that are not the barrier's, other threads, other
- * stacks, children. -DWITHOUT_SYSCALLS where the library is the archive, which has no functions of the C library. */
+/* What stands round the write barrier: faults that are not the barrier's, other threads, other stacks, children, and pointers that move
+ * while a cycle marks. */
 #define _GNU_SOURCE
 #include <errno.h>
-#include <fcntl.h>
 #include <pthread.h>
 #include <setjmp.h>
 #include <signal.h>
 #include <stdint.h>
-#include <sys/socket.h>
-#include <sys/uio.h>
-#include "gc.h"
 #include "check.h"
-
-enum { COUNT = 400 };
-static char *ordinary[COUNT], *atomic[COUNT];
-
-/* A cycle marks, and pages of ordinary objects are closed. */
-static void begin(void)
-{
-    for (int k = 0; k < COUNT; k++) {
-        ordinary[k] = GC_malloc(2000);
-        atomic[k] = GC_malloc_atomic(2000);
-    }
-    GC_gcollect();
-    GC_start_incremental_collection();
-}
-
-static void end(void)
-{
-    while (GC_collect_a_little()) continue;
-}
-
-static int file_of(const char *text)
-{
-    int ends[2];
-    if (pipe(ends) != 0) return -1;
-    if (write(ends[1], text, strlen(text)) < 0) return -1;
-    close(ends[1]);
-    return ends[0];
-}
-
-/* Whether the way of reading puts the text there. */
-static int reads(ssize_t (*way)(int, char *), char *into)
-{
-    int file = file_of("from the kernel");
-    ssize_t n = way(file, into);
-    close(file);
-    return n == 15 && memcmp(into, "from the kernel", 15) == 0;
-}
-
-static ssize_t by_read(int file, char *into) { return read(file, into, 2000); }
-static ssize_t by_readv(int file, char *into)
-{
-    struct iovec parts[2] = { { into, 4 }, { into + 4, 500 } };
-    return readv(file, parts, 2);
-}
-static ssize_t by_fread(int file, char *into)
-{
-    FILE *stream = fdopen(dup(file), "r");
-    setvbuf(stream, NULL, _IONBF, 0);
-    size_t n = fread(into, 1, 15, stream);
-    fclose(stream);
-    return (ssize_t)n;
-}
-static ssize_t by_fread_unlocked(int file, char *into)
-{
-    FILE *stream = fdopen(dup(file), "r");
-    size_t n = fread_unlocked(into, 1, 1999, stream);
-    fclose(stream);
-    return (ssize_t)n;
-}
-
-static void system_calls(void)
-{
-    static ssize_t (*const ways[])(int, char *) = { by_read, by_readv, by_fread, by_fread_unlocked };
-    begin();
-    for (int k = 0; k < 4; k++) {
-#ifndef WITHOUT_SYSCALLS
-        CHECK(reads(ways[k], ordinary[10 * k]));
-        CHECK(reads(ways[k], ordinary[10 * k] + 1000));
-#endif
-        CHECK(reads(ways[k], atomic[10 * k]));
-    }
-#ifndef WITHOUT_SYSCALLS
-    int ends[2];
-    CHECK(socketpair(AF_UNIX, SOCK_DGRAM, 0, ends) == 0 && send(ends[0], "by socket", 10, 0) == 10);
-    CHECK(recv(ends[1], ordinary[100], 2000, 0) == 10 && strcmp(ordinary[100], "by socket") == 0);
-    CHECK(send(ends[0], "by socket", 10, 0) == 10);
-    CHECK(recvfrom(ends[1], ordinary[120], 2000, 0, NULL, NULL) == 10 && strcmp(ordinary[120], "by socket") == 0);
-    int file = open("/proc/self/exe", O_RDONLY);
-    CHECK(pread(file, ordinary[130], 100, 1) == 100 && memcmp(ordinary[130], "ELF", 3) == 0);
-    CHECK(pread64(file, ordinary[140], 100, 1) == 100 && memcmp(ordinary[140], "ELF", 3) == 0);
-    close(file);
-#endif
-    end();
-    /* What the kernel wrote over is still written to and collected as ever. */
-    *(void **)(void *)ordinary[10] = GC_malloc(50);
-    GC_gcollect();
-    CHECK(GC_base(*(void **)(void *)ordinary[10]) != NULL);
-}
+#include "cycle.h"
 
 static sigjmp_buf back;
 static void *fault_address;
-static volatile int plain_faults;
+static volatile int plain_faults, told_faults;
 
 static void on_fault_told(int number, siginfo_t *info, void *context)
 {
     (void)number;
     (void)context;
+    if (++told_faults > 100) _exit(1); /* these are the barrier's */
     fault_address = info->si_addr;
     siglongjmp(back, 1);
 }
@@ -146,11 +56,15 @@ static void foreign_faults(void)
     sigaction(SIGSEGV, &told, NULL);
     begin();
     CHECK(faults() && fault_address == nowhere); /* the one that was set since */
+    struct sigaction seen;
+    CHECK(sigaction(SIGSEGV, NULL, &seen) == 0 && seen.sa_sigaction == on_fault_told && (seen.sa_flags & SA_SIGINFO));
+    CHECK(sigaction(SIGSEGV, &told, &seen) == 0 && seen.sa_sigaction == on_fault_told); /* once more, while a cycle marks */
     sigset_t blocked;
     pthread_sigmask(SIG_SETMASK, NULL, &blocked);
     CHECK(!sigismember(&blocked, SIGUSR1) && !sigismember(&blocked, SIGSEGV));
     for (int k = 0; k < COUNT; k++) *(void **)(void *)ordinary[k] = ordinary[(k + 7) % COUNT];
-    CHECK(*(void **)(void *)ordinary[3] == ordinary[10]);
+    CHECK(*(void **)(void *)ordinary[3] == ordinary[10] && told_faults == 1);
+    CHECK(signal(SIGSEGV, on_fault_plain) != SIG_ERR && faults() && plain_faults == 2);
     end();
     int status;
     fflush(stdout);
@@ -255,8 +169,9 @@ static __attribute__((noinline)) GC_word make_chain(int nodes)
     return GC_HIDE_POINTER(last[5]);
 }
 
-/* Three ways of the pointer: to the start of the chain, where the marker has been; into an object that is new; and from node to node
- * with each step, so that it comes to pages that were read again. */
+/* Ways of the pointer: to the start of the chain, where the marker has been; into an object that is new, on a page of its own or among
+ * others, where the request itself writes to a closed page; and from node to node with each step, so that it comes to pages that were
+ * read again. */
 static void **volatile newest;
 static __attribute__((noinline)) void move_to_start(void)
 {
@@ -267,6 +182,13 @@ static __attribute__((noinline)) void move_to_start(void)
 static __attribute__((noinline)) void move_to_new(void)
 {
     newest = GC_malloc(3000);
+    newest[5] = chain_end[5];
+    chain_end[5] = NULL;
+}
+
+static __attribute__((noinline)) void move_to_new_among(void)
+{
+    newest = GC_malloc(200);
     newest[5] = chain_end[5];
     chain_end[5] = NULL;
 }
@@ -314,6 +236,25 @@ static __attribute__((noinline)) GC_word begin_chain(int nodes, int steps)
     return hidden;
 }
 
+/* The same, where the page of the chain's start is written to after it was closed and before the cycle begins, and with each step since:
+ * so it is open from the beginning on. Pages are closed in several steps, since pointer-free objects had many. */
+static __attribute__((noinline)) GC_word begin_open(int nodes, int steps)
+{
+    GC_word hidden = make_chain(nodes);
+    newest = NULL;
+    chain_end = (void **)GC_HIDE_POINTER(chain_end);
+    GC_gcollect();
+    free_atomics();
+    clear_stack();
+    while (!GC_collect_a_little()) GC_malloc_atomic(1000);
+    for (int k = 0; k < steps; k++) {
+        chain_start[6] = NULL;
+        GC_collect_a_little();
+    }
+    chain_end = GC_REVEAL_POINTER(chain_end);
+    return hidden;
+}
+
 static int is_kept(GC_word hidden)
 {
     clear_stack();
@@ -341,8 +282,14 @@ static void hidden_pointers(void)
         GC_word hidden = begin_chain(500 + 10 * steps, steps);
         move_to_start();
         CHECK(is_kept(hidden));
+        hidden = begin_open(500 + 10 * steps, steps);
+        move_to_start();
+        CHECK(is_kept(hidden));
         hidden = begin_chain(500 + 10 * steps, steps);
         move_to_new();
+        CHECK(is_kept(hidden));
+        hidden = begin_chain(500 + 10 * steps, steps);
+        move_to_new_among();
         CHECK(is_kept(hidden));
         hidden = begin_chain(500 + 10 * steps, 1);
         walk(500 + 10 * steps);
@@ -365,7 +312,6 @@ int main(void)
     GC_enable_incremental();
     hidden_pointers();
     foreign_faults();
-    system_calls();
     keeps_errno();
     CHECK(stops_with(second_asks, "one thread"));
     CHECK(stops_with(second_writes, "a second thread wrote"));

@@ -181,6 +181,8 @@ static NOINLINE void aligned(void)
     CHECK(GC_posix_memalign(&q, 24, 50) == EINVAL);
 }
 
+static int starts;
+static void note_start(void) { starts++; }
 static int polls;
 static int at_once(void) { return 1; }
 static int later(void) { return ++polls > 3; }
@@ -215,6 +217,11 @@ static NOINLINE void collections(void)
     GC_set_stop_func(never);
     GC_gcollect_and_unmap();
     CHECK(GC_get_gc_no() > count);
+    GC_set_start_callback(note_start);
+    CHECK(GC_get_start_callback() == note_start);
+    GC_gcollect();
+    CHECK(starts > 0);
+    GC_set_start_callback(NULL);
 }
 
 static NOINLINE void figures(void)
@@ -384,8 +391,6 @@ static NOINLINE void incremental(void)
 }
 
 #ifndef OTHER
-static void *link_cell;
-
 static void bad_free(void) { GC_free((char *)GC_malloc(64) + 16); }
 static void second_free(void)
 {
@@ -410,8 +415,6 @@ static NOINLINE void stops(void)
     CHECK(stops_with(GC_is_marked, "GC_is_marked isn't there"));
     CHECK(stops_with(GC_new_kind, "GC_new_kind isn't there"));
     CHECK(stops_with(GC_toggleref_add, "GC_toggleref_add isn't there"));
-    CHECK(GC_general_register_disappearing_link(&link_cell, GC_malloc(8)) == GC_NO_MEMORY);
-    CHECK(GC_unregister_disappearing_link(&link_cell) == 0 && GC_move_disappearing_link(&link_cell, &link_cell) == GC_NOT_FOUND);
     CHECK(GC_thread_is_registered() && GC_register_my_thread(NULL) == GC_DUPLICATE);
 }
 

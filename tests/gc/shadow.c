@@ -308,7 +308,7 @@ int main(int count, char **texts)
         operate();
         clear_stack();
         if (k % 100 == 0) GC_start_incremental_collection(); /* which does nothing in full collections */
-        if (k % 50000 == 49999) GC_gcollect();
+        if (k % (operations / 20) == operations / 20 - 1) GC_gcollect();
         if (GC_get_gc_no() == seen && unused_count > 100) continue;
         seen = GC_get_gc_no();
         compare_all();

@@ -1,0 +1,27 @@
+// The C library's sigaction and signal, for the program's own handler of faults: the barrier's stays in front of it, so that no fault of a
+// closed page reaches a handler that knows nothing of it, and the program is told the handler that it had set itself. Handlers of other
+// signals run without faults being blocked (masks.c), and else as ever. Trusted, not proved.
+//
+// It owes the core the same as the fault handler does (signals.c): that this one is called is what it sees to.
+#include "layer.h"
+
+#define SHOWN __attribute__((visibility("default")))
+
+// The C library's other name of its sigaction.
+extern int __sigaction(int number, const struct sigaction *next, struct sigaction *old);
+
+SHOWN int sigaction(int number, const struct sigaction *next, struct sigaction *old)
+{
+    if (number == SIGSEGV && mpgc_swap_handler(next, old)) return 0;
+    if (!next) return __sigaction(number, NULL, old);
+    struct sigaction open = *next;
+    (void)mpgc_without_faults(&next->sa_mask, &open.sa_mask);
+    return __sigaction(number, &open, old);
+}
+
+SHOWN __sighandler_t signal(int number, __sighandler_t handler)
+{
+    struct sigaction next = { .sa_handler = handler, .sa_flags = SA_RESTART }, old;
+    if (number == SIGSEGV && mpgc_swap_handler(&next, &old)) return old.sa_handler;
+    return ssignal(number, handler);
+}

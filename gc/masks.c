@@ -1,0 +1,41 @@
+// The C library's calls by which a program blocks signals, without SIGSEGV: a write to a closed page while faults are blocked would end
+// the program, since the kernel can't hold back such a fault. Of other signals nothing is different. Trusted, not proved.
+//
+// It owes the core the same as the fault handler does (signals.c): that this one is called is what it sees to.
+#include "layer.h"
+#include <errno.h>
+#include <sys/syscall.h>
+#include <unistd.h>
+
+#define SHOWN __attribute__((visibility("default")))
+enum { BYTES = 8 };  // of a set, to the kernel
+
+// These signals but faults, in `room`; null for null. The C library's own two, 32 and 33, are never blocked.
+const sigset_t *mpgc_without_faults(const sigset_t *signals, sigset_t *room)
+{
+    if (!signals) return NULL;
+    *room = *signals;
+    sigdelset(room, SIGSEGV);
+    room->__val[0] &= ~(3ul << 31);
+    return room;
+}
+
+SHOWN int sigprocmask(int how, const sigset_t *restrict next, sigset_t *restrict old)
+{
+    sigset_t room;
+    mpgc_will_write(old, BYTES);
+    return (int)syscall(SYS_rt_sigprocmask, how, how == SIG_UNBLOCK ? next : mpgc_without_faults(next, &room), old, BYTES);
+}
+
+SHOWN int pthread_sigmask(int how, const sigset_t *restrict next, sigset_t *restrict old)
+{
+    int kept = errno, answer = sigprocmask(how, next, old) == 0 ? 0 : errno;
+    errno = kept;
+    return answer;
+}
+
+SHOWN int sigsuspend(const sigset_t *signals)
+{
+    sigset_t room;
+    return (int)syscall(SYS_rt_sigsuspend, mpgc_without_faults(signals, &room), BYTES);
+}

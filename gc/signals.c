@@ -1,0 +1,94 @@
+// Signals: the handler of the faults that closed pages make, the program's own handler of faults behind it, and the collector's calls
+// without interruption. Trusted, not proved.
+//
+// What it owes the core, of mpheap.h:
+//
+//   "tell the address first, then write"          mpheap_written, clause TellsWritten: a write to a closed page faults before anything
+//                                                 is written; protection.c tells and opens the page, and then the write is done again
+//   "nothing changes the heap's words while a     every signal but those of faults is blocked under the collector's calls. Requests
+//   call runs"                                    and frees don't block them: what a handler of the program writes to a closed page
+//                                                 under one is told when that call has returned
+#include "layer.h"
+#include <errno.h>
+#include <pthread.h>
+#include <ucontext.h>
+
+static struct sigaction before;  // what the program does on a fault
+static bool is_installed;
+
+void mpgc_block_signals(sigset_t *old)
+{
+    static const int of_faults[] = { SIGSEGV, SIGBUS, SIGFPE, SIGILL, SIGTRAP, SIGABRT };
+    sigset_t all;
+    sigfillset(&all);
+    for (size_t k = 0; k < sizeof of_faults / sizeof *of_faults; k++) sigdelset(&all, of_faults[k]);
+    pthread_sigmask(SIG_SETMASK, &all, old);
+}
+
+void mpgc_restore_signals(const sigset_t *old) { pthread_sigmask(SIG_SETMASK, old, NULL); }
+
+// The fault isn't of the barrier's making: the program's own handler runs, under the signals that it would see.
+static void pass_on(int number, siginfo_t *info, void *context)
+{
+    const ucontext_t *interrupted = context;
+    struct sigaction program = before;
+    bool was_sent = info->si_code <= 0;
+    if (program.sa_handler == SIG_IGN && was_sent) return;
+    if (program.sa_handler == SIG_DFL || program.sa_handler == SIG_IGN) {
+        is_installed = false;
+        signal(number, SIG_DFL);  // the instruction faults again, and ends the program
+        if (was_sent) raise(number);
+        return;
+    }
+    if (program.sa_flags & SA_RESETHAND) before.sa_handler = SIG_DFL;
+    sigset_t blocked;
+    sigorset(&blocked, &interrupted->uc_sigmask, &program.sa_mask);
+    if (!(program.sa_flags & SA_NODEFER)) sigaddset(&blocked, number);
+    pthread_sigmask(SIG_SETMASK, &blocked, NULL);
+    if (program.sa_flags & SA_SIGINFO)
+        program.sa_sigaction(number, info, context);
+    else
+        program.sa_handler(number);
+}
+
+static void on_fault(int number, siginfo_t *info, void *context)
+{
+    uintptr_t address = (uintptr_t)info->si_addr;
+    bool is_ours = info->si_code == SEGV_ACCERR && mpgc_is_inside(address) && mpgc.is_closed[mpgc_page_of(address)];
+    if (!is_ours) {
+        pass_on(number, info, context);
+        return;
+    }
+    if (!mpgc_is_owner) mpgc_stop("a second thread wrote into the heap: libmpgc is for programs of one thread");
+    int kept = errno;
+    mpgc.faults++;
+    mpgc_let_write(mpgc_page_of(address));
+    errno = kept;
+}
+
+// To be called before pages are closed: where the C library's calls aren't taken (handlers.c), the program may have set its own handler.
+void mpgc_take_faults(void)
+{
+    struct sigaction ours = { .sa_sigaction = on_fault, .sa_flags = SA_SIGINFO | SA_ONSTACK | SA_RESTART }, old;
+    bool was_installed = is_installed;
+    sigfillset(&ours.sa_mask);
+    is_installed = false;
+    sigset_t faults;
+    sigemptyset(&faults);
+    sigaddset(&faults, SIGSEGV);
+    pthread_sigmask(SIG_UNBLOCK, &faults, NULL);  // the program may have been started with it blocked
+    if (sigaction(SIGSEGV, &ours, &old) != 0) mpgc_stop("the kernel refused a handler of faults");
+    bool is_ours = was_installed && (old.sa_flags & SA_SIGINFO) && old.sa_sigaction == on_fault;
+    if (!is_ours) before = old;
+    is_installed = true;
+}
+
+// What the program sets on faults, and what it had set, while the layer's handler stands; answers false where it doesn't.
+bool mpgc_swap_handler(const struct sigaction *next, struct sigaction *old)
+{
+    if (!is_installed) return false;
+    struct sigaction was = before;
+    if (next) before = *next;
+    if (old) *old = was;
+    return true;
+}

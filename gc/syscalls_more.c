@@ -1,0 +1,142 @@
+// Calls of the C library by which the kernel writes into the program's memory: sockets, waiting, times, devices. As syscalls.c has those
+// of files. Only in libmpgc.so. Trusted, not proved.
+//
+// It owes the core the same as the fault handler does (protection.c), and pays by the same function. Those that wait with other signals
+// blocked don't block faults (masks.c).
+#include "next.h"
+#include <poll.h>
+#include <stdarg.h>
+#include <sys/epoll.h>
+#include <sys/ioctl.h>
+#include <sys/random.h>
+#include <sys/resource.h>
+#include <sys/select.h>
+#include <sys/socket.h>
+#include <sys/time.h>
+#include <sys/uio.h>
+#include <sys/utsname.h>
+#include <sys/wait.h>
+#include <time.h>
+
+// Sockets.
+OPENS(ssize_t, recv, (int file, void *into, size_t bytes, int flags), (file, into, bytes, flags), into, bytes)
+OPENS(int, socketpair, (int domain, int type, int protocol, int ends[2]), (domain, type, protocol, ends), ends, 2 * sizeof *ends)
+
+// A length that is read and written, and so many bytes.
+static void will_write_counted(void *into, socklen_t *length)
+{
+    if (!length) return;
+    mpgc_will_write(into, *length);
+    mpgc_will_write(length, sizeof *length);
+}
+
+SHOWN ssize_t recvfrom(int file, void *into, size_t bytes, int flags, __SOCKADDR_ARG from, socklen_t *length)
+{
+    NEXT(ssize_t, recvfrom, (int, void *, size_t, int, __SOCKADDR_ARG, socklen_t *));
+    mpgc_will_write(into, bytes);
+    will_write_counted(from.__sockaddr__, length);
+    return next(file, into, bytes, flags, from, length);
+}
+
+SHOWN ssize_t recvmsg(int file, struct msghdr *message, int flags)
+{
+    NEXT(ssize_t, recvmsg, (int, struct msghdr *, int));
+    mpgc_will_write(message, sizeof *message);
+    mpgc_will_write(message->msg_name, message->msg_namelen);
+    mpgc_will_write(message->msg_control, message->msg_controllen);
+    for (size_t k = 0; k < message->msg_iovlen; k++)
+        mpgc_will_write(message->msg_iov[k].iov_base, message->msg_iov[k].iov_len);
+    return next(file, message, flags);
+}
+
+// Those that tell an address.
+#define TELLS_ADDRESS(name) \
+    SHOWN int name(int file, __SOCKADDR_ARG address, socklen_t *restrict length) \
+    { \
+        NEXT(int, name, (int, __SOCKADDR_ARG, socklen_t *)); \
+        will_write_counted(address.__sockaddr__, length); \
+        return next(file, address, length); \
+    }
+TELLS_ADDRESS(accept)
+TELLS_ADDRESS(getsockname)
+TELLS_ADDRESS(getpeername)
+
+SHOWN int accept4(int file, __SOCKADDR_ARG address, socklen_t *restrict length, int flags)
+{
+    NEXT(int, accept4, (int, __SOCKADDR_ARG, socklen_t *, int));
+    will_write_counted(address.__sockaddr__, length);
+    return next(file, address, length, flags);
+}
+
+SHOWN int getsockopt(int file, int level, int name, void *restrict into, socklen_t *restrict length)
+{
+    NEXT(int, getsockopt, (int, int, int, void *, socklen_t *));
+    will_write_counted(into, length);
+    return next(file, level, name, into, length);
+}
+
+// Waiting.
+OPENS(int, poll, (struct pollfd *files, nfds_t count, int timeout), (files, count, timeout), files, count * sizeof *files)
+OPENS(int, epoll_wait, (int file, struct epoll_event *events, int most, int timeout), (file, events, most, timeout), events,
+      most > 0 ? (size_t)most * sizeof *events : 0)
+OPENS(pid_t, wait, (int *status), (status), status, sizeof *status)
+OPENS(pid_t, waitpid, (pid_t child, int *status, int flags), (child, status, flags), status, sizeof *status)
+
+static void will_write_sets(fd_set *to_read, fd_set *to_write, fd_set *others)
+{
+    mpgc_will_write(to_read, sizeof *to_read);
+    mpgc_will_write(to_write, sizeof *to_write);
+    mpgc_will_write(others, sizeof *others);
+}
+
+SHOWN int select(int count, fd_set *restrict to_read, fd_set *restrict to_write, fd_set *restrict others, struct timeval *restrict timeout)
+{
+    NEXT(int, select, (int, fd_set *, fd_set *, fd_set *, struct timeval *));
+    will_write_sets(to_read, to_write, others);
+    mpgc_will_write(timeout, sizeof *timeout);
+    return next(count, to_read, to_write, others, timeout);
+}
+
+SHOWN int pselect(int count, fd_set *restrict to_read, fd_set *restrict to_write, fd_set *restrict others,
+                  const struct timespec *restrict timeout, const sigset_t *restrict blocked)
+{
+    NEXT(int, pselect, (int, fd_set *, fd_set *, fd_set *, const struct timespec *, const sigset_t *));
+    will_write_sets(to_read, to_write, others);
+    sigset_t mask;
+    return next(count, to_read, to_write, others, timeout, mpgc_without_faults(blocked, &mask));
+}
+
+SHOWN int ppoll(struct pollfd *files, nfds_t count, const struct timespec *timeout, const sigset_t *blocked)
+{
+    NEXT(int, ppoll, (struct pollfd *, nfds_t, const struct timespec *, const sigset_t *));
+    mpgc_will_write(files, count * sizeof *files);
+    sigset_t mask;
+    return next(files, count, timeout, mpgc_without_faults(blocked, &mask));
+}
+
+SHOWN int epoll_pwait(int file, struct epoll_event *events, int most, int timeout, const sigset_t *blocked)
+{
+    NEXT(int, epoll_pwait, (int, struct epoll_event *, int, int, const sigset_t *));
+    if (most > 0) mpgc_will_write(events, (size_t)most * sizeof *events);
+    sigset_t mask;
+    return next(file, events, most, timeout, mpgc_without_faults(blocked, &mask));
+}
+
+// Times, and what the system tells of itself.
+OPENS(int, clock_gettime, (clockid_t clock, struct timespec *into), (clock, into), into, sizeof *into)
+OPENS(int, nanosleep, (const struct timespec *wanted, struct timespec *left), (wanted, left), left, sizeof *left)
+OPENS(int, getrusage, (__rusage_who_t who, struct rusage *into), (who, into), into, sizeof *into)
+OPENS(int, uname, (struct utsname *into), (into), into, sizeof *into)
+OPENS(ssize_t, getrandom, (void *into, size_t bytes, unsigned flags), (into, bytes, flags), into, bytes)
+
+// What a device writes is as long as its number says, where that says it, and else no more than a page, behind the pointer.
+SHOWN int ioctl(int file, unsigned long number, ...)
+{
+    NEXT(int, ioctl, (int, unsigned long, void *));
+    va_list rest;
+    va_start(rest, number);
+    void *into = va_arg(rest, void *);
+    va_end(rest);
+    if (GC_is_heap_ptr(into)) mpgc_will_write(into, _IOC_SIZE(number) ? _IOC_SIZE(number) : PAGE);
+    return next(file, number, into);
+}

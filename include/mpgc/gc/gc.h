@@ -1,0 +1,2 @@
+/* For programs that say <gc/gc.h>. */
+#include "../gc.h"

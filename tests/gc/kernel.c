@@ -1,0 +1,236 @@
+/* System calls that write into the heap while a cycle marks: into pointer-free objects, and, under libmpgc.so, into ordinary ones, whose
+ * pages are closed. -DWITHOUT_SYSCALLS where the library is the archive, which has none of these functions of the C library. */
+#define _GNU_SOURCE
+#include <arpa/inet.h>
+#include <fcntl.h>
+#include <netinet/in.h>
+#include <poll.h>
+#include <signal.h>
+#include <sys/epoll.h>
+#include <sys/ioctl.h>
+#include <sys/random.h>
+#include <sys/resource.h>
+#include <sys/select.h>
+#include <sys/socket.h>
+#include <sys/stat.h>
+#include <sys/uio.h>
+#include <sys/utsname.h>
+#include <sys/vfs.h>
+#include <time.h>
+#include "check.h"
+#include "cycle.h"
+
+static int file_of(const char *text)
+{
+    int ends[2];
+    if (pipe(ends) != 0) return -1;
+    if (write(ends[1], text, strlen(text)) < 0) return -1;
+    close(ends[1]);
+    return ends[0];
+}
+
+/* Whether the way of reading puts the text there. */
+static int reads(ssize_t (*way)(int, char *), char *into)
+{
+    int file = file_of("from the kernel");
+    ssize_t n = way(file, into);
+    close(file);
+    return n == 15 && memcmp(into, "from the kernel", 15) == 0;
+}
+
+static ssize_t by_read(int file, char *into) { return read(file, into, 2000); }
+static ssize_t by_readv(int file, char *into)
+{
+    struct iovec parts[2] = { { into, 4 }, { into + 4, 500 } };
+    return readv(file, parts, 2);
+}
+static ssize_t by_fread(int file, char *into)
+{
+    FILE *stream = fdopen(dup(file), "r");
+    setvbuf(stream, NULL, _IONBF, 0);
+    size_t n = fread(into, 1, 15, stream);
+    fclose(stream);
+    return (ssize_t)n;
+}
+static ssize_t by_fread_unlocked(int file, char *into)
+{
+    FILE *stream = fdopen(dup(file), "r");
+    size_t n = fread_unlocked(into, 1, 1999, stream);
+    fclose(stream);
+    return (ssize_t)n;
+}
+
+#ifndef WITHOUT_SYSCALLS
+/* Each into an object of its own, from k on: its pages are closed when the kernel writes there. */
+static char *closed(int k) { return ordinary[k]; }
+static void *place(int k) { return ordinary[k]; }
+
+static void of_files(void)
+{
+    struct stat *s = place(150), *l = place(160), *f = place(170), *at = place(180);
+    CHECK(stat("/", s) == 0 && S_ISDIR(s->st_mode));
+    CHECK(lstat("/", l) == 0 && l->st_ino == s->st_ino);
+    CHECK(fstatat(AT_FDCWD, "/", at, 0) == 0 && at->st_ino == s->st_ino);
+    int file = open("/", O_RDONLY);
+    CHECK(fstat(file, f) == 0 && f->st_ino == s->st_ino);
+    close(file);
+    CHECK(getcwd(closed(190), 2000) == closed(190) && ordinary[190][0] == '/');
+    CHECK(readlink("/proc/self/exe", closed(200), 2000) > 0 && ordinary[200][0] == '/');
+    CHECK(readlinkat(AT_FDCWD, "/proc/self/exe", closed(205), 2000) > 0 && ordinary[205][0] == '/');
+    struct statfs *system = place(207);
+    CHECK(statfs("/", system) == 0 && system->f_bsize > 0);
+    int *ends = place(210), *more = place(215);
+    CHECK(pipe(ends) == 0 && write(ends[1], "x", 1) == 1 && pipe2(more, O_CLOEXEC) == 0 && more[1] > more[0]);
+    close(ends[0]);
+    close(ends[1]);
+    close(more[0]);
+    close(more[1]);
+}
+
+/* The names by which a program calls that was built with checks of its buffers. */
+extern ssize_t __read_chk(int, void *, size_t, size_t), __pread_chk(int, void *, size_t, off_t, size_t),
+    __pread64_chk(int, void *, size_t, off64_t, size_t), __recv_chk(int, void *, size_t, size_t, int),
+    __recvfrom_chk(int, void *, size_t, size_t, int, struct sockaddr *, socklen_t *), __readlink_chk(const char *, char *, size_t, size_t),
+    __readlinkat_chk(int, const char *, char *, size_t, size_t);
+extern size_t __fread_chk(void *, size_t, size_t, size_t, FILE *), __fread_unlocked_chk(void *, size_t, size_t, size_t, FILE *);
+extern char *__getcwd_chk(char *, size_t, size_t);
+extern int __poll_chk(struct pollfd *, nfds_t, int, size_t);
+
+static void checked(int from, int to)
+{
+    int file = open("/proc/self/exe", O_RDONLY);
+    CHECK(__read_chk(file, closed(64), 100, 2000) == 100 && memcmp(closed(64) + 1, "ELF", 3) == 0);
+    CHECK(__pread_chk(file, closed(67), 100, 1, 2000) == 100 && memcmp(closed(67), "ELF", 3) == 0);
+    CHECK(__pread64_chk(file, closed(70), 100, 1, 2000) == 100 && memcmp(closed(70), "ELF", 3) == 0);
+    FILE *stream = fdopen(file, "r");
+    rewind(stream);
+    CHECK(__fread_chk(closed(73), 2000, 1, 2000, stream) == 2000 && memcmp(closed(73) + 1, "ELF", 3) == 0);
+    CHECK(__fread_unlocked_chk(closed(76), 2000, 1, 2000, stream) == 2000);
+    fclose(stream);
+    CHECK(__readlink_chk("/proc/self/exe", closed(79), 2000, 2000) > 0 && *closed(79) == '/');
+    CHECK(__readlinkat_chk(AT_FDCWD, "/proc/self/exe", closed(82), 2000, 2000) > 0 && *closed(82) == '/');
+    CHECK(__getcwd_chk(closed(85), 2000, 2000) == closed(85) && *closed(85) == '/');
+    CHECK(send(from, "checked", 8, 0) == 8 && __recv_chk(to, closed(88), 2000, 2000, 0) == 8 && strcmp(closed(88), "checked") == 0);
+    CHECK(send(from, "checked", 8, 0) == 8 && __recvfrom_chk(to, closed(91), 2000, 2000, 0, NULL, NULL) == 8);
+    struct pollfd *wait = place(94);
+    wait->fd = from;
+    wait->events = POLLOUT;
+    CHECK(__poll_chk(wait, 1, 1000, sizeof *wait) == 1 && (wait->revents & POLLOUT));
+}
+
+static void of_sockets(int from, int to)
+{
+    struct iovec *part = place(220);
+    struct msghdr *message = place(230);
+    part->iov_base = closed(240);
+    part->iov_len = 2000;
+    message->msg_iov = part;
+    message->msg_iovlen = 1;
+    CHECK(send(from, "message", 8, 0) == 8 && recvmsg(to, message, 0) == 8 && strcmp(ordinary[240], "message") == 0);
+    CHECK(send(from, "more", 5, 0) == 5);
+    struct pollfd *wait = place(250);
+    wait->fd = to;
+    wait->events = POLLIN;
+    CHECK(poll(wait, 1, 1000) == 1 && (wait->revents & POLLIN));
+    fd_set *set = place(260);
+    FD_SET(to, set);
+    CHECK(select(to + 1, set, NULL, NULL, place(270)) == 1 && FD_ISSET(to, set));
+    struct epoll_event wanted = { .events = EPOLLIN, .data.fd = to }, *seen = place(280);
+    int queue = epoll_create1(0);
+    CHECK(epoll_ctl(queue, EPOLL_CTL_ADD, to, &wanted) == 0 && epoll_wait(queue, seen, 4, 1000) == 1 && seen->data.fd == to);
+    CHECK(epoll_pwait(queue, place(285), 4, 1000, NULL) == 1);
+    int *ends = place(345), *option = place(350);
+    socklen_t *length = place(355);
+    *length = sizeof *option;
+    CHECK(socketpair(AF_UNIX, SOCK_STREAM, 0, ends) == 0 && getsockopt(ends[0], SOL_SOCKET, SO_TYPE, option, length) == 0);
+    CHECK(*option == SOCK_STREAM && *length == sizeof *option);
+    close(ends[0]);
+    close(ends[1]);
+    close(queue);
+    CHECK(ioctl(to, FIONREAD, closed(290)) == 0 && *(int *)place(290) == 5);
+}
+
+/* A connection, whose ends tell their addresses. */
+static void of_addresses(void)
+{
+    int listening = socket(AF_INET, SOCK_STREAM | SOCK_NONBLOCK, 0), calling = socket(AF_INET, SOCK_STREAM, 0);
+    struct sockaddr_in *own = place(360), *peer = place(365), *caller = place(370);
+    socklen_t *lengths[3] = { place(375), place(380), place(385) };
+    for (int k = 0; k < 3; k++) *lengths[k] = sizeof *own;
+    struct sockaddr_in any = { .sin_family = AF_INET, .sin_addr.s_addr = htonl(INADDR_LOOPBACK) };
+    CHECK(bind(listening, (struct sockaddr *)&any, sizeof any) == 0 && listen(listening, 2) == 0);
+    CHECK(getsockname(listening, (struct sockaddr *)own, lengths[0]) == 0 && own->sin_port != 0);
+    CHECK(connect(calling, (struct sockaddr *)own, sizeof *own) == 0);
+    int accepted = accept(listening, (struct sockaddr *)caller, lengths[1]);
+    CHECK(accepted >= 0 && caller->sin_family == AF_INET);
+    CHECK(getpeername(calling, (struct sockaddr *)peer, lengths[2]) == 0 && peer->sin_port == own->sin_port);
+    close(accepted);
+    close(calling);
+    close(listening);
+}
+
+static void of_the_rest(void)
+{
+    struct timespec *time = place(310);
+    CHECK(clock_gettime(CLOCK_PROCESS_CPUTIME_ID, time) == 0 && time->tv_sec + time->tv_nsec > 0);
+    CHECK(getrandom(closed(320), 100, 0) == 100);
+    struct timespec *left = place(323), moment = { 0, 1000 };
+    CHECK(nanosleep(&moment, left) == 0);
+    struct rusage *used = place(325);
+    CHECK(getrusage(RUSAGE_SELF, used) == 0 && used->ru_maxrss > 0);
+    struct utsname *names = place(327);
+    CHECK(uname(names) == 0 && strcmp(names->sysname, "Linux") == 0);
+    CHECK(sigprocmask(SIG_BLOCK, NULL, place(340)) == 0);
+    fflush(stdout);
+    pid_t child = fork();
+    if (child == 0) _exit(7);
+    int *status = place(330);
+    CHECK(waitpid(child, status, 0) == child && WEXITSTATUS(*status) == 7);
+    int *next_status = place(335);
+    child = fork();
+    if (child == 0) _exit(9);
+    CHECK(wait(next_status) == child && WEXITSTATUS(*next_status) == 9);
+}
+#endif
+
+static void system_calls(void)
+{
+    static ssize_t (*const ways[])(int, char *) = { by_read, by_readv, by_fread, by_fread_unlocked };
+    begin();
+    for (int k = 0; k < 4; k++) {
+#ifndef WITHOUT_SYSCALLS
+        CHECK(reads(ways[k], ordinary[10 * k]));
+        CHECK(reads(ways[k], ordinary[10 * k] + 1000));
+#endif
+        CHECK(reads(ways[k], atomic[10 * k]));
+    }
+#ifndef WITHOUT_SYSCALLS
+    int ends[2];
+    CHECK(socketpair(AF_UNIX, SOCK_DGRAM, 0, ends) == 0 && send(ends[0], "by socket", 10, 0) == 10);
+    CHECK(recv(ends[1], ordinary[100], 2000, 0) == 10 && strcmp(ordinary[100], "by socket") == 0);
+    CHECK(send(ends[0], "by socket", 10, 0) == 10);
+    CHECK(recvfrom(ends[1], ordinary[120], 2000, 0, NULL, NULL) == 10 && strcmp(ordinary[120], "by socket") == 0);
+    int file = open("/proc/self/exe", O_RDONLY);
+    CHECK(pread(file, ordinary[130], 100, 1) == 100 && memcmp(ordinary[130], "ELF", 3) == 0);
+    CHECK(pread64(file, ordinary[140], 100, 1) == 100 && memcmp(ordinary[140], "ELF", 3) == 0);
+    close(file);
+    checked(ends[0], ends[1]);
+    of_files();
+    of_sockets(ends[0], ends[1]);
+    of_addresses();
+    of_the_rest();
+#endif
+    end();
+    /* What the kernel wrote over is still written to and collected as ever. */
+    *(void **)(void *)ordinary[10] = GC_malloc(50);
+    GC_gcollect();
+    CHECK(GC_base(*(void **)(void *)ordinary[10]) != NULL);
+}
+
+int main(void)
+{
+    GC_INIT();
+    GC_enable_incremental();
+    system_calls();
+    return check_ends();
+}

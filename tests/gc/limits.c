@@ -1,0 +1,178 @@
+/* Requests at the ends of what the heap can do: too large, without room, in a heap that the program made small, with a function of its own
+ * for memory that runs out; and what is counted meanwhile. Each in a child of its own, since the size of a heap is set before the first
+ * request. Over libmpgc alone: its limits are not those of bdwgc. */
+#define _GNU_SOURCE
+#define GC_OOM_FUNC_RETURNS_ALIAS
+#include <stdint.h>
+#include <sys/resource.h>
+#include "gc.h"
+#include "check.h"
+
+enum { MEGABYTE = 1 << 20 };
+static char reserve[64];
+static size_t wanted;
+
+static void *from_reserve(size_t bytes)
+{
+    wanted = bytes;
+    return reserve;
+}
+
+/* What the program's function answers is handed on as it is, whatever was asked for. */
+static int hands_on_a_reserve(void)
+{
+    volatile size_t huge = SIZE_MAX;
+    GC_set_warn_proc(GC_ignore_warn_proc);
+    GC_set_oom_fn(from_reserve);
+    GC_word kept = GC_get_non_gc_bytes();
+    if ((char *)GC_malloc_uncollectable(huge) != reserve || wanted != huge) return 1;
+    if ((char *)GC_malloc_atomic_uncollectable(huge - 7) != reserve || wanted != huge - 7) return 2;
+    if ((char *)GC_realloc(GC_malloc_atomic(40), huge) != reserve) return 3;
+    if ((char *)GC_malloc_ignore_off_page(MEGABYTE) != reserve) return 4;
+    return GC_get_non_gc_bytes() == kept ? 0 : 5;
+}
+
+/* A request that had no room is not counted, and the old object of a realloc stays. */
+static int counts_what_was_given(void)
+{
+    volatile size_t huge = SIZE_MAX / 2;
+    GC_set_warn_proc(GC_ignore_warn_proc);
+    char *old = GC_malloc(100);
+    strcpy(old, "still here");
+    size_t total = GC_get_total_bytes();
+    for (int k = 0; k < 10; k++)
+        if (GC_malloc(huge) || GC_realloc(old, huge) || GC_memalign(4096, huge) || GC_strndup(old, 3) == NULL) return 1;
+    return strcmp(old, "still here") == 0 && GC_get_total_bytes() - total < 1000 ? 0 : 2;
+}
+
+/* Each size from one word to the largest request, and one byte more. */
+static int largest_request(void)
+{
+    const size_t most = 65536 * 8 - 1; /* a byte is for a pointer past the end */
+    GC_set_warn_proc(GC_ignore_warn_proc);
+    for (size_t bytes = 1; bytes <= most; bytes = bytes * 3 / 2 + 1) {
+        char *p = GC_malloc(bytes);
+        if (!p || GC_size(p) < bytes || GC_base(p + bytes) != p) return 1;
+        memset(p, 1, bytes);
+        GC_free(p);
+    }
+    return GC_malloc(most) && !GC_malloc(most + 1) && !GC_malloc_atomic(most + 1) ? 0 : 2;
+}
+
+/* A heap without a limit of the program's, however that is said. */
+static int takes_two_megabytes(void)
+{
+    void **list = NULL;
+    for (int k = 0; k < 2000; k++) {
+        void **next = GC_malloc(1000);
+        if (!next) return 1;
+        next[0] = list;
+        list = next;
+    }
+    return 0;
+}
+static int has_no_limit(void)
+{
+    GC_set_max_heap_size((GC_word)-1);
+    return takes_two_megabytes();
+}
+static int has_no_limit_either(void)
+{
+    setenv("GC_MAXIMUM_HEAP_SIZE", "99999999999G", 1);
+    return takes_two_megabytes();
+}
+
+static int cannot_grow_so_far(void)
+{
+    GC_INIT();
+    size_t heap = GC_get_heap_size();
+    return !GC_expand_hp(SIZE_MAX) && !GC_expand_hp(SIZE_MAX - 4000) && !GC_expand_hp((size_t)1 << 40) && GC_get_heap_size() == heap ? 0 : 1;
+}
+
+/* In a heap of a megabyte, garbage of one size makes room for objects of every other, and for large ones. */
+static int room_is_for_all_sizes(void)
+{
+    static const size_t sizes[] = { 1000, 24, 300, 60, 2000, 100, 8, 40000, 500, 16, 200000, 30 };
+    GC_set_warn_proc(GC_ignore_warn_proc);
+    for (int round = 0; round < 3; round++)
+        for (size_t k = 0; k < sizeof sizes / sizeof *sizes; k++)
+            for (size_t bytes = 0; bytes < 2 * MEGABYTE; bytes += sizes[k] + 16)
+                if (!(k % 2 ? GC_malloc(sizes[k]) : GC_malloc_atomic(sizes[k]))) return (int)k + 1;
+    return GC_get_heap_size() <= MEGABYTE ? 0 : 100;
+}
+static int is_small(void)
+{
+    GC_set_max_heap_size(MEGABYTE);
+    return room_is_for_all_sizes();
+}
+static int is_small_in_steps(void)
+{
+    GC_set_max_heap_size(MEGABYTE);
+    GC_enable_incremental();
+    return room_is_for_all_sizes();
+}
+
+/* Collections are off: then only as much as fits, and more once they are on again. */
+static int is_off_and_on(void)
+{
+    GC_set_max_heap_size(MEGABYTE);
+    GC_set_warn_proc(GC_ignore_warn_proc);
+    GC_disable();
+    size_t bytes = 0;
+    while (bytes < 4 * MEGABYTE && GC_malloc(1000)) bytes += 1000;
+    if (bytes < MEGABYTE / 2 || bytes > MEGABYTE || GC_get_gc_no() != 0) return 1;
+    GC_enable();
+    return GC_malloc(1000) && GC_get_gc_no() > 0 ? 0 : 2;
+}
+
+/* Aligned memory of a page or more begins an object, so that it can be freed and grown. */
+static int pages_are_objects(void)
+{
+    for (size_t bytes = 1; bytes < 20000; bytes = bytes * 2 + 1) {
+        char *p = GC_memalign(4096, bytes), *q = GC_memalign(64, bytes + 4096);
+        if ((uintptr_t)p % 4096 != 0 || GC_base(p) != p || GC_size(p) < bytes || GC_base(q) != q) return 1;
+        p = GC_realloc(p, bytes + 5000);
+        if (!p) return 2;
+        GC_free(p);
+        GC_free(q);
+    }
+    char *p = GC_memalign(65536, 10);
+    return (uintptr_t)p % 65536 == 0 && GC_base(p) != NULL ? 0 : 3;
+}
+
+/* The stack grows past what was its end when the heap was opened. */
+static int recurse(int depth)
+{
+    volatile char frame[1000];
+    frame[0] = (char)depth;
+    if (depth == 0) GC_gcollect();
+    return (depth == 0 ? 0 : recurse(depth - 1)) + frame[0] * 0;
+}
+static int stack_may_grow(void)
+{
+    struct rlimit limit;
+    getrlimit(RLIMIT_STACK, &limit);
+    rlim_t most = limit.rlim_max;
+    limit.rlim_cur = 1 << 20;
+    setrlimit(RLIMIT_STACK, &limit);
+    GC_INIT();
+    limit.rlim_cur = most == RLIM_INFINITY || most > 8 << 20 ? 8 << 20 : most;
+    setrlimit(RLIMIT_STACK, &limit);
+    return recurse(4000);
+}
+
+int main(void)
+{
+    CHECK(status_of(hands_on_a_reserve) == 0);
+    CHECK(status_of(counts_what_was_given) == 0);
+    CHECK(status_of(largest_request) == 0);
+    CHECK(status_of(has_no_limit) == 0);
+    CHECK(status_of(has_no_limit_either) == 0);
+    CHECK(status_of(cannot_grow_so_far) == 0);
+    CHECK(status_of(is_small) == 0);
+    CHECK(status_of(is_small_in_steps) == 0);
+    CHECK(status_of(is_off_and_on) == 0);
+    CHECK(status_of(pages_are_objects) == 0);
+    CHECK(status_of(stack_may_grow) == 0);
+    return check_ends();
+}

@@ -1,0 +1,165 @@
+/* Signals that the program blocks, handles, waits for and sends, while a cycle marks: a write to a closed page is done in each case. */
+#define _GNU_SOURCE
+#include <errno.h>
+#include <poll.h>
+#include <signal.h>
+#include <sys/select.h>
+#include <sys/syscall.h>
+#include <time.h>
+#include "check.h"
+#include "cycle.h"
+
+static sigset_t all(void)
+{
+    sigset_t signals;
+    sigfillset(&signals);
+    return signals;
+}
+
+static volatile int rings;
+static void write_some(int from)
+{
+    for (int k = from; k < from + 40; k += 4) *(void **)(void *)(ordinary[k] + 8) = ordinary[(k + 7) % COUNT];
+}
+static void rings_bell(int number)
+{
+    (void)number;
+    write_some(40 * ++rings);
+}
+
+/* The handler runs with every signal blocked. */
+static void handle_with_all_blocked(void)
+{
+    struct sigaction action = { .sa_handler = rings_bell }, seen;
+    sigfillset(&action.sa_mask);
+    CHECK(sigaction(SIGUSR1, &action, NULL) == 0 && sigaction(SIGUSR1, NULL, &seen) == 0);
+    CHECK(seen.sa_handler == rings_bell && sigismember(&seen.sa_mask, SIGUSR2) && sigismember(&seen.sa_mask, SIGTERM));
+}
+
+static int writes_while_all_are_blocked(void)
+{
+    sigset_t signals = all(), old;
+    begin();
+    if (sigprocmask(SIG_SETMASK, &signals, &old) != 0) return 1;
+    write_some(0);
+    if (pthread_sigmask(SIG_BLOCK, &signals, NULL) != 0) return 2;
+    write_some(40);
+    if (pthread_sigmask(-5, &signals, NULL) != EINVAL) return 3;
+    raise(SIGUSR1);
+    sigset_t now;
+    if (sigprocmask(SIG_SETMASK, NULL, &now) != 0 || !sigismember(&now, SIGUSR1) || rings != 0) return 4;
+    if (sigprocmask(SIG_SETMASK, &old, NULL) != 0 || rings != 1) return 5;
+    end();
+    return 0;
+}
+
+static int writes_in_a_handler(void)
+{
+    begin();
+    for (int k = 0; k < 5; k++) raise(SIGUSR1);
+    end();
+    return rings == 5 ? 0 : 1;
+}
+
+/* Each way of waiting with all signals blocked but one, whose handler writes. */
+static int writes_under_a_wait(void)
+{
+    sigset_t one, others = all();
+    struct timespec second = { 1, 0 };
+    sigemptyset(&one);
+    sigaddset(&one, SIGUSR1);
+    sigdelset(&others, SIGUSR1);
+    begin();
+    sigprocmask(SIG_BLOCK, &one, NULL);
+    raise(SIGUSR1);
+    if (sigsuspend(&others) != -1 || errno != EINTR || rings != 1) return 1;
+#ifndef WITHOUT_SYSCALLS
+    raise(SIGUSR1);
+    if (ppoll(NULL, 0, &second, &others) != -1 || errno != EINTR || rings != 2) return 2;
+    raise(SIGUSR1);
+    if (pselect(0, NULL, NULL, NULL, &second, &others) != -1 || errno != EINTR || rings != 3) return 3;
+#endif
+    (void)second;
+    end();
+    return 0;
+}
+
+/* Another program started this one with every signal blocked, and told nobody. */
+static int starts_blocked(void)
+{
+    unsigned long signals = ~0ul;
+    if (syscall(SYS_rt_sigprocmask, SIG_BLOCK, &signals, NULL, sizeof signals) != 0) return 1;
+    begin();
+    write_some(0);
+    end();
+    return 0;
+}
+
+/* A SIGSEGV that someone sends is no fault: it does what the program set. */
+static int is_ignored_when_sent(void)
+{
+    signal(SIGSEGV, SIG_IGN);
+    begin();
+    raise(SIGSEGV);
+    write_some(0);
+    end();
+    return 0;
+}
+static int ends_when_sent(void)
+{
+    signal(SIGSEGV, SIG_DFL);
+    begin();
+    raise(SIGSEGV);
+    return 0;
+}
+static int is_handled_when_sent(void)
+{
+    signal(SIGSEGV, rings_bell);
+    begin();
+    raise(SIGSEGV);
+    write_some(0);
+    end();
+    return rings == 1 ? 0 : 1;
+}
+
+/* A timer's handler writes at any moment, also where the collector opens pages. */
+static volatile unsigned ticks;
+static void on_tick(int number)
+{
+    (void)number;
+    for (unsigned k = 0; k < 40; k++) *(void **)(void *)(ordinary[(k * 10 + ticks) % COUNT] + 8) = ordinary[(k + ticks) % COUNT];
+    ticks++;
+}
+static int ticks_are_harmless(void)
+{
+    struct sigevent event = { .sigev_notify = SIGEV_SIGNAL, .sigev_signo = SIGUSR2 };
+    struct itimerspec often = { { 0, 50000 }, { 0, 50000 } };
+    timer_t timer;
+    begin();
+    end();
+    signal(SIGUSR2, on_tick);
+    if (timer_create(CLOCK_MONOTONIC, &event, &timer) != 0 || timer_settime(timer, 0, &often, NULL) != 0) return 1;
+    for (int round = 0; round < 300 || ticks < 2000; round++) {
+        for (int k = 0; k < 200; k++) *(void **)(void *)ordinary[k] = GC_malloc_atomic(100);
+        GC_start_incremental_collection();
+        while (GC_collect_a_little()) continue;
+    }
+    timer_delete(timer);
+    return 0;
+}
+
+int main(void)
+{
+    GC_INIT();
+    GC_enable_incremental();
+    handle_with_all_blocked();
+    CHECK(status_of(writes_while_all_are_blocked) == 0);
+    CHECK(status_of(writes_in_a_handler) == 0);
+    CHECK(status_of(writes_under_a_wait) == 0);
+    CHECK(status_of(starts_blocked) == 0);
+    CHECK(status_of(is_ignored_when_sent) == 0);
+    CHECK(status_of(ends_when_sent) == -1);
+    CHECK(status_of(is_handled_when_sent) == 0);
+    CHECK(status_of(ticks_are_harmless) == 0);
+    return check_ends();
+}
