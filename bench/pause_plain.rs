@@ -26,6 +26,7 @@ struct Helper {
     stack: [u64; ENTRIES],
     len: usize,
     dirty: Vec<u64>,
+    carried: Vec<u64>,
 }
 
 struct Pause<'a> {
@@ -55,14 +56,35 @@ impl Pause<'_> {
         }
     }
 
-    fn visit(&self, helper: &mut Helper, word: u64) {
+    // Answers whether the word lies in the heap and points into no object.
+    fn visit(&self, helper: &mut Helper, word: u64) -> bool {
+        if word.wrapping_sub(START) >= 4_096 * self.map.len() as u64 {
+            return false;
+        }
         let Some(found) = find(self.map, word) else {
-            return;
+            return true;
         };
         let granule = granule(found.base);
         let (cell, bit) = (&self.table[granule / 64], 1 << (granule % 64));
         if cell.load(SeqCst) & bit == 0 && cell.fetch_or(bit, SeqCst) & bit == 0 {
             self.keep(helper, found);
+        }
+        false
+    }
+
+    // Reads the words of an object page by page, and carries those with a word that lies in the heap and points into nothing.
+    fn read_words(&self, helper: &mut Helper, found: Found) {
+        let (mut at, end) = (((found.base - START) / 8) as usize, ((found.base - START) / 8) as usize + found.len as usize);
+        while at < end {
+            let stop = end.min((at / 512 + 1) * 512);
+            let mut stray = false;
+            for word in &self.memory[at..stop] {
+                stray |= self.visit(helper, *word);
+            }
+            if stray {
+                set(&mut helper.carried, at / 512);
+            }
+            at = stop;
         }
     }
 
@@ -82,10 +104,7 @@ impl Pause<'_> {
         while helper.len > 0 {
             helper.len -= 1;
             let found = find(self.map, helper.stack[helper.len]).unwrap();
-            let start = ((found.base - START) / 8) as usize;
-            for word in &self.memory[start..start + found.len as usize] {
-                self.visit(helper, *word);
-            }
+            self.read_words(helper, found);
             offered = self.offer_lowest(helper, offered);
         }
     }
@@ -104,7 +123,7 @@ impl Pause<'_> {
     }
 
     fn help(&self, share: usize) -> Helper {
-        let mut helper = Helper { stack: [0; ENTRIES], len: 0, dirty: vec![0; PAGES / 64] };
+        let mut helper = Helper { stack: [0; ENTRIES], len: 0, dirty: vec![0; PAGES / 64], carried: vec![0; PAGES / 64] };
         for word in self.roots.iter().skip(share).step_by(self.helpers) {
             self.visit(&mut helper, *word);
         }
@@ -127,7 +146,11 @@ fn close_with(marker: &mut Marker, map: &[Page], memory: &[u64], roots: &[u64], 
     thread::scope(|scope| {
         let crew: Vec<_> = (0..helpers).map(|share| scope.spawn(move || pause.help(share))).collect();
         for job in crew {
-            for (word, more) in marker.dirty.iter_mut().zip(job.join().unwrap().dirty) {
+            let helper = job.join().unwrap();
+            for (word, more) in marker.dirty.iter_mut().zip(helper.dirty) {
+                *word |= more;
+            }
+            for (word, more) in marker.carried.iter_mut().zip(helper.carried) {
                 *word |= more;
             }
         }

@@ -15,7 +15,7 @@ const RECIPROCALS: [u32; CLASSES] =
     [65_536, 32_768, 21_846, 16_384, 10_923, 8_192, 5_462, 4_096, 2_731, 2_048, 1_366, 1_024, 512];
 
 const MAX_SMALL_WORDS: u64 = 256;
-const MAX_REQUEST_WORDS: u64 = 16_384;
+const MAX_REQUEST_WORDS: u64 = 65_536;
 const PAGE_WORDS: u64 = 512;
 
 // The least class that holds so many granules.

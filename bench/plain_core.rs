@@ -25,6 +25,7 @@ pub enum Refusal {
     BadSize,
     Full,
     WrongPhase,
+    NeedsFull,
 }
 
 /// The words of an attached mutator.
@@ -40,6 +41,7 @@ pub struct Core {
     space: Space,
     marker: Marker,
     is_marking: bool,
+    needs_full: bool,
     count: u64,
     root_words: Vec<u64>,
 }
@@ -67,6 +69,7 @@ impl Core {
             space: Space::new(PAGES),
             marker: Marker::new(PAGES),
             is_marking: false,
+            needs_full: true,
             count: 0,
             root_words: Vec::with_capacity(ROOT_WORDS),
         }
@@ -118,9 +121,7 @@ impl Core {
         let address = mutator.address(at, offset)?;
         self.space.find(&self.marker, address).ok_or(Refusal::NoObject)?;
         self.space.write(address, mutator.registers[from]);
-        if self.is_marking {
-            self.marker.written(address);
-        }
+        self.marker.written(address);
         Ok(())
     }
 
@@ -155,6 +156,7 @@ impl Core {
         }
         self.space.release(found);
         self.marker.freed(word);
+        self.needs_full = true;
         Ok(())
     }
 
@@ -181,6 +183,21 @@ impl Core {
         }
         self.space.sweep_all(&self.marker);
         self.marker.begin();
+        self.is_marking = true;
+        self.needs_full = false;
+        Ok(())
+    }
+
+    /// Begins a cycle with the marks of the last one.
+    pub fn begin_partial(&mut self) -> Result<(), Refusal> {
+        if self.is_marking {
+            return Err(Refusal::WrongPhase);
+        }
+        if self.needs_full {
+            return Err(Refusal::NeedsFull);
+        }
+        self.space.sweep_all(&self.marker);
+        self.marker.begin_partial();
         self.is_marking = true;
         Ok(())
     }
@@ -222,6 +239,7 @@ impl Core {
         self.write_roots();
         let gone = self.space.collect(&mut self.marker, &self.root_words);
         self.is_marking = false;
+        self.needs_full = false;
         self.count = self.count.wrapping_add(1);
         gone
     }

@@ -13,10 +13,11 @@ pub fn granule(address: u64) -> usize {
     ((address - START) / 16) as usize
 }
 
-/// Marks, dirty pages and the objects to be read, each with the number of its next word.
+/// Marks, dirty and carried pages, and the objects to be read, each with the number of its next word.
 pub struct Marker {
     pub marks: Vec<u64>,
     pub dirty: Vec<u64>,
+    pub carried: Vec<u64>,
     current: Option<(u64, u32)>,
     stack: [(u64, u32); ENTRIES],
     len: usize,
@@ -28,18 +29,28 @@ impl Marker {
         Marker {
             marks: vec![0; 4 * pages],
             dirty: vec![0; pages.div_ceil(64)],
+            carried: vec![0; pages.div_ceil(64)],
             current: None,
             stack: [(0, 0); ENTRIES],
             len: 0,
         }
     }
 
-    /// Begins a cycle: no mark, no dirty page and no entry.
+    /// Begins a cycle: no mark, no dirty or carried page and no entry.
     pub fn begin(&mut self) {
         self.marks.fill(0);
         self.dirty.fill(0);
+        self.carried.fill(0);
         self.current = None;
         self.len = 0;
+    }
+
+    /// Begins a cycle with the marks of the last one: the carried pages are dirty now, and none is carried.
+    pub fn begin_partial(&mut self) {
+        for (word, more) in self.dirty.iter_mut().zip(&self.carried) {
+            *word |= more;
+        }
+        self.carried.fill(0);
     }
 
     /// Whether the object with this base is marked.
@@ -72,26 +83,25 @@ impl Marker {
         clear(&mut self.marks, granule(base));
     }
 
+    // Answers whether the word lies in the heap and points into no object.
     #[inline]
-    fn mark_word(&mut self, map: &[Page], heap_bytes: u64, word: u64) {
-        if word.wrapping_sub(START) < heap_bytes {
-            self.mark_target(map, word);
-        }
+    fn mark_word(&mut self, map: &[Page], heap_bytes: u64, word: u64) -> bool {
+        word.wrapping_sub(START) < heap_bytes && self.mark_target(map, word)
     }
 
     // Most words point into no object, so that the loop over words is to hold the test of the range and not this.
     #[inline(never)]
-    fn mark_target(&mut self, map: &[Page], word: u64) {
+    fn mark_target(&mut self, map: &[Page], word: u64) -> bool {
         let Some(found) = find(map, word) else {
-            return;
+            return true;
         };
         let granule = granule(found.base);
         if is_set(&self.marks, granule) {
-            return;
+            return false;
         }
         set(&mut self.marks, granule);
         if found.kind == Kind::PointerFree {
-            return;
+            return false;
         }
         if self.len == ENTRIES {
             let first = (found.base - START) / 4_096;
@@ -103,12 +113,18 @@ impl Marker {
             self.stack[self.len] = (found.base, 0);
             self.len += 1;
         }
+        false
     }
 
+    // The words stand on one page.
     fn mark_words(&mut self, map: &[Page], heap_bytes: u64, memory: &[u64], base: u64, first: u32, count: u64) {
         let start = ((base - START) / 8) as usize + first as usize;
+        let mut stray = false;
         for word in &memory[start..start + count as usize] {
-            self.mark_word(map, heap_bytes, *word);
+            stray |= self.mark_word(map, heap_bytes, *word);
+        }
+        if stray {
+            set(&mut self.carried, start / 512);
         }
     }
 
@@ -141,7 +157,8 @@ impl Marker {
             if read == budget {
                 return read;
             }
-            let count = u64::from(found.len - next).min(budget - read);
+            let on_page = 512 - ((found.base - START) / 8 + u64::from(next)) % 512;
+            let count = u64::from(found.len - next).min(budget - read).min(on_page);
             self.mark_words(map, heap_bytes, memory, found.base, next, count);
             self.current = Some((found.base, next + count as u32));
             read += count;

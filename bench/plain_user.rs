@@ -157,6 +157,21 @@ impl User {
         while self.mark_on() {}
     }
 
+    /// Begins a cycle, with the marks of the last one if it is a partial one, and marks till nothing is left to read.
+    /// Answers how many words were read off entries.
+    #[inline(never)]
+    pub fn mark_cycle(&mut self, is_partial: bool) -> u64 {
+        let _begun = if is_partial { self.core.begin_partial() } else { self.core.begin() };
+        let _read = self.core.roots();
+        let mut read: u64 = 0;
+        loop {
+            read = read.wrapping_add(self.core.mark(u64::MAX).unwrap_or(0));
+            if !matches!(self.core.retrace(), Ok(1)) {
+                return read;
+            }
+        }
+    }
+
     /// Ends the cycle, and answers how many objects went.
     #[inline(never)]
     pub fn finish(&mut self) -> u64 {

@@ -1,0 +1,52 @@
+//! What a user of a heap compares: `peers HEAP ROW` prints `PICOSECONDS ANSWER` of a row on a heap of its own, or nothing where the heap
+//! has no such thing. HEAP is `proved`, `independent` or, where it was built in, `bdwgc`. Times are the thread's own on its processor.
+#[cfg(bdwgc)]
+mod bdwgc;
+mod independent;
+mod proved;
+mod rows;
+
+/// A heap for one thread whose objects are where their addresses say, with 16 roots. Words of an object are read by pointers.
+pub trait Heap {
+    /// Whether the marking can be had in steps.
+    const HAS_CYCLES: bool;
+
+    /// A heap of so many pages of 4,096 bytes.
+    fn open(pages: u32) -> Self;
+
+    /// The base of a new object of at least so many words, which the root then is; 0 where there is no room.
+    fn alloc(&mut self, root: usize, words: u64, pointer_free: bool) -> u64;
+
+    fn set_root(&mut self, root: usize, word: u64);
+
+    /// Writes a word of an object.
+    fn store(&mut self, at: u64, word: u64);
+
+    fn begin(&mut self);
+
+    /// Marks all that roots lead to.
+    fn mark_all(&mut self);
+
+    /// Ends the cycle; how many objects went.
+    fn finish(&mut self) -> u64;
+
+    /// Sweeps what is left to sweep.
+    fn sweep_all(&mut self);
+
+    /// A whole collection at once; how many objects went, if the heap tells.
+    fn collect(&mut self) -> u64;
+}
+
+fn main() {
+    let words: Vec<String> = std::env::args().collect();
+    let told = match words[1].as_str() {
+        "proved" => rows::run::<proved::Proved>(&words[2]),
+        "independent" => rows::run::<independent::Independent>(&words[2]),
+        #[cfg(bdwgc)]
+        "bdwgc" => rows::run::<bdwgc::Bdwgc>(&words[2]),
+        _ => None,
+    };
+    if let Some((picoseconds, answer)) = told {
+        println!("{picoseconds} {answer}");
+    }
+}
