@@ -1,109 +1,72 @@
 #!/usr/bin/env bash
-# By hand: what holds where memory is refused. It needs cc, and what it runs: the tests of test_core, test_shared, test_workloads and
-# test_command_line ('rt test' there), and the proved programs (of mpheap './mpheap build', of replay and record 'rt run' there).
-# First each request of a run is refused alone, the first, the second and on until a run asks for no more. Then the test of the hidden
-# pointer runs with each request refused from the K-th on: once a heap is open its calls need no memory.
+# What holds where memory is refused, in the programs and the tests that 'rt ci' left: each request of a run is refused alone, the
+# first, the second and on until a run asks for no more. And a row's calls on an open heap ask for none. It needs cc.
 set -uo pipefail
-top=$(dirname "$(dirname "$(readlink -f "${BASH_SOURCE[0]}")")")
-crates=$top/crates
-room=$(mktemp -d)
-trap 'rm -rf "$room"' EXIT
-failed=0
+kind="refused memory"
+# shellcheck source=tests/refused/parts.sh
+. "$(dirname "$(readlink -f "${BASH_SOURCE[0]}")")/refused/parts.sh"
 
-cat >"$room/refuse.c" <<'C'
-#include <stdatomic.h>
-#include <stdlib.h>
-#include <unistd.h>
-
-void *__libc_malloc(size_t size);
-void *__libc_realloc(void *old, size_t size);
-
-static atomic_long asked;
-
-// A byte is written for each request that is refused.
-static int is_refused(void) {
-    const char *at = getenv("REFUSE_AT");
-    const char *from = getenv("REFUSE_FROM");
-    long number = atomic_fetch_add(&asked, 1) + 1;
-    if (!(at && number == atol(at)) && !(from && number >= atol(from))) return 0;
-    return write(3, ".", 1) == 1;
-}
-
-void *malloc(size_t size) { return is_refused() ? NULL : __libc_malloc(size); }
-
-void *realloc(void *old, size_t size) { return is_refused() ? NULL : __libc_realloc(old, size); }
-C
-cc -shared -fPIC -O1 -o "$room/refuse.so" "$room/refuse.c" || exit 1
-
-wrong() {
-    echo "refused memory: $*"
-    failed=1
-}
-
-# refuse SETTING WORDS..: the words, where the requests of this setting are refused; how they end, what they write, and how
-# many were refused. A gate of a test gives up on an actor that never starts only after ten million looks.
-refuse() {
-    timeout 300 env LD_PRELOAD="$room/refuse.so" "$@" >"$room/out" 2>"$room/err" 3>"$room/refused" </dev/null
-    status=$?
-    said=$(cat "$room/err")
-    refused=$(wc -c <"$room/refused")
-}
-
-# each_alone WHAT HOLDS WORDS..: the words, with each request refused alone, up to one that never comes. HOLDS says of each run
-# whether it ended well.
+# each_alone WHAT WANTED ENDS WORDS..: the words, with each request refused alone, up to one that never comes. ENDS prints how a run
+# ended, WANTED if it ended well, and so has the last one, with status 0.
 each_alone() {
-    what=$1
-    holds=$2
-    shift 2
-    if [ ! -x "$1" ]; then
-        wrong "$1 is not built"
-        return
-    fi
-    count=0
-    for at in $(seq 1 9999); do
-        refuse "REFUSE_AT=$at" "$@"
-        "$holds" || wrong "$what, request $at: status $status, $said"
+    local what=$1 wanted=$2 ends=$3 at
+    shift 3
+    is_there "$1" || return
+    for at in $(seq 9999); do
+        refuse 60 "REFUSE_AT=$at" "$@"
+        is "$what, request $at" "$wanted" "$("$ends")"
         [ "$refused" = 1 ] || break
-        count=$((count + 1))
     done
-    [ "$status $refused" = "0 0" ] || wrong "$what, with none refused: status $status, $said"
+    is "$what, with none refused" 0 "$status"
     # A test of a name that isn't there asks for nothing.
-    [ "$count" -gt 0 ] || wrong "$what: no request was refused"
-    echo "$what: $count requests, each refused alone"
+    [ "$at" -gt 1 ] || is "$what: requests" some none
+    echo "$kind: $what: $((at - 1)) requests, each refused alone"
 }
 
-passes() { [ "$status" = 0 ]; }
+# What a test says of it is in the test: only the usual answer, or that memory is out and then the usual one from the same call.
+passes() { echo "$status"; }
 
-# Either all lines are there, or `no memory` is said, and what is there is whole lines of them.
-answers() {
-    case $status in
-    0) [ -z "$said" ] && cmp -s "$room/out" "$lines" ;;
-    1) [ "$said" = "no memory" ] && head -n "$(wc -l <"$room/out")" "$lines" | cmp -s - "$room/out" ;;
-    *) false ;;
-    esac
+# all_or_none: either all lines are there, or `no memory` is said, and nothing is there.
+all_or_none() {
+    if { [ "$status" = 0 ] && [ -z "$said" ] && cmp -s "$room/out" "$lines"; } ||
+        { [ "$status" = 1 ] && [ "$said" = "no memory" ] && [ ! -s "$room/out" ]; }; then
+        echo well
+    else
+        echo "status $status, $said"
+    fi
 }
 
-tests() { each_alone "$1 $2" passes "$crates/$1/out/$1_tests" "$2"; }
+# The same, but for whole lines that are there before `no memory` is said.
+all_or_first() {
+    if [ "$status" = 1 ] && head -n "$(wc -l <"$room/out")" "$lines" | cmp -s - "$room/out"; then
+        : >"$room/out"
+    fi
+    all_or_none
+}
 
-# program NAME LINES WORDS..: the proved program, which is to print these lines.
+tests() { each_alone "$1 $2" 0 passes "$crates/$1/out/$1_tests" "$2"; }
+
+# program NAME ENDS LINES WORDS..: the program, which is to print these lines.
 program() {
-    lines=$2
-    each_alone "$1 ${*:3}" answers "$crates/$1/out/$1" "${@:3}"
+    local what=$1
+    lines=$3
+    [[ $4 == --* ]] || what="$1 $4"
+    each_alone "$what" well "$2" "$crates/$1/out/$1" "${@:4}"
 }
 
-# The hidden pointer's test fails while a request of `open` is refused, since there is no heap. The first run that doesn't has to pass,
-# with every request after `open` refused.
+# While a request of `open` is refused there is no heap, and the test of the hidden pointer fails for want of it. The first run that
+# passes, with every request from there on refused, made none.
 after_open() {
-    for from in $(seq 1 999); do
-        refuse "REFUSE_FROM=$from" "$crates/test_shared/out/test_shared_tests" rows::the_hidden_pointer_stays
-        echo "refused from request $from on: status $status, $refused refused"
-        if passes; then return; fi
-        if ! grep -q 'a heap' "$room/out" "$room/err"; then
-            wrong "not for want of a heap: $said"
-            return
-        fi
+    local from tests=$crates/test_shared/out/test_shared_tests
+    is_there "$tests" || return
+    for from in $(seq 999); do
+        refuse 60 "REFUSE_FROM=$from" "$tests" rows::the_hidden_pointer_stays
+        [ "$status" != 0 ] || break
+        is "request $from is one of open" yes "$(grep -q 'a heap' "$room/out" "$room/err" && echo yes)"
     done
-    wrong "no run passed"
+    is "a heap that is open: status, requests" "0 0" "$status $refused"
+    [ "$from" -gt 1 ] || is "requests of open" some none
+    echo "$kind: $((from - 1)) requests of open, and none of a row's calls behind it"
 }
 
 tests test_core opening::a_refused_heap_can_be_opened_again
@@ -113,9 +76,14 @@ tests test_shared helped::refused_memory
 tests test_workloads script_faults::refused_memory
 tests test_workloads failures::refused_memory
 tests test_workloads pause::refused_memory
+tests test_workloads refused_helpers::refused_thread
 tests test_command_line runs::refused_memory
-program mpheap "$top/examples/first.replies" run --pages 4 "$top/examples/first.script"
-program replay "$crates/replay/stdout" --pages 1 "$crates/replay/data/first.replay"
-program record "$crates/record/stdout" --pages 1 "$crates/record/data/first.script"
+program mpheap all_or_none "$top/examples/hidden_pointer.replies" run --pages 4 "$top/examples/hidden_pointer.script"
+program mpheap all_or_none "$top/examples/two_threads.replies" threads --pages 4 --helpers 2 "$top/examples/two_threads.workload"
+# What a random script is to be is told by test_workloads; here it is the one that is written where none is refused.
+"$crates/mpheap/out/mpheap" stress --seed 1 --mutators 2 --steps 100 >"$room/stress"
+program mpheap all_or_none "$room/stress" stress --seed 1 --mutators 2 --steps 100
+program replay all_or_first "$crates/replay/stdout" --pages 1 "$crates/replay/data/first.replay"
+program record all_or_first "$crates/record/stdout" --pages 1 "$crates/record/data/first.script"
 after_open
-exit "$failed"
+close

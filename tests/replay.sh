@@ -29,7 +29,7 @@ faults_are_told() {
     printf 'attach\n\377\n' | case_is no_text 1 "" --pages 1 {}
     case_is no_file 1 "" --pages 1 not.there </dev/null
     case_is no_page 2 "" --pages 0 {} </dev/null
-    case_is many_pages 2 "" --pages 1025 {} </dev/null
+    case_is many_pages 2 "" --pages 4097 {} </dev/null
     case_is few_words 2 "" --pages 1 </dev/null
 }
 
@@ -50,12 +50,29 @@ example_block() {
 
 written_runs_are_judged() {
     open_cases replay
-    example_block 1 | case_is legal 0 legal --pages 1 {}
-    example_block 1 | sed '7s/ - .*//' | case_is unnamed 0 legal --pages 1 {}
+    example_block 1 | case_is legal 0 "legal, 9 lines" --pages 1 {}
+    example_block 1 | sed '7s/ - .*//' | case_is unnamed 0 "legal, 9 lines" --pages 1 {}
+    example_block 1 | sed '3s/^/# a comment\n/' | case_is comment 0 "legal, 9 lines" --pages 1 {}
+    example_block 1 | sed '3s/^/#\n/; 7s/=>.*//' | case_is broken_behind 2 "line 8: not a line of a run" --pages 1 {}
+    case_is empty 2 "no lines" --pages 1 {} </dev/null
+    lines "# a recorder that died" | case_is comments_alone 2 "no lines" --pages 1 {}
     example_block 1 | sed '7s/=>.*/=> 0 -/' | case_is breaks 1 "$(example_block 2)" --pages 1 {}
     example_block 1 | sed '7s/=>.*//' | case_is broken 2 "line 7: not a line of a run" --pages 1 {}
+    foreign_runs_are_judged
     faults_are_told
     run_cases
+}
+
+# Runs of the hobby collector in examples/c, as it stands and with each of its bugs: its .expected has what is said of each,
+# behind the number of the bug.
+foreign_runs_are_judged() {
+    local bug said source=$top/examples/c/foreign_heap
+    for bug in 0 1 2 3 4 5 6 7 8; do
+        cc -std=c99 -Wall -Wextra -Werror -pedantic -g -fsanitize=address,undefined -fno-sanitize-recover=all "-DBUG=$bug" \
+            "$source.c" -o "$room/foreign_heap" || failed=1
+        said=$(sed -n "s/^$bug: //p" "$source.expected")
+        "$room/foreign_heap" | case_is "foreign_$bug" "$((bug > 0))" "$said" --pages 4 {}
+    done
 }
 
 runs_are_written() {

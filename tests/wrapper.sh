@@ -166,8 +166,8 @@ words_stay_as_they_are() {
     is "a random script has no FILE" "$(lines stress --seed 1 --mutators 2 --steps 4)" "$(words)"
     call stress --seed 18446744073709551615 --mutators 16 --steps 100000
     is "the greatest numbers" "$(lines stress --seed 18446744073709551615 --mutators 16 --steps 100000)" "$(words)"
-    call run --pages 1024 first.script
-    is "the greatest heap" "$(lines run --pages 1024 /dev/stdin)" "$(words)"
+    call run --pages 4096 first.script
+    is "the greatest heap" "$(lines run --pages 4096 /dev/stdin)" "$(words)"
     rm run 4 ./--pages
 }
 
@@ -203,11 +203,11 @@ wrong_words_are_told() {
     refused 2 "bad command" "'--version' is no command" --version
     refused 2 "bad command" "'run' lacks '--pages'" run
     refused 2 "bad command" "'--pages' lacks its number" run --pages
-    refused 2 "bad command" "'four' is no number for '--pages': 1 to 1024, in decimal" run --pages four
-    refused 2 "bad command" "'' is no number for '--pages': 1 to 1024, in decimal" run --pages=
-    refused 2 "bad command" "'0' is no number for '--pages': 1 to 1024, in decimal" run --pages 0
-    refused 2 "bad command" "'04' is no number for '--pages': 1 to 1024, in decimal" run --pages 04
-    refused 2 "bad command" "'1025' is no number for '--pages': 1 to 1024, in decimal" run --pages 1025
+    refused 2 "bad command" "'four' is no number for '--pages': 1 to 4096, in decimal" run --pages four
+    refused 2 "bad command" "'' is no number for '--pages': 1 to 4096, in decimal" run --pages=
+    refused 2 "bad command" "'0' is no number for '--pages': 1 to 4096, in decimal" run --pages 0
+    refused 2 "bad command" "'04' is no number for '--pages': 1 to 4096, in decimal" run --pages 04
+    refused 2 "bad command" "'4097' is no number for '--pages': 1 to 4096, in decimal" run --pages 4097
     refused 2 "bad command" "'--pages' is given twice" run --pages 4 --pages 4
     refused 2 "bad command" "'b' is a second FILE, behind 'a'" run --pages 4 a b
     refused 2 "bad command" "'run' has no option '--page'" run --page 4
@@ -220,7 +220,7 @@ wrong_words_are_told() {
         stress --seed 18446744073709551616 --mutators 1 --steps 0
     refused 2 "replay --pages N FILE" "'--pages' has to be the first word behind 'replay'" replay first.script --pages 4
     refused 2 "record --pages N FILE" "'record' takes a number of pages and one FILE" record --pages 4
-    refused 2 "replay --pages N FILE" "'0' is no number for '--pages': 1 to 1024, in decimal" replay --pages 0 first.script
+    refused 2 "replay --pages N FILE" "'0' is no number for '--pages': 1 to 4096, in decimal" replay --pages 0 first.script
 }
 
 # The limits that the wrapper knows are those of the program.

@@ -3,7 +3,7 @@
 # that a program takes is refused here; what it refuses is refused with its own last line and its own status.
 
 # The limits of the numbers, as crates/words/src/limits.rt and crates/workloads/src/limits.rt have them.
-most_pages=1024
+most_pages=4096
 most_helpers=8
 most_mutators=16
 most_steps=100000
