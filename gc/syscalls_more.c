@@ -5,6 +5,7 @@
 // blocked don't block faults (masks.c).
 #include "next.h"
 #include <poll.h>
+#include <spawn.h>
 #include <stdarg.h>
 #include <sys/epoll.h>
 #include <sys/ioctl.h>
@@ -94,6 +95,14 @@ SHOWN pid_t wait4(pid_t child, int *status, int flags, struct rusage *used)
 }
 
 SHOWN pid_t wait3(int *status, int flags, struct rusage *used) { return wait4(-1, status, flags, used); }
+
+// The C library writes the child's number while it blocks every signal, so also faults.
+#define SPAWNS(name) \
+    OPENS(int, name, (pid_t *restrict child, const char *restrict file, const posix_spawn_file_actions_t *restrict actions, \
+                      const posix_spawnattr_t *restrict attributes, char *const words[restrict], char *const variables[restrict]), \
+          (child, file, actions, attributes, words, variables), child, sizeof *child)
+SPAWNS(posix_spawn)
+SPAWNS(posix_spawnp)
 
 static void will_write_sets(fd_set *to_read, fd_set *to_write, fd_set *others)
 {
