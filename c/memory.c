@@ -88,12 +88,16 @@ void rattle_dealloc(void *at) {
 }
 
 /* The library clears a heap's words before anything else is done with them. Written, each page of them would have to be found by
- * the kernel at once, however small the program. Each new object is cleared by a call of this too, so it is quick. */
-void *mpheap_memset(void *at, int byte, size_t bytes) {
-    if (at != first_address()) return memset(at, byte, bytes);
+ * the kernel at once, however small the program. */
+static void *set_first(int byte, size_t bytes) {
     bool is_zero = byte == 0 && bytes <= untouched;
     untouched = 0;
-    return is_zero ? at : memset(at, byte, bytes);
+    return is_zero ? first_address() : memset(first_address(), byte, bytes);
+}
+
+/* Each new object is cleared by a call of this too, so it does nothing first but look at the address. */
+void *mpheap_memset(void *at, int byte, size_t bytes) {
+    return at == first_address() ? set_first(byte, bytes) : memset(at, byte, bytes);
 }
 
 /* Whether what is mapped are the heap's words: a word that is stored into a new object stands at its address. The object and

@@ -1,4 +1,4 @@
-// The C library's sigaction and signal, for the program's own handler of faults: the barrier's stays in front of it, so that no fault of a
+// The C library's sigaction and signal, also by its old names, for the program's own handler of faults: the barrier's stays in front of it, so that no fault of a
 // closed page reaches a handler that knows nothing of it, and the program is told the handler that it had set itself. Handlers of other
 // signals run without faults being blocked (masks.c), and else as ever. Trusted, not proved.
 //
@@ -25,3 +25,14 @@ SHOWN __sighandler_t signal(int number, __sighandler_t handler)
     if (number == SIGSEGV && mpgc_swap_handler(&next, &old)) return old.sa_handler;
     return ssignal(number, handler);
 }
+
+SHOWN __sighandler_t bsd_signal(int number, __sighandler_t handler);
+SHOWN __sighandler_t bsd_signal(int number, __sighandler_t handler) { return signal(number, handler); }
+
+// The handler is for one signal, and others of its kind come in while it runs.
+SHOWN __sighandler_t sysv_signal(int number, __sighandler_t handler)
+{
+    struct sigaction next = { .sa_handler = handler, .sa_flags = (int)(SA_RESETHAND | SA_NODEFER) }, old;
+    return sigaction(number, &next, &old) == 0 ? old.sa_handler : SIG_ERR;
+}
+SHOWN __sighandler_t __sysv_signal(int number, __sighandler_t handler) { return sysv_signal(number, handler); }

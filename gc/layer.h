@@ -46,7 +46,7 @@ struct layer {
     uint8_t kind[MAX_PAGES];           // enum page_kind
     volatile uint8_t is_closed[MAX_PAGES];
     volatile uint8_t is_noted[MAX_PAGES];
-    uint64_t uncollectable[MAX_PAGES * PAGE / GRANULE / 64];  // a bit a granule, at the bases of such objects
+    _Atomic uint64_t uncollectable[MAX_PAGES * PAGE / GRANULE / 64];  // a bit a granule, at the bases of such objects
     unsigned long cycles, full, faults;
     double longest_cycle_end, longest_full, full_time;  // microseconds
 };
@@ -121,7 +121,7 @@ HIDDEN bool mpgc_is_uncollectable(uintptr_t base);
 HIDDEN void mpgc_set_uncollectable(uintptr_t base, bool on);
 
 // roots.c
-HIDDEN bool mpgc_read_roots(void);
+HIDDEN void mpgc_read_roots(void);
 HIDDEN bool mpgc_from_here(bool (*work)(void *), void *data);
 HIDDEN void mpgc_find_stack(void);
 HIDDEN char *mpgc_stack_bottom(void);

@@ -55,7 +55,7 @@ void mpgc_set_uncollectable(uintptr_t base, bool on)
     size_t granule = (base - FIRST) / GRANULE;
     uint64_t bit = (uint64_t)1 << granule % 64;
     if (on)
-        mpgc.uncollectable[granule / 64] |= bit;
+        atomic_fetch_or(&mpgc.uncollectable[granule / 64], bit);
     else
-        mpgc.uncollectable[granule / 64] &= ~bit;
+        atomic_fetch_and(&mpgc.uncollectable[granule / 64], ~bit);
 }

@@ -28,7 +28,7 @@
 // So many neighbouring pages are closed at once before one of them is read again.
 enum { RUN = 32 };
 
-static size_t lowest_open;  // while a cycle marks, no open page of ordinary objects lies below
+static atomic_size_t lowest_open;  // while a cycle marks, no open page of ordinary objects lies below
 static size_t closing;      // so far pages were closed for the next cycle
 static size_t opening;      // so far pages were opened after the last one
 
@@ -69,10 +69,17 @@ void mpgc_tell_noted(void)
     }
 }
 
+// In one step, whatever a handler of the program opens meanwhile.
+static void lower_to(size_t page)
+{
+    size_t seen = lowest_open;
+    while (page < seen && !atomic_compare_exchange_weak(&lowest_open, &seen, page)) continue;
+}
+
 // A handler of the program may write there at any moment: so a page counts as closed until it is open.
 static void open_page(size_t page)
 {
-    if (page < lowest_open) lowest_open = page;
+    lower_to(page);
     set_access(page, 1, PROT_READ | PROT_WRITE);
     mpgc.is_closed[page] = 0;
 }
@@ -132,11 +139,12 @@ void mpgc_tell_open(void)
     lowest_open = 0;
 }
 
-// To be called before each mpheap_retrace.
+// To be called before each mpheap_retrace, under blocked signals.
 void mpgc_close_lowest(void)
 {
-    while (lowest_open < mpgc.size && !is_to_close(lowest_open)) lowest_open++;
-    if (lowest_open < mpgc.size) lowest_open = close_run(lowest_open, RUN);
+    size_t page = lowest_open;
+    while (page < mpgc.size && !is_to_close(page)) page++;
+    lowest_open = page < mpgc.size ? close_run(page, RUN) : page;
 }
 
 // No cycle marks: what is closed is opened again.
@@ -175,7 +183,7 @@ void mpgc_leave_open(void)
 void mpgc_holds_ordinary(size_t page)
 {
     if (mpgc.is_closed[page]) return;
-    if (page < lowest_open) lowest_open = page;
+    lower_to(page);
     tell_now(page);
 }
 

@@ -50,9 +50,7 @@ static inline uint32_t ask_within(size_t words, enum page_kind kind, uint64_t *b
 
 static void *out_of_memory(size_t bytes)
 {
-    static bool was_said;
-    if (!was_said) GC_get_warn_proc()("GC Warning: Out of Memory! Heap size: %lu MiB. Returning NULL!\n", mpgc.limit * PAGE >> 20);
-    was_said = true;
+    GC_get_warn_proc()("GC Warning: Out of Memory! Heap size: %lu MiB. Returning NULL!\n", mpgc.size * PAGE >> 20);
     return GC_oom_fn ? GC_oom_fn(bytes) : NULL;
 }
 
@@ -117,7 +115,7 @@ void *GC_memalign(size_t align, size_t bytes)
     if (align <= PAGE && (align > PAGE / 2 || bytes > PAGE / 2)) return GC_malloc(bytes > PAGE / 2 ? bytes : PAGE / 2 + 1);
     if (bytes > SIZE_MAX - align) return out_of_memory(bytes);
     char *object = GC_malloc(bytes + align - 1);
-    return object ? object + (-(uintptr_t)object & (align - 1)) : NULL;
+    return mpgc_is_inside((uintptr_t)object) ? object + (-(uintptr_t)object & (align - 1)) : object;
 }
 
 int GC_posix_memalign(void **result, size_t align, size_t bytes)
@@ -227,7 +225,10 @@ __attribute__((visibility("default"))) wchar_t *GC_wcsdup(const wchar_t *text)
 {
     size_t bytes = (wcslen(text) + 1) * sizeof *text;
     wchar_t *copy = GC_malloc_atomic(bytes);
-    if (copy) memcpy(copy, text, bytes);
+    if (copy)
+        memcpy(copy, text, bytes);
+    else
+        errno = ENOMEM;
     return copy;
 }
 

@@ -31,7 +31,6 @@ static const char *stack_low, *stack_bottom, *stack_top;
 // The stacks that are filled.
 static uint8_t slots[ROOT_SLOTS];
 static size_t attached, filling, depth;
-static bool has_overflowed;
 
 static void must(uint32_t status)
 {
@@ -48,10 +47,8 @@ static void empty_stacks(void)
 // What the stacks hold is marked, and they are empty again.
 static void mark_stacks(void)
 {
-    if (!mpheap_is_marking(&mpgc.heap)) must(mpheap_begin(&mpgc.heap));
     must(mpheap_roots(&mpgc.heap));
     empty_stacks();
-    has_overflowed = true;
 }
 
 static void push(uint64_t word)
@@ -152,13 +149,11 @@ static void scan_uncollectable(void)
             push(FIRST + (k * 64 + (size_t)__builtin_ctzll(bits)) * GRANULE);
 }
 
-// The roots are in the stacks, or, where it answers true, were more than these hold: then a cycle marks, and those that aren't in
-// the stacks are marked. Signals are blocked.
-bool mpgc_read_roots(void)
+// The roots are in the stacks, or, where they are more than these hold, marked. A cycle is marking, and signals are blocked.
+void mpgc_read_roots(void)
 {
     size_t objects = 0;
     mpgc_call_begins();
-    has_overflowed = false;
     must(mpheap_set(&mpgc.heap, mpgc.slot, 0, 0));
     must(mpheap_set(&mpgc.heap, mpgc.slot, 1, 0));
     empty_stacks();
@@ -167,7 +162,6 @@ bool mpgc_read_roots(void)
     for (size_t k = 0; k < added.count; k++) scan(added.at[k].from, added.at[k].to);
     scan_uncollectable();
     mpgc_call_ends();
-    return has_overflowed;
 }
 
 // Where the main thread's stack began.

@@ -5,6 +5,7 @@
 // blocked don't block faults (masks.c).
 #include "next.h"
 #include <poll.h>
+#include <spawn.h>
 #include <stdarg.h>
 #include <sys/epoll.h>
 #include <sys/ioctl.h>
@@ -13,6 +14,7 @@
 #include <sys/select.h>
 #include <sys/socket.h>
 #include <sys/time.h>
+#include <sys/times.h>
 #include <sys/uio.h>
 #include <sys/utsname.h>
 #include <sys/wait.h>
@@ -41,6 +43,7 @@ SHOWN ssize_t recvfrom(int file, void *into, size_t bytes, int flags, __SOCKADDR
 SHOWN ssize_t recvmsg(int file, struct msghdr *message, int flags)
 {
     NEXT(ssize_t, recvmsg, (int, struct msghdr *, int));
+    if (!message) return next(file, message, flags);
     mpgc_will_write(message, sizeof *message);
     mpgc_will_write(message->msg_name, message->msg_namelen);
     mpgc_will_write(message->msg_control, message->msg_controllen);
@@ -81,6 +84,25 @@ OPENS(int, epoll_wait, (int file, struct epoll_event *events, int most, int time
       most > 0 ? (size_t)most * sizeof *events : 0)
 OPENS(pid_t, wait, (int *status), (status), status, sizeof *status)
 OPENS(pid_t, waitpid, (pid_t child, int *status, int flags), (child, status, flags), status, sizeof *status)
+OPENS(int, waitid, (idtype_t which, id_t child, siginfo_t *into, int flags), (which, child, into, flags), into, sizeof *into)
+
+SHOWN pid_t wait4(pid_t child, int *status, int flags, struct rusage *used)
+{
+    NEXT(pid_t, wait4, (pid_t, int *, int, struct rusage *));
+    mpgc_will_write(status, sizeof *status);
+    mpgc_will_write(used, sizeof *used);
+    return next(child, status, flags, used);
+}
+
+SHOWN pid_t wait3(int *status, int flags, struct rusage *used) { return wait4(-1, status, flags, used); }
+
+// The C library writes the child's number while it blocks every signal, so also faults.
+#define SPAWNS(name) \
+    OPENS(int, name, (pid_t *restrict child, const char *restrict file, const posix_spawn_file_actions_t *restrict actions, \
+                      const posix_spawnattr_t *restrict attributes, char *const words[restrict], char *const variables[restrict]), \
+          (child, file, actions, attributes, words, variables), child, sizeof *child)
+SPAWNS(posix_spawn)
+SPAWNS(posix_spawnp)
 
 static void will_write_sets(fd_set *to_read, fd_set *to_write, fd_set *others)
 {
@@ -125,6 +147,12 @@ SHOWN int epoll_pwait(int file, struct epoll_event *events, int most, int timeou
 // Times, and what the system tells of itself.
 OPENS(int, clock_gettime, (clockid_t clock, struct timespec *into), (clock, into), into, sizeof *into)
 OPENS(int, nanosleep, (const struct timespec *wanted, struct timespec *left), (wanted, left), left, sizeof *left)
+OPENS(clock_t, times, (struct tms *into), (into), into, sizeof *into)
+OPENS(int, getitimer, (__itimer_which_t which, struct itimerval *into), (which, into), into, sizeof *into)
+OPENS(int, setitimer, (__itimer_which_t which, const struct itimerval *restrict next_one, struct itimerval *restrict old),
+      (which, next_one, old), old, sizeof *old)
+OPENS(int, getrlimit, (__rlimit_resource_t which, struct rlimit *into), (which, into), into, sizeof *into)
+OPENS(int, getrlimit64, (__rlimit_resource_t which, struct rlimit64 *into), (which, into), into, sizeof *into)
 OPENS(int, getrusage, (__rusage_who_t who, struct rusage *into), (who, into), into, sizeof *into)
 OPENS(int, uname, (struct utsname *into), (into), into, sizeof *into)
 OPENS(ssize_t, getrandom, (void *into, size_t bytes, unsigned flags), (into, bytes, flags), into, bytes)

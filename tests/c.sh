@@ -41,14 +41,15 @@ has() {
 # The proved library. Where rt ci was the last to prove the crates below, they lie there without rt's stamps: then this crate
 # alone is proved over them, by the very command that rt gives, so that they aren't proved again.
 build_library() {
-    local kit uses=() below=() dep
+    local kit uses=() below=() deps dep
     mkdir -p "$crate/out"
     if [ -f "$top/crates/heap_core/out/rlib/stamp" ] || [ ! -d "$top/crates/heap_core/out/rlib/heap_core.rlib" ]; then
         (cd "$crate" && rt lib) >"$room/built" 2>&1
         return
     fi
     kit=$(dirname "$(rt doc)")
-    for dep in $(sed -n 's/^mpheap_c staticlib: *//p' "$top/crates.txt"); do
+    read -ra deps < <(sed -n 's/^mpheap_c staticlib: *//p' "$top/crates.txt")
+    for dep in "${deps[@]}"; do
         if [ -d "$top/crates/$dep" ]; then dep=$dep=$top/crates/$dep/out/rlib/$dep.rlib; else dep=$dep=$kit/rlibs/$dep.rlib; fi
         uses+=(--extern "$dep")
     done
@@ -102,9 +103,10 @@ counts_well() {
     local status=0 line
     "$@" >"$room/out" 2>&1 || status=$?
     line=$(tail -n 1 "$room/out")
-    case $line in
-        *": "*" passed, 0 failed") [ $status = 0 ] && passed=$((passed + $(echo "$line" | sed 's/.*: \([0-9]*\) passed.*/\1/'))) && return ;;
-    esac
+    if [ $status = 0 ] && [[ $line =~ :\ ([0-9]+)\ passed,\ 0\ failed$ ]]; then
+        passed=$((passed + BASH_REMATCH[1]))
+        return
+    fi
     is "$(basename "$1") ${*:2}" "no failure" "status $status: $(tail -n 20 "$room/out")"
 }
 

@@ -61,10 +61,11 @@ fails() {
 # planted EDIT: one file of the layer with a fault, under the test that has to notice it. `test:` names it, and settings; `file:` the
 # file; `old:` a text that stands once there, and `new:` what stands in its place.
 planted() {
-    local name file test words=() setting
+    local name file test words=() setting=()
     name=$(basename "$1" .edit)
     file=$(sed -n 's/^file: //p' "$1")
-    read -r test setting <<<"$(sed -n 's/^test: //p' "$1")"
+    read -ra setting <<<"$(sed -n 's/^test: //p' "$1")"
+    test=${setting[0]}
     [ "$test" = shadow ] && words=(3 300000)
     if ! awk -v "old=$(sed -n 's/^old: //p' "$1" | sed 's/\\/\\\\/g')" -v "new=$(sed -n 's/^new: //p' "$1" | sed 's/\\/\\\\/g')" '
         { at = index($0, old) }
@@ -76,7 +77,7 @@ planted() {
     fi
     if cc -std=c11 -O1 -w -fvisibility=hidden "-I$top/include/mpgc" "-I$include" "-I$top/gc" "$room/$name.c" "$top/tests/gc/$test.c" \
         "$room"/syscalls*.o "$room/libmpgc.a" -pthread -o "$room/planted_$name" 2>"$room/said"; then
-        fails "planted fault $name under $test" env $setting "$room/planted_$name" "${words[@]}"
+        fails "planted fault $name under $test" env "${setting[@]:1}" "$room/planted_$name" "${words[@]}"
     else
         is "planted fault $name is built" yes "$(head -n 3 "$room/said")"
     fi
@@ -103,6 +104,8 @@ nm -D --defined-only "$room/libmpgc.so" | awk '{print $3}' | sort >"$room/names"
 grep -o '\bGC_[a-z_0-9]*(' "$top/include/mpgc/gc.h" | tr -d '(' | grep -v '^GC_alloc_lock$\|^GC_alloc_unlock$' | sort -u |
     comm -23 - "$room/names" | grep -v '^GC_\(reachable_here\)$' >"$room/missing"
 is "names of the header" "" "$(cat "$room/missing")"
+sed -n 's/^GC_API [^()]*[ *]\(GC_[a-z_]*\);.*/\1/p' "$top/include/mpgc/gc.h" | sort | comm -23 - "$room/names" >"$room/missing"
+is "variables of the header" "" "$(cat "$room/missing")"
 bdw=$(ldconfig -p | awk '/libgc\.so\.1 / {print $NF; exit}')
 if [ -n "$bdw" ]; then
     nm -D --defined-only "$bdw" | awk '$2 == "T" {print $3}' | sort | comm -23 - "$room/names" >"$room/missing"
@@ -112,7 +115,7 @@ else
 fi
 
 # Each function, each place of roots, and what stands round the barrier.
-for test in functions settings limits links roots barrier kernel signals shadow; do
+for test in functions settings limits links roots barrier kernel signals process shadow; do
     "${c[@]}" "$top/tests/gc/$test.c" "-L$room" -lmpgc "-Wl,-rpath,$room" -pthread -o "$room/$test" 2>"$room/said"
     is "$test is built" "" "$(cat "$room/said")"
 done
@@ -128,6 +131,11 @@ counted "roots, in small steps" env INCREMENTAL=1 "$room/roots"
 counted barrier "$room/barrier"
 counted "kernel" "$room/kernel"
 counted "signals" "$room/signals"
+"${c[@]}" -shared -fPIC "$top/tests/gc/loaded.c" -o "$room/loaded.so" 2>"$room/said"
+is "an object to be loaded is built" "" "$(cat "$room/said")"
+counted "process" "$room/process" "$room/loaded.so"
+"${c[@]}" -no-pie "$top/tests/gc/process.c" "-L$room" -lmpgc "-Wl,-rpath,$room" -o "$room/fixed" 2>"$room/said"
+counted "process, at fixed addresses" "$room/fixed" "$room/loaded.so"
 for test in barrier kernel signals; do
     if "${c[@]}" -DWITHOUT_SYSCALLS "$top/tests/gc/$test.c" "$room/libmpgc.a" -pthread -o "$room/archived" 2>"$room/said"; then
         counted "$test, of the archive" "$room/archived"
@@ -172,7 +180,7 @@ done
 for edit in "$top"/tests/gc/planted/*.edit; do planted "$edit"; done
 
 # Under AddressSanitizer and UndefinedBehaviorSanitizer. The stack is read word by word, so frames stay on it.
-sanitizers=(-fsanitize=address,undefined -fno-sanitize-recover=undefined -g)
+sanitizers=("-fsanitize=address,undefined" -fno-sanitize-recover=undefined -g)
 if echo 'int main(void) { return 0; }' | cc "${sanitizers[@]}" -x c - -o "$room/sanitized" 2>"$room/said" && "$room/sanitized"; then
     build "$room/sane" "${sanitizers[@]}"
     export ASAN_OPTIONS=detect_stack_use_after_return=0:detect_leaks=0:allow_user_segv_handler=1

@@ -9,43 +9,35 @@ use std::fmt;
 use std::marker::PhantomData;
 use std::ptr::null_mut;
 
-/// Why a call is refused. A refused call has changed nothing.
-#[derive(Clone, Copy, Debug, PartialEq, Eq)]
-pub enum Refusal {
-    NoSlot = 1,
-    Misaligned,
-    NoObject,
-    NotBase,
-    BadSize,
-    Full,
-    StackFull,
-    StackEmpty,
-    WrongPhase,
-    LinksFull,
-    NotPointerFree,
-    NeedsFull,
-    BadNumber = 100,
-    BadPages,
-    NoMemory,
+macro_rules! refusals {
+    ($($name:ident = $status:literal,)*) => {
+        /// Why a call is refused. A refused call has changed nothing.
+        #[derive(Clone, Copy, Debug, PartialEq, Eq)]
+        pub enum Refusal {
+            $($name = $status,)*
+        }
+
+        const REFUSALS: &[Refusal] = &[$(Refusal::$name,)*];
+    };
 }
 
-const REFUSALS: [Refusal; 15] = [
-    Refusal::NoSlot,
-    Refusal::Misaligned,
-    Refusal::NoObject,
-    Refusal::NotBase,
-    Refusal::BadSize,
-    Refusal::Full,
-    Refusal::StackFull,
-    Refusal::StackEmpty,
-    Refusal::WrongPhase,
-    Refusal::LinksFull,
-    Refusal::NotPointerFree,
-    Refusal::NeedsFull,
-    Refusal::BadNumber,
-    Refusal::BadPages,
-    Refusal::NoMemory,
-];
+refusals! {
+    NoSlot = 1,
+    Misaligned = 2,
+    NoObject = 3,
+    NotBase = 4,
+    BadSize = 5,
+    Full = 6,
+    StackFull = 7,
+    StackEmpty = 8,
+    WrongPhase = 9,
+    LinksFull = 10,
+    NotPointerFree = 11,
+    NeedsFull = 12,
+    BadNumber = 100,
+    BadPages = 101,
+    NoMemory = 102,
+}
 
 impl fmt::Display for Refusal {
     fn fmt(&self, f: &mut fmt::Formatter<'_>) -> fmt::Result {
@@ -87,8 +79,8 @@ fn done(status: u32) -> Result<()> {
     if status == 0 {
         return Ok(());
     }
-    let refusal = REFUSALS.into_iter().find(|&refusal| refusal as u32 == status);
-    Err(refusal.expect("a status of mpheap.h"))
+    let refusal = REFUSALS.iter().find(|&&refusal| refusal as u32 == status);
+    Err(*refusal.expect("a status of mpheap.h"))
 }
 
 // A call that answers a word through its last parameter.

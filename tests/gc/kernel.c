@@ -14,6 +14,8 @@
 #include <sys/socket.h>
 #include <sys/stat.h>
 #include <sys/uio.h>
+#include <sys/time.h>
+#include <sys/times.h>
 #include <sys/utsname.h>
 #include <sys/vfs.h>
 #include <time.h>
@@ -169,6 +171,16 @@ static void of_addresses(void)
     close(listening);
 }
 
+static void of_times_and_limits(void)
+{
+    CHECK(times(place(388)) > 0);
+    struct rlimit *limit = place(390);
+    CHECK(getrlimit(RLIMIT_STACK, limit) == 0 && limit->rlim_cur > 0);
+    struct itimerval late = { { 0, 0 }, { 1000, 0 } }, never = { { 0, 0 }, { 0, 0 } }, *left = place(392), *was = place(394);
+    CHECK(setitimer(ITIMER_VIRTUAL, &late, NULL) == 0 && getitimer(ITIMER_VIRTUAL, left) == 0 && left->it_value.tv_sec > 0);
+    CHECK(setitimer(ITIMER_VIRTUAL, &never, was) == 0 && was->it_value.tv_sec > 0);
+}
+
 static void of_the_rest(void)
 {
     struct timespec *time = place(310);
@@ -181,6 +193,7 @@ static void of_the_rest(void)
     struct utsname *names = place(327);
     CHECK(uname(names) == 0 && strcmp(names->sysname, "Linux") == 0);
     CHECK(sigprocmask(SIG_BLOCK, NULL, place(340)) == 0);
+    of_times_and_limits();
     fflush(stdout);
     pid_t child = fork();
     if (child == 0) _exit(7);
@@ -190,6 +203,14 @@ static void of_the_rest(void)
     child = fork();
     if (child == 0) _exit(9);
     CHECK(wait(next_status) == child && WEXITSTATUS(*next_status) == 9);
+    siginfo_t *ended = place(396);
+    child = fork();
+    if (child == 0) _exit(5);
+    CHECK(waitid(P_PID, (id_t)child, ended, WEXITED) == 0 && ended->si_status == 5);
+    int *last_status = place(398);
+    child = fork();
+    if (child == 0) _exit(6);
+    CHECK(wait3(last_status, 0, place(342)) == child && WEXITSTATUS(*last_status) == 6);
 }
 #endif
 

@@ -3,8 +3,10 @@
  * request. Over libmpgc alone: its limits are not those of bdwgc. */
 #define _GNU_SOURCE
 #define GC_OOM_FUNC_RETURNS_ALIAS
+#include <errno.h>
 #include <stdint.h>
 #include <sys/resource.h>
+#define GC_REQUIRE_WCSDUP
 #include "gc.h"
 #include "check.h"
 
@@ -29,6 +31,7 @@ static int hands_on_a_reserve(void)
     if ((char *)GC_malloc_atomic_uncollectable(huge - 7) != reserve || wanted != huge - 7) return 2;
     if ((char *)GC_realloc(GC_malloc_atomic(40), huge) != reserve) return 3;
     if ((char *)GC_malloc_ignore_off_page(MEGABYTE) != reserve) return 4;
+    if ((char *)GC_memalign(65536, MEGABYTE) != reserve) return 6;
     return GC_get_non_gc_bytes() == kept ? 0 : 5;
 }
 
@@ -43,6 +46,59 @@ static int counts_what_was_given(void)
     for (int k = 0; k < 10; k++)
         if (GC_malloc(huge) || GC_realloc(old, huge) || GC_memalign(4096, huge) || GC_strndup(old, 3) == NULL) return 1;
     return strcmp(old, "still here") == 0 && GC_get_total_bytes() - total < 1000 ? 0 : 2;
+}
+
+/* What no heap has: the largest numbers, and products of them that wrap to small ones. */
+extern void *GC_calloc_explicitly_typed(size_t count, size_t bytes, GC_word type);
+static int refuses_what_cannot_be(void)
+{
+    static const size_t numbers[] = { SIZE_MAX, SIZE_MAX - 1, SIZE_MAX - 7, SIZE_MAX - 15, SIZE_MAX / 2 + 1, SIZE_MAX / 8 + 2 };
+    void *result = reserve;
+    GC_set_warn_proc(GC_ignore_warn_proc);
+    for (size_t k = 0; k < sizeof numbers / sizeof *numbers; k++) {
+        volatile size_t huge = numbers[k];
+        if (GC_malloc(huge) || GC_malloc_atomic(huge) || GC_malloc_uncollectable(huge) || GC_malloc_atomic_uncollectable(huge)) return 1;
+        if (GC_malloc_ignore_off_page(huge) || GC_malloc_atomic_ignore_off_page(huge) || GC_malloc_stubborn(huge)) return 2;
+        if (GC_memalign(16, huge) || GC_memalign(4096, huge) || GC_memalign(MEGABYTE, huge) || GC_memalign(huge, 10)) return 3;
+        if (GC_realloc(NULL, huge) || GC_posix_memalign(&result, 64, huge) != ENOMEM || result != reserve) return 4;
+        if (GC_calloc_explicitly_typed(huge, 16, 0) || GC_calloc_explicitly_typed(16, huge, 0)) return 5;
+    }
+    if (GC_calloc_explicitly_typed((size_t)1 << 62, 4, 0) || GC_calloc_explicitly_typed((size_t)1 << 61, 24, 0)) return 6;
+    return GC_calloc_explicitly_typed(3, 8, 0) ? 0 : 7;
+}
+
+/* A text that is too long leaves ENOMEM, as its kin of the C library do. */
+static int long_texts_leave_errno(void)
+{
+    static char text[MEGABYTE];
+    static wchar_t wide[MEGABYTE / 4];
+    GC_set_warn_proc(GC_ignore_warn_proc);
+    memset(text, 'x', sizeof text - 1);
+    for (size_t k = 0; k < MEGABYTE / 4 - 1; k++) wide[k] = L'x';
+    errno = 0;
+    if (GC_strdup(text) || errno != ENOMEM) return 1;
+    errno = 0;
+    if (GC_strndup(text, sizeof text) || errno != ENOMEM) return 2;
+    errno = 0;
+    return !GC_wcsdup(wide) && errno == ENOMEM ? 0 : 3;
+}
+
+/* The program's function is warned of each refusal, also where another one was told of earlier ones. */
+static int warnings;
+static void count_warning(char *format, GC_word number)
+{
+    (void)format;
+    (void)number;
+    warnings++;
+}
+static int warns_each_time(void)
+{
+    volatile size_t huge = SIZE_MAX / 4;
+    GC_set_warn_proc(GC_ignore_warn_proc);
+    if (GC_malloc(huge)) return 1;
+    GC_set_warn_proc(count_warning);
+    if (GC_malloc(huge) || GC_malloc_atomic(huge)) return 2;
+    return warnings == 2 ? 0 : 3;
 }
 
 /* Each size from one word to the largest request, and one byte more. */
@@ -165,6 +221,9 @@ int main(void)
 {
     CHECK(status_of(hands_on_a_reserve) == 0);
     CHECK(status_of(counts_what_was_given) == 0);
+    CHECK(status_of(refuses_what_cannot_be) == 0);
+    CHECK(status_of(long_texts_leave_errno) == 0);
+    CHECK(status_of(warns_each_time) == 0);
     CHECK(status_of(largest_request) == 0);
     CHECK(status_of(has_no_limit) == 0);
     CHECK(status_of(has_no_limit_either) == 0);

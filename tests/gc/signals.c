@@ -122,6 +122,22 @@ static int is_handled_when_sent(void)
     return rings == 1 ? 0 : 1;
 }
 
+/* The old names of signal: their handlers too stand behind the barrier, and System V's for one signal. */
+extern __sighandler_t bsd_signal(int number, __sighandler_t handler);
+static int old_names_are_behind_the_barrier(void)
+{
+    begin();
+    if (bsd_signal(SIGSEGV, SIG_IGN) == SIG_ERR || sysv_signal(SIGSEGV, rings_bell) != SIG_IGN) return 1;
+    write_some(0);
+    if (rings != 0) return 2;
+    raise(SIGSEGV);
+    if (rings != 1) return 3;
+    if (__sysv_signal(SIGSEGV, SIG_IGN) != SIG_DFL) return 4;
+    write_some(200);
+    end();
+    return 0;
+}
+
 /* A timer's handler writes at any moment, also where the collector opens pages. */
 static volatile unsigned ticks;
 static void on_tick(int number)
@@ -160,6 +176,7 @@ int main(void)
     CHECK(status_of(is_ignored_when_sent) == 0);
     CHECK(status_of(ends_when_sent) == -1);
     CHECK(status_of(is_handled_when_sent) == 0);
+    CHECK(status_of(old_names_are_behind_the_barrier) == 0);
     CHECK(status_of(ticks_are_harmless) == 0);
     return check_ends();
 }
