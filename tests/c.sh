@@ -193,6 +193,30 @@ seeds() {
     for seed in $(seq 200); do echo "$seed $((seed % 5 + 1)) $((seed % 7 * 60 + 40)) $((seed % 9 + 1))"; done
 }
 
+# The worked rows of test_workloads, each line NAME, PAGES, SCRIPT and REPLIES behind tabs, the texts as the sources write them.
+rows() {
+    local most
+    most=$(sed -n 's/^pub const MAX_PAGES: u32 = \([0-9_]*\);/\1/p' "$top/crates/words/src/limits.rt")
+    sed -n -e "s/pages: MAX_PAGES,/pages: $most,/" -e 's/^ *\(pages\): \([0-9_]*\),$/\1\t\2/p' \
+        -e 's/^ *\(name\|script\|replies\): "\(.*\)",$/\1\t\2/p' "$top"/crates/test_workloads/src/*.rt | awk -F '\t' '
+        { has[$1] = $2 }
+        $1 != "replies" { next }
+        has["pages"] && "script" in has { gsub("_", "", has["pages"]); print has["name"] "\t" has["pages"] "\t" has["script"] "\t" has["replies"] }
+        { delete has }'
+}
+
+# Each worked row's replies through the calls of C. Nobody but its writer has made them.
+rows_have_their_replies() {
+    local row name pages script replies count=0
+    while IFS= read -r row; do
+        # Tabs are no blanks here: a text may be empty.
+        IFS=$'\x1f' read -r name pages script replies <<<"${row//$'\t'/$'\x1f'}"
+        is "row $name through C" "$(printf '%b' "$replies")" "$(printf '%b' "$script" | "$room/script" "$pages" 2>&1)"
+        count=$((count + 1))
+    done < <(rows)
+    is "rows enough" yes "$([ $count -ge 70 ] && echo yes)"
+}
+
 # The proved program's replies to random scripts, which it writes too, and those through C. rt ci and mpheap build make it.
 random_scripts_have_the_same_replies() {
     local program=$top/crates/mpheap/out/mpheap seed mutators steps pages differ=0
@@ -241,6 +265,7 @@ misuse_is_stopped
 valgrind_sees_nothing
 words_are_written_by_pointers
 examples_have_their_replies
+rows_have_their_replies
 random_scripts_have_the_same_replies
 programs_run "${sanitizers[@]}"
 words_are_written_by_pointers
