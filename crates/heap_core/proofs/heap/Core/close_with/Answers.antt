@@ -12,7 +12,7 @@ pub invariant_of-self : goal.invariant_of-self
 invariant_of-self g c =
     let e : c.as_slice.result.now ≡ root_words_of c.self.inside.roots = c.as_slice.ensures.value ∙ c.write_words.ensures in
     let closes = c.close_with.ensures in
-    legal_on _ _ c.self.invariant (traced_on _ _ _ _ c.self.invariant.traced c.close_with.ensures.traces) _
+    legal_on _ _ c.self.invariant (traced_on _ _ _ _ c.self.invariant.traced c.close_with.ensures.traces) (root_words_of c.self.inside.roots)
     (marks_on _ _ _ closes.lawful.map (c.self.invariant.traced.swept c.if-not-self.false) (λ w h. h)
     (subst (λ rs. Traces (found_in c.self.inside.objects.states) c.self.inside.objects.words rs c.self.inside.marker c.close_with.new.marker) e closes.traces))
 
