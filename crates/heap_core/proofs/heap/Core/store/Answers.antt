@@ -35,6 +35,10 @@ write-requires-clause-object c = (
       (sym c.in_ok-find_in.ensures.ok)).0,
 )
 
+pub note_write-requires-clause-low : goal.note_write-requires-clause-low
+note_write-requires-clause-low c =
+    (is_word _ _ (kept_map _ _ _ c.in_ok-find_in.ensures.lawful.map) _ c.in_ok-find_in.ensures.long _ c.in_ok-find_in.field-0 (sym c.in_ok-find_in.ensures.ok) c.if-target-ne0.false).above
+
 pub note_write-requires-clause-inside : goal.note_write-requires-clause-inside
 note_write-requires-clause-inside c =
     let here = is_word _ _ (kept_map _ _ _ c.in_ok-find_in.ensures.lawful.map) _ c.in_ok-find_in.ensures.long _ c.in_ok-find_in.field-0 (sym c.in_ok-find_in.ensures.ok) c.if-target-ne0.false in
