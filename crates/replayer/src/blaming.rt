@@ -40,10 +40,15 @@ impl Replayer {
             return None;
         };
         match event {
-            Event::Attach | Event::Mutator(_, _) => None,
-            Event::Begin | Event::BeginPartial => None,
-            Event::Roots | Event::Mark(_) | Event::Retrace | Event::Sweep => None,
+            Event::Attach => None,
+            Event::Mutator(_, _) => None,
+            Event::Begin => None,
+            Event::BeginPartial => None,
+            Event::Roots => None,
+            Event::Mark(_) => None,
+            Event::Retrace => None,
             Event::Finish => self.wrong_finish(bases),
+            Event::Sweep => None,
             Event::Collect => self.wrong_collect(bases),
             Event::Number => None,
         }

@@ -1,4 +1,4 @@
-use Rattle.plain_core.proofs.Wrongs.{FlaggedSoFar}
+use Rattle.plain_core.proofs.Lowest.{FlaggedSoFar}
 use Rattle.plain_core.proofs.wrongs.mark_flagged.Given as goal
 
 -- so far

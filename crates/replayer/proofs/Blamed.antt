@@ -1,6 +1,7 @@
 -- What is wrong about the objects that a collection is said to have forgotten, from what the core tells.
-use Rattle.std.proofs.Common.{◌≡◌, ℕ, true, false, Bool, List, sym, ◌∙◌}
+use Rattle.std.proofs.Common.{◌≡◌, ℕ, true, false, Bool, List, refl, sym, ◌∙◌}
 use Rattle.std.specs.Prelude.{Option, Some, None}
+use Rattle.std.specs.Borrow.{Bor}
 use Rattle.std.proofs.lemmas.Bool.{true≢false}
 use Rattle.heap_spec.specs.Heap.{Heap, Object}
 use Rattle.heap_spec.specs.Closure.{Reached}
@@ -11,9 +12,11 @@ use Rattle.plain_core.specs.declared.wrongs.Wrong.{Wrong}
 use Rattle.plain_core.specs.declared.wrongs.Wrong.TheVariants.{IsMissing, StandsTwice, HasToStay, HasToGo}
 use Rattle.plain_core.specs.Flags.{IsFlagged}
 use Rattle.plain_core.specs.Wrongs.{IsWrong, TellsLowest, TellsUncollected, TellsUnforgotten}
-use Rattle.plain_core.proofs.Wrongs.{alike}
+use Rattle.plain_core.proofs.Lowest.{alike}
+use Rattle.replayer.specs.declared.hint.Hint.{Hint}
+use Rattle.replayer.specs.declared.hint.Hint.TheVariants.{Nothing, Place, Forgot}
 use Rattle.replayer.specs.Contents.{Contents, Follows}
-use Rattle.replayer.specs.Wrongs.{IsWrongFinish, IsWrongCollect}
+use Rattle.replayer.specs.Wrongs.{IsWrongFinish, IsWrongCollect, IsWrongHint, IsWrongOf, TellsWrong}
 
 module _ (r : Contents) (start : Start) (run : Run) (f : Follows r start run) where
   -- no cycle is marking
@@ -41,3 +44,25 @@ module _ (r : Contents) (start : Start) (run : Run) (f : Follows r start run) wh
 
 pub collect_wrong : (r : Contents) (bases : List ℕ) (wrong : Option Wrong) → TellsUncollected r.core bases wrong → (start : Start) (run : Run) → Follows r start run → TellsLowest (IsWrongCollect start run bases) wrong
 collect_wrong r bases wrong tells start run f = tells (heap_after start run) f.stands
+
+-- a hint that names no bases says nothing wrong
+silent : (hint : Hint) → ((bases : Bor (List ℕ)) → hint ≡ Forgot bases → ⊥) → (Holds : List ℕ → Wrong → Type 0) (x : Wrong) → IsWrongHint Holds hint x → ⊥
+silent Nothing none Holds x h = h
+silent (Place base) none Holds x h = h
+silent (Forgot bases) none Holds x h = none bases refl
+
+silent_event : (start : Start) (run : Run) (event : Event) (hint : Hint) → ((Holds : List ℕ → Wrong → Type 0) (x : Wrong) → IsWrongHint Holds hint x → ⊥) → (x : Wrong) → IsWrongOf start run event hint x → ⊥
+silent_event start run Attach hint none x h = h
+silent_event start run (Mutator slot call) hint none x h = h
+silent_event start run Begin hint none x h = h
+silent_event start run BeginPartial hint none x h = h
+silent_event start run Roots hint none x h = h
+silent_event start run (Mark n) hint none x h = h
+silent_event start run Retrace hint none x h = h
+silent_event start run Finish hint none x h = none (IsWrongFinish start run) x h
+silent_event start run Sweep hint none x h = h
+silent_event start run Collect hint none x h = none (IsWrongCollect start run) x h
+silent_event start run Number hint none x h = h
+
+pub unnamed : (r : Contents) (event : Event) (hint : Hint) → ((bases : Bor (List ℕ)) → hint ≡ Forgot bases → ⊥) → TellsWrong r event hint None
+unnamed r event hint none = λ start run f x h. silent_event start run event hint (silent hint none) x h
