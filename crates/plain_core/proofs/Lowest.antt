@@ -152,6 +152,15 @@ flagged_more row flags done e b marks short there yes no before i f lt at = ⊎_
     (λ off. old.0 (sym value ∙ off), λ out. value ∙ old.1 out))
     (cases_eq i done)
 
+-- the same, by equations
+pub named_are : (row row' : List Extent) (marks : List Bool) (bases : List ℕ) (r : Option Wrong) → row ≡ row' → TellsLowest (IsBelow (IsNamedAt row marks bases) (length bases)) r → TellsLowest (IsBelow (IsNamedAt row' marks bases) (length bases)) r
+named_are row row' marks bases r eo low = subst (λ o. TellsLowest (IsBelow (IsNamedAt o marks bases) (length bases)) r) eo low
+
+pub left_are : (row row' : List Extent) (marks marks' stays stays' : List Bool) (r : Option Wrong) → row ≡ row' → marks ≡ marks' → stays ≡ stays' → TellsLowest (IsBelow (IsLeftAt row marks stays) (length row)) r
+    → TellsLowest (IsBelow (IsLeftAt row' marks' stays') (length row')) r
+left_are row row' marks marks' stays stays' r eo em es low =
+    subst (λ x. TellsLowest (IsBelow (IsLeftAt row' marks' x) (length row')) r) es (subst (λ m. TellsLowest (IsBelow (IsLeftAt row' m stays) (length row')) r) em (subst (λ o. TellsLowest (IsBelow (IsLeftAt o marks stays) (length o)) r) eo low))
+
 -- What is wrong in the row is what is wrong in a heap that the core stands for.
 module _ (c : Contents) (sound : IsLaidOut c) (marks : List Bool) (m : MarksReached (root_words_of c.roots) c.words c.objects marks) (bases : List ℕ) (stays : List Bool) (unset : AreUnset c.objects bases stays) where
   module _ (s : Heap) (h : StandsFor c s) (kept : List Bool) (Goes : ℕ → Object → Type 0) (goes : (i : ℕ) (e : Extent) (o : Object) → slice_get c.objects i ≡ Some e → HasObject s e.base o → (get_or kept i false ≡ false) ↔ Goes e.base o) where
