@@ -7,7 +7,7 @@ use Rattle.plain_core.proofs.wrongs.lowest_named.Goals as goal
 
 pub loop-index-preserved : goal.loop-index-preserved
 loop-index-preserved c = (
-  below_one _ _ _ _ _ c.loop-index.invariant.0 c.named_at.ensures c.lower.ensures,
+  below_one _ _ _ _ _ c.loop-index.invariant.0 c.named_at.ensures c.lower-lowest.ensures,
   subst (λ l. AreUnset c.args.objects.now l c.unset_one.new.flags.items) (sym (take_more c.args.bases.now c.loop-index.index _ c.loop-index-test.true)) (c.unset_one.ensures.unset _ c.loop-index.invariant.1),
   c.unset_one.ensures.size ∙ c.loop-index.invariant.2,
 )
