@@ -4,6 +4,7 @@
 
 mod calls;
 mod collections;
+mod cycles;
 mod figures;
 mod heap;
 mod locked;
@@ -22,6 +23,7 @@ fn main(rt: HostRuntime) -> io::Result<()> {
     marks::measure(&rt, rt.alloc())?;
     calls::measure(&rt, rt.alloc())?;
     collections::measure(&rt, rt.alloc())?;
+    cycles::measure(&rt, rt.alloc())?;
     marking::measure(&rt, rt.alloc())?;
     pause::measure(&rt, rt.alloc())?;
     locked::measure(&rt, rt.alloc())?;

@@ -168,6 +168,26 @@ impl User {
         }
     }
 
+    /// Begins a cycle, with the marks of the last one if it is a partial one, and marks till nothing is left to read.
+    /// Answers how many words were read off entries.
+    #[inline(never)]
+    pub(crate) fn mark_cycle(&mut self, is_partial: bool) -> u64 {
+        let _begun = if is_partial {
+            self.core.begin_partial()
+        } else {
+            self.core.begin()
+        };
+        let _read = self.core.roots();
+        let mut read: u64 = 0;
+        for _ in 0..u64::MAX {
+            read = read.wrapping_add(self.core.mark(u64::MAX).unwrap_or(0));
+            if !matches!(self.core.retrace(), Ok(1)) {
+                break;
+            }
+        }
+        read
+    }
+
     /// Ends the cycle, and answers how many objects went.
     pub(crate) fn finish(&mut self) -> u64 {
         self.core.finish().unwrap_or(0)
