@@ -42,10 +42,13 @@ marking_text r = some_text entries_text (codes "entries") r.entries ++ (some_tex
     ++ (some_text flag_text (codes "phase") r.is_marking ++ (some_text number_text (codes "count") r.count
     ++ some_text reads_text (codes "read") r.read)))
 
+-- all that changes
+abbrev pub changes_text : Record → List ℕ
+changes_text r = objects_text r ++ (sets_text r ++ (words_text r ++ marking_text r))
+
 -- The line of a command, its reply, and what is different after it.
 abbrev pub record_text : List ℕ → List ℕ → Record → List ℕ
-record_text command reply r = codes "{\"c\":\"" ++ (command ++ (codes "\",\"r\":\"" ++ (reply ++ (codes "\"" ++ (objects_text r
-    ++ (sets_text r ++ (words_text r ++ (marking_text r ++ codes "}"))))))))
+record_text command reply r = codes "{\"c\":\"" ++ (command ++ (codes "\",\"r\":\"" ++ (reply ++ (codes "\"" ++ (changes_text r ++ codes "}")))))
 
 -- The first line: a title, the pages of the heap, and how many records follow.
 abbrev pub head_text : List ℕ → ℕ → ℕ → List ℕ

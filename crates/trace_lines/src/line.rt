@@ -1,6 +1,6 @@
 //! The lines of a trace.
 ghost use Rattle.std.specs.Prelude.{◌≡◌, ◌++◌, IfOk, OnOk, string_bytes};
-ghost use Rattle.trace_lines.specs.Records.{head_text, marking_text, objects_text, record_text, sets_text, words_text};
+ghost use Rattle.trace_lines.specs.Records.{changes_text, head_text, marking_text, objects_text, record_text, sets_text, words_text};
 
 use crate::keys::{put_any, put_key, put_some};
 use crate::record::Record;
@@ -52,6 +52,16 @@ fn put_marking(behind: &mut String, alloc: Global, changes: &Record) -> Result<(
     put_some(behind, alloc, "read", &changes.read)
 }
 
+// Puts behind a text what is different.
+fn put_changes(behind: &mut String, alloc: Global, changes: &Record) -> Result<(), AllocError>
+    ensures { OnOk result (string_bytes behind.new ≡ string_bytes behind.old ++ changes_text changes.now) }
+{
+    put_objects(behind, alloc, changes)?;
+    put_sets(behind, alloc, changes)?;
+    put_words(behind, alloc, changes)?;
+    put_marking(behind, alloc, changes)
+}
+
 /// The line of a command, its reply, and what is different after it, without a newline. Neither text may have a character
 /// that JSON would write otherwise.
 ///
@@ -66,10 +76,7 @@ pub fn record_line(
     ensures { IfOk result (λ line. string_bytes line ≡ record_text command.now reply.now changes.now) }
 {
     let mut line = format!(in alloc; "{{\"c\":\"{command}\",\"r\":\"{reply}\"")?;
-    put_objects(&mut line, alloc, changes)?;
-    put_sets(&mut line, alloc, changes)?;
-    put_words(&mut line, alloc, changes)?;
-    put_marking(&mut line, alloc, changes)?;
+    put_changes(&mut line, alloc, changes)?;
     line.push_str("}")?;
     Ok(line)
 }

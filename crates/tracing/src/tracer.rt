@@ -33,6 +33,7 @@ pub struct Tracer {
 }
 
 // What an event may change, before it happens.
+#[derive(Clone, Copy)]
 struct Before {
     register: Option<RegisterWord>,
     global: Option<Numbered>,
