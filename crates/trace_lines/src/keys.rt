@@ -15,7 +15,12 @@ pub(crate) fn put_key(behind: &mut String, key: &str) -> Result<(), AllocError>
 }
 
 /// Puts a key with its list behind a text, if the list has any item.
-pub(crate) fn put_any<T: Shown>(behind: &mut String, alloc: Global, key: &str, items: &[T]) -> Result<(), AllocError>
+pub(crate) fn put_any<T: Shown>(
+    behind: &mut String,
+    alloc: Global,
+    key: &str,
+    items: &[T],
+) -> Result<(), AllocError>
     ensures { OnOk result (string_bytes behind.new ≡ string_bytes behind.old ++ any_text T.text key.now items.now) }
 {
     if items.is_empty() {
@@ -26,7 +31,12 @@ pub(crate) fn put_any<T: Shown>(behind: &mut String, alloc: Global, key: &str, i
 }
 
 /// Puts a key with its value behind a text, if there is a value.
-pub(crate) fn put_some<T: Shown>(behind: &mut String, alloc: Global, key: &str, value: &Option<T>) -> Result<(), AllocError>
+pub(crate) fn put_some<T: Shown>(
+    behind: &mut String,
+    alloc: Global,
+    key: &str,
+    value: &Option<T>,
+) -> Result<(), AllocError>
     ensures { OnOk result (string_bytes behind.new ≡ string_bytes behind.old ++ some_text T.text key.now value.now) }
 {
     let Some(value) = value else {

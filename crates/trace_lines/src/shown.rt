@@ -33,7 +33,11 @@ impl Shown for u64 {
 }
 
 /// Puts each item behind a text, each behind a comma.
-pub(crate) fn put_more<T: Shown>(behind: &mut String, alloc: Global, items: &[T]) -> Result<(), AllocError>
+pub(crate) fn put_more<T: Shown>(
+    behind: &mut String,
+    alloc: Global,
+    items: &[T],
+) -> Result<(), AllocError>
     ensures { OnOk result (string_bytes behind.new ≡ string_bytes behind.old ++ more_text T.text items.now) }
 {
     for item in items {
@@ -44,7 +48,11 @@ pub(crate) fn put_more<T: Shown>(behind: &mut String, alloc: Global, items: &[T]
 }
 
 /// Puts a list behind a text.
-pub(crate) fn put_list<T: Shown>(behind: &mut String, alloc: Global, items: &[T]) -> Result<(), AllocError>
+pub(crate) fn put_list<T: Shown>(
+    behind: &mut String,
+    alloc: Global,
+    items: &[T],
+) -> Result<(), AllocError>
     ensures { OnOk result (string_bytes behind.new ≡ string_bytes behind.old ++ list_text T.text items.now) }
 {
     behind.push_str("[")?;

@@ -1,5 +1,13 @@
 //! What a collector knows after a line, asked of the core.
+ghost use Rattle.std.specs.Prelude.{◌≡◌, [], None, IfOk, map};
+ghost use Rattle.std.specs.Option.{option_map};
+ghost use Rattle.heap_core.specs.Looks.{marks_at};
+ghost use Rattle.tracing.specs.Sets.{places_that, those_that};
+ghost use Rattle.tracing.specs.Entries.{shown as shown_entry};
+ghost use Rattle.tracing.specs.Pages.{is_in, IsKnown};
+
 use crate::places::place_of;
+use crate::sets::push_if;
 use heap_core::Core;
 use marker::Entry;
 use std::alloc::{AllocError, Global};
@@ -21,9 +29,24 @@ pub(crate) struct Knowledge {
     pub(crate) current: Option<EntryAt>,
 }
 
+/// A set of pages that a collector has.
+#[derive(Clone, Copy)]
+pub(crate) enum PageSet {
+    Dirty,
+    Carried,
+    Pending,
+}
+
 impl Knowledge {
     /// That of a new heap's collector, or of none.
-    pub(crate) fn nothing(alloc: Global) -> Knowledge {
+    pub(crate) fn nothing(alloc: Global) -> Knowledge
+        ensures marked { result.marked.items ≡ [] }
+        ensures dirty { result.dirty.items ≡ [] }
+        ensures carried { result.carried.items ≡ [] }
+        ensures pending { result.pending.items ≡ [] }
+        ensures entries { result.entries.items ≡ [] }
+        ensures current { result.current ≡ None }
+    {
         Knowledge {
             marked: Vec::new(alloc),
             dirty: Vec::new(alloc),
@@ -36,26 +59,40 @@ impl Knowledge {
 }
 
 // An entry, as a trace names it.
-fn shown(entry: Entry) -> EntryAt {
+fn shown(entry: Entry) -> EntryAt
+    ensures { result ≡ shown_entry entry }
+{
     EntryAt {
         place: place_of(entry.base),
         next: u64::from(entry.next),
     }
 }
 
+// The entry that is begun.
+fn current(core: &Core) -> Option<EntryAt>
+    ensures { result ≡ option_map shown_entry core.now.cycle.marking.current }
+{
+    match core.current() {
+        Some(entry) => Some(shown(entry)),
+        None => None,
+    }
+}
+
 // The places of the marked objects.
-fn marked(alloc: Global, core: &Core, objects: &[u64]) -> Result<Vec<u64>, AllocError> {
+fn marked(alloc: Global, core: &Core, objects: &[u64]) -> Result<Vec<u64>, AllocError>
+    ensures { IfOk result (λ places. places.items ≡ places_that (λ base. marks_at core.now base) objects.now) }
+{
     let mut places = Vec::new(alloc);
     for base in objects {
-        if core.is_marked(*base) {
-            places.push(place_of(*base))?;
-        }
+        push_if(&mut places, core.is_marked(*base), place_of(*base))?;
     }
     Ok(places)
 }
 
 // The mark stack.
-fn entries(alloc: Global, core: &Core) -> Result<Vec<EntryAt>, AllocError> {
+fn entries(alloc: Global, core: &Core) -> Result<Vec<EntryAt>, AllocError>
+    ensures { IfOk result (λ entries. entries.items ≡ map shown_entry core.now.cycle.marking.stack) }
+{
     let mut entries = Vec::new(alloc);
     for entry in core.entries() {
         entries.push(shown(*entry))?;
@@ -63,16 +100,10 @@ fn entries(alloc: Global, core: &Core) -> Result<Vec<EntryAt>, AllocError> {
     Ok(entries)
 }
 
-// A set of pages that a collector has.
-#[derive(Clone, Copy)]
-enum PageSet {
-    Dirty,
-    Carried,
-    Pending,
-}
-
-// Whether the page is in the set.
-fn has(core: &Core, set: PageSet, page: u64) -> bool {
+// Whether a page is in the set.
+fn has(core: &Core, set: PageSet, page: u64) -> bool
+    ensures { result ≡ is_in core.now set page }
+{
     match set {
         PageSet::Dirty => core.is_dirty(page),
         PageSet::Carried => core.is_carried(page),
@@ -80,39 +111,37 @@ fn has(core: &Core, set: PageSet, page: u64) -> bool {
     }
 }
 
-// The pages of the set, of so many.
+// Those pages that are in the set.
 fn pages_in(
     alloc: Global,
     core: &Core,
     set: PageSet,
-    pages: u64,
-) -> Result<Vec<u64>, AllocError> {
+    pages: &[u64],
+) -> Result<Vec<u64>, AllocError>
+    ensures { IfOk result (λ numbers. numbers.items ≡ those_that (λ page. is_in core.now set page) pages.now) }
+{
     let mut numbers = Vec::new(alloc);
-    for page in 0..pages {
-        if has(core, set, page) {
-            numbers.push(page)?;
-        }
+    for page in pages {
+        push_if(&mut numbers, has(core, set, *page), *page)?;
     }
     Ok(numbers)
 }
 
-/// What the core's collector knows now of these objects and of so many pages.
+/// What the core's collector knows now of these objects and pages.
 pub(crate) fn knowledge_now(
     alloc: Global,
     core: &Core,
     objects: &[u64],
-    pages: u64,
-) -> Result<Knowledge, AllocError> {
-    let current = match core.current() {
-        Some(entry) => Some(shown(entry)),
-        None => None,
-    };
+    pages: &[u64],
+) -> Result<Knowledge, AllocError>
+    ensures { IfOk result (IsKnown core.now objects.now pages.now) }
+{
     Ok(Knowledge {
         marked: marked(alloc, core, objects)?,
         dirty: pages_in(alloc, core, PageSet::Dirty, pages)?,
         carried: pages_in(alloc, core, PageSet::Carried, pages)?,
         pending: pages_in(alloc, core, PageSet::Pending, pages)?,
         entries: entries(alloc, core)?,
-        current,
+        current: current(core),
     })
 }

@@ -1,5 +1,10 @@
 //! Where objects go: their cells are free, or wait to be swept.
+ghost use Rattle.std.specs.Prelude.{◌≡◌, ◌++◌, ◌&&◌, not, IfOk};
+ghost use Rattle.tracing.specs.Sets.{those_that};
+ghost use Rattle.tracing.specs.Leaving.{IsParted, forgets as is_forgetting, waits as is_waiting};
+
 use crate::places::page_of;
+use crate::sets::push_if;
 use heap_core::Core;
 use heap_spec::{Call, Event};
 use std::alloc::{AllocError, Global};
@@ -18,7 +23,9 @@ pub(crate) struct Leaving {
 }
 
 // Whether an event forgets objects: then small ones wait until their pages are swept.
-fn forgets(event: &Event) -> bool {
+fn forgets(event: &Event) -> bool
+    ensures { result ≡ is_forgetting event.now }
+{
     match event {
         Event::Finish | Event::Collect => true,
         _ => false,
@@ -33,46 +40,46 @@ pub(crate) fn clears(event: &Event) -> bool {
     }
 }
 
-// Whether a forgotten object at this base waits to be swept. Where no collector is known none does.
-fn waits(core: Option<&Core>, base: u64) -> bool {
+// Whether the page of a base is pending. Where no core is known none is.
+fn waits(core: Option<&Core>, base: u64) -> bool
+    ensures { result ≡ is_waiting core.entry base }
+{
     match core {
         Some(core) => core.is_pending(page_of(base)),
         None => false,
     }
 }
 
-// Parts the cells that waited.
-fn part_waiting(
-    leaving: &mut Leaving,
-    core: Option<&Core>,
-    waited: &[u64],
-) -> Result<(), AllocError> {
-    for base in waited {
-        if waits(core, *base) {
-            leaving.waiting.push(*base)?;
-        } else {
-            leaving.freed.push(*base)?;
-        }
-    }
-    Ok(())
-}
-
-// Parts the objects that this event took.
-fn part_gone(
-    leaving: &mut Leaving,
+// The cells of these that wait, if they are forgotten at all.
+fn waiting(
+    alloc: Global,
     core: Option<&Core>,
     forgets: bool,
-    gone: &[u64],
-) -> Result<(), AllocError> {
-    for base in gone {
-        if forgets && waits(core, *base) {
-            leaving.waiting.push(*base)?;
-            leaving.forgotten.push(*base)?;
-        } else {
-            leaving.freed.push(*base)?;
-        }
+    bases: &[u64],
+) -> Result<Vec<u64>, AllocError>
+    ensures { IfOk result (λ some. some.items ≡ those_that (λ base. forgets && is_waiting core.entry base) bases.now) }
+{
+    let mut some = Vec::new(alloc);
+    for base in bases {
+        push_if(&mut some, forgets && waits(core, *base), *base)?;
     }
-    Ok(())
+    Ok(some)
+}
+
+// The cells of these that are free.
+fn free(
+    alloc: Global,
+    core: Option<&Core>,
+    forgets: bool,
+    bases: &[u64],
+) -> Result<Vec<u64>, AllocError>
+    ensures { IfOk result (λ some. some.items ≡ those_that (λ base. not (forgets && is_waiting core.entry base)) bases.now) }
+{
+    let mut some = Vec::new(alloc);
+    for base in bases {
+        push_if(&mut some, !(forgets && waits(core, *base)), *base)?;
+    }
+    Ok(some)
 }
 
 /// Where the objects went that this event took, and the cells that waited before it.
@@ -82,13 +89,18 @@ pub(crate) fn leaving_now(
     event: &Event,
     waited: &[u64],
     gone: &[u64],
-) -> Result<Leaving, AllocError> {
-    let mut leaving = Leaving {
-        forgotten: Vec::new(alloc),
-        freed: Vec::new(alloc),
-        waiting: Vec::new(alloc),
-    };
-    part_waiting(&mut leaving, core, waited)?;
-    part_gone(&mut leaving, core, forgets(event), gone)?;
-    Ok(leaving)
+) -> Result<Leaving, AllocError>
+    ensures { IfOk result (IsParted core.entry event.now waited.now gone.now) }
+{
+    let forgotten = waiting(alloc, core, forgets(event), gone)?;
+    let mut freed = free(alloc, core, true, waited)?;
+    let freed_now = free(alloc, core, forgets(event), gone)?;
+    let mut all = waiting(alloc, core, true, waited)?;
+    freed.extend_from_slice(freed_now.as_slice())?;
+    all.extend_from_slice(forgotten.as_slice())?;
+    Ok(Leaving {
+        forgotten,
+        freed,
+        waiting: all,
+    })
 }

@@ -1,4 +1,7 @@
 //! The tracer: told a line, it says what is different after it.
+ghost use Rattle.std.specs.Prelude.{◌≤◌};
+ghost use Rattle.words.specs.declared.limits.TheConstants.{MAX_PAGES};
+
 use crate::changes::{
     current_change, entries_change, flag_change, link_changes, links_gone, number_change,
 };
@@ -24,7 +27,7 @@ use words::limits::PAGE_WORDS;
 #[derive(Drop)]
 pub struct Tracer {
     alloc: Global,
-    pages: u32,
+    pages: Vec<u64>,
     replayer: Replayer,
     flags: Vec<bool>,
     truth: Truth,
@@ -59,10 +62,7 @@ fn listed<T: Drop>(alloc: Global, item: Option<T>) -> Result<Vec<T>, AllocError>
 }
 
 // The register, if its word is another than before.
-fn register_change(
-    old: Option<RegisterWord>,
-    new: Option<RegisterWord>,
-) -> Option<RegisterWord> {
+fn register_change(old: Option<RegisterWord>, new: Option<RegisterWord>) -> Option<RegisterWord> {
     match (old, new) {
         (Some(old), Some(new)) if old.word != new.word => Some(new),
         _ => None,
@@ -82,9 +82,12 @@ impl Tracer {
     ///
     /// # Errors
     /// [`RunError::Memory`] where a growth of memory was refused.
-    pub fn new(alloc: Global, pages: u32) -> Result<Tracer, RunError> {
+    pub fn new(alloc: Global, pages: u32) -> Result<Tracer, RunError>
+        requires { (1 ≤ pages) × (pages ≤ MAX_PAGES) }
+    {
         let replayer = Replayer::new(alloc, pages)?;
-        let flags = vec![in alloc; false; PAGE_WORDS as usize * pages as usize]?;
+        let pages = (0..u64::from(pages)).collect::<Vec<u64>>(alloc)?;
+        let flags = vec![in alloc; false; PAGE_WORDS as usize * pages.len()]?;
         Ok(Tracer {
             alloc,
             pages,
@@ -110,7 +113,12 @@ impl Tracer {
     }
 
     // The words of the heap that the event wrote: that of a store, and those of links that a collection cleared.
-    fn wrote(&self, event: &Event, reply: &Reply, gone: &[Link]) -> Result<Vec<Numbered>, AllocError> {
+    fn wrote(
+        &self,
+        event: &Event,
+        reply: &Reply,
+        gone: &[Link],
+    ) -> Result<Vec<Numbered>, AllocError> {
         let core = self.replayer.core();
         let mut wrote = listed(self.alloc, stored(core, event, reply))?;
         if !clears(event) {
@@ -145,16 +153,12 @@ impl Tracer {
             globals: listed(self.alloc, global)?,
             stacks: listed(self.alloc, stack_of(self.alloc, core, event, reply)?)?,
             wrote: self.wrote(event, reply, gone.as_slice())?,
-            links: link_changes(self.alloc, links, now, gone.as_slice())?,
+            links: link_changes(self.alloc, links, now)?,
         })
     }
 
     // Looks at the heap, and gives what was known before.
-    fn look(
-        &mut self,
-        core: Option<&Core>,
-        hint: Hint,
-    ) -> Result<(Truth, Knowledge), AllocError> {
+    fn look(&mut self, core: Option<&Core>, hint: Hint) -> Result<(Truth, Knowledge), AllocError> {
         let truth = truth_now(
             self.alloc,
             &mut self.replayer,
@@ -167,7 +171,7 @@ impl Tracer {
                 self.alloc,
                 core,
                 truth.objects.as_slice(),
-                u64::from(self.pages),
+                self.pages.as_slice(),
             )?,
             None => Knowledge::nothing(self.alloc),
         };
@@ -212,7 +216,13 @@ impl Tracer {
         let truth = &self.truth;
         let now = &self.knowledge;
         let core = self.replayer.core();
-        let Words { registers, globals, stacks, wrote, links } = words;
+        let Words {
+            registers,
+            globals,
+            stacks,
+            wrote,
+            links,
+        } = words;
         Ok(Record {
             attached: listed(alloc, attached(reply))?,
             detached: listed(alloc, detached(event, reply))?,
