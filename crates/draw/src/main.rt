@@ -76,7 +76,9 @@ fn print_run(rt: &HostRuntime, run: &mut Run, script: &str) -> Result<(), Fault>
 }
 
 // Runs the script of a file on a new heap.
-fn draw(rt: &HostRuntime, pages: u32, file: &str) -> Result<(), Fault> {
+fn draw(rt: &HostRuntime, pages: u32, file: &str) -> Result<(), Fault>
+    requires { (1 ≤ pages) × (pages ≤ MAX_PAGES) }
+{
     let script = match fs::read_to_string(rt, file) {
         Ok(script) => script,
         Err(error) => return Err(Fault::of_read(&error)),
