@@ -1,7 +1,9 @@
 """Compares a trace (docs/TRACE.md) with the run of the same script that `record` wrote down: compare.py TRACE RUN.
 
 After each line both have to agree on objects, their words, roots, links, the phase, the count, and on what is reached and
-touched. After each collection what is marked are the objects that are left, and an object is forgotten only on a pending page.
+touched. Of what a collector knows: after each collection the objects that are left are those that are marked, no page is dirty
+and no entry is left; a cycle that begins has no dirty or carried page and, if it is full, no mark; a store's page is dirty; and
+the pages of forgotten objects are the pending ones.
 """
 import json
 import sys
@@ -16,7 +18,7 @@ class Trace:
 
     def __init__(self):
         self.mutators, self.globals, self.words, self.objects, self.links = {}, {}, {}, {}, {}
-        self.forgotten, self.phase, self.count = set(), 0, 0
+        self.forgotten, self.phase, self.count, self.entries = set(), 0, 0, []
         for name in SETS:
             setattr(self, name, set())
 
@@ -62,6 +64,9 @@ class Trace:
                 del self.links[at]
             else:
                 self.links[at] = base
+        if "entries" in record:
+            keep, *pushed = record["entries"]
+            self.entries[keep:] = [place for place, _ in pushed]
         self.phase, self.count = record.get("phase", self.phase), record.get("count", self.count)
 
 
@@ -71,6 +76,21 @@ def nonzero(words):
 
 def words_of(objects, words):
     return {at: word for place, (_, n, _) in objects.items() for at in range(place, place + n) if (word := words.get(at, 0))}
+
+
+def known(trace, record):
+    """What a collector has to know after a line, and what the trace says that it knows."""
+    if "refused" in record["r"]:
+        return {}
+    if record["c"] == "gc begin":
+        return {"dirty": (trace.dirty, set()), "carried": (trace.carried, set()), "marked": (trace.marked, set())}
+    if record["c"] in ("gc finish", "gc collect"):
+        return {"dirty": (trace.dirty, set()), "entries": (trace.entries, []), "marked": (trace.marked, set(trace.objects))}
+    if record["c"] == "gc partial":
+        return {"carried": (trace.carried, set())}
+    stored = {place // PAGE for place, _ in record.get("wrote", [])} if " store " in record["c"] else set()
+    unmarked = [place for place in trace.entries if place not in trace.marked and place in trace.objects]
+    return {"stored": (stored - trace.dirty, set()), "entries": (unmarked, [])}
 
 
 def compare(trace, run, record):
@@ -85,8 +105,7 @@ def compare(trace, run, record):
         "reached": (trace.reached, run.reached()),
         "touched": (trace.touched, run.touched),
     }
-    if record["c"] in ("gc finish", "gc collect") and "refused" not in record["r"]:
-        pairs["marked"] = (trace.marked, set(run.objects))
+    pairs |= known(trace, record)
     pairs["forgotten"] = ({place // PAGE for place in trace.forgotten}, trace.pending)
     return [f"{what}: trace {left}, run {right}" for what, (left, right) in pairs.items() if left != right]
 
