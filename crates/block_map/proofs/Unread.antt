@@ -3,7 +3,7 @@ use Rattle.std.proofs.Common.{◌≡◌, ℕ, ◌+◌, ◌*◌, ◌<◌, ◌≤�
 use Rattle.std.specs.Prelude.{◌≢◌}
 use Rattle.std.proofs.lemmas.Bool.{cases_lt}
 use Rattle.words.specs.declared.limits.TheConstants.{WORD_BYTES}
-use Rattle.pages.specs.Memory.{IsWordAddress, IsZeroed, place, word_at, with_word_at}
+use Rattle.pages.specs.Memory.{IsWordAddress, IsZeroed, word_index, word_at, with_word_at}
 use Rattle.blocks.specs.Cells.{Cells, IsCells}
 use Rattle.blocks.specs.Lists.{cell_start, IsFreeCellOf}
 use Rattle.blocks.proofs.Lists.{cell_address}
@@ -39,20 +39,20 @@ module _ (words : List ℕ) (states : List PageState) (laid : IsLaid states) whe
 
   -- a word of an object is written
   pub listed_write : (a w : ℕ) (f : Found) → IsWordAddress words a → found_in states a ≡ Some f → AreListed words states → AreListed (with_word_at words a w) states
-  listed_write a w f at found listed = listed_unread (with_word_at words a w) (length-set words (place a) w)
-      (λ v is none. get_or-set_other words (place a) (place v) w 0 (apart v is none)) listed
+  listed_write a w f at found listed = listed_unread (with_word_at words a w) (length-set words (word_index a) w)
+      (λ v is none. get_or-set_other words (word_index a) (word_index v) w 0 (apart v is none)) listed
     where
-      apart : (v : ℕ) → IsWordAddress words v → found_in states v ≡ None → place v ≢ place a
+      apart : (v : ℕ) → IsWordAddress words v → found_in states v ≡ None → word_index v ≢ word_index a
       apart v is none same =
           let a1 = at.aligned in let a2 = at.above in let v1 = is.aligned in let v2 = is.above in
           let e : v ≡ a = omega arith in
           let x : None ≡ Some f = sym none ∙ ap (found_in states) e ∙ found in cc x
 
   -- the words of an object become 0
-  pub listed_zeroed : (words' : List ℕ) (f : Found) → found_in states f.base ≡ Some f → IsZeroed words words' (place f.base) f.len → AreListed words states → AreListed words' states
-  listed_zeroed words' f found zeroed listed = listed_unread words' zeroed.size (λ v is none. zeroed.others (place v) (out v is none)) listed
+  pub listed_zeroed : (words' : List ℕ) (f : Found) → found_in states f.base ≡ Some f → IsZeroed words words' (word_index f.base) f.len → AreListed words states → AreListed words' states
+  listed_zeroed words' f found zeroed listed = listed_unread words' zeroed.size (λ v is none. zeroed.others (word_index v) (out v is none)) listed
     where
-      out : (v : ℕ) → IsWordAddress words v → found_in states v ≡ None → place v < place f.base ⊎ place f.base + f.len ≤ place v
+      out : (v : ℕ) → IsWordAddress words v → found_in states v ≡ None → word_index v < word_index f.base ⊎ word_index f.base + f.len ≤ word_index v
       out v is none =
           let map = (map_laws states laid).map in
           let p = map.placed f.base f found in

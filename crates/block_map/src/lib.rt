@@ -3,12 +3,12 @@
 //! which make a list of each page's.
 #![tactic(auto)]
 
-mod fills;
 mod found;
 mod large;
 mod look;
 mod map;
 mod page;
+mod page_changes;
 mod walk;
 
 pub use found::{Found, Put, Taken};

@@ -13,9 +13,11 @@ ghost use Rattle.block_map.specs.FoundIn.{found_in, IsLawful};
 ghost use Rattle.block_map.specs.Sweeps.{SweepsObjects, SweepsOn};
 ghost use Rattle.block_map.specs.Changes.{IsSameMap, IsAdded, IsRemoved, IsCleared, IsUncut};
 
-use crate::fills::{fill_free, fill_large, free_pages, put_cell, put_page, sweep_cells, take_cell};
 use crate::found::{Put, Taken};
 use crate::page::Page;
+use crate::page_changes::{
+    fill_free, fill_large, free_pages, put_cell, put_page, sweep_cells, take_cell,
+};
 use blocks::Block;
 use pages::{Memory, is_page_count};
 use std::alloc::Global;

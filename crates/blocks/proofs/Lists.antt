@@ -7,7 +7,7 @@ use Rattle.std.proofs.Math.Nat.{mul-le-mul_right}
 use Rattle.words.specs.declared.limits.TheConstants.{MAX_PAGES, PAGE_GRANULES, PAGE_WORDS}
 use Rattle.words.specs.Bits.{IsFullRow}
 use Rattle.words.specs.Classes.{IsSizeClass}
-use Rattle.pages.specs.Memory.{IsWordAddress, place, with_word_at}
+use Rattle.pages.specs.Memory.{IsWordAddress, word_index, with_word_at}
 use Rattle.blocks.specs.Cells.{Cells, IsCells}
 use Rattle.blocks.specs.declared.list.TheConstants.{LIST_END}
 use Rattle.blocks.specs.Lists.{cell_start, link_of, ends, goes_on, ChangesPage, HasPage, IsFreeCellOf, IsListed, IsTakenCellOf, Lists}
@@ -73,7 +73,7 @@ put_first link link' row first cell inside taken here same lists =
     other i is e = false≢true (sym is ∙ ap (λ k. get_or row k false) e ∙ taken)
 
 -- where the first word of a cell stands
-pub cell_place : (page class cell : ℕ) → place (cell_start page class cell) ≡ PAGE_WORDS * page + cell * class
+pub cell_place : (page class cell : ℕ) → word_index (cell_start page class cell) ≡ PAGE_WORDS * page + cell * class
 cell_place page class cell = let e : cell * (8 * class) ≡ 8 * (cell * class) = omega arith in omega arith
 
 pub cell_fits : (class cell : ℕ) → IsSizeClass class → cell < PAGE_WORDS / class → cell * class + class ≤ PAGE_WORDS
@@ -93,7 +93,7 @@ cell_address words page class cell is has lt =
     let e : cell * (8 * class) ≡ 8 * (cell * class) = omega arith in
     record { aligned = omega arith; above = omega arith; below = omega arith }
 
-in_memory : (words : List ℕ) (page class cell : ℕ) → IsSizeClass class → HasPage words page → cell < PAGE_WORDS / class → place (cell_start page class cell) < length words
+in_memory : (words : List ℕ) (page class cell : ℕ) → IsSizeClass class → HasPage words page → cell < PAGE_WORDS / class → word_index (cell_start page class cell) < length words
 in_memory words page class cell is has lt = let f = cell_fits class cell is lt in let b = class_bounds class is in let e = cell_place page class cell in omega arith
 
 later : (class i j : ℕ) → 0 < class → i < j → i * class < j * class
@@ -101,7 +101,7 @@ later class i j some lt =
     let m : (i + 1) * class ≤ j * class = mul-le-mul_right class (omega arith) in
     let e : (i + 1) * class ≡ i * class + class = omega arith in omega (arith, m, e)
 
-apart : (page class i j : ℕ) → 0 < class → i ≢ j → place (cell_start page class i) ≢ place (cell_start page class j)
+apart : (page class i j : ℕ) → 0 < class → i ≢ j → word_index (cell_start page class i) ≢ word_index (cell_start page class j)
 apart page class i j some ne same =
     let a = cell_place page class i in let b = cell_place page class j in
     let e : i * class ≡ j * class = omega (arith, a, b, same) in
@@ -109,10 +109,10 @@ apart page class i j some ne same =
 
 -- a number is written into the first word of a cell
 pub link_here : (words : List ℕ) (page class cell w : ℕ) → IsSizeClass class → HasPage words page → cell < PAGE_WORDS / class → link_of (with_word_at words (cell_start page class cell) w) page class cell ≡ w
-link_here words page class cell w is has lt = get_or-set_same words (place (cell_start page class cell)) w 0 (in_memory words page class cell is has lt)
+link_here words page class cell w is has lt = get_or-set_same words (word_index (cell_start page class cell)) w 0 (in_memory words page class cell is has lt)
 
 pub link_other : (words : List ℕ) (page class cell i w : ℕ) → IsSizeClass class → i ≢ cell → link_of (with_word_at words (cell_start page class cell) w) page class i ≡ link_of words page class i
-link_other words page class cell i w is ne = get_or-set_other words (place (cell_start page class cell)) (place (cell_start page class i)) w 0 (apart page class i cell (let b = class_bounds class is in omega arith) ne)
+link_other words page class cell i w is ne = get_or-set_other words (word_index (cell_start page class cell)) (word_index (cell_start page class i)) w 0 (apart page class i cell (let b = class_bounds class is in omega arith) ne)
 
 -- a cell is given back
 pub put_listed : (words words' : List ℕ) (page class : ℕ) (row row' : List Bool) (first cell address word : ℕ) → IsSizeClass class → HasPage words page → length row ≡ PAGE_WORDS / class → IsTakenCellOf row cell → Lists (link_of words page class) row first
@@ -127,8 +127,8 @@ put_listed words words' page class row row' first cell address word is has size 
 
 pub link_changes : (words : List ℕ) (page class cell w : ℕ) → IsSizeClass class → cell < PAGE_WORDS / class → ChangesPage words (with_word_at words (cell_start page class cell) w) page
 link_changes words page class cell w is lt = record {
-  size = length-set words (place (cell_start page class cell)) w;
-  others = λ k out. get_or-set_other words (place (cell_start page class cell)) k w 0 (λ e. outside k out (e ∙ cell_place page class cell));
+  size = length-set words (word_index (cell_start page class cell)) w;
+  others = λ k out. get_or-set_other words (word_index (cell_start page class cell)) k w 0 (λ e. outside k out (e ∙ cell_place page class cell));
 }
   where
     outside : (k : ℕ) → k < PAGE_WORDS * page ⊎ PAGE_WORDS * page + PAGE_WORDS ≤ k → k ≡ PAGE_WORDS * page + cell * class → ⊥
@@ -143,9 +143,9 @@ listed_kept words words' page b same lists = lists_same (link_of words page b.cl
 -- so it does while another page changes
 pub listed_elsewhere : (words words' : List ℕ) (page other : ℕ) (b : Cells) → IsCells b → other ≢ page → ChangesPage words words' page → IsListed words other b → IsListed words' other b
 listed_elsewhere words words' page other b cells ne changes lists = listed_kept words words' other b
-    (λ i free. changes.others (place (cell_start other b.class i)) (out i (let lt = free.inside in let size = cells.size in omega arith))) lists
+    (λ i free. changes.others (word_index (cell_start other b.class i)) (out i (let lt = free.inside in let size = cells.size in omega arith))) lists
   where
-    out : (i : ℕ) → i < PAGE_WORDS / b.class → place (cell_start other b.class i) < PAGE_WORDS * page ⊎ PAGE_WORDS * page + PAGE_WORDS ≤ place (cell_start other b.class i)
+    out : (i : ℕ) → i < PAGE_WORDS / b.class → word_index (cell_start other b.class i) < PAGE_WORDS * page ⊎ PAGE_WORDS * page + PAGE_WORDS ≤ word_index (cell_start other b.class i)
     out i lt =
         let f = cell_fits b.class i cells.class lt in let e = cell_place other b.class i in let some = (class_bounds b.class cells.class).0 in
         ⊎_elim (λ low. inl (omega arith)) (λ ge. inr (let gt : page < other = ⊎_elim (λ l. l) (λ le. absurd (ne (omega arith))) (cases_lt page other) in omega arith)) (cases_lt other page)

@@ -13,7 +13,7 @@ use Rattle.words.specs.declared.limits.TheConstants.{GRANULE_WORDS, PAGE_GRANULE
 use Rattle.words.proofs.Classes.{class_even}
 use Rattle.words.proofs.Rows.{get_or-bits}
 use Rattle.words.proofs.Sets.{has_inside}
-use Rattle.pages.specs.Memory.{place, with_word_at}
+use Rattle.pages.specs.Memory.{word_index, with_word_at}
 use Rattle.blocks.specs.Cells.{Cells, IsCells}
 use Rattle.blocks.specs.Lists.{cell_start, IsTakenCellOf}
 use Rattle.blocks.specs.Sweeps.{mark_of, BeginsAt, HasMarked, SweepsCells, SweepsRange}
@@ -170,14 +170,14 @@ module _ (words words' : List ℕ) (live : List Bool) (page low from : ℕ) (b d
     class = h.class;
     kind = h.kind;
     row = length-set d.taken from false ∙ h.row;
-    size = length-set words' (place (cell_start page d.class from)) v ∙ h.size;
+    size = length-set words' (word_index (cell_start page d.class from)) v ∙ h.size;
     stays = λ i lives. get_or-set_other d.taken from i false false (λ e. true≢false (sym (subst (Has live) e lives) ∙ dies)) ∙ h.stays i lives;
     dead = λ i ge lt dead. ⊎_elim
         (λ (e : i ≡ from). ap (λ k. get_or (set d.taken from false) k false) e ∙ get_or-set_same d.taken from false false inside)
         (λ ne. get_or-set_other d.taken from i false false ne ∙ h.dead i ge (omega arith) dead)
         (cases_eq i from);
     rest = λ i out. get_or-set_other d.taken from i false false (λ e. ⊎_elim (λ below. omega arith) (λ past. omega arith) out) ∙ h.rest i (⊎_elim (λ below. inl below) (λ past. inr (omega arith)) out);
-    others = λ k out. get_or-set_other words' (place (cell_start page d.class from)) k v 0 (subst (λ c. k ≢ place (cell_start page c from)) (sym h.class) (out from taken dies)) ∙ h.others k out;
+    others = λ k out. get_or-set_other words' (word_index (cell_start page d.class from)) k v 0 (subst (λ c. k ≢ word_index (cell_start page c from)) (sym h.class) (out from taken dies)) ∙ h.others k out;
   })
     where
       inside : from < length d.taken

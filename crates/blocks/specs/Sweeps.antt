@@ -2,7 +2,7 @@
 use Rattle.std.specs.Prelude.{◌≡◌, ◌≢◌, ℕ, ◌+◌, ◌*◌, ◌/◌, ◌<◌, ◌≤◌, ◌⊎◌, Bool, false, List, length, slice_index, slice_index_or}
 use Rattle.words.specs.declared.limits.TheConstants.{GRANULE_WORDS, PAGE_GRANULES}
 use Rattle.words.specs.Bits.{Has}
-use Rattle.pages.specs.Memory.{place}
+use Rattle.pages.specs.Memory.{word_index}
 use Rattle.blocks.specs.Cells.{Cells}
 use Rattle.blocks.specs.Lists.{cell_start}
 
@@ -37,7 +37,7 @@ pub record SweepsRange (words words' : List ℕ) (live : List Bool) (page low hi
   pub stays : (i : ℕ) → Has live i → slice_index_or b'.taken i false ≡ slice_index_or b.taken i false
   pub dead : (i : ℕ) → low ≤ i → i < high → slice_index_or live i false ≡ false → slice_index_or b'.taken i false ≡ false
   pub rest : (i : ℕ) → i < low ⊎ high ≤ i → slice_index_or b'.taken i false ≡ slice_index_or b.taken i false
-  pub others : (k : ℕ) → ((i : ℕ) → Has b.taken i → slice_index_or live i false ≡ false → k ≢ place (cell_start page b.class i)) → slice_index words' k ≡ slice_index words k
+  pub others : (k : ℕ) → ((i : ℕ) → Has b.taken i → slice_index_or live i false ≡ false → k ≢ word_index (cell_start page b.class i)) → slice_index words' k ≡ slice_index words k
 
 -- Of the cells exactly the marked ones are still allocated, and of the words only the first ones of the others have changed.
 pub record SweepsCells (words words' : List ℕ) (marks : List Bool) (page : ℕ) (b b' : Cells) : Type 0 where
@@ -47,4 +47,4 @@ pub record SweepsCells (words words' : List ℕ) (marks : List Bool) (page : ℕ
   pub size : length words' ≡ length words
   pub marked : (i : ℕ) → Has marks (mark_of page b.class i) → slice_index_or b'.taken i false ≡ slice_index_or b.taken i false
   pub dead : (i : ℕ) → slice_index_or marks (mark_of page b.class i) false ≡ false → slice_index_or b'.taken i false ≡ false
-  pub others : (k : ℕ) → ((i : ℕ) → IsDeadCell marks page b i → k ≢ place (cell_start page b.class i)) → slice_index words' k ≡ slice_index words k
+  pub others : (k : ℕ) → ((i : ℕ) → IsDeadCell marks page b i → k ≢ word_index (cell_start page b.class i)) → slice_index words' k ≡ slice_index words k

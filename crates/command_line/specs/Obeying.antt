@@ -1,9 +1,9 @@
 -- What a command leaves of its input and its output, by the answer with which it ends.
 use Rattle.std.specs.Prelude.{◌≡◌, ℕ, ◌+◌, ◌⊎◌, Option, List, Result, Ok, Err, ⊤}
 use Rattle.scripts.specs.declared.errors.ScriptError.{ScriptError}
-use Rattle.commands.specs.declared.fault.Fault.{Fault}
-use Rattle.commands.specs.declared.fault.Fault.TheVariants.{BadCommand, BadLine, Read, Write, Memory}
-use Rattle.commands.specs.Faults.{fault_of, Ends}
+use Rattle.programs.specs.declared.fault.Fault.{Fault}
+use Rattle.programs.specs.declared.fault.Fault.TheVariants.{BadCommand, BadLine, Read, Write, Memory}
+use Rattle.programs.specs.Faults.{fault_of, Ends}
 
 -- the answer of a script, or of a workload, as a command's
 abbrev pub as_fault : Result ⊤ ScriptError → Result ⊤ Fault

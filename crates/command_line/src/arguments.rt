@@ -1,13 +1,13 @@
 //! The words of the command line: which there may be, and the numbers among them.
 ghost use Rattle.std.specs.Prelude.{◌≡◌, ◌≤◌, Err, IfOk, IfErr};
 ghost use Rattle.words.specs.declared.limits.TheConstants.{MAX_PAGES};
-ghost use Rattle.commands.specs.declared.fault.Fault.TheVariants.{BadCommand};
+ghost use Rattle.programs.specs.declared.fault.Fault.TheVariants.{BadCommand};
 ghost use Rattle.command_line.specs.Obeying.{write_faults};
 
 use clap::error::ErrorKind;
 use clap::{Arg, ArgMatches, Command, Error};
-use commands::Fault;
 use final_pause::Helpers;
+use programs::Fault;
 use scripts::number_in;
 use std::alloc::{AllocError, Global};
 use words::limits::{MAX_HELPERS, MAX_PAGES};

@@ -4,10 +4,9 @@ ghost use Rattle.words.specs.declared.limits.TheConstants.{MAX_PAGES};
 ghost use Rattle.command_line.specs.Obeying.{as_fault, HasRead, HasWritten};
 
 use crate::arguments::{helpers_given, number_given, pages_given};
-use crate::random::write_stress;
 use clap::ArgMatches;
-use commands::Fault;
 use final_pause::{Helpers, Open};
+use programs::Fault;
 use scripts::{ScriptError, Sink, Source, Std, run_script};
 use std::alloc::Global;
 use std::fs;
@@ -16,7 +15,7 @@ use std::sync::Wait;
 use std::thread::Threads;
 use words::limits::SLOTS;
 use workloads::limits::MAX_STEPS;
-use workloads::run_workload;
+use workloads::{run_workload, write_stress};
 
 // What ends a command, as the program's fault.
 fn faulted(answer: Result<(), ScriptError>) -> Result<(), Fault>

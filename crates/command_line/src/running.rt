@@ -4,7 +4,7 @@ ghost use Rattle.command_line.specs.Obeying.{HasRead, HasWritten, ProgramEnds};
 use crate::arguments::{command_line, refused};
 use crate::obeying::obey;
 use clap::{ArgMatches, Error};
-use commands::{Fault, end};
+use programs::{Fault, end};
 use scripts::{Sink, Source};
 use std::alloc::Global;
 use std::convert::AsStr;

@@ -6,7 +6,7 @@ use Rattle.std.proofs.lemmas.List.Elements.{Contains-append_cases, Contains-appe
 use Rattle.words.specs.declared.class.Kind.TheVariants.{Normal}
 use Rattle.words.specs.declared.limits.TheConstants.{PAGE_GRANULES, PAGE_WORDS}
 use Rattle.std.specs.Prelude.{slice_range}
-use Rattle.pages.specs.Memory.{place}
+use Rattle.pages.specs.Memory.{word_index}
 use Rattle.words.specs.Bits.{Has}
 use Rattle.words.specs.Layout.{granule, page_of}
 use Rattle.mark_bits.specs.declared.claimer_view.ClaimerView.{ClaimerView}
@@ -15,7 +15,7 @@ use Rattle.mark_bits.specs.Claims.{knows, LearnsMore}
 use Rattle.block_map.specs.declared.found.Found.{Found}
 use Rattle.block_map.specs.Objects.{IsMap, IsPlaced}
 use Rattle.marker.specs.Marking.{IsOutside, bytes_of, word_address}
-use Rattle.marker.specs.Growth.{CarriesPage, IsNoStray, IsStray, TellsStray, words_of}
+use Rattle.marker.specs.Growth.{CarriesPage, IsNoStray, IsStray, TellsStray, words_from}
 use Rattle.marker.proofs.Closures.{at_base, same_object}
 use Rattle.marker.proofs.MarkWord.{markable, tells_none}
 use Rattle.marker.proofs.Words.{contains_word, run_words, word_of}
@@ -33,11 +33,11 @@ not_stray found bytes w s other = ⊎_elim
 
 -- the words of an object that a reader lends
 pub lent_words : (memory words run : List ℕ) (pages : ℕ) (f : Found) (first n start : ℕ) → IsPlaced pages f → first + n ≤ f.len → length memory ≡ PAGE_WORDS * pages → start ≡ word_address f first
-    → run ≡ slice_range words (place start) (place start + n) → words ≡ memory → run ≡ words_of memory f first n
+    → run ≡ slice_range words (word_index start) (word_index start + n) → words ≡ memory → run ≡ words_from memory f first n
 lent_words memory words run pages f first n start placed fits size is lent same =
     let below = placed.below in let above = placed.above in let aligned = placed.aligned in
-    let inside : place start + n ≤ length memory = omega arith in
-    lent ∙ ap (λ (ws : List ℕ). slice_range ws (place start) (place start + n)) same ∙ run_words memory f first n start is (omega arith) inside
+    let inside : word_index start + n ≤ length memory = omega arith in
+    lent ∙ ap (λ (ws : List ℕ). slice_range ws (word_index start) (word_index start + n)) same ∙ run_words memory f first n start is (omega arith) inside
 
 -- a word that points into an object is not stray
 pub tells_object : (found : ℕ → Option Found) (bytes w : ℕ) (g : Found) → found w ≡ Some g → TellsStray found bytes (w ∷ []) false
@@ -250,8 +250,8 @@ module _ (p : Pause) where
   }
 
   -- words of an object that lie in a row on one page, which was carried then or not
-  pub reads_run : (f : Found) (first n page : ℕ) (a b c : Helper) → first + n ≤ f.len → ((i : ℕ) → first ≤ i → i < first + n → page_of (word_address f i) ≡ page) → VisitsAll p (words_of p.memory.now f first n) a b
-      → c.claimer ≡ b.claimer → c.stack ≡ b.stack → c.dirty ≡ b.dirty → c.share ≡ b.share → CarriesPage (found p) (bytes_of p.marker.now) (words_of p.memory.now f first n) page b.carried c.carried → ReadsWords p f first n a c
+  pub reads_run : (f : Found) (first n page : ℕ) (a b c : Helper) → first + n ≤ f.len → ((i : ℕ) → first ≤ i → i < first + n → page_of (word_address f i) ≡ page) → VisitsAll p (words_from p.memory.now f first n) a b
+      → c.claimer ≡ b.claimer → c.stack ≡ b.stack → c.dirty ≡ b.dirty → c.share ≡ b.share → CarriesPage (found p) (bytes_of p.marker.now) (words_from p.memory.now f first n) page b.carried c.carried → ReadsWords p f first n a c
   reads_run f first n page a b c fits one_page v cl st di sh carries = record {
     extends = extends_trans a b c v.extends (extends_carried b c v.extends.of cl st di sh carries.len carries.stays);
     read = λ i le lt.
@@ -265,11 +265,11 @@ module _ (p : Pause) where
         };
     strays = λ q h. ⊎_elim
         (λ o. inl (subst (λ r. Has r q) v.carried o))
-        (λ (s : (q ≡ page) × ((w : ℕ) × Contains (words_of p.memory.now f first n) w × IsStray (found p) (bytes_of p.marker.now) w)).
+        (λ (s : (q ≡ page) × ((w : ℕ) × Contains (words_from p.memory.now f first n) w × IsStray (found p) (bytes_of p.marker.now) w)).
         let y = word_of p.memory.now f first n s.1.0 s.1.1 in let l = y.2 in
         inr (record { index = y.0; inside = omega (arith, l, fits); on = one_page y.0 y.1 y.2 ∙ sym s.0; stray = subst (IsStray (found p) (bytes_of p.marker.now)) y.3 s.1.2 }))
         (carries.only q h);
-    only = only_carried (IsWordOf p f) a b c cl st (only_more (λ w. Contains (words_of p.memory.now f first n) w) (IsWordOf p f) a b
+    only = only_carried (IsWordOf p f) a b c cl st (only_more (λ w. Contains (words_from p.memory.now f first n) w) (IsWordOf p f) a b
         (λ w h. let y = word_of p.memory.now f first n w h in let l = y.2 in (y.0, omega arith, y.3)) v.only);
   }
 

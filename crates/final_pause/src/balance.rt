@@ -31,7 +31,7 @@ fn offer_lowest<J: Offering>(
     if offered >= entries.len() {
         return entries.len();
     }
-    if entries.len() - offered < 2 || !offer.is_open() {
+    if entries.len() - offered < 2 || !offer.is_empty() {
         return offered;
     }
     offer.put(entries[offered]);

@@ -39,6 +39,7 @@
 //! invariants hold then, and the calling thread reads what found no room.
 #![tactic(auto)]
 
+mod alone;
 mod balance;
 mod busy;
 mod crew;
@@ -47,10 +48,9 @@ mod helper;
 mod helpers;
 mod offer;
 mod parallel;
-mod pause;
 mod share;
 
+pub use alone::close_marks;
 pub use gate::{COLLECTOR_ACTOR, FIRST_HELPER, Gate, Open};
 pub use helpers::Helpers;
 pub use parallel::close_marks_with;
-pub use pause::close_marks;

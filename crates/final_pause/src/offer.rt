@@ -46,7 +46,7 @@ impl<J: Offering> Offer<J> {
 
     /// Whether nothing is on offer.
     #[inline]
-    pub(crate) fn is_open(&self) -> bool {
+    pub(crate) fn is_empty(&self) -> bool {
         self.base.load(Ordering::SeqCst) == 0
     }
 
@@ -62,7 +62,7 @@ impl<J: Offering> Offer<J> {
         ensures { IfSome result (λ b. J.offered b) }
     {
         // A look is cheaper, and most find nothing.
-        if self.is_open() {
+        if self.is_empty() {
             return None;
         }
         let base = self.base.swap(0, Ordering::SeqCst);

@@ -9,13 +9,13 @@ ghost use Rattle.marker.specs.Growth.{Traces};
 ghost use Rattle.each_law.specs.Jobs.{HaveRun};
 ghost use Rattle.final_pause.specs.Serving.{IsServing, AreOffered, HasServed};
 
+use crate::alone::close_marks;
 use crate::busy::Busy;
 use crate::crew::{gather, hire};
 use crate::gate::Gate;
 use crate::helper::Helper;
 use crate::helpers::Helpers;
 use crate::offer::{Offer, Offering};
-use crate::pause::close_marks;
 use crate::share::Pause;
 use block_map::BlockMap;
 use dirty_pages::DirtyPages;

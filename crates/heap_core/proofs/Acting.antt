@@ -7,16 +7,16 @@ use Rattle.heap_spec.specs.declared.reply.Reply.{Reply}
 use Rattle.heap_spec.specs.declared.reply.Reply.TheVariants.{Count}
 use Rattle.heap_spec.specs.Runs.{Told}
 use Rattle.block_map.specs.FoundIn.{IsLawful}
-use Rattle.heap_core.specs.Contents.{Contents, IsCore}
+use Rattle.heap_core.specs.CoreContents.{CoreContents, IsCore}
 use Rattle.heap_core.specs.Acts.{IsAct, AreActs}
 use Rattle.heap_core.specs.Following.{IsLine, AreLines, told_of}
 use Rattle.heap_core.proofs.Following.{call_line, begin_result, partial_result, roots_result, mark_result, retrace_result, finish_result, sweep_result, collect_result, number_line, no_lines, lines_more}
 
 -- what is a line with one reply is one with the same reply
-line_with : (old new : Contents) (event : Event) (reply told : Reply) → reply ≡ told → IsLine old event told new → IsLine old event reply new
+line_with : (old new : CoreContents) (event : Event) (reply told : Reply) → reply ≡ told → IsLine old event told new → IsLine old event reply new
 line_with old new event reply told same line = subst (λ x. IsLine old event x new) (sym same) line
 
-pub act_line : (old new : Contents) (event : Event) (reply : Reply) → IsLawful old.store.states → IsAct old event reply new → IsLine old event reply new
+pub act_line : (old new : CoreContents) (event : Event) (reply : Reply) → IsLawful old.store.states → IsAct old event reply new → IsLine old event reply new
 act_line old new Attach reply lawful act = call_line old Attach reply new lawful act
 act_line old new (Mutator slot call) reply lawful act = call_line old (Mutator slot call) reply new lawful act
 act_line old new Begin reply lawful act = line_with old new Begin reply _ act.1 (begin_result old new act.0 act.2)
@@ -30,11 +30,11 @@ act_line old new Collect reply lawful act = line_with old new Collect reply _ ac
 act_line old new Number reply lawful act = line_with old new Number reply _ act.0 (subst (λ c. IsLine old Number (Count old.cycle.count) c) (sym act.1) (number_line old))
 
 -- what the calls leave has the laws of a map
-lawful_after : (old : Contents) → IsLawful old.store.states → {lines : List Told} {new : Contents} → AreActs old lines new → IsLawful new.store.states
+lawful_after : (old : CoreContents) → IsLawful old.store.states → {lines : List Told} {new : CoreContents} → AreActs old lines new → IsLawful new.store.states
 lawful_after old lawful AreActs.none = lawful
 lawful_after old lawful (AreActs.more told before act core) = core.lawful
 
-pub acts_lines : (old : Contents) → IsLawful old.store.states → {lines : List Told} {new : Contents} → AreActs old lines new → AreLines old lines new
+pub acts_lines : (old : CoreContents) → IsLawful old.store.states → {lines : List Told} {new : CoreContents} → AreActs old lines new → AreLines old lines new
 acts_lines old lawful AreActs.none = no_lines old
 acts_lines old lawful (AreActs.more {lines = lines} {mid = mid} {new = new} told before act core) =
     lines_more old mid new lines told.event told.reply (acts_lines old lawful before) (act_line mid new told.event told.reply (lawful_after old lawful before) act)
@@ -46,7 +46,7 @@ told_more [] (r ∷ replies) event reply same = absurd (omega arith)
 told_more (e ∷ events) [] event reply same = absurd (omega arith)
 told_more (e ∷ events) (r ∷ replies) event reply same = ap (λ xs. record { event = e; reply = r } ∷ xs) (told_more events replies event reply (omega arith))
 
-pub run_more : (old mid new : Contents) (events : List Event) (replies : List Reply) (i : ℕ) (event : Event) (reply : Reply) → i < length events → length events ≡ length replies → event ≡ get_or events i event
+pub run_more : (old mid new : CoreContents) (events : List Event) (replies : List Reply) (i : ℕ) (event : Event) (reply : Reply) → i < length events → length events ≡ length replies → event ≡ get_or events i event
     → AreActs old (told_of (take i events) (take i replies)) mid → IsAct mid event reply new → IsCore new → AreActs old (told_of (take (i + 1) events) (take (i + 1) (set replies i reply))) new
 run_more old mid new events replies i event reply lt same is so next core =
     subst (λ lines. AreActs old lines new) (sym lists) (AreActs.more (record { event = event; reply = reply }) so next core)
@@ -57,6 +57,6 @@ run_more old mid new events replies i event reply lt same is so next core =
         ∙ ap (λ rs. told_of (take i events ++ event ∷ []) rs) (take_more_set replies i reply (omega arith))
         ∙ told_more (take i events) (take i replies) event reply (length-take-le i events (omega arith) ∙ sym (length-take-le i replies (omega arith)))
 
-pub run_all : (old new : Contents) (events : List Event) (replies : List Reply) (i : ℕ) → length events ≤ i → length events ≡ length replies → AreActs old (told_of (take i events) (take i replies)) new → AreActs old (told_of events replies) new
+pub run_all : (old new : CoreContents) (events : List Event) (replies : List Reply) (i : ℕ) → length events ≤ i → length events ≡ length replies → AreActs old (told_of (take i events) (take i replies)) new → AreActs old (told_of events replies) new
 run_all old new events replies i all same lines =
     subst (λ rs. AreActs old (told_of events rs) new) (take_all i replies (omega arith)) (subst (λ es. AreActs old (told_of es (take i replies)) new) (take_all i events all) lines)

@@ -7,12 +7,12 @@ use Rattle.std.proofs.lemmas.Bool.{true≢false, eq-eqb, ne_eqb, eqb-true, leb-t
 use Rattle.std.proofs.lemmas.Option.{same_Some, none-some}
 use Rattle.std.proofs.lemmas.List.Folds.{Any-from_list_any}
 use Rattle.words.specs.declared.limits.TheConstants.{FIRST_ADDRESS}
-use Rattle.heap_spec.specs.Layout.{Reads}
-use Rattle.heap_spec.specs.Heap.{Heap, Object, Link as HeapLink, IsSameObject, with_at, HasObject, ReadsObject, without, without_at, names, lies_in, loses_word, is_born, covers, cleared, with_cleared}
+use Rattle.heap_spec.specs.Layout.{PointsInto}
+use Rattle.heap_spec.specs.Heap.{Heap, Object, Link as HeapLink, IsSameObject, with_at, HasObject, PointsIntoObject, without, without_at, names, lies_in, loses_word, is_born, covers, cleared, with_cleared}
 use Rattle.heap_spec.specs.Sound.{HaveDistinctBirths}
 use Rattle.heap_spec.proofs.Objects.{without_some, without_other, with_at-same, with_at-other}
 use Rattle.heap_spec.proofs.Links.{left_by, stays_by, names_yes, lies_yes, neither, length-cleared, cleared_at}
-use Rattle.pages.specs.Memory.{place}
+use Rattle.pages.specs.Memory.{word_index}
 use Rattle.block_map.specs.Objects.{IsMap}
 use Rattle.block_map.specs.declared.found.Found.{Found}
 use Rattle.links.specs.declared.row.Link.{Link}
@@ -22,7 +22,7 @@ use Rattle.heap_view.specs.Shows.{Shows, ShowsObjects, IsShown}
 use Rattle.block_map.specs.FoundIn.{found_in}
 use Rattle.marker.specs.Marking.{Marking, word_address}
 use Rattle.marker.specs.Invariant.{IsTargetMarked, IsSettled}
-use Rattle.heap_core.specs.Contents.{Cycle, IsTraced}
+use Rattle.heap_core.specs.CoreContents.{Cycle, IsTraced}
 use Rattle.heap_view.proofs.Shows.{reads_object, seen}
 use Rattle.object_space.specs.Store.{Store}
 use Rattle.object_space.specs.Along.{IsBesideWords, TakesAlong, clears, stays, is_kept_at, is_base_of, has_base, is_cleared}
@@ -37,8 +37,8 @@ beside_is t t' b =
     ap (λ x. record t' { free = x }) b.free ∙ ap (λ x. record t' { free = t.free; states = x }) b.states ∙ ap (λ x. record t' { free = t.free; states = t.states; pending = x }) b.pending
 
 -- objects whose addresses are read by one alone
-abbrev pub ReadsOne : Heap → Type 0
-ReadsOne s = (w a b : ℕ) (o p : Object) → ReadsObject s w a o → ReadsObject s w b p → a ≡ b
+abbrev pub PointsIntoOne : Heap → Type 0
+PointsIntoOne s = (w a b : ℕ) (o p : Object) → PointsIntoObject s w a o → PointsIntoObject s w b p → a ≡ b
 
 both_not : (x y a b : Bool) → a ≡ not y → b ≡ not x → (a && b) ≡ not (x || y)
 both_not true y a b ea eb = ap (λ c. a && c) eb ∙ and_no a
@@ -64,12 +64,12 @@ and_parts : (x y : Bool) → (x && y) ≡ true → (x ≡ true) × (y ≡ true)
 and_parts true y e = (refl, e)
 and_parts false y e = absurd (true≢false (sym e))
 
-covers_some : (b : ℕ) (x : Option Object) (w : ℕ) → covers b x w ≡ true → (o : Object) × (x ≡ Some o) × Reads w b (length o.words)
+covers_some : (b : ℕ) (x : Option Object) (w : ℕ) → covers b x w ≡ true → (o : Object) × (x ≡ Some o) × PointsInto w b (length o.words)
 covers_some b None w e = absurd (true≢false (sym e))
 covers_some b (Some o) w e = let both = and_parts _ _ e in (o, refl, (leb-true _ _ both.0, ltb-true _ _ both.1))
 
 module _ (kept : ℕ → Option Found) (pages : ℕ) (map : IsMap pages kept) (words words' : List ℕ) (s : Heap) (bases : List ℕ) (row : List Link)
-    (shows : Shows kept words (without_at s.objects bases) s.births) (distinct : HaveDistinctBirths s.objects) (one : ReadsOne s) where
+    (shows : Shows kept words (without_at s.objects bases) s.births) (distinct : HaveDistinctBirths s.objects) (one : PointsIntoOne s) where
   -- the object that a link names stays, or not
   base_kept : (l : Link) (h : HeapLink) → IsNamed s.objects l h → (Contains bases l.base → ⊥) → is_base_of kept l.base ≡ true
   base_kept l h n out =
@@ -98,7 +98,7 @@ module _ (kept : ℕ → Option Found) (pages : ℕ) (map : IsMap pages kept) (w
       let size = f.3.size in let at = f.2 in let from = n.in_holder.0 in let below = n.in_holder.1 in
       ap is_some (map.whole n.holder_base l.address f.0 f.1 (record { from = omega arith; below = omega arith }))
 
-  holder_gone : (l : Link) (r : Option Found) → kept l.address ≡ r → (b : ℕ) (o : Object) → Contains bases b → s.objects b ≡ Some o → Reads l.address b (length o.words) → is_some r ≡ false
+  holder_gone : (l : Link) (r : Option Found) → kept l.address ≡ r → (b : ℕ) (o : Object) → Contains bases b → s.objects b ≡ Some o → PointsInto l.address b (length o.words) → is_some r ≡ false
   holder_gone l None e b o among has reads = refl
   holder_gone l (Some g) e b o among has reads =
       let read = reads_object kept pages map words (without_at s.objects bases) shows.shown l.address g e in
@@ -110,9 +110,9 @@ module _ (kept : ℕ → Option Found) (pages : ℕ) (map : IsMap pages kept) (w
   holder_lies l h n true e =
       let b = Any-from_list_any (λ b. covers b (s.objects b) h.address) bases e in
       let o = covers_some b.1 (s.objects b.1) h.address b.4 in
-      holder_gone l (kept l.address) refl b.1 o.0 (b.0, b.2, b.3) o.1 (subst (λ a. Reads a b.1 (length o.0.words)) n.address o.2)
+      holder_gone l (kept l.address) refl b.1 o.0 (b.0, b.2, b.3) o.1 (subst (λ a. PointsInto a b.1 (length o.0.words)) n.address o.2)
   holder_lies l h n false e =
-      holder_stays l h n (λ among. true≢false (sym (lies_yes s bases h n.holder_base n.holder (n.held, subst (λ a. Reads a n.holder_base (length n.holder.words)) (sym n.address) n.in_holder) among) ∙ e))
+      holder_stays l h n (λ among. true≢false (sym (lies_yes s bases h n.holder_base n.holder (n.held, subst (λ a. PointsInto a n.holder_base (length n.holder.words)) (sym n.address) n.in_holder) among) ∙ e))
 
   stay_same : (l : Link) (h : HeapLink) → IsNamed s.objects l h → stays kept l ≡ not (names s bases h || lies_in s bases h)
   stay_same l h n = both_not (names s bases h) (lies_in s bases h) (is_kept_at kept l.address) (is_base_of kept l.base) (holder_lies l h n (lies_in s bases h) refl) (base_names l h n (names s bases h) refl)
@@ -122,7 +122,7 @@ module _ (kept : ℕ → Option Found) (pages : ℕ) (map : IsMap pages kept) (w
       let no = neither (names s bases h) (lies_in s bases h) (sym (stay_same l h n) ∙ is) in
       let out : Contains bases l.base → ⊥ = λ among. true≢false (sym (names_yes s bases h l.base n.object n.has n.names among) ∙ no.0) in
       let apart : Contains bases n.holder_base → ⊥ =
-      λ among. true≢false (sym (lies_yes s bases h n.holder_base n.holder (n.held, subst (λ a. Reads a n.holder_base (length n.holder.words)) (sym n.address) n.in_holder) among) ∙ no.1) in
+      λ among. true≢false (sym (lies_yes s bases h n.holder_base n.holder (n.held, subst (λ a. PointsInto a n.holder_base (length n.holder.words)) (sym n.address) n.in_holder) among) ∙ no.1) in
       record {
         address = n.address;
         aligned = n.aligned;
@@ -140,7 +140,7 @@ module _ (kept : ℕ → Option Found) (pages : ℕ) (map : IsMap pages kept) (w
 
   -- a link at the address of the word i of a kept object
   module _ (f : Found) (there : kept f.base ≡ Some f) (i : ℕ) (lt : i < f.len) where
-    unkept : (l : Link) (r : Option Found) → kept l.address ≡ r → l.address % 8 ≡ 0 → l.address ≢ f.base + 8 * i → place l.address ≡ place f.base + i → is_some r ≡ false
+    unkept : (l : Link) (r : Option Found) → kept l.address ≡ r → l.address % 8 ≡ 0 → l.address ≢ f.base + 8 * i → word_index l.address ≡ word_index f.base + i → is_some r ≡ false
     unkept l None e aligned ne same = refl
     unkept l (Some g) e aligned ne same =
         let above = (map.placed l.address g e).above in let from = (map.reads l.address g e).from in
@@ -148,29 +148,29 @@ module _ (kept : ℕ → Option Found) (pages : ℕ) (map : IsMap pages kept) (w
         absurd (ne (omega arith))
 
     here : (l : Link) (h : HeapLink) → IsNamed s.objects l h → h.address ≡ f.base + 8 * i
-        → ((place l.address == (place f.base + i)) && is_cleared kept l) ≡ ((h.address == (f.base + 8 * i)) && names s bases h)
+        → ((word_index l.address == (word_index f.base + i)) && is_cleared kept l) ≡ ((h.address == (f.base + 8 * i)) && names s bases h)
     here l h n e =
         let at : l.address ≡ f.base + 8 * i = sym n.address ∙ e in
         let low = (map.placed f.base f there).above in let even = (map.placed f.base f there).aligned in
         let found : kept l.address ≡ Some f = map.whole f.base l.address f there (record { from = omega arith; below = omega arith }) in
-        ap (λ b. b && is_cleared kept l) (eq-eqb (place l.address) (place f.base + i) (omega arith))
+        ap (λ b. b && is_cleared kept l) (eq-eqb (word_index l.address) (word_index f.base + i) (omega arith))
         ∙ ap (λ r. is_some r && not (is_base_of kept l.base)) found
         ∙ ap not (base_names l h n (names s bases h) refl)
         ∙ not_not (names s bases h)
         ∙ sym (ap (λ b. b && names s bases h) (eq-eqb h.address (f.base + 8 * i) e))
 
     elsewhere : (l : Link) (h : HeapLink) → IsNamed s.objects l h → h.address ≢ f.base + 8 * i
-        → ((place l.address == (place f.base + i)) && is_cleared kept l) ≡ ((h.address == (f.base + 8 * i)) && names s bases h)
+        → ((word_index l.address == (word_index f.base + i)) && is_cleared kept l) ≡ ((h.address == (f.base + 8 * i)) && names s bases h)
     elsewhere l h n ne =
         ⊎_elim
-        (λ same. ap (λ b. b && is_cleared kept l) (eq-eqb (place l.address) (place f.base + i) same)
+        (λ same. ap (λ b. b && is_cleared kept l) (eq-eqb (word_index l.address) (word_index f.base + i) same)
         ∙ ap (λ b. b && not (is_base_of kept l.base)) (unkept l (kept l.address) refl n.aligned (λ e. ne (n.address ∙ e)) same))
-        (λ other. ap (λ b. b && is_cleared kept l) (ne_eqb (place l.address) (place f.base + i) other))
-        (cases_eq (place l.address) (place f.base + i))
+        (λ other. ap (λ b. b && is_cleared kept l) (ne_eqb (word_index l.address) (word_index f.base + i) other))
+        (cases_eq (word_index l.address) (word_index f.base + i))
         ∙ sym (ap (λ b. b && names s bases h) (ne_eqb h.address (f.base + 8 * i) ne))
 
-    word_same : AreNamed s.objects row s.links → clears kept row (place f.base + i) ≡ loses_word s bases (f.base + 8 * i)
-    word_same are = named_any s.objects (λ l. (place l.address == (place f.base + i)) && is_cleared kept l) (λ h. (h.address == (f.base + 8 * i)) && names s bases h)
+    word_same : AreNamed s.objects row s.links → clears kept row (word_index f.base + i) ≡ loses_word s bases (f.base + 8 * i)
+    word_same are = named_any s.objects (λ l. (word_index l.address == (word_index f.base + i)) && is_cleared kept l) (λ h. (h.address == (f.base + 8 * i)) && names s bases h)
         (λ l h n. ⊎_elim (here l h n) (elsewhere l h n) (cases_eq h.address (f.base + 8 * i))) are
 
   -- what is left, with the words of the links that have gone
@@ -187,8 +187,8 @@ module _ (kept : ℕ → Option Found) (pages : ℕ) (map : IsMap pages kept) (w
               word = λ i lt.
                   cleared_at (loses_word s bases) f.base old.0.words i
                   ∙ ap (λ b. cond b 0 (slice_index old.0.words i)) (sym (word_same f there i lt are))
-                  ∙ ap (λ w. cond (clears kept row (place f.base + i)) 0 w) (old.2.word i lt)
-                  ∙ sym (changed (place f.base + i));
+                  ∙ ap (λ w. cond (clears kept row (word_index f.base + i)) 0 w) (old.2.word i lt)
+                  ∙ sym (changed (word_index f.base + i));
             },
           );
       only = λ b p e. let left = left_by s bases b p e in shows.shown.only b left.object (without_other s.objects bases b left.out ∙ left.has);
@@ -211,7 +211,7 @@ pub zeroes_along : (kept : ℕ → Option Found) (row : List Link) (t t' : Store
 zeroes_along kept row t t' x = record { each = λ k. zero_or_same (clears kept row k) (slice_index t'.words k) (slice_index t.words k) (x.words k) }
 
 -- an address is read by one object of a heap alone
-pub reads_one : (kept : ℕ → Option Found) (pages : ℕ) → IsMap pages kept → (words : List ℕ) (s : Heap) → ShowsObjects kept words s.objects → ReadsOne s
+pub reads_one : (kept : ℕ → Option Found) (pages : ℕ) → IsMap pages kept → (words : List ℕ) (s : Heap) → ShowsObjects kept words s.objects → PointsIntoOne s
 reads_one kept pages map words s shows w a b o p r q =
     let f = seen kept pages map words s.objects shows a o r.0 in
     let g = seen kept pages map words s.objects shows b p q.0 in
@@ -244,20 +244,20 @@ traced_along kept row t t' y map x along = subst (λ z. IsTraced z y) (sym (besi
   objects = x.objects;
   swept = x.swept;
   invariant = λ is f there kind marked i lt.
-      let each = (zeroes_along kept row t t' along).each (place (word_address f i)) in
+      let each = (zeroes_along kept row t t' along).each (word_index (word_address f i)) in
       ⊎_elim
       (λ target. inl (⊎_elim
-      (λ same. subst (IsTargetMarked (found_in t.states) y.marking) (sym same) target)
-      (λ zero. subst (IsTargetMarked (found_in t.states) y.marking) (sym zero) (nothing_at (length t.states) (found_in t.states) map y.marking))
+      (λ same. subst (IsTargetMarked (found_in t.states) y.marker) (sym same) target)
+      (λ zero. subst (IsTargetMarked (found_in t.states) y.marker) (sym zero) (nothing_at (length t.states) (found_in t.states) map y.marker))
       each))
       (λ awaited. inr awaited)
       (x.invariant is f there kind marked i lt);
   carried = λ is f there kind marked i lt.
-      let each = (zeroes_along kept row t t' along).each (place (word_address f i)) in
+      let each = (zeroes_along kept row t t' along).each (word_index (word_address f i)) in
       ⊎_elim
       (λ settled. inl (⊎_elim
-      (λ same. subst (IsSettled (found_in t.states) y.marking (word_address f i)) (sym same) settled)
-      (λ zero. subst (IsSettled (found_in t.states) y.marking (word_address f i)) (sym zero) (IsSettled.outside (inl (omega arith))))
+      (λ same. subst (IsSettled (found_in t.states) y.marker (word_address f i)) (sym same) settled)
+      (λ zero. subst (IsSettled (found_in t.states) y.marker (word_address f i)) (sym zero) (IsSettled.outside (inl (omega arith))))
       each))
       (λ awaited. inr awaited)
       (x.carried is f there kind marked i lt);

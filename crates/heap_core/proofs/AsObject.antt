@@ -8,12 +8,12 @@ use Rattle.heap_spec.specs.declared.event.Event.{Event}
 use Rattle.heap_spec.specs.declared.event.Event.TheVariants.{Attach, Mutator, Begin, BeginPartial, Roots, Mark, Retrace, Finish, Sweep, Collect, Number}
 use Rattle.heap_spec.specs.declared.reply.Reply.{Reply}
 use Rattle.heap_spec.specs.Heap.{Heap}
-use Rattle.heap_spec.specs.Runs.{Start, Run, Touched, fresh, is_marking, needs_full, goes_on}
+use Rattle.heap_spec.specs.Runs.{Start, Run, Touched, opening_start, is_marking, needs_full, goes_on}
 use Rattle.heap_spec.specs.Histories.{Happens}
 use Rattle.heap_spec.specs.Transcripts.{LineOf, IsWrongPhase}
 use Rattle.heap_spec.specs.Ranges.{InRange}
 use Rattle.heap_spec.specs.SequentialObject.{HeapState, heap_of, MayMake, StateStep}
-use Rattle.heap_core.specs.Contents.{Contents}
+use Rattle.heap_core.specs.CoreContents.{CoreContents}
 use Rattle.heap_core.specs.Standing.{StandsFor}
 use Rattle.heap_core.specs.Collections.{ClosesMarks, IsGrantedInPhase}
 use Rattle.heap_core.specs.Following.{Follows, IsLine}
@@ -21,7 +21,7 @@ use Rattle.heap_core.specs.AsObject.{Stands, Can}
 use Rattle.heap_core.proofs.Following.{marks_follow}
 
 -- who may ask the core for an event fits it
-can_fits : (c : Contents) (s : Heap) (who : ℕ) (event : Event) → StandsFor c s → Can c who event → MayMake s who event
+can_fits : (c : CoreContents) (s : Heap) (who : ℕ) (event : Event) → StandsFor c s → Can c who event → MayMake s who event
 can_fits c s who Attach stands can = (can.0, rw stands.mutators (can.1.is_vacant, can.1.lowest))
 can_fits c s who (Mutator slot call) stands can = record { range = can.range; own = can.own; mutator = can.mutator; attached = ap (λ l. slice_get l who) stands.mutators ∙ can.attached }
 can_fits c s who Begin stands can = can.0
@@ -35,7 +35,7 @@ can_fits c s who Collect stands can = can
 can_fits c s who Number stands can = can
 
 -- and the phase grants it
-can_right : (c : Contents) (who : ℕ) (event : Event) (marking : Bool) → c.cycle.is_marking ≡ marking → Can c who event → IsWrongPhase marking event → ⊥
+can_right : (c : CoreContents) (who : ℕ) (event : Event) (marking : Bool) → c.cycle.is_marking ≡ marking → Can c who event → IsWrongPhase marking event → ⊥
 can_right c who Attach marking is can wrong = wrong
 can_right c who (Mutator slot call) marking is can wrong = wrong
 can_right c who Begin marking is can wrong = true≢false (sym wrong ∙ (sym is ∙ can.1))
@@ -49,7 +49,7 @@ can_right c who Collect marking is can wrong = wrong
 can_right c who Number marking is can wrong = wrong
 
 -- and no full cycle is needed where one would be refused
-can_need : (c : Contents) (who : ℕ) (event : Event) → event ≡ BeginPartial → Can c who event → c.cycle.needs_full ≡ false
+can_need : (c : CoreContents) (who : ℕ) (event : Event) → event ≡ BeginPartial → Can c who event → c.cycle.needs_full ≡ false
 can_need c who event is can = let partial = subst (Can c who) is can in partial.2
 
 -- So its line goes on by what happens.
@@ -64,9 +64,9 @@ happened start run s who (LineOf.retrace on few) fits right need = absurd fits
 happened start run s who (LineOf.sweep few) fits right need = absurd fits
 happened start run s who LineOf.number fits right need = absurd fits
 
-pub line_steps : (old new : Contents) (who : ℕ) (event : Event) (reply : Reply) → Can old who event → InRange event → IsLine old event reply new → StepsFrom Stands StateStep old who event reply new
+pub line_steps : (old new : CoreContents) (who : ℕ) (event : Event) (reply : Reply) → Can old who event → InRange event → IsLine old event reply new → StepsFrom Stands StateStep old who event reply new
 line_steps old new who event reply can range line state follows =
-    let start = fresh state.pages in
+    let start = opening_start state.pages in
     let next = line start state.run follows in
     let fits = can_fits old (heap_of state) who event follows.stands can in
     let went = happened start state.run (heap_of state) who next.1 fits (can_right old who event (is_marking start state.run) follows.phase can) (λ is. sym follows.needs ∙ can_need old who event is can) in (
@@ -114,12 +114,12 @@ run_stays start run quiet (LineOf.sweep few) = refl
 run_stays start run quiet LineOf.number = refl
 
 -- so that the core stands afterwards for all that it stood for
-pub line_stays : (old new : Contents) (event : Event) (reply : Reply) → IsQuiet event → IsLine old event reply new → (state : HeapState) → Stands old state → Stands new state
+pub line_stays : (old new : CoreContents) (event : Event) (reply : Reply) → IsQuiet event → IsLine old event reply new → (state : HeapState) → Stands old state → Stands new state
 line_stays old new event reply quiet line state follows =
-    let next = line (fresh state.pages) state.run follows in
-    subst (λ (run : Run). Follows new (fresh state.pages) run) (run_stays (fresh state.pages) state.run quiet next.1) next.2
+    let next = line (opening_start state.pages) state.run follows in
+    subst (λ (run : Run). Follows new (opening_start state.pages) run) (run_stays (opening_start state.pages) state.run quiet next.1) next.2
 
 -- Closing the marks is no event either.
-pub closes_stay : (old new : Contents) (r : Result ⊤ Refusal) → IsGrantedInPhase true old r new (λ _. ClosesMarks old new) → (state : HeapState) → Stands old state → Stands new state
-closes_stay old new (Ok done) g state follows = marks_follow (root_words_of old.roots) old new g.0 g.1.marks (fresh state.pages) state.run follows
-closes_stay old new (Err why) g state follows = subst (λ (c : Contents). Stands c state) (sym g.2) follows
+pub closes_stay : (old new : CoreContents) (r : Result ⊤ Refusal) → IsGrantedInPhase true old r new (λ _. ClosesMarks old new) → (state : HeapState) → Stands old state → Stands new state
+closes_stay old new (Ok done) g state follows = marks_follow (root_words_of old.roots) old new g.0 g.1.marks (opening_start state.pages) state.run follows
+closes_stay old new (Err why) g state follows = subst (λ (c : CoreContents). Stands c state) (sym g.2) follows

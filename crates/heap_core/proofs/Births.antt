@@ -19,7 +19,7 @@ use Rattle.object_space.specs.Rooms.{IsRequest}
 use Rattle.object_space.proofs.Placing.{sized}
 
 -- where there is room for a request no object has its base
-room_none : (s : Heap) (place : Placement) (kind : Kind) (a : ℕ) → IsRequest place → HasRoom s place kind a → (o : Object) → HasObject s a o → 0 < length o.words → ⊥
+room_none : (s : Heap) (placement : Placement) (kind : Kind) (a : ℕ) → IsRequest placement → HasRoom s placement kind a → (o : Object) → HasObject s a o → 0 < length o.words → ⊥
 room_none s (Small class) kind a fit room o has some = ⊎_elim (λ empty. empty a o has (lies class room.in_page room.is_cell)) (λ cut. none-some o (sym cut.1 ∙ has)) room.cut
   where
     lies : (class : ℕ) → class * (room.cell + 1) ≤ 512 → a ≡ 268435456 + 4096 * room.page + 8 * (class * room.cell) → LiesOn a (length o.words) room.page
@@ -39,8 +39,8 @@ acts_apart s all slot m (Acts.stored {base = b} {o = x} al reads) base p has bor
     (λ here. let e = ap (λ (y : Object). y.birth) (same_Some _ p here.1) in let old = all.born b x reads.0 in omega arith)
     (λ other. let old = all.born base p other.1 in omega arith)
     (at_cases s.objects b _ base _ has)
-acts_apart s all slot m (Acts.allocated {n = n} {kind = kind} {place = place} a e room) base p has born o was = ⊎_elim
-    (λ here. room_none s place kind a (sized n place e) room o (ap s.objects (sym here.0) ∙ was) (all.some base o was))
+acts_apart s all slot m (Acts.allocated {n = n} {kind = kind} {placement = placement} a e room) base p has born o was = ⊎_elim
+    (λ here. room_none s placement kind a (sized n placement e) room o (ap s.objects (sym here.0) ∙ was) (all.some base o was))
     (λ other. let old = all.born base p other.1 in omega arith)
     (at_cases s.objects a _ base _ has)
 acts_apart s all slot m (Acts.freed {r = r} gone) base p has born o was =

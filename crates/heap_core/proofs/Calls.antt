@@ -37,8 +37,8 @@ use Rattle.block_map.specs.declared.found.Found.{Found}
 use Rattle.links.specs.declared.row.Link.{Link}
 use Rattle.roots.specs.Roots.{RootSet, HasMutator, SetsWord}
 use Rattle.object_space.specs.Store.{Store, IsSwept}
-use Rattle.heap_core.specs.Contents.{Cycle}
-use Rattle.heap_core.specs.Calls.{IsCall, Frees}
+use Rattle.heap_core.specs.CoreContents.{Cycle}
+use Rattle.heap_core.specs.MutatorCalls.{IsCall, Frees}
 use Rattle.heap_core.specs.Beside.{NotesObject}
 use Rattle.object_space.specs.Sweeps.{Gains, Loses, Sweeps}
 use Rattle.heap_view.specs.Shows.{Shows}
@@ -57,23 +57,23 @@ use Rattle.heap_core.proofs.Forgotten.{forgotten_added, forgotten_removed, forgo
 use Rattle.heap_core.proofs.Roots.{not_done, dirty_event, refused_clean, core_of, attached, stands_set, none_some, frees_event, frees_reply}
 
 -- pages were swept
-pub swept_stands : (roots : RootSet) (t0 t : Store) (y : Cycle) {ls : List Link} → Sweeps t0 y.marking.marks t → (s : Heap) → StandsFor (core_of roots t0 y ls) s → StandsFor (core_of roots t y ls) s
+pub swept_stands : (roots : RootSet) (t0 t : Store) (y : Cycle) {ls : List Link} → Sweeps t0 y.marker.marks t → (s : Heap) → StandsFor (core_of roots t0 y ls) s → StandsFor (core_of roots t y ls) s
 swept_stands roots t0 t y {ls = ls} sweeps s h = record {
   mutators = h.mutators;
   globals = h.globals;
   links = h.links;
   store = record {
     pages = h.store.pages ∙ sym sweeps.pages;
-    shows = shows_kept (kept_in t.states t.pending y.marking.marks) t0.words t.words s.objects s.births low (λ f i there lt. sweeps.words f i (kept_cases (is_kept t.pending y.marking.marks) (found_in t.states) f.base f there).0 lt)
-        (shows_same (kept_in t0.states t0.pending y.marking.marks) (kept_in t.states t.pending y.marking.marks) t0.words s.objects s.births sweeps.same h.store.shows);
+    shows = shows_kept (kept_in t.states t.pending y.marker.marks) t0.words t.words s.objects s.births low (λ f i there lt. sweeps.words f i (kept_cases (is_kept t.pending y.marker.marks) (found_in t.states) f.base f there).0 lt)
+        (shows_same (kept_in t0.states t0.pending y.marker.marks) (kept_in t.states t.pending y.marker.marks) t0.words s.objects s.births sweeps.same h.store.shows);
   };
 }
   where
-    low : (f : Found) → kept_in t.states t.pending y.marking.marks f.base ≡ Some f → FIRST_ADDRESS ≤ f.base
-    low f there = (sweeps.before.placed f.base f (kept_cases (is_kept t0.pending y.marking.marks) (found_in t0.states) f.base f (sym (sweeps.same.same f.base) ∙ there)).0).above
+    low : (f : Found) → kept_in t.states t.pending y.marker.marks f.base ≡ Some f → FIRST_ADDRESS ≤ f.base
+    low f there = (sweeps.before.placed f.base f (kept_cases (is_kept t0.pending y.marker.marks) (found_in t0.states) f.base f (sym (sweeps.same.same f.base) ∙ there)).0).above
 
 -- what was kept is kept, and so is the object that came
-module _ (t t' : Store) (y y' : Cycle) (place : Placement) (kind : Kind) (base : ℕ) (gains : Gains t place kind base t') (notes : NotesObject y.is_marking base y.marking y'.marking) where
+module _ (t t' : Store) (y y' : Cycle) (placement : Placement) (kind : Kind) (base : ℕ) (gains : Gains t placement kind base t') (notes : NotesObject y.is_marking base y.marker y'.marker) where
   here : found_in t'.states gains.object.base ≡ Some gains.object
   here = ap (found_in t'.states) gains.at ∙ gains.found
 
@@ -93,67 +93,67 @@ module _ (t t' : Store) (y y' : Cycle) (place : Placement) (kind : Kind) (base :
           let one : x ≡ gains.object = same_object (length t'.states) (found_in t'.states) gains.map x gains.object now here (same ∙ ap granule (sym gains.at)) in
           subst (IsInside x.base) one (gains.map.reads x.base x now)
 
-  keeps_same : (w : ℕ) (x : Found) → found_in t.states w ≡ Some x → is_kept t'.pending y'.marking.marks x ≡ is_kept t.pending y.marking.marks x
+  keeps_same : (w : ℕ) (x : Found) → found_in t.states w ≡ Some x → is_kept t'.pending y'.marker.marks x ≡ is_kept t.pending y.marker.marks x
   keeps_same w x there =
-      ap (λ row. is_kept row y'.marking.marks x) gains.pending
+      ap (λ row. is_kept row y'.marker.marks x) gains.pending
       ∙ ap (λ b. cond (get_or t.pending x.page false) b true) (notes.others (granule x.base) (apart w x there))
 
-  keeps_new : is_kept t'.pending y'.marking.marks gains.object ≡ true
-  keeps_new = nothing_pending t'.pending y'.marking.marks gains.object (λ h. false≢true (sym (ap (λ row. get_or row gains.object.page false) gains.pending ∙ gains.swept) ∙ h))
+  keeps_new : is_kept t'.pending y'.marker.marks gains.object ≡ true
+  keeps_new = nothing_pending t'.pending y'.marker.marks gains.object (λ h. false≢true (sym (ap (λ row. get_or row gains.object.page false) gains.pending ∙ gains.swept) ∙ h))
 
-  pub stores_new : (s : Heap) → Stores (is_kept t.pending y.marking.marks) t s → Stores (is_kept t'.pending y'.marking.marks) t' (with_new s base kind place)
+  pub stores_new : (s : Heap) → Stores (is_kept t.pending y.marker.marks) t s → Stores (is_kept t'.pending y'.marker.marks) t' (with_new s base kind placement)
   stores_new s stores = record {
     pages = stores.pages ∙ sym gains.pages;
-    shows = subst (λ b. Shows (restrict (is_kept t'.pending y'.marking.marks) (found_in t'.states)) t'.words (with_at s.objects b (Some (record { birth = s.births + 1; kind = kind; words = replicate (length_of place) 0 }))) (s.births + 1)) gains.at
-        (shows_added (restrict (is_kept t.pending y.marking.marks) (found_in t.states)) (restrict (is_kept t'.pending y'.marking.marks) (found_in t'.states)) (length t.states)
-        (kept_map (length t.states) (is_kept t.pending y.marking.marks) (found_in t.states) gains.before) t.words t'.words s.objects s.births stores.shows gains.object (length_of place) kind
-        (kept_added (is_kept t.pending y.marking.marks) (is_kept t'.pending y'.marking.marks) (found_in t.states) (found_in t'.states) gains.object gains.added keeps_new keeps_same)
-        (λ g i there lt. gains.words g i (kept_cases (is_kept t.pending y.marking.marks) (found_in t.states) g.base g there).0 lt) gains.zeroed gains.size gains.of_kind placed.some placed.above placed.aligned);
+    shows = subst (λ b. Shows (restrict (is_kept t'.pending y'.marker.marks) (found_in t'.states)) t'.words (with_at s.objects b (Some (record { birth = s.births + 1; kind = kind; words = replicate (length_of placement) 0 }))) (s.births + 1)) gains.at
+        (shows_added (restrict (is_kept t.pending y.marker.marks) (found_in t.states)) (restrict (is_kept t'.pending y'.marker.marks) (found_in t'.states)) (length t.states)
+        (kept_map (length t.states) (is_kept t.pending y.marker.marks) (found_in t.states) gains.before) t.words t'.words s.objects s.births stores.shows gains.object (length_of placement) kind
+        (kept_added (is_kept t.pending y.marker.marks) (is_kept t'.pending y'.marker.marks) (found_in t.states) (found_in t'.states) gains.object gains.added keeps_new keeps_same)
+        (λ g i there lt. gains.words g i (kept_cases (is_kept t.pending y.marker.marks) (found_in t.states) g.base g there).0 lt) gains.zeroed gains.size gains.of_kind placed.some placed.above placed.aligned);
   }
     where
       placed : IsPlaced (length t'.states) gains.object
       placed = gains.map.placed gains.object.base gains.object here
 
   -- no object of the heap has its base
-  pub none_at : (s : Heap) → Stores (is_kept t.pending y.marking.marks) t s → (b : ℕ) (o : Object) → b ≡ base → HasObject s b o → ⊥
+  pub none_at : (s : Heap) → Stores (is_kept t.pending y.marker.marks) t s → (b : ℕ) (o : Object) → b ≡ base → HasObject s b o → ⊥
   none_at s stores b o same has =
       let f = stores.shows.shown.only b o has in
-      let there = (kept_cases (is_kept t.pending y.marking.marks) (found_in t.states) b f.0 f.1).0 in
+      let there = (kept_cases (is_kept t.pending y.marker.marks) (found_in t.states) b f.0 f.1).0 in
       none_some f.0 (sym (gains.added.before b (subst (λ x. IsInside x gains.object) (gains.at ∙ sym same) (gains.map.reads gains.object.base gains.object here))) ∙ there)
 
-allocated_step : (roots roots' : RootSet) (t t' : Store) (y y' : Cycle) {ls : List Link} (slot d n base : ℕ) (kind : Kind) (place : Placement) (m : HeapMutator) → HasMutator roots slot m → placement_of n ≡ Some place
-    → HasRoomAt t place kind base → Gains t place kind base t' → SetsWord roots slot d base roots' → NotesObject y.is_marking base y.marking y'.marking → IsStep (StandsFor (core_of roots t y ls)) (Mutator slot (Alloc d n kind)) Done (StandsFor (core_of roots' t' y' ls))
-allocated_step roots roots' t t' y y' {ls = ls} slot d n base kind place m at is room gains sets notes s h =
-    let new = stores_new t t' y y' place kind base gains notes s h.store in
-    let after : Heap = with_register (with_new s base kind place) slot m d base in (
+allocated_step : (roots roots' : RootSet) (t t' : Store) (y y' : Cycle) {ls : List Link} (slot d n base : ℕ) (kind : Kind) (placement : Placement) (m : HeapMutator) → HasMutator roots slot m → placement_of n ≡ Some placement
+    → HasRoomAt t placement kind base → Gains t placement kind base t' → SetsWord roots slot d base roots' → NotesObject y.is_marking base y.marker y'.marker → IsStep (StandsFor (core_of roots t y ls)) (Mutator slot (Alloc d n kind)) Done (StandsFor (core_of roots' t' y' ls))
+allocated_step roots roots' t t' y y' {ls = ls} slot d n base kind placement m at is room gains sets notes s h =
+    let new = stores_new t t' y y' placement kind base gains notes s h.store in
+    let after : Heap = with_register (with_new s base kind placement) slot m d base in (
       after,
-      Calls.acts (attached roots t y s slot m h at) (Acts.allocated base is (room (is_kept t.pending y.marking.marks) s h.store)),
-      stands_set roots roots' t t' y y' s after slot d base m h at sets refl refl (record { pages = new.pages; shows = new.shows }) (named_kept s.objects after.objects (λ b o has. (o, with_at-other s.objects base _ b (λ same. none_at t t' y y' place kind base gains notes s h.store b o same has) ∙ has, record { birth = refl; kind = refl; size = refl })) h.links),
+      Calls.acts (attached roots t y s slot m h at) (Acts.allocated base is (room (is_kept t.pending y.marker.marks) s h.store)),
+      stands_set roots roots' t t' y y' s after slot d base m h at sets refl refl (record { pages = new.pages; shows = new.shows }) (named_kept s.objects after.objects (λ b o has. (o, with_at-other s.objects base _ b (λ same. none_at t t' y y' placement kind base gains notes s h.store b o same has) ∙ has, record { birth = refl; kind = refl; size = refl })) h.links),
     )
 
-pub allocated : (roots roots' : RootSet) (t0 t t' : Store) (y y' : Cycle) {ls : List Link} (slot d n base : ℕ) (kind : Kind) (place : Placement) (m : HeapMutator) → HasMutator roots slot m → placement_of n ≡ Some place
-    → Sweeps t0 y.marking.marks t → HasRoomAt t place kind base → (gains : Gains t place kind base t') → SetsWord roots slot d base roots' → NotesObject y.is_marking base y.marking y'.marking → (IsMarked y.marking gains.object.base → ⊥) → y'.is_marking ≡ y.is_marking → y'.count ≡ y.count → y'.needs_full ≡ y.needs_full
+pub allocated : (roots roots' : RootSet) (t0 t t' : Store) (y y' : Cycle) {ls : List Link} (slot d n base : ℕ) (kind : Kind) (placement : Placement) (m : HeapMutator) → HasMutator roots slot m → placement_of n ≡ Some placement
+    → Sweeps t0 y.marker.marks t → HasRoomAt t placement kind base → (gains : Gains t placement kind base t') → SetsWord roots slot d base roots' → NotesObject y.is_marking base y.marker y'.marker → (IsMarked y.marker gains.object.base → ⊥) → y'.is_marking ≡ y.is_marking → y'.count ≡ y.count → y'.needs_full ≡ y.needs_full
     → IsCall (core_of roots t0 y ls) (Mutator slot (Alloc d n kind)) Done (core_of roots' t' y' ls)
-allocated roots roots' t0 t t' y y' {ls = ls} slot d n base kind place m at is sweeps room gains sets notes unmarked phase count needs = record {
-  steps = λ s h. allocated_step roots roots' t t' y y' slot d n base kind place m at is room gains sets notes s (swept_stands roots t0 t y sweeps s h);
+allocated roots roots' t0 t t' y y' {ls = ls} slot d n base kind placement m at is sweeps room gains sets notes unmarked phase count needs = record {
+  steps = λ s h. allocated_step roots roots' t t' y y' slot d n base kind placement m at is room gains sets notes s (swept_stands roots t0 t y sweeps s h);
   phase = phase;
   count = count;
   freed = λ h. absurd (no_free (frees_event (Mutator slot (Alloc d n kind)) Done h));
   needs_full = λ _. needs;
-  idle = λ is f there marked. let now = kept_cases (is_kept t'.pending y'.marking.marks) (found_in t'.states) f.base f there in was_there is f now.0 now.1 (subst (λ (m : Marking). IsMarked m f.base) (notes.idle is) marked);
+  idle = λ is f there marked. let now = kept_cases (is_kept t'.pending y'.marker.marks) (found_in t'.states) f.base f there in was_there is f now.0 now.1 (subst (λ (m : Marking). IsMarked m f.base) (notes.idle is) marked);
   carried = notes.carried;
   stays = λ f there marked. notes.stays (granule f.base) marked;
-  came = λ is f there none. let now = kept_cases (is_kept t'.pending y'.marking.marks) (found_in t'.states) f.base f there in came_marked is f now.0 now.1 none;
+  came = λ is f there none. let now = kept_cases (is_kept t'.pending y'.marker.marks) (found_in t'.states) f.base f there in came_marked is f now.0 now.1 none;
   stays_dirty = λ p h. subst (λ ds. Has ds p) (sym notes.dirty) h;
   current = notes.current;
   stack = notes.stack;
-  marks = λ f there marked. ⊎_elim (λ old. inl old) (λ same. inr (new f (kept_cases (is_kept t'.pending y'.marking.marks) (found_in t'.states) f.base f there).0 same)) (notes.marks (granule f.base) marked);
+  marks = λ f there marked. ⊎_elim (λ old. inl old) (λ same. inr (new f (kept_cases (is_kept t'.pending y'.marker.marks) (found_in t'.states) f.base f there).0 same)) (notes.marks (granule f.base) marked);
   dirty = λ p h. inl (subst (λ ds. Has ds p) notes.dirty h);
   fewer = λ p h. sweeps.fewer p (subst (λ row. Has row p) gains.pending h);
   swept = λ p h. inr tt;
   forgotten = λ w f.
-      let came = forgotten_added t t' y.marking.marks y'.marking.marks gains.object gains.added (keeps_new t t' y y' place kind base gains notes) (keeps_same t t' y y' place kind base gains notes) w f in
-      let swept = forgotten_swept t0 t y.marking.marks sweeps w f in (
+      let came = forgotten_added t t' y.marker.marks y'.marker.marks gains.object gains.added (keeps_new t t' y y' placement kind base gains notes) (keeps_same t t' y y' placement kind base gains notes) w f in
+      let swept = forgotten_swept t0 t y.marker.marks sweeps w f in (
         λ h. let was = swept.0 (came.0 h) in (was.0, subst (λ row. Has row f.page) (sym gains.pending) was.1),
         λ h. came.1 (swept.1 (h.0, subst (λ row. Has row f.page) gains.pending h.1)),
       );
@@ -169,27 +169,27 @@ allocated roots roots' t0 t t' y y' {ls = ls} slot d n base kind place m at is s
     no_free (s, q, e) = cc
 
     -- the object at the granule is the one that came
-    new : (f : Found) → found_in t'.states f.base ≡ Some f → granule f.base ≡ granule base → restrict (is_kept t0.pending y.marking.marks) (found_in t0.states) f.base ≡ None
+    new : (f : Found) → found_in t'.states f.base ≡ Some f → granule f.base ≡ granule base → restrict (is_kept t0.pending y.marker.marks) (found_in t0.states) f.base ≡ None
     new f there same =
         let one : f ≡ gains.object = same_object (length t'.states) (found_in t'.states) gains.map f gains.object there (ap (found_in t'.states) gains.at ∙ gains.found) (same ∙ ap granule (sym gains.at)) in
-        sym (sweeps.same.same f.base) ∙ kept_none (is_kept t.pending y.marking.marks) (found_in t.states) f.base (gains.added.before f.base (subst (IsInside f.base) one (gains.map.reads f.base f there)))
+        sym (sweeps.same.same f.base) ∙ kept_none (is_kept t.pending y.marker.marks) (found_in t.states) f.base (gains.added.before f.base (subst (IsInside f.base) one (gains.map.reads f.base f there)))
 
     -- an object that was not there is the one that came
-    came_marked : y.is_marking ≡ true → (f : Found) → found_in t'.states f.base ≡ Some f → is_kept t'.pending y'.marking.marks f ≡ true → restrict (is_kept t0.pending y.marking.marks) (found_in t0.states) f.base ≡ None → IsMarked y'.marking f.base
+    came_marked : y.is_marking ≡ true → (f : Found) → found_in t'.states f.base ≡ Some f → is_kept t'.pending y'.marker.marks f ≡ true → restrict (is_kept t0.pending y.marker.marks) (found_in t0.states) f.base ≡ None → IsMarked y'.marker f.base
     came_marked is f there kept none = ⊎_elim
-        (λ r. subst (IsMarked y'.marking) (sym gains.at ∙ ap (λ (x : Found). x.base) (sym (same_Some f gains.object (sym there ∙ gains.added.after f.base r)))) (notes.marked is))
-        (λ not. absurd (none_some f (sym none ∙ sym (sweeps.same.same f.base) ∙ kept_is (is_kept t.pending y.marking.marks) (found_in t.states) f.base f (was not) (sym (keeps_same t t' y y' place kind base gains notes f.base f (was not)) ∙ kept))))
+        (λ r. subst (IsMarked y'.marker) (sym gains.at ∙ ap (λ (x : Found). x.base) (sym (same_Some f gains.object (sym there ∙ gains.added.after f.base r)))) (notes.marked is))
+        (λ not. absurd (none_some f (sym none ∙ sym (sweeps.same.same f.base) ∙ kept_is (is_kept t.pending y.marker.marks) (found_in t.states) f.base f (was not) (sym (keeps_same t t' y y' placement kind base gains notes f.base f (was not)) ∙ kept))))
         (read_or_not f.base gains.object)
       where
         was : (IsInside f.base gains.object → ⊥) → found_in t.states f.base ≡ Some f
         was not = sym (gains.added.others f.base not) ∙ there
 
     -- an object that has a mark of before was there
-    was_there : y.is_marking ≡ false → (f : Found) → found_in t'.states f.base ≡ Some f → is_kept t'.pending y'.marking.marks f ≡ true → IsMarked y.marking f.base → (restrict (is_kept t0.pending y.marking.marks) (found_in t0.states) f.base ≡ Some f) × IsMarked y.marking f.base
+    was_there : y.is_marking ≡ false → (f : Found) → found_in t'.states f.base ≡ Some f → is_kept t'.pending y'.marker.marks f ≡ true → IsMarked y.marker f.base → (restrict (is_kept t0.pending y.marker.marks) (found_in t0.states) f.base ≡ Some f) × IsMarked y.marker f.base
     was_there is f there kept marked = (
       ⊎_elim
-          (λ r. absurd (unmarked (subst (IsMarked y.marking) (ap (λ (x : Found). x.base) (same_Some f gains.object (sym there ∙ gains.added.after f.base r))) marked)))
-          (λ not. sym (sweeps.same.same f.base) ∙ kept_is (is_kept t.pending y.marking.marks) (found_in t.states) f.base f (was not) (sym (keeps_same t t' y y' place kind base gains notes f.base f (was not)) ∙ kept))
+          (λ r. absurd (unmarked (subst (IsMarked y.marker) (ap (λ (x : Found). x.base) (same_Some f gains.object (sym there ∙ gains.added.after f.base r))) marked)))
+          (λ not. sym (sweeps.same.same f.base) ∙ kept_is (is_kept t.pending y.marker.marks) (found_in t.states) f.base f (was not) (sym (keeps_same t t' y y' placement kind base gains notes f.base f (was not)) ∙ kept))
           (read_or_not f.base gains.object),
       marked,
     )
@@ -207,16 +207,16 @@ all_kept keep t s all stores = record {
 refused_done : Refused Full ≡ Done → ⊥
 refused_done e = cc
 
-pub full : (roots : RootSet) (t0 t : Store) (y : Cycle) {ls : List Link} (slot d n : ℕ) (kind : Kind) (place : Placement) (m : HeapMutator) → HasMutator roots slot m → placement_of n ≡ Some place → Sweeps t0 y.marking.marks t → IsSwept t → HasNoRoom t place kind
+pub full : (roots : RootSet) (t0 t : Store) (y : Cycle) {ls : List Link} (slot d n : ℕ) (kind : Kind) (placement : Placement) (m : HeapMutator) → HasMutator roots slot m → placement_of n ≡ Some placement → Sweeps t0 y.marker.marks t → IsSwept t → HasNoRoom t placement kind
     → IsCall (core_of roots t0 y ls) (Mutator slot (Alloc d n kind)) (Refused Full) (core_of roots t y ls)
-full roots t0 t y {ls = ls} slot d n kind place m at is sweeps swept none = record {
+full roots t0 t y {ls = ls} slot d n kind placement m at is sweeps swept none = record {
   freed = λ h. absurd (refused_done (frees_reply (Mutator slot (Alloc d n kind)) (Refused Full) h));
   needs_full = λ _. refl;
   idle = λ is f there marked. (sym (sweeps.same.same f.base) ∙ there, marked);
   carried = refl;
   steps = λ s h.
       let now = swept_stands roots t0 t y sweeps s h in
-      (s, Calls.acts (attached roots t0 y s slot m h at) (Acts.full is (none s (all_kept (is_kept t.pending y.marking.marks) t s (λ f. nothing_pending t.pending y.marking.marks f (swept f.page)) now.store))), now);
+      (s, Calls.acts (attached roots t0 y s slot m h at) (Acts.full is (none s (all_kept (is_kept t.pending y.marker.marks) t s (λ f. nothing_pending t.pending y.marker.marks f (swept f.page)) now.store))), now);
   phase = refl;
   count = refl;
   marks = λ f there marked. inl marked;
@@ -228,7 +228,7 @@ full roots t0 t y {ls = ls} slot d n kind place m at is sweeps swept none = reco
   stack = refl;
   fewer = sweeps.fewer;
   swept = λ p h. inr tt;
-  forgotten = forgotten_swept t0 t y.marking.marks sweeps;
+  forgotten = forgotten_swept t0 t y.marker.marks sweeps;
   full = λ h. swept;
   written = λ p h. absurd (refused_clean (core_of roots t0 y ls) (Mutator slot (Alloc d n kind)) Full p h);
   roots_alone = λ not. absurd (not tt);
@@ -239,8 +239,8 @@ pub kept_there : (t : Store) (marks : List Bool) (w : ℕ) (f : Found) → f.bas
 kept_there t marks w f base is = (kept_cases (is_kept t.pending marks) (found_in t.states) f.base f (ap (kept_in t.states t.pending marks) base ∙ is)).0
 
 -- an object goes, and its mark at most with it: of those that are kept it alone goes
-module _ (t t' : Store) (y y' : Cycle) (f : Found) (map : IsMap (length t.states) (found_in t.states)) (is : restrict (is_kept t.pending y.marking.marks) (found_in t.states) f.base ≡ Some f) (loses : Loses t f t')
-    (others : (k : ℕ) → k ≢ granule f.base → get_or y'.marking.marks k false ≡ get_or y.marking.marks k false) where
+module _ (t t' : Store) (y y' : Cycle) (f : Found) (map : IsMap (length t.states) (found_in t.states)) (is : restrict (is_kept t.pending y.marker.marks) (found_in t.states) f.base ≡ Some f) (loses : Loses t f t')
+    (others : (k : ℕ) → k ≢ granule f.base → get_or y'.marker.marks k false ≡ get_or y.marker.marks k false) where
   -- no object that is left has the granule of the one that went
   apart_left : (w : ℕ) (x : Found) → found_in t'.states w ≡ Some x → granule x.base ≡ granule f.base → ⊥
   apart_left w x there same = ⊎_elim (λ r. clash (sym (loses.removed.before w r) ∙ there)) (λ not. not (read not)) (read_or_not w f)
@@ -251,59 +251,59 @@ module _ (t t' : Store) (y y' : Cycle) (f : Found) (map : IsMap (length t.states
       read : (IsInside w f → ⊥) → IsInside w f
       read not =
           let was : found_in t.states w ≡ Some x = loses.removed.others w not ∙ there in
-          let gone = (kept_cases (is_kept t.pending y.marking.marks) (found_in t.states) f.base f is).0 in
+          let gone = (kept_cases (is_kept t.pending y.marker.marks) (found_in t.states) f.base f is).0 in
           let one : x ≡ f = same_object (length t.states) (found_in t.states) map x f (at_base (found_in t.states) (length t.states) map w x was) gone same in
           subst (IsInside w) one (map.reads w x was)
 
-  keeps_left : (w : ℕ) (x : Found) → found_in t'.states w ≡ Some x → is_kept t'.pending y'.marking.marks x ≡ is_kept t.pending y.marking.marks x
+  keeps_left : (w : ℕ) (x : Found) → found_in t'.states w ≡ Some x → is_kept t'.pending y'.marker.marks x ≡ is_kept t.pending y.marker.marks x
   keeps_left w x there =
-      ap (λ b. cond b (get_or y'.marking.marks (granule x.base) false) true) (loses.pending w x there)
+      ap (λ b. cond b (get_or y'.marker.marks (granule x.base) false) true) (loses.pending w x there)
       ∙ ap (λ b. cond (get_or t.pending x.page false) b true) (others (granule x.base) (apart_left w x there))
 
-  kept_left : IsRemoved (restrict (is_kept t.pending y.marking.marks) (found_in t.states)) (restrict (is_kept t'.pending y'.marking.marks) (found_in t'.states)) f
-  kept_left = kept_removed (is_kept t.pending y.marking.marks) (is_kept t'.pending y'.marking.marks) (found_in t.states) (found_in t'.states) f loses.removed
-      (kept_cases (is_kept t.pending y.marking.marks) (found_in t.states) f.base f is).1 keeps_left
+  kept_left : IsRemoved (restrict (is_kept t.pending y.marker.marks) (found_in t.states)) (restrict (is_kept t'.pending y'.marker.marks) (found_in t'.states)) f
+  kept_left = kept_removed (is_kept t.pending y.marker.marks) (is_kept t'.pending y'.marker.marks) (found_in t.states) (found_in t'.states) f loses.removed
+      (kept_cases (is_kept t.pending y.marker.marks) (found_in t.states) f.base f is).1 keeps_left
 
   -- what is left was there
-  still_there : (g : Found) → restrict (is_kept t'.pending y'.marking.marks) (found_in t'.states) g.base ≡ Some g → restrict (is_kept t.pending y.marking.marks) (found_in t.states) g.base ≡ Some g
+  still_there : (g : Found) → restrict (is_kept t'.pending y'.marker.marks) (found_in t'.states) g.base ≡ Some g → restrict (is_kept t.pending y.marker.marks) (found_in t.states) g.base ≡ Some g
   still_there g there = ⊎_elim (λ r. absurd (none_some g (sym (kept_left.before g.base r) ∙ there))) (λ not. kept_left.others g.base not ∙ there) (read_or_not g.base f)
 
-  stores_less : (s : Heap) → Stores (is_kept t.pending y.marking.marks) t s → Stores (is_kept t'.pending y'.marking.marks) t' (less s (f.base ∷ []))
+  stores_less : (s : Heap) → Stores (is_kept t.pending y.marker.marks) t s → Stores (is_kept t'.pending y'.marker.marks) t' (less s (f.base ∷ []))
   stores_less s stores = record {
     pages = stores.pages ∙ sym loses.pages;
-    shows = shows_kept (kept_in t'.states t'.pending y'.marking.marks) t.words t'.words (without_at s.objects (f.base ∷ [])) s.births
-        (λ g there. (map.placed g.base g (kept_cases (is_kept t.pending y.marking.marks) (found_in t.states) g.base g (still_there g there)).0).above)
-        (λ g i there lt. loses.words g i (kept_cases (is_kept t'.pending y'.marking.marks) (found_in t'.states) g.base g there).0 lt)
-        (shows_removed (restrict (is_kept t.pending y.marking.marks) (found_in t.states)) (restrict (is_kept t'.pending y'.marking.marks) (found_in t'.states)) (length t.states)
-        (kept_map (length t.states) (is_kept t.pending y.marking.marks) (found_in t.states) map) t.words s.objects s.births stores.shows f is kept_left);
+    shows = shows_kept (kept_in t'.states t'.pending y'.marker.marks) t.words t'.words (without_at s.objects (f.base ∷ [])) s.births
+        (λ g there. (map.placed g.base g (kept_cases (is_kept t.pending y.marker.marks) (found_in t.states) g.base g (still_there g there)).0).above)
+        (λ g i there lt. loses.words g i (kept_cases (is_kept t'.pending y'.marker.marks) (found_in t'.states) g.base g there).0 lt)
+        (shows_removed (restrict (is_kept t.pending y.marker.marks) (found_in t.states)) (restrict (is_kept t'.pending y'.marker.marks) (found_in t'.states)) (length t.states)
+        (kept_map (length t.states) (is_kept t.pending y.marker.marks) (found_in t.states) map) t.words s.objects s.births stores.shows f is kept_left);
   }
 
   -- what is there now was there before
-  was_kept : (g : Found) → restrict (is_kept t'.pending y'.marking.marks) (found_in t'.states) g.base ≡ Some g → restrict (is_kept t.pending y.marking.marks) (found_in t.states) g.base ≡ None → ⊥
+  was_kept : (g : Found) → restrict (is_kept t'.pending y'.marker.marks) (found_in t'.states) g.base ≡ Some g → restrict (is_kept t.pending y.marker.marks) (found_in t.states) g.base ≡ None → ⊥
   was_kept g there none = ⊎_elim (λ r. none_some g (sym (kept_left.before g.base r) ∙ there)) (λ not. none_some g (sym none ∙ kept_left.others g.base not ∙ there)) (read_or_not g.base f)
 
-freed_along : (roots : RootSet) (t t1 : Store) (words : List ℕ) (y y' : Cycle) {ls : List Link} (slot r : ℕ) (m : HeapMutator) (f : Found) → IsLawful t.states → HasMutator roots slot m → restrict (is_kept t.pending y.marking.marks) (found_in t.states) (register m r) ≡ Some f → f.base ≡ register m r
-    → Loses t f t1 → IsFreed f.base y.marking y'.marking → y'.is_marking ≡ y.is_marking → y'.count ≡ y.count → IsLawful t1.states
-    → ((k : ℕ) → slice_index words k ≡ cond (clears (kept_in t1.states t1.pending y'.marking.marks) ls k) 0 (slice_index t1.words k))
-    → y'.needs_full ≡ true → IsCall (core_of roots t y ls) (Mutator slot (Free r)) Done (core_of roots (record t1 { words = words }) y' (filter (stays (kept_in t1.states t1.pending y'.marking.marks)) ls))
+freed_along : (roots : RootSet) (t t1 : Store) (words : List ℕ) (y y' : Cycle) {ls : List Link} (slot r : ℕ) (m : HeapMutator) (f : Found) → IsLawful t.states → HasMutator roots slot m → restrict (is_kept t.pending y.marker.marks) (found_in t.states) (register m r) ≡ Some f → f.base ≡ register m r
+    → Loses t f t1 → IsFreed f.base y.marker y'.marker → y'.is_marking ≡ y.is_marking → y'.count ≡ y.count → IsLawful t1.states
+    → ((k : ℕ) → slice_index words k ≡ cond (clears (kept_in t1.states t1.pending y'.marker.marks) ls k) 0 (slice_index t1.words k))
+    → y'.needs_full ≡ true → IsCall (core_of roots t y ls) (Mutator slot (Free r)) Done (core_of roots (record t1 { words = words }) y' (filter (stays (kept_in t1.states t1.pending y'.marker.marks)) ls))
 freed_along roots t t' words y y' {ls = ls} slot r m f lawful at is base loses frees phase count lawful' changed needs = record {
   freed = λ _. needs;
   needs_full = λ not. absurd (not Frees.freed);
   idle = λ marking g now marked. (still_there t t' y y' f lawful.map there loses others g now, sym (others (granule g.base) (left g now)) ∙ marked);
   carried = frees.carried;
   steps = λ s h.
-      let found = finds (is_kept t.pending y.marking.marks) t s (register m r) f lawful h.store is in
+      let found = finds (is_kept t.pending y.marker.marks) t s (register m r) f lawful h.store is in
       let has = ap s.objects (sym base) ∙ found.1.0 in
       let left = stores_less t t' y y' f lawful.map there loses others s h.store in
-      let map' = kept_map (length t'.states) (is_kept t'.pending y'.marking.marks) (found_in t'.states) lawful'.map in
-      let one = reads_one (kept_in t.states t.pending y.marking.marks) (length t.states) (kept_map (length t.states) (is_kept t.pending y.marking.marks) (found_in t.states) lawful.map) t.words s h.store.shows.shown in (
+      let map' = kept_map (length t'.states) (is_kept t'.pending y'.marker.marks) (found_in t'.states) lawful'.map in
+      let one = reads_one (kept_in t.states t.pending y.marker.marks) (length t.states) (kept_map (length t.states) (is_kept t.pending y.marker.marks) (found_in t.states) lawful.map) t.words s h.store.shows.shown in (
         without s (register m r ∷ []),
         Calls.acts (attached roots t y s slot m h at) (Acts.freed has),
-        subst (λ b. StandsFor (core_of roots (record t' { words = words }) y' (filter (stays (kept_in t'.states t'.pending y'.marking.marks)) ls)) (without s (b ∷ []))) base (record {
+        subst (λ b. StandsFor (core_of roots (record t' { words = words }) y' (filter (stays (kept_in t'.states t'.pending y'.marker.marks)) ls)) (without s (b ∷ []))) base (record {
           mutators = h.mutators;
           globals = h.globals;
-          store = record { pages = left.pages; shows = shows_along (kept_in t'.states t'.pending y'.marking.marks) (length t'.states) map' t'.words words s (f.base ∷ []) ls left.shows h.store.shows.distinct one h.links changed };
-          links = named_along (kept_in t'.states t'.pending y'.marking.marks) (length t'.states) map' t'.words words s (f.base ∷ []) ls left.shows h.store.shows.distinct one h.links;
+          store = record { pages = left.pages; shows = shows_along (kept_in t'.states t'.pending y'.marker.marks) (length t'.states) map' t'.words words s (f.base ∷ []) ls left.shows h.store.shows.distinct one h.links changed };
+          links = named_along (kept_in t'.states t'.pending y'.marker.marks) (length t'.states) map' t'.words words s (f.base ∷ []) ls left.shows h.store.shows.distinct one h.links;
         }),
       );
   phase = phase;
@@ -317,7 +317,7 @@ freed_along roots t t' words y y' {ls = ls} slot r m f lawful at is base loses f
   stack = frees.stack;
   fewer = loses.fewer;
   swept = λ p h. ⊎_elim (λ same. inr (m, at, f, is, same)) (λ ne. inl (loses.rest p ne ∙ h)) (cases_eq p f.page);
-  forgotten = forgotten_removed t t' y.marking.marks y'.marking.marks f loses.removed (kept_cases (is_kept t.pending y.marking.marks) (found_in t.states) f.base f there).1
+  forgotten = forgotten_removed t t' y.marker.marks y'.marker.marks f loses.removed (kept_cases (is_kept t.pending y.marker.marks) (found_in t.states) f.base f there).1
       (keeps_left t t' y y' f lawful.map there loses others);
   full = λ h. absurd (not_done (Mutator slot (Free r)) h);
   written = λ p h. absurd (clean (dirty_event (core_of roots t y ls) (Mutator slot (Free r)) Done p h));
@@ -327,18 +327,18 @@ freed_along roots t t' words y y' {ls = ls} slot r m f lawful at is base loses f
     clean : ((s a n q : ℕ) × (Mutator slot (Free r) ≡ Mutator s (StoreCall a n q))) → ⊥
     clean (s, a, n, q, e) = cc
 
-    there : restrict (is_kept t.pending y.marking.marks) (found_in t.states) f.base ≡ Some f
-    there = ap (restrict (is_kept t.pending y.marking.marks) (found_in t.states)) base ∙ is
+    there : restrict (is_kept t.pending y.marker.marks) (found_in t.states) f.base ≡ Some f
+    there = ap (restrict (is_kept t.pending y.marker.marks) (found_in t.states)) base ∙ is
 
-    others : (k : ℕ) → k ≢ granule f.base → get_or y'.marking.marks k false ≡ get_or y.marking.marks k false
-    others k ne = ap (λ ms. get_or ms k false) frees.marks ∙ get_or-set_other y.marking.marks (granule f.base) k false false ne
+    others : (k : ℕ) → k ≢ granule f.base → get_or y'.marker.marks k false ≡ get_or y.marker.marks k false
+    others k ne = ap (λ ms. get_or ms k false) frees.marks ∙ get_or-set_other y.marker.marks (granule f.base) k false false ne
 
-    left : (g : Found) → restrict (is_kept t'.pending y'.marking.marks) (found_in t'.states) g.base ≡ Some g → granule g.base ≡ granule f.base → ⊥
-    left g now = apart_left t t' y y' f lawful.map there loses others g.base g (kept_cases (is_kept t'.pending y'.marking.marks) (found_in t'.states) g.base g now).0
+    left : (g : Found) → restrict (is_kept t'.pending y'.marker.marks) (found_in t'.states) g.base ≡ Some g → granule g.base ≡ granule f.base → ⊥
+    left g now = apart_left t t' y y' f lawful.map there loses others g.base g (kept_cases (is_kept t'.pending y'.marker.marks) (found_in t'.states) g.base g now).0
 
-pub freed : (roots : RootSet) (t t1 t' : Store) (y y' : Cycle) {ls : List Link} (ls' : List Link) (slot r : ℕ) (m : HeapMutator) (f : Found) → IsLawful t.states → HasMutator roots slot m → restrict (is_kept t.pending y.marking.marks) (found_in t.states) (register m r) ≡ Some f → f.base ≡ register m r
-    → Loses t f t1 → IsFreed f.base y.marking y'.marking → y'.is_marking ≡ y.is_marking → y'.count ≡ y.count → IsLawful t1.states
-    → TakesAlong (kept_in t1.states t1.pending y'.marking.marks) ls t1 t' → ls' ≡ filter (stays (kept_in t1.states t1.pending y'.marking.marks)) ls → y'.needs_full ≡ true
+pub freed : (roots : RootSet) (t t1 t' : Store) (y y' : Cycle) {ls : List Link} (ls' : List Link) (slot r : ℕ) (m : HeapMutator) (f : Found) → IsLawful t.states → HasMutator roots slot m → restrict (is_kept t.pending y.marker.marks) (found_in t.states) (register m r) ≡ Some f → f.base ≡ register m r
+    → Loses t f t1 → IsFreed f.base y.marker y'.marker → y'.is_marking ≡ y.is_marking → y'.count ≡ y.count → IsLawful t1.states
+    → TakesAlong (kept_in t1.states t1.pending y'.marker.marks) ls t1 t' → ls' ≡ filter (stays (kept_in t1.states t1.pending y'.marker.marks)) ls → y'.needs_full ≡ true
     → IsCall (core_of roots t y ls) (Mutator slot (Free r)) Done (core_of roots t' y' ls')
 freed roots t t1 t' y y' {ls = ls} ls' slot r m f lawful at is base loses frees phase count lawful' along same needs =
     subst (λ x. IsCall (core_of roots t y ls) (Mutator slot (Free r)) Done (core_of roots x y' ls')) (sym (beside_is t1 t' along.beside))

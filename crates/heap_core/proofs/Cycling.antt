@@ -6,7 +6,7 @@ use Rattle.block_map.specs.Objects.{IsMap}
 use Rattle.heap_spec.specs.Heap.{Heap}
 use Rattle.heap_spec.specs.Layout.{word_end}
 use Rattle.marker.specs.Closure.{AreClosed}
-use Rattle.marker.specs.Marking.{Marking, IsFresh, IsDone}
+use Rattle.marker.specs.Marking.{Marking, IsBlank, IsDone}
 use Rattle.marker.specs.Growth.{Traces}
 use Rattle.marker.specs.Mutations.{BeginsPartial}
 use Rattle.roots.specs.Roots.{root_words_of}
@@ -15,7 +15,7 @@ use Rattle.links.specs.declared.row.Link.{Link}
 use Rattle.std.specs.Prelude.{filter}
 use Rattle.object_space.specs.Along.{TakesAlong, stays}
 use Rattle.heap_core.proofs.Along.{beside_is}
-use Rattle.heap_core.specs.Contents.{Contents, Cycle}
+use Rattle.heap_core.specs.CoreContents.{CoreContents, Cycle}
 use Rattle.heap_core.specs.Standing.{StandsFor}
 use Rattle.object_space.specs.Sweeps.{ForgetsUnreached, Sweeps, SweepsAny, KeepsCells}
 use Rattle.object_space.specs.Kept.{restrict, is_kept, kept_in, IsPendingAfter}
@@ -29,33 +29,33 @@ none_in : (w : ℕ) → Contains [] w → ⊥
 none_in w h = let l = h.1 in omega arith
 
 -- Where nothing is to be swept, the marks may change: the core stands for what it stood for.
-pub stands_still : (c : Contents) (y : Cycle) → IsSwept c.store → (s : Heap) → StandsFor c s → StandsFor (record c { cycle = y }) s
+pub stands_still : (c : CoreContents) (y : Cycle) → IsSwept c.store → (s : Heap) → StandsFor c s → StandsFor (record c { cycle = y }) s
 stands_still c y swept s h = record {
   mutators = h.mutators;
   globals = h.globals;
   links = h.links;
   store = record {
     pages = h.store.pages;
-    shows = shows_same (restrict (is_kept c.store.pending c.cycle.marking.marks) (found_in c.store.states)) (restrict (is_kept c.store.pending y.marking.marks) (found_in c.store.states)) c.store.words s.objects s.births
-        (kept_same (is_kept c.store.pending c.cycle.marking.marks) (is_kept c.store.pending y.marking.marks) (found_in c.store.states)
-        (λ w f there. nothing_pending c.store.pending y.marking.marks f (swept f.page) ∙ sym (nothing_pending c.store.pending c.cycle.marking.marks f (swept f.page)))) h.store.shows;
+    shows = shows_same (restrict (is_kept c.store.pending c.cycle.marker.marks) (found_in c.store.states)) (restrict (is_kept c.store.pending y.marker.marks) (found_in c.store.states)) c.store.words s.objects s.births
+        (kept_same (is_kept c.store.pending c.cycle.marker.marks) (is_kept c.store.pending y.marker.marks) (found_in c.store.states)
+        (λ w f there. nothing_pending c.store.pending y.marker.marks f (swept f.page) ∙ sym (nothing_pending c.store.pending c.cycle.marker.marks f (swept f.page)))) h.store.shows;
   };
 }
 
-pub begins : (c : Contents) (t : Store) (m : Marking) → Sweeps c.store c.cycle.marking.marks t → IsSwept t → IsFresh (length c.store.states) m
-    → BeginsCycle c (record { roots = c.roots; store = t; cycle = record { marking = m; is_marking = true; needs_full = false; count = c.cycle.count }; links = c.links })
-begins c t m sweeps swept fresh = record {
+pub begins : (c : CoreContents) (t : Store) (m : Marking) → Sweeps c.store c.cycle.marker.marks t → IsSwept t → IsBlank (length c.store.states) m
+    → BeginsCycle c (record { roots = c.roots; store = t; cycle = record { marker = m; is_marking = true; needs_full = false; count = c.cycle.count }; links = c.links })
+begins c t m sweeps swept blank = record {
   needs_full = refl;
   stands = λ s h. stands_still (record c { store = t }) _ swept s (swept_stands c.roots c.store t c.cycle sweeps s h);
   roots = refl;
   phase = refl;
   count = refl;
-  fresh = fresh;
+  blank = blank;
   swept = swept;
 }
 
-pub begins_partial : (c : Contents) (t : Store) (m : Marking) → Sweeps c.store c.cycle.marking.marks t → IsSwept t → c.cycle.needs_full ≡ false → BeginsPartial c.cycle.marking m
-    → BeginsPartialCycle c (record { roots = c.roots; store = t; cycle = record { marking = m; is_marking = true; needs_full = c.cycle.needs_full; count = c.cycle.count }; links = c.links })
+pub begins_partial : (c : CoreContents) (t : Store) (m : Marking) → Sweeps c.store c.cycle.marker.marks t → IsSwept t → c.cycle.needs_full ≡ false → BeginsPartial c.cycle.marker m
+    → BeginsPartialCycle c (record { roots = c.roots; store = t; cycle = record { marker = m; is_marking = true; needs_full = c.cycle.needs_full; count = c.cycle.count }; links = c.links })
 begins_partial c t m sweeps swept needs begins = record {
   stands = λ s h. stands_still (record c { store = t }) _ swept s (swept_stands c.roots c.store t c.cycle sweeps s h);
   roots = refl;
@@ -66,8 +66,8 @@ begins_partial c t m sweeps swept needs begins = record {
   swept = swept;
 }
 
-pub sweeps_one : (c : Contents) (t : Store) (n : ℕ) → Sweeps c.store c.cycle.marking.marks t → n ≤ 1
-    → (n ≡ 1 → SweepsAny c.store c.cycle.marking.marks t) → count_by (λ b. b) t.pending + n ≡ count_by (λ b. b) c.store.pending → (n ≡ 0 → IsSwept c.store × (t ≡ c.store))
+pub sweeps_one : (c : CoreContents) (t : Store) (n : ℕ) → Sweeps c.store c.cycle.marker.marks t → n ≤ 1
+    → (n ≡ 1 → SweepsAny c.store c.cycle.marker.marks t) → count_by (λ b. b) t.pending + n ≡ count_by (λ b. b) c.store.pending → (n ≡ 0 → IsSwept c.store × (t ≡ c.store))
     → SweepsOne c n (record { roots = c.roots; store = t; cycle = c.cycle; links = c.links })
 sweeps_one c t n sweeps few page fewer none = record {
   stands = λ s h. swept_stands c.roots c.store t c.cycle sweeps s h;
@@ -80,8 +80,8 @@ sweeps_one c t n sweeps few page fewer none = record {
   none = λ zero. let x = none zero in (x.0, ap (λ (x : Store). record c { store = x }) x.1);
 }
 
-pub marks_on : (c : Contents) (roots : List ℕ) (m : Marking) → IsMap (length c.store.states) (found_in c.store.states) → IsSwept c.store → ((w : ℕ) → Contains roots w → Contains (root_words_of c.roots) w)
-    → Traces (found_in c.store.states) c.store.words roots c.cycle.marking m → MarksOn roots c (record c { cycle = record c.cycle { marking = m } })
+pub marks_on : (c : CoreContents) (roots : List ℕ) (m : Marking) → IsMap (length c.store.states) (found_in c.store.states) → IsSwept c.store → ((w : ℕ) → Contains roots w → Contains (root_words_of c.roots) w)
+    → Traces (found_in c.store.states) c.store.words roots c.cycle.marker m → MarksOn roots c (record c { cycle = record c.cycle { marker = m } })
 marks_on c roots m map swept among traces = record {
   stands = λ s h. stands_still c _ swept s h;
   phase = refl;
@@ -91,23 +91,23 @@ marks_on c roots m map swept among traces = record {
   traces = traces;
 }
 
-pub marks_more : (c : Contents) (m : Marking) → IsMap (length c.store.states) (found_in c.store.states) → IsSwept c.store → Traces (found_in c.store.states) c.store.words [] c.cycle.marking m → MarksOn [] c (record c { cycle = record c.cycle { marking = m } })
+pub marks_more : (c : CoreContents) (m : Marking) → IsMap (length c.store.states) (found_in c.store.states) → IsSwept c.store → Traces (found_in c.store.states) c.store.words [] c.cycle.marker m → MarksOn [] c (record c { cycle = record c.cycle { marker = m } })
 marks_more c m map swept traces = marks_on c [] m map swept (λ w h. absurd (none_in w h)) traces
 
-pub closes_marks : (c : Contents) (m : Marking) → IsMap (length c.store.states) (found_in c.store.states) → IsSwept c.store → Traces (found_in c.store.states) c.store.words (root_words_of c.roots) c.cycle.marking m → IsDone m
-    → AreClosed (found_in c.store.states) c.store.words (root_words_of c.roots) c.cycle.marking m → ClosesMarks c (record c { cycle = record c.cycle { marking = m } })
+pub closes_marks : (c : CoreContents) (m : Marking) → IsMap (length c.store.states) (found_in c.store.states) → IsSwept c.store → Traces (found_in c.store.states) c.store.words (root_words_of c.roots) c.cycle.marker m → IsDone m
+    → AreClosed (found_in c.store.states) c.store.words (root_words_of c.roots) c.cycle.marker m → ClosesMarks c (record c { cycle = record c.cycle { marker = m } })
 closes_marks c m map swept traces done closed = record {
   marks = marks_on c (root_words_of c.roots) m map swept (λ w h. h) traces;
   done = done;
   all = λ s h. all_marked c map swept s h m closed;
 }
 
-pub ends_cycle : (c : Contents) (t1 t' : Store) (m : Marking) (count n : ℕ) (ls' : List Link) → IsMap (length c.store.states) (found_in c.store.states) → IsSwept c.store → ForgetsUnreached c.store (root_words_of c.roots) c.cycle.marking n m.marks t1 → KeepsCells c.store t1 → IsPendingAfter t1.states m.marks t1.pending → IsDone m
+pub ends_cycle : (c : CoreContents) (t1 t' : Store) (m : Marking) (count n : ℕ) (ls' : List Link) → IsMap (length c.store.states) (found_in c.store.states) → IsSwept c.store → ForgetsUnreached c.store (root_words_of c.roots) c.cycle.marker n m.marks t1 → KeepsCells c.store t1 → IsPendingAfter t1.states m.marks t1.pending → IsDone m
     → count ≡ (c.cycle.count + 1) % word_end → IsMap (length t1.states) (found_in t1.states) → TakesAlong (kept_in t1.states t1.pending m.marks) c.links t1 t' → ls' ≡ filter (stays (kept_in t1.states t1.pending m.marks)) c.links
-    → EndsCycle c n (record { roots = c.roots; store = t'; cycle = record { marking = m; is_marking = false; needs_full = c.cycle.needs_full; count = count }; links = ls' })
+    → EndsCycle c n (record { roots = c.roots; store = t'; cycle = record { marker = m; is_marking = false; needs_full = c.cycle.needs_full; count = count }; links = ls' })
 ends_cycle c t1 t' m count n ls' map swept x cells pending done counts map' along same =
-    subst (λ z. EndsCycle c n (record { roots = c.roots; store = z; cycle = record { marking = m; is_marking = false; needs_full = c.cycle.needs_full; count = count }; links = ls' })) (sym (beside_is t1 t' along.beside))
-    (subst (λ row. EndsCycle c n (record { roots = c.roots; store = record t1 { words = t'.words }; cycle = record { marking = m; is_marking = false; needs_full = c.cycle.needs_full; count = count }; links = row })) (sym same)
+    subst (λ z. EndsCycle c n (record { roots = c.roots; store = z; cycle = record { marker = m; is_marking = false; needs_full = c.cycle.needs_full; count = count }; links = ls' })) (sym (beside_is t1 t' along.beside))
+    (subst (λ row. EndsCycle c n (record { roots = c.roots; store = record t1 { words = t'.words }; cycle = record { marker = m; is_marking = false; needs_full = c.cycle.needs_full; count = count }; links = row })) (sym same)
     (record {
       needs_full = refl;
       ends = record { roots = refl; phase = refl; count = counts; done = done; marked = x.marked };
@@ -117,16 +117,16 @@ ends_cycle c t1 t' m count n ls' map swept x cells pending done counts map' alon
     }))
 
 -- a collection sweeps, and drops the marks, first
-pub collects_all : (c : Contents) (t : Store) (dropped : Marking) (t1 t' : Store) (m : Marking) (count n : ℕ) (ls' : List Link) → IsMap (length t.states) (found_in t.states) → Sweeps c.store c.cycle.marking.marks t → IsSwept t → IsFresh (length t.states) dropped
+pub collects_all : (c : CoreContents) (t : Store) (dropped : Marking) (t1 t' : Store) (m : Marking) (count n : ℕ) (ls' : List Link) → IsMap (length t.states) (found_in t.states) → Sweeps c.store c.cycle.marker.marks t → IsSwept t → IsBlank (length t.states) dropped
     → ForgetsUnreached t (root_words_of c.roots) dropped n m.marks t1 → IsSwept t1 → IsDone m → count ≡ (c.cycle.count + 1) % word_end
     → IsMap (length t1.states) (found_in t1.states) → TakesAlong (kept_in t1.states t1.pending m.marks) c.links t1 t' → ls' ≡ filter (stays (kept_in t1.states t1.pending m.marks)) c.links
-    → CollectsAll c n (record { roots = c.roots; store = t'; cycle = record { marking = m; is_marking = false; needs_full = false; count = count }; links = ls' })
-collects_all c t dropped t1 t' m count n ls' map sweeps swept fresh x swept' done counts map' along same =
-    subst (λ z. CollectsAll c n (record { roots = c.roots; store = z; cycle = record { marking = m; is_marking = false; needs_full = false; count = count }; links = ls' })) (sym (beside_is t1 t' along.beside))
-    (subst (λ row. CollectsAll c n (record { roots = c.roots; store = record t1 { words = t'.words }; cycle = record { marking = m; is_marking = false; needs_full = false; count = count }; links = row })) (sym same)
+    → CollectsAll c n (record { roots = c.roots; store = t'; cycle = record { marker = m; is_marking = false; needs_full = false; count = count }; links = ls' })
+collects_all c t dropped t1 t' m count n ls' map sweeps swept blank x swept' done counts map' along same =
+    subst (λ z. CollectsAll c n (record { roots = c.roots; store = z; cycle = record { marker = m; is_marking = false; needs_full = false; count = count }; links = ls' })) (sym (beside_is t1 t' along.beside))
+    (subst (λ row. CollectsAll c n (record { roots = c.roots; store = record t1 { words = t'.words }; cycle = record { marker = m; is_marking = false; needs_full = false; count = count }; links = row })) (sym same)
     (record {
       needs_full = refl;
       ends = record { roots = refl; phase = refl; count = counts; done = done; marked = x.marked };
       swept = swept';
-      collects = λ s h. collects (record { roots = c.roots; store = t; cycle = record c.cycle { marking = dropped }; links = c.links }) map swept s (stands_still (record c { store = t }) _ swept s (swept_stands c.roots c.store t c.cycle sweeps s h)) t1 t'.words _ n x map' along.words fresh;
+      collects = λ s h. collects (record { roots = c.roots; store = t; cycle = record c.cycle { marker = dropped }; links = c.links }) map swept s (stands_still (record c { store = t }) _ swept s (swept_stands c.roots c.store t c.cycle sweeps s h)) t1 t'.words _ n x map' along.words blank;
     }))

@@ -27,8 +27,8 @@ use Rattle.roots.specs.Roots.{RootSet, HasMutator, IsNextSlot, SetsWord, with_wo
 use Rattle.roots.proofs.Steps.{sets}
 use Rattle.object_space.specs.Store.{Store}
 use Rattle.heap_core.specs.Beside.{NotesWrite}
-use Rattle.heap_core.specs.Calls.{IsCall}
-use Rattle.heap_core.specs.Contents.{Contents, Cycle}
+use Rattle.heap_core.specs.MutatorCalls.{IsCall}
+use Rattle.heap_core.specs.CoreContents.{CoreContents, Cycle}
 use Rattle.heap_core.specs.Following.{Follows, AreLines}
 use Rattle.heap_core.specs.Standing.{objects_of}
 use Rattle.heap_core.specs.DirectWrites.{with_memory, IsWriteLine, IsVisitLine, WritesAreLines, WritesAreVisits}
@@ -54,27 +54,27 @@ set_call roots t y ls slot r w m at =
 
 -- the cycle once a page is dirty
 abbrev noted : Cycle → ℕ → Cycle
-noted y p = record y { marking = with_dirty y.marking (set y.marking.dirty p true) }
+noted y p = record y { marker = with_dirty y.marker (set y.marker.dirty p true) }
 
-notes : (y : Cycle) (a : ℕ) → page_of a < length y.marking.dirty → NotesWrite a y.marking (noted y (page_of a)).marking
+notes : (y : Cycle) (a : ℕ) → page_of a < length y.marker.dirty → NotesWrite a y.marker (noted y (page_of a)).marking
 notes y a inside = record {
   marks = refl;
-  dirty_len = length-set y.marking.dirty (page_of a) true;
-  dirty = λ p h. has_set_back y.marking.dirty (page_of a) p h;
-  written = get_or-set_same y.marking.dirty (page_of a) true false inside;
-  stays_dirty = λ p h. has_set y.marking.dirty (page_of a) p inside h;
+  dirty_len = length-set y.marker.dirty (page_of a) true;
+  dirty = λ p h. has_set_back y.marker.dirty (page_of a) p h;
+  written = get_or-set_same y.marker.dirty (page_of a) true false inside;
+  stays_dirty = λ p h. has_set y.marker.dirty (page_of a) p inside h;
   carried = refl;
   current = refl;
   stack = refl;
-  keeps = λ found words w old. store_traced found words a w y.marking (noted y (page_of a)).marking dirties inside old;
-  carries = λ found words w old. store_carried found words a w y.marking (noted y (page_of a)).marking dirties inside old;
+  keeps = λ found words w old. store_traced found words a w y.marker (noted y (page_of a)).marking dirties inside old;
+  carries = λ found words w old. store_carried found words a w y.marker (noted y (page_of a)).marking dirties inside old;
 }
   where
-    dirties : DirtiesPage a y.marking (noted y (page_of a)).marking
+    dirties : DirtiesPage a y.marker (noted y (page_of a)).marking
     dirties = record { marks = refl; dirty = refl; carried = refl; current = refl; stack = refl }
 
 -- the dirty pages are nothing to a run
-follows_dirty : (roots : RootSet) (t : Store) (y : Cycle) (ls : List Link) (dirty : List Bool) (start : Start) (run : Run) → Follows (core_of roots t (record y { marking = with_dirty y.marking dirty }) ls) start run → Follows (core_of roots t y ls) start run
+follows_dirty : (roots : RootSet) (t : Store) (y : Cycle) (ls : List Link) (dirty : List Bool) (start : Start) (run : Run) → Follows (core_of roots t (record y { marker = with_dirty y.marker dirty }) ls) start run → Follows (core_of roots t y ls) start run
 follows_dirty roots t y ls dirty start run f = record {
   stands = record { mutators = f.stands.mutators; globals = f.stands.globals; store = record { pages = f.stands.store.pages; shows = f.stands.store.shows }; links = f.stands.links };
   phase = f.phase;
@@ -87,7 +87,7 @@ follows_dirty roots t y ls dirty start run f = record {
   touched = f.touched;
 }
 
-other_dirty : (old : Contents) (words : List ℕ) (dirty : List Bool) (start : Start) (run : Run) → Follows (with_memory old words old.cycle.marking.dirty) start run → Follows (with_memory old words dirty) start run
+other_dirty : (old : CoreContents) (words : List ℕ) (dirty : List Bool) (start : Start) (run : Run) → Follows (with_memory old words old.cycle.marker.dirty) start run → Follows (with_memory old words dirty) start run
 other_dirty old words dirty start run f = record {
   stands = record { mutators = f.stands.mutators; globals = f.stands.globals; store = record { pages = f.stands.store.pages; shows = f.stands.store.shows }; links = f.stands.links };
   phase = f.phase;
@@ -113,7 +113,7 @@ told event = record { event = event; reply = Done }
 -- One word of a kept object is written: a mutator puts its address and the word into registers, stores it, and puts back what
 -- stood in them.
 module _ (roots : RootSet) (t : Store) (y : Cycle) (ls : List Link) (slot a v : ℕ) (m : HeapMutator) (f : Found) (lawful : IsLawful t.states) (long : length t.words ≡ PAGE_WORDS * length t.states)
-    (at : HasMutator roots slot m) (registers : length m.registers ≡ REGISTERS) (aligned : a % 8 ≡ 0) (small : a < word_end) (inside : page_of a < length y.marking.dirty) (is : objects_of (core_of roots t y ls) a ≡ Some f) where
+    (at : HasMutator roots slot m) (registers : length m.registers ≡ REGISTERS) (aligned : a % 8 ≡ 0) (small : a < word_end) (inside : page_of a < length y.marker.dirty) (is : objects_of (core_of roots t y ls) a ≡ Some f) where
   abbrev m1 : HeapMutator
   m1 = with_word m 0 a
 
@@ -157,7 +157,7 @@ module _ (roots : RootSet) (t : Store) (y : Cycle) (ls : List Link) (slot a v : 
       (subst (λ x. x % 8 ≡ 0) (sym at_address) aligned)
       (subst (λ x. objects_of (core_of roots t y ls) x ≡ Some f) (sym at_address) is)
       (ap (λ x. record t { words = with_word_at t.words x v }) (sym at_address) ∙ ap (λ w. record t { words = with_word_at t.words (address m2 0 0) w }) (sym has_word))
-      (subst (λ x. NotesWrite x y.marking y'.marking) (sym at_address) (notes y a inside))
+      (subst (λ x. NotesWrite x y.marker y'.marker) (sym at_address) (notes y a inside))
       refl refl refl
 
   back : r4 ≡ roots
@@ -169,7 +169,7 @@ module _ (roots : RootSet) (t : Store) (y : Cycle) (ls : List Link) (slot a v : 
       ap (λ o. set roots.mutators slot o) (sym (get_or_from_slice_get roots.mutators slot (Some m) (Some m) at)) ∙ set-get_or roots.mutators slot (Some m) in
       ap (λ ms. record roots { mutators = ms }) (one ∙ ap (λ n. set roots.mutators slot (Some n)) same ∙ there)
 
-  pub one_word : (old : Contents) (lines : List Told) → All IsWord m.registers → IsWord v → All (IsWriteLine slot) lines → AreLines old lines (core_of roots t y ls)
+  pub one_word : (old : CoreContents) (lines : List Told) → All IsWord m.registers → IsWord v → All (IsWriteLine slot) lines → AreLines old lines (core_of roots t y ls)
       → (more : List Told) × All (IsWriteLine slot) more × AreLines old more (core_of roots t' y ls)
   one_word old lines words word fine so =
       let h1 = slot_has roots slot m m1 at in let h2 = slot_has r1 slot m1 m2 h1 in let h3 = slot_has r2 slot m2 m3 h2 in
@@ -188,21 +188,21 @@ module _ (roots : RootSet) (t : Store) (y : Cycle) (ls : List Link) (slot a v : 
       let fine3 = All-push (IsWriteLine slot) l2 (told (Mutator slot (StoreCall 0 0 1))) fine2 (IsWriteLine.store (omega arith) (omega arith) (omega arith)) in
       let fine4 = All-push (IsWriteLine slot) l3 (told (Mutator slot (Set 1 (register m 1)))) fine3 (IsWriteLine.set (omega arith) (words 1 0 (omega (arith, registers)))) in
       let fine5 = All-push (IsWriteLine slot) l4 (told (Mutator slot (Set 0 (register m 0)))) fine4 (IsWriteLine.set (omega arith) (words 0 0 (omega (arith, registers)))) in
-      (l5, fine5, λ start run follows. let w = s5 start run follows in (w.0, w.1, follows_dirty roots t' y ls (set y.marking.dirty (page_of a) true) start w.0 (subst (λ (rs : RootSet). Follows (core_of rs t' y' ls) start w.0) back w.2)))
+      (l5, fine5, λ start run follows. let w = s5 start run follows in (w.0, w.1, follows_dirty roots t' y ls (set y.marker.dirty (page_of a) true) start w.0 (subst (λ (rs : RootSet). Follows (core_of rs t' y' ls) start w.0) back w.2)))
 
 -- lines of the mutator lead to what the core with these words follows
-abbrev LinesTo : Contents → ℕ → List ℕ → Type 0
-LinesTo old slot ws = (lines : List Told) × All (IsWriteLine slot) lines × AreLines old lines (with_memory old ws old.cycle.marking.dirty)
+abbrev LinesTo : CoreContents → ℕ → List ℕ → Type 0
+LinesTo old slot ws = (lines : List Told) × All (IsWriteLine slot) lines × AreLines old lines (with_memory old ws old.cycle.marker.dirty)
 
 pub writes_line : WritesAreLines
 writes_line old new slot m whole at row writes =
-    let went = by_words old new.store.words new.cycle.marking.dirty writes.size writes.words (LinesTo old slot) ([], (λ k d lt. absurd (omega arith)), no_lines old) on in
-    (went.0, went.1, λ start run follows. let w = went.2 start run follows in (w.0, w.1, subst (λ (c : Contents). Follows c start w.0) (sym writes.alone) (other_dirty old new.store.words new.cycle.marking.dirty start w.0 w.2)))
+    let went = by_words old new.store.words new.cycle.marker.dirty writes.size writes.words (LinesTo old slot) ([], (λ k d lt. absurd (omega arith)), no_lines old) on in
+    (went.0, went.1, λ start run follows. let w = went.2 start run follows in (w.0, w.1, subst (λ (c : CoreContents). Follows c start w.0) (sym writes.alone) (other_dirty old new.store.words new.cycle.marker.dirty start w.0 w.2)))
   where
     on : (ws : List ℕ) (a : ℕ) (f : Found) → length ws ≡ length old.store.words → IsWordAddress old.store.words a → objects_of old a ≡ Some f → IsWord (word_at new.store.words a) → LinesTo old slot ws → LinesTo old slot (with_word_at ws a (word_at new.store.words a))
     on ws a f len there is word p =
         let size = whole.space.whole.listed.size in let few = whole.core.laid.few in let pages = whole.core.traced.pages in let above = there.above in let below = there.below in
-        one_word old.roots (record old.store { words = ws }) (record old.cycle { marking = with_dirty old.cycle.marking old.cycle.marking.dirty }) old.links slot a (word_at new.store.words a) m f whole.core.lawful (len ∙ size)
+        one_word old.roots (record old.store { words = ws }) (record old.cycle { marker = with_dirty old.cycle.marker old.cycle.marker.dirty }) old.links slot a (word_at new.store.words a) m f whole.core.lawful (len ∙ size)
         at row.size there.aligned (omega arith) (omega arith) is old p.0 row.words word p.1 p.2
 
 -- the roots with no mutator at the slot
@@ -217,7 +217,7 @@ goes_call roots t y ls slot m at = steps_roots roots (without_slot roots slot) t
 
 -- One word of a kept object is written by a mutator that comes and goes.
 module _ (roots : RootSet) (t : Store) (y : Cycle) (ls : List Link) (slot a v : ℕ) (f : Found) (lawful : IsLawful t.states) (long : length t.words ≡ PAGE_WORDS * length t.states)
-    (next : IsNextSlot roots slot) (aligned : a % 8 ≡ 0) (small : a < word_end) (inside : page_of a < length y.marking.dirty) (is : objects_of (core_of roots t y ls) a ≡ Some f) where
+    (next : IsNextSlot roots slot) (aligned : a % 8 ≡ 0) (small : a < word_end) (inside : page_of a < length y.marker.dirty) (is : objects_of (core_of roots t y ls) a ≡ Some f) where
   abbrev n1 : HeapMutator
   n1 = with_word newcomer 0 a
 
@@ -252,7 +252,7 @@ module _ (roots : RootSet) (t : Store) (y : Cycle) (ls : List Link) (slot a v : 
       ap (λ o. set roots.mutators slot o) (sym (get_or_from_slice_get roots.mutators slot None None next.is_vacant)) ∙ set-get_or roots.mutators slot None in
       ap (λ ms. record roots { mutators = ms }) (one ∙ there)
 
-  pub one_visit : (old : Contents) (lines : List Told) → IsWord v → All (IsVisitLine slot) lines → AreLines old lines (core_of roots t y ls)
+  pub one_visit : (old : CoreContents) (lines : List Told) → IsWord v → All (IsVisitLine slot) lines → AreLines old lines (core_of roots t y ls)
       → (more : List Told) × All (IsVisitLine slot) more × AreLines old more (core_of roots u' y ls)
   one_visit old lines word fine so =
       let h1 = slot_has c0 slot newcomer n1 came in let h2 = slot_has c1 slot n1 n2 h1 in
@@ -271,19 +271,19 @@ module _ (roots : RootSet) (t : Store) (y : Cycle) (ls : List Link) (slot a v : 
       let fine2 = All-push (IsVisitLine slot) l1 (told (Mutator slot (Set 1 v))) fine1 (IsVisitLine.writes (IsWriteLine.set (omega arith) word)) in
       let fine3 = All-push (IsVisitLine slot) l2 (told (Mutator slot (StoreCall 0 0 1))) fine2 (IsVisitLine.writes (IsWriteLine.store (omega arith) (omega arith) (omega arith))) in
       let fine4 = All-push (IsVisitLine slot) l3 (told (Mutator slot Detach)) fine3 IsVisitLine.goes in
-      (l4, fine4, λ start run follows. let w = s4 start run follows in (w.0, w.1, follows_dirty roots u' y ls (set y.marking.dirty (page_of a) true) start w.0 (subst (λ (rs : RootSet). Follows (core_of rs u' z' ls) start w.0) gone w.2)))
+      (l4, fine4, λ start run follows. let w = s4 start run follows in (w.0, w.1, follows_dirty roots u' y ls (set y.marker.dirty (page_of a) true) start w.0 (subst (λ (rs : RootSet). Follows (core_of rs u' z' ls) start w.0) gone w.2)))
 
 -- lines of visits lead to what the core with these words follows
-abbrev VisitsTo : Contents → ℕ → List ℕ → Type 0
-VisitsTo old slot ws = (lines : List Told) × All (IsVisitLine slot) lines × AreLines old lines (with_memory old ws old.cycle.marking.dirty)
+abbrev VisitsTo : CoreContents → ℕ → List ℕ → Type 0
+VisitsTo old slot ws = (lines : List Told) × All (IsVisitLine slot) lines × AreLines old lines (with_memory old ws old.cycle.marker.dirty)
 
 pub writes_visit : WritesAreVisits
 writes_visit old new slot whole next writes =
-    let went = by_words old new.store.words new.cycle.marking.dirty writes.size writes.words (VisitsTo old slot) ([], (λ k d lt. absurd (omega arith)), no_lines old) on in
-    (went.0, went.1, λ start run follows. let w = went.2 start run follows in (w.0, w.1, subst (λ (c : Contents). Follows c start w.0) (sym writes.alone) (other_dirty old new.store.words new.cycle.marking.dirty start w.0 w.2)))
+    let went = by_words old new.store.words new.cycle.marker.dirty writes.size writes.words (VisitsTo old slot) ([], (λ k d lt. absurd (omega arith)), no_lines old) on in
+    (went.0, went.1, λ start run follows. let w = went.2 start run follows in (w.0, w.1, subst (λ (c : CoreContents). Follows c start w.0) (sym writes.alone) (other_dirty old new.store.words new.cycle.marker.dirty start w.0 w.2)))
   where
     on : (ws : List ℕ) (a : ℕ) (f : Found) → length ws ≡ length old.store.words → IsWordAddress old.store.words a → objects_of old a ≡ Some f → IsWord (word_at new.store.words a) → VisitsTo old slot ws → VisitsTo old slot (with_word_at ws a (word_at new.store.words a))
     on ws a f len there is word p =
         let size = whole.space.whole.listed.size in let few = whole.core.laid.few in let pages = whole.core.traced.pages in let above = there.above in let below = there.below in
-        one_visit old.roots (record old.store { words = ws }) (record old.cycle { marking = with_dirty old.cycle.marking old.cycle.marking.dirty }) old.links slot a (word_at new.store.words a) f whole.core.lawful (len ∙ size)
+        one_visit old.roots (record old.store { words = ws }) (record old.cycle { marker = with_dirty old.cycle.marker old.cycle.marker.dirty }) old.links slot a (word_at new.store.words a) f whole.core.lawful (len ∙ size)
         next there.aligned (omega arith) (omega arith) is old p.0 word p.1 p.2

@@ -8,7 +8,7 @@ use Rattle.words.specs.declared.limits.TheConstants.{FIRST_ADDRESS, PAGE_WORDS}
 use Rattle.heap_spec.specs.Heap.{Heap, Object, IsSameObject}
 use Rattle.heap_spec.specs.Ranges.{IsWord}
 use Rattle.heap_spec.specs.Steps.{with_object}
-use Rattle.pages.specs.Memory.{IsWordAddress, place, word_at, with_word_at}
+use Rattle.pages.specs.Memory.{IsWordAddress, word_index, word_at, with_word_at}
 use Rattle.block_map.specs.declared.found.Found.{Found}
 use Rattle.block_map.specs.FoundIn.{found_in, IsLawful}
 use Rattle.links.proofs.Named.{named_kept}
@@ -16,8 +16,8 @@ use Rattle.object_space.proofs.Changes.{shows_stored}
 use Rattle.object_space.proofs.Kept.{kept_map}
 use Rattle.object_space.proofs.Tables.{with_at-same, with_at-other, with_at-cases}
 use Rattle.object_space.specs.Kept.{restrict}
-use Rattle.heap_view.proofs.Shows.{is_word, seen, word_index, word_shown}
-use Rattle.heap_core.specs.Contents.{Contents}
+use Rattle.heap_view.proofs.Shows.{is_word, seen, index_of_word, word_shown}
+use Rattle.heap_core.specs.CoreContents.{CoreContents}
 use Rattle.heap_core.specs.Standing.{StandsFor, keeps, objects_of}
 use Rattle.heap_core.specs.DirectWrites.{with_memory, IsLeftOrWritten, StoresWord, StoresWords, HasOtherWords, HasWordsOf, WritesAreStores}
 use Rattle.heap_core.proofs.Along.{stored_same}
@@ -27,11 +27,11 @@ use Rattle.heap_core.proofs.Lookups.{finds}
 abbrev pub address_of : ℕ → ℕ
 address_of k = FIRST_ADDRESS + 8 * k
 
-place_is : (k : ℕ) → place (address_of k) ≡ k
+place_is : (k : ℕ) → word_index (address_of k) ≡ k
 place_is k = omega arith
 
 -- What is true of the words, and stays true when one word of a kept object is another, is true of the words that were written.
-module _ (c : Contents) (words : List ℕ) (dirty : List Bool) (size : length words ≡ length c.store.words) (each : (a : ℕ) → IsWordAddress c.store.words a → IsLeftOrWritten c words dirty a)
+module _ (c : CoreContents) (words : List ℕ) (dirty : List Bool) (size : length words ≡ length c.store.words) (each : (a : ℕ) → IsWordAddress c.store.words a → IsLeftOrWritten c words dirty a)
     (P : List ℕ → Type 0) (start : P c.store.words)
     (step : (ws : List ℕ) (a : ℕ) (f : Found) → length ws ≡ length c.store.words → IsWordAddress c.store.words a → objects_of c a ≡ Some f → IsWord (word_at words a) → P ws → P (with_word_at ws a (word_at words a))) where
   -- the first k words are the new ones
@@ -58,14 +58,14 @@ module _ (c : Contents) (words : List ℕ) (dirty : List Bool) (size : length wo
       }
       by (IsLeftOrWritten.written f kept word on off) = record {
         now = with_word_at w.now (address_of k) (word_at words (address_of k));
-        len = length-set w.now (place (address_of k)) (word_at words (address_of k)) ∙ w.len;
+        len = length-set w.now (word_index (address_of k)) (word_at words (address_of k)) ∙ w.len;
         done = λ j below. ⊎_elim
-            (λ before. let ne : j ≢ place (address_of k) = λ e. (let p = place_is k in omega arith) in get_or-set_other w.now (place (address_of k)) j (word_at words (address_of k)) 0 ne ∙ w.done j before)
-            (λ from. let e : j ≡ place (address_of k) = (let p = place_is k in omega arith) in
+            (λ before. let ne : j ≢ word_index (address_of k) = λ e. (let p = place_is k in omega arith) in get_or-set_other w.now (word_index (address_of k)) j (word_at words (address_of k)) 0 ne ∙ w.done j before)
+            (λ from. let e : j ≡ word_index (address_of k) = (let p = place_is k in omega arith) in
             ap (λ i. get_or (with_word_at w.now (address_of k) (word_at words (address_of k))) i 0) e
-            ∙ get_or-set_same w.now (place (address_of k)) (word_at words (address_of k)) 0 (let p = place_is k in let l = w.len in omega arith) ∙ ap (λ i. get_or words i 0) (sym e))
+            ∙ get_or-set_same w.now (word_index (address_of k)) (word_at words (address_of k)) 0 (let p = place_is k in let l = w.len in omega arith) ∙ ap (λ i. get_or words i 0) (sym e))
             (cases_lt j k);
-        rest = λ j from. let ne : j ≢ place (address_of k) = λ e. (let p = place_is k in omega arith) in get_or-set_other w.now (place (address_of k)) j (word_at words (address_of k)) 0 ne ∙ w.rest j (omega arith);
+        rest = λ j from. let ne : j ≢ word_index (address_of k) = λ e. (let p = place_is k in omega arith) in get_or-set_other w.now (word_index (address_of k)) j (word_at words (address_of k)) 0 ne ∙ w.rest j (omega arith);
         holds = step w.now (address_of k) f w.len (record { aligned = omega arith; above = omega arith; below = omega arith }) kept word w.holds;
       }
 
@@ -79,14 +79,14 @@ module _ (c : Contents) (words : List ℕ) (dirty : List Bool) (size : length wo
       subst P (ext_get_or 0 all.now words (all.len ∙ sym size) (λ j lt. all.done j (let l = all.len in omega arith))) all.holds
 
 -- one word of a kept object is another
-pub stores_one : (c : Contents) (dirty : List Bool) (ws : List ℕ) (a v : ℕ) (f : Found) → IsLawful c.store.states → length ws ≡ PAGE_WORDS * length c.store.states → a % 8 ≡ 0 → objects_of c a ≡ Some f → IsWord v
+pub stores_one : (c : CoreContents) (dirty : List Bool) (ws : List ℕ) (a v : ℕ) (f : Found) → IsLawful c.store.states → length ws ≡ PAGE_WORDS * length c.store.states → a % 8 ≡ 0 → objects_of c a ≡ Some f → IsWord v
     → (s : Heap) → StandsFor (with_memory c ws dirty) s → (s' : Heap) × StoresWord s s' × StandsFor (with_memory c (with_word_at ws a v) dirty) s'
 stores_one c dirty ws a v f lawful long aligned is word s h =
     let map = kept_map (length c.store.states) (keeps c) (found_in c.store.states) lawful.map in
     let found = finds (keeps c) (record c.store { words = ws }) s a f lawful h.store is in
     let here = is_word (restrict (keeps c) (found_in c.store.states)) (length c.store.states) map ws long a f is aligned in
-    let inside : place a < length ws = (let above = here.above in let below = here.below in omega arith) in
-    let at = word_index (restrict (keeps c) (found_in c.store.states)) (length c.store.states) map a f is aligned in
+    let inside : word_index a < length ws = (let above = here.above in let below = here.below in omega arith) in
+    let at = index_of_word (restrict (keeps c) (found_in c.store.states)) (length c.store.states) map a f is aligned in
     let after : Heap = with_object s f.base (Some (record found.0 { words = set found.0.words ((a - f.base) / 8) v })) in (
       after,
       StoresWord.stored found.1.0 (let lt = at.0 in let size = found.2.size in omega arith) word,
@@ -102,10 +102,10 @@ stores_one c dirty ws a v f lawful long aligned is word s h =
     )
 
 -- the dirty pages are nothing to the heap
-pub stands_dirty : (c : Contents) (words : List ℕ) (a b : List Bool) (s : Heap) → StandsFor (with_memory c words a) s → StandsFor (with_memory c words b) s
+pub stands_dirty : (c : CoreContents) (words : List ℕ) (a b : List Bool) (s : Heap) → StandsFor (with_memory c words a) s → StandsFor (with_memory c words b) s
 stands_dirty c words a b s h = record { mutators = h.mutators; globals = h.globals; store = record { pages = h.store.pages; shows = h.store.shows }; links = h.links }
 
-pub stands_same : (c : Contents) (s : Heap) → StandsFor c s → StandsFor (with_memory c c.store.words c.cycle.marking.dirty) s
+pub stands_same : (c : CoreContents) (s : Heap) → StandsFor c s → StandsFor (with_memory c c.store.words c.cycle.marker.dirty) s
 stands_same c s h = record { mutators = h.mutators; globals = h.globals; store = record { pages = h.store.pages; shows = h.store.shows }; links = h.links }
 
 -- An object is the same as itself, and where it was the same as another, that one's.
@@ -158,7 +158,7 @@ others s s' StoresWords.none = other_same s
 others s s' (StoresWords.more {mid = mid} before one) = other_more s mid s' (others s mid before) (other_one mid s' one)
 
 -- each word of an object is what the memory has
-words_of_memory : (c : Contents) (s : Heap) → IsLawful c.store.states → StandsFor c s → HasWordsOf c.store.words s
+words_of_memory : (c : CoreContents) (s : Heap) → IsLawful c.store.states → StandsFor c s → HasWordsOf c.store.words s
 words_of_memory c s lawful h base i o has lt =
     let map = kept_map (length c.store.states) (keeps c) (found_in c.store.states) lawful.map in
     let x = seen (objects_of c) (length c.store.states) map c.store.words s.objects h.store.shows.shown base o has in
@@ -166,20 +166,20 @@ words_of_memory c s lawful h base i o has lt =
     ∙ ap (λ b. word_at c.store.words (b + 8 * i)) x.2
 
 -- stores lead to a heap that the core stands for with these words
-abbrev StandsAfter : Contents → Heap → List ℕ → Type 0
-StandsAfter old s ws = (s' : Heap) × StoresWords s s' × StandsFor (with_memory old ws old.cycle.marking.dirty) s'
+abbrev StandsAfter : CoreContents → Heap → List ℕ → Type 0
+StandsAfter old s ws = (s' : Heap) × StoresWords s s' × StandsFor (with_memory old ws old.cycle.marker.dirty) s'
 
 pub writes_store : WritesAreStores
 writes_store old new whole writes s h =
-    let went = by_words old new.store.words new.cycle.marking.dirty writes.size writes.words (StandsAfter old s) (s, StoresWords.none, stands_same old s h) on in (
+    let went = by_words old new.store.words new.cycle.marker.dirty writes.size writes.words (StandsAfter old s) (s, StoresWords.none, stands_same old s h) on in (
       went.0,
       went.1,
       others s went.0 went.1,
-      words_of_memory (with_memory old new.store.words old.cycle.marking.dirty) went.0 whole.core.lawful went.2,
-      subst (λ (n : Contents). StandsFor n went.0) (sym writes.alone) (stands_dirty old new.store.words old.cycle.marking.dirty new.cycle.marking.dirty went.0 went.2),
+      words_of_memory (with_memory old new.store.words old.cycle.marker.dirty) went.0 whole.core.lawful went.2,
+      subst (λ (n : CoreContents). StandsFor n went.0) (sym writes.alone) (stands_dirty old new.store.words old.cycle.marker.dirty new.cycle.marker.dirty went.0 went.2),
     )
   where
     on : (ws : List ℕ) (a : ℕ) (f : Found) → length ws ≡ length old.store.words → IsWordAddress old.store.words a → objects_of old a ≡ Some f → IsWord (word_at new.store.words a) → StandsAfter old s ws → StandsAfter old s (with_word_at ws a (word_at new.store.words a))
     on ws a f len at is word p =
-        let one = stores_one old old.cycle.marking.dirty ws a (word_at new.store.words a) f whole.core.lawful (len ∙ whole.space.whole.listed.size) at.aligned is word p.0 p.2 in
+        let one = stores_one old old.cycle.marker.dirty ws a (word_at new.store.words a) f whole.core.lawful (len ∙ whole.space.whole.listed.size) at.aligned is word p.0 p.2 in
         (one.0, StoresWords.more p.1 one.1, one.2)

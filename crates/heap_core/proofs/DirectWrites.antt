@@ -15,7 +15,7 @@ use Rattle.marker.specs.Invariant.{DirtyPageInvariant, CarriedPageInvariant, IsA
 use Rattle.object_space.proofs.Kept.{kept_cases, kept_none}
 use Rattle.object_space.specs.Store.{IsWholeSpace}
 use Rattle.heap_view.proofs.Shows.{is_word}
-use Rattle.heap_core.specs.Contents.{Contents}
+use Rattle.heap_core.specs.CoreContents.{CoreContents}
 use Rattle.heap_core.specs.Standing.{keeps}
 use Rattle.heap_core.specs.DirectWrites.{with_memory, IsLeftOrWritten, IsWholeCore, WritesKeepCores}
 
@@ -23,10 +23,10 @@ no_found : (f : Found) → None ≡ Some f → ⊥
 no_found f e = cc
 
 -- an address of a word of an object finds the object
-word_found : (c : Contents) (f : Found) (i : ℕ) → IsLawful c.store.states → found_in c.store.states f.base ≡ Some f → i < f.len → found_in c.store.states (word_address f i) ≡ Some f
+word_found : (c : CoreContents) (f : Found) (i : ℕ) → IsLawful c.store.states → found_in c.store.states f.base ≡ Some f → i < f.len → found_in c.store.states (word_address f i) ≡ Some f
 word_found c f i lawful is lt = lawful.map.whole f.base (word_address f i) f is (record { from = omega arith; below = omega arith })
 
-module _ (c : Contents) (words : List ℕ) (dirty : List Bool) (each : (a : ℕ) → IsWordAddress c.store.words a → IsLeftOrWritten c words dirty a) where
+module _ (c : CoreContents) (words : List ℕ) (dirty : List Bool) (each : (a : ℕ) → IsWordAddress c.store.words a → IsLeftOrWritten c words dirty a) where
   -- where no object has the address, the word is as it was
   unread : (a : ℕ) → IsWordAddress c.store.words a → found_in c.store.states a ≡ None → word_at words a ≡ word_at c.store.words a
   unread a at none = by (each a at)
@@ -36,12 +36,12 @@ module _ (c : Contents) (words : List ℕ) (dirty : List Bool) (each : (a : ℕ)
       by (IsLeftOrWritten.written f is word on off) = absurd (no_found f (sym (kept_none (keeps c) (found_in c.store.states) a none) ∙ is))
 
   -- the marker will still come to a word
-  awaited : (f : Found) (i : ℕ) → ((p : ℕ) → Has c.cycle.marking.dirty p → Has dirty p) → IsAwaited c.cycle.marking f i → IsAwaited (with_dirty c.cycle.marking dirty) f i
+  awaited : (f : Found) (i : ℕ) → ((p : ℕ) → Has c.cycle.marker.dirty p → Has dirty p) → IsAwaited c.cycle.marker f i → IsAwaited (with_dirty c.cycle.marker dirty) f i
   awaited f i more (inl on) = inl (more (page_of (word_address f i)) on)
   awaited f i more (inr e) = inr (record { entry = e.entry; one = e.one; same = e.same; left = e.left })
 
-  invariant : IsLawful c.store.states → AreListed c.store.words c.store.states → ((p : ℕ) → Has c.cycle.marking.dirty p → Has dirty p) → c.cycle.is_marking ≡ true
-      → DirtyPageInvariant (found_in c.store.states) c.store.words c.cycle.marking → DirtyPageInvariant (found_in c.store.states) words (with_dirty c.cycle.marking dirty)
+  invariant : IsLawful c.store.states → AreListed c.store.words c.store.states → ((p : ℕ) → Has c.cycle.marker.dirty p → Has dirty p) → c.cycle.is_marking ≡ true
+      → DirtyPageInvariant (found_in c.store.states) c.store.words c.cycle.marker → DirtyPageInvariant (found_in c.store.states) words (with_dirty c.cycle.marker dirty)
   invariant lawful listed more is old f there normal marked i lt = by (each (word_address f i) at)
     where
       found : found_in c.store.states (word_address f i) ≡ Some f
@@ -50,20 +50,20 @@ module _ (c : Contents) (words : List ℕ) (dirty : List Bool) (each : (a : ℕ)
       at : IsWordAddress c.store.words (word_address f i)
       at = is_word (found_in c.store.states) (length c.store.states) lawful.map c.store.words listed.size (word_address f i) f found (let even = (lawful.map.placed f.base f there).aligned in omega arith)
 
-      by : IsLeftOrWritten c words dirty (word_address f i) → ((g : Found) → found_in c.store.states (word_at words (word_address f i)) ≡ Some g → Has c.cycle.marking.marks (granule g.base)) ⊎ IsAwaited (with_dirty c.cycle.marking dirty) f i
+      by : IsLeftOrWritten c words dirty (word_address f i) → ((g : Found) → found_in c.store.states (word_at words (word_address f i)) ≡ Some g → Has c.cycle.marker.marks (granule g.base)) ⊎ IsAwaited (with_dirty c.cycle.marker dirty) f i
       by (IsLeftOrWritten.left same) = ⊎_elim (λ t. inl (λ g e. t g (ap (found_in c.store.states) (sym same) ∙ e))) (λ a. inr (awaited f i more a)) (old f there normal marked i lt)
       by (IsLeftOrWritten.written g kept word on off) =
           let one : g ≡ f = same_Some g f (sym (kept_cases (keeps c) (found_in c.store.states) (word_address f i) g kept).0 ∙ found) in
           ⊎_elim (λ t. inl (λ x e. t x e)) (λ d. inr (inl d)) (on is (ap (λ (x : Found). x.kind) one ∙ normal))
 
   -- what is settled stays so, whatever pages are dirty
-  settled : (a w : ℕ) → length dirty ≡ length c.cycle.marking.dirty → IsSettled (found_in c.store.states) c.cycle.marking a w → IsSettled (found_in c.store.states) (with_dirty c.cycle.marking dirty) a w
+  settled : (a w : ℕ) → length dirty ≡ length c.cycle.marker.dirty → IsSettled (found_in c.store.states) c.cycle.marker a w → IsSettled (found_in c.store.states) (with_dirty c.cycle.marker dirty) a w
   settled a w size (IsSettled.held g is marked) = IsSettled.held g is marked
   settled a w size (IsSettled.outside out) = IsSettled.outside (subst (λ n. IsOutside (PAGE_BYTES * n) w) (sym size) out)
   settled a w size (IsSettled.carried on) = IsSettled.carried on
 
-  carried : IsLawful c.store.states → AreListed c.store.words c.store.states → ((p : ℕ) → Has c.cycle.marking.dirty p → Has dirty p) → length dirty ≡ length c.cycle.marking.dirty → c.cycle.needs_full ≡ false
-      → CarriedPageInvariant (found_in c.store.states) c.store.words c.cycle.marking → CarriedPageInvariant (found_in c.store.states) words (with_dirty c.cycle.marking dirty)
+  carried : IsLawful c.store.states → AreListed c.store.words c.store.states → ((p : ℕ) → Has c.cycle.marker.dirty p → Has dirty p) → length dirty ≡ length c.cycle.marker.dirty → c.cycle.needs_full ≡ false
+      → CarriedPageInvariant (found_in c.store.states) c.store.words c.cycle.marker → CarriedPageInvariant (found_in c.store.states) words (with_dirty c.cycle.marker dirty)
   carried lawful listed more size needs old f there normal marked i lt = by (each (word_address f i) at)
     where
       found : found_in c.store.states (word_address f i) ≡ Some f
@@ -72,10 +72,10 @@ module _ (c : Contents) (words : List ℕ) (dirty : List Bool) (each : (a : ℕ)
       at : IsWordAddress c.store.words (word_address f i)
       at = is_word (found_in c.store.states) (length c.store.states) lawful.map c.store.words listed.size (word_address f i) f found (let even = (lawful.map.placed f.base f there).aligned in omega arith)
 
-      by : IsLeftOrWritten c words dirty (word_address f i) → IsSettled (found_in c.store.states) (with_dirty c.cycle.marking dirty) (word_address f i) (word_at words (word_address f i)) ⊎ IsAwaited (with_dirty c.cycle.marking dirty) f i
+      by : IsLeftOrWritten c words dirty (word_address f i) → IsSettled (found_in c.store.states) (with_dirty c.cycle.marker dirty) (word_address f i) (word_at words (word_address f i)) ⊎ IsAwaited (with_dirty c.cycle.marker dirty) f i
       by (IsLeftOrWritten.left same) =
           ⊎_elim
-          (λ s. inl (settled (word_address f i) (word_at words (word_address f i)) size (subst (IsSettled (found_in c.store.states) c.cycle.marking (word_address f i)) (sym same) s)))
+          (λ s. inl (settled (word_address f i) (word_at words (word_address f i)) size (subst (IsSettled (found_in c.store.states) c.cycle.marker (word_address f i)) (sym same) s)))
           (λ a. inr (awaited f i more a))
           (old f there normal marked i lt)
       by (IsLeftOrWritten.written g kept word on off) =
@@ -83,9 +83,9 @@ module _ (c : Contents) (words : List ℕ) (dirty : List Bool) (each : (a : ℕ)
           ⊎_elim
           (λ s. inl (settled (word_address f i) (word_at words (word_address f i)) size s))
           (λ d. inr (inl d))
-          (off needs (ap (λ (x : Found). x.kind) one ∙ normal) (subst (λ (x : Found). IsMarked c.cycle.marking x.base) (sym one) marked))
+          (off needs (ap (λ (x : Found). x.kind) one ∙ normal) (subst (λ (x : Found). IsMarked c.cycle.marker x.base) (sym one) marked))
 
-keeps_space : (c : Contents) (words : List ℕ) (dirty : List Bool) (whole : IsWholeCore c) → length words ≡ length c.store.words
+keeps_space : (c : CoreContents) (words : List ℕ) (dirty : List Bool) (whole : IsWholeCore c) → length words ≡ length c.store.words
     → ((a : ℕ) → IsWordAddress c.store.words a → IsLeftOrWritten c words dirty a) → IsWholeSpace (record c.store { words = words }) whole.space.ready whole.space.waiting
 keeps_space c words dirty whole size each = record {
   sound = record { agree = space.sound.agree; used = space.sound.used };
@@ -98,8 +98,8 @@ keeps_space c words dirty whole size each = record {
     space : IsWholeSpace c.store whole.space.ready whole.space.waiting
     space = whole.space.whole
 
-keeps_core : (c : Contents) (words : List ℕ) (dirty : List Bool) → IsWholeCore c → length words ≡ length c.store.words
-    → ((a : ℕ) → IsWordAddress c.store.words a → IsLeftOrWritten c words dirty a) → length dirty ≡ length c.cycle.marking.dirty → ((p : ℕ) → Has c.cycle.marking.dirty p → Has dirty p)
+keeps_core : (c : CoreContents) (words : List ℕ) (dirty : List Bool) → IsWholeCore c → length words ≡ length c.store.words
+    → ((a : ℕ) → IsWordAddress c.store.words a → IsLeftOrWritten c words dirty a) → length dirty ≡ length c.cycle.marker.dirty → ((p : ℕ) → Has c.cycle.marker.dirty p → Has dirty p)
     → IsWholeCore (with_memory c words dirty)
 keeps_core c words dirty whole size each dirty_len more = record {
   core = record {
@@ -127,5 +127,5 @@ keeps_core c words dirty whole size each dirty_len more = record {
 }
 
 pub writes_keep : WritesKeepCores
-writes_keep old new whole writes = subst (λ (n : Contents). IsWholeCore n) (sym writes.alone)
-    (keeps_core old new.store.words new.cycle.marking.dirty whole writes.size writes.words writes.dirty_len writes.stays_dirty)
+writes_keep old new whole writes = subst (λ (n : CoreContents). IsWholeCore n) (sym writes.alone)
+    (keeps_core old new.store.words new.cycle.marker.dirty whole writes.size writes.words writes.dirty_len writes.stays_dirty)

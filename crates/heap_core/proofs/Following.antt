@@ -19,7 +19,7 @@ use Rattle.heap_spec.specs.Steps.{Step, Acts, Calls, Attaches}
 use Rattle.heap_spec.specs.declared.call.Call.{Call}
 use Rattle.heap_spec.specs.declared.call.Call.TheVariants.{Detach, Set, Copy, Add, Sub, Get, Push, Pop, Load, Store, Alloc, Free, Base, Size, GlobalGet, GlobalPut}
 use Rattle.words.specs.Bits.{Has}
-use Rattle.heap_core.specs.Calls.{Frees}
+use Rattle.heap_core.specs.MutatorCalls.{Frees}
 use Rattle.heap_spec.specs.Runs.{Start, Run, Told, heap_after, is_marking, marking_after, count, counted, needs_full, needs_full_after, old_births, old_births_after, goes_on, Touched, touched_after, IsBornSince}
 use Rattle.heap_spec.specs.Transcripts.{LineOf, LegalTranscript}
 use Rattle.heap_spec.proofs.Births.{step_births}
@@ -27,13 +27,13 @@ use Rattle.heap_spec.proofs.Closures.{closure_mono}
 use Rattle.heap_spec.proofs.Runs.{touched_closed}
 use Rattle.marker.specs.Marking.{IsMarked}
 use Rattle.heap_view.specs.Shows.{IsMarkedBirth}
-use Rattle.heap_core.specs.Contents.{Contents, Cycle}
+use Rattle.heap_core.specs.CoreContents.{CoreContents, Cycle}
 use Rattle.heap_core.specs.Standing.{StandsFor, keeps, objects_of}
 use Rattle.block_map.specs.FoundIn.{found_in, IsLawful}
 use Rattle.object_space.proofs.Kept.{kept_map}
 use Rattle.heap_view.proofs.Shows.{seen}
 use Rattle.heap_core.proofs.Births.{HasCountedObjects, born_apart}
-use Rattle.heap_core.specs.Calls.{IsCall}
+use Rattle.heap_core.specs.MutatorCalls.{IsCall}
 use Rattle.heap_core.specs.Collections.{IsGrantedInPhase, IsGrantedPartial, RefusesPartial, IsAlwaysGranted, BeginsCycle, BeginsPartialCycle, EndsMarking, MarksOn, ReadsRoots, TakesWords, RetracesPage, ReadsPage, EndsCycle, CollectsAll, SweepsOne}
 use Rattle.heap_core.specs.Following.{Follows, IsLine, AreLines}
 
@@ -109,7 +109,7 @@ none_some : {A : Type 0} (x : A) → None ≡ Some x → ⊥
 none_some x e = cc
 
 -- A call of a mutator is a line.
-module _ (old : Contents) (event : Event) (reply : Reply) (new : Contents) (lawful : IsLawful old.store.states) (call : IsCall old event reply new) (start : Start) (run : Run) (follows : Follows old start run)
+module _ (old : CoreContents) (event : Event) (reply : Reply) (new : CoreContents) (lawful : IsLawful old.store.states) (call : IsCall old event reply new) (start : Start) (run : Run) (follows : Follows old start run)
     (after : Heap) (step : Step (heap_after start run) event reply after) (stands : StandsFor new after) where
   -- the objects of the heap before have words
   counted_objects : HasCountedObjects (heap_after start run)
@@ -121,39 +121,39 @@ module _ (old : Contents) (event : Event) (reply : Reply) (new : Contents) (lawf
     born = λ b p has. (follows.stands.store.shows.born b p has).1;
   }
 
-  touches : old.cycle.is_marking ≡ true → (base : ℕ) (o : Object) → HasObject after base o → IsMarked new.cycle.marking base → Touched start run o.birth ⊎ ((heap_after start run).births < o.birth)
+  touches : old.cycle.is_marking ≡ true → (base : ℕ) (o : Object) → HasObject after base o → IsMarked new.cycle.marker base → Touched start run o.birth ⊎ ((heap_after start run).births < o.birth)
   touches is base o has marked =
       let f = stands.store.shows.shown.only base o has in
       let there = ap (objects_of new) f.2 ∙ f.1 in
       ⊎_elim
       (λ old_one. ⊎_elim
-      (λ was. inl (subst (Touched start run) (sym old_one.2.birth) (follows.touched is base old_one.0 old_one.1 (subst (IsMarked old.cycle.marking) f.2 was))))
+      (λ was. inl (subst (Touched start run) (sym old_one.2.birth) (follows.touched is base old_one.0 old_one.1 (subst (IsMarked old.cycle.marker) f.2 was))))
       (λ none. let g = follows.stands.store.shows.shown.only base old_one.0 old_one.1 in absurd (none_some g.0 (sym (ap (objects_of old) (sym f.2) ∙ none) ∙ g.1)))
-      (call.marks f.0 there (subst (IsMarked new.cycle.marking) (sym f.2) marked)))
+      (call.marks f.0 there (subst (IsMarked new.cycle.marker) (sym f.2) marked)))
       (λ born. inr born)
       (step_births (heap_after start run) event reply after step base o has)
 
   -- the old objects are still exactly the marked ones
-  aged : old.cycle.is_marking ≡ false → (base : ℕ) (o : Object) → HasObject after base o → IsMarked new.cycle.marking base → o.birth ≤ old_births start run
+  aged : old.cycle.is_marking ≡ false → (base : ℕ) (o : Object) → HasObject after base o → IsMarked new.cycle.marker base → o.birth ≤ old_births start run
   aged is base o has marked =
       let f = stands.store.shows.shown.only base o has in
       let there = ap (objects_of new) f.2 ∙ f.1 in
-      let now : IsMarked new.cycle.marking f.0.base = subst (IsMarked new.cycle.marking) (sym f.2) marked in
+      let now : IsMarked new.cycle.marker f.0.base = subst (IsMarked new.cycle.marker) (sym f.2) marked in
       let was = call.idle is f.0 there now in
       let before = follows.stands.store.shows.shown.kept f.0 was.0 in
       ⊎_elim
-      (λ old_one. let le = follows.aged is base old_one.0 old_one.1 (subst (IsMarked old.cycle.marking) f.2 was.1) in let same = old_one.2.birth in omega arith)
+      (λ old_one. let le = follows.aged is base old_one.0 old_one.1 (subst (IsMarked old.cycle.marker) f.2 was.1) in let same = old_one.2.birth in omega arith)
       (λ born. absurd (born_apart (heap_after start run) counted_objects event reply after step base o has born before.0 (subst (λ b. HasObject (heap_after start run) b before.0) f.2 before.1)))
       (step_births (heap_after start run) event reply after step base o has)
 
-  kept : old.cycle.is_marking ≡ false → (base : ℕ) (o : Object) → HasObject after base o → o.birth ≤ old_births start run → IsMarked new.cycle.marking base
+  kept : old.cycle.is_marking ≡ false → (base : ℕ) (o : Object) → HasObject after base o → o.birth ≤ old_births start run → IsMarked new.cycle.marker base
   kept is base o has before =
       let f = stands.store.shows.shown.only base o has in
       let there = ap (objects_of new) f.2 ∙ f.1 in
       ⊎_elim
       (λ old_one. let same = old_one.2.birth in
       let was = follows.kept is base old_one.0 old_one.1 (omega arith) in
-      subst (IsMarked new.cycle.marking) f.2 (call.stays f.0 there (subst (IsMarked old.cycle.marking) (sym f.2) was)))
+      subst (IsMarked new.cycle.marker) f.2 (call.stays f.0 there (subst (IsMarked old.cycle.marker) (sym f.2) was)))
       (λ born. let past = follows.past in absurd (omega arith))
       (step_births (heap_after start run) event reply after step base o has)
 
@@ -179,13 +179,13 @@ module _ (old : Contents) (event : Event) (reply : Reply) (new : Contents) (lawf
   line : (next : Run) × LineOf start run event reply next × Follows new start next
   line = (goes_on run event reply after, LineOf.happens moment.happens, next_follows)
 
-pub call_line : (old : Contents) (event : Event) (reply : Reply) (new : Contents) → IsLawful old.store.states → IsCall old event reply new → IsLine old event reply new
+pub call_line : (old : CoreContents) (event : Event) (reply : Reply) (new : CoreContents) → IsLawful old.store.states → IsCall old event reply new → IsLine old event reply new
 call_line old event reply new lawful call start run follows =
     let went = call.steps (heap_after start run) follows.stands in
     line old event reply new lawful call start run follows went.0 went.1 went.2
 
 -- A granted begin is a line.
-pub begin_line : (old new : Contents) → old.cycle.is_marking ≡ false → BeginsCycle old new → IsLine old Begin Done new
+pub begin_line : (old new : CoreContents) → old.cycle.is_marking ≡ false → BeginsCycle old new → IsLine old Begin Done new
 begin_line old new idle begins start run follows = (
   goes_on run Begin Done (heap_after start run),
   LineOf.happens (sym follows.phase ∙ idle, (refl, refl)),
@@ -198,12 +198,12 @@ begin_line old new idle begins start run follows = (
     past = follows.past;
     aged = λ is. absurd (false≢true (sym is ∙ begins.phase));
     kept = λ is. absurd (false≢true (sym is ∙ begins.phase));
-    touched = λ is base o has marked. absurd (false≢true (sym (begins.fresh.marks.clear (granule base)) ∙ marked));
+    touched = λ is base o has marked. absurd (false≢true (sym (begins.blank.marks.clear (granule base)) ∙ marked));
   },
 )
 
 -- A granted begin with the marks of the last cycle is a line: each marked object is old, and so touched.
-pub partial_line : (old new : Contents) → old.cycle.is_marking ≡ false → old.cycle.needs_full ≡ false → BeginsPartialCycle old new → IsLine old BeginPartial Done new
+pub partial_line : (old new : CoreContents) → old.cycle.is_marking ≡ false → old.cycle.needs_full ≡ false → BeginsPartialCycle old new → IsLine old BeginPartial Done new
 partial_line old new idle needs begins start run follows = (
   goes_on run BeginPartial Done (heap_after start run),
   LineOf.happens (sym follows.phase ∙ idle, sym follows.needs ∙ needs, (refl, refl)),
@@ -221,31 +221,31 @@ partial_line old new idle needs begins start run follows = (
 )
 
 -- where a core is marking, what is touched is closed
-closed : (c : Contents) (start : Start) (run : Run) → Follows c start run → c.cycle.is_marking ≡ true → (birth : ℕ) → IsInClosure (heap_after start run) (Touched start run) birth → Touched start run birth
+closed : (c : CoreContents) (start : Start) (run : Run) → Follows c start run → c.cycle.is_marking ≡ true → (birth : ℕ) → IsInClosure (heap_after start run) (Touched start run) birth → Touched start run birth
 closed c start [] follows is birth x = sym follows.phase ∙ is
 closed c start (m ∷ run) follows is birth x = touched_closed start m run follows.stands.store.shows.distinct birth x
 
 -- and each object of the closure of its marks is touched
-reached_touched : (c : Contents) (start : Start) (run : Run) → Follows c start run → c.cycle.is_marking ≡ true
-    → (base : ℕ) (o : Object) → HasObject (heap_after start run) base o → Closure (heap_after start run) (IsMarkedBirth (heap_after start run) c.cycle.marking) base → Touched start run o.birth
+reached_touched : (c : CoreContents) (start : Start) (run : Run) → Follows c start run → c.cycle.is_marking ≡ true
+    → (base : ℕ) (o : Object) → HasObject (heap_after start run) base o → Closure (heap_after start run) (IsMarkedBirth (heap_after start run) c.cycle.marker) base → Touched start run o.birth
 reached_touched c start run follows is base o has inside =
     closed c start run follows is o.birth (
       base,
       o,
       has,
       refl,
-      closure_mono (heap_after start run) (IsMarkedBirth (heap_after start run) c.cycle.marking) (Touched start run)
+      closure_mono (heap_after start run) (IsMarkedBirth (heap_after start run) c.cycle.marker) (Touched start run)
           (λ b m. subst (Touched start run) m.same (follows.touched is m.base m.object m.has m.marked)) inside,
     )
 
 -- A step of the marker leaves the run as it is.
-pub marks_follow : (roots : List ℕ) (old new : Contents) → old.cycle.is_marking ≡ true → MarksOn roots old new → (start : Start) (run : Run) → Follows old start run → Follows new start run
+pub marks_follow : (roots : List ℕ) (old new : CoreContents) → old.cycle.is_marking ≡ true → MarksOn roots old new → (start : Start) (run : Run) → Follows old start run → Follows new start run
 marks_follow roots old new is marks start run follows = record {
   stands = marks.stands (heap_after start run) follows.stands;
   phase = marks.phase ∙ follows.phase;
   count = marks.count ∙ follows.count;
   small = subst (λ n. n < word_end) (sym marks.count) follows.small;
-  needs = ap (λ (c : Contents). c.cycle.needs_full) marks.alone ∙ follows.needs;
+  needs = ap (λ (c : CoreContents). c.cycle.needs_full) marks.alone ∙ follows.needs;
   past = follows.past;
   aged = λ now. absurd (false≢true (sym now ∙ (marks.phase ∙ is)));
   kept = λ now. absurd (false≢true (sym now ∙ (marks.phase ∙ is)));
@@ -253,13 +253,13 @@ marks_follow roots old new is marks start run follows = record {
 }
 
 -- once a cycle has ended each object is marked
-all_marked : {old new : Contents} → EndsMarking old new → (s : Heap) → StandsFor new s → (base : ℕ) (o : Object) → HasObject s base o → IsMarked new.cycle.marking base
+all_marked : {old new : CoreContents} → EndsMarking old new → (s : Heap) → StandsFor new s → (base : ℕ) (o : Object) → HasObject s base o → IsMarked new.cycle.marker base
 all_marked {new = new} ends s stands base o has =
     let f = stands.store.shows.shown.only base o has in
-    subst (IsMarked new.cycle.marking) f.2 (ends.marked f.0 (ap (objects_of new) f.2 ∙ f.1))
+    subst (IsMarked new.cycle.marker) f.2 (ends.marked f.0 (ap (objects_of new) f.2 ∙ f.1))
 
 -- A granted finish is a line: each object that is not touched goes.
-pub finish_line : (old new : Contents) (n : ℕ) → old.cycle.is_marking ≡ true → EndsCycle old n new → IsLine old Finish (Count n) new
+pub finish_line : (old new : CoreContents) (n : ℕ) → old.cycle.is_marking ≡ true → EndsCycle old n new → IsLine old Finish (Count n) new
 finish_line old new n is ends start run follows =
     let went = ends.forgets (heap_after start run) follows.stands in (
       goes_on run Finish (Count n) went.0,
@@ -285,7 +285,7 @@ finish_line old new n is ends start run follows =
     )
 
 -- A collection is a line.
-pub collect_line : (old new : Contents) (n : ℕ) → CollectsAll old n new → IsLine old Collect (Count n) new
+pub collect_line : (old new : CoreContents) (n : ℕ) → CollectsAll old n new → IsLine old Collect (Count n) new
 collect_line old new n all start run follows =
     let went = all.collects (heap_after start run) follows.stands in (
       goes_on run Collect (Count n) went.0,
@@ -304,47 +304,47 @@ collect_line old new n all start run follows =
     )
 
 -- A refused call of the collector is a line that leaves the run as it is.
-wrong_line : (old new : Contents) (event : Event) (why : Refusal) → why ≡ WrongPhase → new ≡ old → ((start : Start) (run : Run) → Follows old start run → LineOf start run event (Refused WrongPhase) run) → IsLine old event (Refused why) new
+wrong_line : (old new : CoreContents) (event : Event) (why : Refusal) → why ≡ WrongPhase → new ≡ old → ((start : Start) (run : Run) → Follows old start run → LineOf start run event (Refused WrongPhase) run) → IsLine old event (Refused why) new
 wrong_line old new event why is same line start run follows =
     (run, subst (λ w. LineOf start run event (Refused w) run) (sym is) (line start run follows), subst (λ c. Follows c start run) (sym same) follows)
 
-pub begin_result : (old new : Contents) (r : Result ⊤ Refusal) → IsGrantedInPhase false old r new (λ _. BeginsCycle old new) → IsLine old Begin (done_reply r) new
+pub begin_result : (old new : CoreContents) (r : Result ⊤ Refusal) → IsGrantedInPhase false old r new (λ _. BeginsCycle old new) → IsLine old Begin (done_reply r) new
 begin_result old new (Ok done) g = begin_line old new g.0 g.1
 begin_result old new (Err why) g = wrong_line old new Begin why g.1 g.2 (λ start run follows. LineOf.refused (sym follows.phase ∙ g.0))
 
-partial_refused : (old new : Contents) {why : Refusal} → RefusesPartial old why → new ≡ old → IsLine old BeginPartial (Refused why) new
+partial_refused : (old new : CoreContents) {why : Refusal} → RefusesPartial old why → new ≡ old → IsLine old BeginPartial (Refused why) new
 partial_refused old new (RefusesPartial.wrong_phase is) same start run follows = (run, LineOf.refused (sym follows.phase ∙ is), subst (λ c. Follows c start run) (sym same) follows)
 partial_refused old new (RefusesPartial.needs idle is) same start run follows = (run, LineOf.needs (sym follows.phase ∙ idle) (sym follows.needs ∙ is), subst (λ c. Follows c start run) (sym same) follows)
 
-pub partial_result : (old new : Contents) (r : Result ⊤ Refusal) → IsGrantedPartial old r new (BeginsPartialCycle old new) → IsLine old BeginPartial (done_reply r) new
+pub partial_result : (old new : CoreContents) (r : Result ⊤ Refusal) → IsGrantedPartial old r new (BeginsPartialCycle old new) → IsLine old BeginPartial (done_reply r) new
 partial_result old new (Ok done) g = partial_line old new g.0 g.1 g.2
 partial_result old new (Err why) g = partial_refused old new g.0 g.1
 
-pub roots_result : (old new : Contents) (r : Result ⊤ Refusal) → IsGrantedInPhase true old r new (λ _. ReadsRoots old new) → IsLine old Roots (done_reply r) new
+pub roots_result : (old new : CoreContents) (r : Result ⊤ Refusal) → IsGrantedInPhase true old r new (λ _. ReadsRoots old new) → IsLine old Roots (done_reply r) new
 roots_result old new (Ok done) g = λ start run follows. (run, LineOf.roots (sym follows.phase ∙ g.0), marks_follow (root_words_of old.roots) old new g.0 g.1.marks start run follows)
 roots_result old new (Err why) g = wrong_line old new Roots why g.1 g.2 (λ start run follows. LineOf.refused (sym follows.phase ∙ g.0))
 
-pub mark_result : (old new : Contents) (asked : ℕ) (r : Result ℕ Refusal) → IsGrantedInPhase true old r new (λ n. TakesWords asked old n new) → IsLine old (Mark asked) (count_reply r) new
+pub mark_result : (old new : CoreContents) (asked : ℕ) (r : Result ℕ Refusal) → IsGrantedInPhase true old r new (λ n. TakesWords asked old n new) → IsLine old (Mark asked) (count_reply r) new
 mark_result old new asked (Ok n) g = λ start run follows. (run, LineOf.mark (sym follows.phase ∙ g.0) g.1.most, marks_follow [] old new g.0 g.1.marks start run follows)
 mark_result old new asked (Err why) g = wrong_line old new (Mark asked) why g.1 g.2 (λ start run follows. LineOf.refused (sym follows.phase ∙ g.0))
 
-one_page : (old new : Contents) (n : ℕ) → ReadsPage old new n → n ≤ 1
+one_page : (old new : CoreContents) (n : ℕ) → ReadsPage old new n → n ≤ 1
 one_page old new n (ReadsPage.none clean same) = omega arith
 one_page old new n (ReadsPage.page p reads) = omega arith
 
-pub retrace_result : (old new : Contents) (r : Result ℕ Refusal) → IsGrantedInPhase true old r new (λ n. RetracesPage old n new) → IsLine old Retrace (count_reply r) new
+pub retrace_result : (old new : CoreContents) (r : Result ℕ Refusal) → IsGrantedInPhase true old r new (λ n. RetracesPage old n new) → IsLine old Retrace (count_reply r) new
 retrace_result old new (Ok n) g = λ start run follows. (run, LineOf.retrace (sym follows.phase ∙ g.0) (one_page old new n g.1.reads), marks_follow [] old new g.0 g.1.marks start run follows)
 retrace_result old new (Err why) g = wrong_line old new Retrace why g.1 g.2 (λ start run follows. LineOf.refused (sym follows.phase ∙ g.0))
 
-pub finish_result : (old new : Contents) (r : Result ℕ Refusal) → IsGrantedInPhase true old r new (λ n. EndsCycle old n new) → IsLine old Finish (count_reply r) new
+pub finish_result : (old new : CoreContents) (r : Result ℕ Refusal) → IsGrantedInPhase true old r new (λ n. EndsCycle old n new) → IsLine old Finish (count_reply r) new
 finish_result old new (Ok n) g = finish_line old new n g.0 g.1
 finish_result old new (Err why) g = wrong_line old new Finish why g.1 g.2 (λ start run follows. LineOf.refused (sym follows.phase ∙ g.0))
 
-pub collect_result : (old new : Contents) (r : Result ℕ Refusal) → IsAlwaysGranted r (λ n. CollectsAll old n new) → IsLine old Collect (count_reply r) new
+pub collect_result : (old new : CoreContents) (r : Result ℕ Refusal) → IsAlwaysGranted r (λ n. CollectsAll old n new) → IsLine old Collect (count_reply r) new
 collect_result old new (Ok n) g = collect_line old new n g
 collect_result old new (Err why) g = absurd g
 
-pub sweep_result : (old new : Contents) (r : Result ℕ Refusal) → IsAlwaysGranted r (λ n. SweepsOne old n new) → IsLine old Sweep (count_reply r) new
+pub sweep_result : (old new : CoreContents) (r : Result ℕ Refusal) → IsAlwaysGranted r (λ n. SweepsOne old n new) → IsLine old Sweep (count_reply r) new
 sweep_result old new (Ok n) g = λ start run follows. (
   run,
   LineOf.sweep g.few,
@@ -355,14 +355,14 @@ sweep_result old new (Ok n) g = λ start run follows. (
     small = subst (λ (y : Cycle). y.count < word_end) (sym g.cycle) follows.small;
     needs = ap (λ (y : Cycle). y.needs_full) g.cycle ∙ follows.needs;
     past = follows.past;
-    aged = λ is base o has marked. follows.aged (ap (λ (y : Cycle). y.is_marking) (sym g.cycle) ∙ is) base o has (subst (λ (y : Cycle). IsMarked y.marking base) g.cycle marked);
-    kept = λ is base o has before. subst (λ (y : Cycle). IsMarked y.marking base) (sym g.cycle) (follows.kept (ap (λ (y : Cycle). y.is_marking) (sym g.cycle) ∙ is) base o has before);
-    touched = λ is base o has marked. follows.touched (ap (λ (y : Cycle). y.is_marking) (sym g.cycle) ∙ is) base o has (subst (λ (y : Cycle). IsMarked y.marking base) g.cycle marked);
+    aged = λ is base o has marked. follows.aged (ap (λ (y : Cycle). y.is_marking) (sym g.cycle) ∙ is) base o has (subst (λ (y : Cycle). IsMarked y.marker base) g.cycle marked);
+    kept = λ is base o has before. subst (λ (y : Cycle). IsMarked y.marker base) (sym g.cycle) (follows.kept (ap (λ (y : Cycle). y.is_marking) (sym g.cycle) ∙ is) base o has before);
+    touched = λ is base o has marked. follows.touched (ap (λ (y : Cycle). y.is_marking) (sym g.cycle) ∙ is) base o has (subst (λ (y : Cycle). IsMarked y.marker base) g.cycle marked);
   },
 )
 sweep_result old new (Err why) g = absurd g
 
-pub number_line : (c : Contents) → IsLine c Number (Count c.cycle.count) c
+pub number_line : (c : CoreContents) → IsLine c Number (Count c.cycle.count) c
 number_line c start run follows = (run, subst (λ n. LineOf start run Number (Count n) run) (sym follows.count) LineOf.number, follows)
 
 -- One line more.
@@ -370,10 +370,10 @@ transcript_more : (start : Start) {run mid last : Run} {lines : List Told} → L
 transcript_more start LegalTranscript.ends event reply line = LegalTranscript.on line LegalTranscript.ends
 transcript_more start (LegalTranscript.on first rest) event reply line = LegalTranscript.on first (transcript_more start rest event reply line)
 
-pub no_lines : (c : Contents) → AreLines c [] c
+pub no_lines : (c : CoreContents) → AreLines c [] c
 no_lines c start run follows = (run, LegalTranscript.ends, follows)
 
-pub lines_more : (old mid new : Contents) (lines : List Told) (event : Event) (reply : Reply) → AreLines old lines mid → IsLine mid event reply new → AreLines old (lines ++ record { event = event; reply = reply } ∷ []) new
+pub lines_more : (old mid new : CoreContents) (lines : List Told) (event : Event) (reply : Reply) → AreLines old lines mid → IsLine mid event reply new → AreLines old (lines ++ record { event = event; reply = reply } ∷ []) new
 lines_more old mid new lines event reply so line start run follows =
     let a = so start run follows in let b = line start a.0 a.2 in
     (b.0, transcript_more start a.1 event reply b.1, b.2)

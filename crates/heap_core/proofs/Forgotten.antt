@@ -12,7 +12,7 @@ use Rattle.object_space.specs.Store.{Store}
 use Rattle.object_space.specs.Sweeps.{Sweeps}
 use Rattle.object_space.proofs.Kept.{kept_cases, kept_is, nothing_pending, pending_marked}
 use Rattle.object_space.proofs.Sweeping.{read_or_not}
-use Rattle.heap_core.specs.Contents.{Contents}
+use Rattle.heap_core.specs.CoreContents.{CoreContents}
 use Rattle.heap_core.specs.Standing.{IsForgotten}
 
 -- the word reads an object of the store that isn't kept
@@ -31,15 +31,15 @@ dead_pending pending marks f dead = by (get_or pending f.page false) refl
     by false e = absurd (false≢true (sym dead ∙ nothing_pending pending marks f (λ h. false≢true (sym e ∙ h))))
 
 -- where states, pending pages and marks are the same
-pub forgotten_same : (old new : Contents) → new.store.states ≡ old.store.states → new.store.pending ≡ old.store.pending → new.cycle.marking.marks ≡ old.cycle.marking.marks
+pub forgotten_same : (old new : CoreContents) → new.store.states ≡ old.store.states → new.store.pending ≡ old.store.pending → new.cycle.marker.marks ≡ old.cycle.marker.marks
     → (w : ℕ) (f : Found) → IsForgotten new w f ↔ (IsForgotten old w f × Has new.store.pending f.page)
 forgotten_same old new states pending marks w f = (
-  λ h. ((ap (λ x. found_in x w) (sym states) ∙ h.0, sym keeps ∙ h.1), dead_pending new.store.pending new.cycle.marking.marks f h.1),
+  λ h. ((ap (λ x. found_in x w) (sym states) ∙ h.0, sym keeps ∙ h.1), dead_pending new.store.pending new.cycle.marker.marks f h.1),
   λ h. (ap (λ x. found_in x w) states ∙ h.0.0, keeps ∙ h.0.1),
 )
   where
-    keeps : is_kept new.store.pending new.cycle.marking.marks f ≡ is_kept old.store.pending old.cycle.marking.marks f
-    keeps = ap (λ row. is_kept row new.cycle.marking.marks f) pending ∙ ap (λ ms. is_kept old.store.pending ms f) marks
+    keeps : is_kept new.store.pending new.cycle.marker.marks f ≡ is_kept old.store.pending old.cycle.marker.marks f
+    keeps = ap (λ row. is_kept row new.cycle.marker.marks f) pending ∙ ap (λ ms. is_kept old.store.pending ms f) marks
 
 -- where pages were swept
 pub forgotten_swept : (old new : Store) (marks : List Bool) → Sweeps old marks new → (w : ℕ) (f : Found) → IsDead new marks w f ↔ (IsDead old marks w f × Has new.pending f.page)

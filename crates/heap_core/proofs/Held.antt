@@ -31,14 +31,14 @@ use Rattle.heap_history.proofs.Loaded.{load_is, calls_leave, attaches_leave, tak
 use Rattle.heap_history.proofs.Owning.{alloc_is}
 use Rattle.heap_history.proofs.OwnObjects.{HasOwn, place_is, calls_acts, store_own}
 use Rattle.heap_core.specs.Acts.{IsAct}
-use Rattle.heap_core.specs.Calls.{IsCall}
+use Rattle.heap_core.specs.MutatorCalls.{IsCall}
 use Rattle.heap_core.specs.Collections.{IsGrantedInPhase, IsGrantedPartial, IsAlwaysGranted}
-use Rattle.heap_core.specs.Contents.{Contents}
+use Rattle.heap_core.specs.CoreContents.{CoreContents}
 use Rattle.heap_core.specs.Held.{IsSoundCore, IsHeldWord, IsHeld, NamesInRange, LeavesHeld}
 use Rattle.heap_core.specs.Opening.{IsNew}
 use Rattle.heap_core.specs.Standing.{StandsFor}
 
-pub new_sound : (pages : ℕ) (c : Contents) → IsPageCount pages → IsNew pages c → IsSoundCore c
+pub new_sound : (pages : ℕ) (c : CoreContents) → IsPageCount pages → IsNew pages c → IsSoundCore c
 new_sound pages c count is = (_, is.stands, opening_is pages count.0 count.1)
 
 -- What an event makes of the heap: nothing, a mutator that came, a call, or objects that were not reached are taken out.
@@ -49,13 +49,13 @@ data Moves (s : Heap) (event : Event) (reply : Reply) (s' : Heap) : Type 0 where
   taken : (bases : List ℕ) (count : Reply) → TakesOut s bases count s' → Moves s event reply s'
 
 -- the core stands for a heap to which the event leads
-record Led (s : Heap) (event : Event) (reply : Reply) (new : Contents) : Type 0 where
+record Led (s : Heap) (event : Event) (reply : Reply) (new : CoreContents) : Type 0 where
   heap : Heap
   stands : StandsFor new heap
   moves : Moves s event reply heap
 
 -- a call that is granted in one phase, or in any
-by_phase : {A : Type 0} (phase : Bool) (old new : Contents) (r : Result A Refusal) (P : A → Type 0) {Q : Type 0} → IsGrantedInPhase phase old r new P → ((x : A) → P x → Q) → (new ≡ old → Q) → Q
+by_phase : {A : Type 0} (phase : Bool) (old new : CoreContents) (r : Result A Refusal) (P : A → Type 0) {Q : Type 0} → IsGrantedInPhase phase old r new P → ((x : A) → P x → Q) → (new ≡ old → Q) → Q
 by_phase phase old new (Ok x) P granted some none = some x granted.1
 by_phase phase old new (Err why) P granted some none = none granted.2
 
@@ -63,24 +63,24 @@ always : {A : Type 0} (r : Result A Refusal) (P : A → Type 0) {Q : Type 0} →
 always (Ok x) P granted some = some x granted
 always (Err why) P granted some = absurd granted
 
-by_grant : {A P : Type 0} (old new : Contents) (r : Result A Refusal) {Q : Type 0} → IsGrantedPartial old r new P → (P → Q) → (new ≡ old → Q) → Q
+by_grant : {A P : Type 0} (old new : CoreContents) (r : Result A Refusal) {Q : Type 0} → IsGrantedPartial old r new P → (P → Q) → (new ≡ old → Q) → Q
 by_grant old new (Ok x) granted some none = some granted.2
 by_grant old new (Err why) granted some none = none granted.1
 
-led : (old new : Contents) (event : Event) (reply : Reply) (s : Heap) → StandsFor old s → IsAct old event reply new → Led s event reply new
+led : (old new : CoreContents) (event : Event) (reply : Reply) (s : Heap) → StandsFor old s → IsAct old event reply new → Led s event reply new
 led old new Attach reply s h act = let step = act.steps s h in record { heap = step.0; stands = step.2; moves = Moves.came step.1 }
 led old new (Mutator by call) reply s h act = let step = act.steps s h in record { heap = step.0; stands = step.2; moves = Moves.called by call refl step.1 }
-led old new Begin reply s h act = by_phase _ old new act.0 _ act.2 (λ x b. record { heap = s; stands = b.stands s h; moves = Moves.stays refl }) (λ e. record { heap = s; stands = subst (λ (c : Contents). StandsFor c s) (sym e) h; moves = Moves.stays refl })
-led old new BeginPartial reply s h act = by_grant old new act.0 act.2 (λ b. record { heap = s; stands = b.stands s h; moves = Moves.stays refl }) (λ e. record { heap = s; stands = subst (λ (c : Contents). StandsFor c s) (sym e) h; moves = Moves.stays refl })
-led old new Roots reply s h act = by_phase _ old new act.0 _ act.2 (λ x b. record { heap = s; stands = b.marks.stands s h; moves = Moves.stays refl }) (λ e. record { heap = s; stands = subst (λ (c : Contents). StandsFor c s) (sym e) h; moves = Moves.stays refl })
-led old new (Mark n) reply s h act = by_phase _ old new act.0 _ act.2 (λ x b. record { heap = s; stands = b.marks.stands s h; moves = Moves.stays refl }) (λ e. record { heap = s; stands = subst (λ (c : Contents). StandsFor c s) (sym e) h; moves = Moves.stays refl })
-led old new Retrace reply s h act = by_phase _ old new act.0 _ act.2 (λ x b. record { heap = s; stands = b.marks.stands s h; moves = Moves.stays refl }) (λ e. record { heap = s; stands = subst (λ (c : Contents). StandsFor c s) (sym e) h; moves = Moves.stays refl })
+led old new Begin reply s h act = by_phase _ old new act.0 _ act.2 (λ x b. record { heap = s; stands = b.stands s h; moves = Moves.stays refl }) (λ e. record { heap = s; stands = subst (λ (c : CoreContents). StandsFor c s) (sym e) h; moves = Moves.stays refl })
+led old new BeginPartial reply s h act = by_grant old new act.0 act.2 (λ b. record { heap = s; stands = b.stands s h; moves = Moves.stays refl }) (λ e. record { heap = s; stands = subst (λ (c : CoreContents). StandsFor c s) (sym e) h; moves = Moves.stays refl })
+led old new Roots reply s h act = by_phase _ old new act.0 _ act.2 (λ x b. record { heap = s; stands = b.marks.stands s h; moves = Moves.stays refl }) (λ e. record { heap = s; stands = subst (λ (c : CoreContents). StandsFor c s) (sym e) h; moves = Moves.stays refl })
+led old new (Mark n) reply s h act = by_phase _ old new act.0 _ act.2 (λ x b. record { heap = s; stands = b.marks.stands s h; moves = Moves.stays refl }) (λ e. record { heap = s; stands = subst (λ (c : CoreContents). StandsFor c s) (sym e) h; moves = Moves.stays refl })
+led old new Retrace reply s h act = by_phase _ old new act.0 _ act.2 (λ x b. record { heap = s; stands = b.marks.stands s h; moves = Moves.stays refl }) (λ e. record { heap = s; stands = subst (λ (c : CoreContents). StandsFor c s) (sym e) h; moves = Moves.stays refl })
 led old new Finish reply s h act = by_phase _ old new act.0 _ act.2
     (λ x b. let to = b.forgets s h in record { heap = to.0; stands = to.2; moves = Moves.taken to.1.bases _ to.1.takes })
-    (λ e. record { heap = s; stands = subst (λ (c : Contents). StandsFor c s) (sym e) h; moves = Moves.stays refl })
+    (λ e. record { heap = s; stands = subst (λ (c : CoreContents). StandsFor c s) (sym e) h; moves = Moves.stays refl })
 led old new Sweep reply s h act = always act.0 _ act.2 (λ x b. record { heap = s; stands = b.stands s h; moves = Moves.stays refl })
 led old new Collect reply s h act = always act.0 _ act.2 (λ x b. let to = b.collects s h in record { heap = to.0; stands = to.2; moves = Moves.taken to.1.bases _ to.1.takes })
-led old new Number reply s h act = record { heap = s; stands = subst (λ (c : Contents). StandsFor c s) (sym act.1) h; moves = Moves.stays refl }
+led old new Number reply s h act = record { heap = s; stands = subst (λ (c : CoreContents). StandsFor c s) (sym act.1) h; moves = Moves.stays refl }
 
 moves_sound : (s s' : Heap) (event : Event) (reply : Reply) → IsSound s → NamesInRange event → Moves s event reply s' → IsSound s'
 moves_sound s s' event reply sound range (Moves.stays e) = subst IsSound (sym e) sound
@@ -88,7 +88,7 @@ moves_sound s s' event reply sound range (Moves.came attaches) = attaches_kept s
 moves_sound s s' event reply sound range (Moves.called by call e calls) = calls_kept s by call sound (subst NamesInRange e range) calls
 moves_sound s s' event reply sound range (Moves.taken bases count takes) = takes_out_kept s bases count s' sound takes
 
-pub acts_sound : (old new : Contents) (event : Event) (reply : Reply) → IsSoundCore old → NamesInRange event → IsAct old event reply new → IsSoundCore new
+pub acts_sound : (old new : CoreContents) (event : Event) (reply : Reply) → IsSoundCore old → NamesInRange event → IsAct old event reply new → IsSoundCore new
 acts_sound old new event reply is range act = let to = led old new event reply is.0 is.1 act in (to.heap, to.stands, moves_sound is.0 to.heap event reply is.2 range to.moves)
 
 -- the object that is held is the mutator's own
@@ -147,7 +147,7 @@ moves_held s s' event reply slot r k w sound held leaves (Moves.taken bases coun
     let reached = held_reached s sound slot held.mutator r (register held.mutator r) held.object held.attached own.there refl held.has in
     still s s' slot r k w held (same_slot s' slot r held.mutator (ap (λ (x : Heap). slice_get x.mutators slot) takes.after ∙ held.attached)) (takes_leave s sound bases count s' takes (register held.mutator r) held.object held.has reached held.kind)
 
-pub held_stays : (old new : Contents) (event : Event) (reply : Reply) (slot r k w : ℕ) → IsHeld old slot r k w → NamesInRange event → LeavesHeld slot r event → IsAct old event reply new → IsHeld new slot r k w
+pub held_stays : (old new : CoreContents) (event : Event) (reply : Reply) (slot r k w : ℕ) → IsHeld old slot r k w → NamesInRange event → LeavesHeld slot r event → IsAct old event reply new → IsHeld new slot r k w
 held_stays old new event reply slot r k w is range leaves act =
     let to = led old new event reply is.heap is.stands act in record {
       heap = to.heap;
@@ -156,7 +156,7 @@ held_stays old new event reply slot r k w is range leaves act =
       held = moves_held is.heap to.heap event reply slot r k w is.sound is.held leaves to.moves;
     }
 
-pub granted_held : (old new : Contents) (slot r n k : ℕ) → IsSoundCore old → CallInRange (Alloc r n Normal) → k < n → IsCall old (Mutator slot (Alloc r n Normal)) Done new → IsHeld new slot r k 0
+pub granted_held : (old new : CoreContents) (slot r n k : ℕ) → IsSoundCore old → CallInRange (Alloc r n Normal) → k < n → IsCall old (Mutator slot (Alloc r n Normal)) Done new → IsHeld new slot r k 0
 granted_held old new slot r n k is range lt act =
     let step = act.steps is.0 is.1 in
     let made = alloc_is is.0 slot r n Normal is.2 range.0 step.1 in
@@ -208,7 +208,7 @@ store_held s s' slot r k x v w sound held is calls =
       word = get_or-set_same held.object.words k (register m x) 0 within ∙ is;
     }
 
-pub stored_held : (old mid new : Contents) (slot r k x v w : ℕ) → IsHeld old slot r k v → CallInRange (Set x w) → CallInRange (Store r k x) → r ≢ x
+pub stored_held : (old mid new : CoreContents) (slot r k x v w : ℕ) → IsHeld old slot r k v → CallInRange (Set x w) → CallInRange (Store r k x) → r ≢ x
     → IsCall old (Mutator slot (Set x w)) Done mid → IsCall mid (Mutator slot (Store r k x)) Done new → IsHeld new slot r k w
 stored_held old mid new slot r k x v w is range range' ne first second =
     let one = first.steps is.heap is.stands in
@@ -221,7 +221,7 @@ stored_held old mid new slot r k x v w is range range' ne first second =
       held = store_held one.0 two.0 slot r k x v w sound set.0 set.1 two.1;
     }
 
-pub held_loaded : (old new : Contents) (reply : Reply) (slot d r k w : ℕ) → IsHeld old slot r k w → IsCall old (Mutator slot (Load d r k)) reply new → reply ≡ Word w
+pub held_loaded : (old new : CoreContents) (reply : Reply) (slot d r k w : ℕ) → IsHeld old slot r k w → IsCall old (Mutator slot (Load d r k)) reply new → reply ≡ Word w
 held_loaded old new reply slot d r k w is act =
     let s = is.heap in
     let held = is.held in

@@ -18,8 +18,8 @@ use Rattle.links.proofs.Named.{named_length, named_at, named_but, named_push}
 use Rattle.roots.specs.Roots.{RootSet, HasMutator}
 use Rattle.object_space.specs.Store.{Store}
 use Rattle.object_space.specs.Kept.{restrict, is_kept}
-use Rattle.heap_core.specs.Contents.{Cycle}
-use Rattle.heap_core.specs.Calls.{IsCall}
+use Rattle.heap_core.specs.CoreContents.{Cycle}
+use Rattle.heap_core.specs.MutatorCalls.{IsCall}
 use Rattle.heap_core.specs.Standing.{StandsFor}
 use Rattle.heap_core.proofs.Lookups.{finds}
 use Rattle.heap_core.proofs.Roots.{core_of, attached, quiet, links_change}
@@ -30,11 +30,11 @@ room_for s ls a named (inl few) = inl (subst (λ n. n < MAX_LINKS) (named_length
 room_for s ls a named (inr stands) = inr (sym (named_at s.objects a named) ∙ stands)
 
 pub linked : (roots : RootSet) (t : Store) (y : Cycle) (ls : List Link) (slot a n r : ℕ) (m : HeapMutator) (f g : Found) → IsLawful t.states → HasMutator roots slot m → address m a n % 8 ≡ 0
-    → restrict (is_kept t.pending y.marking.marks) (found_in t.states) (address m a n) ≡ Some f → f.kind ≡ PointerFree → restrict (is_kept t.pending y.marking.marks) (found_in t.states) (register m r) ≡ Some g
+    → restrict (is_kept t.pending y.marker.marks) (found_in t.states) (address m a n) ≡ Some f → f.kind ≡ PointerFree → restrict (is_kept t.pending y.marker.marks) (found_in t.states) (register m r) ≡ Some g
     → HasRowRoom ls (address m a n) → IsCall (core_of roots t y ls) (Mutator slot (LinkCall a n r)) Done (core_of roots t y (with_link_at ls (address m a n) g.base))
 linked roots t y ls slot a n r m f g lawful at aligned is kind names room = links_change (core_of roots t y ls) (with_link_at ls (address m a n) g.base) (Mutator slot (LinkCall a n r)) Done (λ h. h) (λ s h.
-    let holder = finds (is_kept t.pending y.marking.marks) t s (address m a n) f lawful h.store is in
-    let object = finds (is_kept t.pending y.marking.marks) t s (register m r) g lawful h.store names in (
+    let holder = finds (is_kept t.pending y.marker.marks) t s (address m a n) f lawful h.store is in
+    let object = finds (is_kept t.pending y.marker.marks) t s (register m r) g lawful h.store names in (
       with_link s (address m a n) object.0.birth,
       Calls.acts (attached roots t y s slot m h at) (Acts.linked aligned holder.1 (holder.2.kind ∙ kind) object.1 (room_for s ls (address m a n) h.links room)),
       record {
@@ -47,11 +47,11 @@ linked roots t y ls slot a n r m f g lawful at aligned is kind names room = link
 
 -- there is no room for a link
 pub no_room : (roots : RootSet) (t : Store) (y : Cycle) (ls : List Link) (slot a n r : ℕ) (m : HeapMutator) (f g : Found) → IsLawful t.states → HasMutator roots slot m → address m a n % 8 ≡ 0
-    → restrict (is_kept t.pending y.marking.marks) (found_in t.states) (address m a n) ≡ Some f → f.kind ≡ PointerFree → restrict (is_kept t.pending y.marking.marks) (found_in t.states) (register m r) ≡ Some g
+    → restrict (is_kept t.pending y.marker.marks) (found_in t.states) (address m a n) ≡ Some f → f.kind ≡ PointerFree → restrict (is_kept t.pending y.marker.marks) (found_in t.states) (register m r) ≡ Some g
     → length ls ≡ MAX_LINKS → has_at ls (address m a n) ≡ false → IsCall (core_of roots t y ls) (Mutator slot (LinkCall a n r)) (Refused LinksFull) (core_of roots t y ls)
 no_room roots t y ls slot a n r m f g lawful at aligned is kind names full free = quiet (core_of roots t y ls) roots (Mutator slot (LinkCall a n r)) (Refused LinksFull) (λ h. h) (λ s h.
-    let holder = finds (is_kept t.pending y.marking.marks) t s (address m a n) f lawful h.store is in
-    let object = finds (is_kept t.pending y.marking.marks) t s (register m r) g lawful h.store names in
+    let holder = finds (is_kept t.pending y.marker.marks) t s (address m a n) f lawful h.store is in
+    let object = finds (is_kept t.pending y.marker.marks) t s (register m r) g lawful h.store names in
     let long = named_length s.objects h.links in
     (s, Calls.acts (attached roots t y s slot m h at) (Acts.links_full aligned holder.1 (holder.2.kind ∙ kind) object.1 (omega arith) (sym (named_at s.objects (address m a n) h.links) ∙ free)), h))
 

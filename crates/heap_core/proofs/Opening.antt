@@ -1,12 +1,12 @@
 -- A new core and the run without events.
 use Rattle.std.proofs.Common.{ℕ, [], sym, ◌∙◌, true≢false, arith}
 use Rattle.std.proofs.lemmas.Option.{none-some}
-use Rattle.heap_spec.specs.Runs.{fresh}
-use Rattle.heap_core.specs.Contents.{Contents}
+use Rattle.heap_spec.specs.Runs.{opening_start}
+use Rattle.heap_core.specs.CoreContents.{CoreContents}
 use Rattle.heap_core.specs.Following.{Follows}
 use Rattle.heap_core.specs.Opening.{IsNew}
 
-pub new_follows : (pages : ℕ) (c : Contents) → IsNew pages c → Follows c (fresh pages) []
+pub new_follows : (pages : ℕ) (c : CoreContents) → IsNew pages c → Follows c (opening_start pages) []
 new_follows pages c new = record {
   stands = new.stands;
   phase = new.phase;

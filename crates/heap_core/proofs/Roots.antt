@@ -17,8 +17,8 @@ use Rattle.links.specs.declared.row.Link.{Link}
 use Rattle.roots.specs.Roots.{RootSet, HasMutator, HasNoMutator, with_word, with_roots, SetsWord, StepsRoots}
 use Rattle.roots.proofs.Steps.{set_mutators}
 use Rattle.object_space.specs.Store.{Store}
-use Rattle.heap_core.specs.Contents.{Contents, Cycle}
-use Rattle.heap_core.specs.Calls.{IsCall, IsFullAlloc, Frees, MakesDirty, ReachesPages}
+use Rattle.heap_core.specs.CoreContents.{CoreContents, Cycle}
+use Rattle.heap_core.specs.MutatorCalls.{IsCall, IsFullAlloc, Frees, MakesDirty, ReachesPages}
 use Rattle.object_space.specs.Kept.{is_kept}
 use Rattle.links.specs.Named.{AreNamed}
 use Rattle.object_space.specs.Stores.{Stores}
@@ -26,7 +26,7 @@ use Rattle.heap_core.specs.Standing.{StandsFor}
 use Rattle.heap_core.proofs.Forgotten.{forgotten_same}
 
 -- the core of these
-abbrev pub core_of : RootSet → Store → Cycle → List Link → Contents
+abbrev pub core_of : RootSet → Store → Cycle → List Link → CoreContents
 core_of roots t y ls = record { roots = roots; store = t; cycle = y; links = ls }
 
 pub none_some : (f : Found) → None ≡ Some f → ⊥
@@ -40,7 +40,7 @@ full_reply : (event : Event) (reply : Reply) → IsFullAlloc event reply → rep
 full_reply event reply IsFullAlloc.full = refl
 
 -- a store that was done reaches them
-dirty_reaches : (c : Contents) (event : Event) (reply : Reply) (p : ℕ) → MakesDirty c event reply p → ReachesPages event reply
+dirty_reaches : (c : CoreContents) (event : Event) (reply : Reply) (p : ℕ) → MakesDirty c event reply p → ReachesPages event reply
 dirty_reaches c event reply p (MakesDirty.store m at same) = tt
 
 -- and so does a free that was done
@@ -54,10 +54,10 @@ pub frees_event : (event : Event) (reply : Reply) → Frees event reply → (slo
 frees_event event reply (Frees.freed {slot = slot} {r = r}) = (slot, r, refl)
 
 -- what makes a page dirty was done, and is a store
-dirty_reply : (c : Contents) (event : Event) (reply : Reply) (p : ℕ) → MakesDirty c event reply p → reply ≡ Done
+dirty_reply : (c : CoreContents) (event : Event) (reply : Reply) (p : ℕ) → MakesDirty c event reply p → reply ≡ Done
 dirty_reply c event reply p (MakesDirty.store m at same) = refl
 
-pub dirty_event : (c : Contents) (event : Event) (reply : Reply) (p : ℕ) → MakesDirty c event reply p → (slot a n r : ℕ) × (event ≡ Mutator slot (StoreCall a n r))
+pub dirty_event : (c : CoreContents) (event : Event) (reply : Reply) (p : ℕ) → MakesDirty c event reply p → (slot a n r : ℕ) × (event ≡ Mutator slot (StoreCall a n r))
 dirty_event c event reply p (MakesDirty.store {slot = slot} {a = a} {n = n} {r = r} m at same) = (slot, a, n, r, refl)
 
 -- nor is one that was done
@@ -68,7 +68,7 @@ not_done event h = other (full_reply event Done h)
     other e = cc
 
 -- a call that leaves the store and the cycle as they are
-changes_beside : (c : Contents) (roots : RootSet) (ls : List Link) (event : Event) (reply : Reply) → (IsFullAlloc event reply → ⊥) → ((p : ℕ) → MakesDirty c event reply p → ⊥) → (Frees event reply → ⊥)
+changes_beside : (c : CoreContents) (roots : RootSet) (ls : List Link) (event : Event) (reply : Reply) → (IsFullAlloc event reply → ⊥) → ((p : ℕ) → MakesDirty c event reply p → ⊥) → (Frees event reply → ⊥)
     → IsStep (StandsFor c) event reply (StandsFor (record c { roots = roots; links = ls })) → IsCall c event reply (record c { roots = roots; links = ls })
 changes_beside c roots ls event reply not_full not_dirty need steps = record {
   steps = steps;
@@ -93,17 +93,17 @@ changes_beside c roots ls event reply not_full not_dirty need steps = record {
   roots_alone = λ not. (refl, refl);
 }
 
-roots_change : (c : Contents) (roots : RootSet) (event : Event) (reply : Reply) → (IsFullAlloc event reply → ⊥) → ((p : ℕ) → MakesDirty c event reply p → ⊥) → (Frees event reply → ⊥)
+roots_change : (c : CoreContents) (roots : RootSet) (event : Event) (reply : Reply) → (IsFullAlloc event reply → ⊥) → ((p : ℕ) → MakesDirty c event reply p → ⊥) → (Frees event reply → ⊥)
     → IsStep (StandsFor c) event reply (StandsFor (record c { roots = roots })) → IsCall c event reply (record c { roots = roots })
 roots_change c roots event reply not_full not_dirty need steps = changes_beside c roots c.links event reply not_full not_dirty need steps
 
 -- one that changes the links
-pub links_change : (c : Contents) (ls : List Link) (event : Event) (reply : Reply) → (ReachesPages event reply → ⊥)
+pub links_change : (c : CoreContents) (ls : List Link) (event : Event) (reply : Reply) → (ReachesPages event reply → ⊥)
     → IsStep (StandsFor c) event reply (StandsFor (record c { links = ls })) → IsCall c event reply (record c { links = ls })
 links_change c ls event reply apart steps = changes_beside c c.roots ls event reply (λ h. apart (full_reaches event reply h)) (λ p h. apart (dirty_reaches c event reply p h)) (λ f. apart (frees_reaches event reply f)) steps
 
 -- one that doesn't reach the pages
-pub quiet : (c : Contents) (roots : RootSet) (event : Event) (reply : Reply) → (ReachesPages event reply → ⊥)
+pub quiet : (c : CoreContents) (roots : RootSet) (event : Event) (reply : Reply) → (ReachesPages event reply → ⊥)
     → IsStep (StandsFor c) event reply (StandsFor (record c { roots = roots })) → IsCall c event reply (record c { roots = roots })
 quiet c roots event reply apart steps = roots_change c roots event reply (λ h. apart (full_reaches event reply h)) (λ p h. apart (dirty_reaches c event reply p h)) (λ f. apart (frees_reaches event reply f)) steps
 
@@ -123,14 +123,14 @@ pub attached : (roots : RootSet) (t : Store) (y : Cycle) {ls : List Link} (s : H
 attached roots t y {ls = ls} s slot m h at = ap (λ ms. slice_get ms slot) h.mutators ∙ at
 
 -- what is refused makes no page dirty
-pub refused_clean : (c : Contents) (event : Event) (refusal : Refusal) (p : ℕ) → MakesDirty c event (Refused refusal) p → ⊥
+pub refused_clean : (c : CoreContents) (event : Event) (refusal : Refusal) (p : ℕ) → MakesDirty c event (Refused refusal) p → ⊥
 refused_clean c event refusal p h = other (dirty_reply c event (Refused refusal) p h)
   where
     other : Refused refusal ≡ Done → ⊥
     other e = cc
 
 -- a call for a slot that has no mutator
-pub refused_vacant : (c : Contents) (slot : ℕ) (call : Call) → HasNoMutator c.roots slot → IsCall c (Mutator slot call) (Refused NoSlot) c
+pub refused_vacant : (c : CoreContents) (slot : ℕ) (call : Call) → HasNoMutator c.roots slot → IsCall c (Mutator slot call) (Refused NoSlot) c
 refused_vacant c slot call none = roots_change c c.roots (Mutator slot call) (Refused NoSlot) (λ h. other (full_reply (Mutator slot call) (Refused NoSlot) h)) (refused_clean c (Mutator slot call) NoSlot) (λ f. other_done (frees_reply (Mutator slot call) (Refused NoSlot) f)) (λ s h. (s, Calls.vacant (ap (λ ms. slice_get ms slot) h.mutators ∙ none), h))
   where
     other : Refused NoSlot ≡ Refused Full → ⊥
@@ -141,12 +141,12 @@ refused_vacant c slot call none = roots_change c c.roots (Mutator slot call) (Re
 
 -- a call of a mutator that is refused
 pub refused : (roots : RootSet) (t : Store) (y : Cycle) {ls : List Link} (slot : ℕ) (m : HeapMutator) (call : Call) (refusal : Refusal) → HasMutator roots slot m → (ReachesPages (Mutator slot call) (Refused refusal) → ⊥)
-    → ((s : Heap) → Stores (is_kept t.pending y.marking.marks) t s → Acts s slot m call (Refused refusal) s) → IsCall (core_of roots t y ls) (Mutator slot call) (Refused refusal) (core_of roots t y ls)
+    → ((s : Heap) → Stores (is_kept t.pending y.marker.marks) t s → Acts s slot m call (Refused refusal) s) → IsCall (core_of roots t y ls) (Mutator slot call) (Refused refusal) (core_of roots t y ls)
 refused roots t y {ls = ls} slot m call refusal at apart acts = quiet (core_of roots t y ls) roots (Mutator slot call) (Refused refusal) apart (λ s h. (s, Calls.acts (attached roots t y s slot m h at) (acts s h.store), h))
 
 -- the roots stand for those of a heap in which a register was set
 pub stands_set : (roots roots' : RootSet) (t t' : Store) (y y' : Cycle) {ls : List Link} (s after : Heap) (slot r w : ℕ) (m : HeapMutator) → StandsFor (core_of roots t y ls) s → HasMutator roots slot m → SetsWord roots slot r w roots'
-    → after.mutators ≡ set s.mutators slot (Some (with_word m r w)) → after.globals ≡ s.globals → Stores (is_kept t'.pending y'.marking.marks) t' after → AreNamed after.objects ls after.links → StandsFor (core_of roots' t' y' ls) after
+    → after.mutators ≡ set s.mutators slot (Some (with_word m r w)) → after.globals ≡ s.globals → Stores (is_kept t'.pending y'.marker.marks) t' after → AreNamed after.objects ls after.links → StandsFor (core_of roots' t' y' ls) after
 stands_set roots roots' t t' y y' {ls = ls} s after slot r w m h at is mutators globals stores named = record {
   links = named;
   mutators = mutators ∙ ap (λ ms. set ms slot (Some (with_word m r w))) h.mutators ∙ sym (set_mutators roots roots' slot r w m at is);

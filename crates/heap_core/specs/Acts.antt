@@ -7,8 +7,8 @@ use Rattle.heap_spec.specs.declared.reply.Reply.{Reply}
 use Rattle.heap_spec.specs.declared.reply.Reply.TheVariants.{Count}
 use Rattle.heap_spec.specs.Replies.{count_reply, done_reply}
 use Rattle.heap_spec.specs.Runs.{Told}
-use Rattle.heap_core.specs.Contents.{Contents, IsCore}
-use Rattle.heap_core.specs.Calls.{IsCall}
+use Rattle.heap_core.specs.CoreContents.{CoreContents, IsCore}
+use Rattle.heap_core.specs.MutatorCalls.{IsCall}
 use Rattle.heap_core.specs.Collections.{IsGrantedInPhase, IsGrantedPartial, IsAlwaysGranted, BeginsCycle, BeginsPartialCycle, ReadsRoots, TakesWords, RetracesPage, EndsCycle, CollectsAll, SweepsOne}
 
 -- the reply is that of a result of which this is true
@@ -16,7 +16,7 @@ abbrev pub Tells : {A : Type 0} → (Result A Refusal → Reply) → Reply → (
 Tells {A = A} told reply P = (r : Result A Refusal) × (reply ≡ told r) × P r
 
 -- the event is this call of the core
-abbrev pub IsAct : Contents → Event → Reply → Contents → Type 0
+abbrev pub IsAct : CoreContents → Event → Reply → CoreContents → Type 0
 IsAct old Attach reply new = IsCall old Attach reply new
 IsAct old (Mutator slot call) reply new = IsCall old (Mutator slot call) reply new
 IsAct old Begin reply new = Tells done_reply reply (λ r. IsGrantedInPhase false old r new (λ _. BeginsCycle old new))
@@ -30,6 +30,6 @@ IsAct old Collect reply new = Tells count_reply reply (λ r. IsAlwaysGranted r (
 IsAct old Number reply new = (reply ≡ Count old.cycle.count) × (new ≡ old)
 
 -- The events with their replies are calls of the core, one after another, and what each call leaves is a core.
-pub data AreActs (old : Contents) : List Told → Contents → Type 0 where
+pub data AreActs (old : CoreContents) : List Told → CoreContents → Type 0 where
   none : AreActs old [] old
-  more : {lines : List Told} {mid new : Contents} (told : Told) → AreActs old lines mid → IsAct mid told.event told.reply new → IsCore new → AreActs old (lines ++ told ∷ []) new
+  more : {lines : List Told} {mid new : CoreContents} (told : Told) → AreActs old lines mid → IsAct mid told.event told.reply new → IsCore new → AreActs old (lines ++ told ∷ []) new

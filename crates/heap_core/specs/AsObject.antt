@@ -4,26 +4,26 @@ use Rattle.words.specs.declared.limits.TheConstants.{SLOTS}
 use Rattle.heap_spec.specs.declared.event.Event.{Event}
 use Rattle.heap_spec.specs.declared.event.Event.TheVariants.{Attach, Mutator, Begin, BeginPartial, Roots, Mark, Retrace, Finish, Sweep, Collect, Number}
 use Rattle.heap_spec.specs.Heap.{Mutator as HeapMutator}
-use Rattle.heap_spec.specs.Runs.{fresh}
+use Rattle.heap_spec.specs.Runs.{opening_start}
 use Rattle.heap_spec.specs.SequentialObject.{HeapState}
 use Rattle.roots.specs.Roots.{HasMutator, IsNextSlot}
-use Rattle.heap_core.specs.Contents.{Contents}
+use Rattle.heap_core.specs.CoreContents.{CoreContents}
 use Rattle.heap_core.specs.Following.{Follows}
 
 -- The core stands for a state where the state's run from a new heap has led: it has its heap, its phase and its count, needs a
 -- full cycle where the run does, and its marks are those that the run allows.
-abbrev pub Stands : Contents → HeapState → Type 0
-Stands c state = Follows c (fresh state.pages) state.run
+abbrev pub Stands : CoreContents → HeapState → Type 0
+Stands c state = Follows c (opening_start state.pages) state.run
 
 -- The same of a core as `IsCaller` of a heap: the slot is the caller's own, and a mutator is attached there.
-pub record HasCaller (c : Contents) (who slot : ℕ) : Type 0 where
+pub record HasCaller (c : CoreContents) (who slot : ℕ) : Type 0 where
   pub range : who < SLOTS
   pub own : who ≡ slot
   pub mutator : HeapMutator
   pub attached : HasMutator c.roots who mutator
 
 -- When an event may be asked for, and by whom: those that are in a history, and where the phase grants them.
-abbrev pub Can : Contents → ℕ → Event → Type 0
+abbrev pub Can : CoreContents → ℕ → Event → Type 0
 Can c who Attach = (who < SLOTS) × IsNextSlot c.roots who
 Can c who (Mutator slot call) = HasCaller c who slot
 Can c who Begin = (who ≡ SLOTS) × (c.cycle.is_marking ≡ false)

@@ -14,13 +14,13 @@ use Rattle.heap_spec.specs.Sound.{IsSound}
 use Rattle.heap_spec.specs.Steps.{register}
 use Rattle.heap_history.specs.Laws.{LeavesRegister, LeavesWordsCall}
 use Rattle.heap_core.specs.Acts.{IsAct}
-use Rattle.heap_core.specs.Calls.{IsCall}
-use Rattle.heap_core.specs.Contents.{Contents}
+use Rattle.heap_core.specs.MutatorCalls.{IsCall}
+use Rattle.heap_core.specs.CoreContents.{CoreContents}
 use Rattle.heap_core.specs.Opening.{IsNew}
 use Rattle.heap_core.specs.Standing.{StandsFor}
 
 -- the core stands for a sound heap
-abbrev pub IsSoundCore : Contents → Type 0
+abbrev pub IsSoundCore : CoreContents → Type 0
 IsSoundCore c = (s : Heap) × StandsFor c s × IsSound s
 
 -- A register of the slot's mutator has the base of a Normal object, in which this word stands at this place.
@@ -35,7 +35,7 @@ pub record IsHeldWord (s : Heap) (slot r k w : ℕ) : Type 0 where
   pub word : slice_index object.words k ≡ w
 
 -- So it is in a sound heap that the core stands for.
-pub record IsHeld (c : Contents) (slot r k w : ℕ) : Type 0 where
+pub record IsHeld (c : CoreContents) (slot r k w : ℕ) : Type 0 where
   pub heap : Heap
   pub stands : StandsFor c heap
   pub sound : IsSound heap
@@ -54,25 +54,25 @@ LeavesHeld slot r _ = Unit {0}
 
 -- a new core stands for a sound heap
 abbrev pub NewIsSound : Type 0
-NewIsSound = (pages : ℕ) (c : Contents) → IsPageCount pages → IsNew pages c → IsSoundCore c
+NewIsSound = (pages : ℕ) (c : CoreContents) → IsPageCount pages → IsNew pages c → IsSoundCore c
 
 -- and whatever is called, it still does
 abbrev pub ActsKeepSound : Type 0
-ActsKeepSound = (old new : Contents) (event : Event) (reply : Reply) → IsSoundCore old → NamesInRange event → IsAct old event reply new → IsSoundCore new
+ActsKeepSound = (old new : CoreContents) (event : Event) (reply : Reply) → IsSoundCore old → NamesInRange event → IsAct old event reply new → IsSoundCore new
 
 -- Each word of a Normal object that was granted is held by the register, and is 0.
 abbrev pub GrantedWordsAreHeld : Type 0
-GrantedWordsAreHeld = (old new : Contents) (slot r n k : ℕ) → IsSoundCore old → CallInRange (Alloc r n Normal) → k < n → IsCall old (Mutator slot (Alloc r n Normal)) Done new → IsHeld new slot r k 0
+GrantedWordsAreHeld = (old new : CoreContents) (slot r n k : ℕ) → IsSoundCore old → CallInRange (Alloc r n Normal) → k < n → IsCall old (Mutator slot (Alloc r n Normal)) Done new → IsHeld new slot r k 0
 
 -- A word that was set in another register and stored at its place is held there.
 abbrev pub StoredWordIsHeld : Type 0
-StoredWordIsHeld = (old mid new : Contents) (slot r k x v w : ℕ) → IsHeld old slot r k v → CallInRange (Set x w) → CallInRange (Store r k x) → r ≢ x
+StoredWordIsHeld = (old mid new : CoreContents) (slot r k x v w : ℕ) → IsHeld old slot r k v → CallInRange (Set x w) → CallInRange (Store r k x) → r ≢ x
     → IsCall old (Mutator slot (Set x w)) Done mid → IsCall mid (Mutator slot (Store r k x)) Done new → IsHeld new slot r k w
 
 -- A held word stays, whatever cycles begin, go on and end, and whatever mutators do that store and free nothing, while the register is left.
 abbrev pub HeldWordStays : Type 0
-HeldWordStays = (old new : Contents) (event : Event) (reply : Reply) (slot r k w : ℕ) → IsHeld old slot r k w → NamesInRange event → LeavesHeld slot r event → IsAct old event reply new → IsHeld new slot r k w
+HeldWordStays = (old new : CoreContents) (event : Event) (reply : Reply) (slot r k w : ℕ) → IsHeld old slot r k w → NamesInRange event → LeavesHeld slot r event → IsAct old event reply new → IsHeld new slot r k w
 
 -- A load from its place answers it, and is never refused.
 abbrev pub HeldWordIsLoaded : Type 0
-HeldWordIsLoaded = (old new : Contents) (reply : Reply) (slot d r k w : ℕ) → IsHeld old slot r k w → IsCall old (Mutator slot (Load d r k)) reply new → reply ≡ Word w
+HeldWordIsLoaded = (old new : CoreContents) (reply : Reply) (slot d r k w : ℕ) → IsHeld old slot r k w → IsCall old (Mutator slot (Load d r k)) reply new → reply ≡ Word w

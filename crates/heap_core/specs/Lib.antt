@@ -1,10 +1,10 @@
-pub mod Contents
+pub mod CoreContents
 pub mod Standing
 pub mod Opening
 pub mod Beside
 pub mod KeptAt
 pub mod Looks
-pub mod Calls
+pub mod MutatorCalls
 pub mod Collections
 pub mod Acts
 pub mod Following

@@ -6,24 +6,24 @@ use Rattle.block_map.specs.declared.found.Found.{Found}
 use Rattle.object_space.specs.Kept.{restrict, is_kept}
 use Rattle.links.specs.Named.{AreNamed}
 use Rattle.object_space.specs.Stores.{Stores}
-use Rattle.heap_core.specs.Contents.{Contents}
+use Rattle.heap_core.specs.CoreContents.{CoreContents}
 
 -- whether the object is kept
-abbrev pub keeps : Contents → Found → Bool
-keeps c = is_kept c.store.pending c.cycle.marking.marks
+abbrev pub keeps : CoreContents → Found → Bool
+keeps c = is_kept c.store.pending c.cycle.marker.marks
 
 -- The object that a word points into, of those that are kept.
-abbrev pub objects_of : Contents → ℕ → Option Found
+abbrev pub objects_of : CoreContents → ℕ → Option Found
 objects_of c = restrict (keeps c) (found_in c.store.states)
 
 -- The object that the word points into is allocated and not kept: the end of a cycle has forgotten it, and its page is
 -- pending.
-abbrev pub IsForgotten : Contents → ℕ → Found → Type 0
+abbrev pub IsForgotten : CoreContents → ℕ → Found → Type 0
 IsForgotten c w f = (found_in c.store.states w ≡ Some f) × (keeps c f ≡ false)
 
 -- The core has the heap's mutators and globals, its kept objects are the heap's, and so are its links, compared by the
 -- objects that they name.
-pub record StandsFor (c : Contents) (s : Heap) : Type 0 where
+pub record StandsFor (c : CoreContents) (s : Heap) : Type 0 where
   pub mutators : s.mutators ≡ c.roots.mutators
   pub globals : s.globals ≡ c.roots.globals
   pub store : Stores (keeps c) c.store s

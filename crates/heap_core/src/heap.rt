@@ -1,7 +1,7 @@
 //! The core, and how it is made.
 ghost use Rattle.pages.specs.Opening.{IsOpened};
 ghost use Rattle.std.specs.Prelude.{Bool, List};
-ghost use Rattle.heap_core.specs.Contents.{IsCore};
+ghost use Rattle.heap_core.specs.CoreContents.{IsCore};
 ghost use Rattle.heap_core.specs.DirectWrites.{IsWholeCore};
 ghost use Rattle.heap_core.specs.Opening.{IsNew};
 
@@ -41,13 +41,13 @@ pub struct Core {
 }
 
 impl Model for Core {
-    ghost use Rattle.heap_core.specs.Contents.{Contents, IsTraced};
+    ghost use Rattle.heap_core.specs.CoreContents.{CoreContents, IsTraced};
 
-    ghost Value = { Contents };
+    ghost Value = { CoreContents };
 
-    ghost view = { λ c. record { roots = c.roots; store = c.objects; cycle = record { marking = c.marker; is_marking = c.is_marking; needs_full = c.needs_full; count = c.count }; links = c.links } };
+    ghost view = { λ c. record { roots = c.roots; store = c.objects; cycle = record { marker = c.marker; is_marking = c.is_marking; needs_full = c.needs_full; count = c.count }; links = c.links } };
 
-    ghost invariant = { λ c. IsTraced c.objects (record { marking = c.marker; is_marking = c.is_marking; needs_full = c.needs_full; count = c.count }) };
+    ghost invariant = { λ c. IsTraced c.objects (record { marker = c.marker; is_marking = c.is_marking; needs_full = c.needs_full; count = c.count }) };
 }
 
 impl Core {

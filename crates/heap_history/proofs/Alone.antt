@@ -7,7 +7,7 @@ use Rattle.std.proofs.lemmas.List.Elements.{All-head, All-tail, All-from_recursi
 use Rattle.history.specs.Histories.{own, Walks, Legal}
 use Rattle.heap_spec.specs.SequentialObject.{Opens, StateStep}
 use Rattle.heap_history.specs.Ranks.{rank_of}
-use Rattle.heap_history.specs.Passes.{Entry, HeapPass, begins_with_attach}
+use Rattle.heap_history.specs.Passes.{MadeEvent, HeapPass, begins_with_attach}
 use Rattle.heap_history.specs.Alone.{attaches, all_of, slots_of, AreAlone, CameIn}
 use Rattle.heap_history.proofs.Chains.{none_at_first, mine_begins}
 use Rattle.heap_history.proofs.Coming.{firsts_of, AllCame, each_once, no_other, firsts_more, own_after, own_came, walks_nothing, walks_once, walks_collector, walks_who}
@@ -20,7 +20,7 @@ one_or_none (y ∷ ys) x = ⊎_elim
     (λ other. ⊎_elim (λ c. inl (Contains-append_right (y ∷ []) ys x c)) (λ away. inr (ne_eqb x y other, away)) (one_or_none ys x))
     (cases_eq x y)
 
-module _ (pages : ℕ) (history : List Entry) (legal : Legal (Opens pages) StateStep history) (slots : List ℕ) (distinct : IsDistinct nat_eq slots)
+module _ (pages : ℕ) (history : List MadeEvent) (legal : Legal (Opens pages) StateStep history) (slots : List ℕ) (distinct : IsDistinct nat_eq slots)
     (came : AllCame slots history) (few : attaches history ≤ length slots) where
   walk : Walks StateStep legal.1.0 history legal.0
   walk = legal.1.2
@@ -48,7 +48,7 @@ module _ (pages : ℕ) (history : List Entry) (legal : Legal (Opens pages) State
   }
 
 -- the slot of such a pass is one to which a mutator came
-came_in : (pages : ℕ) (history : List Entry) (pass : HeapPass) → CameIn pages history pass → 1 ≤ firsts_of pass.slot history
+came_in : (pages : ℕ) (history : List MadeEvent) (pass : HeapPass) → CameIn pages history pass → 1 ≤ firsts_of pass.slot history
 came_in pages history pass c =
     let begins : begins_with_attach (own rank_of pass.slot pass.seen) ≡ true = ⊎_elim
     (λ here. sym (ap begins_with_attach here.owned.own_is) ∙ mine_begins pages pass here c.mutator)
@@ -59,11 +59,11 @@ came_in pages history pass c =
     let whole = ap (firsts_of pass.slot) c.within.1 in
     omega (arith, had, more, whole)
 
-all_came : (pages : ℕ) (history : List Entry) (passes : List HeapPass) → All (CameIn pages history) passes → AllCame (slots_of passes) history
+all_came : (pages : ℕ) (history : List MadeEvent) (passes : List HeapPass) → All (CameIn pages history) passes → AllCame (slots_of passes) history
 all_came pages history [] all = tt
 all_came pages history (p ∷ ps) all = (came_in pages history p (All-head (CameIn pages history) p ps all), all_came pages history ps (All-tail (CameIn pages history) p ps all))
 
-all_below : (pages : ℕ) (history : List Entry) (passes : List HeapPass) → All (CameIn pages history) passes → AllByRecursion (λ s. s < 16) (slots_of passes)
+all_below : (pages : ℕ) (history : List MadeEvent) (passes : List HeapPass) → All (CameIn pages history) passes → AllByRecursion (λ s. s < 16) (slots_of passes)
 all_below pages history [] all = tt
 all_below pages history (p ∷ ps) all = ((All-head (CameIn pages history) p ps all).mutator, all_below pages history ps (All-tail (CameIn pages history) p ps all))
 
@@ -71,7 +71,7 @@ slots_length : (passes : List HeapPass) → length (slots_of passes) ≡ length 
 slots_length [] = refl
 slots_length (p ∷ ps) = let h = slots_length ps in omega (arith, h)
 
-pub nobody_else : (pages : ℕ) (history : List Entry) (passes : List HeapPass) → Legal (Opens pages) StateStep history → IsDistinct nat_eq (slots_of passes) → All (CameIn pages history) passes → attaches history ≤ length passes
+pub nobody_else : (pages : ℕ) (history : List MadeEvent) (passes : List HeapPass) → Legal (Opens pages) StateStep history → IsDistinct nat_eq (slots_of passes) → All (CameIn pages history) passes → attaches history ≤ length passes
     → AreAlone (slots_of passes) history
 nobody_else pages history passes legal distinct all few =
     alone_in pages history legal (slots_of passes) distinct (all_came pages history passes all) (let n = slots_length passes in omega (arith, few, n)) (all_below pages history passes all)

@@ -12,22 +12,22 @@ use Rattle.heap_spec.specs.declared.event.Event.TheVariants.{Attach, Mutator, Be
 use Rattle.heap_spec.specs.declared.reply.Reply.{Reply}
 use Rattle.heap_spec.specs.SequentialObject.{HeapState, heap_of, StateStep}
 use Rattle.heap_history.specs.Ranks.{rank_of}
-use Rattle.heap_history.specs.Passes.{Entry, begins_with_attach}
+use Rattle.heap_history.specs.Passes.{MadeEvent, begins_with_attach}
 use Rattle.heap_history.specs.Alone.{attaches, all_of}
 use Rattle.heap_history.proofs.Slots.{is_there, is_attached, step_other}
 use Rattle.heap_history.proofs.Chains.{step_collector}
 
 -- 1 for an attach
-abbrev pub came : Entry → ℕ
+abbrev pub came : MadeEvent → ℕ
 came e = begins (rank_of e.call)
 
 -- how often a mutator came to the slot
-abbrev pub firsts_of : ℕ → List Entry → ℕ
+abbrev pub firsts_of : ℕ → List MadeEvent → ℕ
 firsts_of slot [] = 0
 firsts_of slot (e ∷ es) = cond (e.who == slot) (came e) 0 + firsts_of slot es
 
 -- how often one came to these slots
-abbrev in_slots : List ℕ → List Entry → ℕ
+abbrev in_slots : List ℕ → List MadeEvent → ℕ
 in_slots [] es = 0
 in_slots (s ∷ slots) es = firsts_of s es + in_slots slots es
 
@@ -39,7 +39,7 @@ in_none : (slots : List ℕ) → in_slots slots [] ≡ 0
 in_none [] = refl
 in_none (s ∷ slots) = let h = in_none slots in omega (arith, h)
 
-in_more : (slots : List ℕ) (e : Entry) (es : List Entry) → in_slots slots (e ∷ es) ≡ hits slots e.who (came e) + in_slots slots es
+in_more : (slots : List ℕ) (e : MadeEvent) (es : List MadeEvent) → in_slots slots (e ∷ es) ≡ hits slots e.who (came e) + in_slots slots es
 in_more [] e es = refl
 in_more (s ∷ slots) e es = let h = in_more slots e es in omega (arith, h)
 
@@ -64,7 +64,7 @@ hits_few (s ∷ slots) who n d = ⊎_elim
     (cases_eq who s)
 
 -- to different slots no more came than came in all
-in_few : (slots : List ℕ) (es : List Entry) → IsDistinct nat_eq slots → in_slots slots es ≤ attaches es
+in_few : (slots : List ℕ) (es : List MadeEvent) → IsDistinct nat_eq slots → in_slots slots es ≤ attaches es
 in_few slots [] d = let h = in_none slots in omega (arith, h)
 in_few slots (e ∷ es) d =
     let a = in_more slots e es in
@@ -72,14 +72,14 @@ in_few slots (e ∷ es) d =
     let c = in_few slots es d in
     omega (arith, a, b, c)
 
-abbrev pub AllCame : List ℕ → List Entry → Type 0
+abbrev pub AllCame : List ℕ → List MadeEvent → Type 0
 AllCame slots es = AllByRecursion (λ s. 1 ≤ firsts_of s es) slots
 
-in_many : (slots : List ℕ) (es : List Entry) → AllCame slots es → length slots ≤ in_slots slots es
+in_many : (slots : List ℕ) (es : List MadeEvent) → AllCame slots es → length slots ≤ in_slots slots es
 in_many [] es h = omega arith
 in_many (s ∷ slots) es h = let one = h.0 in let rest = in_many slots es h.1 in omega (arith, one, rest)
 
-in_once : (slots : List ℕ) (es : List Entry) → AllCame slots es → in_slots slots es ≤ length slots → AllByRecursion (λ s. firsts_of s es ≡ 1) slots
+in_once : (slots : List ℕ) (es : List MadeEvent) → AllCame slots es → in_slots slots es ≤ length slots → AllByRecursion (λ s. firsts_of s es ≡ 1) slots
 in_once [] es h few = tt
 in_once (s ∷ slots) es h few =
     let one = h.0 in
@@ -87,23 +87,23 @@ in_once (s ∷ slots) es h few =
     (omega (arith, one, rest, few), in_once slots es h.1 (omega (arith, one, few)))
 
 -- where no more came than there are slots, one came to each
-pub each_once : (slots : List ℕ) (es : List Entry) → IsDistinct nat_eq slots → AllCame slots es → attaches es ≤ length slots → AllByRecursion (λ s. firsts_of s es ≡ 1) slots
+pub each_once : (slots : List ℕ) (es : List MadeEvent) → IsDistinct nat_eq slots → AllCame slots es → attaches es ≤ length slots → AllByRecursion (λ s. firsts_of s es ≡ 1) slots
 each_once slots es d h few = let all = in_few slots es d in in_once slots es h (omega (arith, all, few))
 
 -- and none to any other
-pub no_other : (slots : List ℕ) (es : List Entry) (x : ℕ) → AllByRecursion (λ y. nat_eq x y ≡ false) slots → IsDistinct nat_eq slots → AllCame slots es → attaches es ≤ length slots → firsts_of x es ≡ 0
+pub no_other : (slots : List ℕ) (es : List MadeEvent) (x : ℕ) → AllByRecursion (λ y. nat_eq x y ≡ false) slots → IsDistinct nat_eq slots → AllCame slots es → attaches es ≤ length slots → firsts_of x es ≡ 0
 no_other slots es x away d h few =
     let all = in_few (x ∷ slots) es (IsDistinct-cons nat_eq x slots away d) in
     let many = in_many slots es h in
     omega (arith, all, many, few)
 
 -- more may have come later
-pub firsts_more : (slot : ℕ) (es more : List Entry) → firsts_of slot es ≤ firsts_of slot (es ++ more)
+pub firsts_more : (slot : ℕ) (es more : List MadeEvent) → firsts_of slot es ≤ firsts_of slot (es ++ more)
 firsts_more slot [] more = omega arith
 firsts_more slot (e ∷ es) more = let h = firsts_more slot es more in omega (arith, h)
 
 -- What a slot's own events become, where no mutator comes to it.
-pub own_after : (x : ℕ) (mine es : List Entry) → firsts_of x es ≡ 0 → own_from rank_of x mine es ≡ mine ++ all_of x es
+pub own_after : (x : ℕ) (mine es : List MadeEvent) → firsts_of x es ≡ 0 → own_from rank_of x mine es ≡ mine ++ all_of x es
 own_after x mine [] none = sym (append-nil mine)
 own_after x mine (e ∷ es) none = ⊎_elim
     (λ (same : e.who ≡ x).
@@ -127,7 +127,7 @@ own_after x mine (e ∷ es) none = ⊎_elim
     (cases_eq e.who x)
 
 -- A slot's events that begin with an attach have one.
-begins_came : (x : ℕ) (es : List Entry) → begins_with_attach (all_of x es) ≡ true → 1 ≤ firsts_of x es
+begins_came : (x : ℕ) (es : List MadeEvent) → begins_with_attach (all_of x es) ≡ true → 1 ≤ firsts_of x es
 begins_came x [] b = absurd (true≢false (sym b))
 begins_came x (e ∷ es) b = ⊎_elim
     (λ (same : e.who ≡ x).
@@ -144,7 +144,7 @@ begins_came x (e ∷ es) b = ⊎_elim
     omega (arith, rest))
     (cases_eq e.who x)
 
-pub own_came : (x : ℕ) (es : List Entry) → begins_with_attach (own rank_of x es) ≡ true → 1 ≤ firsts_of x es
+pub own_came : (x : ℕ) (es : List MadeEvent) → begins_with_attach (own rank_of x es) ≡ true → 1 ≤ firsts_of x es
 own_came x es b = ⊎_elim
     (λ (none : firsts_of x es ≡ 0). begins_came x es (sym (ap begins_with_attach (own_after x [] es none)) ∙ b))
     (λ (some : firsts_of x es ≡ 0 → ⊥). ⊎_elim (λ (none : firsts_of x es ≡ 0). absurd (some none)) (λ (ok : 1 ≤ firsts_of x es). ok) (zero_or (firsts_of x es)))
@@ -169,12 +169,12 @@ vacant_first s u who Sweep reply lt h none = absurd h.fits
 vacant_first s u who Number reply lt h none = absurd h.fits
 
 -- the event that a vacant slot makes
-vacant_came : (s u : HeapState) (e : Entry) (x : ℕ) → x < 16 → StateStep s e.who e.call e.reply u → is_attached (heap_of s) x ≡ false → e.who ≡ x → is_first (rank_of e.call) ≡ true
+vacant_came : (s u : HeapState) (e : MadeEvent) (x : ℕ) → x < 16 → StateStep s e.who e.call e.reply u → is_attached (heap_of s) x ≡ false → e.who ≡ x → is_first (rank_of e.call) ≡ true
 vacant_came s u e x lt h none same = vacant_first s u x e.call e.reply lt (subst (λ (n : ℕ). StateStep s n e.call e.reply u) same h) none
 
 -- so a slot to which none comes makes none at all
-pub walks_nothing : (s t : HeapState) (es : List Entry) (x : ℕ) → x < 16 → Walks StateStep s es t → is_attached (heap_of s) x ≡ false → firsts_of x es ≡ 0 → All (λ (e : Entry). e.who ≢ x) es
-walks_nothing s t [] x lt w vacant none = All-nil (λ (e : Entry). e.who ≢ x)
+pub walks_nothing : (s t : HeapState) (es : List MadeEvent) (x : ℕ) → x < 16 → Walks StateStep s es t → is_attached (heap_of s) x ≡ false → firsts_of x es ≡ 0 → All (λ (e : MadeEvent). e.who ≢ x) es
+walks_nothing s t [] x lt w vacant none = All-nil (λ (e : MadeEvent). e.who ≢ x)
 walks_nothing s t (e ∷ es) x lt w vacant none = ⊎_elim
     (λ (same : e.who ≡ x).
     let one : came e ≡ 1 = ap (λ (b : Bool). cond b 1 0) (vacant_came s w.0 e x lt w.1 vacant same) in
@@ -182,11 +182,11 @@ walks_nothing s t (e ∷ es) x lt w vacant none = ⊎_elim
     absurd (omega (arith, one, count)))
     (λ other.
     let count : 0 + firsts_of x es ≡ 0 = sym (ap (λ (b : Bool). cond b (came e) 0 + firsts_of x es) (ne_eqb e.who x other)) ∙ none in
-    All-cons (λ (y : Entry). y.who ≢ x) e es other (walks_nothing w.0 t es x lt w.2 (step_other s w.0 e.who x e.call e.reply other w.1 ∙ vacant) (omega (arith, count))))
+    All-cons (λ (y : MadeEvent). y.who ≢ x) e es other (walks_nothing w.0 t es x lt w.2 (step_other s w.0 e.who x e.call e.reply other w.1 ∙ vacant) (omega (arith, count))))
     (cases_eq e.who x)
 
 -- and where one came to it, its own events are all that it made
-pub walks_once : (s t : HeapState) (es : List Entry) (x : ℕ) → x < 16 → Walks StateStep s es t → is_attached (heap_of s) x ≡ false → firsts_of x es ≡ 1 → own_from rank_of x [] es ≡ all_of x es
+pub walks_once : (s t : HeapState) (es : List MadeEvent) (x : ℕ) → x < 16 → Walks StateStep s es t → is_attached (heap_of s) x ≡ false → firsts_of x es ≡ 1 → own_from rank_of x [] es ≡ all_of x es
 walks_once s t [] x lt w vacant one = absurd (omega (arith, one))
 walks_once s t (e ∷ es) x lt w vacant one = ⊎_elim
     (λ (same : e.who ≡ x).
@@ -206,7 +206,7 @@ walks_once s t (e ∷ es) x lt w vacant one = ⊎_elim
     (cases_eq e.who x)
 
 -- the collector never comes
-pub walks_collector : (s t : HeapState) (es : List Entry) → Walks StateStep s es t → firsts_of 16 es ≡ 0
+pub walks_collector : (s t : HeapState) (es : List MadeEvent) → Walks StateStep s es t → firsts_of 16 es ≡ 0
 walks_collector s t [] w = refl
 walks_collector s t (e ∷ es) w = ⊎_elim
     (λ (same : e.who ≡ 16).
@@ -234,6 +234,6 @@ step_who s u who Retrace reply h = absurd h.fits
 step_who s u who Sweep reply h = absurd h.fits
 step_who s u who Number reply h = absurd h.fits
 
-pub walks_who : (s t : HeapState) (es : List Entry) → Walks StateStep s es t → All (λ (e : Entry). (e.who < 16) ⊎ (e.who ≡ 16)) es
-walks_who s t [] w = All-nil (λ (e : Entry). (e.who < 16) ⊎ (e.who ≡ 16))
-walks_who s t (e ∷ es) w = All-cons (λ (x : Entry). (x.who < 16) ⊎ (x.who ≡ 16)) e es (step_who s w.0 e.who e.call e.reply w.1) (walks_who w.0 t es w.2)
+pub walks_who : (s t : HeapState) (es : List MadeEvent) → Walks StateStep s es t → All (λ (e : MadeEvent). (e.who < 16) ⊎ (e.who ≡ 16)) es
+walks_who s t [] w = All-nil (λ (e : MadeEvent). (e.who < 16) ⊎ (e.who ≡ 16))
+walks_who s t (e ∷ es) w = All-cons (λ (x : MadeEvent). (x.who < 16) ⊎ (x.who ≡ 16)) e es (step_who s w.0 e.who e.call e.reply w.1) (walks_who w.0 t es w.2)

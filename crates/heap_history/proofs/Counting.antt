@@ -3,9 +3,9 @@ use Rattle.std.proofs.Common.{◌≤◌, List, [], ◌∷◌, ◌++◌, ap, arit
 use mathlib.Core.List.{IsPrefix}
 use Rattle.history.specs.Histories.{count}
 use Rattle.heap_history.specs.Ranks.{rank_of}
-use Rattle.heap_history.specs.Passes.{Entry, HeapPass}
+use Rattle.heap_history.specs.Passes.{MadeEvent, HeapPass}
 
-count_more : (es more : List Entry) → count rank_of es ≤ count rank_of (es ++ more)
+count_more : (es more : List MadeEvent) → count rank_of es ≤ count rank_of (es ++ more)
 count_more [] more = omega arith
 count_more (e ∷ es) more = let h = count_more es more in omega arith
 

@@ -14,17 +14,17 @@ use Rattle.heap_spec.specs.declared.call.Call.{Call}
 use Rattle.heap_spec.specs.declared.event.Event.{Event}
 use Rattle.heap_spec.specs.declared.event.Event.TheVariants.{Attach, Mutator, Begin, BeginPartial, Roots, Mark, Retrace, Finish, Sweep, Collect, Number}
 use Rattle.heap_spec.specs.declared.reply.Reply.{Reply}
-use Rattle.heap_spec.specs.Heap.{Heap, Object, Mutator as HeapMutator, IsSameObject, HasObject, IsAttached, words_of}
+use Rattle.heap_spec.specs.Heap.{Heap, Object, Mutator as HeapMutator, IsSameObject, HasObject, IsAttached, words_of_slot}
 use Rattle.heap_spec.specs.Room.{HasRoom}
 use Rattle.heap_spec.specs.Closure.{Reached, root}
 use Rattle.heap_spec.specs.Steps.{Acts, Attaches, Calls, register}
 use Rattle.heap_spec.specs.Sound.{IsSound, IsCell}
-use Rattle.heap_spec.specs.Laws.{IsFreshRun}
+use Rattle.heap_spec.specs.Laws.{IsRunFromOpening}
 use Rattle.heap_spec.specs.SequentialObject.{HeapState, heap_of, StateStep}
 use Rattle.heap_spec.proofs.Layouts.{IsPlacement, placed, cell_lies, cell_off, off_pages}
 use Rattle.heap_spec.proofs.Objects.{with_at-same, with_at-other, same_object, object_lies}
 use Rattle.heap_spec.proofs.Runs.{fresh_sound, keeps_reached}
-use Rattle.heap_history.specs.Passes.{Entry}
+use Rattle.heap_history.specs.Passes.{MadeEvent}
 use Rattle.heap_history.specs.Laws.{IsNoFreeCall, IsNoFree}
 use Rattle.heap_history.proofs.Slots.{step_mutators}
 use Rattle.heap_history.proofs.Stored.{step_fresh}
@@ -37,7 +37,7 @@ same_then : (o p q : Object) → IsSameObject o p → IsSameObject p q → IsSam
 same_then o p q a b = record { birth = b.birth ∙ a.birth; kind = b.kind ∙ a.kind; size = b.size ∙ a.size }
 
 -- no object has a base with room
-pub room_none : (s : Heap) → IsSound s → (place : Placement) (kind : Kind) (a : ℕ) → IsPlacement place → HasRoom s place kind a → (o : Object) → HasObject s a o → ⊥
+pub room_none : (s : Heap) → IsSound s → (placement : Placement) (kind : Kind) (a : ℕ) → IsPlacement placement → HasRoom s placement kind a → (o : Object) → HasObject s a o → ⊥
 room_none s h (Small n) kind a class room o has =
     let lies = object_lies s h a o has in
     let cell : IsCell s.pages a n = record { page = room.page; cell = room.cell; class = class; in_heap = room.in_heap; in_page = room.in_page; is_cell = room.is_cell } in
@@ -63,8 +63,8 @@ acts_stay s slot m h (Acts.stored {base = b} {o = q} al reads) free base o has =
     ))
     (λ other. (o, with_at-other s.objects b _ base other ∙ has, same_object o))
     (cases_eq base b)
-acts_stay s slot m h (Acts.allocated {n = n} {kind = kind} {place = place} a e room) free base o has = ⊎_elim
-    (λ here. absurd (room_none s h place kind a (placed n place e) room o (ap s.objects (sym here) ∙ has)))
+acts_stay s slot m h (Acts.allocated {n = n} {kind = kind} {placement = placement} a e room) free base o has = ⊎_elim
+    (λ here. absurd (room_none s h placement kind a (placed n placement e) room o (ap s.objects (sym here) ∙ has)))
     (λ other. (o, with_at-other s.objects a _ base other ∙ has, same_object o))
     (cases_eq base a)
 acts_stay s slot m h (Acts.freed gone) free base o has = absurd free
@@ -103,18 +103,18 @@ pub held_reached : (s : Heap) → IsSound s → (who : ℕ) (m : HeapMutator) (d
 held_reached s h who m d a o at lt is has =
     let some = (object_lies s h a o has).some in
     let word : Contains m.registers a = subst (λ w. Contains m.registers w) is (Contains-get_or m.registers d 0 lt) in
-    root (Contains-append_left (flat_map words_of s.mutators) s.globals a (flat_contains words_of s.mutators who (Some m) a at (Contains-append_left m.registers m.stack a word)))
+    root (Contains-append_left (flat_map words_of_slot s.mutators) s.globals a (flat_contains words_of_slot s.mutators who (Some m) a at (Contains-append_left m.registers m.stack a word)))
     (has, (omega arith, omega arith))
 
 -- The object and the mutator stay along a chain of others' steps that are no frees.
-pub walks_held : (s t : HeapState) (es : List Entry) → Walks StateStep s es t → IsFreshRun s.pages s.run → (who : ℕ) (m : HeapMutator) (d a : ℕ) (o : Object)
-    → IsAttached (heap_of s) who m → d < length m.registers → register m d ≡ a → HasObject (heap_of s) a o → AreOfOthers who es → All (λ (e : Entry). IsNoFree e.call) es
+pub walks_held : (s t : HeapState) (es : List MadeEvent) → Walks StateStep s es t → IsRunFromOpening s.pages s.run → (who : ℕ) (m : HeapMutator) (d a : ℕ) (o : Object)
+    → IsAttached (heap_of s) who m → d < length m.registers → register m d ≡ a → HasObject (heap_of s) a o → AreOfOthers who es → All (λ (e : MadeEvent). IsNoFree e.call) es
     → IsAttached (heap_of t) who m × Stays (heap_of t) a o
 walks_held s t [] w fresh who m d a o at lt is has others free = subst (λ (x : HeapState). IsAttached (heap_of x) who m × Stays (heap_of x) a o) w (at, (o, has, same_object o))
 walks_held s t (e ∷ es) w fresh who m d a o at lt is has others free =
     let sound = fresh_sound s.pages s.run fresh in
-    let stays = heap_stays s w.0 e.who e.call e.reply w.1 sound (All-head (λ (x : Entry). IsNoFree x.call) e es free) a o has (held_reached (heap_of s) sound who m d a o at lt is has) in
+    let stays = heap_stays s w.0 e.who e.call e.reply w.1 sound (All-head (λ (x : MadeEvent). IsNoFree x.call) e es free) a o has (held_reached (heap_of s) sound who m d a o at lt is has) in
     let there : HasObject (heap_of w.0) a stays.0 = ap (λ (x : HeapState). (heap_of x).objects a) w.1.goes ∙ stays.1 in
-    let still = step_mutators s w.0 e.who who e.call e.reply (All-head (λ (x : Entry). x.who ≢ who) e es others) w.1 ∙ at in
-    let rest = walks_held w.0 t es w.2 (step_fresh s w.0 e.who e.call e.reply w.1 fresh) who m d a stays.0 still lt is there (All-tail (λ (x : Entry). x.who ≢ who) e es others) (All-tail (λ (x : Entry). IsNoFree x.call) e es free) in
+    let still = step_mutators s w.0 e.who who e.call e.reply (All-head (λ (x : MadeEvent). x.who ≢ who) e es others) w.1 ∙ at in
+    let rest = walks_held w.0 t es w.2 (step_fresh s w.0 e.who e.call e.reply w.1 fresh) who m d a stays.0 still lt is there (All-tail (λ (x : MadeEvent). x.who ≢ who) e es others) (All-tail (λ (x : MadeEvent). IsNoFree x.call) e es free) in
     (rest.0, (rest.1.0, rest.1.1, same_then o stays.0 rest.1.0 stays.2 rest.1.2))

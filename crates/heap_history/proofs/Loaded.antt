@@ -13,12 +13,12 @@ use Rattle.heap_spec.specs.declared.event.Event.TheVariants.{Attach, Mutator, Be
 use Rattle.heap_spec.specs.declared.reply.Reply.{Reply}
 use Rattle.heap_spec.specs.declared.reply.Reply.TheVariants.{Done, Word}
 use Rattle.heap_spec.specs.Layout.{index_in}
-use Rattle.heap_spec.specs.Heap.{Heap, Object, Mutator as HeapMutator, HasObject, ReadsObject, IsAttached}
+use Rattle.heap_spec.specs.Heap.{Heap, Object, Mutator as HeapMutator, HasObject, PointsIntoObject, IsAttached}
 use Rattle.heap_spec.specs.Closure.{Reached}
 use Rattle.heap_spec.specs.Cycles.{TakesOut}
 use Rattle.heap_spec.specs.Steps.{Acts, Attaches, Calls, acts, vacant, register, address}
 use Rattle.heap_spec.specs.Sound.{IsSound}
-use Rattle.heap_spec.specs.Laws.{IsFreshRun}
+use Rattle.heap_spec.specs.Laws.{IsRunFromOpening}
 use Rattle.heap_spec.specs.SequentialObject.{HeapState, heap_of, Opens, StateStep}
 use Rattle.heap_spec.proofs.Layouts.{placed}
 use Rattle.heap_spec.proofs.Loads.{same_mutator}
@@ -28,11 +28,11 @@ use Rattle.std.specs.Prelude.{◌==◌, ◌&&◌}
 use Rattle.std.proofs.lemmas.Bool.{ne_eqb}
 use Rattle.std.proofs.lemmas.List.Folds.{list_any_none}
 use Rattle.words.specs.declared.class.Kind.TheVariants.{Normal, PointerFree}
-use Rattle.heap_spec.specs.Layout.{Reads}
+use Rattle.heap_spec.specs.Layout.{PointsInto}
 use Rattle.heap_spec.specs.Heap.{Link, names, loses_word, cleared}
 use Rattle.heap_spec.specs.Sound.{IsLink}
 use Rattle.heap_spec.proofs.Runs.{fresh_sound}
-use Rattle.heap_history.specs.Passes.{Entry, HeapPass}
+use Rattle.heap_history.specs.Passes.{MadeEvent, HeapPass}
 use Rattle.heap_history.specs.Headline.{Makes}
 use Rattle.heap_history.specs.Laws.{LeavesWordsCall, LeavesWords, IsNoCollection, MakesUndisturbed}
 use Rattle.heap_history.proofs.Slots.{not_both, step_mutators}
@@ -45,15 +45,15 @@ pub record Written (s : Heap) (slot : ℕ) (m : HeapMutator) (a n w : ℕ) : Typ
   pub aligned : address m a n % 8 ≡ 0
   pub base : ℕ
   pub object : Object
-  pub reads : ReadsObject s (address m a n) base object
+  pub reads : PointsIntoObject s (address m a n) base object
   pub word : slice_index object.words (index_in base (address m a n)) ≡ w
 
 -- A granted store leaves it so, in an object that was there.
 pub store_is : (s : Heap) (slot a n r : ℕ) (m : HeapMutator) → IsAttached s slot m → {s' : Heap} → Calls s slot (Store a n r) Done s'
-    → (there : Written s' slot m a n (register m r)) × (o : Object) × ReadsObject s (address m a n) there.base o × (there.object.kind ≡ o.kind)
+    → (there : Written s' slot m a n (register m r)) × (o : Object) × PointsIntoObject s (address m a n) there.base o × (there.object.kind ≡ o.kind)
 store_is s slot a n r m at {s' = s'} (acts {m = k} at' act) = by (subst (λ (x : HeapMutator). Acts s slot x (Store a n r) Done s') (same_mutator s slot k m at' at) act)
   where
-    by : {s' : Heap} → Acts s slot m (Store a n r) Done s' → (there : Written s' slot m a n (register m r)) × (o : Object) × ReadsObject s (address m a n) there.base o × (there.object.kind ≡ o.kind)
+    by : {s' : Heap} → Acts s slot m (Store a n r) Done s' → (there : Written s' slot m a n (register m r)) × (o : Object) × PointsIntoObject s (address m a n) there.base o × (there.object.kind ≡ o.kind)
     by (Acts.stored {base = base} {o = o} al reads) =
         let from = reads.1.0 in
         let to = reads.1.1 in (
@@ -88,8 +88,8 @@ load_is s h slot m a n w there (vacant none) = absurd (not_both s slot m there.a
 -- A call that stores and frees nothing leaves each object as it is.
 acts_leave : (s : Heap) (slot : ℕ) (m : HeapMutator) → IsSound s → {call : Call} {reply : Reply} {s' : Heap} → Acts s slot m call reply s' → LeavesWordsCall call → (base : ℕ) (o : Object) → HasObject s base o → HasObject s' base o
 acts_leave s slot m h (Acts.stored al reads) left base o has = absurd left
-acts_leave s slot m h (Acts.allocated {n = n} {kind = kind} {place = place} a e room) left base o has = ⊎_elim
-    (λ here. absurd (room_none s h place kind a (placed n place e) room o (ap s.objects (sym here) ∙ has)))
+acts_leave s slot m h (Acts.allocated {n = n} {kind = kind} {placement = placement} a e room) left base o has = ⊎_elim
+    (λ here. absurd (room_none s h placement kind a (placed n placement e) room o (ap s.objects (sym here) ∙ has)))
     (λ other. with_at-other s.objects a _ base other ∙ has)
     (cases_eq base a)
 acts_leave s slot m h (Acts.freed gone) left base o has = absurd left
@@ -114,13 +114,13 @@ cleared_same gone a (w ∷ ws) none =
 normal_free : Normal ≡ PointerFree → ⊥
 normal_free e = cc
 
-no_link : (s : Heap) → IsSound s → (bases : List ℕ) (base : ℕ) (o : Object) → HasObject s base o → o.kind ≡ Normal → (a : ℕ) → Reads a base (length o.words) → loses_word s bases a ≡ false
+no_link : (s : Heap) → IsSound s → (bases : List ℕ) (base : ℕ) (o : Object) → HasObject s base o → o.kind ≡ Normal → (a : ℕ) → PointsInto a base (length o.words) → loses_word s bases a ≡ false
 no_link s h bases base o has kind a reads = list_any_none (λ l. (l.address == a) && names s bases l) s.links (λ i d lt. one (get_or s.links i d) (h.links.each i d lt))
   where
     one : (l : Link) → IsLink s l → ((l.address == a) && names s bases l) ≡ false
     one l k = ⊎_elim
         (λ same.
-        let e = one_read s h a k.base base k.holder o (subst (λ x. ReadsObject s x k.base k.holder) same k.in_holder) (has, reads) in
+        let e = one_read s h a k.base base k.holder o (subst (λ x. PointsIntoObject s x k.base k.holder) same k.in_holder) (has, reads) in
         let object : k.holder ≡ o = same_Some k.holder o (sym k.in_holder.0 ∙ ap s.objects e ∙ has) in
         absurd (normal_free (sym kind ∙ ap (λ (x : Object). x.kind) (sym object) ∙ k.kind)))
         (λ other. ap (λ b. b && names s bases l) (ne_eqb l.address a other))
@@ -155,24 +155,24 @@ pub record Holds (m : HeapMutator) (base : ℕ) : Type 0 where
   pub holds : register m register_no ≡ base
 
 -- Along a chain of others' steps that store and free nothing the object stays, if none collects or a register has its base.
-pub walks_leave : (s t : HeapState) (es : List Entry) → Walks StateStep s es t → IsFreshRun s.pages s.run → (who : ℕ) (m : HeapMutator) → IsAttached (heap_of s) who m → AreOfOthers who es
-    → All (λ (e : Entry). LeavesWords e.call) es → (base : ℕ) (o : Object) → All (λ (e : Entry). IsNoCollection e.call) es ⊎ (Holds m base × (o.kind ≡ Normal)) → HasObject (heap_of s) base o → HasObject (heap_of t) base o
+pub walks_leave : (s t : HeapState) (es : List MadeEvent) → Walks StateStep s es t → IsRunFromOpening s.pages s.run → (who : ℕ) (m : HeapMutator) → IsAttached (heap_of s) who m → AreOfOthers who es
+    → All (λ (e : MadeEvent). LeavesWords e.call) es → (base : ℕ) (o : Object) → All (λ (e : MadeEvent). IsNoCollection e.call) es ⊎ (Holds m base × (o.kind ≡ Normal)) → HasObject (heap_of s) base o → HasObject (heap_of t) base o
 walks_leave s t [] w fresh who m at others left base o safe has = subst (λ (x : HeapState). HasObject (heap_of x) base o) w has
 walks_leave s t (e ∷ es) w fresh who m at others left base o safe has =
     let sound = fresh_sound s.pages s.run fresh in
     let first : IsNoCollection e.call ⊎ (Reached (heap_of s) base × (o.kind ≡ Normal)) = ⊎_elim
-    (λ none. inl (All-head (λ (x : Entry). IsNoCollection x.call) e es none))
+    (λ none. inl (All-head (λ (x : MadeEvent). IsNoCollection x.call) e es none))
     (λ (held : Holds m base × (o.kind ≡ Normal)). inr (held_reached (heap_of s) sound who m held.0.register_no base o at held.0.there held.0.holds has, held.1))
     safe in
-    let rest : All (λ (x : Entry). IsNoCollection x.call) es ⊎ (Holds m base × (o.kind ≡ Normal)) = ⊎_elim (λ none. inl (All-tail (λ (x : Entry). IsNoCollection x.call) e es none)) (λ held. inr held) safe in
-    let stays = step_leaves s w.0 e.who e.call e.reply w.1 sound (All-head (λ (x : Entry). LeavesWords x.call) e es left) base o first has in
-    let still = step_mutators s w.0 e.who who e.call e.reply (All-head (λ (x : Entry). x.who ≢ who) e es others) w.1 ∙ at in
-    walks_leave w.0 t es w.2 (step_fresh s w.0 e.who e.call e.reply w.1 fresh) who m still (All-tail (λ (x : Entry). x.who ≢ who) e es others) (All-tail (λ (x : Entry). LeavesWords x.call) e es left) base o rest
+    let rest : All (λ (x : MadeEvent). IsNoCollection x.call) es ⊎ (Holds m base × (o.kind ≡ Normal)) = ⊎_elim (λ none. inl (All-tail (λ (x : MadeEvent). IsNoCollection x.call) e es none)) (λ held. inr held) safe in
+    let stays = step_leaves s w.0 e.who e.call e.reply w.1 sound (All-head (λ (x : MadeEvent). LeavesWords x.call) e es left) base o first has in
+    let still = step_mutators s w.0 e.who who e.call e.reply (All-head (λ (x : MadeEvent). x.who ≢ who) e es others) w.1 ∙ at in
+    walks_leave w.0 t es w.2 (step_fresh s w.0 e.who e.call e.reply w.1 fresh) who m still (All-tail (λ (x : MadeEvent). x.who ≢ who) e es others) (All-tail (λ (x : MadeEvent). LeavesWords x.call) e es left) base o rest
     (ap (λ (x : HeapState). (heap_of x).objects base) w.1.goes ∙ stays)
 
 -- So the word still stands there after what others did.
-pub still_written : (s t : HeapState) (es : List Entry) (slot : ℕ) (m : HeapMutator) (a n w : ℕ) → Walks StateStep s es t → IsFreshRun s.pages s.run → AreOfOthers slot es → All (λ (e : Entry). LeavesWords e.call) es
-    → (there : Written (heap_of s) slot m a n w) → All (λ (e : Entry). IsNoCollection e.call) es ⊎ (Holds m there.base × (there.object.kind ≡ Normal)) → Written (heap_of t) slot m a n w
+pub still_written : (s t : HeapState) (es : List MadeEvent) (slot : ℕ) (m : HeapMutator) (a n w : ℕ) → Walks StateStep s es t → IsRunFromOpening s.pages s.run → AreOfOthers slot es → All (λ (e : MadeEvent). LeavesWords e.call) es
+    → (there : Written (heap_of s) slot m a n w) → All (λ (e : MadeEvent). IsNoCollection e.call) es ⊎ (Holds m there.base × (there.object.kind ≡ Normal)) → Written (heap_of t) slot m a n w
 still_written s t es slot m a n w walk fresh others left there safe = record {
   at = walks_mutators s t es slot walk others ∙ there.at;
   aligned = there.aligned;

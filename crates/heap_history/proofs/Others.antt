@@ -12,14 +12,14 @@ use Rattle.heap_spec.specs.declared.event.Event.TheVariants.{Attach, Mutator, Be
 use Rattle.heap_spec.specs.declared.reply.Reply.{Reply}
 use Rattle.heap_spec.specs.SequentialObject.{HeapState, Opens, StateStep}
 use Rattle.heap_history.specs.Ranks.{rank_of}
-use Rattle.heap_history.specs.Passes.{Entry, HeapPass}
+use Rattle.heap_history.specs.Passes.{MadeEvent, HeapPass}
 use Rattle.heap_history.specs.Headline.{Looks, Makes}
 use Rattle.heap_history.specs.Alone.{all_of, slots_of, AreAlone}
 use Rattle.heap_history.proofs.Gone.{known_mine}
 use Rattle.heap_history.specs.Laws.{IsNoFreeCall, IsNoFree, LeavesWordsCall, LeavesWords, LeftWords, MakesAfterNoWrite, MakesAfterNoFree}
 
 -- what holds of all that a test keeps holds where it is passed
-unfilter : (P : Entry → Type 0) (p : Entry → Bool) (es : List Entry) → All P (filter p es) → All (λ e. p e ≡ true → P e) es
+unfilter : (P : MadeEvent → Type 0) (p : MadeEvent → Bool) (es : List MadeEvent) → All P (filter p es) → All (λ e. p e ≡ true → P e) es
 unfilter P p [] all = All-nil (λ e. p e ≡ true → P e)
 unfilter P p (e ∷ es) all = ⊎_elim
     (λ (kept : p e ≡ true).
@@ -30,11 +30,11 @@ unfilter P p (e ∷ es) all = ⊎_elim
     All-cons (λ x. p x ≡ true → P x) e es (λ is. absurd (true≢false (sym is ∙ left))) (unfilter P p es rest))
     (cases_Bool (p e))
 
-all_first : (P : Entry → Type 0) (xs ys : List Entry) → All P (xs ++ ys) → All P xs
+all_first : (P : MadeEvent → Type 0) (xs ys : List MadeEvent) → All P (xs ++ ys) → All P xs
 all_first P [] ys all = All-nil P
 all_first P (x ∷ xs) ys all = All-cons P x xs (All-head P x (xs ++ ys) all) (all_first P xs ys (All-tail P x (xs ++ ys) all))
 
-all_rest : (P : Entry → Type 0) (xs ys : List Entry) → All P (xs ++ ys) → All P ys
+all_rest : (P : MadeEvent → Type 0) (xs ys : List MadeEvent) → All P (xs ++ ys) → All P ys
 all_rest P [] ys all = all
 all_rest P (x ∷ xs) ys all = all_rest P xs ys (All-tail P x (xs ++ ys) all)
 
@@ -52,9 +52,9 @@ step_leaves s u who Retrace reply h is = tt
 step_leaves s u who Sweep reply h is = tt
 step_leaves s u who Number reply h is = tt
 
-walks_leaves : (s t : HeapState) (es : List Entry) → Walks StateStep s es t → All (λ (e : Entry). e.who ≡ 16 → LeavesWords e.call) es
-walks_leaves s t [] w = All-nil (λ (e : Entry). e.who ≡ 16 → LeavesWords e.call)
-walks_leaves s t (e ∷ es) w = All-cons (λ (x : Entry). x.who ≡ 16 → LeavesWords x.call) e es (step_leaves s w.0 e.who e.call e.reply w.1) (walks_leaves w.0 t es w.2)
+walks_leaves : (s t : HeapState) (es : List MadeEvent) → Walks StateStep s es t → All (λ (e : MadeEvent). e.who ≡ 16 → LeavesWords e.call) es
+walks_leaves s t [] w = All-nil (λ (e : MadeEvent). e.who ≡ 16 → LeavesWords e.call)
+walks_leaves s t (e ∷ es) w = All-cons (λ (x : MadeEvent). x.who ≡ 16 → LeavesWords x.call) e es (step_leaves s w.0 e.who e.call e.reply w.1) (walks_leaves w.0 t es w.2)
 
 call_frees : (call : Call) → LeavesWordsCall call → IsNoFreeCall call
 call_frees Detach l = tt
@@ -89,7 +89,7 @@ event_frees Retrace l = tt
 event_frees Sweep l = tt
 event_frees Number l = tt
 
-module _ (pages : ℕ) (history : List Entry) (legal : Legal (Opens pages) StateStep history) (me : ℕ) (others : List HeapPass) (alone : AreAlone (me ∷ slots_of others) history)
+module _ (pages : ℕ) (history : List MadeEvent) (legal : Legal (Opens pages) StateStep history) (me : ℕ) (others : List HeapPass) (alone : AreAlone (me ∷ slots_of others) history)
     (left : All (LeftWords pages history) others) where
   -- one of the others, at this slot
   abbrev Other : ℕ → Type 0
@@ -100,15 +100,15 @@ module _ (pages : ℕ) (history : List Entry) (legal : Legal (Opens pages) State
       (All-map Other (λ (p : HeapPass). p.slot) others (All-weaker (LeftWords pages history) (λ (p : HeapPass). Other p.slot) (λ p l ne. (p, l, refl)) others left))
 
   -- what they did, at one place of the history
-  left_at : (k : ℕ) (d : Entry) (slot : ℕ) → k < length history → Contains (me ∷ slots_of others) slot → slot ≢ me → (slice_index_or history k d).who ≡ slot → LeavesWords (slice_index_or history k d).call
+  left_at : (k : ℕ) (d : MadeEvent) (slot : ℕ) → k < length history → Contains (me ∷ slots_of others) slot → slot ≢ me → (slice_index_or history k d).who ≡ slot → LeavesWords (slice_index_or history k d).call
   left_at k d slot lt among ne is =
       let by = All-contains Other (me ∷ slots_of others) slot each_other among ne in
       let p = by.0 in
       let all : own rank_of slot history ≡ all_of slot history = All-contains (λ s. own rank_of s history ≡ all_of s history) (me ∷ slots_of others) slot alone.lives among in
       let mine = known_mine pages history legal p slot by.2 all by.1.known in
-      unfilter (λ (e : Entry). LeavesWords e.call) (λ (e : Entry). e.who == slot) history (subst (λ (l : List Entry). All (λ (e : Entry). LeavesWords e.call) l) mine by.1.left) k d lt (eq-eqb _ slot is)
+      unfilter (λ (e : MadeEvent). LeavesWords e.call) (λ (e : MadeEvent). e.who == slot) history (subst (λ (l : List MadeEvent). All (λ (e : MadeEvent). LeavesWords e.call) l) mine by.1.left) k d lt (eq-eqb _ slot is)
 
-  pub others_left : All (λ (e : Entry). e.who ≢ me → LeavesWords e.call) history
+  pub others_left : All (λ (e : MadeEvent). e.who ≢ me → LeavesWords e.call) history
   others_left = λ k d lt ne. ⊎_elim
       (λ among. left_at k d (slice_index_or history k d).who lt among ne refl)
       (λ collector. walks_leaves legal.1.0 legal.0 history legal.1.2 k d lt collector)
@@ -120,9 +120,9 @@ module _ (pages : ℕ) (history : List Entry) (legal : Legal (Opens pages) State
       let ext = makes.extends in
       let e = event old.slot (Mutator old.slot call) reply in
       let parts : history ≡ old.seen ++ (ext.between ++ (e ∷ within.0)) = sym within.1 ∙ (ap (λ l. l ++ within.0) ext.seen ∙ (append_assoc (old.seen ++ ext.between) (e ∷ []) within.0 ∙ append_assoc old.seen ext.between (e ∷ within.0))) in
-      let part : All (λ (x : Entry). x.who ≢ me → LeavesWords x.call) ext.between =
-      all_first (λ (x : Entry). x.who ≢ me → LeavesWords x.call) ext.between (e ∷ within.0) (all_rest (λ (x : Entry). x.who ≢ me → LeavesWords x.call) old.seen (ext.between ++ (e ∷ within.0)) (subst (λ (l : List Entry). All (λ (x : Entry). x.who ≢ me → LeavesWords x.call) l) parts others_left)) in
-      let words : All (λ (x : Entry). LeavesWords x.call) ext.between = λ k d lt. part k d lt (subst (λ (n : ℕ). (slice_index_or ext.between k d).who ≢ n) is (ext.others k d lt)) in
+      let part : All (λ (x : MadeEvent). x.who ≢ me → LeavesWords x.call) ext.between =
+      all_first (λ (x : MadeEvent). x.who ≢ me → LeavesWords x.call) ext.between (e ∷ within.0) (all_rest (λ (x : MadeEvent). x.who ≢ me → LeavesWords x.call) old.seen (ext.between ++ (e ∷ within.0)) (subst (λ (l : List MadeEvent). All (λ (x : MadeEvent). x.who ≢ me → LeavesWords x.call) l) parts others_left)) in
+      let words : All (λ (x : MadeEvent). LeavesWords x.call) ext.between = λ k d lt. part k d lt (subst (λ (n : ℕ). (slice_index_or ext.between k d).who ≢ n) is (ext.others k d lt)) in
       (record { makes = makes; left = words }, record { makes = makes; kept = λ k d lt. event_frees (slice_index_or ext.between k d).call (words k d lt) })
 
 -- a call after a look is a call
@@ -135,7 +135,7 @@ looks_makes pages old mid new call reply looks makes =
       extends = record {
         slot = ext.slot ∙ slot;
         between = g.between ++ ext.between;
-        others = all_both (λ (x : Entry). x.who ≢ old.slot) g.between ext.between g.others (subst (λ (n : ℕ). AreOfOthers n ext.between) slot ext.others);
+        others = all_both (λ (x : MadeEvent). x.who ≢ old.slot) g.between ext.between g.others (subst (λ (n : ℕ). AreOfOthers n ext.between) slot ext.others);
         seen = ext.seen ∙ ((λ j. ((sym g.whole j) ++ ext.between) ++ event (slot j) (Mutator (slot j) call) reply ∷ []) ∙ ap (λ l. l ++ event old.slot (Mutator old.slot call) reply ∷ []) (append_assoc old.seen g.between ext.between));
         mine = ext.mine ∙ (λ j. looks.mine j ++ event (slot j) (Mutator (slot j) call) reply ∷ []);
         fine = ext.fine;
@@ -143,6 +143,6 @@ looks_makes pages old mid new call reply looks makes =
       has_slot = makes.has_slot;
     })
   where
-    all_both : (P : Entry → Type 0) (xs ys : List Entry) → All P xs → All P ys → All P (xs ++ ys)
+    all_both : (P : MadeEvent → Type 0) (xs ys : List MadeEvent) → All P xs → All P ys → All P (xs ++ ys)
     all_both P [] ys a b = b
     all_both P (x ∷ xs) ys a b = All-cons P x (xs ++ ys) (All-head P x xs a) (all_both P xs ys (All-tail P x xs a) b)

@@ -5,7 +5,7 @@ use Rattle.std.proofs.lemmas.List.Elements.{All-nil, All-cons, All-head, All-tai
 use Rattle.history.specs.Histories.{own, Legal}
 use Rattle.heap_spec.specs.SequentialObject.{heap_of, Opens, StateStep}
 use Rattle.heap_history.specs.Ranks.{rank_of}
-use Rattle.heap_history.specs.Passes.{Entry, HeapPass}
+use Rattle.heap_history.specs.Passes.{MadeEvent, HeapPass}
 use Rattle.heap_history.specs.Alone.{all_of, slots_of, AreAlone}
 use Rattle.heap_history.specs.Laws.{KeptToOwn}
 use Rattle.heap_history.specs.OwnObjects.{unknown, nothing_known, AllKeepToOwn, AreAsKnown}
@@ -19,7 +19,7 @@ each_slot : (P : ℕ → Type 0) (passes : List HeapPass) → All P (slots_of pa
 each_slot P [] all = All-nil (λ (p : HeapPass). P p.slot)
 each_slot P (p ∷ ps) all = All-cons (λ (q : HeapPass). P q.slot) p ps (All-head P p.slot (slots_of ps) all) (each_slot P ps (All-tail P p.slot (slots_of ps) all))
 
-module _ (pages : ℕ) (history : List Entry) (passes : List HeapPass) (legal : Legal (Opens pages) StateStep history) (alone : AreAlone (slots_of passes) history) (kept : All (KeptToOwn pages history) passes) where
+module _ (pages : ℕ) (history : List MadeEvent) (passes : List HeapPass) (legal : Legal (Opens pages) StateStep history) (alone : AreAlone (slots_of passes) history) (kept : All (KeptToOwn pages history) passes) where
   -- one of the mutators, at this slot
   abbrev Mine : ℕ → Type 0
   Mine slot = (p : HeapPass) × KeptToOwn pages history p × (p.slot ≡ slot)
@@ -35,14 +35,14 @@ module _ (pages : ℕ) (history : List Entry) (passes : List HeapPass) (legal : 
   slot_keeps x lt = ⊎_elim
       (λ among.
       let by = All-contains Mine (slots_of passes) x each_mine among in
-      subst (λ (es : List Entry). AllKeepToOwn nothing_known es) (mine_is by.0 by.1 x by.2 among) by.1.kept)
+      subst (λ (es : List MadeEvent). AllKeepToOwn nothing_known es) (mine_is by.0 by.1 x by.2 among) by.1.kept)
       (λ away.
       let far = All-from_recursion (λ y. nat_eq x y ≡ false) (slots_of passes) away in
-      let none : All (λ (e : Entry). e.who ≢ x) history = λ k d below same. ⊎_elim
+      let none : All (λ (e : MadeEvent). e.who ≢ x) history = λ k d below same. ⊎_elim
       (λ among. true≢false (sym (eq-eqb x _ (sym same)) ∙ All-contains (λ y. nat_eq x y ≡ false) (slots_of passes) _ far among))
       (λ collector. absurd (omega (arith, lt, same, collector)))
       (alone.members k d below) in
-      subst (λ (es : List Entry). AllKeepToOwn nothing_known es) (sym (none_of x history none)) tt)
+      subst (λ (es : List MadeEvent). AllKeepToOwn nothing_known es) (sym (none_of x history none)) tt)
       (one_or_none (slots_of passes) x)
 
   private : Private (heap_of legal.1.0) (λ x d. unknown)
@@ -53,5 +53,5 @@ module _ (pages : ℕ) (history : List Entry) (passes : List HeapPass) (legal : 
       let p : HeapPass = slice_index_or passes k d in
       let mine = kept k d below in
       let among = each_slot (Contains (slots_of passes)) passes (All-contains_itself (slots_of passes)) k d below in
-      subst (λ (es : List Entry). AreAsKnown nothing_known es) (sym (mine_is p mine p.slot refl among))
+      subst (λ (es : List MadeEvent). AreAsKnown nothing_known es) (sym (mine_is p mine p.slot refl among))
       (walks_as_known legal.1.0 legal.0 history legal.1.2 (reached_fresh pages [] legal.1.0 (legal.1.0, legal.1.1, refl)) (λ x d. unknown) private slot_keeps p.slot mine.mutator)

@@ -10,7 +10,7 @@ use Rattle.heap_spec.specs.declared.call.Call.TheVariants.{Detach, Set, Copy, Ad
 use Rattle.heap_spec.specs.declared.reply.Reply.{Reply}
 use Rattle.heap_spec.specs.declared.reply.Reply.TheVariants.{Done, Word}
 use Rattle.heap_spec.specs.Layout.{index_in}
-use Rattle.heap_spec.specs.Heap.{Heap, Object, Mutator as HeapMutator, HasObject, ReadsObject, IsAttached}
+use Rattle.heap_spec.specs.Heap.{Heap, Object, Mutator as HeapMutator, HasObject, PointsIntoObject, IsAttached}
 use Rattle.heap_spec.specs.Steps.{Acts, Calls, acts, vacant, register, address}
 use Rattle.heap_spec.specs.Sound.{IsSound}
 use Rattle.heap_spec.proofs.Loads.{same_mutator}
@@ -88,7 +88,7 @@ calls_acts s slot m at (vacant none) = absurd (not_both s slot m at none)
 -- where a word of an own object lies
 pub record Place (s : Heap) (m : HeapMutator) (d k : ℕ) (o : Object) : Type 0 where
   pub address_is : address m d k ≡ register m d + 8 * k
-  pub reads : ReadsObject s (address m d k) (register m d) o
+  pub reads : PointsIntoObject s (address m d k) (register m d) o
 
 pub place_is : (s : Heap) → IsSound s → (m : HeapMutator) (d k n : ℕ) (words : ℕ → Option ℕ) → (own : HasOwn s m d n words) → k < n → Place s m d k own.object
 place_is s h m d k n words own lt =

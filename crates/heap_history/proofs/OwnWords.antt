@@ -12,12 +12,12 @@ use Rattle.heap_spec.specs.declared.reply.Reply.TheVariants.{Done, Word}
 use Rattle.heap_spec.specs.Heap.{Heap, Object, Mutator as HeapMutator, HasObject}
 use Rattle.heap_spec.specs.Steps.{Calls, register, address, with_register}
 use Rattle.heap_spec.specs.Sound.{IsSound}
-use Rattle.heap_spec.specs.Laws.{IsFreshRun}
+use Rattle.heap_spec.specs.Laws.{IsRunFromOpening}
 use Rattle.heap_spec.specs.SequentialObject.{HeapState, heap_of, StateStep}
 use Rattle.heap_spec.proofs.Calls.{attached_is}
 use Rattle.heap_spec.proofs.Loads.{same_mutator}
 use Rattle.heap_spec.proofs.Objects.{object_lies, one_read}
-use Rattle.heap_history.specs.Passes.{Entry, HeapPass}
+use Rattle.heap_history.specs.Passes.{MadeEvent, HeapPass}
 use Rattle.heap_history.specs.Headline.{Makes}
 use Rattle.heap_history.specs.Laws.{IsNoFree, CallsLeaveRegister, MakesAfterNoFree, MakesAfterNoWrite}
 use Rattle.heap_history.proofs.Slots.{slice_get-set_same}
@@ -56,7 +56,7 @@ set_ready s slot d n r w a h few ne calls own =
     })
 
 -- and after what others did
-walks_ready : (s t : HeapState) (es : List Entry) → Walks StateStep s es t → IsFreshRun s.pages s.run → (who d n r w : ℕ) → Ready (heap_of s) who d n r w → AreOfOthers who es → All (λ (e : Entry). IsNoFree e.call) es
+walks_ready : (s t : HeapState) (es : List MadeEvent) → Walks StateStep s es t → IsRunFromOpening s.pages s.run → (who d n r w : ℕ) → Ready (heap_of s) who d n r w → AreOfOthers who es → All (λ (e : MadeEvent). IsNoFree e.call) es
     → Ready (heap_of t) who d n r w
 walks_ready s t es walk fresh who d n r w ready others free = record {
   base = ready.base;

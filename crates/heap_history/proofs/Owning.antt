@@ -19,9 +19,9 @@ use Rattle.heap_spec.proofs.Calls.{attached_is}
 use Rattle.heap_spec.proofs.Loads.{same_mutator}
 use Rattle.heap_spec.proofs.Layouts.{AreApart, placed}
 use Rattle.heap_spec.proofs.Objects.{with_at-same, object_lies, one_read, room_apart}
-use Rattle.heap_history.specs.Passes.{Entry, HeapPass}
+use Rattle.heap_history.specs.Passes.{MadeEvent, HeapPass}
 use Rattle.heap_history.specs.Headline.{Makes}
-use Rattle.heap_spec.specs.Laws.{IsFreshRun}
+use Rattle.heap_spec.specs.Laws.{IsRunFromOpening}
 use Rattle.heap_history.specs.Laws.{MakesAfterNoFree, IsNoFreeCall, IsNoFree, LeavesRegister, CallsLeaveRegister}
 use Rattle.heap_history.proofs.Slots.{slice_get-set_same, not_both}
 use Rattle.heap_history.proofs.Stored.{walks_last, walks_through, walks_mutators, reached_fresh, reached_sound}
@@ -50,29 +50,29 @@ pub record Allocated (s s' : Heap) (slot d n : ℕ) (kind : Kind) : Type 0 where
   pub zeros : (k : ℕ) → k < length owned.object.words → slice_index owned.object.words k ≡ 0
 
 pub alloc_is : (s : Heap) (slot d n : ℕ) (kind : Kind) → IsSound s → d < 16 → {s' : Heap} → Calls s slot (Alloc d n kind) Done s' → Allocated s s' slot d n kind
-alloc_is s slot d n kind h few (acts {m = m} at (Acts.allocated {place = place} a e room)) =
+alloc_is s slot d n kind h few (acts {m = m} at (Acts.allocated {placement = placement} a e room)) =
     let size = (attached_is s slot m h at).registers.size in
     let there : d < length m.registers = omega (arith, size) in
     let changed : HeapMutator = record m { registers = slice_set m.registers d a } in
-    let long : length (replicate (length_of place) 0) ≡ length_of place = length-replicate (length_of place) 0 in
-    let is = placed n place e in
+    let long : length (replicate (length_of placement) 0) ≡ length_of placement = length-replicate (length_of placement) 0 in
+    let is = placed n placement e in
     record {
       base = a;
       owned = record {
-        object = record { birth = s.births + 1; kind = kind; words = replicate (length_of place) 0 };
+        object = record { birth = s.births + 1; kind = kind; words = replicate (length_of placement) 0 };
         mutator = changed;
         at = slice_get-set_same s.mutators slot (Some changed) (slice_get_within s.mutators slot (Some m) at);
         there = subst (λ k. d < k) (sym (length-set m.registers d a)) there;
         holds = get_or-set_same m.registers d a 0 there;
         has = with_at-same s.objects a _ a refl;
-        size = subst (λ k. n ≤ k) (sym long) (place_holds n place e);
+        size = subst (λ k. n ≤ k) (sym long) (place_holds n placement e);
         of_kind = refl;
       };
       away = λ b p has. subst (λ k. AreApart a k b (length p.words)) (sym long)
-          (room_apart s h place kind a is room b p has (λ same. room_none s h place kind a is room p (ap s.objects (sym same) ∙ has)));
+          (room_apart s h placement kind a is room b p has (λ same. room_none s h placement kind a is room p (ap s.objects (sym same) ∙ has)));
       kind_is = refl;
-      new = room_none s h place kind a is room;
-      zeros = λ k lt. get_or-replicate (length_of place) k 0 0 (omega (arith, lt, long));
+      new = room_none s h placement kind a is room;
+      zeros = λ k lt. get_or-replicate (length_of placement) k 0 0 (omega (arith, lt, long));
     }
 
 -- what is told of a register
@@ -134,15 +134,15 @@ call_owned s slot d n a {kind = kind} h {call = call} calls leaves own =
     }
 
 -- what others do leaves it, if they free nothing
-pub walks_owned : (s t : HeapState) (es : List Entry) → Walks StateStep s es t → IsFreshRun s.pages s.run → (who d n a : ℕ) {kind : Kind} → Owned (heap_of s) who d n a kind → AreOfOthers who es → All (λ (e : Entry). IsNoFree e.call) es
+pub walks_owned : (s t : HeapState) (es : List MadeEvent) → Walks StateStep s es t → IsRunFromOpening s.pages s.run → (who d n a : ℕ) {kind : Kind} → Owned (heap_of s) who d n a kind → AreOfOthers who es → All (λ (e : MadeEvent). IsNoFree e.call) es
     → Owned (heap_of t) who d n a kind
 walks_owned s t es w fresh who d n a {kind = kind} own others free =
     let held = walks_held s t es w fresh who own.mutator d a own.object own.at own.there own.holds own.has others free in
     record { object = held.1.0; mutator = own.mutator; at = held.0; there = own.there; holds = own.holds; has = held.1.1; size = subst (λ k. n ≤ k) (sym held.1.2.size) own.size; of_kind = held.1.2.kind ∙ own.of_kind }
 
 -- and its mutator too
-pub walks_owned_mutator : (s t : HeapState) (es : List Entry) (w : Walks StateStep s es t) (fresh : IsFreshRun s.pages s.run) (who d n a : ℕ) {kind : Kind} (own : Owned (heap_of s) who d n a kind) (others : AreOfOthers who es)
-    (free : All (λ (e : Entry). IsNoFree e.call) es) → (walks_owned s t es w fresh who d n a own others free).mutator ≡ own.mutator
+pub walks_owned_mutator : (s t : HeapState) (es : List MadeEvent) (w : Walks StateStep s es t) (fresh : IsRunFromOpening s.pages s.run) (who d n a : ℕ) {kind : Kind} (own : Owned (heap_of s) who d n a kind) (others : AreOfOthers who es)
+    (free : All (λ (e : MadeEvent). IsNoFree e.call) es) → (walks_owned s t es w fresh who d n a own others free).mutator ≡ own.mutator
 unfolding walks_owned
 walks_owned_mutator s t es w fresh who d n a own others free = refl
 
@@ -151,7 +151,7 @@ abbrev pub IsOwned : ℕ → ℕ → ℕ → Kind → (ℕ → Type 0) → HeapP
 IsOwned pages d n kind Is pass = (t : HeapState) → Reaches (Opens pages) StateStep pass.seen t → (a : ℕ) × Is a × Owned (heap_of t) pass.slot d n a kind
 
 -- the state that a call is made in
-pub record Before (pages : ℕ) (pass : HeapPass) (between : List Entry) (call : Call) (reply : Reply) (t : HeapState) : Type 0 where
+pub record Before (pages : ℕ) (pass : HeapPass) (between : List MadeEvent) (call : Call) (reply : Reply) (t : HeapState) : Type 0 where
   pub state : HeapState
   pub reached : Reaches (Opens pages) StateStep (pass.seen ++ between) state
   pub step : StateStep state pass.slot (Mutator pass.slot call) reply t

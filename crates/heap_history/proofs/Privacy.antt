@@ -14,11 +14,11 @@ use Rattle.heap_spec.specs.declared.reply.Reply.TheVariants.{Done}
 use Rattle.heap_spec.specs.Heap.{Heap, Object, Mutator as HeapMutator, HasObject, IsAttached}
 use Rattle.heap_spec.specs.Steps.{Acts, register}
 use Rattle.heap_spec.specs.Sound.{IsSound}
-use Rattle.heap_spec.specs.Laws.{IsFreshRun}
+use Rattle.heap_spec.specs.Laws.{IsRunFromOpening}
 use Rattle.heap_spec.specs.SequentialObject.{HeapState, heap_of, StateStep}
 use Rattle.heap_spec.proofs.Loads.{same_mutator}
 use Rattle.heap_spec.proofs.Runs.{fresh_sound}
-use Rattle.heap_history.specs.Passes.{Entry}
+use Rattle.heap_history.specs.Passes.{MadeEvent}
 use Rattle.heap_history.specs.Alone.{all_of}
 use Rattle.heap_history.specs.OwnObjects.{Content, unknown, own_object, known_word, own_words, known_after, KeepsToOwnCall, KeepsToOwn, AllKeepToOwn, IsAsKnown, AreAsKnown}
 use Rattle.heap_history.proofs.Slots.{step_mutators}
@@ -260,16 +260,16 @@ collector_keeps s u who known Sweep reply h is = tt
 collector_keeps s u who known Number reply h is = tt
 
 -- what is left of a slot's events after one event of the history
-rest_keeps : (b : Bool) (known : ℕ → Content) (e : Entry) (es : List Entry) → AllKeepToOwn known (cond b (e ∷ es) es) → AllKeepToOwn (cond b (known_after known e.call e.reply) known) es
+rest_keeps : (b : Bool) (known : ℕ → Content) (e : MadeEvent) (es : List MadeEvent) → AllKeepToOwn known (cond b (e ∷ es) es) → AllKeepToOwn (cond b (known_after known e.call e.reply) known) es
 rest_keeps true known e es keeps = keeps.1
 rest_keeps false known e es keeps = keeps
 
-whole_as_known : (b : Bool) (known : ℕ → Content) (e : Entry) (es : List Entry) → (b ≡ true → IsAsKnown known e.call e.reply) → AreAsKnown (cond b (known_after known e.call e.reply) known) es → AreAsKnown known (cond b (e ∷ es) es)
+whole_as_known : (b : Bool) (known : ℕ → Content) (e : MadeEvent) (es : List MadeEvent) → (b ≡ true → IsAsKnown known e.call e.reply) → AreAsKnown (cond b (known_after known e.call e.reply) known) es → AreAsKnown known (cond b (e ∷ es) es)
 whole_as_known true known e es first rest = (first refl, rest)
 whole_as_known false known e es first rest = rest
 
 -- Where each slot's events keep to own objects, their replies are as they are known.
-pub walks_as_known : (s t : HeapState) (es : List Entry) → Walks StateStep s es t → IsFreshRun s.pages s.run → (known : ℕ → ℕ → Content) → Private (heap_of s) known → ((x : ℕ) → x < 16 → AllKeepToOwn (known x) (all_of x es))
+pub walks_as_known : (s t : HeapState) (es : List MadeEvent) → Walks StateStep s es t → IsRunFromOpening s.pages s.run → (known : ℕ → ℕ → Content) → Private (heap_of s) known → ((x : ℕ) → x < 16 → AllKeepToOwn (known x) (all_of x es))
     → (x : ℕ) → x < 16 → AreAsKnown (known x) (all_of x es)
 walks_as_known s t [] w fresh known p keeps x lt = tt
 walks_as_known s t (e ∷ es) w fresh known p keeps x lt =

@@ -12,7 +12,7 @@ use Rattle.heap_spec.specs.declared.reply.Reply.{Reply}
 use Rattle.heap_spec.specs.declared.reply.Reply.TheVariants.{Slot, Done, Refused}
 use Rattle.heap_spec.specs.SequentialObject.{Opens, StateStep}
 use Rattle.heap_history.specs.Ranks.{rank_of}
-use Rattle.heap_history.specs.Passes.{Entry, HeapPass, IsLegalPast, is_marking, needs_full}
+use Rattle.heap_history.specs.Passes.{MadeEvent, HeapPass, IsLegalPast, is_marking, needs_full}
 
 -- The event has this reply at one point of one growing legal history of such a heap, which begins with all that the caller's pass had
 -- seen, ends with the event, and holds the caller's own events since its attach, each once, in their order.
@@ -53,7 +53,7 @@ BeginsPartialByEvents pages old (Err refusal) new = IsRefusedPartial old new ref
 -- and ends with the call, and holds its own events since its attach, each once, in their order. After it the slot has no mutator.
 pub record Departs (pages : ℕ) (old past : HeapPass) : Type 0 where
   pub slot : past.slot ≡ old.slot
-  pub between : List Entry
+  pub between : List MadeEvent
   pub others : AreOfOthers old.slot between
   pub seen : past.seen ≡ (old.seen ++ between) ++ event old.slot (Mutator old.slot Detach) Done ∷ []
   pub mine : past.mine ≡ old.mine ++ event old.slot (Mutator old.slot Detach) Done ∷ []

@@ -16,13 +16,13 @@ use Rattle.words.specs.declared.limits.TheConstants.{SLOTS, WORD_BYTES}
 use Rattle.words.specs.declared.class.Kind.{Kind}
 use Rattle.words.specs.declared.class.Kind.TheVariants.{Normal}
 use Rattle.heap_history.specs.Ranks.{rank_of}
-use Rattle.heap_history.specs.Passes.{Entry, HeapPass, IsLegalPass, begins_with_attach}
+use Rattle.heap_history.specs.Passes.{MadeEvent, HeapPass, IsLegalPass, begins_with_attach}
 use Rattle.heap_history.specs.Headline.{Looks, Makes}
 use Rattle.heap_history.specs.Alone.{attaches, slots_of, AreAlone, CameIn, IsKnownWhole}
 use Rattle.heap_history.specs.OwnObjects.{nothing_known, AllKeepToOwn, AreAsKnown}
 
 -- what these events tell after those that were told, the newest first
-abbrev pub tells : List Told → List Entry → List Told
+abbrev pub tells : List Told → List MadeEvent → List Told
 tells told [] = told
 tells told (e ∷ es) = tells (record { event = e.call; reply = e.reply } ∷ told) es
 
@@ -60,12 +60,12 @@ IsNoCollection _ = Unit {0}
 -- A call with no store and no free between it and what its caller had seen, whatever else others did.
 pub record MakesAfterNoWrite (pages : ℕ) (old : HeapPass) (call : Call) (reply : Reply) (new : HeapPass) : Type 0 where
   pub makes : Makes pages old call reply new
-  pub left : All (λ (e : Entry). LeavesWords e.call) makes.extends.between
+  pub left : All (λ (e : MadeEvent). LeavesWords e.call) makes.extends.between
 
 -- And with no collection between either.
 pub record MakesUndisturbed (pages : ℕ) (old : HeapPass) (call : Call) (reply : Reply) (new : HeapPass) : Type 0 where
   pub after : MakesAfterNoWrite pages old call reply new
-  pub kept : All (λ (e : Entry). IsNoCollection e.call) after.makes.extends.between
+  pub kept : All (λ (e : MadeEvent). IsNoCollection e.call) after.makes.extends.between
 
 -- A mutator puts a word into a register and stores it, whatever others do between. Its next load from the same place, if nobody
 -- stores, frees or collects between, answers that word.
@@ -80,7 +80,7 @@ OwnRegisterAnswers = (pages r w : ℕ) (reply : Reply) (start set asked : HeapPa
 -- A call with no free between it and what its caller had seen, whatever else others did.
 pub record MakesAfterNoFree (pages : ℕ) (old : HeapPass) (call : Call) (reply : Reply) (new : HeapPass) : Type 0 where
   pub makes : Makes pages old call reply new
-  pub kept : All (λ (e : Entry). IsNoFree e.call) makes.extends.between
+  pub kept : All (λ (e : MadeEvent). IsNoFree e.call) makes.extends.between
 
 -- a call that leaves the register as it is and frees no object
 abbrev pub LeavesRegister : ℕ → Call → Type 0
@@ -140,13 +140,13 @@ CountGrows = (old new : HeapPass) → IsPrefix old.seen new.seen → count rank_
 
 -- Where no more mutators came in a history than there are passes of different slots that did, nobody else had a part in it.
 abbrev pub NobodyElseCame : Type 0
-NobodyElseCame = (pages : ℕ) (history : List Entry) (passes : List HeapPass) → Legal (Opens pages) StateStep history → IsDistinct nat_eq (slots_of passes) → All (CameIn pages history) passes
+NobodyElseCame = (pages : ℕ) (history : List MadeEvent) (passes : List HeapPass) → Legal (Opens pages) StateStep history → IsDistinct nat_eq (slots_of passes) → All (CameIn pages history) passes
     → attaches history ≤ length passes → AreAlone (slots_of passes) history
 
 -- Another mutator, which has seen this whole history or had left, stored and freed nothing since it came.
-pub record LeftWords (pages : ℕ) (history : List Entry) (pass : HeapPass) : Type 0 where
+pub record LeftWords (pages : ℕ) (history : List MadeEvent) (pass : HeapPass) : Type 0 where
   pub known : IsKnownWhole pages history pass
-  pub left : All (λ (e : Entry). LeavesWords e.call) pass.mine
+  pub left : All (λ (e : MadeEvent). LeavesWords e.call) pass.mine
 
 -- A call after a look is a call: so a mutator may look, and wait by it, between two calls.
 abbrev pub LooksThenMakes : Type 0
@@ -155,12 +155,12 @@ LooksThenMakes = (pages : ℕ) (old mid new : HeapPass) (call : Call) (reply : R
 -- Where nobody but a mutator and these others had a part in a history, and the others stored and freed nothing, no call of the mutator has
 -- a store or a free between it and what the mutator had seen.
 abbrev pub OthersLeaveWords : Type 0
-OthersLeaveWords = (pages : ℕ) (history : List Entry) → Legal (Opens pages) StateStep history → (me : ℕ) (others : List HeapPass) → AreAlone (me ∷ slots_of others) history
+OthersLeaveWords = (pages : ℕ) (history : List MadeEvent) → Legal (Opens pages) StateStep history → (me : ℕ) (others : List HeapPass) → AreAlone (me ∷ slots_of others) history
     → All (LeftWords pages history) others → (old new : HeapPass) (call : Call) (reply : Reply) → old.slot ≡ me → IsPrefix new.seen history → Makes pages old call reply new
     → MakesAfterNoWrite pages old call reply new × MakesAfterNoFree pages old call reply new
 
 -- A mutator, which has seen this whole history or had left, stored in no object but its own Normal ones, and freed none, since it came.
-pub record KeptToOwn (pages : ℕ) (history : List Entry) (pass : HeapPass) : Type 0 where
+pub record KeptToOwn (pages : ℕ) (history : List MadeEvent) (pass : HeapPass) : Type 0 where
   pub mutator : pass.slot < SLOTS
   pub known : IsKnownWhole pages history pass
   pub kept : AllKeepToOwn nothing_known pass.mine
@@ -168,5 +168,5 @@ pub record KeptToOwn (pages : ℕ) (history : List Entry) (pass : HeapPass) : Ty
 -- Where nobody but these mutators had a part in a history, and each stored in its own Normal objects alone and freed none, what each loads
 -- from these is what it last stored there itself, and 0 before: whatever the others store, and whatever cycles run.
 abbrev pub OwnWordsAsKnown : Type 0
-OwnWordsAsKnown = (pages : ℕ) (history : List Entry) (passes : List HeapPass) → Legal (Opens pages) StateStep history → AreAlone (slots_of passes) history → All (KeptToOwn pages history) passes
+OwnWordsAsKnown = (pages : ℕ) (history : List MadeEvent) (passes : List HeapPass) → Legal (Opens pages) StateStep history → AreAlone (slots_of passes) history → All (KeptToOwn pages history) passes
     → All (λ (p : HeapPass). AreAsKnown nothing_known p.mine) passes

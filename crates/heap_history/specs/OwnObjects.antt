@@ -8,7 +8,7 @@ use Rattle.heap_spec.specs.declared.event.Event.{Event}
 use Rattle.heap_spec.specs.declared.event.Event.TheVariants.{Attach, Mutator, Begin, BeginPartial, Roots, Mark, Retrace, Finish, Sweep, Collect, Number}
 use Rattle.heap_spec.specs.declared.reply.Reply.{Reply}
 use Rattle.heap_spec.specs.declared.reply.Reply.TheVariants.{Done, Word}
-use Rattle.heap_history.specs.Passes.{Entry}
+use Rattle.heap_history.specs.Passes.{MadeEvent}
 
 -- What is known of a register: nothing, its word, or that it has the base of a Normal object of the mutator's own, of at least so many
 -- words, of which some are known.
@@ -108,7 +108,7 @@ KeepsToOwn known Collect = Unit {0}
 KeepsToOwn known Number = Unit {0}
 
 -- and so does each of these events, one after the other
-abbrev pub AllKeepToOwn : (ℕ → Content) → List Entry → Type 0
+abbrev pub AllKeepToOwn : (ℕ → Content) → List MadeEvent → Type 0
 AllKeepToOwn known [] = Unit {0}
 AllKeepToOwn known (e ∷ es) = KeepsToOwn known e.call × AllKeepToOwn (known_after known e.call e.reply) es
 
@@ -132,6 +132,6 @@ IsAsKnown known Collect reply = Unit {0}
 IsAsKnown known Number reply = Unit {0}
 
 -- and so is each reply of these events
-abbrev pub AreAsKnown : (ℕ → Content) → List Entry → Type 0
+abbrev pub AreAsKnown : (ℕ → Content) → List MadeEvent → Type 0
 AreAsKnown known [] = Unit {0}
 AreAsKnown known (e ∷ es) = IsAsKnown known e.call e.reply × AreAsKnown (known_after known e.call e.reply) es

@@ -25,7 +25,7 @@ acts_births s slot m (Acts.stored {base = b} {o = o} al reads) base p has = ⊎_
     ))
     (λ other. inl (p, other.1, same_object p))
     (at_cases s.objects b _ base _ has)
-acts_births s slot m (Acts.allocated {kind = kind} {place = place} a e room) base p has = ⊎_elim
+acts_births s slot m (Acts.allocated {kind = kind} {placement = placement} a e room) base p has = ⊎_elim
     (λ here. inr (let birth : s.births + 1 ≡ p.birth = ap (λ (x : Object). x.birth) (same_Some _ p here.1) in omega arith))
     (λ other. inl (p, other.1, same_object p))
     (at_cases s.objects a _ base _ has)

@@ -84,9 +84,9 @@ without_kept s bases h = objects_in s _ _ h (objects_kept s.pages s.births s.obj
         let left = left_by s bases base p has in let same = same_left s bases base p left in
         (left.object, left.has, sym same.size, sym same.birth, subst (λ (x : Object). All IsWord x.words) left.is (cleared_words (loses_word s bases) base left.object.words (h.objects.words base left.object left.has)))
 
-alloc_kept : (s : Heap) (slot : ℕ) (m : Mutator) (d n : ℕ) (kind : Kind) (place : Placement) (a : ℕ) → IsSound s → IsMutator m → placement_of n ≡ Some place → HasRoom s place kind a
-    → IsSound (with_register (with_new s a kind place) slot m d a)
-alloc_kept s slot m d n kind place a h is e room = record {
+alloc_kept : (s : Heap) (slot : ℕ) (m : Mutator) (d n : ℕ) (kind : Kind) (placement : Placement) (a : ℕ) → IsSound s → IsMutator m → placement_of n ≡ Some placement → HasRoom s placement kind a
+    → IsSound (with_register (with_new s a kind placement) slot m d a)
+alloc_kept s slot m d n kind placement a h is e room = record {
   some_page = h.some_page;
   few_pages = h.few_pages;
   objects = objects;
@@ -97,24 +97,24 @@ alloc_kept s slot m d n kind place a h is e room = record {
 }
   where
     new : Object
-    new = record { birth = s.births + 1; kind = kind; words = replicate (length_of place) 0 }
+    new = record { birth = s.births + 1; kind = kind; words = replicate (length_of placement) 0 }
 
-    size : length new.words ≡ length_of place
-    size = length-replicate (length_of place) 0
+    size : length new.words ≡ length_of placement
+    size = length-replicate (length_of placement) 0
 
     ne : (base : ℕ) (o : Object) → HasObject s base o → base ≢ a
-    ne base o has same = no_object_at s h place kind a (placed n place e) room o (subst (λ x. HasObject s x o) same has)
+    ne base o has same = no_object_at s h placement kind a (placed n placement e) room o (subst (λ x. HasObject s x o) same has)
 
-    laid : IsCell s.pages a (length_of place) ⊎ ArePages s.pages a (length_of place)
-    laid = room_laid s place kind a (placed n place e) room
+    laid : IsCell s.pages a (length_of placement) ⊎ ArePages s.pages a (length_of placement)
+    laid = room_laid s placement kind a (placed n placement e) room
 
     objects : AreObjects s.pages (s.births + 1) (with_at s.objects a (Some new))
     objects = objects_more s.pages s.births s.objects a new h.objects refl
         (subst (λ k. IsCell s.pages a k ⊎ ArePages s.pages a k) (sym size) laid)
-        (All-replicate IsWord (length_of place) 0 (omega arith))
-        (λ b p has ne. subst (λ k. AreApart a k b (length p.words)) (sym size) (room_apart s h place kind a (placed n place e) room b p has ne))
+        (All-replicate IsWord (length_of placement) 0 (omega arith))
+        (λ b p has ne. subst (λ k. AreApart a k b (length p.words)) (sym size) (room_apart s h placement kind a (placed n placement e) room b p has ne))
 
-    lies : LieInHeap s.pages a (length_of place)
+    lies : LieInHeap s.pages a (length_of placement)
     lies = ⊎_elim (cell_lies _ _ _) (pages_lie _ _ _) laid
 
     fits : IsWord a
@@ -151,7 +151,7 @@ acts_kept s slot m h is (Acts.stored {a = a} {n = n} {r = r} {base = base} {o = 
     (links_kept s (with_object s base (Some (record o { words = slice_set o.words (index_in base (address m a n)) (register m r) }))) refl (λ b p has. stored_same s base b o p _ _ reads.0 has) h.links)
 acts_kept s slot m h is (Acts.store_misaligned al) range = h
 acts_kept s slot m h is (Acts.store_nothing al none) range = h
-acts_kept s slot m h is (Acts.allocated {d = d} {n = n} {kind = kind} {place = place} a e room) range = alloc_kept s slot m d n kind place a h is e room
+acts_kept s slot m h is (Acts.allocated {d = d} {n = n} {kind = kind} {placement = placement} a e room) range = alloc_kept s slot m d n kind placement a h is e room
 acts_kept s slot m h is (Acts.bad_size e) range = h
 acts_kept s slot m h is (Acts.full e none) range = h
 acts_kept s slot m h is (Acts.freed {r = r} has) range = without_kept s (register m r ∷ []) h

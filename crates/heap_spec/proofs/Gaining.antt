@@ -11,8 +11,8 @@ use Rattle.words.specs.declared.limits.TheConstants.{REGISTERS}
 use Rattle.heap_spec.specs.declared.call.Call.{Call}
 use Rattle.heap_spec.specs.declared.call.Call.TheVariants.{Detach, Set, Copy, Add, Sub, Get, Push, Pop, Load, Store, Alloc, Free, Base, Size, GlobalGet, GlobalPut, Link, Unlink}
 use Rattle.heap_spec.specs.declared.reply.Reply.{Reply}
-use Rattle.heap_spec.specs.Layout.{Reads}
-use Rattle.heap_spec.specs.Heap.{Heap, Object, Mutator as HeapMutator, IsSameObject, HasObject, ReadsObject, ReadsNothing, IsAttached, words_of, root_words, without, loses_word}
+use Rattle.heap_spec.specs.Layout.{PointsInto}
+use Rattle.heap_spec.specs.Heap.{Heap, Object, Mutator as HeapMutator, IsSameObject, HasObject, PointsIntoObject, PointsIntoNothing, IsAttached, words_of_slot, root_words, without, loses_word}
 use Rattle.heap_spec.specs.Room.{length_of}
 use Rattle.heap_spec.specs.Steps.{Acts, Calls, Attaches, acts, vacant, register, with_mutator, with_register, newcomer}
 use Rattle.heap_spec.specs.Runs.{IsBornSince}
@@ -57,7 +57,7 @@ flat_contains f (z ∷ zs) (suc i) x y e has =
 
 -- the words of an attached mutator are root words
 pub attached_words : (s : Heap) (slot : ℕ) (m : HeapMutator) (y : ℕ) → IsAttached s slot m → Contains (m.registers ++ m.stack) y → Contains (root_words s) y
-attached_words s slot m y at has = Contains-append_left (flat_map words_of s.mutators) s.globals y (flat_contains words_of s.mutators slot (Some m) y at has)
+attached_words s slot m y at has = Contains-append_left (flat_map words_of_slot s.mutators) s.globals y (flat_contains words_of_slot s.mutators slot (Some m) y at has)
 
 -- another mutator at a slot that has one
 now_attached : (s : Heap) (slot : ℕ) (m k : HeapMutator) → IsAttached s slot m → IsAttached (with_mutator s slot (Some k)) slot k
@@ -67,15 +67,15 @@ now_attached s slot m k at =
     slice_get-get_or (slice_set s.mutators slot (Some k)) slot None (omega arith) ∙ ap Some (get_or-set_same s.mutators slot (Some k) None lt)
 
 -- the root words with another mutator at a slot
-slot_words : (s : Heap) (slot : ℕ) (k : Option HeapMutator) (W : ℕ → Type 0) → ((y : ℕ) → Contains (words_of k) y → Contains (root_words s) y ⊎ W y)
+slot_words : (s : Heap) (slot : ℕ) (k : Option HeapMutator) (W : ℕ → Type 0) → ((y : ℕ) → Contains (words_of_slot k) y → Contains (root_words s) y ⊎ W y)
     → (y : ℕ) → Contains (root_words (with_mutator s slot k)) y → Contains (root_words s) y ⊎ W y
 slot_words s slot k W of y has = ⊎_elim
     (λ slots. ⊎_elim
-    (λ old. inl (Contains-append_left (flat_map words_of s.mutators) s.globals y old))
+    (λ old. inl (Contains-append_left (flat_map words_of_slot s.mutators) s.globals y old))
     (of y)
-    (flat_set words_of s.mutators slot k y slots))
-    (λ globals. inl (Contains-append_right (flat_map words_of s.mutators) s.globals y globals))
-    (Contains-append_cases (flat_map words_of (slice_set s.mutators slot k)) s.globals y has)
+    (flat_set words_of_slot s.mutators slot k y slots))
+    (λ globals. inl (Contains-append_right (flat_map words_of_slot s.mutators) s.globals y globals))
+    (Contains-append_cases (flat_map words_of_slot (slice_set s.mutators slot k)) s.globals y has)
 
 -- the root words with a word in a register
 register_words : (s : Heap) (slot : ℕ) (m : HeapMutator) → IsAttached s slot m → (stack : List ℕ) → ((y : ℕ) → Contains stack y → Contains m.stack y) → (d w : ℕ) (W : ℕ → Type 0)
@@ -107,21 +107,21 @@ pub record IsOld (s s' : Heap) (W : ℕ → Type 0) (base : ℕ) (o : Object) : 
   pub was : Object
   pub there : HasObject s base was
   pub same : IsSameObject was o
-  pub words : (v : ℕ) → Contains o.words v → Contains was.words v ⊎ (W v ⊎ ReadsNothing s' v)
+  pub words : (v : ℕ) → Contains o.words v → Contains was.words v ⊎ (W v ⊎ PointsIntoNothing s' v)
 
 -- An object is new: one of these words points into it, and its own words point into nothing.
 pub record IsNew (s s' : Heap) (W : ℕ → Type 0) (base : ℕ) (o : Object) : Type 0 where
   pub born : IsBornSince s o.birth
-  pub words : (v : ℕ) → Contains o.words v → ReadsNothing s' v
+  pub words : (v : ℕ) → Contains o.words v → PointsIntoNothing s' v
   pub at : ℕ
   pub among : W at
-  pub reads : ReadsObject s' at base o
+  pub reads : PointsIntoObject s' at base o
 
 -- From one heap to another no words but these came to where the collector reads them.
 pub record Gains (s s' : Heap) (W : ℕ → Type 0) : Type 0 where
-  pub roots : (y : ℕ) → Contains (root_words s') y → Contains (root_words s) y ⊎ (W y ⊎ ReadsNothing s' y)
+  pub roots : (y : ℕ) → Contains (root_words s') y → Contains (root_words s) y ⊎ (W y ⊎ PointsIntoNothing s' y)
   pub objects : (base : ℕ) (o : Object) → HasObject s' base o → IsOld s s' W base o ⊎ IsNew s s' W base o
-  pub held : (w : ℕ) → W w → Contains (root_words s') w ⊎ ((base : ℕ) (o : Object) → ReadsObject s' w base o → IsBornSince s o.birth)
+  pub held : (w : ℕ) → W w → Contains (root_words s') w ⊎ ((base : ℕ) (o : Object) → PointsIntoObject s' w base o → IsBornSince s o.birth)
 
 -- an object that is as it was
 as_was : (s s' : Heap) (W : ℕ → Type 0) (base : ℕ) (o : Object) → HasObject s base o → IsOld s s' W base o
@@ -144,18 +144,18 @@ acts_roots s slot m at (Acts.pushed {r = r} few) = slot_words s slot (Some (reco
 acts_roots s slot m at (Acts.popped {r = r} {w = w} rest e) =
     register_words s slot m at rest (λ y has. subst (λ l. Contains l y) (sym e) (Contains-append_left rest (w ∷ []) y has)) r w _ (λ y is same. stands_now s slot m at rest r w y is)
 acts_roots s slot m at (Acts.loaded {d = d} al reads) = register_words s slot m at m.stack (λ y has. has) d _ _ (λ y e same. stands_now s slot m at m.stack d _ y e)
-acts_roots s slot m at (Acts.allocated {d = d} {n = n} {kind = kind} {place = place} a e room) =
+acts_roots s slot m at (Acts.allocated {d = d} {n = n} {kind = kind} {placement = placement} a e room) =
     register_words s slot m at m.stack (λ y has. has) d a _ (λ y is same.
-    (record { birth = s.births + 1; kind = kind; words = replicate (length_of place) 0 }, with_at-same s.objects a _ y (sym same), omega arith))
+    (record { birth = s.births + 1; kind = kind; words = replicate (length_of placement) 0 }, with_at-same s.objects a _ y (sym same), omega arith))
 acts_roots s slot m at (Acts.based {d = d} {base = b} reads) = register_words s slot m at m.stack (λ y has. has) d b _ (λ y e same. stands_now s slot m at m.stack d b y e)
 acts_roots s slot m at (Acts.global_got {d = d} {g = g}) = register_words s slot m at m.stack (λ y has. has) d _ _ (λ y e same. stands_now s slot m at m.stack d _ y e)
 acts_roots s slot m at (Acts.global_put {g = g} {r = r}) = λ y has. ⊎_elim
-    (λ slots. inl (Contains-append_left (flat_map words_of s.mutators) s.globals y slots))
+    (λ slots. inl (Contains-append_left (flat_map words_of_slot s.mutators) s.globals y slots))
     (λ globals. ⊎_elim
-    (λ old. inl (Contains-append_right (flat_map words_of s.mutators) s.globals y old))
+    (λ old. inl (Contains-append_right (flat_map words_of_slot s.mutators) s.globals y old))
     (λ new. inr (m, at, new.1))
     (set_contains s.globals g (register m r) y globals))
-    (Contains-append_cases (flat_map words_of s.mutators) (slice_set s.globals g (register m r)) y has)
+    (Contains-append_cases (flat_map words_of_slot s.mutators) (slice_set s.globals g (register m r)) y has)
 acts_roots s slot m at _ = λ y has. inl has
 
 acts_objects : (s : Heap) (slot : ℕ) (m : HeapMutator) → IsAttached s slot m → {call : Call} {reply : Reply} {s' : Heap} → HasApartObjects s' → Acts s slot m call reply s'
@@ -169,7 +169,7 @@ acts_objects s slot m at d (Acts.stored {r = r} {base = b} {o = o} al reads) bas
     })
     (λ other. as_was s _ _ base p other.1)
     (at_cases s.objects b _ base _ has))
-acts_objects s slot m at d (Acts.allocated {kind = kind} {place = place} a e room) base p has = ⊎_elim
+acts_objects s slot m at d (Acts.allocated {kind = kind} {placement = placement} a e room) base p has = ⊎_elim
     (λ here.
     let is = same_Some _ p here.1 in
     let birth : s.births + 1 ≡ p.birth = ap (λ (x : Object). x.birth) is in
@@ -177,8 +177,8 @@ acts_objects s slot m at d (Acts.allocated {kind = kind} {place = place} a e roo
     inr (record {
       born = omega arith;
       words = λ v among b q reads.
-          let e : 0 ≡ v = zeros (length_of place) v (subst (λ l. Contains l v) (ap (λ (x : Object). x.words) (sym is)) among) in
-          d.zero b q (reads.0, subst (λ k. Reads k b (length q.words)) (sym e) reads.1);
+          let e : 0 ≡ v = zeros (length_of placement) v (subst (λ l. Contains l v) (ap (λ (x : Object). x.words) (sym is)) among) in
+          d.zero b q (reads.0, subst (λ k. PointsInto k b (length q.words)) (sym e) reads.1);
       at = base;
       among = (p, has, omega arith);
       reads = (has, (omega arith, omega arith));
@@ -196,19 +196,19 @@ acts_objects s slot m at d (Acts.freed {r = r} gone) base p has =
       there = left.has;
       same = same_left s bases base p left;
       words = λ v among. ⊎_elim
-          (λ zero. inr (inr (subst (ReadsNothing (without s bases)) (sym zero) d.zero)))
+          (λ zero. inr (inr (subst (PointsIntoNothing (without s bases)) (sym zero) d.zero)))
           (λ old. inl old)
           (cleared_among (loses_word s bases) base left.object.words v (subst (λ (x : Object). Contains x.words v) (sym left.is) among));
     })
 acts_objects s slot m at d _ base p has = inl (as_was s _ _ base p has)
 
 -- a word of a register points into nothing, or is a root word
-by_register : (s s' : Heap) → HasApartObjects s' → (slot r w : ℕ) → StandsIn s' slot r w → Contains (root_words s') w ⊎ ((base : ℕ) (o : Object) → ReadsObject s' w base o → IsBornSince s o.birth)
-by_register s s' d slot r w x = ⊎_elim (λ among. inl among) (λ none. inr (λ base o reads. absurd (d.zero base o (subst (λ k. ReadsObject s' k base o) none reads)))) (stands_held s' slot r w x)
+by_register : (s s' : Heap) → HasApartObjects s' → (slot r w : ℕ) → StandsIn s' slot r w → Contains (root_words s') w ⊎ ((base : ℕ) (o : Object) → PointsIntoObject s' w base o → IsBornSince s o.birth)
+by_register s s' d slot r w x = ⊎_elim (λ among. inl among) (λ none. inr (λ base o reads. absurd (d.zero base o (subst (λ k. PointsIntoObject s' k base o) none reads)))) (stands_held s' slot r w x)
 
 -- a word that a call brought is a root word, or points into nothing but what is new
 brought_held : (s : Heap) (slot : ℕ) (call : Call) (s' : Heap) → HasApartObjects s' → (w : ℕ) → IsBrought s slot call s' w
-    → Contains (root_words s') w ⊎ ((base : ℕ) (o : Object) → ReadsObject s' w base o → IsBornSince s o.birth)
+    → Contains (root_words s') w ⊎ ((base : ℕ) (o : Object) → PointsIntoObject s' w base o → IsBornSince s o.birth)
 brought_held s slot Detach s' d w x = absurd x
 brought_held s slot (Get r) s' d w x = absurd x
 brought_held s slot (Free r) s' d w x = absurd x
@@ -245,7 +245,7 @@ calls_gain s slot call reply s' d (vacant none) = record {
 
 pub attach_gain : (s : Heap) (reply : Reply) (s' : Heap) → HasApartObjects s' → Attaches s reply s' → Gains s s' (λ w. ⊥)
 attach_gain s reply s' d (Attaches.attached {slot = slot} lowest) = record {
-  roots = λ y has. ⊎_elim (λ old. inl old) (λ e. inr (inr (subst (ReadsNothing s') e d.zero))) (slot_words s slot (Some newcomer) (λ y. 0 ≡ y) (λ y among. inr (fresh y among)) y has);
+  roots = λ y has. ⊎_elim (λ old. inl old) (λ e. inr (inr (subst (PointsIntoNothing s') e d.zero))) (slot_words s slot (Some newcomer) (λ y. 0 ≡ y) (λ y among. inr (fresh y among)) y has);
   objects = λ base o has. inl (as_was s _ _ base o has);
   held = λ w none. absurd none;
 }

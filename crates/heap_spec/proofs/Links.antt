@@ -13,7 +13,7 @@ use Rattle.std.proofs.lemmas.List.Sums.{length-filter, count_by-le-length}
 use Rattle.words.specs.declared.limits.TheConstants.{MAX_LINKS}
 use Rattle.words.specs.declared.class.Kind.TheVariants.{PointerFree}
 use Rattle.heap_spec.specs.Ranges.{IsWord}
-use Rattle.heap_spec.specs.Heap.{Heap, Object, Link, IsSameObject, HasObject, ReadsObject, is_born, covers, names, lies_in, loses_word, cleared, with_cleared, without, without_at}
+use Rattle.heap_spec.specs.Heap.{Heap, Object, Link, IsSameObject, HasObject, PointsIntoObject, is_born, covers, names, lies_in, loses_word, cleared, with_cleared, without, without_at}
 use Rattle.heap_spec.specs.Steps.{links_but, with_link, without_link, HasLinkRoom}
 use Rattle.heap_spec.specs.Sound.{IsLink, AreLinks}
 use Rattle.heap_spec.proofs.Objects.{without_some, without_other}
@@ -94,7 +94,7 @@ pub names_yes : (s : Heap) (bases : List ℕ) (l : Link) (base : ℕ) (o : Objec
 names_yes s bases l base o has same among =
     list_any-from_Any (λ b. is_born (s.objects b) l.birth) bases (among.0, base, among.1, among.2, ap (λ x. is_born x l.birth) has ∙ eq-eqb _ _ same)
 
-pub lies_yes : (s : Heap) (bases : List ℕ) (l : Link) (base : ℕ) (o : Object) → ReadsObject s l.address base o → Contains bases base → lies_in s bases l ≡ true
+pub lies_yes : (s : Heap) (bases : List ℕ) (l : Link) (base : ℕ) (o : Object) → PointsIntoObject s l.address base o → Contains bases base → lies_in s bases l ≡ true
 lies_yes s bases l base o reads among =
     list_any-from_Any (λ b. covers b (s.objects b) l.address) bases
     (among.0, base, among.1, among.2, ap (λ x. covers base x l.address) reads.0 ∙ and_from _ _ (le-leb _ _ reads.1.0) (lt-ltb _ _ reads.1.1))
@@ -196,7 +196,7 @@ room_left s a h (inr stands) =
     any_same (l ∷ ls) = ap (λ b. b || list_any (λ l. not (not (l.address == a))) ls) (not_not (l.address == a)) ∙ ap (λ b. (l.address == a) || b) (any_same ls)
 
 -- and one more
-pub links_linked : (s : Heap) (a base named : ℕ) (o p : Object) → AreLinks s → a % 8 ≡ 0 → ReadsObject s a base o → o.kind ≡ PointerFree → HasObject s named p → HasLinkRoom s a → AreLinks (with_link s a p.birth)
+pub links_linked : (s : Heap) (a base named : ℕ) (o p : Object) → AreLinks s → a % 8 ≡ 0 → PointsIntoObject s a base o → o.kind ≡ PointerFree → HasObject s named p → HasLinkRoom s a → AreLinks (with_link s a p.birth)
 links_linked s a base named o p h aligned reads kind has room = record {
   each = All-push (IsLink (with_link s a p.birth)) (links_but s a) _ (links_but_are) (record { aligned = aligned; base = base; holder = o; in_holder = reads; kind = kind; named = named; object = p; has = has; names = refl });
   distinct = all_pairs_push (λ k l. k.address ≢ l.address) (links_but s a) _ (AllPairs-filter (λ k l. k.address ≢ l.address) other s.links h.distinct) (λ k d lt. not_eq _ a (filter_passes other s.links k d lt));

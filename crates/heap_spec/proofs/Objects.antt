@@ -14,7 +14,7 @@ use Rattle.words.specs.declared.class.Placement.TheVariants.{Small, Large}
 use Rattle.words.proofs.Classes.{class_few, class_some}
 use Rattle.words.specs.Layout.{page_start}
 use Rattle.heap_spec.specs.Layout.{LiesOn}
-use Rattle.heap_spec.specs.Heap.{Heap, Object, IsSameObject, HasObject, ReadsObject, with_at, without_at}
+use Rattle.heap_spec.specs.Heap.{Heap, Object, IsSameObject, HasObject, PointsIntoObject, with_at, without_at}
 use Rattle.heap_spec.specs.Room.{HasRoom, length_of}
 use Rattle.heap_spec.specs.Ranges.{IsWord}
 use Rattle.heap_spec.specs.Sound.{IsSound, AreObjects, IsCell, ArePages, LieInHeap}
@@ -124,7 +124,7 @@ pub object_lies : (s : Heap) → IsSound s → (base : ℕ) (o : Object) → Has
 object_lies s h base o has = ⊎_elim (cell_lies _ _ _) (pages_lie _ _ _) (h.objects.laid base o has)
 
 -- a place with room is a cell or pages
-pub room_laid : (s : Heap) (place : Placement) (kind : Kind) (a : ℕ) → IsPlacement place → HasRoom s place kind a → IsCell s.pages a (length_of place) ⊎ ArePages s.pages a (length_of place)
+pub room_laid : (s : Heap) (placement : Placement) (kind : Kind) (a : ℕ) → IsPlacement placement → HasRoom s placement kind a → IsCell s.pages a (length_of placement) ⊎ ArePages s.pages a (length_of placement)
 room_laid s (Small n) kind a is room = inl (record { page = room.page; cell = room.cell; class = is; in_heap = room.in_heap; in_page = room.in_page; is_cell = room.is_cell })
 room_laid s (Large count) kind a some room = inr (record { first = room.first; count = count; some = some; in_heap = room.in_heap; is_start = room.is_start; whole = refl })
 
@@ -136,8 +136,8 @@ lies_or_not b m page =
     (cases_lt b (page_start (page + 1)))
 
 -- and each object is apart from it
-pub room_apart : (s : Heap) → IsSound s → (place : Placement) (kind : Kind) (a : ℕ) → IsPlacement place → HasRoom s place kind a
-    → (b : ℕ) (p : Object) → HasObject s b p → b ≢ a → AreApart a (length_of place) b (length p.words)
+pub room_apart : (s : Heap) → IsSound s → (placement : Placement) (kind : Kind) (a : ℕ) → IsPlacement placement → HasRoom s placement kind a
+    → (b : ℕ) (p : Object) → HasObject s b p → b ≢ a → AreApart a (length_of placement) b (length p.words)
 room_apart s h (Large count) kind a some room b p is ne =
     let lies = object_lies s h b p is in
     subst (λ x. AreApart x (PAGE_WORDS * count) b (length p.words)) (sym room.is_start)
@@ -165,7 +165,7 @@ room_apart s h (Small n) kind a class room b p is ne =
     inside e on = same_size (length p.words) e on (h.objects.laid b p is)
 
 -- no object is where there is room for another
-pub no_object_at : (s : Heap) → IsSound s → (place : Placement) (kind : Kind) (a : ℕ) → IsPlacement place → HasRoom s place kind a → (o : Object) → HasObject s a o → ⊥
+pub no_object_at : (s : Heap) → IsSound s → (placement : Placement) (kind : Kind) (a : ℕ) → IsPlacement placement → HasRoom s placement kind a → (o : Object) → HasObject s a o → ⊥
 no_object_at s h (Large count) kind a some room o has =
     let lies = object_lies s h a o has in let some' = lies.some in let start = room.is_start in
     room.free room.first (omega arith) (omega arith) a o has (omega arith, omega arith)
@@ -181,7 +181,7 @@ no_object_at s h (Small n) kind a class room o has =
         let n0 : 2 ≤ n = class_some n class in omega arith
 
 -- a word reads at most one object
-pub one_read : (s : Heap) → IsSound s → (w a b : ℕ) (o p : Object) → ReadsObject s w a o → ReadsObject s w b p → a ≡ b
+pub one_read : (s : Heap) → IsSound s → (w a b : ℕ) (o p : Object) → PointsIntoObject s w a o → PointsIntoObject s w b p → a ≡ b
 one_read s h w a b o p r q =
     let from = r.1 in
     let from' = q.1 in

@@ -7,7 +7,7 @@ use Rattle.words.specs.declared.refusal.Refusal.{Refusal}
 use Rattle.heap_spec.specs.declared.call.Call.{Call}
 use Rattle.heap_spec.specs.declared.reply.Reply.{Reply}
 use Rattle.heap_spec.specs.declared.reply.Reply.TheVariants.{Word, Count, Refused}
-use Rattle.heap_spec.specs.Heap.{Heap, Object, Mutator, HasObject, ReadsObject}
+use Rattle.heap_spec.specs.Heap.{Heap, Object, Mutator, HasObject, PointsIntoObject}
 use Rattle.heap_spec.specs.Room.{HasRoom}
 use Rattle.heap_spec.specs.Steps.{Acts, Calls, acts, vacant, with_register, with_object, register, address, with_link, has_link, HasLinkRoom}
 use Rattle.std.proofs.lemmas.Bool.{true≢false}
@@ -41,10 +41,10 @@ calls_refused s slot call (acts {m = m} at act) = acts_refused s slot m act
 calls_refused s slot call (vacant none) = refl
 
 -- an address reads one object, and one that has it as its base reads itself
-same_read : (s : Heap) → IsLegible s → (w a b : ℕ) (o p : Object) → ReadsObject s w a o → ReadsObject s w b p → (a ≡ b) × (o ≡ p)
+same_read : (s : Heap) → IsLegible s → (w a b : ℕ) (o p : Object) → PointsIntoObject s w a o → PointsIntoObject s w b p → (a ≡ b) × (o ≡ p)
 same_read s h w a b o p r q = let e = h.one w a b o p r q in (e, same_Some o p (sym r.0 ∙ ap s.objects e ∙ q.0))
 
-reads_itself : (s : Heap) → IsLegible s → (base : ℕ) (o : Object) → HasObject s base o → ReadsObject s base base o
+reads_itself : (s : Heap) → IsLegible s → (base : ℕ) (o : Object) → HasObject s base o → PointsIntoObject s base base o
 reads_itself s h base o has = let some = h.some base o has in (has, (omega arith, omega arith))
 
 -- a stack that is pushed is not empty, and says what was pushed
@@ -108,15 +108,15 @@ acts_same s h slot m (Acts.store_nothing al none) (Acts.stored {base = b} {o = o
 acts_same s h slot m (Acts.store_nothing al none) (Acts.store_misaligned ne) = absurd (ne al)
 acts_same s h slot m (Acts.store_nothing al none) (Acts.store_nothing al' none') = (refl, λ no. refl)
 acts_same s h slot m (Acts.allocated a e room) (Acts.allocated a' e' room') = (refl, λ no. absurd no)
-acts_same s h slot m (Acts.allocated {place = p} a e room) (Acts.bad_size e') = absurd (none-some p (sym e' ∙ e))
-acts_same s h slot m (Acts.allocated {kind = kind} {place = p} a e room) (Acts.full {place = q} e' none) =
+acts_same s h slot m (Acts.allocated {placement = p} a e room) (Acts.bad_size e') = absurd (none-some p (sym e' ∙ e))
+acts_same s h slot m (Acts.allocated {kind = kind} {placement = p} a e room) (Acts.full {placement = q} e' none) =
     absurd (none a (subst (λ x. HasRoom s x kind a) (same_Some p q (sym e ∙ e')) room))
-acts_same s h slot m (Acts.bad_size e) (Acts.allocated {place = p} a e' room) = absurd (none-some p (sym e ∙ e'))
+acts_same s h slot m (Acts.bad_size e) (Acts.allocated {placement = p} a e' room) = absurd (none-some p (sym e ∙ e'))
 acts_same s h slot m (Acts.bad_size e) (Acts.bad_size e') = (refl, λ no. refl)
-acts_same s h slot m (Acts.bad_size e) (Acts.full {place = p} e' none) = absurd (none-some p (sym e ∙ e'))
-acts_same s h slot m (Acts.full {place = q} e none) (Acts.allocated {kind = kind} {place = p} a e' room) =
+acts_same s h slot m (Acts.bad_size e) (Acts.full {placement = p} e' none) = absurd (none-some p (sym e ∙ e'))
+acts_same s h slot m (Acts.full {placement = q} e none) (Acts.allocated {kind = kind} {placement = p} a e' room) =
     absurd (none a (subst (λ x. HasRoom s x kind a) (same_Some p q (sym e' ∙ e)) room))
-acts_same s h slot m (Acts.full {place = p} e none) (Acts.bad_size e') = absurd (none-some p (sym e' ∙ e))
+acts_same s h slot m (Acts.full {placement = p} e none) (Acts.bad_size e') = absurd (none-some p (sym e' ∙ e))
 acts_same s h slot m (Acts.full e none) (Acts.full e' none') = (refl, λ no. refl)
 acts_same s h slot m (Acts.freed has) (Acts.freed has') = (refl, λ no. refl)
 acts_same s h slot m (Acts.freed {r = r} {o = o} has) (Acts.free_inside {base = b} {o = p} reads ne) =

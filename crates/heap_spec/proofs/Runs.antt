@@ -10,12 +10,12 @@ use Rattle.heap_spec.specs.declared.event.Event.TheVariants.{Attach, Mutator, Be
 use Rattle.heap_spec.specs.declared.reply.Reply.{Reply}
 use Rattle.heap_spec.specs.Heap.{Heap, Object, HasObject, is_born, names, loses_word, with_cleared}
 use Rattle.heap_spec.specs.Closure.{Reached, IsInClosure}
-use Rattle.heap_spec.specs.Runs.{Start, Run, Moment, fresh, heap_after, old_births, Touched, touched_after}
+use Rattle.heap_spec.specs.Runs.{Start, Run, Moment, opening_start, heap_after, old_births, Touched, touched_after}
 use Rattle.heap_spec.specs.Cycles.{TakesOut, CollectsFully}
 use Rattle.heap_spec.specs.Histories.{Happens, IsRun}
 use Rattle.heap_spec.specs.Ranges.{InRange}
 use Rattle.heap_spec.specs.Sound.{IsSound, HaveDistinctBirths}
-use Rattle.heap_spec.specs.Laws.{IsFreshRun, KeepsReached, HasOnlyReached, HadLink, IsKeptWord}
+use Rattle.heap_spec.specs.Laws.{IsRunFromOpening, KeepsReached, HasOnlyReached, HadLink, IsKeptWord}
 use Rattle.heap_spec.proofs.Closures.{in_idem, reached_in}
 use Rattle.heap_spec.proofs.Links.{left_by, same_left, stays_by, same_cleared, cleared_at}
 use Rattle.heap_spec.proofs.Calls.{calls_kept, attaches_kept, takes_out_kept, opening_is}
@@ -39,8 +39,8 @@ run_kept start [] h range runs = h
 run_kept start (m ∷ run) h range runs =
     happens_kept start run m.told.event m.told.reply m.heap (run_kept start run h (All-tail (λ (m : Moment). InRange m.told.event) m run range) runs.1) (All-head (λ (m : Moment). InRange m.told.event) m run range) runs.0
 
-pub fresh_sound : (pages : ℕ) (run : Run) → IsFreshRun pages run → IsSound (heap_after (fresh pages) run)
-fresh_sound pages run h = run_kept (fresh pages) run (opening_is pages h.some_page h.few_pages) h.in_range h.is_run
+pub fresh_sound : (pages : ℕ) (run : Run) → IsRunFromOpening pages run → IsSound (heap_after (opening_start pages) run)
+fresh_sound pages run h = run_kept (opening_start pages) run (opening_is pages h.some_page h.few_pages) h.in_range h.is_run
 
 -- after any event the touched births are closed
 after_closed : (event : Event) (aged : ℕ) (before : ℕ → Type 0) (old new : Heap) → HaveDistinctBirths new.objects → (birth : ℕ) → IsInClosure new (touched_after event aged before old new) birth → touched_after event aged before old new birth
@@ -51,9 +51,9 @@ after_closed _ aged before old new d birth x = in_idem new _ d birth x
 pub touched_closed : (start : Start) (m : Moment) (run : Run) → HaveDistinctBirths m.heap.objects → (birth : ℕ) → IsInClosure m.heap (Touched start (m ∷ run)) birth → Touched start (m ∷ run) birth
 touched_closed start m run d birth x = after_closed m.told.event (old_births start run) (Touched start run) (heap_after start run) m.heap d birth x
 
-pub fresh_touched_closed : (pages : ℕ) (run : Run) → IsFreshRun pages run → (birth : ℕ) → IsInClosure (heap_after (fresh pages) run) (Touched (fresh pages) run) birth → Touched (fresh pages) run birth
+pub fresh_touched_closed : (pages : ℕ) (run : Run) → IsRunFromOpening pages run → (birth : ℕ) → IsInClosure (heap_after (opening_start pages) run) (Touched (opening_start pages) run) birth → Touched (opening_start pages) run birth
 fresh_touched_closed pages [] h birth x = absurd (none-some x.1 x.2)
-fresh_touched_closed pages (m ∷ run) h birth x = let sound = fresh_sound pages (m ∷ run) h in touched_closed (fresh pages) m run sound.objects.distinct birth x
+fresh_touched_closed pages (m ∷ run) h birth x = let sound = fresh_sound pages (m ∷ run) h in touched_closed (opening_start pages) m run sound.objects.distinct birth x
 
 -- and they hold what is reached
 after_reached : (event : Event) (aged : ℕ) (before : ℕ → Type 0) (old new : Heap) (base : ℕ) (o : Object) → HasObject new base o → Reached new base → touched_after event aged before old new o.birth
@@ -64,9 +64,9 @@ after_reached _ aged before old new base o has r = (base, o, has, refl, reached_
 pub touched_reached : (start : Start) (m : Moment) (run : Run) (base : ℕ) (o : Object) → HasObject m.heap base o → Reached m.heap base → Touched start (m ∷ run) o.birth
 touched_reached start m run base o has r = after_reached m.told.event (old_births start run) (Touched start run) (heap_after start run) m.heap base o has r
 
-pub fresh_touched_reached : (pages : ℕ) (run : Run) (base : ℕ) (o : Object) → HasObject (heap_after (fresh pages) run) base o → Reached (heap_after (fresh pages) run) base → Touched (fresh pages) run o.birth
+pub fresh_touched_reached : (pages : ℕ) (run : Run) (base : ℕ) (o : Object) → HasObject (heap_after (opening_start pages) run) base o → Reached (heap_after (opening_start pages) run) base → Touched (opening_start pages) run o.birth
 fresh_touched_reached pages [] base o has r = absurd (none-some o has)
-fresh_touched_reached pages (m ∷ run) base o has r = touched_reached (fresh pages) m run base o has r
+fresh_touched_reached pages (m ∷ run) base o has r = touched_reached (opening_start pages) m run base o has r
 
 -- what a collection takes out was not reached
 not_among : (s : Heap) (bases : List ℕ) (reply : Reply) (s' : Heap) → TakesOut s bases reply s' → (base : ℕ) → Reached s base → Contains bases base → ⊥

@@ -12,8 +12,8 @@ use Rattle.heap_spec.specs.declared.call.Call.TheVariants.{Detach, Set, Copy, Ad
 use Rattle.heap_spec.specs.declared.event.Event.TheVariants.{Attach, Mutator}
 use Rattle.heap_spec.specs.declared.reply.Reply.{Reply}
 use Rattle.heap_spec.specs.declared.reply.Reply.TheVariants.{Done}
-use Rattle.heap_spec.specs.Layout.{Reads}
-use Rattle.heap_spec.specs.Heap.{Heap, Object, Mutator as HeapMutator, HasObject, ReadsObject, IsAttached, root_words}
+use Rattle.heap_spec.specs.Layout.{PointsInto}
+use Rattle.heap_spec.specs.Heap.{Heap, Object, Mutator as HeapMutator, HasObject, PointsIntoObject, IsAttached, root_words}
 use Rattle.heap_spec.specs.Closure.{Closure, given, root, word, IsInClosure}
 use Rattle.heap_spec.specs.Steps.{Acts, Calls, Attaches, acts, vacant, register, with_register, with_new}
 use Rattle.heap_spec.specs.Runs.{Start, Run, Touched, IsBornSince, heap_after, is_marking, goes_on}
@@ -37,17 +37,17 @@ module _ (s s' : Heap) (T W : ℕ → Type 0) (d : HasApartObjects s) (d' : HasA
   old_touched : (base : ℕ) (o : Object) (i : IsOld s s' W base o) → Closure s T base → T o.birth
   old_touched base o i c = subst T (sym i.same.birth) (shut i.was.birth (base, i.was, i.there, refl, c))
 
-  old_reads : (w base : ℕ) (o : Object) (i : IsOld s s' W base o) → ReadsObject s' w base o → ReadsObject s w base i.was
-  old_reads w base o i reads = (i.there, subst (λ n. Reads w base n) i.same.size reads.1)
+  old_reads : (w base : ℕ) (o : Object) (i : IsOld s s' W base o) → PointsIntoObject s' w base o → PointsIntoObject s w base i.was
+  old_reads w base o i reads = (i.there, subst (λ n. PointsInto w base n) i.same.size reads.1)
 
-  rooted : (w base : ℕ) (o : Object) → Contains (root_words s') w → ReadsObject s' w base o → IsTouchedMore T s s' W base o
+  rooted : (w base : ℕ) (o : Object) → Contains (root_words s') w → PointsIntoObject s' w base o → IsTouchedMore T s s' W base o
   rooted w base o among reads = ⊎_elim
       (λ old. ⊎_elim (λ i. inl (old_touched base o i (root old (old_reads w base o i reads)))) (λ n. inr (inl n.born)) (g.objects base o reads.0))
       (λ rest. ⊎_elim (λ m. inr (inr (w, m, first reads))) (λ none. absurd (none base o reads)) rest)
       (g.roots w among)
 
   -- a word of a touched object that was there
-  linked : (from w base : ℕ) (p o : Object) (i : IsOld s s' W from p) → T p.birth → p.kind ≡ Normal → Contains p.words w → ReadsObject s' w base o → IsTouchedMore T s s' W base o
+  linked : (from w base : ℕ) (p o : Object) (i : IsOld s s' W from p) → T p.birth → p.kind ≡ Normal → Contains p.words w → PointsIntoObject s' w base o → IsTouchedMore T s s' W base o
   linked from w base p o i t normal among reads = ⊎_elim
       (λ old. ⊎_elim
       (λ j. inl (old_touched base o j (word (given i.there (subst T i.same.birth t)) i.there (sym i.same.kind ∙ normal) old (old_reads w base o j reads))))
@@ -56,7 +56,7 @@ module _ (s s' : Heap) (T W : ℕ → Type 0) (d : HasApartObjects s) (d' : HasA
       (λ rest. ⊎_elim (λ m. inr (inr (w, m, first reads))) (λ none. absurd (none base o reads)) rest)
       (i.words w among)
 
-  led : (from w base : ℕ) (p o : Object) → IsTouchedMore T s s' W from p → HasObject s' from p → p.kind ≡ Normal → Contains p.words w → ReadsObject s' w base o → IsTouchedMore T s s' W base o
+  led : (from w base : ℕ) (p o : Object) → IsTouchedMore T s s' W from p → HasObject s' from p → p.kind ≡ Normal → Contains p.words w → PointsIntoObject s' w base o → IsTouchedMore T s s' W base o
   led from w base p o more has normal among reads = ⊎_elim
       (λ i. ⊎_elim
       (λ t. linked from w base p o i t normal among reads)
@@ -98,7 +98,7 @@ module _ (s s' : Heap) (T W : ℕ → Type 0) (d : HasApartObjects s) (d' : HasA
 
   -- a root word of the heap before leads to what was touched, or is new
   module _ (known : (v : ℕ) → W v → Contains (root_words s) v) where
-    at_root : (v base : ℕ) (o : Object) → W v → ReadsObject s' v base o → T o.birth ⊎ IsBornSince s o.birth
+    at_root : (v base : ℕ) (o : Object) → W v → PointsIntoObject s' v base o → T o.birth ⊎ IsBornSince s o.birth
     at_root v base o m reads = ⊎_elim (λ i. inl (old_touched base o i (root (known v m) (old_reads v base o i reads)))) (λ n. inr n.born) (g.objects base o reads.0)
 
     led_known : (w : ℕ) → W w → {base : ℕ} → LedTo s' w base → (p : Object) → HasObject s' base p → T p.birth ⊎ IsBornSince s p.birth
@@ -126,7 +126,7 @@ module _ (s s' : Heap) (T W : ℕ → Type 0) (d : HasApartObjects s) (d' : HasA
   module _ (F F' : ℕ → Type 0) (tell : (base : ℕ) (o : Object) → HasObject s base o → F base ↔ T o.birth)
       (only : (base : ℕ) (o : Object) → HasObject s' base o → F' base → F base ⊎ ((w : ℕ) × W w × LedTo s' w base))
       (keeps : (base : ℕ) → F base → F' base)
-      (adds : (w : ℕ) → W w → ((at : ℕ) (o : Object) → ReadsObject s' w at o → F at → (base : ℕ) → LedTo s' w base → F base) → (base : ℕ) → LedTo s' w base → F' base)
+      (adds : (w : ℕ) → W w → ((at : ℕ) (o : Object) → PointsIntoObject s' w at o → F at → (base : ℕ) → LedTo s' w base → F base) → (base : ℕ) → LedTo s' w base → F' base)
       (one : (v w : ℕ) → W v → W w → v ≡ w) where
     flag_old : (base : ℕ) (o : Object) (i : IsOld s s' W base o) → F base → T o.birth
     flag_old base o i f = subst T (sym i.same.birth) ((tell base i.was i.there).0 f)
@@ -135,7 +135,7 @@ module _ (s s' : Heap) (T W : ℕ → Type 0) (d : HasApartObjects s) (d' : HasA
     old_flag base o i t = (tell base i.was i.there).1 (subst T i.same.birth t)
 
     -- where what a word points into has its flag, what it leads to has
-    all_led : (w : ℕ) → W w → (at : ℕ) (a : Object) → ReadsObject s' w at a → F at → {base : ℕ} → LedTo s' w base → F base
+    all_led : (w : ℕ) → W w → (at : ℕ) (a : Object) → PointsIntoObject s' w at a → F at → {base : ℕ} → LedTo s' w base → F base
     all_led w m at a here f (first {base = base} {o = o} reads) = subst F (d'.one w at base a o here reads) f
     all_led w m at a here f (next {from = from} {v = v} {base = base} {p = p} {o = o} l has normal among reads) = ⊎_elim
         (λ i. ⊎_elim
@@ -148,8 +148,8 @@ module _ (s s' : Heap) (T W : ℕ → Type 0) (d : HasApartObjects s) (d' : HasA
         (λ n. absurd (n.words v among base o reads))
         (g.objects from p has)
       where
-        itself : (v : ℕ) → W v → ReadsObject s' v base o → F base
-        itself v n reads = subst F (d'.one w at base a o here (subst (λ k. ReadsObject s' k base o) (one v w n m) reads)) f
+        itself : (v : ℕ) → W v → PointsIntoObject s' v base o → F base
+        itself v n reads = subst F (d'.one w at base a o here (subst (λ k. PointsIntoObject s' k base o) (one v w n m) reads)) f
 
     pub flags_tell : (base : ℕ) (o : Object) → HasObject s' base o → F' base ↔ IsInClosure s' After o.birth
     flags_tell base o has = (
@@ -247,13 +247,13 @@ no_newborn : (s : Heap) → HasApartObjects s → (w : ℕ) → HasNewborn s s w
 no_newborn s d w x = let few = d.born w x.0 x.1 in let more = x.2 in omega arith
 
 -- a granted request makes one object
-newborn_at : (s : Heap) → HasApartObjects s → (slot : ℕ) (m : HeapMutator) (d a : ℕ) (kind : Kind) (place : Placement) (k : ℕ) → HasNewborn s (with_register (with_new s a kind place) slot m d a) k → k ≡ a
-newborn_at s apart slot m d a kind place k z =
+newborn_at : (s : Heap) → HasApartObjects s → (slot : ℕ) (m : HeapMutator) (d a : ℕ) (kind : Kind) (placement : Placement) (k : ℕ) → HasNewborn s (with_register (with_new s a kind placement) slot m d a) k → k ≡ a
+newborn_at s apart slot m d a kind placement k z =
     ⊎_elim (λ here. here.0) (λ other. let few = apart.born k z.0 other.1 in let more = z.2 in absurd (omega arith)) (at_cases s.objects a _ k _ z.1)
 
 acts_newborn : (s : Heap) → HasApartObjects s → (slot : ℕ) (m : HeapMutator) {d n : ℕ} {kind : Kind} {reply : Reply} {s' : Heap} → Acts s slot m (Alloc d n kind) reply s'
     → (v w : ℕ) → HasNewborn s s' v → HasNewborn s s' w → v ≡ w
-acts_newborn s apart slot m (Acts.allocated {d = d} {kind = kind} {place = place} a e room) v w x y = newborn_at s apart slot m d a kind place v x ∙ sym (newborn_at s apart slot m d a kind place w y)
+acts_newborn s apart slot m (Acts.allocated {d = d} {kind = kind} {placement = placement} a e room) v w x y = newborn_at s apart slot m d a kind placement v x ∙ sym (newborn_at s apart slot m d a kind placement w y)
 acts_newborn s apart slot m (Acts.bad_size e) v w x y = absurd (no_newborn s apart v x)
 acts_newborn s apart slot m (Acts.full e none) v w x y = absurd (no_newborn s apart v x)
 

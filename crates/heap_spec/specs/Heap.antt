@@ -3,7 +3,7 @@ use Rattle.std.specs.Prelude.{◌≡◌, ℕ, ◌+◌, ◌*◌, ◌==◌, nat_le
 use Rattle.std.specs.List.{list_any}
 use Rattle.words.specs.declared.class.Kind.{Kind}
 use Rattle.words.specs.declared.limits.TheConstants.{SLOTS, GLOBALS, WORD_BYTES}
-use Rattle.heap_spec.specs.Layout.{Reads}
+use Rattle.heap_spec.specs.Layout.{PointsInto}
 
 -- An object: which allocation made it, whether the collector reads its words, and its words.
 pub record Object : Type 0 where
@@ -54,21 +54,21 @@ abbrev pub IsVacant : Heap → ℕ → Type 0
 IsVacant s slot = slice_get s.mutators slot ≡ Some None
 
 -- a word points into the object with this base
-abbrev pub ReadsObject : Heap → ℕ → ℕ → Object → Type 0
-ReadsObject s w base o = HasObject s base o × Reads w base (length o.words)
+abbrev pub PointsIntoObject : Heap → ℕ → ℕ → Object → Type 0
+PointsIntoObject s w base o = HasObject s base o × PointsInto w base (length o.words)
 
 -- a word points into no object
-abbrev pub ReadsNothing : Heap → ℕ → Type 0
-ReadsNothing s w = (base : ℕ) (o : Object) → ReadsObject s w base o → ⊥
+abbrev pub PointsIntoNothing : Heap → ℕ → Type 0
+PointsIntoNothing s w = (base : ℕ) (o : Object) → PointsIntoObject s w base o → ⊥
 
 -- the words of a slot: the registers, and then the stack from the bottom
-abbrev pub words_of : Option Mutator → List ℕ
-words_of None = []
-words_of (Some m) = m.registers ++ m.stack
+abbrev pub words_of_slot : Option Mutator → List ℕ
+words_of_slot None = []
+words_of_slot (Some m) = m.registers ++ m.stack
 
 -- The root words in their order: those of the attached slots, ascending, and then the globals.
 abbrev pub root_words : Heap → List ℕ
-root_words s = flat_map words_of s.mutators ++ s.globals
+root_words s = flat_map words_of_slot s.mutators ++ s.globals
 
 -- the objects with this at the base, and as before at any other
 abbrev pub with_at : {A : Type 0} → (ℕ → Option A) → ℕ → Option A → ℕ → Option A

@@ -5,7 +5,7 @@ use Rattle.heap_spec.specs.declared.event.Event.TheVariants.{Attach, Mutator, Be
 use Rattle.heap_spec.specs.declared.reply.Reply.{Reply}
 use Rattle.heap_spec.specs.Heap.{Heap}
 use Rattle.heap_spec.specs.Steps.{Step}
-use Rattle.heap_spec.specs.Runs.{Told, Run, Start, Touched, fresh, heap_after, is_marking, needs_full}
+use Rattle.heap_spec.specs.Runs.{Told, Run, Start, Touched, opening_start, heap_after, is_marking, needs_full}
 use Rattle.heap_spec.specs.Cycles.{Begins, Forgets, CollectsFully}
 
 -- What may happen next in a run: an event, its reply and the heap after it. A cycle begins only while none is marking, with
@@ -31,4 +31,4 @@ IsRun start (m ∷ run) = Happens start run m.told.event m.told.reply m.heap × 
 
 -- A history, the newest event first, is legal if it is what some run of a new heap tells.
 abbrev pub LegalHistory : ℕ → List Told → Type 0
-LegalHistory pages history = (run : Run) × IsRun (fresh pages) run × (map (λ m. m.told) run ≡ history)
+LegalHistory pages history = (run : Run) × IsRun (opening_start pages) run × (map (λ m. m.told) run ≡ history)

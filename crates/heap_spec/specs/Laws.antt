@@ -9,10 +9,10 @@ use Rattle.heap_spec.specs.declared.event.Event.{Event}
 use Rattle.heap_spec.specs.declared.event.Event.TheVariants.{Finish, Collect}
 use Rattle.heap_spec.specs.declared.reply.Reply.{Reply}
 use Rattle.heap_spec.specs.declared.reply.Reply.TheVariants.{Done, Word, Refused}
-use Rattle.heap_spec.specs.Heap.{Heap, Object, Mutator, Link, IsSameObject, HasObject, ReadsObject, IsAttached, root_words}
+use Rattle.heap_spec.specs.Heap.{Heap, Object, Mutator, Link, IsSameObject, HasObject, PointsIntoObject, IsAttached, root_words}
 use Rattle.heap_spec.specs.Closure.{Closure, Reached, IsInClosure}
 use Rattle.heap_spec.specs.Steps.{Calls, Step, register}
-use Rattle.heap_spec.specs.Runs.{Start, Run, fresh, heap_after, IsBornSince, Touched}
+use Rattle.heap_spec.specs.Runs.{Start, Run, opening_start, heap_after, IsBornSince, Touched}
 use Rattle.heap_spec.specs.Histories.{Happens, IsRun}
 use Rattle.heap_spec.specs.Ranges.{InRange}
 use Rattle.heap_spec.specs.Sound.{IsSound, HaveDistinctBirths, LieInHeap}
@@ -25,8 +25,8 @@ IsIn set n = set n ≡ true
 -- and with a Normal object those that its words point into.
 pub record KeepsRules (s : Heap) (births bases : ℕ → Type 0) : Type 0 where
   pub given : (base : ℕ) (o : Object) → HasObject s base o → births o.birth → bases base
-  pub root : (w base : ℕ) (o : Object) → Contains (root_words s) w → ReadsObject s w base o → bases base
-  pub word : (from w base : ℕ) (p o : Object) → bases from → HasObject s from p → p.kind ≡ Normal → Contains p.words w → ReadsObject s w base o → bases base
+  pub root : (w base : ℕ) (o : Object) → Contains (root_words s) w → PointsIntoObject s w base o → bases base
+  pub word : (from w base : ℕ) (p o : Object) → bases from → HasObject s from p → p.kind ≡ Normal → Contains p.words w → PointsIntoObject s w base o → bases base
 
 -- The closure of some births is a set that the rules keep, and lies in each such set.
 pub record ClosureIsLeast : Type 0 where
@@ -44,15 +44,15 @@ ClosureIsIdempotent = (s : Heap) (births : ℕ → Bool) → HaveDistinctBirths 
     → (birth : ℕ) → IsInClosure s (IsInClosure s (IsIn births)) birth ↔ IsInClosure s (IsIn births) birth
 
 -- A run of a new heap of so many pages, all of whose events are in range.
-pub record IsFreshRun (pages : ℕ) (run : Run) : Type 0 where
+pub record IsRunFromOpening (pages : ℕ) (run : Run) : Type 0 where
   pub some_page : 1 ≤ pages
   pub few_pages : pages ≤ MAX_PAGES
   pub in_range : All (λ m. InRange m.told.event) run
-  pub is_run : IsRun (fresh pages) run
+  pub is_run : IsRun (opening_start pages) run
 
 -- the heap is sound after every run
 abbrev pub RunsAreSound : Type 0
-RunsAreSound = (pages : ℕ) (run : Run) → IsFreshRun pages run → IsSound (heap_after (fresh pages) run)
+RunsAreSound = (pages : ℕ) (run : Run) → IsRunFromOpening pages run → IsSound (heap_after (opening_start pages) run)
 
 -- whatever happens next leaves a sound heap sound
 abbrev pub HappensKeepsSound : Type 0
@@ -63,18 +63,18 @@ abbrev pub ObjectsLieInHeap : Type 0
 ObjectsLieInHeap = (s : Heap) → IsSound s → (base : ℕ) (o : Object) → HasObject s base o → LieInHeap s.pages base (length o.words)
 
 -- a word points into at most one object of a sound heap
-abbrev pub ReadsAtMostOne : Type 0
-ReadsAtMostOne = (s : Heap) → IsSound s → (w a b : ℕ) (o p : Object) → ReadsObject s w a o → ReadsObject s w b p → a ≡ b
+abbrev pub PointsIntoAtMostOne : Type 0
+PointsIntoAtMostOne = (s : Heap) → IsSound s → (w a b : ℕ) (o p : Object) → PointsIntoObject s w a o → PointsIntoObject s w b p → a ≡ b
 
 -- the touched births are closed at every moment
 abbrev pub TouchedIsClosed : Type 0
-TouchedIsClosed = (pages : ℕ) (run : Run) → IsFreshRun pages run
-    → (birth : ℕ) → IsInClosure (heap_after (fresh pages) run) (Touched (fresh pages) run) birth → Touched (fresh pages) run birth
+TouchedIsClosed = (pages : ℕ) (run : Run) → IsRunFromOpening pages run
+    → (birth : ℕ) → IsInClosure (heap_after (opening_start pages) run) (Touched (opening_start pages) run) birth → Touched (opening_start pages) run birth
 
 -- at every moment each reached object is touched
 abbrev pub TouchedHoldsReached : Type 0
 TouchedHoldsReached = (pages : ℕ) (run : Run)
-    → (base : ℕ) (o : Object) → HasObject (heap_after (fresh pages) run) base o → Reached (heap_after (fresh pages) run) base → Touched (fresh pages) run o.birth
+    → (base : ℕ) (o : Object) → HasObject (heap_after (opening_start pages) run) base o → Reached (heap_after (opening_start pages) run) base → Touched (opening_start pages) run o.birth
 
 -- A link stood at the address, to an object that is not reached.
 pub record HadLink (s : Heap) (a : ℕ) : Type 0 where
@@ -136,7 +136,7 @@ IsNoAlloc _ = Unit {0}
 
 -- No word points into two objects, and each object has words, as in every sound heap.
 pub record IsLegible (s : Heap) : Type 0 where
-  pub one : (w a b : ℕ) (o p : Object) → ReadsObject s w a o → ReadsObject s w b p → a ≡ b
+  pub one : (w a b : ℕ) (o p : Object) → PointsIntoObject s w a o → PointsIntoObject s w b p → a ≡ b
   pub some : (base : ℕ) (o : Object) → HasObject s base o → 0 < length o.words
 
 -- A call has one reply, and one heap after it too, but for the place that an allocation takes.

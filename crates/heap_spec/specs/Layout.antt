@@ -12,8 +12,8 @@ abbrev pub heap_end : ℕ → ℕ
 heap_end pages = page_start pages
 
 -- A word points into what lies at a base and is so many words long: it is the address of one of its bytes, aligned or not.
-abbrev pub Reads : ℕ → ℕ → ℕ → Type 0
-Reads w base len = (base ≤ w) × (w < base + WORD_BYTES * len)
+abbrev pub PointsInto : ℕ → ℕ → ℕ → Type 0
+PointsInto w base len = (base ≤ w) × (w < base + WORD_BYTES * len)
 
 -- which of the words from a base on an address is that of
 abbrev pub index_in : ℕ → ℕ → ℕ

@@ -29,8 +29,8 @@ pub record Start : Type 0 where
   pub old_births : ℕ
 
 -- the start of a new heap of so many pages
-abbrev pub fresh : ℕ → Start
-fresh pages = record { heap = opening pages; marking = false; count = 0; needs_full = true; old_births = 0 }
+abbrev pub opening_start : ℕ → Start
+opening_start pages = record { heap = opening pages; marking = false; count = 0; needs_full = true; old_births = 0 }
 
 -- A run is its moments, the newest first.
 abbrev pub Run : Type 0

@@ -6,7 +6,7 @@ use Rattle.heap_spec.specs.declared.event.Event.TheVariants.{Attach, Mutator, Be
 use Rattle.heap_spec.specs.declared.reply.Reply.{Reply}
 use Rattle.heap_spec.specs.Heap.{Heap, Mutator as HeapMutator, IsAttached}
 use Rattle.heap_spec.specs.Steps.{IsLowestVacant}
-use Rattle.heap_spec.specs.Runs.{Run, fresh, heap_after, goes_on}
+use Rattle.heap_spec.specs.Runs.{Run, opening_start, heap_after, goes_on}
 use Rattle.heap_spec.specs.Histories.{Happens}
 use Rattle.heap_spec.specs.Ranges.{InRange}
 
@@ -24,7 +24,7 @@ pub record Opens (pages : ℕ) (state : HeapState) : Type 0 where
 
 -- the heap of a state
 abbrev pub heap_of : HeapState → Heap
-heap_of state = heap_after (fresh state.pages) state.run
+heap_of state = heap_after (opening_start state.pages) state.run
 
 -- The slot is the caller's own, and a mutator is attached there.
 pub record IsCaller (s : Heap) (who slot : ℕ) : Type 0 where
@@ -53,5 +53,5 @@ pub record StateStep (state : HeapState) (who : ℕ) (event : Event) (reply : Re
   pub fits : MayMake (heap_of state) who event
   pub in_range : InRange event
   pub heap : Heap
-  pub happens : Happens (fresh state.pages) state.run event reply heap
+  pub happens : Happens (opening_start state.pages) state.run event reply heap
   pub goes : next ≡ record { pages = state.pages; run = goes_on state.run event reply heap }

@@ -5,7 +5,7 @@ use Rattle.words.specs.declared.class.Kind.TheVariants.{PointerFree}
 use Rattle.words.specs.Classes.{IsSizeClass}
 use Rattle.words.specs.Layout.{page_start}
 use Rattle.heap_spec.specs.Layout.{heap_end}
-use Rattle.heap_spec.specs.Heap.{Heap, Object, Mutator, Link, HasObject, ReadsObject}
+use Rattle.heap_spec.specs.Heap.{Heap, Object, Mutator, Link, HasObject, PointsIntoObject}
 use Rattle.heap_spec.specs.Ranges.{IsWord}
 
 -- so many words
@@ -60,7 +60,7 @@ pub record IsLink (s : Heap) (l : Link) : Type 0 where
   pub aligned : l.address % WORD_BYTES ≡ 0
   pub base : ℕ
   pub holder : Object
-  pub in_holder : ReadsObject s l.address base holder
+  pub in_holder : PointsIntoObject s l.address base holder
   pub kind : holder.kind ≡ PointerFree
   pub named : ℕ
   pub object : Object

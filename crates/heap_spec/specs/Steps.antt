@@ -14,7 +14,7 @@ use Rattle.heap_spec.specs.declared.event.Event.TheVariants.{Attach, Mutator, Be
 use Rattle.heap_spec.specs.declared.reply.Reply.{Reply}
 use Rattle.heap_spec.specs.declared.reply.Reply.TheVariants.{Slot, Done, Word, Count, Refused}
 use Rattle.heap_spec.specs.Layout.{word_end, index_in}
-use Rattle.heap_spec.specs.Heap.{Heap, Object, Link as HeapLink, Mutator as HeapMutator, HasObject, IsAttached, IsVacant, ReadsObject, ReadsNothing, with_at, without}
+use Rattle.heap_spec.specs.Heap.{Heap, Object, Link as HeapLink, Mutator as HeapMutator, HasObject, IsAttached, IsVacant, PointsIntoObject, PointsIntoNothing, with_at, without}
 use Rattle.heap_spec.specs.Room.{HasRoom, length_of}
 
 -- A mutator comes with registers of 0 and an empty stack.
@@ -35,8 +35,8 @@ with_object s base o = record s { objects = with_at s.objects base o }
 
 -- the heap with one object more, the next to be born, whose words are 0
 abbrev pub with_new : Heap → ℕ → Kind → Placement → Heap
-with_new s base kind place =
-    record (with_object s base (Some (record { birth = s.births + 1; kind = kind; words = replicate (length_of place) 0 }))) { births = s.births + 1 }
+with_new s base kind placement =
+    record (with_object s base (Some (record { birth = s.births + 1; kind = kind; words = replicate (length_of placement) 0 }))) { births = s.births + 1 }
 
 -- whether a link stands at the address
 abbrev pub has_link : Heap → ℕ → Bool
@@ -95,43 +95,43 @@ pub data Acts (s : Heap) (slot : ℕ) (m : HeapMutator) : Call → Reply → Hea
   popped : {r w : ℕ} (rest : List ℕ) → m.stack ≡ rest ++ w ∷ [] → Acts s slot m (Pop r) (Word w) (with_register s slot (record m { stack = rest }) r w)
   -- a word of an object
   load_misaligned : {d a n : ℕ} → address m a n % WORD_BYTES ≢ 0 → Acts s slot m (Load d a n) (Refused Misaligned) s
-  load_nothing : {d a n : ℕ} → address m a n % WORD_BYTES ≡ 0 → ReadsNothing s (address m a n) → Acts s slot m (Load d a n) (Refused NoObject) s
-  loaded : {d a n base : ℕ} {o : Object} → address m a n % WORD_BYTES ≡ 0 → ReadsObject s (address m a n) base o
+  load_nothing : {d a n : ℕ} → address m a n % WORD_BYTES ≡ 0 → PointsIntoNothing s (address m a n) → Acts s slot m (Load d a n) (Refused NoObject) s
+  loaded : {d a n base : ℕ} {o : Object} → address m a n % WORD_BYTES ≡ 0 → PointsIntoObject s (address m a n) base o
       → Acts s slot m (Load d a n) (Word (slice_index o.words (index_in base (address m a n))))
       (with_register s slot m d (slice_index o.words (index_in base (address m a n))))
   store_misaligned : {a n r : ℕ} → address m a n % WORD_BYTES ≢ 0 → Acts s slot m (Store a n r) (Refused Misaligned) s
-  store_nothing : {a n r : ℕ} → address m a n % WORD_BYTES ≡ 0 → ReadsNothing s (address m a n) → Acts s slot m (Store a n r) (Refused NoObject) s
-  stored : {a n r base : ℕ} {o : Object} → address m a n % WORD_BYTES ≡ 0 → ReadsObject s (address m a n) base o
+  store_nothing : {a n r : ℕ} → address m a n % WORD_BYTES ≡ 0 → PointsIntoNothing s (address m a n) → Acts s slot m (Store a n r) (Refused NoObject) s
+  stored : {a n r base : ℕ} {o : Object} → address m a n % WORD_BYTES ≡ 0 → PointsIntoObject s (address m a n) base o
       → Acts s slot m (Store a n r) Done
       (with_object s base (Some (record o { words = slice_set o.words (index_in base (address m a n)) (register m r) })))
   -- objects
   bad_size : {d n : ℕ} {kind : Kind} → placement_of n ≡ None → Acts s slot m (Alloc d n kind) (Refused BadSize) s
-  full : {d n : ℕ} {kind : Kind} {place : Placement} → placement_of n ≡ Some place → ((a : ℕ) → HasRoom s place kind a → ⊥)
+  full : {d n : ℕ} {kind : Kind} {placement : Placement} → placement_of n ≡ Some placement → ((a : ℕ) → HasRoom s placement kind a → ⊥)
       → Acts s slot m (Alloc d n kind) (Refused Full) s
-  allocated : {d n : ℕ} {kind : Kind} {place : Placement} (a : ℕ) → placement_of n ≡ Some place → HasRoom s place kind a
-      → Acts s slot m (Alloc d n kind) Done (with_register (with_new s a kind place) slot m d a)
-  free_nothing : {r : ℕ} → ReadsNothing s (register m r) → Acts s slot m (Free r) (Refused NoObject) s
-  free_inside : {r base : ℕ} {o : Object} → ReadsObject s (register m r) base o → base ≢ register m r → Acts s slot m (Free r) (Refused NotBase) s
+  allocated : {d n : ℕ} {kind : Kind} {placement : Placement} (a : ℕ) → placement_of n ≡ Some placement → HasRoom s placement kind a
+      → Acts s slot m (Alloc d n kind) Done (with_register (with_new s a kind placement) slot m d a)
+  free_nothing : {r : ℕ} → PointsIntoNothing s (register m r) → Acts s slot m (Free r) (Refused NoObject) s
+  free_inside : {r base : ℕ} {o : Object} → PointsIntoObject s (register m r) base o → base ≢ register m r → Acts s slot m (Free r) (Refused NotBase) s
   freed : {r : ℕ} {o : Object} → HasObject s (register m r) o → Acts s slot m (Free r) Done (without s (register m r ∷ []))
   -- what a word points into
-  base_nothing : {d a : ℕ} → ReadsNothing s (register m a) → Acts s slot m (Base d a) (Refused NoObject) s
-  based : {d a base : ℕ} {o : Object} → ReadsObject s (register m a) base o → Acts s slot m (Base d a) (Word base) (with_register s slot m d base)
-  size_nothing : {r : ℕ} → ReadsNothing s (register m r) → Acts s slot m (Size r) (Refused NoObject) s
-  sized : {r base : ℕ} {o : Object} → ReadsObject s (register m r) base o → Acts s slot m (Size r) (Count (length o.words)) s
+  base_nothing : {d a : ℕ} → PointsIntoNothing s (register m a) → Acts s slot m (Base d a) (Refused NoObject) s
+  based : {d a base : ℕ} {o : Object} → PointsIntoObject s (register m a) base o → Acts s slot m (Base d a) (Word base) (with_register s slot m d base)
+  size_nothing : {r : ℕ} → PointsIntoNothing s (register m r) → Acts s slot m (Size r) (Refused NoObject) s
+  sized : {r base : ℕ} {o : Object} → PointsIntoObject s (register m r) base o → Acts s slot m (Size r) (Count (length o.words)) s
   -- globals
   global_got : {d g : ℕ} → Acts s slot m (GlobalGet d g) (Word (slice_index s.globals g)) (with_register s slot m d (slice_index s.globals g))
   global_put : {g r : ℕ} → Acts s slot m (GlobalPut g r) Done (record s { globals = slice_set s.globals g (register m r) })
   -- links
   link_misaligned : {a n r : ℕ} → address m a n % WORD_BYTES ≢ 0 → Acts s slot m (Link a n r) (Refused Misaligned) s
-  link_nowhere : {a n r : ℕ} → address m a n % WORD_BYTES ≡ 0 → ReadsNothing s (address m a n) → Acts s slot m (Link a n r) (Refused NoObject) s
-  link_in_normal : {a n r base : ℕ} {o : Object} → address m a n % WORD_BYTES ≡ 0 → ReadsObject s (address m a n) base o → o.kind ≡ Normal
+  link_nowhere : {a n r : ℕ} → address m a n % WORD_BYTES ≡ 0 → PointsIntoNothing s (address m a n) → Acts s slot m (Link a n r) (Refused NoObject) s
+  link_in_normal : {a n r base : ℕ} {o : Object} → address m a n % WORD_BYTES ≡ 0 → PointsIntoObject s (address m a n) base o → o.kind ≡ Normal
       → Acts s slot m (Link a n r) (Refused NotPointerFree) s
-  link_to_nothing : {a n r base : ℕ} {o : Object} → address m a n % WORD_BYTES ≡ 0 → ReadsObject s (address m a n) base o → o.kind ≡ PointerFree
-      → ReadsNothing s (register m r) → Acts s slot m (Link a n r) (Refused NoObject) s
-  links_full : {a n r base named : ℕ} {o p : Object} → address m a n % WORD_BYTES ≡ 0 → ReadsObject s (address m a n) base o → o.kind ≡ PointerFree
-      → ReadsObject s (register m r) named p → MAX_LINKS ≤ length s.links → has_link s (address m a n) ≡ false → Acts s slot m (Link a n r) (Refused LinksFull) s
-  linked : {a n r base named : ℕ} {o p : Object} → address m a n % WORD_BYTES ≡ 0 → ReadsObject s (address m a n) base o → o.kind ≡ PointerFree
-      → ReadsObject s (register m r) named p → HasLinkRoom s (address m a n) → Acts s slot m (Link a n r) Done (with_link s (address m a n) p.birth)
+  link_to_nothing : {a n r base : ℕ} {o : Object} → address m a n % WORD_BYTES ≡ 0 → PointsIntoObject s (address m a n) base o → o.kind ≡ PointerFree
+      → PointsIntoNothing s (register m r) → Acts s slot m (Link a n r) (Refused NoObject) s
+  links_full : {a n r base named : ℕ} {o p : Object} → address m a n % WORD_BYTES ≡ 0 → PointsIntoObject s (address m a n) base o → o.kind ≡ PointerFree
+      → PointsIntoObject s (register m r) named p → MAX_LINKS ≤ length s.links → has_link s (address m a n) ≡ false → Acts s slot m (Link a n r) (Refused LinksFull) s
+  linked : {a n r base named : ℕ} {o p : Object} → address m a n % WORD_BYTES ≡ 0 → PointsIntoObject s (address m a n) base o → o.kind ≡ PointerFree
+      → PointsIntoObject s (register m r) named p → HasLinkRoom s (address m a n) → Acts s slot m (Link a n r) Done (with_link s (address m a n) p.birth)
   unlinked : {a n : ℕ} → Acts s slot m (Unlink a n) (Count (if has_link s (address m a n) then 1 else 0)) (without_link s (address m a n))
 
 -- A call for a slot: the attached mutator's, and refused exactly if the slot is vacant.

@@ -5,7 +5,7 @@ use Rattle.heap_spec.specs.declared.call.Call.{Call}
 use Rattle.heap_spec.specs.declared.call.Call.TheVariants.{Detach, Set, Copy, Add, Sub, Get, Push, Pop, Load, Store, Alloc, Free, Base, Size, GlobalGet, GlobalPut, Link, Unlink}
 use Rattle.heap_spec.specs.declared.event.Event.TheVariants.{Attach, Mutator}
 use Rattle.heap_spec.specs.declared.reply.Reply.{Reply}
-use Rattle.heap_spec.specs.Heap.{Heap, Object, Mutator as HeapMutator, HasObject, IsAttached, ReadsObject, ReadsNothing, root_words}
+use Rattle.heap_spec.specs.Heap.{Heap, Object, Mutator as HeapMutator, HasObject, IsAttached, PointsIntoObject, PointsIntoNothing, root_words}
 use Rattle.heap_spec.specs.Steps.{Attaches, Calls, register}
 use Rattle.heap_spec.specs.Runs.{Start, Run, Touched, IsBornSince, heap_after, is_marking, goes_on}
 use Rattle.heap_spec.specs.Histories.{Happens}
@@ -14,8 +14,8 @@ use Rattle.heap_spec.specs.Sound.{IsSound, HaveDistinctBirths}
 
 -- The objects that a word leads to: the one that it points into, and with each Normal one those that its words point into.
 pub data LedTo (s : Heap) (w : ℕ) : ℕ → Type 0 where
-  first : {base : ℕ} {o : Object} → ReadsObject s w base o → LedTo s w base
-  next : {from v base : ℕ} {p o : Object} → LedTo s w from → HasObject s from p → p.kind ≡ Normal → Contains p.words v → ReadsObject s v base o → LedTo s w base
+  first : {base : ℕ} {o : Object} → PointsIntoObject s w base o → LedTo s w base
+  next : {from v base : ℕ} {p o : Object} → LedTo s w from → HasObject s from p → p.kind ≡ Normal → Contains p.words v → PointsIntoObject s v base o → LedTo s w base
 
 -- the word stands in the register of the slot
 abbrev pub StandsIn : Heap → ℕ → ℕ → ℕ → Type 0
@@ -54,8 +54,8 @@ pub record HasApartObjects (s : Heap) : Type 0 where
   pub births : HaveDistinctBirths s.objects
   pub born : (base : ℕ) (o : Object) → HasObject s base o → o.birth ≤ s.births
   pub some : (base : ℕ) (o : Object) → HasObject s base o → 0 < length o.words
-  pub one : (w a b : ℕ) (o p : Object) → ReadsObject s w a o → ReadsObject s w b p → a ≡ b
-  pub zero : ReadsNothing s 0
+  pub one : (w a b : ℕ) (o p : Object) → PointsIntoObject s w a o → PointsIntoObject s w b p → a ≡ b
+  pub zero : PointsIntoNothing s 0
 
 -- The object at the base was touched, or is new, or one of the words leads to it.
 abbrev pub IsTouchedMore : (ℕ → Type 0) → Heap → Heap → (ℕ → Type 0) → ℕ → Object → Type 0

@@ -1,6 +1,6 @@
 //! The laws of the sequential heap. Each is a function that does nothing, and its contract is the law: what the
 //! definitions in `specs/` say must be right if these hold.
-ghost use Rattle.heap_spec.specs.Laws.{ClosureIsLeast, ClosureIsMonotone, ClosureIsIdempotent, RunsAreSound, HappensKeepsSound, ObjectsLieInHeap, ReadsAtMostOne, TouchedIsClosed, TouchedHoldsReached, FinishKeepsReached, CollectKeepsReached, StepBirths, LoadAnswersStored, RefusedChangesNothing, CallsHaveOneOutcome};
+ghost use Rattle.heap_spec.specs.Laws.{ClosureIsLeast, ClosureIsMonotone, ClosureIsIdempotent, RunsAreSound, HappensKeepsSound, ObjectsLieInHeap, PointsIntoAtMostOne, TouchedIsClosed, TouchedHoldsReached, FinishKeepsReached, CollectKeepsReached, StepBirths, LoadAnswersStored, RefusedChangesNothing, CallsHaveOneOutcome};
 ghost use Rattle.heap_spec.specs.PartialCycles.{UntouchedAreYoung};
 ghost use Rattle.heap_spec.specs.Touching.{CallTouches, AttachTouches, RootTouchesNothing, StoreTouchesNothing, SoundObjectsAreApart};
 
@@ -35,8 +35,8 @@ pub fn objects_lie_in_heap()
 {}
 
 /// A word points into at most one object.
-pub fn reads_at_most_one()
-    ensures { ReadsAtMostOne }
+pub fn points_into_at_most_one()
+    ensures { PointsIntoAtMostOne }
 {}
 
 /// What is touched is closed.

@@ -6,7 +6,7 @@ use Rattle.std.proofs.lemmas.List.{get_or_default}
 use Rattle.pages.specs.Memory.{word_at}
 use Rattle.block_map.specs.declared.found.Found.{Found}
 use Rattle.block_map.specs.Objects.{IsMap}
-use Rattle.heap_spec.specs.Heap.{Heap, Object, HasObject, ReadsObject, root_words}
+use Rattle.heap_spec.specs.Heap.{Heap, Object, HasObject, PointsIntoObject, root_words}
 use Rattle.heap_spec.specs.Sound.{HaveDistinctBirths}
 use Rattle.heap_spec.specs.Closure as heap
 use Rattle.marker.specs.Marking.{Marking, IsMarked, word_address}
@@ -17,7 +17,7 @@ use Rattle.heap_view.proofs.Shows.{reads_object, seen, word_shown}
 
 module _ (pages : ℕ) (s : Heap) (found : ℕ → Option Found) (words : List ℕ) (map : IsMap pages found) (shows : ShowsObjects found words s.objects) (births : ℕ → Type 0) where
   -- a word that reads an object of the collector reads one of the heap
-  reads_real : (w : ℕ) (f : Found) → found w ≡ Some f → (o : Object) × ReadsObject s w f.base o
+  reads_real : (w : ℕ) (f : Found) → found w ≡ Some f → (o : Object) × PointsIntoObject s w f.base o
   reads_real w f e =
       let r = reads_object found pages map words s.objects shows w f e in
       (r.0, (r.1, r.3))
@@ -25,7 +25,7 @@ module _ (pages : ℕ) (s : Heap) (found : ℕ → Option Found) (words : List �
   seen_at : (base : ℕ) (o : Object) → HasObject s base o → (f : Found) × (found base ≡ Some f) × (f.base ≡ base) × IsShown words f o
   seen_at = seen found pages map words s.objects shows
 
-  reads_seen : (w base : ℕ) (o : Object) → ReadsObject s w base o → (f : Found) × (found w ≡ Some f) × (f.base ≡ base)
+  reads_seen : (w base : ℕ) (o : Object) → PointsIntoObject s w base o → (f : Found) × (found w ≡ Some f) × (f.base ≡ base)
   reads_seen w base o r =
       let q = seen_at base o r.0 in
       let b = q.2 in let l = q.3.size in let low = r.1.0 in let high = r.1.1 in

@@ -1,6 +1,6 @@
 -- What a map and a memory show of a heap.
 use Rattle.std.specs.Prelude.{◌≡◌, ℕ, ◌+◌, ◌<◌, ◌≤◌, List, length, slice_index, Option, Some}
-use Rattle.pages.specs.Memory.{place}
+use Rattle.pages.specs.Memory.{word_index}
 use Rattle.block_map.specs.declared.found.Found.{Found}
 use Rattle.heap_spec.specs.Heap.{Heap, Object, HasObject}
 use Rattle.heap_spec.specs.Sound.{HaveDistinctBirths}
@@ -10,7 +10,7 @@ use Rattle.marker.specs.Marking.{Marking, IsMarked}
 pub record IsShown (words : List ℕ) (f : Found) (o : Object) : Type 0 where
   pub kind : o.kind ≡ f.kind
   pub size : length o.words ≡ f.len
-  pub word : (i : ℕ) → i < f.len → slice_index o.words i ≡ slice_index words (place f.base + i)
+  pub word : (i : ℕ) → i < f.len → slice_index o.words i ≡ slice_index words (word_index f.base + i)
 
 -- The objects are those that the map finds.
 pub record ShowsObjects (found : ℕ → Option Found) (words : List ℕ) (objects : ℕ → Option Object) : Type 0 where

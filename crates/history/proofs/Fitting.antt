@@ -4,7 +4,7 @@ use mathlib.Core.Option.{some}
 use lib.ListN.{get_elem?}
 use Rattle.atomic_table.proofs.Lists.{at_set}
 use Rattle.history.specs.declared.object.Rank.{Rank}
-use Rattle.history.specs.declared.event.Event.{Event}
+use Rattle.history.specs.declared.made.Made.{Made}
 use Rattle.history.specs.declared.view.Known.{Known}
 use Rattle.history.specs.declared.view.View.{View}
 use Rattle.history.specs.Passes.{Owned}
@@ -38,19 +38,19 @@ module _ {C R : Type 0} where
 
 module _ {C R : Type 0} (rank : C → Rank) where
   -- at the whole history the pass's own events are its slot's
-  pub owned_whole : (log : List (Event C R)) (p : Known C R) → HasSeenPart rank log p → Owned rank p.slot log p.mine
+  pub owned_whole : (log : List (Made C R)) (p : Known C R) → HasSeenPart rank log p → Owned rank p.slot log p.mine
   owned_whole log p f = owned_grows rank p.slot p.seen log p.mine f.grows f.owned
 
   -- a pass that has seen the whole history
-  pub follows_whole : (log : List (Event C R)) (slot : ℕ) (mine : List (Event C R)) → Owned rank slot log mine → HasSeenPart rank log (record { slot = slot; seen = log; mine = mine })
+  pub follows_whole : (log : List (Made C R)) (slot : ℕ) (mine : List (Made C R)) → Owned rank slot log mine → HasSeenPart rank log (record { slot = slot; seen = log; mine = mine })
   follows_whole log slot mine o = record { grows = grows_self slot log; owned = o }
 
   -- an event of another slot leaves the pass as it fits
-  pub follows_longer : (log : List (Event C R)) (e : Event C R) (p : Known C R) → HasSeenPart rank log p → e.who ≢ p.slot → HasSeenPart rank (log ++ e ∷ []) p
+  pub follows_longer : (log : List (Made C R)) (e : Made C R) (p : Known C R) → HasSeenPart rank log p → e.who ≢ p.slot → HasSeenPart rank (log ++ e ∷ []) p
   follows_longer log e p f ne = record { grows = grows_more p.slot p.seen log e ne f.grows; owned = f.owned }
 
   -- an event of a slot of which the seat has no pass leaves its view as it fits, if it doesn't keep the history
-  pub fits_longer : (log : List (Event C R)) (e : Event C R) (u : View C R) → IsTrueOfView rank log u → (u.keeps ≡ true → ⊥) → (1 ≤ holding e.who u → ⊥) → IsTrueOfView rank (log ++ e ∷ []) u
+  pub fits_longer : (log : List (Made C R)) (e : Made C R) (u : View C R) → IsTrueOfView rank log u → (u.keeps ≡ true → ⊥) → (1 ≤ holding e.who u → ⊥) → IsTrueOfView rank (log ++ e ∷ []) u
   fits_longer log e u f k h = record {
     part = prefix_more u.log log (e ∷ []) f.part;
     keeper = λ t. absurd (k t);
@@ -59,7 +59,7 @@ module _ {C R : Type 0} (rank : C → Rank) where
   }
 
   -- where one view changes, the others stay as they fit
-  pub fits_set : (now : List (Event C R)) (views : List (View C R)) (id : ℕ) (w : View C R) → ((j : ℕ) (u : View C R) → j ≢ id → get_elem? views j ≡ some u → IsTrueOfView rank now u) → IsTrueOfView rank now w
+  pub fits_set : (now : List (Made C R)) (views : List (View C R)) (id : ℕ) (w : View C R) → ((j : ℕ) (u : View C R) → j ≢ id → get_elem? views j ≡ some u → IsTrueOfView rank now u) → IsTrueOfView rank now w
       → (j : ℕ) (u : View C R) → get_elem? (set views id w) j ≡ some u → IsTrueOfView rank now u
   fits_set now views id w others mine j u e =
       ⊎_elim
@@ -67,9 +67,9 @@ module _ {C R : Type 0} (rank : C → Rank) where
       (λ (x : (j ≢ id) × (get_elem? views j ≡ some u)). others j u x.0 x.1)
       (at_set views id j w u e)
 
-  pub fits_nobody : (log : List (Event C R)) → IsTrueOfView rank log nobody
+  pub fits_nobody : (log : List (Made C R)) → IsTrueOfView rank log nobody
   fits_nobody log = record { part = (log, refl); keeper = λ t. absurd (off t); pass = λ t. absurd (off t); guest = λ t. absurd (off t) }
 
   -- the keeper's history is the history
-  pub at_keeper : (legal : List (Event C R) → Type 0) (ws : List ℕ) (views : List (View C R)) (id : ℕ) (v : View C R) → Kept rank legal ws views → get_elem? views id ≡ some v → v.keeps ≡ true → Standing rank legal ws views v.log
-  at_keeper legal ws views id v k at keeps_it = subst (λ (l : List (Event C R)). Standing rank legal ws views l) (sym ((k.1.fits id v at).keeper keeps_it)) k.1
+  pub at_keeper : (legal : List (Made C R) → Type 0) (ws : List ℕ) (views : List (View C R)) (id : ℕ) (v : View C R) → Kept rank legal ws views → get_elem? views id ≡ some v → v.keeps ≡ true → Standing rank legal ws views v.log
+  at_keeper legal ws views id v k at keeps_it = subst (λ (l : List (Made C R)). Standing rank legal ws views l) (sym ((k.1.fits id v at).keeper keeps_it)) k.1

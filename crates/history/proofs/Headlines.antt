@@ -1,7 +1,7 @@
 -- How calls of a log make the headline.
 use Rattle.std.proofs.Common.{◌≡◌, ℕ, List, [], ◌∷◌, ◌++◌, sym, ap, ◌∙◌, subst}
 use Rattle.history.specs.declared.object.Rank.{Rank}
-use Rattle.history.specs.declared.event.Event.{Event}
+use Rattle.history.specs.declared.made.Made.{Made}
 use Rattle.history.specs.declared.view.Known.{Known}
 use Rattle.history.specs.Histories.{event, GrowsByOthers}
 use Rattle.history.specs.Passes.{Agrees}
@@ -9,7 +9,7 @@ use Rattle.history.specs.Headline.{Extends, Looks}
 
 module _ {S C R : Type 0} (rank : C → Rank) (opens : S → Type 0) (step : S → ℕ → C → R → S → Type 0) where
   -- the pass learnt the history, and then made the call
-  pub extended : (old mid new : Known C R) (log log1 log2 : List (Event C R)) (call : C) (reply : R) → GrowsByOthers old.slot old.seen log
+  pub extended : (old mid new : Known C R) (log log1 log2 : List (Made C R)) (call : C) (reply : R) → GrowsByOthers old.slot old.seen log
       → mid ≡ record { slot = old.slot; seen = log; mine = old.mine } → log1 ≡ log → log2 ≡ log1 ++ event mid.slot call reply ∷ []
       → new ≡ record { slot = mid.slot; seen = log2; mine = mid.mine ++ event mid.slot call reply ∷ [] } → Agrees rank opens step new → Extends rank opens step old call reply new
   extended old mid new log log1 log2 call reply before mid_is log1_is log2_is new_is fine =
@@ -24,7 +24,7 @@ module _ {S C R : Type 0} (rank : C → Rank) (opens : S → Type 0) (step : S �
       }
 
   -- the pass learnt the history, and made no call
-  pub looked : (old mid : Known C R) (log : List (Event C R)) → GrowsByOthers old.slot old.seen log → mid ≡ record { slot = old.slot; seen = log; mine = old.mine } → Agrees rank opens step mid → Looks rank opens step old mid
+  pub looked : (old mid : Known C R) (log : List (Made C R)) → GrowsByOthers old.slot old.seen log → mid ≡ record { slot = old.slot; seen = log; mine = old.mine } → Agrees rank opens step mid → Looks rank opens step old mid
   looked old mid log before mid_is fine = record {
     slot = ap (λ (p : Known C R). p.slot) mid_is;
     seen = subst (λ l. GrowsByOthers old.slot old.seen l) (sym (ap (λ (p : Known C R). p.seen) mid_is)) before;

@@ -5,16 +5,16 @@ use lib.ListN.{get_elem?}
 use Rattle.atomic_table.specs.Table.{State, Splits, Joins}
 use Rattle.atomic_table.proofs.Lists.{at_set, at_snoc}
 use Rattle.history.specs.declared.object.Rank.{Rank}
-use Rattle.history.specs.declared.event.Event.{Event}
+use Rattle.history.specs.declared.made.Made.{Made}
 use Rattle.history.specs.declared.view.View.{View}
 use Rattle.history.specs.Rules.{keeping, holding, IsTrueOfView, Kept}
 use Rattle.history.specs.Views.{nobody, without_pass, only_pass, with_guest, without_guest, only_guest, with_pass, itself, only_log, with_log}
 use Rattle.history.proofs.Fitting.{off, fits_set, fits_nobody}
 use Rattle.history.proofs.Tallies.{tally_set, tally_snoc}
 
-module _ {C R : Type 0} (rank : C → Rank) (legal : List (Event C R) → Type 0) where
+module _ {C R : Type 0} (rank : C → Rank) (legal : List (Made C R) → Type 0) where
   -- a view that is cut in two
-  splits : (id : ℕ) (v left right : View C R) → ((log : List (Event C R)) → IsTrueOfView rank log v → IsTrueOfView rank log left × IsTrueOfView rank log right) → keeping left + keeping right ≡ keeping v → ((who : ℕ) → holding who left + holding who right ≡ holding who v)
+  splits : (id : ℕ) (v left right : View C R) → ((log : List (Made C R)) → IsTrueOfView rank log v → IsTrueOfView rank log left × IsTrueOfView rank log right) → keeping left + keeping right ≡ keeping v → ((who : ℕ) → holding who left + holding who right ≡ holding who v)
       → Splits (λ (s : State Unit (View C R)). Kept rank legal s.words s.views) id v left right
   splits id v left right fit keep hold s k at =
       let both = fit k.0 (k.1.fits id v at) in (
@@ -32,7 +32,7 @@ module _ {C R : Type 0} (rank : C → Rank) (legal : List (Event C R) → Type 0
       )
 
   -- two views that become one
-  joins : (id : ℕ) (v : View C R) (other : ℕ) (w both : View C R) → ((log : List (Event C R)) → IsTrueOfView rank log v → IsTrueOfView rank log w → IsTrueOfView rank log both) → keeping both ≤ keeping v + keeping w → ((who : ℕ) → holding who both ≤ holding who v + holding who w)
+  joins : (id : ℕ) (v : View C R) (other : ℕ) (w both : View C R) → ((log : List (Made C R)) → IsTrueOfView rank log v → IsTrueOfView rank log w → IsTrueOfView rank log both) → keeping both ≤ keeping v + keeping w → ((who : ℕ) → holding who both ≤ holding who v + holding who w)
       → Joins (λ (s : State Unit (View C R)). Kept rank legal s.words s.views) id v other w both nobody
   joins id v other w both fit keep hold s k at apart there =
       let theirs : IsTrueOfView rank k.0 w = ⊎_elim (λ (t : (other ≡ id) × (both ≡ w)). absurd (apart t.0)) (λ (t : (other ≢ id) × (get_elem? s.views other ≡ some w)). k.1.fits other w t.1) (at_set s.views id other both w there) in (

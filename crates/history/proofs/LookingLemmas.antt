@@ -8,7 +8,7 @@ use Rattle.std.proofs.lemmas.Bool.{leb-true, leb-false}
 use native.Mathlib.Decide.{dec_le}
 use Rattle.atomic_table.specs.Table.{State, Me, keeps, Allows}
 use Rattle.history.specs.declared.object.Rank.{Rank}
-use Rattle.history.specs.declared.event.Event.{Event}
+use Rattle.history.specs.declared.made.Made.{Made}
 use Rattle.history.specs.declared.view.Known.{Known}
 use Rattle.history.specs.declared.view.View.{View}
 use Rattle.history.specs.Histories.{GrowsByOthers}
@@ -20,9 +20,9 @@ use Rattle.history.proofs.Growing.{prefix_of, grows_within, owned_grows}
 use Rattle.history.proofs.Fitting.{has_one, owned_whole, follows_whole, fits_set, at_keeper}
 use Rattle.history.proofs.Tallies.{tally_set, tally_one}
 
-module _ {C R : Type 0} (rank : C → Rank) (legal : List (Event C R) → Type 0) where
+module _ {C R : Type 0} (rank : C → Rank) (legal : List (Made C R) → Type 0) where
   -- a step that appends nothing
-  stays : (ws : List ℕ) (views : List (View C R)) (log : List (Event C R)) (id : ℕ) (v w : View C R) → Standing rank legal ws views log → get_elem? views id ≡ some v → IsTrueOfView rank log w → keeping w ≡ keeping v → ((who : ℕ) → holding who w ≡ holding who v)
+  stays : (ws : List ℕ) (views : List (View C R)) (log : List (Made C R)) (id : ℕ) (v w : View C R) → Standing rank legal ws views log → get_elem? views id ≡ some v → IsTrueOfView rank log w → keeping w ≡ keeping v → ((who : ℕ) → holding who w ≡ holding who v)
       → Standing rank legal (set ws 0 (slice_index ws 0)) (set views id w) log
   stays ws views log id v w st at fw kw hw = record {
     words_are = ap (λ (x : List ℕ). set x 0 (slice_index x 0)) st.words_are;
@@ -63,29 +63,29 @@ module _ {C R : Type 0} (rank : C → Rank) (legal : List (Event C R) → Type 0
         record { log = kept.0; before = (f.pass hv).grows; is_legal = st.is_legal; owned = o; found_is = index_of s.words _ st.words_are; view_is = refl },
       )
 
-  longer_prefix : (xs ys log : List (Event C R)) (b : Bool) → leb (length xs) (length ys) ≡ b → IsPrefix xs log → IsPrefix ys log → IsPrefix (longer xs ys) log
+  longer_prefix : (xs ys log : List (Made C R)) (b : Bool) → leb (length xs) (length ys) ≡ b → IsPrefix xs log → IsPrefix ys log → IsPrefix (longer xs ys) log
   longer_prefix xs ys log true e p q = subst (λ (b : Bool). IsPrefix (cond b ys xs) log) (sym e) q
   longer_prefix xs ys log false e p q = subst (λ (b : Bool). IsPrefix (cond b ys xs) log) (sym e) p
 
-  first_begins : (xs ys log : List (Event C R)) (b : Bool) → leb (length xs) (length ys) ≡ b → IsPrefix xs log → IsPrefix ys log → IsPrefix xs (longer xs ys)
+  first_begins : (xs ys log : List (Made C R)) (b : Bool) → leb (length xs) (length ys) ≡ b → IsPrefix xs log → IsPrefix ys log → IsPrefix xs (longer xs ys)
   first_begins xs ys log true e p q = subst (λ (b : Bool). IsPrefix xs (cond b ys xs)) (sym e) (prefix_shorter xs ys log p q (leb-true (length xs) (length ys) e))
   first_begins xs ys log false e p q = subst (λ (b : Bool). IsPrefix xs (cond b ys xs)) (sym e) (prefix_self xs)
 
-  second_begins : (xs ys log : List (Event C R)) (b : Bool) → leb (length xs) (length ys) ≡ b → IsPrefix xs log → IsPrefix ys log → IsPrefix ys (longer xs ys)
+  second_begins : (xs ys log : List (Made C R)) (b : Bool) → leb (length xs) (length ys) ≡ b → IsPrefix xs log → IsPrefix ys log → IsPrefix ys (longer xs ys)
   second_begins xs ys log true e p q = subst (λ (b : Bool). IsPrefix ys (cond b ys xs)) (sym e) (prefix_self ys)
   second_begins xs ys log false e p q = let less = leb-false (length xs) (length ys) e in subst (λ (b : Bool). IsPrefix ys (cond b ys xs)) (sym e) (prefix_shorter ys xs log q p (omega (arith, less)))
 
-  shorter_grows : (log : List (Event C R)) (p q : Known C R) → HasSeenPart rank log p → HasSeenPart rank log q → length p.seen ≤ length q.seen → GrowsByOthers p.slot p.seen q.seen
+  shorter_grows : (log : List (Made C R)) (p q : Known C R) → HasSeenPart rank log p → HasSeenPart rank log q → length p.seen ≤ length q.seen → GrowsByOthers p.slot p.seen q.seen
   shorter_grows log p q f g h =
       let top = prefix_of q.slot q.seen log g.grows in
       (grows_within p.slot p.seen q.seen log (prefix_shorter p.seen q.seen log (prefix_of p.slot p.seen log f.grows) top h) top f.grows).0
 
-  one_grows : (log : List (Event C R)) (p q : Known C R) → HasSeenPart rank log p → HasSeenPart rank log q → Dec (length p.seen ≤ length q.seen) → GrowsByOthers p.slot p.seen q.seen ⊎ GrowsByOthers q.slot q.seen p.seen
+  one_grows : (log : List (Made C R)) (p q : Known C R) → HasSeenPart rank log p → HasSeenPart rank log q → Dec (length p.seen ≤ length q.seen) → GrowsByOthers p.slot p.seen q.seen ⊎ GrowsByOthers q.slot q.seen p.seen
   one_grows log p q f g (yes h) = inl (shorter_grows log p q f g h)
   one_grows log p q f g (no n) = inr (shorter_grows log q p g f (omega arith))
 
   -- a pass that has seen more of the history than before
-  follows_more : (log more : List (Event C R)) (p : Known C R) → HasSeenPart rank log p → IsPrefix p.seen more → IsPrefix more log → HasSeenPart rank log (record { slot = p.slot; seen = more; mine = p.mine })
+  follows_more : (log more : List (Made C R)) (p : Known C R) → HasSeenPart rank log p → IsPrefix p.seen more → IsPrefix more log → HasSeenPart rank log (record { slot = p.slot; seen = more; mine = p.mine })
   follows_more log more p f longer_is top =
       let both = grows_within p.slot p.seen more log longer_is top f.grows in
       record { grows = both.1; owned = owned_grows rank p.slot p.seen more p.mine both.0 f.owned }
@@ -132,6 +132,6 @@ module _ {C R : Type 0} (rank : C → Rank) (legal : List (Event C R) → Type 0
         record { one = told_grows kept.0 me.0.pass b p f.part (dec_le (length a) (length b)); owned = pass.owned; view_is = refl },
       )
     where
-      told_grows : (log : List (Event C R)) (p : Known C R) (b : List (Event C R)) → HasSeenPart rank log p → IsPrefix b log → Dec (length p.seen ≤ length b) → GrowsByOthers p.slot p.seen b ⊎ IsPrefix b p.seen
+      told_grows : (log : List (Made C R)) (p : Known C R) (b : List (Made C R)) → HasSeenPart rank log p → IsPrefix b log → Dec (length p.seen ≤ length b) → GrowsByOthers p.slot p.seen b ⊎ IsPrefix b p.seen
       told_grows log p b q top (yes h) = inl (grows_within p.slot p.seen b log (prefix_shorter p.seen b log (prefix_of p.slot p.seen log q.grows) top h) top q.grows).0
       told_grows log p b q top (no n) = inr (prefix_shorter b p.seen log top (prefix_of p.slot p.seen log q.grows) (omega arith))

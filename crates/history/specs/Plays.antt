@@ -3,7 +3,7 @@ use Rattle.std.specs.Prelude.{◌≡◌, ℕ, ◌%◌, ◌^◌, ◌⊎◌, true,
 use mathlib.Core.List.{IsPrefix}
 use Rattle.atomic_table.specs.Table.{Me}
 use Rattle.history.specs.declared.object.Rank.{Rank}
-use Rattle.history.specs.declared.event.Event.{Event}
+use Rattle.history.specs.declared.made.Made.{Made}
 use Rattle.history.specs.declared.view.View.{View}
 use Rattle.history.specs.Histories.{count, weight, GrowsByOthers}
 use Rattle.history.specs.Passes.{Owned, longer}
@@ -11,43 +11,43 @@ use Rattle.history.specs.Views.{no_pass}
 
 module _ {C R : Type 0} where
   -- the keeper may append the event: the history is then legal, and the step adds what the word is to count
-  pub record MayAppend (rank : C → Rank) (legal : List (Event C R) → Type 0) (said : List (Event C R)) (add : ℕ) (keeper : View C R) (e : Event C R) : Type 0 where
+  pub record MayAppend (rank : C → Rank) (legal : List (Made C R) → Type 0) (said : List (Made C R)) (add : ℕ) (keeper : View C R) (e : Made C R) : Type 0 where
     pub keeps_it : keeper.keeps ≡ true
     pub said_is : said ≡ e ∷ []
     pub add_is : add ≡ weight (rank e.call)
     pub is_legal : legal (keeper.log ++ e ∷ [])
 
   -- An event of the keeper's guest.
-  abbrev pub acted : List (Event C R) → View C R → View C R
+  abbrev pub acted : List (Made C R) → View C R → View C R
   acted said v = record v { log = v.log ++ said; guest = record { slot = v.guest.slot; seen = v.log ++ said; mine = v.guest.mine ++ said } }
 
   -- The step of such an event: what came since the guest last saw is all of others, and its own events are then exactly its slot's.
-  pub record Acted (rank : C → Rank) (said : List (Event C R)) (v w : Me Unit (View C R)) : Type 0 where
+  pub record Acted (rank : C → Rank) (said : List (Made C R)) (v w : Me Unit (View C R)) : Type 0 where
     pub before : GrowsByOthers v.0.guest.slot v.0.guest.seen v.0.log
     pub owned : Owned rank v.0.guest.slot (v.0.log ++ said) (v.0.guest.mine ++ said)
     pub view_is : w ≡ (acted said v.0, v.1)
 
   -- the slot of the first of these events, and 0 of none
-  abbrev pub first_slot : List (Event C R) → ℕ
+  abbrev pub first_slot : List (Made C R) → ℕ
   first_slot [] = 0
   first_slot (e ∷ es) = e.who
 
   -- The first event of a slot, which makes its pass the keeper's guest: the guest has seen the whole history with this event,
   -- which is its only one.
-  abbrev pub began : List (Event C R) → View C R → View C R
+  abbrev pub began : List (Made C R) → View C R → View C R
   began said v = record v { log = v.log ++ said; hosts = true; guest = record { slot = first_slot said; seen = v.log ++ said; mine = said } }
 
   -- The step of such an event: the guest's own events are exactly this one.
-  pub record Began (rank : C → Rank) (said : List (Event C R)) (v w : Me Unit (View C R)) : Type 0 where
+  pub record Began (rank : C → Rank) (said : List (Made C R)) (v w : Me Unit (View C R)) : Type 0 where
     pub owned : Owned rank (first_slot said) (v.0.log ++ said) said
     pub view_is : w ≡ (began said v.0, v.1)
 
   -- The last event of the keeper's guest, which is spent.
-  abbrev pub ended : List (Event C R) → View C R → View C R
+  abbrev pub ended : List (Made C R) → View C R → View C R
   ended said v = record v { log = v.log ++ said; hosts = false; guest = no_pass }
 
   -- The step of such an event: what came since the guest last saw is all of others, and up to it the guest's own events were exactly its slot's.
-  pub record Ended (rank : C → Rank) (said : List (Event C R)) (v w : Me Unit (View C R)) : Type 0 where
+  pub record Ended (rank : C → Rank) (said : List (Made C R)) (v w : Me Unit (View C R)) : Type 0 where
     pub before : GrowsByOthers v.0.guest.slot v.0.guest.seen v.0.log
     pub owned : Owned rank v.0.guest.slot v.0.log v.0.guest.mine
     pub view_is : w ≡ (ended said v.0, v.1)
@@ -63,12 +63,12 @@ module _ {C R : Type 0} where
     pub view_is : w ≡ (learnt v.0, v.1)
 
   -- A pass sees the history as it is, and its word.
-  abbrev pub saw : List (Event C R) → View C R → View C R
+  abbrev pub saw : List (Made C R) → View C R → View C R
   saw log v = record v { pass = record { slot = v.pass.slot; seen = log; mine = v.pass.mine } }
 
   -- The step of that: the word is the count of a legal history, modulo 2^64, in which what is new to the pass is all of others.
-  pub record Saw (rank : C → Rank) (legal : List (Event C R) → Type 0) (v : Me Unit (View C R)) (found : ℕ) (w : Me Unit (View C R)) : Type 0 where
-    pub log : List (Event C R)
+  pub record Saw (rank : C → Rank) (legal : List (Made C R) → Type 0) (v : Me Unit (View C R)) (found : ℕ) (w : Me Unit (View C R)) : Type 0 where
+    pub log : List (Made C R)
     pub before : GrowsByOthers v.0.pass.slot v.0.pass.seen log
     pub is_legal : legal log
     pub owned : Owned rank v.0.pass.slot log v.0.pass.mine

@@ -14,9 +14,9 @@ use std::marker::{Brand, PhantomData};
 /// Which event a step appends. Each call of a step picks it.
 pub trait Said<C, R> {
     ghost use Rattle.std.specs.Prelude.{List};
-    ghost use Rattle.history.specs.declared.event.Event.{Event};
+    ghost use Rattle.history.specs.declared.made.Made.{Made};
 
-    ghost said: { List (Event C R) };
+    ghost said: { List (Made C R) };
 }
 
 impl<C, R> Said<C, R> for Brand {

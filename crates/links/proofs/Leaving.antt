@@ -6,19 +6,19 @@ use Rattle.std.proofs.lemmas.Bool.{true≢false, eq-eqb, ne_eqb, eqb-true, leb-t
 use Rattle.std.proofs.lemmas.Option.{same_Some, none-some}
 use Rattle.std.proofs.lemmas.List.Folds.{Any-from_list_any, list_any_more}
 use Rattle.words.specs.declared.limits.TheConstants.{FIRST_ADDRESS}
-use Rattle.heap_spec.specs.Layout.{Reads}
-use Rattle.heap_spec.specs.Heap.{Heap, Object, Link as HeapLink, ReadsObject, without, without_at, names, lies_in, loses_word, is_born, covers, with_cleared}
+use Rattle.heap_spec.specs.Layout.{PointsInto}
+use Rattle.heap_spec.specs.Heap.{Heap, Object, Link as HeapLink, PointsIntoObject, without, without_at, names, lies_in, loses_word, is_born, covers, with_cleared}
 use Rattle.heap_spec.specs.Sound.{HaveDistinctBirths}
 use Rattle.heap_spec.proofs.Objects.{without_some, without_other}
 use Rattle.heap_spec.proofs.Links.{stays_by, names_yes, lies_yes, neither, length-cleared}
 use Rattle.links.specs.declared.row.Link.{Link}
 use Rattle.links.specs.Named.{IsNamed, AreNamed}
-use Rattle.links.specs.Leaving.{TellObjects, stays_with, loses_with, place_of, clears_with, ClearsWords}
+use Rattle.links.specs.Leaving.{TellObjects, stays_with, loses_with, word_index, clears_with, ClearsWords}
 use Rattle.links.proofs.Named.{named_any, named_filter}
 
 -- objects whose addresses are read by one alone
-abbrev pub ReadsOne : Heap → Type 0
-ReadsOne s = (w a b : ℕ) (o p : Object) → ReadsObject s w a o → ReadsObject s w b p → a ≡ b
+abbrev pub PointsIntoOne : Heap → Type 0
+PointsIntoOne s = (w a b : ℕ) (o p : Object) → PointsIntoObject s w a o → PointsIntoObject s w b p → a ≡ b
 
 both_not : (x y a b : Bool) → a ≡ not y → b ≡ not x → (a && b) ≡ not (x || y)
 both_not true y a b ea eb = ap (λ c. a && c) eb ∙ and_no a
@@ -44,11 +44,11 @@ and_parts : (x y : Bool) → (x && y) ≡ true → (x ≡ true) × (y ≡ true)
 and_parts true y e = (refl, e)
 and_parts false y e = absurd (true≢false (sym e))
 
-covers_some : (b : ℕ) (x : Option Object) (w : ℕ) → covers b x w ≡ true → (o : Object) × (x ≡ Some o) × Reads w b (length o.words)
+covers_some : (b : ℕ) (x : Option Object) (w : ℕ) → covers b x w ≡ true → (o : Object) × (x ≡ Some o) × PointsInto w b (length o.words)
 covers_some b None w e = absurd (true≢false (sym e))
 covers_some b (Some o) w e = let both = and_parts _ _ e in (o, refl, (leb-true _ _ both.0, ltb-true _ _ both.1))
 
-module _ (s : Heap) (bases : List ℕ) (holds begins : ℕ → Bool) (left : TellObjects (without_at s.objects bases) holds begins) (distinct : HaveDistinctBirths s.objects) (one : ReadsOne s) where
+module _ (s : Heap) (bases : List ℕ) (holds begins : ℕ → Bool) (left : TellObjects (without_at s.objects bases) holds begins) (distinct : HaveDistinctBirths s.objects) (one : PointsIntoOne s) where
   -- the object that a link names stays, or not
   base_names : (l : Link) (h : HeapLink) → IsNamed s.objects l h → (b : Bool) → names s bases h ≡ b → begins l.base ≡ not b
   base_names l h n true e =
@@ -60,8 +60,8 @@ module _ (s : Heap) (bases : List ℕ) (holds begins : ℕ → Bool) (left : Tel
       left.there l.base n.object (without_other s.objects bases l.base (λ among. true≢false (sym (names_yes s bases h l.base n.object n.has n.names among) ∙ e)) ∙ n.has)
 
   -- its holder stays, or not
-  in_holder : (l : Link) (h : HeapLink) → (n : IsNamed s.objects l h) → ReadsObject s h.address n.holder_base n.holder
-  in_holder l h n = (n.held, subst (λ a. Reads a n.holder_base (length n.holder.words)) (sym n.address) n.in_holder)
+  in_holder : (l : Link) (h : HeapLink) → (n : IsNamed s.objects l h) → PointsIntoObject s h.address n.holder_base n.holder
+  in_holder l h n = (n.held, subst (λ a. PointsInto a n.holder_base (length n.holder.words)) (sym n.address) n.in_holder)
 
   holder_lies : (l : Link) (h : HeapLink) → IsNamed s.objects l h → (b : Bool) → lies_in s bases h ≡ b → holds l.address ≡ not b
   holder_lies l h n true e =
@@ -69,7 +69,7 @@ module _ (s : Heap) (bases : List ℕ) (holds begins : ℕ → Bool) (left : Tel
       let o = covers_some b.1 (s.objects b.1) h.address b.4 in
       left.bare l.address (λ base p is reads.
       let was = without_some s.objects bases base p is in
-      let same : base ≡ b.1 = one l.address base b.1 p o.0 (was.1, reads) (o.1, subst (λ a. Reads a b.1 (length o.0.words)) n.address o.2) in
+      let same : base ≡ b.1 = one l.address base b.1 p o.0 (was.1, reads) (o.1, subst (λ a. PointsInto a b.1 (length o.0.words)) n.address o.2) in
       was.0 (subst (Contains bases) (sym same) (b.0, b.2, b.3)))
   holder_lies l h n false e =
       left.held l.address n.holder_base n.holder
@@ -100,30 +100,30 @@ module _ (s : Heap) (bases : List ℕ) (holds begins : ℕ → Bool) (left : Tel
 
   -- the word at an address that is held
   module _ (low : (a : ℕ) → holds a ≡ true → FIRST_ADDRESS ≤ a) (a : ℕ) (aligned : a % 8 ≡ 0) (held : holds a ≡ true) where
-    here : (l : Link) (h : HeapLink) → IsNamed s.objects l h → h.address ≡ a → ((place_of l.address == place_of a) && loses_with holds begins l) ≡ ((h.address == a) && names s bases h)
+    here : (l : Link) (h : HeapLink) → IsNamed s.objects l h → h.address ≡ a → ((word_index l.address == word_index a) && loses_with holds begins l) ≡ ((h.address == a) && names s bases h)
     here l h n e =
         let at : l.address ≡ a = sym n.address ∙ e in
-        ap (λ b. b && loses_with holds begins l) (eq-eqb (place_of l.address) (place_of a) (ap place_of at))
+        ap (λ b. b && loses_with holds begins l) (eq-eqb (word_index l.address) (word_index a) (ap word_index at))
         ∙ ap (λ b. b && not (begins l.base)) (ap holds at ∙ held)
         ∙ ap not (base_names l h n (names s bases h) refl)
         ∙ not_not (names s bases h)
         ∙ sym (ap (λ b. b && names s bases h) (eq-eqb h.address a e))
 
-    unheld : (x : ℕ) (b : Bool) → holds x ≡ b → x % 8 ≡ 0 → x ≢ a → place_of x ≡ place_of a → b ≡ false
+    unheld : (x : ℕ) (b : Bool) → holds x ≡ b → x % 8 ≡ 0 → x ≢ a → word_index x ≡ word_index a → b ≡ false
     unheld x true is even ne same = let above = low x is in let above' = low a held in absurd (ne (omega arith))
     unheld x false is even ne same = refl
 
-    elsewhere : (l : Link) (h : HeapLink) → IsNamed s.objects l h → h.address ≢ a → ((place_of l.address == place_of a) && loses_with holds begins l) ≡ ((h.address == a) && names s bases h)
+    elsewhere : (l : Link) (h : HeapLink) → IsNamed s.objects l h → h.address ≢ a → ((word_index l.address == word_index a) && loses_with holds begins l) ≡ ((h.address == a) && names s bases h)
     elsewhere l h n ne =
         ⊎_elim
-        (λ same. ap (λ b. b && loses_with holds begins l) (eq-eqb (place_of l.address) (place_of a) same)
+        (λ same. ap (λ b. b && loses_with holds begins l) (eq-eqb (word_index l.address) (word_index a) same)
         ∙ ap (λ b. b && not (begins l.base)) (unheld l.address (holds l.address) refl n.aligned (λ e. ne (n.address ∙ e)) same))
-        (λ other. ap (λ b. b && loses_with holds begins l) (ne_eqb (place_of l.address) (place_of a) other))
-        (cases_eq (place_of l.address) (place_of a))
+        (λ other. ap (λ b. b && loses_with holds begins l) (ne_eqb (word_index l.address) (word_index a) other))
+        (cases_eq (word_index l.address) (word_index a))
         ∙ sym (ap (λ b. b && names s bases h) (ne_eqb h.address a ne))
 
-    pub word_same : {row : List Link} → AreNamed s.objects row s.links → clears_with holds begins row (place_of a) ≡ loses_word s bases a
-    word_same are = named_any s.objects (λ l. (place_of l.address == place_of a) && loses_with holds begins l) (λ h. (h.address == a) && names s bases h)
+    pub word_same : {row : List Link} → AreNamed s.objects row s.links → clears_with holds begins row (word_index a) ≡ loses_word s bases a
+    word_same are = named_any s.objects (λ l. (word_index l.address == word_index a) && loses_with holds begins l) (λ h. (h.address == a) && names s bases h)
         (λ l h n. ⊎_elim (here l h n) (elsewhere l h n) (cases_eq h.address a)) are
 
 -- the words of links, one link after another
@@ -136,13 +136,13 @@ cond_or true false z w = refl
 cond_or false b z w = refl
 
 pub clears_more : (holds begins : ℕ → Bool) (row : List Link) (i : ℕ) (l d : Link) (words mid words' : List ℕ) → i < length row → l ≡ get_or row i d → ClearsWords holds begins (take i row) words mid
-    → length words' ≡ length mid → ((k : ℕ) → get_or words' k 0 ≡ cond ((place_of l.address == k) && loses_with holds begins l) 0 (get_or mid k 0)) → ClearsWords holds begins (take (i + 1) row) words words'
+    → length words' ≡ length mid → ((k : ℕ) → get_or words' k 0 ≡ cond ((word_index l.address == k) && loses_with holds begins l) 0 (get_or mid k 0)) → ClearsWords holds begins (take (i + 1) row) words words'
 clears_more holds begins row i l d words mid words' lt is so size one = record {
   size = size ∙ so.size;
   words = λ k.
       one k
-      ∙ ap (λ w. cond ((place_of l.address == k) && loses_with holds begins l) 0 w) (so.words k)
-      ∙ cond_or (clears_with holds begins (take i row) k) ((place_of l.address == k) && loses_with holds begins l) 0 (get_or words k 0)
-      ∙ ap (λ b. cond b 0 (get_or words k 0)) (ap (λ (x : Link). clears_with holds begins (take i row) k || ((place_of x.address == k) && loses_with holds begins x)) is
-      ∙ sym (list_any_more (λ (x : Link). (place_of x.address == k) && loses_with holds begins x) row i d lt));
+      ∙ ap (λ w. cond ((word_index l.address == k) && loses_with holds begins l) 0 w) (so.words k)
+      ∙ cond_or (clears_with holds begins (take i row) k) ((word_index l.address == k) && loses_with holds begins l) 0 (get_or words k 0)
+      ∙ ap (λ b. cond b 0 (get_or words k 0)) (ap (λ (x : Link). clears_with holds begins (take i row) k || ((word_index x.address == k) && loses_with holds begins x)) is
+      ∙ sym (list_any_more (λ (x : Link). (word_index x.address == k) && loses_with holds begins x) row i d lt));
 }

@@ -2,14 +2,14 @@
 use Rattle.std.specs.Prelude.{◌≡◌, ℕ, ◌-◌, ◌/◌, ◌&&◌, ◌==◌, not, Bool, true, false, List, Option, Some, if◌then◌else◌, length, slice_index}
 use Rattle.std.specs.List.{list_any}
 use Rattle.words.specs.declared.limits.TheConstants.{FIRST_ADDRESS, WORD_BYTES}
-use Rattle.heap_spec.specs.Layout.{Reads}
+use Rattle.heap_spec.specs.Layout.{PointsInto}
 use Rattle.heap_spec.specs.Heap.{Object}
 use Rattle.links.specs.declared.row.Link.{Link}
 
 -- Two tests tell these objects: whether one of them has the word at an address, and whether one begins there.
 pub record TellObjects (objects : ℕ → Option Object) (holds begins : ℕ → Bool) : Type 0 where
-  pub held : (a base : ℕ) (o : Object) → objects base ≡ Some o → Reads a base (length o.words) → holds a ≡ true
-  pub bare : (a : ℕ) → ((base : ℕ) (o : Object) → objects base ≡ Some o → Reads a base (length o.words) → ⊥) → holds a ≡ false
+  pub held : (a base : ℕ) (o : Object) → objects base ≡ Some o → PointsInto a base (length o.words) → holds a ≡ true
+  pub bare : (a : ℕ) → ((base : ℕ) (o : Object) → objects base ≡ Some o → PointsInto a base (length o.words) → ⊥) → holds a ≡ false
   pub there : (base : ℕ) (o : Object) → objects base ≡ Some o → begins base ≡ true
   pub gone : (base : ℕ) → ((o : Object) → objects base ≡ Some o → ⊥) → begins base ≡ false
 
@@ -22,12 +22,12 @@ abbrev pub loses_with : (ℕ → Bool) → (ℕ → Bool) → Link → Bool
 loses_with holds begins l = holds l.address && not (begins l.base)
 
 -- where the word at an address stands in the row of all words
-abbrev pub place_of : ℕ → ℕ
-place_of a = (a - FIRST_ADDRESS) / WORD_BYTES
+abbrev pub word_index : ℕ → ℕ
+word_index a = (a - FIRST_ADDRESS) / WORD_BYTES
 
--- whether the word at this place is that of a link that has to become 0
+-- whether the word of this index is that of a link that has to become 0
 abbrev pub clears_with : (ℕ → Bool) → (ℕ → Bool) → List Link → ℕ → Bool
-clears_with holds begins row k = list_any (λ l. (place_of l.address == k) && loses_with holds begins l) row
+clears_with holds begins row k = list_any (λ l. (word_index l.address == k) && loses_with holds begins l) row
 
 -- The words of the links that have to become 0 are 0, and all others are as they were.
 pub record ClearsWords (holds begins : ℕ → Bool) (row : List Link) (old new : List ℕ) : Type 0 where

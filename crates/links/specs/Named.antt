@@ -1,7 +1,7 @@
 -- Which links of a heap a row has: it has bases where the heap has births.
 use Rattle.std.specs.Prelude.{◌≡◌, ◌%◌, ℕ, Option, Some, List, [], ◌∷◌, length}
 use Rattle.words.specs.declared.limits.TheConstants.{WORD_BYTES}
-use Rattle.heap_spec.specs.Layout.{Reads}
+use Rattle.heap_spec.specs.Layout.{PointsInto}
 use Rattle.heap_spec.specs.Heap.{Object, Link as HeapLink}
 use Rattle.links.specs.declared.row.Link.{Link}
 
@@ -13,7 +13,7 @@ pub record IsNamed (objects : ℕ → Option Object) (l : Link) (h : HeapLink) :
   pub holder_base : ℕ
   pub holder : Object
   pub held : objects holder_base ≡ Some holder
-  pub in_holder : Reads l.address holder_base (length holder.words)
+  pub in_holder : PointsInto l.address holder_base (length holder.words)
   pub object : Object
   pub has : objects l.base ≡ Some object
   pub names : object.birth ≡ h.birth

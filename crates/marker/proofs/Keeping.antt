@@ -4,7 +4,7 @@ use Rattle.std.specs.Prelude.{◌≢◌, ◌⊎◌}
 use Rattle.std.proofs.lemmas.Option.{same_Some}
 use Rattle.std.proofs.lemmas.Bool.{cases_lt}
 use Rattle.words.specs.declared.limits.TheConstants.{PAGE_WORDS}
-use Rattle.pages.specs.Memory.{place, with_word_at}
+use Rattle.pages.specs.Memory.{word_index, with_word_at}
 use Rattle.blocks.specs.Lists.{ChangesPage}
 use Rattle.block_map.specs.declared.found.Found.{Found}
 use Rattle.block_map.specs.Changes.{IsRemoved}
@@ -18,12 +18,12 @@ use Rattle.marker.proofs.Mutating.{removed_less}
 
 -- the first word of an object that has left is written
 pub written_kept : (pages : ℕ) (found after : ℕ → Option Found) (words : List ℕ) (v : ℕ) (f : Found) → IsMap pages found → found f.base ≡ Some f → IsRemoved found after f → KeepsWords after words (with_word_at words f.base v)
-written_kept pages found after words v f map object removed g i e lt = get_or-set_other words (place f.base) (place (word_address g i)) v 0 apart
+written_kept pages found after words v f map object removed g i e lt = get_or-set_other words (word_index f.base) (word_index (word_address g i)) v 0 apart
   where
     there : found g.base ≡ Some g
     there = (removed_less found after f removed).before g.base g e
 
-    apart : place (word_address g i) ≢ place f.base
+    apart : word_index (word_address g i) ≢ word_index f.base
     apart same =
         let a = (map.placed f.base f object).aligned in let b = (map.placed f.base f object).above in let some = (map.placed f.base f object).some in
         let c = (map.placed g.base g there).aligned in let d = (map.placed g.base g there).above in
@@ -34,9 +34,9 @@ written_kept pages found after words v f map object removed g i e lt = get_or-se
 
 -- words of a free page change
 pub page_kept : (pages : ℕ) (states : List PageState) (words words' : List ℕ) (page : ℕ) → IsMap pages (found_in states) → state_at states page ≡ free → ChangesPage words words' page → KeepsWords (found_in states) words words'
-page_kept pages states words words' page map is changes g i there lt = changes.others (place (word_address g i)) (outside (word_address g i) refl)
+page_kept pages states words words' page map is changes g i there lt = changes.others (word_index (word_address g i)) (outside (word_address g i) refl)
   where
-    outside : (w : ℕ) → w ≡ word_address g i → (place w < PAGE_WORDS * page) ⊎ (PAGE_WORDS * page + PAGE_WORDS ≤ place w)
+    outside : (w : ℕ) → w ≡ word_address g i → (word_index w < PAGE_WORDS * page) ⊎ (PAGE_WORDS * page + PAGE_WORDS ≤ word_index w)
     outside w e =
         let above = (map.placed g.base g there).above in let aligned = (map.placed g.base g there).aligned in
         ⊎_elim (λ before. inl before)
@@ -46,5 +46,5 @@ page_kept pages states words words' page map is changes g i there lt = changes.o
         let none : None ≡ Some g = on_free states page w (record { from = omega arith; below = omega arith }) is ∙ some in
         absurd (cc none))
         (λ past. inr past)
-        (cases_lt (place w) (PAGE_WORDS * page + PAGE_WORDS)))
-        (cases_lt (place w) (PAGE_WORDS * page))
+        (cases_lt (word_index w) (PAGE_WORDS * page + PAGE_WORDS)))
+        (cases_lt (word_index w) (PAGE_WORDS * page))

@@ -9,8 +9,8 @@ use Rattle.block_map.specs.Objects.{IsInside, IsMap}
 use Rattle.words.specs.declared.limits.TheConstants.{FIRST_ADDRESS, PAGE_BYTES, WORD_BYTES}
 use Rattle.words.specs.Bits.{Has}
 use Rattle.words.specs.Layout.{page_of, granule}
-use Rattle.pages.specs.Memory.{place, word_at, with_word_at}
-use Rattle.marker.specs.Marking.{Marking, IsFresh, IsMarked, IsDirtyAt, IsLeftToEntry, IsOutside, word_address}
+use Rattle.pages.specs.Memory.{word_index, word_at, with_word_at}
+use Rattle.marker.specs.Marking.{Marking, IsBlank, IsMarked, IsDirtyAt, IsLeftToEntry, IsOutside, word_address}
 use Rattle.marker.specs.Invariant.{DirtyPageInvariant, CarriedPageInvariant, IsSettled, IsTargetMarked, IsAwaited}
 use Rattle.marker.specs.Mutations.{BeginsPartial, DirtiesPage, IsAllocated, IsFreed, HasNoNew, KeepsWords, HasZeroWords}
 use Rattle.block_map.specs.Changes.{IsAdded, IsRemoved, IsSameMap}
@@ -45,9 +45,9 @@ store_traced found words address w old new x inside t f e n k i lt =
     (λ (z : page_of (word_address f i) ≡ page_of address).
     inr (inl (ap (λ q. get_or new.dirty q false) z ∙ ap (λ y. get_or y (page_of address) false) x.dirty ∙ get_or-set_same old.dirty (page_of address) true false inside)))
     (λ ne.
-    let apart : place (word_address f i) ≢ place address = λ m. ne (omega arith) in
+    let apart : word_index (word_address f i) ≢ word_index address = λ m. ne (omega arith) in
     ⊎_elim
-    (λ g. inl (λ o y. subst (λ q. Has q (granule o.base)) (sym x.marks) (g o (ap found (sym (get_or-set_other words (place address) (place (word_address f i)) w 0 apart)) ∙ y))))
+    (λ g. inl (λ o y. subst (λ q. Has q (granule o.base)) (sym x.marks) (g o (ap found (sym (get_or-set_other words (word_index address) (word_index (word_address f i)) w 0 apart)) ∙ y))))
     (λ a. inr (⊎_elim (λ d. inl (subst (λ q. Has q (page_of (word_address f i))) (sym x.dirty) (has_set old.dirty (page_of address) (page_of (word_address f i)) inside d)))
     (λ p. inr (pending_same old new x.current x.stack f.base i p)) a))
     (t f e n (subst (λ q. Has q (granule f.base)) x.marks k) i lt))
@@ -142,10 +142,10 @@ alloc_keeps pages found after words words' f base old new inside x b map object 
     alloc_traced pages found after words words' f old new map object added same zero (subst (λ (a : ℕ). IsAllocated a old new) (sym b) x) (subst (λ (a : ℕ). granule a < length old.marks) (sym b) inside) t
 
 -- nothing is marked
-pub fresh_traced : (pages : ℕ) (found : ℕ → Option Found) (words : List ℕ) (m : Marking) → IsFresh pages m → DirtyPageInvariant found words m
+pub fresh_traced : (pages : ℕ) (found : ℕ → Option Found) (words : List ℕ) (m : Marking) → IsBlank pages m → DirtyPageInvariant found words m
 fresh_traced pages found words m fresh f e n k i lt = absurd (false≢true (sym (fresh.marks.clear (granule f.base)) ∙ k))
 
-pub fresh_carried : (pages : ℕ) (found : ℕ → Option Found) (words : List ℕ) (m : Marking) → IsFresh pages m → CarriedPageInvariant found words m
+pub fresh_carried : (pages : ℕ) (found : ℕ → Option Found) (words : List ℕ) (m : Marking) → IsBlank pages m → CarriedPageInvariant found words m
 fresh_carried pages found words m fresh f e n k i lt = absurd (false≢true (sym (fresh.marks.clear (granule f.base)) ∙ k))
 
 -- what is settled stays settled
@@ -163,8 +163,8 @@ store_carried found words address w old new x inside t f e n k i lt =
     (λ (z : page_of (word_address f i) ≡ page_of address).
     inr (inl (ap (λ q. get_or new.dirty q false) z ∙ ap (λ y. get_or y (page_of address) false) x.dirty ∙ get_or-set_same old.dirty (page_of address) true false inside)))
     (λ ne.
-    let apart : place (word_address f i) ≢ place address = λ m. ne (omega arith) in
-    let same : word_at (with_word_at words address w) (word_address f i) ≡ word_at words (word_address f i) = get_or-set_other words (place address) (place (word_address f i)) w 0 apart in
+    let apart : word_index (word_address f i) ≢ word_index address = λ m. ne (omega arith) in
+    let same : word_at (with_word_at words address w) (word_address f i) ≡ word_at words (word_address f i) = get_or-set_other words (word_index address) (word_index (word_address f i)) w 0 apart in
     ⊎_elim
     (λ g. inl (subst (IsSettled found new (word_address f i)) (sym same)
     (settled_same found found old new _ _ (λ o y k. (y, subst (λ q. Has q (granule o.base)) (sym x.marks) k)) (ap length x.dirty ∙ length-set old.dirty (page_of address) true) (λ q h. subst (λ r. Has r q) (sym x.carried) h) g)))

@@ -19,7 +19,7 @@ use Rattle.block_map.proofs.Finding.{found_as}
 use Rattle.marker.specs.Marking.{Marking, IsMarked, with_carried, word_address}
 use Rattle.marker.specs.Closure.{held}
 use Rattle.marker.specs.Invariant.{IsSettled}
-use Rattle.marker.specs.Growth.{MarksWords, CarriesPage, begun, words_of}
+use Rattle.marker.specs.Growth.{MarksWords, CarriesPage, begun, words_from}
 use Rattle.marker.specs.Retracing.{Rereads, IsBefore, RereadsObjects}
 use Rattle.marker.proofs.Closures.{closure_more, same_object}
 use Rattle.marker.proofs.Growing.{settled_grows, stray_page_more}
@@ -95,10 +95,10 @@ module _ (pages : ℕ) (found : ℕ → Option Found) (map : IsMap pages found) 
 
   -- the words of a marked object are read up to an address
   pub objects_words : (first : Marking) (high g stop n r k page : ℕ) (f : Found) (old new : Marking) → ((i : ℕ) → 0 ≤ i → i < 0 + n → page_of (word_address f i) ≡ page)
-      → CarriesPage found (PAGE_BYTES * length old.dirty) (words_of words f 0 n) page old.carried new.carried → length old.marks ≡ PAGE_GRANULES * pages → f.base < high
+      → CarriesPage found (PAGE_BYTES * length old.dirty) (words_from words f 0 n) page old.carried new.carried → length old.marks ≡ PAGE_GRANULES * pages → f.base < high
       → found f.base ≡ Some f → f.kind ≡ Normal → IsMarked old f.base → granule f.base ≡ g → n ≤ f.len → stop ≡ f.base + WORD_BYTES * n → stop ≤ high
       → (stop ≡ f.base + WORD_BYTES * f.len) ⊎ (stop ≡ high) → k ≡ r + n
-      → MarksWords found old (words_of words f 0 n) (with_carried new old.carried) → RereadsObjects found words first high g (g + 1) r old k new
+      → MarksWords found old (words_from words f 0 n) (with_carried new old.carried) → RereadsObjects found words first high g (g + 1) r old k new
   objects_words first high g stop n r k page f old new one_page carries size below is normal marked at fits end within whole reads x =
       let extends = words_extends pages found map old size x in
       let placed = map.placed f.base f is in
@@ -108,7 +108,7 @@ module _ (pages : ℕ) (found : ℕ → Option Found) (map : IsMap pages found) 
       let inside : i < n = ⊎_elim (λ (q : stop ≡ f.base + WORD_BYTES * f.len). omega arith) (λ (q : stop ≡ high). omega arith) whole in
       let both : (f ≡ h) × (i < n) = (s, inside) in both in
       record {
-        read = words_of words f 0 n;
+        read = words_from words f 0 n;
         marks = x;
         carried_len = carries.len;
         carried = carries.stays;
@@ -119,7 +119,7 @@ module _ (pages : ℕ) (found : ℕ → Option Found) (map : IsMap pages found) 
             (run_settled pages found map words f 0 n page old new one_page carries size x i (omega arith) (omega arith));
         all = λ h e m o from past i lt b.
             let s = among h e from past i lt b in let inside = s.1 in
-            subst (λ (z : Found). Contains (words_of words f 0 n) (word_at words (word_address z i))) s.0 (contains_word words f 0 n i (omega arith) (omega arith));
+            subst (λ (z : Found). Contains (words_from words f 0 n) (word_at words (word_address z i))) s.0 (contains_word words f 0 n i (omega arith) (omega arith));
         only = λ w c.
             let y = word_of words f 0 n w c in let lt = y.2 in let above = placed.above in
             record {

@@ -16,7 +16,7 @@ use Rattle.marker.specs.Marking.{Marking, IsMarked, IsLeftToEntry, IsOutside, wi
 use Rattle.marker.specs.Work.{page_words, cost}
 use Rattle.marker.specs.Closure.{held}
 use Rattle.marker.specs.Invariant.{DirtyPageInvariant, CarriedPageInvariant, IsAwaited, IsSettled}
-use Rattle.marker.specs.Growth.{Traces, MarksWords, CarriesPage, begun, words_of}
+use Rattle.marker.specs.Growth.{Traces, MarksWords, CarriesPage, begun, words_from}
 use Rattle.marker.specs.Retracing.{IsWordBetween, Rereads, Retraces}
 use Rattle.marker.proofs.Closures.{closure_more}
 use Rattle.marker.proofs.Growing.{Extends, target_more, pending_more, settled_grows, stray_page_more}
@@ -64,8 +64,8 @@ rereads_none found words low high m not = record {
 
 -- each of these words of a marked Normal object, which were read on one page, is settled
 pub run_settled : (pages : ℕ) (found : ℕ → Option Found) → IsMap pages found → (words : List ℕ) (f : Found) (first n page : ℕ) (old new : Marking) → ((i : ℕ) → first ≤ i → i < first + n → page_of (word_address f i) ≡ page)
-    → CarriesPage found (PAGE_BYTES * length old.dirty) (words_of words f first n) page old.carried new.carried → length old.marks ≡ PAGE_GRANULES * pages
-    → MarksWords found old (words_of words f first n) (with_carried new old.carried) → (i : ℕ) → first ≤ i → i < first + n → IsSettled found new (word_address f i) (word_at words (word_address f i))
+    → CarriesPage found (PAGE_BYTES * length old.dirty) (words_from words f first n) page old.carried new.carried → length old.marks ≡ PAGE_GRANULES * pages
+    → MarksWords found old (words_from words f first n) (with_carried new old.carried) → (i : ℕ) → first ≤ i → i < first + n → IsSettled found new (word_address f i) (word_at words (word_address f i))
 run_settled pages found map words f first n page old new one_page carries size x i from below =
     let among = contains_word words f first n i from below in
     let same = (words_extends pages found map old size x).dirty_len in
@@ -91,16 +91,16 @@ module _ (pages : ℕ) (found : ℕ → Option Found) (map : IsMap pages found) 
 
   -- the words of the next object are read
   pub rereads_words : (at high stop first n page : ℕ) (f : Found) (old new : Marking) → ((i : ℕ) → first ≤ i → i < first + n → page_of (word_address f i) ≡ page)
-      → CarriesPage found (PAGE_BYTES * length old.dirty) (words_of words f first n) page old.carried new.carried → length old.marks ≡ PAGE_GRANULES * pages → IsNextObject found at high f → stop ≤ f.base + WORD_BYTES * f.len
+      → CarriesPage found (PAGE_BYTES * length old.dirty) (words_from words f first n) page old.carried new.carried → length old.marks ≡ PAGE_GRANULES * pages → IsNextObject found at high f → stop ≤ f.base + WORD_BYTES * f.len
       → found f.base ≡ Some f → f.kind ≡ Normal → IsMarked old f.base → first + n ≤ f.len
       → ((i : ℕ) → at ≤ word_address f i → first ≤ i) → ((i : ℕ) → first ≤ i → at ≤ word_address f i) → stop ≡ f.base + WORD_BYTES * (first + n)
-      → MarksWords found old (words_of words f first n) (with_carried new old.carried) → Rereads found words at stop old new
+      → MarksWords found old (words_from words f first n) (with_carried new old.carried) → Rereads found words at stop old new
   rereads_words at high stop first n page f old new one_page carries size next le is normal marked fits low back end x =
       let e = words_extends pages found map old size x in
       let is_in = λ (g : Found) (i : ℕ) (there : found g.base ≡ Some g) (lt : i < g.len) (from : at ≤ word_address g i) (below : word_address g i < stop).
       next_is pages found at high stop (word_address g i) f g map next le from below (reads_own pages found map g i there lt) in
       record {
-        read = words_of words f first n;
+        read = words_from words f first n;
         marks = x;
         carried_len = carries.len;
         carried = carries.stays;
@@ -116,7 +116,7 @@ module _ (pages : ℕ) (found : ℕ → Option Found) (map : IsMap pages found) 
             let s = next_is pages found at high stop (word_address y.object y.index) f y.object map next le y.from y.below (reads_own pages found map y.object y.index y.is y.inside) in
             let from = subst (λ (z : Found). at ≤ word_address z y.index) (sym s) y.from in
             let below = subst (λ (z : Found). word_address z y.index < stop) (sym s) y.below in
-            subst (Contains (words_of words f first n)) (ap (λ (z : Found). word_at words (word_address z y.index)) s ∙ sym y.word) (contains_word words f first n y.index (low y.index from) (omega arith));
+            subst (Contains (words_from words f first n)) (ap (λ (z : Found). word_at words (word_address z y.index)) s ∙ sym y.word) (contains_word words f first n y.index (low y.index from) (omega arith));
         only = λ w c.
             let y = word_of words f first n w c in let lt = y.2 in
             record {

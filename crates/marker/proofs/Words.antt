@@ -11,14 +11,14 @@ use Rattle.words.specs.declared.class.Kind.TheVariants.{Normal}
 use Rattle.words.specs.declared.limits.TheConstants.{FIRST_ADDRESS, PAGE_BYTES, PAGE_GRANULES}
 use Rattle.words.specs.Bits.{Has}
 use Rattle.words.specs.Layout.{granule, page_of}
-use Rattle.pages.specs.Memory.{place, word_at}
+use Rattle.pages.specs.Memory.{word_index, word_at}
 use Rattle.block_map.specs.declared.found.Found.{Found}
 use Rattle.block_map.specs.Objects.{IsMap, IsPlaced}
 use Rattle.marker.specs.Marking.{Marking, IsConsistent, IsMarked, IsOutside, StaysDirty, with_carried, word_address}
 use Rattle.marker.specs.Work.{cost}
 use Rattle.marker.specs.Closure.{Closure, held, root, word}
 use Rattle.marker.specs.Invariant.{IsTargetMarked, AreRootsMarked}
-use Rattle.marker.specs.Growth.{MarksFirst, MarksWord, MarksWords, TellsFirst, TellsStray, CarriesPage, IsStray, IsStrayPage, Traces, Awaits, words_of, nothing, object, begun, and_word, pointer_free, pushed, dirtied}
+use Rattle.marker.specs.Growth.{MarksFirst, MarksWord, MarksWords, TellsFirst, TellsStray, CarriesPage, IsStray, IsStrayPage, Traces, Awaits, words_from, nothing, object, begun, and_word, pointer_free, pushed, dirtied}
 use Rattle.marker.proofs.Closures.{at_base, marks_of, same_object}
 use Rattle.marker.proofs.Growing.{Extends, extends_refl, extends_trans, target_more, traced_more, carried_more}
 use Rattle.marker.proofs.Spreads.{has_set, has_set_back}
@@ -163,31 +163,31 @@ pub fewer_left : (w x y z : ℕ) {ws vs : List ℕ} → ws ≡ w ∷ x ∷ y ∷
 fewer_left w x y z {ws = ws} {vs = vs} e = let l : length ws ≡ length (w ∷ x ∷ y ∷ z ∷ vs) = ap length e in omega (arith, l)
 
 -- the words of an object from one of them on, as they lie in a row
-pub run_words : (words : List ℕ) (f : Found) (first n start : ℕ) → start ≡ word_address f first → FIRST_ADDRESS ≤ start → place start + n ≤ length words → slice_range words (place start) (place start + n) ≡ words_of words f first n
+pub run_words : (words : List ℕ) (f : Found) (first n start : ℕ) → start ≡ word_address f first → FIRST_ADDRESS ≤ start → word_index start + n ≤ length words → slice_range words (word_index start) (word_index start + n) ≡ words_from words f first n
 run_words words f first n start is above inside =
-    let at = place start in
-    let row = words_of words f first n in
+    let at = word_index start in
+    let row = words_from words f first n in
     let rest : length (drop at words) ≡ length words - at = length-drop at words in
     let size : length (slice_range words at (at + n)) ≡ n = (let cut : at + n - at ≡ n = omega arith in ap (λ k. length (take k (drop at words))) cut ∙ length-take-le n (drop at words) (omega (arith, rest, inside))) in
     ext_get_or 0 (slice_range words at (at + n)) row (size ∙ sym (length-map-range_with_len (λ i. word_at words (word_address f i)) first n))
     (λ i lt.
     let below : i < n = omega (arith, lt, size) in
-    let there : place (word_address f (first + i)) ≡ at + i = omega (arith, is, above) in
+    let there : word_index (word_address f (first + i)) ≡ at + i = omega (arith, is, above) in
     get_or-take (at + n - at) (drop at words) i 0 (omega (arith, below))
     ∙ get_or-drop at words i 0
     ∙ ap (λ k. get_or words k 0) (sym there)
     ∙ sym (get_or-map-range_with_len (λ k. word_at words (word_address f k)) first n i (first + i) 0 below refl))
 
 -- which words are some of an object's
-pub contains_word : (words : List ℕ) (f : Found) (first n i : ℕ) → first ≤ i → i < first + n → Contains (words_of words f first n) (word_at words (word_address f i))
+pub contains_word : (words : List ℕ) (f : Found) (first n i : ℕ) → first ≤ i → i < first + n → Contains (words_from words f first n) (word_at words (word_address f i))
 contains_word words f first n i le lt =
     let k : i - first < n = omega arith in
-    let l : length (words_of words f first n) ≡ n = length-map-range_with_len (λ j. word_at words (word_address f j)) first n in
+    let l : length (words_from words f first n) ≡ n = length-map-range_with_len (λ j. word_at words (word_address f j)) first n in
     (i - first, omega (arith, l), get_or-map-range_with_len (λ j. word_at words (word_address f j)) first n (i - first) i _ k (omega arith))
 
-pub word_of : (words : List ℕ) (f : Found) (first n w : ℕ) → Contains (words_of words f first n) w → (i : ℕ) × (first ≤ i) × (i < first + n) × (w ≡ word_at words (word_address f i))
+pub word_of : (words : List ℕ) (f : Found) (first n w : ℕ) → Contains (words_from words f first n) w → (i : ℕ) × (first ≤ i) × (i < first + n) × (w ≡ word_at words (word_address f i))
 word_of words f first n w h =
-    let l : length (words_of words f first n) ≡ n = length-map-range_with_len (λ j. word_at words (word_address f j)) first n in
+    let l : length (words_from words f first n) ≡ n = length-map-range_with_len (λ j. word_at words (word_address f j)) first n in
     let lt = h.1 in
     let k : h.0 < n = omega (arith, l, lt) in
     (first + h.0, omega arith, omega arith, sym h.2 ∙ get_or-map-range_with_len (λ j. word_at words (word_address f j)) first n h.0 (first + h.0) _ k refl)
@@ -271,10 +271,10 @@ module _ (pages : ℕ) (found : ℕ → Option Found) (map : IsMap pages found) 
 
     -- words of a marked Normal object point into objects of the closure
     pub words_within : (words : List ℕ) (f : Found) (first n : ℕ) {new : Marking} → found f.base ≡ Some f → f.kind ≡ Normal → IsMarked old f.base → first + n ≤ f.len
-        → MarksWords found old (words_of words f first n) new → (g : Found) → found g.base ≡ Some g → IsMarked new g.base → Closure found words [] (IsMarked old) g
+        → MarksWords found old (words_from words f first n) new → (g : Found) → found g.base ≡ Some g → IsMarked new g.base → Closure found words [] (IsMarked old) g
     words_within words f first n e normal marked fits x g is h =
         ⊎_elim (λ o. held is o)
-        (λ (t : (w : ℕ) × Contains (words_of words f first n) w × (found w ≡ Some g)).
+        (λ (t : (w : ℕ) × Contains (words_from words f first n) w × (found w ≡ Some g)).
         let y = word_of words f first n t.0 t.1 in let b = y.2 in
         word y.0 (held e marked) normal (omega arith) (ap found (sym y.3) ∙ t.2))
         (words_cases x g is h)
@@ -299,11 +299,11 @@ scanned {pages = pages} {found = found} {old = old} {new = new} map consistent s
 
 -- words of a marked Normal object were read on one page, and where one of them is stray it is carried
 pub run_strays : (found : ℕ → Option Found) (words : List ℕ) (f : Found) (first n page : ℕ) (old : Marking) (carried : List Bool) → ((i : ℕ) → first ≤ i → i < first + n → page_of (word_address f i) ≡ page)
-    → CarriesPage found (PAGE_BYTES * length old.dirty) (words_of words f first n) page old.carried carried → found f.base ≡ Some f → f.kind ≡ Normal → IsMarked old f.base → first + n ≤ f.len
+    → CarriesPage found (PAGE_BYTES * length old.dirty) (words_from words f first n) page old.carried carried → found f.base ≡ Some f → f.kind ≡ Normal → IsMarked old f.base → first + n ≤ f.len
     → (p : ℕ) → Has carried p → Has old.carried p ⊎ IsStrayPage found words [] old p
 run_strays found words f first n page old carried one_page carries is normal marked fits p h =
     ⊎_elim (λ o. inl o)
-    (λ (s : (p ≡ page) × ((w : ℕ) × Contains (words_of words f first n) w × IsStray found (PAGE_BYTES * length old.dirty) w)).
+    (λ (s : (p ≡ page) × ((w : ℕ) × Contains (words_from words f first n) w × IsStray found (PAGE_BYTES * length old.dirty) w)).
     let y = word_of words f first n s.1.0 s.1.1 in let lt = y.2 in
     inr (record {
       object = f;
@@ -318,7 +318,7 @@ run_strays found words f first n page old carried one_page carries is normal mar
     (carries.only p h)
 
 -- where a word of a run is stray, there is one, and its page is one of the heap
-pub run_page : (pages : ℕ) (words : List ℕ) (f : Found) (first n : ℕ) (found : ℕ → Option Found) (bytes : ℕ) (ws : List ℕ) (b : Bool) → IsPlaced pages f → first + n ≤ f.len → ws ≡ words_of words f first n → TellsStray found bytes ws b → b ≡ true
+pub run_page : (pages : ℕ) (words : List ℕ) (f : Found) (first n : ℕ) (found : ℕ → Option Found) (bytes : ℕ) (ws : List ℕ) (b : Bool) → IsPlaced pages f → first + n ≤ f.len → ws ≡ words_from words f first n → TellsStray found bytes ws b → b ≡ true
     → page_of (word_address f first) < pages
 run_page pages words f first n found bytes ws b placed fits e tells is =
     let s = tells.some is in

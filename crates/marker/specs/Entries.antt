@@ -7,7 +7,7 @@ use Rattle.block_map.specs.declared.found.Found.{Found}
 use Rattle.marker.specs.declared.entry.Entry.{Entry}
 use Rattle.marker.specs.Marking.{Marking, IsMarked, IsEntry, entries, with_current, with_carried, bytes_of, word_address}
 use Rattle.marker.specs.Invariant.{IsTargetMarked}
-use Rattle.marker.specs.Growth.{MarksWords, CarriesPage, words_of}
+use Rattle.marker.specs.Growth.{MarksWords, CarriesPage, words_from}
 
 -- no object reads on at the entry: none with its base is Normal and marked and has the word
 abbrev pub IsSpent : (ℕ → Option Found) → Marking → Entry → Type 0
@@ -48,11 +48,11 @@ pub record ReadsOn (found : ℕ → Option Found) (words : List ℕ) (n : ℕ) (
   pub live : IsLive found old object
   pub fits : live.entry.next + n ≤ object.len
   pub mid : Marking
-  pub reads : MarksWords found old (words_of words object live.entry.next n) mid
+  pub reads : MarksWords found old (words_from words object live.entry.next n) mid
   pub page : ℕ
   pub one_page : (i : ℕ) → live.entry.next ≤ i → i < live.entry.next + n → page_of (word_address object i) ≡ page
   pub carried : List Bool
-  pub carries : CarriesPage found (bytes_of old) (words_of words object live.entry.next n) page old.carried carried
+  pub carries : CarriesPage found (bytes_of old) (words_from words object live.entry.next n) page old.carried carried
   pub new_is : new ≡ with_current (with_carried mid carried) (read_on live.entry n)
 
 -- The next n words of the entry that is being read are done with, and it goes on by n, or is dropped where none is left.

@@ -94,8 +94,8 @@ pub record IsStrayPage (found : ℕ → Option Found) (words roots : List ℕ) (
   pub stray : IsStray found (bytes_of m) (word_at words (word_address object index))
 
 -- n words of an object from its word `first` on
-abbrev pub words_of : List ℕ → Found → ℕ → ℕ → List ℕ
-words_of words f first n = map (λ i. word_at words (word_address f i)) (range_with_len first n)
+abbrev pub words_from : List ℕ → Found → ℕ → ℕ → List ℕ
+words_from words f first n = map (λ i. word_at words (word_address f i)) (range_with_len first n)
 
 -- What a call of the marker does: it keeps the invariant, marks only objects, and only those of the closure of the marks
 -- before and the roots, makes only pages of newly marked objects dirty, and makes only pages carried on which a stray word stands.

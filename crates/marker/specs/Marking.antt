@@ -115,7 +115,7 @@ pub record IsDone (m : Marking) : Type 0 where
   pub empty : IsEmpty m
 
 -- nothing is marked, no page is dirty or carried and no entry is left
-pub record IsFresh (pages : ℕ) (m : Marking) : Type 0 where
+pub record IsBlank (pages : ℕ) (m : Marking) : Type 0 where
   pub marks : IsClear m.marks (PAGE_GRANULES * pages)
   pub dirty : IsClear m.dirty pages
   pub carried : IsClear m.carried pages

@@ -6,7 +6,7 @@ ghost use Rattle.words.specs.Layout.{granule};
 ghost use Rattle.pages.specs.Opening.{IsOpened};
 ghost use Rattle.block_map.specs.declared.found.Found.{Found};
 ghost use Rattle.block_map.specs.FoundIn.{IsLawful};
-ghost use Rattle.marker.specs.Marking.{IsConsistent, IsFresh};
+ghost use Rattle.marker.specs.Marking.{IsConsistent, IsBlank};
 ghost use Rattle.block_map.specs.Objects.{IsMap};
 ghost use Rattle.marker.specs.Invariant.{DirtyPageInvariant, CarriedPageInvariant};
 ghost use Rattle.marker.specs.Mutations.{BeginsPartial};
@@ -57,7 +57,7 @@ pub(crate) fn heap_bytes(map: &BlockMap) -> u64
 impl Marker {
     /// A marker of a heap of so many pages, with no mark, no dirty page and no entry.
     pub fn new(alloc: Global, pages: u32) -> Result<Marker, OpenError>
-        ensures { IsOpened pages result (λ m. IsFresh pages m) }
+        ensures { IsOpened pages result (λ m. IsBlank pages m) }
     {
         if !is_page_count(pages) {
             return Err(OpenError::BadPages);
@@ -85,7 +85,7 @@ impl Marker {
     /// Begins a cycle: no mark, no dirty page and no entry.
     #[tactic(auto, using(crate::proofs::Mutating::mutating))]
     pub fn begin(&mut self)
-        ensures fresh { IsFresh (length self.old.dirty) self.new }
+        ensures blank { IsBlank (length self.old.dirty) self.new }
         ensures invariant { (found : ℕ → Option Found) (words : List ℕ) → DirtyPageInvariant found words self.new }
         ensures carried { (found : ℕ → Option Found) (words : List ℕ) → CarriedPageInvariant found words self.new }
     {

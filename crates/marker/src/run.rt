@@ -8,7 +8,7 @@ ghost use Rattle.block_map.specs.FoundIn.{found_in, IsLawful};
 ghost use Rattle.marker.specs.Marking.{IsOutside, StaysDirty, with_carried, word_address};
 ghost use Rattle.marker.specs.Work.{cost};
 ghost use Rattle.marker.specs.Invariant.{AreRootsMarked};
-ghost use Rattle.marker.specs.Growth.{CarriesPage, MarksFirst, MarksWords, TellsFirst, TellsStray, Traces, words_of};
+ghost use Rattle.marker.specs.Growth.{CarriesPage, MarksFirst, MarksWords, TellsFirst, TellsStray, Traces, words_from};
 
 use crate::marker::{Marker, heap_bytes};
 use block_map::{BlockMap, Found};
@@ -145,8 +145,8 @@ impl Marker {
         requires placed { IsPlaced (length map.now) found }
         requires fits { first + count ≤ found.len }
         requires one_page { (i : ℕ) → first ≤ i → i < first + count → page_of (word_address found i) ≡ page_of (word_address found first) }
-        ensures marks { MarksWords (found_in map.now) self.old (words_of reader.old.words found first count) (with_carried self.new self.old.carried) }
-        ensures carries { CarriesPage (found_in map.now) (PAGE_BYTES * length map.now) (words_of reader.old.words found first count) (page_of (word_address found first)) self.old.carried self.new.carried }
+        ensures marks { MarksWords (found_in map.now) self.old (words_from reader.old.words found first count) (with_carried self.new self.old.carried) }
+        ensures carries { CarriesPage (found_in map.now) (PAGE_BYTES * length map.now) (words_from reader.old.words found first count) (page_of (word_address found first)) self.old.carried self.new.carried }
         ensures words { reader.new.words ≡ reader.old.words }
         ensures counted { reader.new.reads ≡ reader.old.reads + count }
     {

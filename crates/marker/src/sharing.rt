@@ -1,21 +1,16 @@
 //! What the marker lends to the helpers of a pause, and takes back from them.
-ghost use Rattle.std.specs.Prelude.{◌≡◌, ◌⊎◌, ℕ, ◌<◌, ◌≤◌, [], None, true, false, length, slice_index_or, IfOk, IfErr, IfSome, MatchOption};
-ghost use Rattle.words.specs.declared.limits.TheConstants.{MAX_PAGES};
+ghost use Rattle.std.specs.Prelude.{◌≡◌, ◌⊎◌, ℕ, ◌<◌, ◌≤◌, [], None, true, false, length, slice_index_or, IfOk, IfErr};
 ghost use Rattle.words.specs.declared.refusal.OpenError.TheVariants.{Memory};
 ghost use Rattle.words.specs.Bits.{Has};
 ghost use Rattle.mark_bits.specs.Tables.{view, start_of, IsOf};
 ghost use Rattle.mark_bits.specs.Claims.{all_parts, first_view, knows, Gathers};
-ghost use Rattle.block_map.specs.Objects.{IsPlaced};
-ghost use Rattle.block_map.specs.FoundIn.{found_in};
-ghost use Rattle.marker.specs.Entries.{IsSpent, IsUnread};
 
 use crate::entry::Entry;
 use crate::marker::Marker;
-use block_map::{BlockMap, Found};
 use dirty_pages::DirtyPages;
 use mark_bits::{Claimer, MarkTable};
 use std::alloc::Global;
-use words::{Kind, OpenError};
+use words::OpenError;
 
 impl Marker {
     /// The marks as a table that several threads claim from, and the claimer that has all its parts. The one error is
@@ -54,31 +49,6 @@ impl Marker {
         ensures { result.now ≡ self.now.stack }
     {
         self.stack.as_slice()
-    }
-
-    /// The object of which an entry has words left to read, and `None` exactly where it has none.
-    #[tactic(auto, using(crate::proofs::MarkWord::marking))]
-    pub fn unread(&self, map: &BlockMap, entry: Entry) -> Option<Found>
-        requires pages { length self.now.dirty ≡ length map.now }
-        ensures object { MatchOption result (IsSpent (found_in map.now) self.now entry) (λ f. IsUnread (found_in map.now) self.now entry f) }
-        ensures placed { IfSome result (λ f. IsPlaced (length map.now) f × (length map.now ≤ MAX_PAGES)) }
-    {
-        self.laws();
-        let found = map.find(entry.base)?;
-        if found.base != entry.base {
-            return None;
-        }
-        if found.kind == Kind::PointerFree {
-            return None;
-        }
-        if entry.next >= found.len {
-            return None;
-        }
-        if self.is_marked(found.base) {
-            Some(found)
-        } else {
-            None
-        }
     }
 
     /// Ends the work of helpers: the marks are those of the table, the dirty pages are these, these too are carried, and no

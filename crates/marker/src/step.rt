@@ -8,7 +8,7 @@ ghost use Rattle.marker.specs.declared.entry.Entry.{Entry};
 ghost use Rattle.marker.specs.Marking.{IsEmpty, StaysDirty, entries};
 ghost use Rattle.marker.specs.Work.{cost};
 ghost use Rattle.marker.specs.Growth.{Traces};
-ghost use Rattle.marker.specs.Entries.{IsSpent, IsLive, Settles, ReadsOn, ReadsOff, Takes, TakesOff};
+ghost use Rattle.marker.specs.Entries.{IsSpent, IsUnread, IsLive, Settles, ReadsOn, ReadsOff, Takes, TakesOff};
 
 use crate::entry::Entry;
 use crate::marker::{Marker, heap_bytes};
@@ -70,6 +70,31 @@ impl Marker {
             if !self.take_entry() {
                 return None;
             }
+        }
+    }
+
+    /// The object of which an entry has words left to read, and `None` exactly where it has none.
+    #[tactic(auto, using(crate::proofs::MarkWord::marking))]
+    pub fn unread(&self, map: &BlockMap, entry: Entry) -> Option<Found>
+        requires pages { length self.now.dirty ≡ length map.now }
+        ensures object { MatchOption result (IsSpent (found_in map.now) self.now entry) (λ f. IsUnread (found_in map.now) self.now entry f) }
+        ensures placed { IfSome result (λ f. IsPlaced (length map.now) f × (length map.now ≤ MAX_PAGES)) }
+    {
+        self.laws();
+        let found = map.find(entry.base)?;
+        if found.base != entry.base {
+            return None;
+        }
+        if found.kind == Kind::PointerFree {
+            return None;
+        }
+        if entry.next >= found.len {
+            return None;
+        }
+        if self.is_marked(found.base) {
+            Some(found)
+        } else {
+            None
         }
     }
 

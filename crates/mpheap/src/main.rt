@@ -2,7 +2,7 @@
 #![tactic(auto)]
 
 use command_line::program;
-use commands::{end, own_words};
+use programs::{end, own_words};
 use scripts::Std;
 use std::io;
 use std::process::ExitCode;

@@ -5,7 +5,7 @@ use denote.RawPtr.{Ptr}
 use Rattle.std.specs.Box.Ownership.{box_owns}
 use Rattle.std.specs.Global.{Global}
 use Rattle.std_heap.specs.contracts.GlobalAllocator.TheImpl.{ghosts}
-use Rattle.heap_core.specs.Contents.{Contents}
+use Rattle.heap_core.specs.CoreContents.{CoreContents}
 use Rattle.heap_core.specs.contracts.heap.Core.{the_row}
 
 -- nothing while it is closed, and else the core behind its pointer, with the right to free it
@@ -14,5 +14,5 @@ core_owns alloc at None = ftrue
 core_owns alloc at (Some core) = box_owns (ghosts.dealloc_token alloc) the_row at core
 
 -- there is a core
-abbrev pub IsOpen : Option Contents → Type 0
-IsOpen core = (c : Contents) × (core ≡ Some c)
+abbrev pub IsOpen : Option CoreContents → Type 0
+IsOpen core = (c : CoreContents) × (core ≡ Some c)

@@ -1,6 +1,6 @@
 //! A handle.
 ghost use Rattle.std.specs.Prelude.{◌≡◌, Option, Some, None};
-ghost use Rattle.heap_core.specs.Contents.{Contents};
+ghost use Rattle.heap_core.specs.CoreContents.{CoreContents};
 ghost use Rattle.mpheap_c.specs.Handle.{core_owns, IsOpen};
 
 mod lend;
@@ -16,7 +16,7 @@ use std::ptr::null_mut;
 pub struct Heap {
     at: *mut u8,
     alloc: Global,
-    pub ghost core: { Option Contents },
+    pub ghost core: { Option CoreContents },
 }
 
 impl Model for Heap {

@@ -11,7 +11,7 @@ use Rattle.words.specs.Classes.{IsSizeClass}
 use Rattle.words.specs.Layout.{page_start}
 use Rattle.heap_spec.specs.Heap.{Object}
 use Rattle.heap_spec.specs.Room.{HasSmallRoom}
-use Rattle.pages.specs.Memory.{IsWordAddress, IsZeroed, place}
+use Rattle.pages.specs.Memory.{IsWordAddress, IsZeroed, word_index}
 use Rattle.pages.specs.Runs.{IsFreeRun, HasNoFreeRun, IsFilled}
 use Rattle.blocks.specs.Cells.{Cells, IsCells}
 use Rattle.blocks.proofs.Places.{class_bounds}
@@ -110,8 +110,8 @@ module _ (t : Store) (laid : IsLaid t.states) (lawful : IsLawful t.states) (clas
     words = others_kept (found_in t.states) (found_in states') (length states') t.words words' f (subst (λ n. IsMap n (found_in t.states)) (sym (ap length takes.became ∙ length-set t.states page _)) lawful.map) placed takes.added zeroed_here;
   }
     where
-      zeroed_here : IsZeroed t.words words' (place f.base) f.len
-      zeroed_here = subst (λ b. IsZeroed t.words words' (place b) (object_on page (state_at t.states page) cell).len) takes.at takes.zeroed
+      zeroed_here : IsZeroed t.words words' (word_index f.base) f.len
+      zeroed_here = subst (λ b. IsZeroed t.words words' (word_index b) (object_on page (state_at t.states page) cell).len) takes.at takes.zeroed
 
   abbrev next : ℕ
   next = link_on t.words page (state_at t.states page) cell
@@ -276,7 +276,7 @@ no_room_small t class kind sound laid lawful is_class no_cell no_page s stores a
 -- a run of free pages becomes a large object
 module _ (t : Store) (sound : HasSoundPages t) (laid : IsLaid t.states) (lawful : IsLawful t.states) (n : ℕ) (kind : Kind) (first : ℕ) (words' : List ℕ) (free' : List Bool) (states' : List PageState) (some_pages : 0 < n)
     (run : IsFreeRun t.free first n) (taken_run : IsFilled t.free free' first n false) (span : IsSpanSet t.states states' first n (large_states first n kind))
-    (added : IsAdded (found_in t.states) (found_in states') (large_object first n kind)) (zeroed : IsZeroed t.words words' (place (page_start first)) (PAGE_WORDS * n)) where
+    (added : IsAdded (found_in t.states) (found_in states') (large_object first n kind)) (zeroed : IsZeroed t.words words' (word_index (page_start first)) (PAGE_WORDS * n)) where
   abbrev pub with_large : Store
   with_large = record t { words = words'; free = free'; states = states' }
 
@@ -362,12 +362,12 @@ module _ (words : List ℕ) (states states' : List PageState) (page : ℕ) (f : 
       some = subst (λ (x : Found). 0 < x.len) (sym is) (by (state_at states page) first (laid.each page inside))
 
   -- its words are the memory's
-  pub first_words : AreListed words states' → IsWordAddress words f.base × (place f.base + f.len ≤ length words)
+  pub first_words : AreListed words states' → IsWordAddress words f.base × (word_index f.base + f.len ≤ length words)
   first_words listed =
       let placed = (map_laws states' first_laid).map.placed f.base f first_found in
       let aligned = placed.aligned in let above = placed.above in let below = placed.below in let some = placed.some in let long = listed.size in
       (record { aligned = omega arith; above = omega arith; below = omega arith }, omega arith)
 
   -- and while they become 0 the lists stay
-  pub first_zeroed : (words' : List ℕ) → IsZeroed words words' (place f.base) f.len → AreListed words states' → AreListed words' states'
+  pub first_zeroed : (words' : List ℕ) → IsZeroed words words' (word_index f.base) f.len → AreListed words states' → AreListed words' states'
   first_zeroed words' zeroed listed = listed_zeroed words states' first_laid words' f first_found zeroed listed

@@ -3,7 +3,7 @@ use Rattle.std.proofs.Common.{◌≡◌, ℕ, ◌+◌, ◌<◌, Bool, true, fals
 use Rattle.std.specs.Prelude.{◌++◌, ◌∷◌, filter, Option, ◌||◌, ◌&&◌, ◌==◌}
 use Rattle.std.proofs.lemmas.List.Folds.{list_any_more}
 use Rattle.std.proofs.lemmas.List.Elements.{filter_more}
-use Rattle.pages.specs.Memory.{place}
+use Rattle.pages.specs.Memory.{word_index}
 use Rattle.block_map.specs.declared.found.Found.{Found}
 use Rattle.links.specs.declared.row.Link.{Link}
 use Rattle.object_space.specs.Store.{Store}
@@ -35,10 +35,10 @@ along_more marks row i l d t0 t t' lt is so one =
       };
       words = λ k.
           one'.words k
-          ∙ ap (λ w. cond ((place l.address == k) && is_cleared (kept_in t0.states t0.pending marks) l) 0 w) (so.words k)
-          ∙ cond_or (clears (kept_in t0.states t0.pending marks) (take i row) k) ((place l.address == k) && is_cleared (kept_in t0.states t0.pending marks) l) 0 (get_or t0.words k 0)
-          ∙ ap (λ b. cond b 0 (get_or t0.words k 0)) (ap (λ (x : Link). clears (kept_in t0.states t0.pending marks) (take i row) k || ((place x.address == k) && is_cleared (kept_in t0.states t0.pending marks) x)) is
-          ∙ sym (list_any_more (λ (x : Link). (place x.address == k) && is_cleared (kept_in t0.states t0.pending marks) x) row i d lt));
+          ∙ ap (λ w. cond ((word_index l.address == k) && is_cleared (kept_in t0.states t0.pending marks) l) 0 w) (so.words k)
+          ∙ cond_or (clears (kept_in t0.states t0.pending marks) (take i row) k) ((word_index l.address == k) && is_cleared (kept_in t0.states t0.pending marks) l) 0 (get_or t0.words k 0)
+          ∙ ap (λ b. cond b 0 (get_or t0.words k 0)) (ap (λ (x : Link). clears (kept_in t0.states t0.pending marks) (take i row) k || ((word_index x.address == k) && is_cleared (kept_in t0.states t0.pending marks) x)) is
+          ∙ sym (list_any_more (λ (x : Link). (word_index x.address == k) && is_cleared (kept_in t0.states t0.pending marks) x) row i d lt));
     }
 
 -- and which of them stay

@@ -7,7 +7,7 @@ use Rattle.std.proofs.lemmas.Option.{same_Some}
 use Rattle.words.specs.declared.limits.TheConstants.{FIRST_ADDRESS}
 use Rattle.words.specs.declared.class.Kind.{Kind}
 use Rattle.heap_spec.specs.Heap.{Object, with_at, without_at}
-use Rattle.pages.specs.Memory.{place, with_word_at}
+use Rattle.pages.specs.Memory.{word_index, with_word_at}
 use Rattle.marker.specs.Mutations.{KeepsWords, HasZeroWords}
 use Rattle.block_map.specs.Objects.{IsMap, IsInside}
 use Rattle.block_map.specs.Changes.{IsAdded, IsRemoved}
@@ -15,48 +15,48 @@ use Rattle.block_map.specs.declared.found.Found.{Found}
 use Rattle.heap_view.specs.Shows.{IsShown, Shows}
 use Rattle.heap_spec.proofs.Objects.{without_one, without_one-other}
 use Rattle.object_space.proofs.Tables.{with_at-same, with_at-other, with_at-cases}
-use Rattle.heap_view.proofs.Shows.{at_base, one_at_base, word_index, reads_place}
+use Rattle.heap_view.proofs.Shows.{at_base, one_at_base, index_of_word, reads_place}
 use Rattle.object_space.proofs.Words.{shown_kept, word_is}
 
 -- a word is stored
 module _ (found : ℕ → Option Found) (pages : ℕ) (map : IsMap pages found) (words : List ℕ) (objects : ℕ → Option Object) (births : ℕ) (shows : Shows found words objects births)
-    (w v : ℕ) (f : Found) (o : Object) (is : found w ≡ Some f) (has : objects f.base ≡ Some o) (shown : IsShown words f o) (aligned : w % 8 ≡ 0) (inside : place w < length words) where
+    (w v : ℕ) (f : Found) (o : Object) (is : found w ≡ Some f) (has : objects f.base ≡ Some o) (shown : IsShown words f o) (aligned : w % 8 ≡ 0) (inside : word_index w < length words) where
   abbrev pub written : Object
   written = record o { words = set o.words ((w - f.base) / 8) v }
 
   low : FIRST_ADDRESS ≤ w
   low = let above = (map.placed w f is).above in let from = (map.reads w f is).from in omega arith
 
-  written_shown : IsShown (set words (place w) v) f written
+  written_shown : IsShown (set words (word_index w) v) f written
   written_shown = record {
     kind = shown.kind;
     size = length-set o.words ((w - f.base) / 8) v ∙ shown.size;
     word = λ i lt. ⊎_elim (same i) (other i lt) (cases_eq i ((w - f.base) / 8));
   }
     where
-      at : ((w - f.base) / 8 < f.len) × (place f.base + (w - f.base) / 8 ≡ place w)
-      at = word_index found pages map w f is aligned
+      at : ((w - f.base) / 8 < f.len) × (word_index f.base + (w - f.base) / 8 ≡ word_index w)
+      at = index_of_word found pages map w f is aligned
 
-      same : (i : ℕ) → i ≡ (w - f.base) / 8 → slice_index (set o.words ((w - f.base) / 8) v) i ≡ slice_index (set words (place w) v) (place f.base + i)
+      same : (i : ℕ) → i ≡ (w - f.base) / 8 → slice_index (set o.words ((w - f.base) / 8) v) i ≡ slice_index (set words (word_index w) v) (word_index f.base + i)
       same i e =
           let short : (w - f.base) / 8 < length o.words = let size = shown.size in let lt = at.0 in omega arith in
           ap (λ j. get_or (set o.words ((w - f.base) / 8) v) j 0) e
           ∙ get_or-set_same o.words ((w - f.base) / 8) v 0 short
-          ∙ sym (get_or-set_same words (place w) v 0 inside)
-          ∙ ap (λ j. get_or (set words (place w) v) j 0) (sym (ap (λ j. place f.base + j) e ∙ at.1))
+          ∙ sym (get_or-set_same words (word_index w) v 0 inside)
+          ∙ ap (λ j. get_or (set words (word_index w) v) j 0) (sym (ap (λ j. word_index f.base + j) e ∙ at.1))
 
-      other : (i : ℕ) → i < f.len → i ≢ (w - f.base) / 8 → slice_index (set o.words ((w - f.base) / 8) v) i ≡ slice_index (set words (place w) v) (place f.base + i)
+      other : (i : ℕ) → i < f.len → i ≢ (w - f.base) / 8 → slice_index (set o.words ((w - f.base) / 8) v) i ≡ slice_index (set words (word_index w) v) (word_index f.base + i)
       other i lt ne =
-          let apart : place f.base + i ≢ place w = λ e. let there = at.1 in ne (omega arith) in
-          get_or-set_other o.words ((w - f.base) / 8) i v 0 ne ∙ shown.word i lt ∙ sym (get_or-set_other words (place w) (place f.base + i) v 0 apart)
+          let apart : word_index f.base + i ≢ word_index w = λ e. let there = at.1 in ne (omega arith) in
+          get_or-set_other o.words ((w - f.base) / 8) i v 0 ne ∙ shown.word i lt ∙ sym (get_or-set_other words (word_index w) (word_index f.base + i) v 0 apart)
 
-  others_shown : (g : Found) (p : Object) → found g.base ≡ Some g → g.base ≢ f.base → IsShown words g p → IsShown (set words (place w) v) g p
+  others_shown : (g : Found) (p : Object) → found g.base ≡ Some g → g.base ≢ f.base → IsShown words g p → IsShown (set words (word_index w) v) g p
   others_shown g p there ne old = record {
     kind = old.kind;
     size = old.size;
     word = λ i lt.
-        let apart : place g.base + i ≢ place w = λ e. ne (ap (λ (x : Found). x.base) (one_found (reads_place found pages map w i g there lt low aligned e))) in
-        old.word i lt ∙ sym (get_or-set_other words (place w) (place g.base + i) v 0 apart);
+        let apart : word_index g.base + i ≢ word_index w = λ e. ne (ap (λ (x : Found). x.base) (one_found (reads_place found pages map w i g there lt low aligned e))) in
+        old.word i lt ∙ sym (get_or-set_other words (word_index w) (word_index g.base + i) v 0 apart);
   }
     where
       one_found : found w ≡ Some g → g ≡ f
@@ -66,7 +66,7 @@ module _ (found : ℕ → Option Found) (pages : ℕ) (map : IsMap pages found) 
   shows_stored = record {
     shown = record {
       kept = λ g there. ⊎_elim
-          (λ same. subst (λ (x : Found). (p : Object) × (with_at objects f.base (Some written) x.base ≡ Some p) × IsShown (set words (place w) v) x p)
+          (λ same. subst (λ (x : Found). (p : Object) × (with_at objects f.base (Some written) x.base ≡ Some p) × IsShown (set words (word_index w) v) x p)
           (sym (one_at_base found pages map f g (at_base found pages map w f is) there same))
           (written, with_at-same objects f.base (Some written) f.base refl, written_shown))
           (λ ne. let old = shows.shown.kept g there in (old.0, with_at-other objects f.base (Some written) g.base ne ∙ old.1, others_shown g old.0 there ne old.2))

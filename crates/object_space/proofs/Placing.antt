@@ -8,7 +8,7 @@ use Rattle.words.proofs.Placements.{placement_has}
 use Rattle.object_space.specs.Rooms.{IsRequest}
 
 -- where a request goes is of a fit size
-pub sized : (n : ℕ) (place : Placement) → placement_of n ≡ Some place → IsRequest place
-sized n place is =
-    placement_has IsRequest n place is (λ class size holds. tt)
+pub sized : (n : ℕ) (placement : Placement) → placement_of n ≡ Some placement → IsRequest placement
+sized n placement is =
+    placement_has IsRequest n placement is (λ class size holds. tt)
     (λ more most. let some : 0 < div_ceil n PAGE_WORDS = omega arith in let few : PAGE_WORDS * div_ceil n PAGE_WORDS ≤ MAX_REQUEST_WORDS = omega arith in (some, few))

@@ -13,20 +13,20 @@ if_none_map None f p = f p
 if_none_map (Some x) f p = tt
 
 -- a place was looked for once pages were swept
-pub finds_place : (old ready new : Store) (marks : List Bool) (place : Placement) (kind : Kind) (base : Option ℕ) → Sweeps old marks ready
-    → IfSome base (λ b. HasRoomAt ready place kind b) → IfSome base (λ b. Gains ready place kind b new) → IfNone base (HasNoRoom ready place kind × (new ≡ ready))
-    → MatchOption base (FindsNoPlace old marks place kind new) (λ b. Allocates old marks place kind b new)
-finds_place old ready new marks place kind None sweeps room gains none =
-    subst (λ (t : Store). FindsNoPlace old marks place kind t) (sym none.1) (record { sweeps = sweeps; none = none.0 })
-finds_place old ready new marks place kind (Some b) sweeps room gains none = record { ready = ready; sweeps = sweeps; room = room; gains = gains }
+pub finds_place : (old ready new : Store) (marks : List Bool) (placement : Placement) (kind : Kind) (base : Option ℕ) → Sweeps old marks ready
+    → IfSome base (λ b. HasRoomAt ready placement kind b) → IfSome base (λ b. Gains ready placement kind b new) → IfNone base (HasNoRoom ready placement kind × (new ≡ ready))
+    → MatchOption base (FindsNoPlace old marks placement kind new) (λ b. Allocates old marks placement kind b new)
+finds_place old ready new marks placement kind None sweeps room gains none =
+    subst (λ (t : Store). FindsNoPlace old marks placement kind t) (sym none.1) (record { sweeps = sweeps; none = none.0 })
+finds_place old ready new marks placement kind (Some b) sweeps room gains none = record { ready = ready; sweeps = sweeps; room = room; gains = gains }
 
 -- and again once more pages were swept
-pub allocates_after : (old mid new : Store) (marks : List Bool) (place : Placement) (kind : Kind) (base : ℕ) → Sweeps old marks mid → Allocates mid marks place kind base new → Allocates old marks place kind base new
-allocates_after old mid new marks place kind base sweeps a = record { ready = a.ready; sweeps = sweeps_more old marks mid a.ready sweeps a.sweeps; room = a.room; gains = a.gains }
+pub allocates_after : (old mid new : Store) (marks : List Bool) (placement : Placement) (kind : Kind) (base : ℕ) → Sweeps old marks mid → Allocates mid marks placement kind base new → Allocates old marks placement kind base new
+allocates_after old mid new marks placement kind base sweeps a = record { ready = a.ready; sweeps = sweeps_more old marks mid a.ready sweeps a.sweeps; room = a.room; gains = a.gains }
 
-pub no_place_after : (old mid new : Store) (marks : List Bool) (place : Placement) (kind : Kind) → Sweeps old marks mid → FindsNoPlace mid marks place kind new → FindsNoPlace old marks place kind new
-no_place_after old mid new marks place kind sweeps a = record { sweeps = sweeps_more old marks mid new sweeps a.sweeps; none = a.none }
+pub no_place_after : (old mid new : Store) (marks : List Bool) (placement : Placement) (kind : Kind) → Sweeps old marks mid → FindsNoPlace mid marks placement kind new → FindsNoPlace old marks placement kind new
+no_place_after old mid new marks placement kind sweeps a = record { sweeps = sweeps_more old marks mid new sweeps a.sweeps; none = a.none }
 
 -- nothing is left to be swept
-pub no_room : (old mid new : Store) (marks : List Bool) (place : Placement) (kind : Kind) → FindsNoPlace old marks place kind mid → IsSwept mid → new ≡ mid → FindsNoRoom old marks place kind new
-no_room old mid new marks place kind a swept same = subst (λ (t : Store). FindsNoRoom old marks place kind t) (sym same) (record { sweeps = a.sweeps; swept = swept; none = a.none })
+pub no_room : (old mid new : Store) (marks : List Bool) (placement : Placement) (kind : Kind) → FindsNoPlace old marks placement kind mid → IsSwept mid → new ≡ mid → FindsNoRoom old marks placement kind new
+no_room old mid new marks placement kind a swept same = subst (λ (t : Store). FindsNoRoom old marks placement kind t) (sym same) (record { sweeps = a.sweeps; swept = swept; none = a.none })

@@ -6,7 +6,7 @@ use Rattle.std.proofs.lemmas.Option.{same_Some}
 use Rattle.words.specs.declared.class.Kind.{Kind}
 use Rattle.words.specs.Bits.{Has}
 use Rattle.words.specs.Layout.{granule}
-use Rattle.pages.specs.Memory.{place}
+use Rattle.pages.specs.Memory.{word_index}
 use Rattle.pages.specs.Runs.{IsFilled}
 use Rattle.blocks.specs.Cells.{Cells, IsCells}
 use Rattle.blocks.specs.Lists.{cell_start}
@@ -116,7 +116,7 @@ module _ (old new : Store) (marks : List Bool) (page : ℕ) (mid : List PageStat
   there_was c lt taken = record { page = inside; on = subst (λ st. IsObjectOn st (cell_object page cells.old c)) (sym cells.was) (refl, lt, taken) }
 
   -- an object that is left has no dead cell's first word
-  not_dead : (f : Found) (i : ℕ) → found_in mid f.base ≡ Some f → i < f.len → (c : ℕ) → IsDeadCell marks page cells.old c → place (word_address f i) ≢ place (cell_start page cells.old.class c)
+  not_dead : (f : Found) (i : ℕ) → found_in mid f.base ≡ Some f → i < f.len → (c : ℕ) → IsDeadCell marks page cells.old c → word_index (word_address f i) ≢ word_index (cell_start page cells.old.class c)
   not_dead f i there lt c dead same =
       true≢false (sym (subst (Has marks) (ap (λ (x : Found). granule x.base) one ∙ cell_granule page c cells.old are_cells) (left.1 (ap (λ (x : Found). x.page) one))) ∙ dead.unmarked)
     where
@@ -142,7 +142,7 @@ module _ (old new : Store) (marks : List Bool) (page : ℕ) (mid : List PageStat
 
   pub sweeps_cells : IsSameMap (found_in mid) (found_in new.states) → length new.states ≡ length old.states → new.pending ≡ set old.pending page false → SweepsPage old marks page new
   sweeps_cells same size pending = record {
-    words = λ f i there lt. cells.cells.others (place (word_address f i)) (not_dead f i (sym (same.same f.base) ∙ there) lt);
+    words = λ f i there lt. cells.cells.others (word_index (word_address f i)) (not_dead f i (sym (same.same f.base) ∙ there) lt);
     pages = size;
     pending = pending;
     others = λ w f there ne. same.same w ∙ objects.others w f there ne;

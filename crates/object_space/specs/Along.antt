@@ -1,7 +1,7 @@
 -- What goes takes its links along.
 use Rattle.std.specs.Prelude.{◌≡◌, ℕ, ◌&&◌, ◌==◌, not, Bool, false, is_some, List, slice_index, Option, Some, None, if◌then◌else◌, length}
 use Rattle.std.specs.List.{list_any}
-use Rattle.pages.specs.Memory.{place}
+use Rattle.pages.specs.Memory.{word_index}
 use Rattle.block_map.specs.declared.found.Found.{Found}
 use Rattle.links.specs.declared.row.Link.{Link}
 use Rattle.object_space.specs.Store.{Store}
@@ -37,11 +37,11 @@ pub record IsBesideWords (old new : Store) : Type 0 where
 -- the word of the link is 0, if it is to become so, and nothing else has changed
 pub record ClearsWords (kept : ℕ → Option Found) (l : Link) (old new : Store) : Type 0 where
   pub beside : IsBesideWords old new
-  pub words : (k : ℕ) → slice_index new.words k ≡ (if ((place l.address == k) && is_cleared kept l) then 0 else slice_index old.words k)
+  pub words : (k : ℕ) → slice_index new.words k ≡ (if ((word_index l.address == k) && is_cleared kept l) then 0 else slice_index old.words k)
 
--- whether the word at this place is that of a link that has to become 0
+-- whether the word of this index is that of a link that has to become 0
 abbrev pub clears : (ℕ → Option Found) → List Link → ℕ → Bool
-clears kept row k = list_any (λ l. (place l.address == k) && is_cleared kept l) row
+clears kept row k = list_any (λ l. (word_index l.address == k) && is_cleared kept l) row
 
 -- the words of the links that are to become 0 are 0, and nothing else has changed
 pub record TakesAlong (kept : ℕ → Option Found) (row : List Link) (old new : Store) : Type 0 where

@@ -7,7 +7,7 @@ use Rattle.words.specs.declared.limits.TheConstants.{PAGE_WORDS, MAX_REQUEST_WOR
 use Rattle.heap_spec.specs.Heap.{Heap}
 use Rattle.heap_spec.specs.Room.{HasRoom}
 use Rattle.blocks.specs.Cells.{Cells}
-use Rattle.pages.specs.Memory.{IsZeroed, place}
+use Rattle.pages.specs.Memory.{IsZeroed, word_index}
 use Rattle.blocks.specs.Lists.{ChangesPage}
 use Rattle.pages.specs.Runs.{IsFreeRun, IsFilled}
 use Rattle.block_map.specs.Changes.{IsAdded, IsRemoved, IsSameMap}
@@ -35,11 +35,11 @@ HasNoFreeCell states class kind = (page cell : ℕ) → IsFreeCell states class 
 
 -- The base has room in each heap whose objects are among the store's.
 abbrev pub HasRoomAt : Store → Placement → Kind → ℕ → Type 0
-HasRoomAt t place kind base = (keep : Found → Bool) (s : Heap) → Stores keep t s → HasRoom s place kind base
+HasRoomAt t placement kind base = (keep : Found → Bool) (s : Heap) → Stores keep t s → HasRoom s placement kind base
 
 -- No address has room in a heap that has all the objects of the store.
 abbrev pub HasNoRoom : Store → Placement → Kind → Type 0
-HasNoRoom t place kind = (s : Heap) → Stores (λ _. true) t s → (a : ℕ) → HasRoom s place kind a → ⊥
+HasNoRoom t placement kind = (s : Heap) → Stores (λ _. true) t s → (a : ℕ) → HasRoom s placement kind a → ⊥
 
 -- A free cell is allocated, and its words are 0. The cell that its link names is then the first free one of the page. Nothing
 -- else has changed.
@@ -47,7 +47,7 @@ pub record TakesCell (words words' : List ℕ) (states states' : List PageState)
   pub became : states' ≡ slice_set states page (with_cell (state_at states page) cell true (link_on words page (state_at states page) cell))
   pub added : IsAdded (found_in states) (found_in states') (object_on page (state_at states page) cell)
   pub at : base ≡ (object_on page (state_at states page) cell).base
-  pub zeroed : IsZeroed words words' (place base) (object_on page (state_at states page) cell).len
+  pub zeroed : IsZeroed words words' (word_index base) (object_on page (state_at states page) cell).len
 
 -- A free page is taken from the pool, and cut with all its cells free. No word of another page changes.
 pub record CutsPage (words words' : List ℕ) (free free' : List Bool) (states states' : List PageState) (class : ℕ) (kind : Kind) (page : ℕ) : Type 0 where

@@ -38,10 +38,10 @@ pub record Loses (old : Store) (f : Found) (new : Store) : Type 0 where
   pub pending : (w : ℕ) (g : Found) → found_in new.states w ≡ Some g → slice_index_or new.pending g.page false ≡ slice_index_or old.pending g.page false
 
 -- The store has got one object, whose words are 0. The words of the others stay, and nothing else has changed.
-pub record Gains (old : Store) (place : Placement) (kind : Kind) (base : ℕ) (new : Store) : Type 0 where
+pub record Gains (old : Store) (placement : Placement) (kind : Kind) (base : ℕ) (new : Store) : Type 0 where
   pub object : Found
   pub at : object.base ≡ base
-  pub size : object.len ≡ length_of place
+  pub size : object.len ≡ length_of placement
   pub of_kind : object.kind ≡ kind
   pub pages : length new.states ≡ length old.states
   pub before : IsMap (length old.states) (found_in old.states)
@@ -91,22 +91,22 @@ pub record Sweeps (old : Store) (marks : List Bool) (new : Store) : Type 0 where
   pub number : count_by (λ b. b) new.pending ≤ count_by (λ b. b) old.pending
 
 -- Once pages were swept as it needed, a place was taken for an object.
-pub record Allocates (old : Store) (marks : List Bool) (place : Placement) (kind : Kind) (base : ℕ) (new : Store) : Type 0 where
+pub record Allocates (old : Store) (marks : List Bool) (placement : Placement) (kind : Kind) (base : ℕ) (new : Store) : Type 0 where
   pub ready : Store
   pub sweeps : Sweeps old marks ready
-  pub room : HasRoomAt ready place kind base
-  pub gains : Gains ready place kind base new
+  pub room : HasRoomAt ready placement kind base
+  pub gains : Gains ready placement kind base new
 
 -- Pages were swept, and no address has room for all the objects that are there now.
-pub record FindsNoPlace (old : Store) (marks : List Bool) (place : Placement) (kind : Kind) (new : Store) : Type 0 where
+pub record FindsNoPlace (old : Store) (marks : List Bool) (placement : Placement) (kind : Kind) (new : Store) : Type 0 where
   pub sweeps : Sweeps old marks new
-  pub none : HasNoRoom new place kind
+  pub none : HasNoRoom new placement kind
 
 -- All pages were swept, and no address has room.
-pub record FindsNoRoom (old : Store) (marks : List Bool) (place : Placement) (kind : Kind) (new : Store) : Type 0 where
+pub record FindsNoRoom (old : Store) (marks : List Bool) (placement : Placement) (kind : Kind) (new : Store) : Type 0 where
   pub sweeps : Sweeps old marks new
   pub swept : IsSwept new
-  pub none : HasNoRoom new place kind
+  pub none : HasNoRoom new placement kind
 
 -- No object has come, and each small one still has its cell: it goes when its page is swept.
 pub record KeepsCells (old new : Store) : Type 0 where

@@ -1,7 +1,7 @@
 //! The words of the heap, seen as their list.
 ghost use Rattle.std.specs.Prelude.{◌≡◌, ℕ, ◌+◌, ◌*◌, ◌<◌, ◌≤◌, List, length, slice_index, slice_range, vec_len, EachIndex};
 ghost use Rattle.words.specs.declared.limits.TheConstants.{PAGE_WORDS, MAX_PAGES, FIRST_ADDRESS};
-ghost use Rattle.pages.specs.Memory.{IsWordAddress, IsZeroMemory, IsZeroed, place, word_at, with_word_at};
+ghost use Rattle.pages.specs.Memory.{IsWordAddress, IsZeroMemory, IsZeroed, word_index, word_at, with_word_at};
 ghost use Rattle.pages.specs.Opening.{IsOpened};
 
 use crate::opening::is_page_count;
@@ -24,11 +24,11 @@ impl Model for Memory {
     ghost invariant = { λ m. vec_len m.words ≤ PAGE_WORDS * MAX_PAGES };
 }
 
-// The place of an address among the words.
+// The index of an address's word among the words.
 #[inline]
-fn place(address: u64) -> usize
+fn word_index(address: u64) -> usize
     requires { FIRST_ADDRESS ≤ address }
-    ensures { result ≡ place address }
+    ensures { result ≡ word_index address }
 {
     ((address - FIRST_ADDRESS) / WORD_BYTES) as usize
 }
@@ -61,17 +61,17 @@ impl Memory {
         requires { IsWordAddress self.now address }
         ensures { result ≡ word_at self.now address }
     {
-        self.words[place(address)]
+        self.words[word_index(address)]
     }
 
     /// So many words, from an address on.
     #[inline]
     pub(crate) fn run(&self, address: u64, count: u64) -> &[u64]
         requires above { FIRST_ADDRESS ≤ address }
-        requires inside { place address + count ≤ length self.now }
-        ensures { result.now ≡ slice_range self.now (place address) (place address + count) }
+        requires inside { word_index address + count ≤ length self.now }
+        ensures { result.now ≡ slice_range self.now (word_index address) (word_index address + count) }
     {
-        let first = place(address);
+        let first = word_index(address);
         &self.words[first..first + count as usize]
     }
 
@@ -81,17 +81,17 @@ impl Memory {
         requires { IsWordAddress self.old address }
         ensures { self.new ≡ with_word_at self.old address word }
     {
-        self.words[place(address)] = word;
+        self.words[word_index(address)] = word;
     }
 
     /// Writes 0 into so many words from an address on. Those of the least objects are written without a loop.
     #[inline]
     pub fn zero(&mut self, address: u64, count: u32)
         requires address { IsWordAddress self.old address }
-        requires inside { place address + count ≤ length self.old }
-        ensures { IsZeroed self.old self.new (place address) count }
+        requires inside { word_index address + count ≤ length self.old }
+        ensures { IsZeroed self.old self.new (word_index address) count }
     {
-        let first = place(address);
+        let first = word_index(address);
         if u64::from(count) == GRANULE_WORDS {
             self.words[first] = 0;
             self.words[first + 1] = 0;

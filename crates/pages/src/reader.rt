@@ -2,7 +2,7 @@
 //! when it runs.
 ghost use Rattle.std.specs.Prelude.{◌≡◌, ◌+◌, ◌≤◌, length, slice_range};
 ghost use Rattle.words.specs.declared.limits.TheConstants.{FIRST_ADDRESS};
-ghost use Rattle.pages.specs.Memory.{IsWordAddress, place, word_at};
+ghost use Rattle.pages.specs.Memory.{IsWordAddress, word_index, word_at};
 
 use crate::count::Count;
 use crate::memory::Memory;
@@ -61,8 +61,8 @@ impl<'a> Reader<'a> {
     #[inline]
     pub fn read_run(&mut self, address: u64, count: u64) -> Words<'a>
         requires above { FIRST_ADDRESS ≤ address }
-        requires inside { place address + count ≤ length self.old.words }
-        ensures run { result ≡ slice_range self.old.words (place address) (place address + count) }
+        requires inside { word_index address + count ≤ length self.old.words }
+        ensures run { result ≡ slice_range self.old.words (word_index address) (word_index address + count) }
         ensures words { self.new.words ≡ self.old.words }
         ensures counted { self.new.reads ≡ self.old.reads + count }
     {

@@ -6,17 +6,17 @@ use Rattle.std.proofs.lemmas.Option.{same_Some}
 use Rattle.std.proofs.lemmas.List.{append-nil, length-set, get_or-set_same, get_or-set_other, get_or_past, take_more}
 use Rattle.std.proofs.lemmas.List.Elements.{Contains-push, Contains-append_left, Contains-append_right, Contains-append_cases}
 use Rattle.words.specs.declared.limits.TheConstants.{FIRST_ADDRESS}
-use Rattle.heap_spec.specs.Layout.{Reads}
+use Rattle.heap_spec.specs.Layout.{PointsInto}
 use Rattle.heap_spec.specs.Heap.{Heap, Object, HasObject}
 use Rattle.heap_spec.specs.Closure.{Closure, given, root, word}
 use Rattle.roots.specs.Roots.{root_words_of}
 use Rattle.plain_core.specs.declared.extent.Extent.{Extent}
 use Rattle.plain_core.specs.declared.listing.Listing.{Listing}
-use Rattle.plain_core.specs.Contents.{Contents, IsLaidOut}
-use Rattle.plain_core.specs.Standing.{StandsFor, place, words_at}
+use Rattle.plain_core.specs.PlainContents.{PlainContents, IsLaidOut}
+use Rattle.plain_core.specs.Standing.{StandsFor, word_index, words_at}
 use Rattle.plain_core.specs.Flags.{IsFlagged, FlagsMarked}
 use Rattle.plain_core.specs.Listing.{IsListing}
-use Rattle.plain_core.specs.Reached.{PointsIntoPlace, IsReachedPlace, by_root, by_link, MarksReached}
+use Rattle.plain_core.specs.Reached.{PointsIntoNth, IsReachedNth, by_root, by_link, MarksReached}
 use Rattle.plain_core.specs.Aging.{TellOld, FlagsAll, FlagUnset, FlagsClosure, AreFlaggedBases, ListsFlagged, MarksClosure}
 use Rattle.plain_core.proofs.Objects.{in_heap, extent_of, reads_base}
 use Rattle.plain_core.proofs.Lists.{nothing_in, the_one, lists_none, lists_more}
@@ -24,8 +24,8 @@ use Rattle.plain_core.proofs.Collects.{roots_are, in_row, at_place, read_of, rea
 use Rattle.plain_core.proofs.Flagging.{one_place, has_flag, flag_of, flag_sets}
 
 -- all flags are set
-pub all_set : (c : Contents) → IsLaidOut c → (flags : List Bool) → ((k : ℕ) → k < length flags → get_or flags k false ≡ true) → FlagsAll c flags
-all_set c sound flags all room s h base o has = let e = extent_of c sound s h base o has in subst (IsFlagged flags) e.2 (all (place e.0.base) (has_flag c sound flags room e.0 e.1))
+pub all_set : (c : PlainContents) → IsLaidOut c → (flags : List Bool) → ((k : ℕ) → k < length flags → get_or flags k false ≡ true) → FlagsAll c flags
+all_set c sound flags all room s h base o has = let e = extent_of c sound s h base o has in subst (IsFlagged flags) e.2 (all (word_index e.0.base) (has_flag c sound flags room e.0 e.1))
 
 -- a flag that is unset isn't set
 unset_here : (flags : List Bool) (k : ℕ) → get_or (slice_set flags k false) k false ≡ true → ⊥
@@ -35,16 +35,16 @@ unset_here flags k is = true≢false (sym is ∙ ⊎_elim
     (cases_lt k (length flags)))
 
 -- one flag is unset
-module _ (c : Contents) (sound : IsLaidOut c) (base : ℕ) (old new : List Bool) where
-  pub one_unset : new ≡ slice_set old (place base) false → FlagUnset c base old new
+module _ (c : PlainContents) (sound : IsLaidOut c) (base : ℕ) (old new : List Bool) where
+  pub one_unset : new ≡ slice_set old (word_index base) false → FlagUnset c base old new
   one_unset is = subst (FlagUnset c base old) (sym is) (record {
-    size = length-set old (place base) false;
-    unset = λ s h o has set. unset_here old (place base) set;
+    size = length-set old (word_index base) false;
+    unset = λ s h o has set. unset_here old (word_index base) set;
     others = λ s h o has at p there ne.
         let e = extent_of c sound s h base o has in
         let f = extent_of c sound s h at p there in
-        let away : place at ≢ place base = λ same. ne (sym f.2 ∙ one_place c sound f.0 e.0 f.1 e.1 (ap place f.2 ∙ same ∙ ap place (sym e.2)) ∙ e.2) in
-        let same = get_or-set_other old (place base) (place at) false false away in
+        let away : word_index at ≢ word_index base = λ same. ne (sym f.2 ∙ one_place c sound f.0 e.0 f.1 e.1 (ap word_index f.2 ∙ same ∙ ap word_index (sym e.2)) ∙ e.2) in
+        let same = get_or-set_other old (word_index base) (word_index at) false false away in
         (λ set. sym same ∙ set, λ set. same ∙ set);
   })
 
@@ -89,7 +89,7 @@ flagged_more flags xs ys bs cs x y = record {
 -- no object has one of no flags
 pub no_flags : (row : List Extent) (bases : List ℕ) → AreFlaggedBases row [] bases → bases ≡ []
 no_flags row [] are = refl
-no_flags row (b ∷ bases) are = let o = are.only b (0, omega arith, refl) in absurd (true≢false (sym o.3 ∙ get_or_past [] (place o.0.base) false (omega arith)))
+no_flags row (b ∷ bases) are = let o = are.only b (0, omega arith, refl) in absurd (true≢false (sym o.3 ∙ get_or_past [] (word_index o.0.base) false (omega arith)))
 
 module _ (row : List Extent) (flags : List Bool) where
   pub lists_flagged_none : (l : Listing) → IsListing row l → ListsFlagged row [] flags l l
@@ -105,19 +105,19 @@ module _ (row : List Extent) (flags : List Bool) where
   })
 
 -- what roots and objects with flags lead to, told by where it stands in the row
-module _ (c : Contents) (sound : IsLaidOut c) (s : Heap) (h : StandsFor c s) (aged : List Bool) (last : ℕ) (tell : TellOld s aged last) (bases : List ℕ) (are : AreFlaggedBases c.objects aged bases) where
+module _ (c : PlainContents) (sound : IsLaidOut c) (s : Heap) (h : StandsFor c s) (aged : List Bool) (last : ℕ) (tell : TellOld s aged last) (bases : List ℕ) (are : AreFlaggedBases c.objects aged bases) where
   abbrev IsOld : ℕ → Type 0
   IsOld birth = birth ≤ last
 
   abbrev Leads : ℕ → Type 0
-  Leads = IsReachedPlace (root_words_of c.roots ++ bases) c.words c.objects
+  Leads = IsReachedNth (root_words_of c.roots ++ bases) c.words c.objects
 
   -- an old object is given
-  old_out : (i : ℕ) (e : Extent) (w : ℕ) → Contains bases w → PointsIntoPlace c.objects w i → slice_get c.objects i ≡ Some e → Closure s IsOld e.base
+  old_out : (i : ℕ) (e : Extent) (w : ℕ) → Contains bases w → PointsIntoNth c.objects w i → slice_get c.objects i ≡ Some e → Closure s IsOld e.base
   old_out i e w among p at =
       let f = are.only w among in
-      let here : Reads w f.0.base f.0.length = reads_base c sound f.0 f.1 w (sym f.2) in
-      let there : Reads w e.base e.length = subst (λ (x : Extent). Reads w x.base x.length) (same_Some p.0 e (sym p.1 ∙ at)) p.2 in
+      let here : PointsInto w f.0.base f.0.length = reads_base c sound f.0 f.1 w (sym f.2) in
+      let there : PointsInto w e.base e.length = subst (λ (x : Extent). PointsInto w x.base x.length) (same_Some p.0 e (sym p.1 ∙ at)) p.2 in
       let same : f.0 ≡ e = sound.apart f.0 e w f.1 (in_row c.objects i e at) here there in
       let kept = h.kept f.0 f.1 in
       subst (λ (x : Extent). Closure s IsOld x.base) same (given kept.1 ((tell f.0.base kept.0 kept.1).0 f.3))
@@ -149,11 +149,11 @@ module _ (c : Contents) (sound : IsLaidOut c) (s : Heap) (h : StandsFor c s) (ag
       let p = points_at c sound s h w base o r in
       (p.0, p.1, p.2, p.3, by_link f.4 f.2 (read_in f.1.kind (words_at c.words f.1) w (sym kept.2.kind ∙ ap (λ (x : Object). x.kind) same ∙ normal) words) (p.1, p.2, p.4))
 
-pub closure_flagged : (c : Contents) → IsLaidOut c → (aged marks old new : List Bool) → FlagsMarked c.objects marks old new → ((k : ℕ) → get_or old k false ≡ false)
+pub closure_flagged : (c : PlainContents) → IsLaidOut c → (aged marks old new : List Bool) → FlagsMarked c.objects marks old new → ((k : ℕ) → get_or old k false ≡ false)
     → MarksClosure (root_words_of c.roots) c.words c.objects aged marks → FlagsClosure c aged new
 closure_flagged c sound aged marks old new f none m room s h last tell base o has = (
   λ is. ⊎_elim
-      (λ before. absurd (true≢false (sym before ∙ none (place base))))
+      (λ before. absurd (true≢false (sym before ∙ none (word_index base))))
       (λ x. subst (Closure s (λ birth. birth ≤ last)) x.4 (closure_out c sound s h aged last tell m.bases m.are x.0 x.1 (m.marks_all.reached x.0 x.3) x.2))
       (flag_of c sound marks old new f s h base o has is),
   λ r.

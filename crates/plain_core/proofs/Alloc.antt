@@ -13,7 +13,7 @@ use Rattle.words.specs.declared.limits.TheConstants.{WORD_BYTES, PAGE_WORDS, PAG
 use Rattle.words.specs.Placing.{placement_of}
 use Rattle.heap_spec.specs.declared.call.Call.TheVariants.{Alloc}
 use Rattle.heap_spec.specs.declared.reply.Reply.TheVariants.{Done}
-use Rattle.heap_spec.specs.Layout.{Reads}
+use Rattle.heap_spec.specs.Layout.{PointsInto}
 use Rattle.heap_spec.specs.Heap.{Heap, Object, Mutator, HasObject}
 use Rattle.heap_spec.specs.Room.{HasRoom, length_of}
 use Rattle.heap_spec.specs.Steps.{Acts, Calls, acts, with_register, with_object, with_new}
@@ -22,10 +22,10 @@ use Rattle.links.specs.declared.row.Link.{Link}
 use Rattle.links.proofs.Named.{named_kept}
 use Rattle.roots.specs.Roots.{RootSet, HasMutator, HasNoMutator, SetsWord}
 use Rattle.plain_core.specs.declared.extent.Extent.{Extent}
-use Rattle.plain_core.specs.Contents.{Contents, IsLaidOut, IsInHeap, IsPlacedExtent}
+use Rattle.plain_core.specs.PlainContents.{PlainContents, IsLaidOut, IsInHeap, IsPlacedExtent}
 use Rattle.plain_core.specs.Answering.{MayBePut, IsPut, IsBornAt, IsAllocatedAt, CantAllocateAt}
 use Rattle.plain_core.specs.Places.{IsPlace, IsSized}
-use Rattle.plain_core.specs.Standing.{StandsFor, IsShown, place, words_at}
+use Rattle.plain_core.specs.Standing.{StandsFor, IsShown, word_index, words_at}
 use Rattle.plain_core.proofs.Stands.{StepsCall, mutator_at, set_is}
 use Rattle.plain_core.proofs.Memory.{length_words}
 use Rattle.plain_core.proofs.Objects.{in_heap}
@@ -51,7 +51,7 @@ even_product l i even =
     ap (λ x. (x * i) % 2) e ∙ ap (λ x. x % 2) (mul_assoc 2 (l / 2) i) ∙ mul-mod_right 2 ((l / 2) * i)
 
 -- where an object goes it is in the heap, has a proper place, and shares no word
-pub new_in_heap : (pages : ℕ) (row : List Extent) (place : Placement) (kind : Kind) (e : Extent) → IsSized place → e.length ≡ length_of place → IsPlace row pages place kind e.base → IsInHeap pages e
+pub new_in_heap : (pages : ℕ) (row : List Extent) (placement : Placement) (kind : Kind) (e : Extent) → IsSized placement → e.length ≡ length_of placement → IsPlace row pages placement kind e.base → IsInHeap pages e
 new_in_heap pages row (Small class) kind e sized l p =
     let i = p.on.is_cell in let f = p.on.in_page in let q = p.in_heap in
     let even : (class * p.on.cell) % 2 ≡ 0 = even_product class p.on.cell sized.2 in
@@ -60,11 +60,11 @@ new_in_heap pages row (Large count) kind e sized l p =
     let i = p.is_start in let q = p.in_heap in
     record { start = omega arith; aligned = omega arith; some = omega arith; ends = omega arith }
 
-pub new_placed : (pages : ℕ) (row : List Extent) (place : Placement) (kind : Kind) (e : Extent) → IsSized place → e.length ≡ length_of place → IsPlace row pages place kind e.base → IsPlacedExtent e
+pub new_placed : (pages : ℕ) (row : List Extent) (placement : Placement) (kind : Kind) (e : Extent) → IsSized placement → e.length ≡ length_of placement → IsPlace row pages placement kind e.base → IsPlacedExtent e
 new_placed pages row (Small class) kind e sized l p = inl (record { page = p.page; cell = p.on.cell; few = omega arith; in_page = rw l p.on.in_page; is_cell = rw l p.on.is_cell })
 new_placed pages row (Large count) kind e sized l p = inr (record { first = p.first; count = count; some = sized; whole = l; is_start = p.is_start })
 
-pub new_fresh : (pages : ℕ) (row : List Extent) (place : Placement) (kind : Kind) (e : Extent) → All IsPlacedExtent row → IsSized place → e.length ≡ length_of place → IsPlace row pages place kind e.base → IsFresh row e
+pub new_fresh : (pages : ℕ) (row : List Extent) (placement : Placement) (kind : Kind) (e : Extent) → All IsPlacedExtent row → IsSized placement → e.length ≡ length_of placement → IsPlace row pages placement kind e.base → IsFresh row e
 new_fresh pages row (Small class) kind e placed sized l p = fresh_small p.page kind row e placed (omega arith) (rw l p.on)
 new_fresh pages row (Large count) kind e placed sized l p = fresh_large pages count row e l p
 
@@ -79,33 +79,33 @@ after_cases s base o' b p is =
 -- the words that a new object's place has
 pub record IsZeroed (old new : List ℕ) (e : Extent) : Type 0 where
   pub long : length new ≡ length old
-  pub zeroed : (k : ℕ) → place e.base ≤ k → k < place e.base + e.length → get_or new k 0 ≡ 0
-  pub others : (k : ℕ) → (k < place e.base) ⊎ (place e.base + e.length ≤ k) → get_or new k 0 ≡ get_or old k 0
+  pub zeroed : (k : ℕ) → word_index e.base ≤ k → k < word_index e.base + e.length → get_or new k 0 ≡ 0
+  pub others : (k : ℕ) → (k < word_index e.base) ⊎ (word_index e.base + e.length ≤ k) → get_or new k 0 ≡ get_or old k 0
 
-words_index : (row : List ℕ) (e : Extent) (i : ℕ) → i < e.length → get_or (words_at row e) i 0 ≡ get_or row (place e.base + i) 0
-words_index row e i lt = get_or-take e.length (drop (place e.base) row) i 0 lt ∙ get_or-drop (place e.base) row i 0
+words_index : (row : List ℕ) (e : Extent) (i : ℕ) → i < e.length → get_or (words_at row e) i 0 ≡ get_or row (word_index e.base + i) 0
+words_index row e i lt = get_or-take e.length (drop (word_index e.base) row) i 0 lt ∙ get_or-drop (word_index e.base) row i 0
 
 zero_words : (old new : List ℕ) (pages : ℕ) (e : Extent) → length old ≡ PAGE_WORDS * pages → IsInHeap pages e → IsZeroed old new e → replicate e.length 0 ≡ words_at new e
 zero_words old new pages e l i z =
     ext_get_or 0 _ _ (length-replicate e.length 0 ∙ sym (length_words new pages e (z.long ∙ l) i))
     (λ k lt. let h : k < e.length = rw length-replicate at lt in
-    get_or-replicate e.length k 0 0 h ∙ sym (words_index new e k h ∙ z.zeroed (place e.base + k) (omega arith) (omega arith)))
+    get_or-replicate e.length k 0 0 h ∙ sym (words_index new e k h ∙ z.zeroed (word_index e.base + k) (omega arith) (omega arith)))
 
-other_words : (old new : List ℕ) (pages : ℕ) (e g : Extent) → length old ≡ PAGE_WORDS * pages → IsInHeap pages e → IsInHeap pages g → IsZeroed old new e → ((w : ℕ) → Reads w e.base e.length → Reads w g.base g.length → ⊥) → words_at old g ≡ words_at new g
+other_words : (old new : List ℕ) (pages : ℕ) (e g : Extent) → length old ≡ PAGE_WORDS * pages → IsInHeap pages e → IsInHeap pages g → IsZeroed old new e → ((w : ℕ) → PointsInto w e.base e.length → PointsInto w g.base g.length → ⊥) → words_at old g ≡ words_at new g
 other_words old new pages e g l ie ig z apart =
     ext_get_or 0 _ _ (length_words old pages g l ig ∙ sym (length_words new pages g (z.long ∙ l) ig))
     (λ k lt. let h : k < g.length = rw (length_words old pages g l ig) at lt in
-    words_index old g k h ∙ sym (words_index new g k h ∙ z.others (place g.base + k) (outside k h)))
+    words_index old g k h ∙ sym (words_index new g k h ∙ z.others (word_index g.base + k) (outside k h)))
   where
-    outside : (k : ℕ) → k < g.length → (place g.base + k < place e.base) ⊎ (place e.base + e.length ≤ place g.base + k)
-    outside k h = ⊎_elim (λ before. inl before) (λ from. ⊎_elim (λ inside. absurd (apart (g.base + WORD_BYTES * k) (omega arith, omega arith) (omega arith, omega arith))) (λ past. inr past) (cases_lt (place g.base + k) (place e.base + e.length))) (cases_lt (place g.base + k) (place e.base))
+    outside : (k : ℕ) → k < g.length → (word_index g.base + k < word_index e.base) ⊎ (word_index e.base + e.length ≤ word_index g.base + k)
+    outside k h = ⊎_elim (λ before. inl before) (λ from. ⊎_elim (λ inside. absurd (apart (g.base + WORD_BYTES * k) (omega arith, omega arith) (omega arith, omega arith))) (λ past. inr past) (cases_lt (word_index g.base + k) (word_index e.base + e.length))) (cases_lt (word_index g.base + k) (word_index e.base))
 
-pub allocates : (c : Contents) (roots : RootSet) (k d n : ℕ) (kind : Kind) (m : Mutator) (place : Placement) (e : Extent) (row : List ℕ) → IsLaidOut c → HasMutator c.roots k m → placement_of n ≡ Some place → IsPlace c.objects c.pages place kind e.base → e.kind ≡ kind → e.length ≡ length_of place
+pub allocates : (c : PlainContents) (roots : RootSet) (k d n : ℕ) (kind : Kind) (m : Mutator) (placement : Placement) (e : Extent) (row : List ℕ) → IsLaidOut c → HasMutator c.roots k m → placement_of n ≡ Some placement → IsPlace c.objects c.pages placement kind e.base → e.kind ≡ kind → e.length ≡ length_of placement
     → IsInHeap c.pages e → IsFresh c.objects e → IsZeroed c.words row e → SetsWord c.roots k d e.base roots
     → IsAllocatedAt c k d n kind e.base (record c { words = row; objects = c.objects ++ e ∷ []; roots = roots })
-allocates c roots k d n kind m place e row sound at is room same_kind same_length new fresh zeroed sets s h = (
+allocates c roots k d n kind m placement e row sound at is room same_kind same_length new fresh zeroed sets s h = (
   after,
-  acts (mutator_at c s h k m at) (Acts.allocated e.base is (room_of c sound s h place kind e.base room)),
+  acts (mutator_at c s h k m at) (Acts.allocated e.base is (room_of c sound s h placement kind e.base room)),
   record { object = o; there = with_at-same s.objects e.base (Some o) e.base refl; newest = omega arith },
   record {
     pages = h.pages;
@@ -137,12 +137,12 @@ allocates c roots k d n kind m place e row sound at is room same_kind same_lengt
 )
   where
     o : Object
-    o = record { birth = s.births + 1; kind = kind; words = replicate (length_of place) 0 }
+    o = record { birth = s.births + 1; kind = kind; words = replicate (length_of placement) 0 }
 
     after : Heap
-    after = with_register (with_new s e.base kind place) k m d e.base
+    after = with_register (with_new s e.base kind placement) k m d e.base
 
-    base_in : (g : Extent) → IsInHeap c.pages g → (w : ℕ) → w ≡ g.base → Reads w g.base g.length
+    base_in : (g : Extent) → IsInHeap c.pages g → (w : ℕ) → w ≡ g.base → PointsInto w g.base g.length
     base_in g i w same = (omega arith, omega arith)
 
     bare : (b : ℕ) (p : Object) → b ≡ e.base → HasObject s b p → ⊥
@@ -154,7 +154,7 @@ allocates c roots k d n kind m place e row sound at is room same_kind same_lengt
     too_late b q x has is same = let r = h.born b q has in let l = r.1 in omega arith
 
 -- the core stays sound
-pub sound_after : (c : Contents) (roots : RootSet) (e : Extent) (row : List ℕ) → IsLaidOut c → IsInHeap c.pages e → IsPlacedExtent e → IsFresh c.objects e → length row ≡ length c.words
+pub sound_after : (c : PlainContents) (roots : RootSet) (e : Extent) (row : List ℕ) → IsLaidOut c → IsInHeap c.pages e → IsPlacedExtent e → IsFresh c.objects e → length row ≡ length c.words
     → IsLaidOut (record c { words = row; objects = c.objects ++ e ∷ []; roots = roots })
 sound_after c roots e row sound new placed fresh long = record {
   pages = sound.pages;
@@ -163,13 +163,13 @@ sound_after c roots e row sound new placed fresh long = record {
   placed = All-push IsPlacedExtent c.objects e sound.placed placed;
   distinct = distinct_push c.pages c.objects e sound.in_heap new fresh sound.distinct;
   apart = λ f g w hf hg rf rg. ⊎_elim
-      (λ x. ⊎_elim (λ y. sound.apart f g w x y rf rg) (λ y. absurd (fresh f w x (subst (λ (z : Extent). Reads w z.base z.length) (sym y) rg) rf)) (Contains-push_cases c.objects e g hg))
-      (λ x. ⊎_elim (λ y. absurd (fresh g w y (subst (λ (z : Extent). Reads w z.base z.length) (sym x) rf) rg)) (λ y. sym x ∙ y) (Contains-push_cases c.objects e g hg))
+      (λ x. ⊎_elim (λ y. sound.apart f g w x y rf rg) (λ y. absurd (fresh f w x (subst (λ (z : Extent). PointsInto w z.base z.length) (sym y) rg) rf)) (Contains-push_cases c.objects e g hg))
+      (λ x. ⊎_elim (λ y. absurd (fresh g w y (subst (λ (z : Extent). PointsInto w z.base z.length) (sym x) rf) rg)) (λ y. sym x ∙ y) (Contains-push_cases c.objects e g hg))
       (Contains-push_cases c.objects e f hf);
 }
 
 -- there is room for one more
-pub has_room : (c : Contents) (e : Extent) → IsLaidOut c → IsInHeap c.pages e → IsFresh c.objects e → length c.objects < PAGE_GRANULES * c.pages
+pub has_room : (c : PlainContents) (e : Extent) → IsLaidOut c → IsInHeap c.pages e → IsFresh c.objects e → length c.objects < PAGE_GRANULES * c.pages
 has_room c e sound new fresh =
     let l : length (c.objects ++ e ∷ []) ≤ PAGE_GRANULES * c.pages = few_objects c.pages (c.objects ++ e ∷ []) (All-push (IsInHeap c.pages) c.objects e sound.in_heap new) (distinct_push c.pages c.objects e sound.in_heap new fresh sound.distinct) in
     let m : length c.objects + 1 ≤ PAGE_GRANULES * c.pages = rw length_push at l in
@@ -180,7 +180,7 @@ pub pushed_items : {A T E : Type 0} (r : Result T E) (xs ys zs : List A) → IsO
 pushed_items (Ok v) xs ys zs ok is = is
 pushed_items (Err e) xs ys zs ok is = absurd (cc)
 
-module _ (c : Contents) (placement : Placement) (kind : Kind) (e : Extent) (sound : IsLaidOut c) (sized : IsSized placement) (long : e.length ≡ length_of placement) (room : IsPlace c.objects c.pages placement kind e.base) where
+module _ (c : PlainContents) (placement : Placement) (kind : Kind) (e : Extent) (sound : IsLaidOut c) (sized : IsSized placement) (long : e.length ≡ length_of placement) (room : IsPlace c.objects c.pages placement kind e.base) where
   new : IsInHeap c.pages e
   new = new_in_heap c.pages c.objects placement kind e sized long room
 
@@ -190,7 +190,7 @@ module _ (c : Contents) (placement : Placement) (kind : Kind) (e : Extent) (soun
   pub room_left : length c.objects < PAGE_GRANULES * c.pages
   room_left = has_room c e sound new fresh
 
-  pub fits_row : place e.base + e.length ≤ length c.words
+  pub fits_row : word_index e.base + e.length ≤ length c.words
   fits_row = let i = new in let w = sound.words in omega (arith, i.start, i.aligned, i.ends)
 
   pub puts : (roots : RootSet) (k d : ℕ) (m : Mutator) (row : List ℕ) (objects : List Extent) → HasMutator c.roots k m → e.kind ≡ kind → IsZeroed c.words row e → objects ≡ c.objects ++ e ∷ []
@@ -201,23 +201,23 @@ module _ (c : Contents) (placement : Placement) (kind : Kind) (e : Extent) (soun
   alloc_sound roots row objects l pushed = rw pushed (sound_after c roots e row sound new (new_placed c.pages c.objects placement kind e sized long room) fresh l)
 
 -- where an object was born there was room for it
-pub born_where : (c : Contents) → IsLaidOut c → (s : Heap) → StandsFor c s → (k d n base : ℕ) (kind : Kind) (place : Placement) → placement_of n ≡ Some place → {s' : Heap} → Calls s k (Alloc d n kind) Done s' → IsBornAt s base s'
-    → IsPlace c.objects c.pages place kind base
-born_where c sound s h k d n base kind place is (acts at (Acts.allocated {place = other} a is' room)) born =
+pub born_where : (c : PlainContents) → IsLaidOut c → (s : Heap) → StandsFor c s → (k d n base : ℕ) (kind : Kind) (placement : Placement) → placement_of n ≡ Some placement → {s' : Heap} → Calls s k (Alloc d n kind) Done s' → IsBornAt s base s'
+    → IsPlace c.objects c.pages placement kind base
+born_where c sound s h k d n base kind placement is (acts at (Acts.allocated {placement = other} a is' room)) born =
     ⊎_elim
-    (λ new. subst (IsPlace c.objects c.pages place kind) (sym new.0)
-    (place_of c sound s h place kind a (subst (λ p. HasRoom s p kind a) (same_Some other place (sym is' ∙ is)) room)))
+    (λ new. subst (IsPlace c.objects c.pages placement kind) (sym new.0)
+    (place_of c sound s h placement kind a (subst (λ p. HasRoom s p kind a) (same_Some other placement (sym is' ∙ is)) room)))
     (λ old. let b = h.born base born.object old.1 in let newest = born.newest in absurd (omega (arith, b.1)))
     (after_cases s a _ base born.object born.there)
 
-pub cant_place : (c : Contents) → IsLaidOut c → (k d n base : ℕ) (kind : Kind) (place : Placement) → placement_of n ≡ Some place → (IsPlace c.objects c.pages place kind base → ⊥) → CantAllocateAt c k d n kind base
-cant_place c sound k d n base kind place is none s h s' calls born = none (born_where c sound s h k d n base kind place is calls born)
+pub cant_place : (c : PlainContents) → IsLaidOut c → (k d n base : ℕ) (kind : Kind) (placement : Placement) → placement_of n ≡ Some placement → (IsPlace c.objects c.pages placement kind base → ⊥) → CantAllocateAt c k d n kind base
+cant_place c sound k d n base kind placement is none s h s' calls born = none (born_where c sound s h k d n base kind placement is calls born)
 
 -- a request of no size, and one of no mutator, are granted nowhere
-pub cant_size : (c : Contents) (k d n base : ℕ) (kind : Kind) → placement_of n ≡ None → CantAllocateAt c k d n kind base
-cant_size c k d n base kind none s h s' (acts at (Acts.allocated {place = place} a is room)) born = absurd (none-some place (sym none ∙ is))
+pub cant_size : (c : PlainContents) (k d n base : ℕ) (kind : Kind) → placement_of n ≡ None → CantAllocateAt c k d n kind base
+cant_size c k d n base kind none s h s' (acts at (Acts.allocated {placement = placement} a is room)) born = absurd (none-some placement (sym none ∙ is))
 
-pub cant_call : (c : Contents) (k d n base : ℕ) (kind : Kind) → HasNoMutator c.roots k → CantAllocateAt c k d n kind base
+pub cant_call : (c : PlainContents) (k d n base : ℕ) (kind : Kind) → HasNoMutator c.roots k → CantAllocateAt c k d n kind base
 cant_call c k d n base kind none s h s' (acts {m = m} at act) born =
     absurd (none-some m (same_Some None (Some m) (sym (ap (λ ms. slice_get ms k) h.mutators ∙ none) ∙ at)))
 
@@ -227,19 +227,19 @@ place_from row pages (Small class) kind a p = let is = p.on.is_cell in omega ari
 place_from row pages (Large count) kind a p = let is = p.is_start in omega arith
 
 -- what was found for a request fits
-pub found_fits : (c now : Contents) → c ≡ now → (row : List Extent) → row ≡ c.objects → (n : ℕ) (kind : Kind) (placement : Placement) (e : Extent) → placement_of n ≡ Some placement → e.kind ≡ kind → e.length ≡ length_of placement
+pub found_fits : (c now : PlainContents) → c ≡ now → (row : List Extent) → row ≡ c.objects → (n : ℕ) (kind : Kind) (placement : Placement) (e : Extent) → placement_of n ≡ Some placement → e.kind ≡ kind → e.length ≡ length_of placement
     → IsPlace row c.pages placement kind e.base → MayBePut now placement e
-found_fits c now view row rows n kind placement e is same long room = subst (λ (x : Contents). MayBePut x placement e) view (record {
+found_fits c now view row rows n kind placement e is same long room = subst (λ (x : PlainContents). MayBePut x placement e) view (record {
   sized = sized n placement is;
   size = long;
   place = subst (λ k. IsPlace c.objects c.pages placement k e.base) (sym same) (subst (λ r. IsPlace r c.pages placement kind e.base) rows room);
 })
 
 -- a request that was granted by an object
-pub put_at : (old new : Contents) (k d n base : ℕ) (kind : Kind) (placement : Placement) (e : Extent) → placement_of n ≡ Some placement → e.kind ≡ kind → e.base ≡ base → IsPut old k d placement e new → IsAllocatedAt old k d n kind base new
+pub put_at : (old new : PlainContents) (k d n base : ℕ) (kind : Kind) (placement : Placement) (e : Extent) → placement_of n ≡ Some placement → e.kind ≡ kind → e.base ≡ base → IsPut old k d placement e new → IsAllocatedAt old k d n kind base new
 put_at old later k d n base kind placement e is same at put s h =
     let x = put s h n is in
     (x.0, subst (λ q. Calls s k (Alloc d n q) Done x.0) same x.1, subst (λ b. IsBornAt s b x.0) at x.2, x.3)
 
-pub put_steps : (old new : Contents) (k d n : ℕ) (kind : Kind) (placement : Placement) (e : Extent) → placement_of n ≡ Some placement → e.kind ≡ kind → IsPut old k d placement e new → StepsCall old k (Alloc d n kind) Done new
+pub put_steps : (old new : PlainContents) (k d n : ℕ) (kind : Kind) (placement : Placement) (e : Extent) → placement_of n ≡ Some placement → e.kind ≡ kind → IsPut old k d placement e new → StepsCall old k (Alloc d n kind) Done new
 put_steps old later k d n kind placement e is same put s h = let x = put_at old later k d n e.base kind placement e is same refl put s h in (x.0, x.1, x.3)

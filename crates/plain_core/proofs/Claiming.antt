@@ -68,7 +68,7 @@ module _ (row : List Extent) (one : HasOneEach row) (marks : List Bool) where
   module _ (bases : List ℕ) (flags : List Bool) (free : AreFreeToGo row marks bases) (unset : AreUnset row bases flags) (index base : ℕ) (e : Extent) (at : slice_get row index ≡ Some e) (is : e.base ≡ base) where
     pub free_more : get_or marks index false ≡ false → get_or flags index false ≡ true → AreFreeToGo row marks (bases ++ base ∷ [])
     free_more unmarked flag = record {
-      each = All-push (IsFreeToGo row marks) bases base free.each (record { place = index; object = e; there = at; is_base = is; unmarked = unmarked });
+      each = All-push (IsFreeToGo row marks) bases base free.each (record { index = index; object = e; there = at; is_base = is; unmarked = unmarked });
       distinct = IsDistinct-push nat_eq_equiv bases base free.distinct
           (list_any_none (eqb base) bases (λ k d lt. ne_eqb base (get_or bases k d) (λ same. among (subst (Contains bases) (sym same) (Contains-get_or bases k d lt)))));
     }
@@ -88,12 +88,12 @@ module _ (row : List Extent) (one : HasOneEach row) (marks : List Bool) where
   pub stuck_none : (bases : List ℕ) (k d : ℕ) → k < length bases → All (λ (e : Extent). e.base ≡ get_or bases k d → ⊥) row → AreFreeToGo row marks bases → ⊥
   stuck_none bases k d lt none free =
       let f : IsFreeToGo row marks (get_or bases k d) = free.each k d lt in
-      All-contains (λ (e : Extent). e.base ≡ get_or bases k d → ⊥) row f.object none (f.place, slice_get_within row f.place f.object f.there, get_or_from_slice_get row f.place f.object f.object f.there) f.is_base
+      All-contains (λ (e : Extent). e.base ≡ get_or bases k d → ⊥) row f.object none (f.index, slice_get_within row f.index f.object f.there, get_or_from_slice_get row f.index f.object f.object f.there) f.is_base
 
   pub stuck_marked : (bases : List ℕ) (k d index : ℕ) (e : Extent) → k < length bases → slice_get row index ≡ Some e → e.base ≡ get_or bases k d → get_or marks index false ≡ true → AreFreeToGo row marks bases → ⊥
   stuck_marked bases k d index e lt at is marked free =
       let f : IsFreeToGo row marks (get_or bases k d) = free.each k d lt in
-      let same : f.place ≡ index = one.one f.place index f.object e f.there at (f.is_base ∙ sym is) in
+      let same : f.index ≡ index = one.one f.index index f.object e f.there at (f.is_base ∙ sym is) in
       true≢false (sym marked ∙ ap (λ i. get_or marks i false) (sym same) ∙ f.unmarked)
 
   pub stuck_twice : (bases : List ℕ) (flags : List Bool) (k d index : ℕ) (e : Extent) → k < length bases → AreUnset row (take k bases) flags → slice_get row index ≡ Some e → e.base ≡ get_or bases k d → get_or flags index false ≡ false → AreFreeToGo row marks bases → ⊥

@@ -14,17 +14,17 @@ use Rattle.words.specs.declared.limits.TheConstants.{FIRST_ADDRESS, GRANULE_BYTE
 use Rattle.words.specs.declared.class.Kind.{Kind}
 use Rattle.words.specs.declared.class.Kind.TheVariants.{Normal, PointerFree}
 use Rattle.heap_spec.specs.declared.reply.Reply.TheVariants.{Count}
-use Rattle.heap_spec.specs.Layout.{Reads}
-use Rattle.heap_spec.specs.Heap.{Heap, Object, HasObject, ReadsObject, words_of, root_words, without}
+use Rattle.heap_spec.specs.Layout.{PointsInto}
+use Rattle.heap_spec.specs.Heap.{Heap, Object, HasObject, PointsIntoObject, words_of_slot, root_words, without}
 use Rattle.heap_spec.specs.Closure.{given, root, word, Reached}
 use Rattle.heap_spec.specs.Cycles.{TakesOut, CollectsFully}
 use Rattle.links.specs.declared.row.Link.{Link}
 use Rattle.roots.specs.Roots.{root_words_of}
 use Rattle.plain_core.specs.declared.extent.Extent.{Extent}
-use Rattle.plain_core.specs.Contents.{Contents, IsLaidOut, IsInHeap, granule}
+use Rattle.plain_core.specs.PlainContents.{PlainContents, IsLaidOut, IsInHeap, granule}
 use Rattle.plain_core.specs.Collections.{IsCollected, HasGarbage}
 use Rattle.plain_core.specs.Standing.{StandsFor, LiesIn, words_at}
-use Rattle.plain_core.specs.Reached.{PointsIntoPlace, AreApart, IsReachedPlace, by_root, by_link, MarksReached, read_words}
+use Rattle.plain_core.specs.Reached.{PointsIntoNth, AreApart, IsReachedNth, by_root, by_link, MarksReached, read_words}
 use Rattle.plain_core.specs.declared.listing.Listing.{Listing}
 use Rattle.plain_core.specs.Listing.{HasListRoom, KeepsRoom}
 use Rattle.plain_core.specs.Parting.{Parts}
@@ -57,7 +57,7 @@ once (g ∷ row) d (suc i) zero e at at' = absurd (first_apart row g d i e at (s
 once (g ∷ row) d (suc i) (suc j) e at at' = ap suc (once row (IsDistinct-tail nat_eq (granule g) (map granule row) d) i j e at at')
 
 -- no word points into two objects of a sound core
-pub sound_apart : (c : Contents) → IsLaidOut c → AreApart c.objects
+pub sound_apart : (c : PlainContents) → IsLaidOut c → AreApart c.objects
 sound_apart c sound = record {
   one = λ w i j p q.
       let same : q.0 ≡ p.0 = sound.apart q.0 p.0 w (in_row c.objects j q.0 q.1) (in_row c.objects i p.0 p.1) q.2 p.2 in
@@ -84,16 +84,16 @@ mapped_from gone b has = All-contains (λ y. (e : Extent) × Contains gone e × 
 pub are_bases : (gone : List Extent) → AreBases gone (map (λ (e : Extent). e.base) gone)
 are_bases gone = record { of = mapped_from gone; all = mapped gone }
 
-module _ (c : Contents) (sound : IsLaidOut c) (s : Heap) (h : StandsFor c s) where
+module _ (c : PlainContents) (sound : IsLaidOut c) (s : Heap) (h : StandsFor c s) where
   pub roots_are : root_words s ≡ root_words_of c.roots
-  roots_are = ap (λ ms. flat_map words_of ms ++ s.globals) h.mutators ∙ ap (λ gs. flat_map words_of c.roots.mutators ++ gs) h.globals
+  roots_are = ap (λ ms. flat_map words_of_slot ms ++ s.globals) h.mutators ∙ ap (λ gs. flat_map words_of_slot c.roots.mutators ++ gs) h.globals
 
   -- where a word points into, the heap has an object that it reads
-  pub reads_at : (w i : ℕ) (p : PointsIntoPlace c.objects w i) → (e : Extent) → slice_get c.objects i ≡ Some e → (o : Object) × ReadsObject s w e.base o
+  pub reads_at : (w i : ℕ) (p : PointsIntoNth c.objects w i) → (e : Extent) → slice_get c.objects i ≡ Some e → (o : Object) × PointsIntoObject s w e.base o
   reads_at w i p e at =
-      let o = reads_object c sound s h e (in_row c.objects i e at) w (subst (λ (x : Extent). Reads w x.base x.length) (same_Some p.0 e (sym p.1 ∙ at)) p.2) in (o.0, o.1)
+      let o = reads_object c sound s h e (in_row c.objects i e at) w (subst (λ (x : Extent). PointsInto w x.base x.length) (same_Some p.0 e (sym p.1 ∙ at)) p.2) in (o.0, o.1)
 
-  pub reached_out : (i : ℕ) (e : Extent) → IsReachedPlace (root_words_of c.roots) c.words c.objects i → slice_get c.objects i ≡ Some e → Reached s e.base
+  pub reached_out : (i : ℕ) (e : Extent) → IsReachedNth (root_words_of c.roots) c.words c.objects i → slice_get c.objects i ≡ Some e → Reached s e.base
   reached_out i e (by_root {w = w} among p) at = root (subst (λ ws. Contains ws w) (sym roots_are) among) (reads_at w i p e at).1
   reached_out i e (by_link {i = from} {w = w} {e = f} r there among p) at =
       let kept = h.kept f (in_row c.objects from f there) in
@@ -101,13 +101,13 @@ module _ (c : Contents) (sound : IsLaidOut c) (s : Heap) (h : StandsFor c s) whe
       word (reached_out from f r there) kept.1 (kept.2.kind ∙ link.0) (subst (λ ws. Contains ws w) (sym kept.2.words) link.1) (reads_at w i p e at).1
 
   -- the object that a word reads stands in the row
-  pub points_at : (w base : ℕ) (o : Object) → ReadsObject s w base o → (i : ℕ) × (e : Extent) × (slice_get c.objects i ≡ Some e) × (e.base ≡ base) × Reads w e.base e.length
+  pub points_at : (w base : ℕ) (o : Object) → PointsIntoObject s w base o → (i : ℕ) × (e : Extent) × (slice_get c.objects i ≡ Some e) × (e.base ≡ base) × PointsInto w e.base e.length
   points_at w base o r =
       let e = extent_of c sound s h base o r.0 in
       let i = at_place c.objects e.0 e.1 in
-      (i.0, e.0, i.1, e.2, subst (λ b. Reads w b e.0.length) (sym e.2) (subst (λ n. Reads w base n) (sym e.3) r.1))
+      (i.0, e.0, i.1, e.2, subst (λ b. PointsInto w b e.0.length) (sym e.2) (subst (λ n. PointsInto w base n) (sym e.3) r.1))
 
-  pub reached_in : (base : ℕ) → Reached s base → (i : ℕ) × (e : Extent) × (slice_get c.objects i ≡ Some e) × (e.base ≡ base) × IsReachedPlace (root_words_of c.roots) c.words c.objects i
+  pub reached_in : (base : ℕ) → Reached s base → (i : ℕ) × (e : Extent) × (slice_get c.objects i ≡ Some e) × (e.base ≡ base) × IsReachedNth (root_words_of c.roots) c.words c.objects i
   reached_in base (given has none) = absurd none
   reached_in base (root {w = w} {o = o} among r) =
       let p = points_at w base o r in (p.0, p.1, p.2, p.3, by_root (subst (λ ws. Contains ws w) roots_are among) (p.1, p.2, p.4))
@@ -124,8 +124,8 @@ module _ (c : Contents) (sound : IsLaidOut c) (s : Heap) (h : StandsFor c s) whe
   pub not_reached : (marks : List Bool) → MarksReached (root_words_of c.roots) c.words c.objects marks → (i : ℕ) (e : Extent) → slice_get c.objects i ≡ Some e → get_or marks i false ≡ false → Reached s e.base → ⊥
   not_reached marks m i e at unmarked r =
       let f = reached_in e.base r in
-      let here : Reads e.base e.base e.length = reads_base c sound e (in_row c.objects i e at) e.base refl in
-      let there : Reads e.base f.1.base f.1.length = reads_base c sound f.1 (in_row c.objects f.0 f.1 f.2) e.base (sym f.3) in
+      let here : PointsInto e.base e.base e.length = reads_base c sound e (in_row c.objects i e at) e.base refl in
+      let there : PointsInto e.base f.1.base f.1.length = reads_base c sound f.1 (in_row c.objects f.0 f.1 f.2) e.base (sym f.3) in
       let same : i ≡ f.0 = (sound_apart c sound).one e.base i f.0 (e, at, here) (f.1, f.2, there) in
       true≢false (sym (m.marked f.0 f.4) ∙ ap (λ k. get_or marks k false) (sym same) ∙ unmarked)
 
@@ -165,21 +165,21 @@ module _ (c : Contents) (sound : IsLaidOut c) (s : Heap) (h : StandsFor c s) whe
       rest_stands c sound parts.gone stay parts.all bases (are_bases parts.gone) words links along s h,
     )
 
-pub collects : (c : Contents) → IsLaidOut c → (marks : List Bool) → MarksReached (root_words_of c.roots) c.words c.objects marks → (stay : List Extent) (n : ℕ) → Parts c.objects marks stay n
+pub collects : (c : PlainContents) → IsLaidOut c → (marks : List Bool) → MarksReached (root_words_of c.roots) c.words c.objects marks → (stay : List Extent) (n : ℕ) → Parts c.objects marks stay n
     → (words : List ℕ) (links : List Link) → LeavesAlong c stay words links → IsCollected c n (record c { words = words; objects = stay; links = links })
 collects c sound marks m stay n parts words links along s h = collected c sound s h marks m stay n parts words links along
 
-pub garbage : (c : Contents) → IsLaidOut c → (marks : List Bool) → MarksReached (root_words_of c.roots) c.words c.objects marks → (stay : List Extent) (n : ℕ) → Parts c.objects marks stay n → HasGarbage c n
+pub garbage : (c : PlainContents) → IsLaidOut c → (marks : List Bool) → MarksReached (root_words_of c.roots) c.words c.objects marks → (stay : List Extent) (n : ℕ) → Parts c.objects marks stay n → HasGarbage c n
 garbage c sound marks m stay n parts s h = (_, full c sound s h marks m stay n parts)
 
 -- each object's words are in a row of all words
-pub lie_in : (c : Contents) → IsLaidOut c → (row : List ℕ) → length row ≡ PAGE_WORDS * c.pages → All (LiesIn row) c.objects
+pub lie_in : (c : PlainContents) → IsLaidOut c → (row : List ℕ) → length row ≡ PAGE_WORDS * c.pages → All (LiesIn row) c.objects
 lie_in c sound row long k d lt =
     let e : Extent = get_or c.objects k d in
     let i : IsInHeap c.pages e = sound.in_heap k d lt in
     record { start = i.start; aligned = let whole = i.aligned in omega arith; some = i.some; ends = omega (arith, i.start, i.aligned, i.ends) }
 
-pub all_lie : (c : Contents) → IsLaidOut c → All (LiesIn c.words) c.objects
+pub all_lie : (c : PlainContents) → IsLaidOut c → All (LiesIn c.words) c.objects
 all_lie c sound = lie_in c sound c.words sound.words
 
 -- the same marks, by equations
@@ -188,7 +188,7 @@ marks_are roots roots' words words' row row' marks marks' er ew eo em m =
     subst (MarksReached roots' words' row') (sym em) (subst (λ o. MarksReached roots' words' o marks) eo (subst (λ w. MarksReached roots' w row marks) ew (subst (λ r. MarksReached r words row marks) er m)))
 
 -- there is room for all objects, before and after
-pub room_for : (c : Contents) → IsLaidOut c → (l : Listing) → HasListRoom (PAGE_GRANULES * c.pages) l → HasListRoom (length c.objects) l
+pub room_for : (c : PlainContents) → IsLaidOut c → (l : Listing) → HasListRoom (PAGE_GRANULES * c.pages) l → HasListRoom (length c.objects) l
 room_for c sound l room =
     let few : length c.objects ≤ PAGE_GRANULES * c.pages = few_objects c.pages c.objects sound.in_heap sound.distinct in
     let marks = room.marks in let order = room.order in record { marks = omega arith; order = omega arith }

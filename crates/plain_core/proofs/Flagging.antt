@@ -7,8 +7,8 @@ use Rattle.std.proofs.lemmas.List.{length-set, get_or-set_same, get_or-set_other
 use Rattle.std.proofs.lemmas.List.Elements.{All-contains, Contains-get_or}
 use Rattle.words.specs.declared.limits.TheConstants.{FIRST_ADDRESS}
 use Rattle.words.specs.declared.class.Kind.TheVariants.{Normal}
-use Rattle.heap_spec.specs.Layout.{Reads}
-use Rattle.heap_spec.specs.Heap.{Heap, Object, HasObject, ReadsObject}
+use Rattle.heap_spec.specs.Layout.{PointsInto}
+use Rattle.heap_spec.specs.Heap.{Heap, Object, HasObject, PointsIntoObject}
 use Rattle.heap_spec.specs.Closure.{Reached}
 use Rattle.heap_spec.specs.declared.call.Call.{Call}
 use Rattle.heap_spec.specs.Laws.{IsNoAlloc}
@@ -16,10 +16,10 @@ use Rattle.heap_spec.specs.Touching.{LedTo, first, next, HasApartObjects, IsBrou
 use Rattle.heap_spec.proofs.Touching.{stands_one}
 use Rattle.roots.specs.Roots.{root_words_of}
 use Rattle.plain_core.specs.declared.extent.Extent.{Extent}
-use Rattle.plain_core.specs.Contents.{Contents, IsLaidOut, IsInHeap}
+use Rattle.plain_core.specs.PlainContents.{PlainContents, IsLaidOut, IsInHeap}
 use Rattle.plain_core.specs.Collections.{TakesBases, CantTake}
-use Rattle.plain_core.specs.Reached.{IsReachedPlace, by_root, by_link, MarksReached, links_of}
-use Rattle.plain_core.specs.Standing.{StandsFor, place, words_at}
+use Rattle.plain_core.specs.Reached.{IsReachedNth, by_root, by_link, MarksReached, links_of}
+use Rattle.plain_core.specs.Standing.{StandsFor, word_index, words_at}
 use Rattle.plain_core.specs.Flags.{IsFlagged, HasFlags, FlagsMarked, FlagsReached, FlagsLed, FlagsBrought, NamesRow, AreGone, ForgetsUnflagged, CantForget}
 use Rattle.plain_core.specs.Claims.{AreUnset}
 use Rattle.plain_core.proofs.Objects.{in_heap, extent_of, reads_object, reads_nothing}
@@ -29,8 +29,8 @@ use Rattle.plain_core.proofs.Collects.{in_row, read_of, read_in, reads_at, point
 pub record MarkedSoFar (row : List Extent) (marks old : List Bool) (done : ℕ) (new : List Bool) : Type 0 where
   pub size : length new ≡ length old
   pub keeps : (k : ℕ) → get_or old k false ≡ true → get_or new k false ≡ true
-  pub sets : (i : ℕ) (e : Extent) → i < done → slice_get row i ≡ Some e → get_or marks i false ≡ true → place e.base < length old → IsFlagged new e.base
-  pub only : (k : ℕ) → get_or new k false ≡ true → (get_or old k false ≡ true) ⊎ ((i : ℕ) × (e : Extent) × (slice_get row i ≡ Some e) × (get_or marks i false ≡ true) × (place e.base ≡ k))
+  pub sets : (i : ℕ) (e : Extent) → i < done → slice_get row i ≡ Some e → get_or marks i false ≡ true → word_index e.base < length old → IsFlagged new e.base
+  pub only : (k : ℕ) → get_or new k false ≡ true → (get_or old k false ≡ true) ⊎ ((i : ℕ) × (e : Extent) × (slice_get row i ≡ Some e) × (get_or marks i false ≡ true) × (word_index e.base ≡ k))
 
 -- a flag after one is set
 set_keeps : (flags : List Bool) (k at : ℕ) → get_or flags k false ≡ true → get_or (slice_set flags at true) k false ≡ true
@@ -49,23 +49,23 @@ module _ (row : List Extent) (marks old : List Bool) where
   pub marked_none : MarkedSoFar row marks old 0 old
   marked_none = record { size = refl; keeps = λ k is. is; sets = λ i e lt at is within. absurd (omega arith); only = λ k is. inl is }
 
-  pub marked_more : (done : ℕ) (e : Extent) (new flags : List Bool) → MarkedSoFar row marks old done flags → slice_get row done ≡ Some e → get_or marks done false ≡ true → new ≡ slice_set flags (place e.base) true
+  pub marked_more : (done : ℕ) (e : Extent) (new flags : List Bool) → MarkedSoFar row marks old done flags → slice_get row done ≡ Some e → get_or marks done false ≡ true → new ≡ slice_set flags (word_index e.base) true
       → MarkedSoFar row marks old (done + 1) new
   marked_more done e new flags h at is sets = subst (MarkedSoFar row marks old (done + 1)) (sym sets) (record {
-    size = length-set flags (place e.base) true ∙ h.size;
-    keeps = λ k has. set_keeps flags k (place e.base) (h.keeps k has);
+    size = length-set flags (word_index e.base) true ∙ h.size;
+    keeps = λ k has. set_keeps flags k (word_index e.base) (h.keeps k has);
     sets = λ i f lt there marked within. ⊎_elim
         (λ same.
         let is_e : f ≡ e = same_Some f e (sym there ∙ ap (slice_get row) same ∙ at) in
         let size = h.size in
-        subst (λ (x : Extent). IsFlagged (slice_set flags (place e.base) true) x.base) (sym is_e) (get_or-set_same flags (place e.base) true false (long e f is_e within)))
-        (λ other. set_keeps flags (place f.base) (place e.base) (h.sets i f (omega arith) there marked within))
+        subst (λ (x : Extent). IsFlagged (slice_set flags (word_index e.base) true) x.base) (sym is_e) (get_or-set_same flags (word_index e.base) true false (long e f is_e within)))
+        (λ other. set_keeps flags (word_index f.base) (word_index e.base) (h.sets i f (omega arith) there marked within))
         (cases_eq i done);
-    only = λ k has. ⊎_elim (λ before. h.only k before) (λ same. inr (done, e, at, is, same)) (set_only flags k (place e.base) has);
+    only = λ k has. ⊎_elim (λ before. h.only k before) (λ same. inr (done, e, at, is, same)) (set_only flags k (word_index e.base) has);
   })
     where
-      long : (x f : Extent) → f ≡ x → place f.base < length old → place x.base < length flags
-      long x f same within = let size = h.size in let lt = subst (λ (y : Extent). place y.base < length old) same within in omega arith
+      long : (x f : Extent) → f ≡ x → word_index f.base < length old → word_index x.base < length flags
+      long x f same within = let size = h.size in let lt = subst (λ (y : Extent). word_index y.base < length old) same within in omega arith
 
   pub marked_past : (done : ℕ) (new flags : List Bool) → MarkedSoFar row marks old done flags → get_or marks done false ≡ false → new ≡ flags → MarkedSoFar row marks old (done + 1) new
   marked_past done new flags h not same = subst (MarkedSoFar row marks old (done + 1)) (sym same) (record {
@@ -87,7 +87,7 @@ module _ (row : List Extent) (marks old : List Bool) where
   }
 
 -- objects have births, words and bytes of their own
-pub apart : (c : Contents) → IsLaidOut c → (s : Heap) → StandsFor c s → HasApartObjects s
+pub apart : (c : PlainContents) → IsLaidOut c → (s : Heap) → StandsFor c s → HasApartObjects s
 apart c sound s h = record {
   births = h.distinct;
   born = λ base o has. (h.born base o has).1;
@@ -95,40 +95,40 @@ apart c sound s h = record {
   one = λ w a b o p r q.
       let e = extent_of c sound s h a o r.0 in
       let f = extent_of c sound s h b p q.0 in
-      let here : Reads w e.0.base e.0.length = subst (λ k. Reads w k e.0.length) (sym e.2) (subst (λ n. Reads w a n) (sym e.3) r.1) in
-      let there : Reads w f.0.base f.0.length = subst (λ k. Reads w k f.0.length) (sym f.2) (subst (λ n. Reads w b n) (sym f.3) q.1) in
+      let here : PointsInto w e.0.base e.0.length = subst (λ k. PointsInto w k e.0.length) (sym e.2) (subst (λ n. PointsInto w a n) (sym e.3) r.1) in
+      let there : PointsInto w f.0.base f.0.length = subst (λ k. PointsInto w k f.0.length) (sym f.2) (subst (λ n. PointsInto w b n) (sym f.3) q.1) in
       sym e.2 ∙ ap (λ (x : Extent). x.base) (sound.apart e.0 f.0 w e.1 f.1 here there) ∙ f.2;
   zero = λ base o r. let e = extent_of c sound s h base o r.0 in let i = (in_heap c sound e.0 e.1).start in let is = e.2 in let from = r.1.0 in omega arith;
 }
 
 -- two objects whose bases have one place are one
-pub one_place : (c : Contents) (sound : IsLaidOut c) (e f : Extent) → Contains c.objects e → Contains c.objects f → place e.base ≡ place f.base → e.base ≡ f.base
+pub one_place : (c : PlainContents) (sound : IsLaidOut c) (e f : Extent) → Contains c.objects e → Contains c.objects f → word_index e.base ≡ word_index f.base → e.base ≡ f.base
 one_place c sound e f has also same =
     let i : IsInHeap c.pages e = in_heap c sound e has in
     let j : IsInHeap c.pages f = in_heap c sound f also in
     omega (arith, i.start, i.aligned, j.start, j.aligned, same)
 
 -- the base of an object has a flag
-pub has_flag : (c : Contents) (sound : IsLaidOut c) (flags : List Bool) → HasFlags c.pages flags → (e : Extent) → Contains c.objects e → place e.base < length flags
+pub has_flag : (c : PlainContents) (sound : IsLaidOut c) (flags : List Bool) → HasFlags c.pages flags → (e : Extent) → Contains c.objects e → word_index e.base < length flags
 has_flag c sound flags room e has =
     let i : IsInHeap c.pages e = in_heap c sound e has in omega (arith, i.start, i.aligned, i.some, i.ends, room)
 
-pub starts : (c : Contents) → IsLaidOut c → All (λ e. FIRST_ADDRESS ≤ e.base) c.objects
+pub starts : (c : PlainContents) → IsLaidOut c → All (λ e. FIRST_ADDRESS ≤ e.base) c.objects
 starts c sound k d lt = (in_heap c sound (get_or c.objects k d) (Contains-get_or c.objects k d lt)).start
 
 single : (w v : ℕ) → Contains (w ∷ []) v → w ≡ v
 single w v has = let lt : has.0 < 1 = has.1 in let none : has.0 ≡ 0 = omega arith in subst (λ j. get_or (w ∷ []) j v ≡ v) none has.2
 
 -- what a word leads to, told by where it stands in the row
-module _ (c : Contents) (sound : IsLaidOut c) (s : Heap) (h : StandsFor c s) (w : ℕ) where
-  led_out : (i : ℕ) (e : Extent) → IsReachedPlace (w ∷ []) c.words c.objects i → slice_get c.objects i ≡ Some e → LedTo s w e.base
+module _ (c : PlainContents) (sound : IsLaidOut c) (s : Heap) (h : StandsFor c s) (w : ℕ) where
+  led_out : (i : ℕ) (e : Extent) → IsReachedNth (w ∷ []) c.words c.objects i → slice_get c.objects i ≡ Some e → LedTo s w e.base
   led_out i e (by_root {w = v} among p) at = subst (λ k. LedTo s k e.base) (sym (single w v among)) (first (reads_at c sound s h v i p e at).1)
   led_out i e (by_link {i = from} {w = v} {e = f} r there among p) at =
       let kept = h.kept f (in_row c.objects from f there) in
       let link = read_of f.kind (words_at c.words f) v among in
       next (led_out from f r there) kept.1 (kept.2.kind ∙ link.0) (subst (λ ws. Contains ws v) (sym kept.2.words) link.1) (reads_at c sound s h v i p e at).1
 
-  led_in : (base : ℕ) → LedTo s w base → (i : ℕ) × (e : Extent) × (slice_get c.objects i ≡ Some e) × (e.base ≡ base) × IsReachedPlace (w ∷ []) c.words c.objects i
+  led_in : (base : ℕ) → LedTo s w base → (i : ℕ) × (e : Extent) × (slice_get c.objects i ≡ Some e) × (e.base ≡ base) × IsReachedNth (w ∷ []) c.words c.objects i
   led_in base (first {o = o} r) = let p = points_at c sound s h w base o r in (p.0, p.1, p.2, p.3, by_root (0, omega arith, refl) (p.1, p.2, p.4))
   led_in base (next {from = from} {v = v} {p = q} {o = o} inner has normal among r) =
       let f = led_in from inner in
@@ -139,12 +139,12 @@ module _ (c : Contents) (sound : IsLaidOut c) (s : Heap) (h : StandsFor c s) (w 
       let p = points_at c sound s h v base o r in
       (p.0, p.1, p.2, p.3, by_link f.4 f.2 (read_in f.1.kind (words_at c.words f.1) v kind words) (p.1, p.2, p.4))
 
-  led_first : {base : ℕ} → LedTo s w base → (at : ℕ) × (o : Object) × ReadsObject s w at o
+  led_first : {base : ℕ} → LedTo s w base → (at : ℕ) × (o : Object) × PointsIntoObject s w at o
   led_first (first {base = base} {o = o} r) = (base, o, r)
   led_first (next inner has normal among r) = led_first inner
 
 -- what the marked objects' flags tell
-module _ (c : Contents) (sound : IsLaidOut c) (marks old new : List Bool) (f : FlagsMarked c.objects marks old new) where
+module _ (c : PlainContents) (sound : IsLaidOut c) (marks old new : List Bool) (f : FlagsMarked c.objects marks old new) where
   -- the marked object that a flag is of
   pub flag_of : (s : Heap) → StandsFor c s → (base : ℕ) (o : Object) → HasObject s base o → IsFlagged new base
       → IsFlagged old base ⊎ ((i : ℕ) × (e : Extent) × (slice_get c.objects i ≡ Some e) × (get_or marks i false ≡ true) × (e.base ≡ base))
@@ -152,8 +152,8 @@ module _ (c : Contents) (sound : IsLaidOut c) (marks old new : List Bool) (f : F
       (λ before. inl before)
       (λ x.
       let e = extent_of c sound s h base o has in
-      inr (x.0, x.1, x.2, x.3, one_place c sound x.1 e.0 (in_row c.objects x.0 x.1 x.2) e.1 (x.4 ∙ ap place (sym e.2)) ∙ e.2))
-      (f.only (place base) is)
+      inr (x.0, x.1, x.2, x.3, one_place c sound x.1 e.0 (in_row c.objects x.0 x.1 x.2) e.1 (x.4 ∙ ap word_index (sym e.2)) ∙ e.2))
+      (f.only (word_index base) is)
 
   pub flag_sets : HasFlags c.pages old → (i : ℕ) (e : Extent) → slice_get c.objects i ≡ Some e → get_or marks i false ≡ true → IsFlagged new e.base
   flag_sets room i e at is = f.sets i e at is (has_flag c sound old room e (in_row c.objects i e at))
@@ -161,7 +161,7 @@ module _ (c : Contents) (sound : IsLaidOut c) (marks old new : List Bool) (f : F
   pub led_flagged : (w : ℕ) → MarksReached (w ∷ []) c.words c.objects marks → FlagsLed c w old new
   led_flagged w m = record {
     size = f.size;
-    keeps = λ base is. f.keeps (place base) is;
+    keeps = λ base is. f.keeps (word_index base) is;
     only = λ s h base o has is. ⊎_elim
         (λ before. inl before)
         (λ x. inr (subst (LedTo s w) x.4 (led_out c sound s h w x.0 x.1 (m.reached x.0 x.3) x.2)))
@@ -172,14 +172,14 @@ module _ (c : Contents) (sound : IsLaidOut c) (marks old new : List Bool) (f : F
   pub reached_flagged : ((k : ℕ) → get_or old k false ≡ false) → MarksReached (root_words_of c.roots) c.words c.objects marks → FlagsReached c new
   reached_flagged none m room s h base o has = (
     λ is. ⊎_elim
-        (λ before. absurd (true≢false (sym before ∙ none (place base))))
+        (λ before. absurd (true≢false (sym before ∙ none (word_index base))))
         (λ x. subst (Reached s) x.4 (reached_out c sound s h x.0 x.1 (m.reached x.0 x.3) x.2))
         (flag_of s h base o has is),
     λ r. let x = reached_in c sound s h base r in subst (IsFlagged new) x.3 (flag_sets (let size = f.size in omega (arith, room)) x.0 x.1 x.2 (m.marked x.0 x.4)),
   )
 
 -- nothing is to be done where a word points into nothing, or into an object with its flag
-pub led_nothing : (c : Contents) → IsLaidOut c → (w : ℕ) (flags : List Bool) → All (λ e. Reads w e.base e.length → ⊥) c.objects → FlagsLed c w flags flags
+pub led_nothing : (c : PlainContents) → IsLaidOut c → (w : ℕ) (flags : List Bool) → All (λ e. PointsInto w e.base e.length → ⊥) c.objects → FlagsLed c w flags flags
 led_nothing c sound w flags none = record {
   size = refl;
   keeps = λ base is. is;
@@ -187,7 +187,7 @@ led_nothing c sound w flags none = record {
   adds = λ room s h lead base led. let x = led_first c sound s h w led in absurd (reads_nothing c sound s h w none x.0 x.1 x.2);
 }
 
-pub led_before : (c : Contents) → IsLaidOut c → (w : ℕ) (flags : List Bool) (e : Extent) → Contains c.objects e → Reads w e.base e.length → IsFlagged flags e.base → FlagsLed c w flags flags
+pub led_before : (c : PlainContents) → IsLaidOut c → (w : ℕ) (flags : List Bool) (e : Extent) → Contains c.objects e → PointsInto w e.base e.length → IsFlagged flags e.base → FlagsLed c w flags flags
 led_before c sound w flags e has reads is = record {
   size = refl;
   keeps = λ base is. is;
@@ -196,7 +196,7 @@ led_before c sound w flags e has reads is = record {
 }
 
 -- an object of which no word but 0 is read leads to itself alone
-module _ (c : Contents) (sound : IsLaidOut c) (w : ℕ) (e : Extent) (has : Contains c.objects e) (reads : Reads w e.base e.length) (none : All (λ v. v ≡ 0) (links_of c.words e)) where
+module _ (c : PlainContents) (sound : IsLaidOut c) (w : ℕ) (e : Extent) (has : Contains c.objects e) (reads : PointsInto w e.base e.length) (none : All (λ v. v ≡ 0) (links_of c.words e)) where
   led_alone : (s : Heap) → StandsFor c s → {base : ℕ} → LedTo s w base → base ≡ e.base
   led_alone s h (first {base = base} {o = o} r) = let mine = reads_object c sound s h e has w reads in (apart c sound s h).one w base e.base o mine.0 r mine.1
   led_alone s h (next {from = from} {v = v} {base = base} {p = p} {o = o} inner there normal among r) =
@@ -206,28 +206,28 @@ module _ (c : Contents) (sound : IsLaidOut c) (w : ℕ) (e : Extent) (has : Cont
       let kind : e.kind ≡ Normal = sym kept.2.kind ∙ ap (λ (x : Object). x.kind) is ∙ normal in
       let words : Contains (words_at c.words e) v = subst (λ ws. Contains ws v) (sym (ap (λ (x : Object). x.words) is) ∙ kept.2.words) among in
       let zero : v ≡ 0 = All-contains (λ x. x ≡ 0) (links_of c.words e) v none (read_in e.kind (words_at c.words e) v kind words) in
-      absurd ((apart c sound s h).zero base o (subst (λ k. ReadsObject s k base o) zero r))
+      absurd ((apart c sound s h).zero base o (subst (λ k. PointsIntoObject s k base o) zero r))
 
-  pub led_itself : (flags new : List Bool) → new ≡ slice_set flags (place e.base) true → FlagsLed c w flags new
+  pub led_itself : (flags new : List Bool) → new ≡ slice_set flags (word_index e.base) true → FlagsLed c w flags new
   led_itself flags new is = subst (FlagsLed c w flags) (sym is) (record {
-    size = length-set flags (place e.base) true;
-    keeps = λ base before. set_keeps flags (place base) (place e.base) before;
+    size = length-set flags (word_index e.base) true;
+    keeps = λ base before. set_keeps flags (word_index base) (word_index e.base) before;
     only = λ s h base o there set. ⊎_elim
         (λ before. inl before)
         (λ same.
         let f = extent_of c sound s h base o there in
-        let base_is : e.base ≡ base = one_place c sound e f.0 has f.1 (same ∙ ap place (sym f.2)) ∙ f.2 in
+        let base_is : e.base ≡ base = one_place c sound e f.0 has f.1 (same ∙ ap word_index (sym f.2)) ∙ f.2 in
         inr (subst (LedTo s w) base_is (first (reads_object c sound s h e has w reads).1)))
-        (set_only flags (place base) (place e.base) set);
-    adds = λ room s h lead base led. subst (IsFlagged (slice_set flags (place e.base) true)) (sym (led_alone s h led)) (get_or-set_same flags (place e.base) true false (has_flag c sound flags room e has));
+        (set_only flags (word_index base) (word_index e.base) set);
+    adds = λ room s h lead base led. subst (IsFlagged (slice_set flags (word_index e.base) true)) (sym (led_alone s h led)) (get_or-set_same flags (word_index e.base) true false (has_flag c sound flags room e has));
   })
 
 -- what is left is named
-named_all : (flags : List Bool) (bases : List ℕ) (base : ℕ) (b : Bool) → get_or flags (place base) false ≡ b → ((IsFlagged flags base → ⊥) → Contains bases base) → IsFlagged flags base ⊎ Contains bases base
+named_all : (flags : List Bool) (bases : List ℕ) (base : ℕ) (b : Bool) → get_or flags (word_index base) false ≡ b → ((IsFlagged flags base → ⊥) → Contains bases base) → IsFlagged flags base ⊎ Contains bases base
 named_all flags bases base true is rest = inl is
 named_all flags bases base false is rest = inr (rest (λ set. true≢false (sym set ∙ is)))
 
-pub forgets : (c : Contents) → IsLaidOut c → (flags : List Bool) (bases : List ℕ) (new : Contents) → NamesRow c.objects flags bases → TakesBases c bases false new → ForgetsUnflagged c flags bases new
+pub forgets : (c : PlainContents) → IsLaidOut c → (flags : List Bool) (bases : List ℕ) (new : PlainContents) → NamesRow c.objects flags bases → TakesBases c bases false new → ForgetsUnflagged c flags bases new
 forgets c sound flags bases new names takes s h =
     let x = takes s h in (
       x.0,
@@ -241,17 +241,17 @@ forgets c sound flags bases new names takes s h =
       x.3,
     )
 
-pub cant_forget : (c : Contents) → (flags : List Bool) (bases : List ℕ) → (NamesRow c.objects flags bases → ⊥) → CantForget c flags bases
+pub cant_forget : (c : PlainContents) → (flags : List Bool) (bases : List ℕ) → (NamesRow c.objects flags bases → ⊥) → CantForget c flags bases
 cant_forget c flags bases none s h n s' takes names = none (λ k d lt.
     let e : Extent = get_or c.objects k d in
     let o = h.kept e (Contains-get_or c.objects k d lt) in
-    named_all flags bases e.base (get_or flags (place e.base) false) refl (λ out. names e.base o.0 o.1 out))
+    named_all flags bases e.base (get_or flags (word_index e.base) false) refl (λ out. names e.base o.0 o.1 out))
 
-pub cant_take : (c : Contents) (flags : List Bool) (bases : List ℕ) → CantTake c bases false → CantForget c flags bases
+pub cant_take : (c : PlainContents) (flags : List Bool) (bases : List ℕ) → CantTake c bases false → CantForget c flags bases
 cant_take c flags bases cant s h n s' takes names = cant s h n s' takes (λ e. absurd (true≢false (sym e)))
 
 -- what a call brought has its flags
-pub brought_nothing : (c : Contents) (slot : ℕ) (call : Call) (flags : List Bool) → (IsNoAlloc call → (s s' : Heap) (w : ℕ) → StandsFor c s' → IsBrought s slot call s' w → ⊥) → FlagsBrought c slot call flags flags
+pub brought_nothing : (c : PlainContents) (slot : ℕ) (call : Call) (flags : List Bool) → (IsNoAlloc call → (s s' : Heap) (w : ℕ) → StandsFor c s' → IsBrought s slot call s' w → ⊥) → FlagsBrought c slot call flags flags
 brought_nothing c slot call flags none = record {
   size = refl;
   keeps = λ base is. is;
@@ -259,7 +259,7 @@ brought_nothing c slot call flags none = record {
   adds = λ no room s s' h w x lead base led. absurd (none no s s' w h x);
 }
 
-pub brought_flagged : (c : Contents) (slot : ℕ) (call : Call) (r w : ℕ) (old new : List Bool) → ((s s' : Heap) (v : ℕ) → IsBrought s slot call s' v ↔ StandsIn s' slot r v)
+pub brought_flagged : (c : PlainContents) (slot : ℕ) (call : Call) (r w : ℕ) (old new : List Bool) → ((s s' : Heap) (v : ℕ) → IsBrought s slot call s' v ↔ StandsIn s' slot r v)
     → ((s : Heap) → StandsFor c s → StandsIn s slot r w) → FlagsLed c w old new → FlagsBrought c slot call old new
 brought_flagged c slot call r w old new is stands f = record {
   size = f.size;
@@ -267,7 +267,7 @@ brought_flagged c slot call r w old new is stands f = record {
   only = λ s s' h base o has set. ⊎_elim (λ before. inl before) (λ led. inr (w, (is s s' w).1 (stands s' h), led)) (f.only s' h base o has set);
   adds = λ no room s s' h v x lead base led.
       let same : v ≡ w = stands_one s' slot r v w ((is s s' v).0 x) (stands s' h) in
-      f.adds room s' h (subst (λ k. (at : ℕ) (o : Object) → ReadsObject s' k at o → IsFlagged old at → (b : ℕ) → LedTo s' k b → IsFlagged old b) same lead) base (subst (λ k. LedTo s' k base) same led);
+      f.adds room s' h (subst (λ k. (at : ℕ) (o : Object) → PointsIntoObject s' k at o → IsFlagged old at → (b : ℕ) → LedTo s' k b → IsFlagged old b) same lead) base (subst (λ k. LedTo s' k base) same led);
 }
 
 -- the flags by which objects stay tell which are named

@@ -11,7 +11,7 @@ use Rattle.std.proofs.lemmas.Map.Views.{Contains-from_any}
 use Rattle.std.proofs.lemmas.Option.{slice_get_within, slice_get-get_or}
 use Rattle.words.specs.declared.class.Kind.TheVariants.{Normal}
 use Rattle.words.specs.declared.limits.TheConstants.{PAGE_GRANULES}
-use Rattle.heap_spec.specs.Layout.{Reads}
+use Rattle.heap_spec.specs.Layout.{PointsInto}
 use Rattle.heap_spec.specs.Heap.{Heap, Object, HasObject, without}
 use Rattle.heap_spec.specs.declared.reply.Reply.{Reply}
 use Rattle.heap_spec.specs.declared.reply.Reply.TheVariants.{Count}
@@ -20,7 +20,7 @@ use Rattle.heap_spec.specs.Cycles.{CollectsFully}
 use Rattle.links.specs.declared.row.Link.{Link}
 use Rattle.roots.specs.Roots.{root_words_of}
 use Rattle.plain_core.specs.declared.extent.Extent.{Extent}
-use Rattle.plain_core.specs.Contents.{Contents, IsLaidOut}
+use Rattle.plain_core.specs.PlainContents.{PlainContents, IsLaidOut}
 use Rattle.plain_core.specs.Standing.{StandsFor}
 use Rattle.plain_core.specs.Collections.{HasUnreached, TakesBases, CantTake}
 use Rattle.plain_core.specs.Claims.{HasOneEach, IsFreeToGo, AreFreeToGo, AreUnset, AreAllUnset}
@@ -33,11 +33,11 @@ use Rattle.plain_core.proofs.Lists.{nothing_in}
 use Rattle.plain_core.proofs.Collects.{at_place, in_row, sound_apart, not_reached, reached_out}
 
 -- no base is that of two objects of a sound core
-pub one_each : (c : Contents) → IsLaidOut c → HasOneEach c.objects
+pub one_each : (c : PlainContents) → IsLaidOut c → HasOneEach c.objects
 one_each c sound = record {
   one = λ i j e f at at' same.
-      let here : Reads e.base e.base e.length = reads_base c sound e (in_row c.objects i e at) e.base refl in
-      let there : Reads e.base f.base f.length = reads_base c sound f (in_row c.objects j f at') e.base same in
+      let here : PointsInto e.base e.base e.length = reads_base c sound e (in_row c.objects i e at) e.base refl in
+      let there : PointsInto e.base f.base f.length = reads_base c sound f (in_row c.objects j f at') e.base same in
       (sound_apart c sound).one e.base i j (e, at, here) (f, at', there);
 }
 
@@ -56,10 +56,10 @@ all_set_of row flags n is room = record {
     set i lt flag = true≢false (sym (ap (λ l. get_or l i false) is ∙ get_or-replicate n i true false (omega arith)) ∙ flag)
 
 -- the flags of a core have room for its objects
-pub room_of_flags : (c : Contents) → IsLaidOut c → (n : ℕ) → PAGE_GRANULES * c.pages ≤ n → length c.objects ≤ n
+pub room_of_flags : (c : PlainContents) → IsLaidOut c → (n : ℕ) → PAGE_GRANULES * c.pages ≤ n → length c.objects ≤ n
 room_of_flags c sound n room = let few : length c.objects ≤ PAGE_GRANULES * c.pages = few_objects c.pages c.objects sound.in_heap sound.distinct in omega arith
 
-pub all_set : (c : Contents) → IsLaidOut c → (flags : List Bool) (n : ℕ) → flags ≡ replicate n true → PAGE_GRANULES * c.pages ≤ n → AreUnset c.objects [] flags
+pub all_set : (c : PlainContents) → IsLaidOut c → (flags : List Bool) (n : ℕ) → flags ≡ replicate n true → PAGE_GRANULES * c.pages ≤ n → AreUnset c.objects [] flags
 all_set c sound flags n is room = all_set_of c.objects flags n is (room_of_flags c sound n room)
 
 -- there is an object at each place
@@ -67,12 +67,12 @@ get_at : (row : List Extent) (i : ℕ) → i < length row → (e : Extent) × (s
 get_at row i lt = let e : Extent = get_or row i (record { base = 0; kind = Normal; length = 0 }) in (e, slice_get-get_or row i _ lt)
 
 -- what is not reached is not marked
-unmarked : (c : Contents) (sound : IsLaidOut c) (marks : List Bool) (m : MarksReached (root_words_of c.roots) c.words c.objects marks) (s : Heap) (h : StandsFor c s) (b : Bool) (i : ℕ) (e : Extent)
+unmarked : (c : PlainContents) (sound : IsLaidOut c) (marks : List Bool) (m : MarksReached (root_words_of c.roots) c.words c.objects marks) (s : Heap) (h : StandsFor c s) (b : Bool) (i : ℕ) (e : Extent)
     → slice_get c.objects i ≡ Some e → (Reached s e.base → ⊥) → get_or marks i false ≡ b → get_or marks i false ≡ false
 unmarked c sound marks m s h true i e at out is = absurd (out (reached_out c sound s h i e (m.reached i is) at))
 unmarked c sound marks m s h false i e at out is = is
 
-module _ (c : Contents) (sound : IsLaidOut c) (marks : List Bool) (m : MarksReached (root_words_of c.roots) c.words c.objects marks) (bases : List ℕ) where
+module _ (c : PlainContents) (sound : IsLaidOut c) (marks : List Bool) (m : MarksReached (root_words_of c.roots) c.words c.objects marks) (bases : List ℕ) where
   module _ (free : AreFreeToGo c.objects marks bases) (flags : List Bool) (unset : AreUnset c.objects bases flags) (stay : List Extent) (n : ℕ) (parts : Parts c.objects flags stay n) where
     are : AreBases parts.gone bases
     are = record {
@@ -81,7 +81,7 @@ module _ (c : Contents) (sound : IsLaidOut c) (marks : List Bool) (m : MarksReac
           ⊎_elim
           (λ gone. (f.object, gone, f.is_base))
           (λ stays. let u = parts.set f.object stays in absurd (true≢false (sym u.2 ∙ unset.unset u.0 f.object u.1 (subst (Contains bases) (sym f.is_base) among))))
-          (stays_in c sound parts.gone stay parts.all f.object (in_row c.objects f.place f.object f.there));
+          (stays_in c sound parts.gone stay parts.all f.object (in_row c.objects f.index f.object f.there));
       all = λ e gone. let u = parts.unset e gone in unset.only u.0 e u.1 u.2;
     }
 
@@ -99,10 +99,10 @@ module _ (c : Contents) (sound : IsLaidOut c) (marks : List Bool) (m : MarksReac
       without s bases,
       record {
         objects = All-weaker (IsFreeToGo c.objects marks) (λ b. (o : Object) × HasObject s b o)
-            (λ b f. let o = h.kept f.object (in_row c.objects f.place f.object f.there) in (o.0, ap s.objects (sym f.is_base) ∙ o.1)) bases free.each;
+            (λ b f. let o = h.kept f.object (in_row c.objects f.index f.object f.there) in (o.0, ap s.objects (sym f.is_base) ∙ o.1)) bases free.each;
         distinct = free.distinct;
         unreached = All-weaker (IsFreeToGo c.objects marks) (λ b. Reached s b → ⊥)
-            (λ b f r. not_reached c sound s h marks m f.place f.object f.there f.unmarked (subst (Reached s) (sym f.is_base) r)) bases free.each;
+            (λ b f r. not_reached c sound s h marks m f.index f.object f.there f.unmarked (subst (Reached s) (sym f.is_base) r)) bases free.each;
         number = refl;
         after = refl;
       },
@@ -121,7 +121,7 @@ module _ (c : Contents) (sound : IsLaidOut c) (marks : List Bool) (m : MarksReac
       free b o has out =
           let e = extent_of c sound s h b o has in
           let i = at_place c.objects e.0 e.1 in
-          record { place = i.0; object = e.0; there = i.1; is_base = e.2; unmarked = unmarked c sound marks m s h (get_or marks i.0 false) i.0 e.0 i.1 (λ r. out (subst (Reached s) e.2 r)) refl }
+          record { index = i.0; object = e.0; there = i.1; is_base = e.2; unmarked = unmarked c sound marks m s h (get_or marks i.0 false) i.0 e.0 i.1 (λ r. out (subst (Reached s) e.2 r)) refl }
 
   -- where one that is not reached is not named, they are not all
   pub cant_all : (all : Bool) → all ≡ true → (flags : List Bool) → AreUnset c.objects bases flags → (AreAllUnset (length c.objects) marks flags → ⊥) → CantTake c bases all

@@ -10,7 +10,7 @@ use Rattle.words.specs.declared.refusal.Refusal.TheVariants.{NotBase}
 use Rattle.words.specs.declared.limits.TheConstants.{FIRST_ADDRESS, GRANULE_BYTES, WORD_BYTES}
 use Rattle.heap_spec.specs.declared.call.Call.TheVariants.{Free}
 use Rattle.heap_spec.specs.declared.reply.Reply.TheVariants.{Done, Refused}
-use Rattle.heap_spec.specs.Layout.{Reads}
+use Rattle.heap_spec.specs.Layout.{PointsInto}
 use Rattle.heap_spec.specs.Heap.{Heap, Object, Mutator, HasObject, without, without_at, loses_word, cleared, with_cleared}
 use Rattle.heap_spec.specs.Steps.{Acts, acts, register}
 use Rattle.heap_spec.proofs.Objects.{without_some, without_other}
@@ -18,11 +18,11 @@ use Rattle.heap_spec.proofs.Links.{left_by, stays_by}
 use Rattle.links.specs.declared.row.Link.{Link}
 use Rattle.links.specs.Named.{AreNamed}
 use Rattle.links.specs.Leaving.{TellObjects, ClearsWords, clears_with, stays_with}
-use Rattle.links.proofs.Leaving.{ReadsOne, named_along, word_same}
+use Rattle.links.proofs.Leaving.{PointsIntoOne, named_along, word_same}
 use Rattle.roots.specs.Roots.{HasMutator}
 use Rattle.plain_core.specs.declared.extent.Extent.{Extent}
-use Rattle.plain_core.specs.Contents.{Contents, IsLaidOut, IsInHeap, IsPlacedExtent, granule}
-use Rattle.plain_core.specs.Standing.{StandsFor, IsShown, place, words_at}
+use Rattle.plain_core.specs.PlainContents.{PlainContents, IsLaidOut, IsInHeap, IsPlacedExtent, granule}
+use Rattle.plain_core.specs.Standing.{StandsFor, IsShown, word_index, words_at}
 use Rattle.plain_core.specs.Along.{holds_word, has_base}
 use Rattle.plain_core.proofs.Stands.{StepsCall, mutator_at, keeps_all}
 use Rattle.plain_core.proofs.Lists.{the_one}
@@ -61,12 +61,12 @@ rest_apart (g ∷ gone) rest d e f there has = ⊎_elim
     (Contains-append_cases (g ∷ []) gone e there)
 
 -- The links went along with the objects that are gone: these are the objects that stay.
-pub record LeavesAlong (c : Contents) (rest : List Extent) (words : List ℕ) (links : List Link) : Type 0 where
+pub record LeavesAlong (c : PlainContents) (rest : List Extent) (words : List ℕ) (links : List Link) : Type 0 where
   pub cleared : ClearsWords (holds_word rest) (has_base rest) c.links c.words words
   pub left : links ≡ filter (stays_with (holds_word rest) (has_base rest)) c.links
 
 -- the same by equations
-pub along_of : (c : Contents) (rest objects : List Extent) (row row' words : List ℕ) (links : List Link) → objects ≡ rest → row ≡ c.words → words ≡ row' → ClearsWords (holds_word objects) (has_base objects) c.links row row'
+pub along_of : (c : PlainContents) (rest objects : List Extent) (row row' words : List ℕ) (links : List Link) → objects ≡ rest → row ≡ c.words → words ≡ row' → ClearsWords (holds_word objects) (has_base objects) c.links row row'
     → links ≡ filter (stays_with (holds_word objects) (has_base objects)) c.links → LeavesAlong c rest words links
 along_of c rest objects row row' words links same old new clears stays = record {
   cleared = subst (λ o. ClearsWords (holds_word o) (has_base o) c.links c.words words) same
@@ -80,7 +80,7 @@ pub record AreBases (gone : List Extent) (bases : List ℕ) : Type 0 where
   pub all : (e : Extent) → Contains gone e → Contains bases e.base
 
 -- the rest of a row without some of its objects
-module _ (c : Contents) (sound : IsLaidOut c) (gone rest : List Extent) (perm : IsPermutation c.objects (gone ++ rest)) where
+module _ (c : PlainContents) (sound : IsLaidOut c) (gone rest : List Extent) (perm : IsPermutation c.objects (gone ++ rest)) where
   pub was_in : (f : Extent) → Contains rest f → Contains c.objects f
   was_in f has = Contains-permutation (gone ++ rest) c.objects f (IsPermutation-sym c.objects (gone ++ rest) perm) (Contains-append_right gone rest f has)
 
@@ -137,7 +137,7 @@ module _ (c : Contents) (sound : IsLaidOut c) (gone rest : List Extent) (perm : 
     low : (a : ℕ) → holds_word rest a ≡ true → FIRST_ADDRESS ≤ a
     low a is = let e = held_by rest a is in let i : IsInHeap c.pages e.0 = in_heap c sound e.0 (was_in e.0 e.1) in let from = e.2.0 in let start = i.start in omega arith
 
-    one : ReadsOne s
+    one : PointsIntoOne s
     one = (legible c sound s h).one
 
     -- the words of an object that stays
@@ -147,10 +147,10 @@ module _ (c : Contents) (sound : IsLaidOut c) (gone rest : List Extent) (perm : 
         inside : IsInHeap c.pages f
         inside = in_heap c sound f (was_in f has)
 
-        same : (i : ℕ) → i < f.length → clears_with (holds_word rest) (has_base rest) c.links (place f.base + i) ≡ loses_word s bases (f.base + WORD_BYTES * i)
+        same : (i : ℕ) → i < f.length → clears_with (holds_word rest) (has_base rest) c.links (word_index f.base + i) ≡ loses_word s bases (f.base + WORD_BYTES * i)
         same i lt =
             let start = inside.start in let even = inside.aligned in
-            let at : place f.base + i ≡ place (f.base + WORD_BYTES * i) = omega arith in
+            let at : word_index f.base + i ≡ word_index (f.base + WORD_BYTES * i) = omega arith in
             ap (clears_with (holds_word rest) (has_base rest) c.links) at
             ∙ word_same s bases (holds_word rest) (has_base rest) tells h.distinct one low (f.base + WORD_BYTES * i) (omega arith) (holds_yes rest f (f.base + WORD_BYTES * i) has (omega arith, omega arith)) h.links
 
@@ -179,7 +179,7 @@ one_base e = record {
 }
 
 -- an object is freed
-pub frees : (c : Contents) (sound : IsLaidOut c) (e : Extent) (rest : List Extent) → IsPermutation c.objects (e ∷ rest) → (words : List ℕ) (links : List Link) → LeavesAlong c rest words links
+pub frees : (c : PlainContents) (sound : IsLaidOut c) (e : Extent) (rest : List Extent) → IsPermutation c.objects (e ∷ rest) → (words : List ℕ) (links : List Link) → LeavesAlong c rest words links
     → (k r : ℕ) (m : Mutator) → HasMutator c.roots k m → Contains c.objects e → e.base ≡ register m r → StepsCall c k (Free r) Done (record c { words = words; objects = rest; links = links })
 frees c sound e rest perm words links along k r m at has same s h = (
   without s (e.base ∷ []),
@@ -191,8 +191,8 @@ frees c sound e rest perm words links along k r m at has same s h = (
     kept = h.kept e has
 
 -- an address inside an object that is not its base
-pub refuses_inside : (c : Contents) (sound : IsLaidOut c) (i : ℕ) (e x : Extent) (k r : ℕ) (m : Mutator) → HasMutator c.roots k m
-    → slice_get c.objects i ≡ Some e → x ≡ get_or c.objects i x → Reads (register m r) e.base e.length → x.base ≢ register m r
+pub refuses_inside : (c : PlainContents) (sound : IsLaidOut c) (i : ℕ) (e x : Extent) (k r : ℕ) (m : Mutator) → HasMutator c.roots k m
+    → slice_get c.objects i ≡ Some e → x ≡ get_or c.objects i x → PointsInto (register m r) e.base e.length → x.base ≢ register m r
     → StepsCall c k (Free r) (Refused NotBase) c
 refuses_inside c sound i e x k r m at there is reads apart =
     keeps_all c k (Free r) (Refused NotBase) m at
@@ -202,7 +202,7 @@ refuses_inside c sound i e x k r m at there is reads apart =
     Acts.free_inside o.1 (λ same. apart (ap (λ (y : Extent). y.base) (is ∙ get_or_from_slice_get c.objects i e x there) ∙ same)))
 
 -- the object at a place goes, and the last one takes the place
-module _ (c : Contents) (sound : IsLaidOut c) (i : ℕ) (e : Extent) (objects : List Extent) (lt : i < length c.objects) (is : e ≡ get_or c.objects i e) (removed : objects ≡ swap_remove c.objects i e) where
+module _ (c : PlainContents) (sound : IsLaidOut c) (i : ℕ) (e : Extent) (objects : List Extent) (lt : i < length c.objects) (is : e ≡ get_or c.objects i e) (removed : objects ≡ swap_remove c.objects i e) where
   same_objects : IsPermutation c.objects ((e ∷ []) ++ objects)
   same_objects = rw removed (IsPermutation-swap_remove c.objects i e lt is)
 

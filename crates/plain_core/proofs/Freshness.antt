@@ -13,9 +13,9 @@ use Rattle.std.specs.Cmp.{nat_eq_equiv}
 use Rattle.words.specs.declared.class.Kind.{Kind}
 use Rattle.words.specs.declared.limits.TheConstants.{WORD_BYTES, PAGE_BYTES, PAGE_WORDS, PAGE_GRANULES, FIRST_ADDRESS, MAX_SMALL_WORDS}
 use Rattle.words.specs.Layout.{page_start}
-use Rattle.heap_spec.specs.Layout.{Reads, LiesOn}
+use Rattle.heap_spec.specs.Layout.{PointsInto, LiesOn}
 use Rattle.plain_core.specs.declared.extent.Extent.{Extent}
-use Rattle.plain_core.specs.Contents.{IsInHeap, IsCellExtent, HasPages, IsPlacedExtent, granule}
+use Rattle.plain_core.specs.PlainContents.{IsInHeap, IsCellExtent, HasPages, IsPlacedExtent, granule}
 use Rattle.plain_core.specs.Places.{IsPlaceOn, IsLargePlace, IsCutPage, IsNoBase}
 
 -- two cells of one length that have a word in common are one
@@ -33,7 +33,7 @@ same_cell length i j x a b c d =
 
 -- no object shares a word with a new one
 abbrev pub IsFresh : List Extent → Extent → Type 0
-IsFresh row e = (f : Extent) (w : ℕ) → Contains row f → Reads w e.base e.length → Reads w f.base f.length → ⊥
+IsFresh row e = (f : Extent) (w : ℕ) → Contains row f → PointsInto w e.base e.length → PointsInto w f.base f.length → ⊥
 
 pub fresh_small : (page : ℕ) (kind : Kind) (row : List Extent) (e : Extent) → All (IsPlacedExtent) row → e.length ≤ MAX_SMALL_WORDS → IsPlaceOn row page e.length kind e.base → IsFresh row e
 fresh_small page kind row e placed few p f w has re rf =

@@ -6,15 +6,15 @@ use Rattle.std.proofs.lemmas.List.{ext_get_or, get_or-take, get_or-drop}
 use Rattle.std.proofs.lemmas.List.Elements.{All-contains, filter_more}
 use Rattle.std.proofs.lemmas.List.Folds.{Any-from_list_any, list_any-from_Any, list_any_none}
 use Rattle.words.specs.declared.limits.TheConstants.{FIRST_ADDRESS, WORD_BYTES, PAGE_WORDS}
-use Rattle.heap_spec.specs.Layout.{Reads}
+use Rattle.heap_spec.specs.Layout.{PointsInto}
 use Rattle.heap_spec.specs.Heap.{cleared}
 use Rattle.heap_spec.proofs.Links.{length-cleared, cleared_at}
 use Rattle.links.specs.declared.row.Link.{Link}
 use Rattle.links.specs.Leaving.{ClearsWords}
 use Rattle.links.proofs.Leaving.{clears_more}
 use Rattle.plain_core.specs.declared.extent.Extent.{Extent}
-use Rattle.plain_core.specs.Contents.{IsInHeap}
-use Rattle.plain_core.specs.Standing.{LiesIn, place, words_at}
+use Rattle.plain_core.specs.PlainContents.{IsInHeap}
+use Rattle.plain_core.specs.Standing.{LiesIn, word_index, words_at}
 use Rattle.plain_core.specs.Along.{holds_word, has_base, ClearsWord}
 use Rattle.plain_core.proofs.Memory.{length_words}
 
@@ -30,13 +30,13 @@ abbrev has_word : ℕ → Extent → Bool
 has_word a e = nat_le e.base a && nat_lt a (e.base + WORD_BYTES * e.length)
 
 -- the tests say what they say
-pub holds_yes : (row : List Extent) (e : Extent) (a : ℕ) → Contains row e → Reads a e.base e.length → holds_word row a ≡ true
+pub holds_yes : (row : List Extent) (e : Extent) (a : ℕ) → Contains row e → PointsInto a e.base e.length → holds_word row a ≡ true
 holds_yes row e a has reads = list_any-from_Any (has_word a) row (has.0, e, has.1, has.2, and_from _ _ (le-leb _ _ reads.0) (lt-ltb _ _ reads.1))
 
-pub holds_no : (row : List Extent) (a : ℕ) → All (λ e. Reads a e.base e.length → ⊥) row → holds_word row a ≡ false
+pub holds_no : (row : List Extent) (a : ℕ) → All (λ e. PointsInto a e.base e.length → ⊥) row → holds_word row a ≡ false
 holds_no row a none = list_any_none (has_word a) row (λ k d lt. not_true _ (λ is. let both = and_parts _ _ is in none k d lt (leb-true _ _ both.0, ltb-true _ _ both.1)))
 
-pub held_by : (row : List Extent) (a : ℕ) → holds_word row a ≡ true → (e : Extent) × Contains row e × Reads a e.base e.length
+pub held_by : (row : List Extent) (a : ℕ) → holds_word row a ≡ true → (e : Extent) × Contains row e × PointsInto a e.base e.length
 held_by row a is =
     let x = Any-from_list_any (has_word a) row is in
     let both = and_parts _ _ x.4 in
@@ -55,7 +55,7 @@ held_low words row a lie is =
     let l : LiesIn words e.0 = All-contains (LiesIn words) row e.0 lie e.1 in
     let from = e.2.0 in let start = l.start in omega arith
 
-pub held_inside : (words : List ℕ) (row : List Extent) (a : ℕ) → All (LiesIn words) row → holds_word row a ≡ true → place a < length words
+pub held_inside : (words : List ℕ) (row : List Extent) (a : ℕ) → All (LiesIn words) row → holds_word row a ≡ true → word_index a < length words
 held_inside words row a lie is =
     let e = held_by row a is in
     let l : LiesIn words e.0 = All-contains (LiesIn words) row e.0 lie e.1 in
@@ -76,11 +76,11 @@ kept_more p row i d b us vs lt test so now =
     now ∙ ap (λ l. l ++ cond b (get_or row i d ∷ []) []) so ∙ ap (λ c. filter p (take i row) ++ cond c (get_or row i d ∷ []) []) (sym test) ∙ sym (filter_more p row i d lt)
 
 -- the words of an object, of which some have become 0
-word_of : (row : List ℕ) (e : Extent) (i : ℕ) → i < e.length → get_or (words_at row e) i 0 ≡ get_or row (place e.base + i) 0
-word_of row e i lt = get_or-take e.length (drop (place e.base) row) i 0 lt ∙ get_or-drop (place e.base) row i 0
+word_of : (row : List ℕ) (e : Extent) (i : ℕ) → i < e.length → get_or (words_at row e) i 0 ≡ get_or row (word_index e.base + i) 0
+word_of row e i lt = get_or-take e.length (drop (word_index e.base) row) i 0 lt ∙ get_or-drop (word_index e.base) row i 0
 
 pub words_along : (row row' : List ℕ) (pages : ℕ) (e : Extent) → IsInHeap pages e → length row ≡ PAGE_WORDS * pages → length row' ≡ length row → (gone clears : ℕ → Bool)
-    → ((i : ℕ) → i < e.length → clears (place e.base + i) ≡ gone (e.base + WORD_BYTES * i)) → ((k : ℕ) → get_or row' k 0 ≡ cond (clears k) 0 (get_or row k 0))
+    → ((i : ℕ) → i < e.length → clears (word_index e.base + i) ≡ gone (e.base + WORD_BYTES * i)) → ((k : ℕ) → get_or row' k 0 ≡ cond (clears k) 0 (get_or row k 0))
     → cleared gone e.base (words_at row e) ≡ words_at row' e
 words_along row row' pages e inside long size gone clears same changed =
     let here : length (words_at row e) ≡ e.length = length_words row pages e long inside in
@@ -90,6 +90,6 @@ words_along row row' pages e inside long size gone clears same changed =
     let within : i < e.length = omega arith in
     cleared_at gone e.base (words_at row e) i
     ∙ ap (λ b. cond b 0 (get_or (words_at row e) i 0)) (sym (same i within))
-    ∙ ap (λ w. cond (clears (place e.base + i)) 0 w) (word_of row e i within)
-    ∙ sym (changed (place e.base + i))
+    ∙ ap (λ w. cond (clears (word_index e.base + i)) 0 w) (word_of row e i within)
+    ∙ sym (changed (word_index e.base + i))
     ∙ sym (word_of row' e i within))

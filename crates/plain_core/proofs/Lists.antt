@@ -12,10 +12,10 @@ use Rattle.std.proofs.lemmas.List.Folds.{list_any_none, Any-from_list_any}
 use Rattle.std.proofs.lemmas.Map.Keys.{IsDistinct-push}
 use Rattle.std.proofs.lemmas.Map.Made.{IsDistinct-from_count}
 use Rattle.std.proofs.lemmas.Map.Steps.{length-le_from_distinct_below}
-use Rattle.heap_spec.specs.Layout.{Reads}
+use Rattle.heap_spec.specs.Layout.{PointsInto}
 use Rattle.plain_core.specs.declared.extent.Extent.{Extent}
 use Rattle.plain_core.specs.declared.listing.Listing.{Listing}
-use Rattle.plain_core.specs.Reached.{PointsIntoPlace, AreApart}
+use Rattle.plain_core.specs.Reached.{PointsIntoNth, AreApart}
 use Rattle.plain_core.specs.Listing.{HasListRoom, IsListOf, IsListing, ListGrows, ListsAll}
 
 pub nothing_in : {A : Type 0} (x : A) → Contains [] x → ⊥
@@ -86,28 +86,28 @@ module _ (row : List Extent) where
   }
 
   -- a word that points into nothing, or into what is listed
-  lists_same : (w : ℕ) (l : Listing) → IsListing row l → ((i : ℕ) → PointsIntoPlace row w i → Contains l.order.items i) → ListsAll row (w ∷ []) l l
+  lists_same : (w : ℕ) (l : Listing) → IsListing row l → ((i : ℕ) → PointsIntoNth row w i → Contains l.order.items i) → ListsAll row (w ∷ []) l l
   lists_same w l ready has = record {
     ready = ready;
     goes = record {
       more = [];
       goes_on = sym (append-nil l.order.items);
       only = λ i none. absurd (nothing_in i none);
-      all = λ v i among p. has i (subst (λ x. PointsIntoPlace row x i) (sym (the_one w v among)) p);
+      all = λ v i among p. has i (subst (λ x. PointsIntoNth row x i) (sym (the_one w v among)) p);
     };
     room = record { marks = refl; order = omega arith };
   }
 
-  pub lists_listed : (w index : ℕ) (l : Listing) → IsListing row l → PointsIntoPlace row w index → get_or l.marks.items index false ≡ true → ListsAll row (w ∷ []) l l
+  pub lists_listed : (w index : ℕ) (l : Listing) → IsListing row l → PointsIntoNth row w index → get_or l.marks.items index false ≡ true → ListsAll row (w ∷ []) l l
   lists_listed w index l ready here is = lists_same w l ready (λ i p. ready.listed.only i (ap (λ k. get_or l.marks.items k false) (ready.apart.one w i index p here) ∙ is))
 
   -- a word that points into nothing
-  pub lists_nothing : (w : ℕ) (l : Listing) → IsListing row l → All (λ (e : Extent). Reads w e.base e.length → ⊥) row → ListsAll row (w ∷ []) l l
+  pub lists_nothing : (w : ℕ) (l : Listing) → IsListing row l → All (λ (e : Extent). PointsInto w e.base e.length → ⊥) row → ListsAll row (w ∷ []) l l
   lists_nothing w l ready none = lists_same w l ready
-      (λ i p. absurd (none i p.0 (slice_get_within row i p.0 p.1) (subst (λ (x : Extent). Reads w x.base x.length) (sym (get_or_from_slice_get row i p.0 p.0 p.1)) p.2)))
+      (λ i p. absurd (none i p.0 (slice_get_within row i p.0 p.1) (subst (λ (x : Extent). PointsInto w x.base x.length) (sym (get_or_from_slice_get row i p.0 p.0 p.1)) p.2)))
 
   -- a word that points into what is not listed
-  pub lists_new : (w index : ℕ) (l l' : Listing) → IsListing row l → PointsIntoPlace row w index → get_or l.marks.items index false ≡ false → l'.marks.items ≡ set l.marks.items index true → l'.order.items ≡ l.order.items ++ index ∷ []
+  pub lists_new : (w index : ℕ) (l l' : Listing) → IsListing row l → PointsIntoNth row w index → get_or l.marks.items index false ≡ false → l'.marks.items ≡ set l.marks.items index true → l'.order.items ≡ l.order.items ++ index ∷ []
       → vec_capacity l.order ≤ vec_capacity l'.order → ListsAll row (w ∷ []) l l'
   lists_new w index l l' ready here new marks order same = record {
     ready = record {
@@ -119,9 +119,9 @@ module _ (row : List Extent) where
     goes = record {
       more = index ∷ [];
       goes_on = order;
-      only = λ i has. (w, Contains-push [] w, subst (PointsIntoPlace row w) (the_one index i has) here);
+      only = λ i has. (w, Contains-push [] w, subst (PointsIntoNth row w) (the_one index i has) here);
       all = λ v i among p.
-          let same : i ≡ index = ready.apart.one w i index (subst (λ x. PointsIntoPlace row x i) (sym (the_one w v among)) p) here in
+          let same : i ≡ index = ready.apart.one w i index (subst (λ x. PointsIntoNth row x i) (sym (the_one w v among)) p) here in
           subst (λ o. Contains o i) (sym order) (subst (Contains (l.order.items ++ index ∷ [])) (sym same) (Contains-push l.order.items index));
     };
     room = record { marks = long; order = same };

@@ -7,7 +7,7 @@ use Rattle.std.proofs.lemmas.Bool.{cases_eq}
 use Rattle.words.specs.declared.limits.TheConstants.{WORD_BYTES, FIRST_ADDRESS}
 use Rattle.heap_spec.specs.declared.call.Call.TheVariants.{Load, Store, Size}
 use Rattle.heap_spec.specs.declared.reply.Reply.TheVariants.{Done, Word, Count}
-use Rattle.heap_spec.specs.Layout.{Reads}
+use Rattle.heap_spec.specs.Layout.{PointsInto}
 use Rattle.heap_spec.specs.Heap.{Heap, Object, Mutator, HasObject}
 use Rattle.heap_spec.specs.Steps.{Acts, acts, with_object, with_register, register, address}
 use Rattle.heap_spec.proofs.Objects.{with_at-same, with_at-other}
@@ -15,14 +15,14 @@ use Rattle.heap_spec.proofs.Calls.{stored_same}
 use Rattle.links.proofs.Named.{named_kept}
 use Rattle.roots.specs.Roots.{RootSet, HasMutator, SetsWord}
 use Rattle.plain_core.specs.declared.extent.Extent.{Extent}
-use Rattle.plain_core.specs.Contents.{Contents, IsLaidOut, IsInHeap}
-use Rattle.plain_core.specs.Standing.{IsShown, place}
+use Rattle.plain_core.specs.PlainContents.{PlainContents, IsLaidOut, IsInHeap}
+use Rattle.plain_core.specs.Standing.{IsShown, word_index}
 use Rattle.plain_core.proofs.Stands.{StepsCall, mutator_at, keeps_all, sets_register}
 use Rattle.plain_core.proofs.Memory.{word_in, written_in, written_out}
 use Rattle.plain_core.proofs.Objects.{in_heap, reads_base, in_row, length_shown, reads_object}
 
-pub loads : (c : Contents) (roots : RootSet) (k d r n w : ℕ) (m : Mutator) (e : Extent) → IsLaidOut c → HasMutator c.roots k m → Contains c.objects e
-    → Reads (address m r n) e.base e.length → address m r n % WORD_BYTES ≡ 0 → w ≡ get_or c.words (place (address m r n)) w
+pub loads : (c : PlainContents) (roots : RootSet) (k d r n w : ℕ) (m : Mutator) (e : Extent) → IsLaidOut c → HasMutator c.roots k m → Contains c.objects e
+    → PointsInto (address m r n) e.base e.length → address m r n % WORD_BYTES ≡ 0 → w ≡ get_or c.words (word_index (address m r n)) w
     → SetsWord c.roots k d w roots → StepsCall c k (Load d r n) (Word w) (record c { roots = roots })
 loads c roots k d r n w m e sound at has reads al is sets =
     sets_register c roots k d w m (Load d r n) (Word w) at sets
@@ -32,10 +32,10 @@ loads c roots k d r n w m e sound at has reads al is sets =
     let word : get_or kept.0.words ((a - e.base) / WORD_BYTES) 0 ≡ w =
     ap (λ xs. get_or xs ((a - e.base) / WORD_BYTES) 0) kept.2.words
     ∙ word_in c.words c.pages a e (in_heap c sound e has) reads
-    ∙ sym (get_or_read c.words (place a) w (in_row c sound e has a reads) is 0) in
+    ∙ sym (get_or_read c.words (word_index a) w (in_row c sound e has a reads) is 0) in
     subst (λ v. Acts s k m (Load d r n) (Word v) (with_register s k m d v)) word (Acts.loaded al (kept.1, rw (length_shown c sound e has kept.0 kept.2) reads)))
 
-pub sizes : (c : Contents) (k r : ℕ) (m : Mutator) (e : Extent) → IsLaidOut c → HasMutator c.roots k m → Contains c.objects e → Reads (register m r) e.base e.length
+pub sizes : (c : PlainContents) (k r : ℕ) (m : Mutator) (e : Extent) → IsLaidOut c → HasMutator c.roots k m → Contains c.objects e → PointsInto (register m r) e.base e.length
     → StepsCall c k (Size r) (Count e.length) c
 sizes c k r m e sound at has reads =
     keeps_all c k (Size r) (Count e.length) m at
@@ -51,9 +51,9 @@ module _ (s : Heap) (base : ℕ) (o o' : Object) (has : HasObject s base o) (bir
       (λ other. (p, sym (with_at-other s.objects base (Some o') b other) ∙ is, refl))
       (cases_eq b base)
 
-pub stores : (c : Contents) (k r n f : ℕ) (m : Mutator) (e : Extent) → IsLaidOut c → HasMutator c.roots k m → Contains c.objects e
-    → Reads (address m r n) e.base e.length → address m r n % WORD_BYTES ≡ 0
-    → StepsCall c k (Store r n f) Done (record c { words = set c.words (place (address m r n)) (register m f) })
+pub stores : (c : PlainContents) (k r n f : ℕ) (m : Mutator) (e : Extent) → IsLaidOut c → HasMutator c.roots k m → Contains c.objects e
+    → PointsInto (address m r n) e.base e.length → address m r n % WORD_BYTES ≡ 0
+    → StepsCall c k (Store r n f) Done (record c { words = set c.words (word_index (address m r n)) (register m f) })
 stores c k r n f m e sound at has reads al s h = (
   after,
   acts (mutator_at c s h k m at) (Acts.stored al (kept.1, rw (length_shown c sound e has kept.0 kept.2) reads)),
@@ -87,7 +87,7 @@ stores c k r n f m e sound at has reads al s h = (
     v = register m f
 
     row : List ℕ
-    row = set c.words (place a) v
+    row = set c.words (word_index a) v
 
     kept : (o : Object) × HasObject s e.base o × IsShown c.words e o
     kept = h.kept e has

@@ -3,19 +3,19 @@ use Rattle.std.proofs.Common.{◌≡◌, ℕ, ◌<◌, length, get_or, refl, sym
 use Rattle.std.specs.Prelude.{All, Contains, Option, Some, None}
 use Rattle.std.proofs.lemmas.List.Elements.{All-contains, Contains-get_or}
 use Rattle.std.proofs.lemmas.Option.{same_Some, none-some}
-use Rattle.heap_spec.specs.Layout.{Reads}
-use Rattle.heap_spec.specs.Heap.{Heap, Object, HasObject, ReadsObject, ReadsNothing}
+use Rattle.heap_spec.specs.Layout.{PointsInto}
+use Rattle.heap_spec.specs.Heap.{Heap, Object, HasObject, PointsIntoObject, PointsIntoNothing}
 use Rattle.plain_core.specs.declared.extent.Extent.{Extent}
-use Rattle.plain_core.specs.Contents.{Contents, IsLaidOut, IsInHeap}
+use Rattle.plain_core.specs.PlainContents.{PlainContents, IsLaidOut, IsInHeap}
 use Rattle.plain_core.specs.Places.{IsNoBase}
-use Rattle.plain_core.specs.Standing.{StandsFor, IsShown, place}
+use Rattle.plain_core.specs.Standing.{StandsFor, IsShown, word_index}
 use Rattle.plain_core.proofs.Memory.{length_words}
 
 none_of : {A : Type 0} (o : Option A) → ((x : A) → o ≡ Some x → ⊥) → o ≡ None
 none_of None h = refl
 none_of (Some x) h = absurd (h x refl)
 
-module _ (c : Contents) (sound : IsLaidOut c) where
+module _ (c : PlainContents) (sound : IsLaidOut c) where
   pub in_heap : (e : Extent) → Contains c.objects e → IsInHeap c.pages e
   in_heap e has = All-contains (IsInHeap c.pages) c.objects e sound.in_heap has
 
@@ -24,14 +24,14 @@ module _ (c : Contents) (sound : IsLaidOut c) where
   length_shown e has o show = ap length show.words ∙ length_words c.words c.pages e sound.words (in_heap e has)
 
   -- an object reads its own base
-  pub reads_base : (e : Extent) → Contains c.objects e → (a : ℕ) → a ≡ e.base → Reads a e.base e.length
+  pub reads_base : (e : Extent) → Contains c.objects e → (a : ℕ) → a ≡ e.base → PointsInto a e.base e.length
   reads_base e has a is = let i : IsInHeap c.pages e = in_heap e has in (omega arith, omega arith)
 
   -- an address that reads an object has a place in the row of words
-  pub in_row : (e : Extent) → Contains c.objects e → (a : ℕ) → Reads a e.base e.length → place a < length c.words
+  pub in_row : (e : Extent) → Contains c.objects e → (a : ℕ) → PointsInto a e.base e.length → word_index a < length c.words
   in_row e has a r = let i : IsInHeap c.pages e = in_heap e has in let w = sound.words in omega arith
 
-module _ (c : Contents) (sound : IsLaidOut c) (s : Heap) (h : StandsFor c s) where
+module _ (c : PlainContents) (sound : IsLaidOut c) (s : Heap) (h : StandsFor c s) where
   -- the object of the heap that lies there
   pub object_of : (e : Extent) → Contains c.objects e → (o : Object) × HasObject s e.base o × (length o.words ≡ e.length) × (o.kind ≡ e.kind)
   object_of e has =
@@ -47,14 +47,14 @@ module _ (c : Contents) (sound : IsLaidOut c) (s : Heap) (h : StandsFor c s) whe
       (e.0, e.1, e.2, sym kept.2 ∙ ap (λ (p : Object). length p.words) same, sym kept.3 ∙ ap (λ (p : Object). p.kind) same)
 
   -- an address that reads an extent reads the object that lies there
-  pub reads_object : (e : Extent) → Contains c.objects e → (a : ℕ) → Reads a e.base e.length → (o : Object) × ReadsObject s a e.base o × (length o.words ≡ e.length) × (o.kind ≡ e.kind)
+  pub reads_object : (e : Extent) → Contains c.objects e → (a : ℕ) → PointsInto a e.base e.length → (o : Object) × PointsIntoObject s a e.base o × (length o.words ≡ e.length) × (o.kind ≡ e.kind)
   reads_object e has a r = let o = object_of e has in (o.0, (o.1, rw o.2 r), o.2, o.3)
 
   -- an address that reads no extent reads nothing
-  pub reads_nothing : (a : ℕ) → All (λ (e : Extent). Reads a e.base e.length → ⊥) c.objects → ReadsNothing s a
+  pub reads_nothing : (a : ℕ) → All (λ (e : Extent). PointsInto a e.base e.length → ⊥) c.objects → PointsIntoNothing s a
   reads_nothing a none base o r =
       let e = extent_of base o r.0 in
-      All-contains (λ (f : Extent). Reads a f.base f.length → ⊥) c.objects e.0 none e.1 (rw (e.2, e.3) r.1)
+      All-contains (λ (f : Extent). PointsInto a f.base f.length → ⊥) c.objects e.0 none e.1 (rw (e.2, e.3) r.1)
 
   -- no object has a base that no extent has, and the other way round
   pub none_at : (a : ℕ) → IsNoBase c.objects a → s.objects a ≡ None

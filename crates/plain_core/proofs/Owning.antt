@@ -7,11 +7,11 @@ use Rattle.std.proofs.lemmas.List.{get_or_append_left, get_or-take, length-take,
 use Rattle.std.proofs.lemmas.List.Elements.{All-nil, All-weaker}
 use Rattle.std.proofs.lemmas.Option.{same_Some, none-some, slice_get_within, get_or_from_slice_get, slice_get-get_or}
 use Rattle.words.specs.declared.limits.TheConstants.{FIRST_ADDRESS, GRANULE_BYTES}
-use Rattle.heap_spec.specs.Layout.{Reads}
+use Rattle.heap_spec.specs.Layout.{PointsInto}
 use Rattle.plain_core.specs.declared.extent.Extent.{Extent}
-use Rattle.plain_core.specs.Standing.{LiesIn, place}
-use Rattle.plain_core.specs.Reached.{PointsIntoPlace, AreApart}
-use Rattle.plain_core.specs.Contents.{Contents, IsLaidOut, IsInHeap}
+use Rattle.plain_core.specs.Standing.{LiesIn, word_index}
+use Rattle.plain_core.specs.Reached.{PointsIntoNth, AreApart}
+use Rattle.plain_core.specs.PlainContents.{PlainContents, IsLaidOut, IsInHeap}
 use Rattle.plain_core.specs.Owners.{AreOwners, AreOwnersBut, AreFound}
 
 -- the object at a place of the row lies in it
@@ -19,41 +19,41 @@ pub lies_at : (row : List Extent) (words : List ℕ) → All (LiesIn words) row 
 lies_at row words all i e at = subst (LiesIn words) (get_or_from_slice_get row i e e at) (all i e (slice_get_within row i e at))
 
 -- an address of an object, by its place
-placed_in : (words : List ℕ) (e : Extent) (w : ℕ) → LiesIn words e → Reads w e.base e.length → (FIRST_ADDRESS ≤ w) × (place e.base ≤ place w) × (place w < place e.base + e.length)
+placed_in : (words : List ℕ) (e : Extent) (w : ℕ) → LiesIn words e → PointsInto w e.base e.length → (FIRST_ADDRESS ≤ w) × (word_index e.base ≤ word_index w) × (word_index w < word_index e.base + e.length)
 placed_in words e w lies reads =
     let s = lies.start in let a = lies.aligned in (omega (arith, reads.0), omega (arith, reads.0), omega (arith, reads.0, reads.1))
 
-reads_in : (words : List ℕ) (e : Extent) (w : ℕ) → LiesIn words e → FIRST_ADDRESS ≤ w → place e.base ≤ place w → place w < place e.base + e.length → Reads w e.base e.length
+reads_in : (words : List ℕ) (e : Extent) (w : ℕ) → LiesIn words e → FIRST_ADDRESS ≤ w → word_index e.base ≤ word_index w → word_index w < word_index e.base + e.length → PointsInto w e.base e.length
 reads_in words e w lies low from until = let s = lies.start in let a = lies.aligned in (omega arith, omega arith)
 
 -- So far each word of one of the first objects has that object's place.
 pub record OwnSoFar (row : List Extent) (count : ℕ) (owners : List ℕ) : Type 0 where
-  pub owned : (w i : ℕ) → i < count → PointsIntoPlace row w i → get_or owners (place w) 0 ≡ i
+  pub owned : (w i : ℕ) → i < count → PointsIntoNth row w i → get_or owners (word_index w) 0 ≡ i
 
 module _ (row : List Extent) (apart : AreApart row) (words : List ℕ) (lie : All (LiesIn words) row) where
   pub own_none : (owners : List ℕ) → OwnSoFar row 0 owners
   own_none owners = record { owned = λ w i few p. absurd (omega (arith, few)) }
 
   -- the words of the object at a place, and all others
-  module _ (n : ℕ) (e : Extent) (start : ℕ) (at : slice_get row n ≡ Some e) (begins : start ≡ place e.base) where
+  module _ (n : ℕ) (e : Extent) (start : ℕ) (at : slice_get row n ≡ Some e) (begins : start ≡ word_index e.base) where
     lies : LiesIn words e
     lies = lies_at row words lie n e at
 
-    inside : (w i : ℕ) → i ≡ n → PointsIntoPlace row w i → (start ≤ place w) × (place w < start + e.length)
+    inside : (w i : ℕ) → i ≡ n → PointsIntoNth row w i → (start ≤ word_index w) × (word_index w < start + e.length)
     inside w i same p =
         let is : p.0 ≡ e = same_Some p.0 e (sym p.1 ∙ ap (slice_get row) same ∙ at) in
-        let in_it = placed_in words e w lies (subst (λ (x : Extent). Reads w x.base x.length) is p.2) in
+        let in_it = placed_in words e w lies (subst (λ (x : Extent). PointsInto w x.base x.length) is p.2) in
         (let b = begins in omega (arith, in_it.1), let b = begins in omega (arith, in_it.2))
 
-    outside : (w i : ℕ) → (i ≡ n → ⊥) → PointsIntoPlace row w i → (place w < start) ⊎ (start + e.length ≤ place w)
+    outside : (w i : ℕ) → (i ≡ n → ⊥) → PointsIntoNth row w i → (word_index w < start) ⊎ (start + e.length ≤ word_index w)
     outside w i ne p =
         let low = (placed_in words p.0 w (lies_at row words lie i p.0 p.1) p.2).0 in
         ⊎_elim (λ under. inl under)
         (λ from. ⊎_elim
         (λ within. absurd (ne (apart.one w i n p (e, at, reads_in words e w lies low (let b = begins in omega (arith, from)) (let b = begins in omega (arith, within))))))
         (λ past. inr past)
-        (cases_lt (place w) (start + e.length)))
-        (cases_lt (place w) start)
+        (cases_lt (word_index w) (start + e.length)))
+        (cases_lt (word_index w) start)
 
     -- once they are written down
     pub own_more : (old new : List ℕ) → OwnSoFar row n old
@@ -62,8 +62,8 @@ module _ (row : List Extent) (apart : AreApart row) (words : List ℕ) (lie : Al
         → OwnSoFar row (n + 1) new
     own_more old new before filled others = record {
       owned = λ w i few p. ⊎_elim
-          (λ same. let here = inside w i same p in filled (place w) here.0 here.1 ∙ sym same)
-          (λ ne. others (place w) (outside w i ne p) ∙ before.owned w i (omega arith) p)
+          (λ same. let here = inside w i same p in filled (word_index w) here.0 here.1 ∙ sym same)
+          (λ ne. others (word_index w) (outside w i ne p) ∙ before.owned w i (omega arith) p)
           (cases_eq i n);
     }
 
@@ -73,8 +73,8 @@ module _ (row : List Extent) (apart : AreApart row) (words : List ℕ) (lie : Al
         → OwnSoFar row (length row) new
     own_last old new before filled others = record {
       owned = λ w i few p. ⊎_elim
-          (λ same. let here = inside w i same p in filled (place w) here.0 here.1 ∙ sym same)
-          (λ ne. others (place w) (outside w i ne p) ∙ before.owned w i ne p)
+          (λ same. let here = inside w i same p in filled (word_index w) here.0 here.1 ∙ sym same)
+          (λ ne. others (word_index w) (outside w i ne p) ∙ before.owned w i ne p)
           (cases_eq i n);
     }
 
@@ -96,34 +96,34 @@ pub owners_as : (row row' : List Extent) (owners owners' : List ℕ) → row ≡
 owners_as row row' owners owners' er eo own = subst (λ r. AreOwners r owners') er (subst (AreOwners row) eo own)
 
 module _ (row : List Extent) (owners : List ℕ) (own : AreOwners row owners) (w : ℕ) where
-  abbrev points : (k : ℕ) (d : Extent) → k < length row → Reads w (get_or row k d).base (get_or row k d).length → PointsIntoPlace row w k
+  abbrev points : (k : ℕ) (d : Extent) → k < length row → PointsInto w (get_or row k d).base (get_or row k d).length → PointsIntoNth row w k
   points k d lt reads = (get_or row k d, slice_get-get_or row k d lt, reads)
 
   -- no object has a word before the first, or past the last
-  pub none_low : w < FIRST_ADDRESS → All (λ (e : Extent). Reads w e.base e.length → ⊥) row
+  pub none_low : w < FIRST_ADDRESS → All (λ (e : Extent). PointsInto w e.base e.length → ⊥) row
   none_low low k d lt reads = let from = own.start w k (points k d lt reads) in omega arith
 
-  pub none_past : length owners ≤ place w → All (λ (e : Extent). Reads w e.base e.length → ⊥) row
+  pub none_past : length owners ≤ word_index w → All (λ (e : Extent). PointsInto w e.base e.length → ⊥) row
   none_past past k d lt reads = let until = own.within w k (points k d lt reads) in omega arith
 
   -- none but the owner
-  pub none_at : length row ≤ get_or owners (place w) 0 → All (λ (e : Extent). Reads w e.base e.length → ⊥) row
+  pub none_at : length row ≤ get_or owners (word_index w) 0 → All (λ (e : Extent). PointsInto w e.base e.length → ⊥) row
   none_at past k d lt reads = let is = own.owned w k (points k d lt reads) in omega arith
 
-  pub none_other : (e : Extent) → slice_get row (get_or owners (place w) 0) ≡ Some e → (Reads w e.base e.length → ⊥) → All (λ (e : Extent). Reads w e.base e.length → ⊥) row
+  pub none_other : (e : Extent) → slice_get row (get_or owners (word_index w) 0) ≡ Some e → (PointsInto w e.base e.length → ⊥) → All (λ (e : Extent). PointsInto w e.base e.length → ⊥) row
   none_other e at out k d lt reads =
       let p = points k d lt reads in
       let is : p.0 ≡ e = same_Some p.0 e (sym p.1 ∙ ap (slice_get row) (sym (own.owned w k p)) ∙ at) in
-      out (subst (λ (x : Extent). Reads w x.base x.length) is p.2)
+      out (subst (λ (x : Extent). PointsInto w x.base x.length) is p.2)
 
-  abbrev reads_base : (k : ℕ) (d : Extent) → k < length row → (get_or row k d).base ≡ w → Reads w (get_or row k d).base (get_or row k d).length
+  abbrev reads_base : (k : ℕ) (d : Extent) → k < length row → (get_or row k d).base ≡ w → PointsInto w (get_or row k d).base (get_or row k d).length
   reads_base k d lt is = let more = own.some k d lt in (omega arith, omega arith)
 
   -- an object whose base it is has that word
-  pub no_base : All (λ (e : Extent). Reads w e.base e.length → ⊥) row → All (λ (e : Extent). e.base ≡ w → ⊥) row
+  pub no_base : All (λ (e : Extent). PointsInto w e.base e.length → ⊥) row → All (λ (e : Extent). e.base ≡ w → ⊥) row
   no_base none k d lt is = none k d lt (reads_base k d lt is)
 
-  pub other_base : (i : ℕ) (e : Extent) → slice_get row i ≡ Some e → Reads w e.base e.length → (e.base ≡ w → ⊥) → All (λ (e : Extent). e.base ≡ w → ⊥) row
+  pub other_base : (i : ℕ) (e : Extent) → slice_get row i ≡ Some e → PointsInto w e.base e.length → (e.base ≡ w → ⊥) → All (λ (e : Extent). e.base ≡ w → ⊥) row
   other_base i e at reads ne k d lt is =
       let p = points k d lt (reads_base k d lt is) in
       let same : k ≡ i = sym (own.owned w k p) ∙ own.owned w i (e, at, reads) in
@@ -131,7 +131,7 @@ module _ (row : List Extent) (owners : List ℕ) (own : AreOwners row owners) (w
       ne (ap (λ (x : Extent). x.base) (sym one) ∙ is)
 
   -- two that it points into are one
-  pub one_there : (i : ℕ) (e : Extent) → slice_get row i ≡ Some e → Reads w e.base e.length → (k : ℕ) (d : Extent) → k < length row → Reads w (get_or row k d).base (get_or row k d).length → e ≡ get_or row k d
+  pub one_there : (i : ℕ) (e : Extent) → slice_get row i ≡ Some e → PointsInto w e.base e.length → (k : ℕ) (d : Extent) → k < length row → PointsInto w (get_or row k d).base (get_or row k d).length → e ≡ get_or row k d
   one_there i e at reads k d lt there =
       let p = points k d lt there in
       let same : i ≡ k = sym (own.owned w i (e, at, reads)) ∙ own.owned w k p in
@@ -172,5 +172,5 @@ own_removed row index e owners own = record {
 }
 
 -- objects of a core are found by granules too
-pub found_by : (c : Contents) → IsLaidOut c → (owners : List ℕ) → AreOwners c.objects owners → AreFound c.objects owners
+pub found_by : (c : PlainContents) → IsLaidOut c → (owners : List ℕ) → AreOwners c.objects owners → AreFound c.objects owners
 found_by c sound owners own = record { owned = own; aligned = All-weaker (IsInHeap c.pages) (λ (e : Extent). e.base % GRANULE_BYTES ≡ 0) (λ e i. i.aligned) c.objects sound.in_heap }

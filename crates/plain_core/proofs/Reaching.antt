@@ -6,7 +6,7 @@ use Rattle.std.proofs.lemmas.List.{take_all, take_more, take-append-le}
 use Rattle.std.proofs.lemmas.List.Elements.{Contains-push_cases, Contains-append_left, Contains-append_cases, Contains-get_or}
 use Rattle.plain_core.specs.declared.extent.Extent.{Extent}
 use Rattle.plain_core.specs.declared.listing.Listing.{Listing}
-use Rattle.plain_core.specs.Reached.{PointsIntoPlace, IsReachedPlace, by_root, by_link, MarksReached, links_of}
+use Rattle.plain_core.specs.Reached.{PointsIntoNth, IsReachedNth, by_root, by_link, MarksReached, links_of}
 use Rattle.plain_core.specs.Listing.{IsListing, KeepsRoom, ListsAll}
 use Rattle.plain_core.proofs.Lists.{nothing_in, listed_few}
 
@@ -15,9 +15,9 @@ use Rattle.plain_core.proofs.Lists.{nothing_in, listed_few}
 pub record IsTraced (roots words : List ℕ) (row : List Extent) (start : Listing) (done : ℕ) (l : Listing) : Type 0 where
   pub ready : IsListing row l
   pub room : KeepsRoom start l
-  pub sound : (i : ℕ) → Contains l.order.items i → IsReachedPlace roots words row i
-  pub rooted : (w i : ℕ) → Contains roots w → PointsIntoPlace row w i → Contains l.order.items i
-  pub traced : (i : ℕ) (e : Extent) (w j : ℕ) → Contains (take done l.order.items) i → slice_get row i ≡ Some e → Contains (links_of words e) w → PointsIntoPlace row w j → Contains l.order.items j
+  pub sound : (i : ℕ) → Contains l.order.items i → IsReachedNth roots words row i
+  pub rooted : (w i : ℕ) → Contains roots w → PointsIntoNth row w i → Contains l.order.items i
+  pub traced : (i : ℕ) (e : Extent) (w j : ℕ) → Contains (take done l.order.items) i → slice_get row i ≡ Some e → Contains (links_of words e) w → PointsIntoNth row w j → Contains l.order.items j
 
 module _ (roots words : List ℕ) (row : List Extent) (start : Listing) where
   -- the roots are read, and no object
@@ -84,6 +84,6 @@ module _ (roots words : List ℕ) (row : List Extent) (start : Listing) where
       all : take done l.order.items ≡ l.order.items
       all = let few : length l.order.items ≤ length row = listed_few (length row) l.order.items h.ready.listed.distinct h.ready.listed.below in take_all done l.order.items (omega arith)
 
-      listed : (i : ℕ) → IsReachedPlace roots words row i → Contains l.order.items i
+      listed : (i : ℕ) → IsReachedNth roots words row i → Contains l.order.items i
       listed i (by_root {w = w} among p) = h.rooted w i among p
       listed i (by_link {i = from} {w = w} {e = e} r at among p) = h.traced from e w i (subst (λ o. Contains o from) (sym all) (listed from r)) at among p

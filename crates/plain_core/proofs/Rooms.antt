@@ -8,12 +8,12 @@ use Rattle.heap_spec.specs.Layout.{LiesOn}
 use Rattle.heap_spec.specs.Heap.{Heap}
 use Rattle.heap_spec.specs.Room.{IsEmptyPage, IsCutFor, HasRoom}
 use Rattle.plain_core.specs.declared.extent.Extent.{Extent}
-use Rattle.plain_core.specs.Contents.{Contents, IsLaidOut}
+use Rattle.plain_core.specs.PlainContents.{PlainContents, IsLaidOut}
 use Rattle.plain_core.specs.Places.{IsPlace, IsFreePage, IsCutPage}
 use Rattle.plain_core.specs.Standing.{StandsFor}
 use Rattle.plain_core.proofs.Objects.{object_of, extent_of, none_at, none_in}
 
-module _ (c : Contents) (sound : IsLaidOut c) (s : Heap) (h : StandsFor c s) where
+module _ (c : PlainContents) (sound : IsLaidOut c) (s : Heap) (h : StandsFor c s) where
   free_of : (page : ℕ) → IsFreePage c.objects page → IsEmptyPage s page
   free_of page free base o has lies =
       let e = extent_of c sound s h base o has in
@@ -36,7 +36,7 @@ module _ (c : Contents) (sound : IsLaidOut c) (s : Heap) (h : StandsFor c s) whe
       let r = cut _ o.0 o.1 (rw o.2 lies) in
       (sym o.2 ∙ r.0, sym o.3 ∙ r.1)
 
-  pub room_of : (place : Placement) (kind : Kind) (a : ℕ) → IsPlace c.objects c.pages place kind a → HasRoom s place kind a
+  pub room_of : (placement : Placement) (kind : Kind) (a : ℕ) → IsPlace c.objects c.pages placement kind a → HasRoom s placement kind a
   room_of (Small class) kind a p = record {
     page = p.page;
     cell = p.on.cell;
@@ -52,7 +52,7 @@ module _ (c : Contents) (sound : IsLaidOut c) (s : Heap) (h : StandsFor c s) whe
     free = λ page low high. free_of page (p.free page low high);
   }
 
-  pub place_of : (place : Placement) (kind : Kind) (a : ℕ) → HasRoom s place kind a → IsPlace c.objects c.pages place kind a
+  pub place_of : (placement : Placement) (kind : Kind) (a : ℕ) → HasRoom s placement kind a → IsPlace c.objects c.pages placement kind a
   place_of (Small class) kind a r = record {
     page = r.page;
     in_heap = rw (← h.pages) r.in_heap;

@@ -12,19 +12,19 @@ use Rattle.heap_spec.specs.Steps.{Acts, Step, acts, vacant, with_register}
 use Rattle.heap_spec.specs.Replies.{IsStep}
 use Rattle.roots.specs.Roots.{RootSet, HasMutator, HasNoMutator, with_word, with_roots, SetsWord, StepsRoots}
 use Rattle.roots.proofs.Steps.{set_mutators}
-use Rattle.plain_core.specs.Contents.{Contents}
+use Rattle.plain_core.specs.PlainContents.{PlainContents}
 use Rattle.plain_core.specs.Standing.{StandsFor}
 
 -- the call of a slot is a step
-abbrev pub StepsCall : Contents → ℕ → Call → Reply → Contents → Type 0
+abbrev pub StepsCall : PlainContents → ℕ → Call → Reply → PlainContents → Type 0
 StepsCall old slot call reply new = IsStep (StandsFor old) (Mutator slot call) reply (StandsFor new)
 
 -- the heap's mutator at a slot
-pub mutator_at : (c : Contents) (s : Heap) → StandsFor c s → (k : ℕ) (m : HeapMutator) → HasMutator c.roots k m → IsAttached s k m
+pub mutator_at : (c : PlainContents) (s : Heap) → StandsFor c s → (k : ℕ) (m : HeapMutator) → HasMutator c.roots k m → IsAttached s k m
 mutator_at c s h k m at = ap (λ ms. slice_get ms k) h.mutators ∙ at
 
 -- with these roots the core stands for the heap with them
-pub with_stands : (c : Contents) (s : Heap) → StandsFor c s → (roots : RootSet) → StandsFor (record c { roots = roots }) (with_roots s roots)
+pub with_stands : (c : PlainContents) (s : Heap) → StandsFor c s → (roots : RootSet) → StandsFor (record c { roots = roots }) (with_roots s roots)
 with_stands c s h roots = record {
   pages = h.pages;
   mutators = refl;
@@ -37,27 +37,27 @@ with_stands c s h roots = record {
 }
 
 -- a step that changes no more than the roots
-pub steps_roots : (c : Contents) (roots : RootSet) (event : Event) (reply : Reply) → StepsRoots c.roots event reply roots → IsStep (StandsFor c) event reply (StandsFor (record c { roots = roots }))
+pub steps_roots : (c : PlainContents) (roots : RootSet) (event : Event) (reply : Reply) → StepsRoots c.roots event reply roots → IsStep (StandsFor c) event reply (StandsFor (record c { roots = roots }))
 steps_roots c roots event reply steps s h =
     let same : with_roots s c.roots ≡ s =
     ap (λ ms. record s { mutators = ms; globals = c.roots.globals }) (sym h.mutators) ∙ ap (λ gs. record s { globals = gs }) (sym h.globals) in
     (with_roots s roots, subst (λ (x : Heap). Step x event reply (with_roots s roots)) same (steps s), with_stands c s h roots)
 
 -- a call for a slot that has no mutator
-pub refused_vacant : (c : Contents) (k : ℕ) (call : Call) → HasNoMutator c.roots k → StepsCall c k call (Refused NoSlot) c
+pub refused_vacant : (c : PlainContents) (k : ℕ) (call : Call) → HasNoMutator c.roots k → StepsCall c k call (Refused NoSlot) c
 refused_vacant c k call none s h = (s, vacant (ap (λ ms. slice_get ms k) h.mutators ∙ none), h)
 
 -- a call that leaves the core as it is
-pub keeps_all : (c : Contents) (k : ℕ) (call : Call) (reply : Reply) (m : HeapMutator) → HasMutator c.roots k m → ((s : Heap) → StandsFor c s → Acts s k m call reply s) → StepsCall c k call reply c
+pub keeps_all : (c : PlainContents) (k : ℕ) (call : Call) (reply : Reply) (m : HeapMutator) → HasMutator c.roots k m → ((s : Heap) → StandsFor c s → Acts s k m call reply s) → StepsCall c k call reply c
 keeps_all c k call reply m at does s h = (s, acts (mutator_at c s h k m at) (does s h), h)
 
 -- the heap's roots after a word was put into a register
-pub set_is : (c : Contents) (s : Heap) → StandsFor c s → (roots : RootSet) (k r w : ℕ) (m : HeapMutator) → HasMutator c.roots k m → SetsWord c.roots k r w roots
+pub set_is : (c : PlainContents) (s : Heap) → StandsFor c s → (roots : RootSet) (k r w : ℕ) (m : HeapMutator) → HasMutator c.roots k m → SetsWord c.roots k r w roots
     → (set s.mutators k (Some (with_word m r w)) ≡ roots.mutators) × (s.globals ≡ roots.globals)
 set_is c s h roots k r w m at sets = (ap (λ ms. set ms k (Some (with_word m r w))) h.mutators ∙ sym (set_mutators c.roots roots k r w m at sets), h.globals ∙ sym sets.0)
 
 -- a call that changes no more than a register
-pub sets_register : (c : Contents) (roots : RootSet) (k r w : ℕ) (m : HeapMutator) (call : Call) (reply : Reply) → HasMutator c.roots k m → SetsWord c.roots k r w roots
+pub sets_register : (c : PlainContents) (roots : RootSet) (k r w : ℕ) (m : HeapMutator) (call : Call) (reply : Reply) → HasMutator c.roots k m → SetsWord c.roots k r w roots
     → ((s : Heap) → StandsFor c s → Acts s k m call reply (with_register s k m r w)) → StepsCall c k call reply (record c { roots = roots })
 sets_register c roots k r w m call reply at sets does s h = let is = set_is c s h roots k r w m at sets in (
   with_register s k m r w,

@@ -4,7 +4,7 @@ use Rattle.heap_spec.specs.Heap.{Heap, Object, HasObject}
 use Rattle.heap_spec.specs.Closure.{Closure}
 use Rattle.plain_core.specs.declared.extent.Extent.{Extent}
 use Rattle.plain_core.specs.declared.listing.Listing.{Listing}
-use Rattle.plain_core.specs.Contents.{Contents}
+use Rattle.plain_core.specs.PlainContents.{PlainContents}
 use Rattle.plain_core.specs.Standing.{StandsFor}
 use Rattle.plain_core.specs.Flags.{IsFlagged, HasFlags}
 use Rattle.plain_core.specs.Listing.{ListsAll}
@@ -15,17 +15,17 @@ abbrev pub TellOld : Heap → List Bool → ℕ → Type 0
 TellOld s flags last = (base : ℕ) (o : Object) → HasObject s base o → IsFlagged flags base ↔ (o.birth ≤ last)
 
 -- each object of each heap that the core stands for has its flag
-abbrev pub FlagsAll : Contents → List Bool → Type 0
+abbrev pub FlagsAll : PlainContents → List Bool → Type 0
 FlagsAll c flags = HasFlags c.pages flags → (s : Heap) → StandsFor c s → (base : ℕ) (o : Object) → HasObject s base o → IsFlagged flags base
 
 -- The object at the base has no flag, and the flags of all others are as they were.
-pub record FlagUnset (c : Contents) (base : ℕ) (old new : List Bool) : Type 0 where
+pub record FlagUnset (c : PlainContents) (base : ℕ) (old new : List Bool) : Type 0 where
   pub size : length new ≡ length old
   pub unset : (s : Heap) → StandsFor c s → (o : Object) → HasObject s base o → IsFlagged new base → ⊥
   pub others : (s : Heap) → StandsFor c s → (o : Object) → HasObject s base o → (at : ℕ) (p : Object) → HasObject s at p → at ≢ base → IsFlagged new at ↔ IsFlagged old at
 
 -- Where flags tell the old objects of a heap, these tell what roots or the old objects lead to.
-abbrev pub FlagsClosure : Contents → List Bool → List Bool → Type 0
+abbrev pub FlagsClosure : PlainContents → List Bool → List Bool → Type 0
 FlagsClosure c aged flags = HasFlags c.pages flags → (s : Heap) → StandsFor c s → (last : ℕ) → TellOld s aged last
     → (base : ℕ) (o : Object) → HasObject s base o → IsFlagged flags base ↔ Closure s (λ birth. birth ≤ last) base
 

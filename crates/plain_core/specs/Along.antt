@@ -5,7 +5,7 @@ use Rattle.words.specs.declared.limits.TheConstants.{WORD_BYTES}
 use Rattle.links.specs.declared.row.Link.{Link}
 use Rattle.links.specs.Leaving.{loses_with}
 use Rattle.plain_core.specs.declared.extent.Extent.{Extent}
-use Rattle.plain_core.specs.Standing.{place}
+use Rattle.plain_core.specs.Standing.{word_index}
 
 -- whether one of the objects has the word at the address
 abbrev pub holds_word : List Extent → ℕ → Bool
@@ -18,4 +18,4 @@ has_base row base = list_any (λ e. e.base == base) row
 -- The word of the link is 0, if it has to become so, and all others are as they were.
 pub record ClearsWord (objects : List Extent) (l : Link) (old new : List ℕ) : Type 0 where
   pub size : length new ≡ length old
-  pub words : (k : ℕ) → slice_index new k ≡ (if ((place l.address == k) && loses_with (holds_word objects) (has_base objects) l) then 0 else slice_index old k)
+  pub words : (k : ℕ) → slice_index new k ≡ (if ((word_index l.address == k) && loses_with (holds_word objects) (has_base objects) l) then 0 else slice_index old k)

@@ -9,11 +9,11 @@ pub record HasOneEach (row : List Extent) : Type 0 where
 
 -- An object that is not marked has this base.
 pub record IsFreeToGo (row : List Extent) (marks : List Bool) (base : ℕ) : Type 0 where
-  pub place : ℕ
+  pub index : ℕ
   pub object : Extent
-  pub there : slice_get row place ≡ Some object
+  pub there : slice_get row index ≡ Some object
   pub is_base : object.base ≡ base
-  pub unmarked : slice_index_or marks place false ≡ false
+  pub unmarked : slice_index_or marks index false ≡ false
 
 -- The bases are those of distinct objects that are not marked.
 pub record AreFreeToGo (row : List Extent) (marks : List Bool) (bases : List ℕ) : Type 0 where

@@ -3,18 +3,18 @@ use Rattle.std.specs.Prelude.{◌≡◌, ◌↔◌, ◌⊎◌, ℕ, ◌*◌, ◌
 use Rattle.words.specs.declared.limits.TheConstants.{PAGE_WORDS}
 use Rattle.heap_spec.specs.declared.call.Call.{Call}
 use Rattle.heap_spec.specs.declared.reply.Reply.TheVariants.{Count}
-use Rattle.heap_spec.specs.Heap.{Heap, Object, HasObject, ReadsObject}
+use Rattle.heap_spec.specs.Heap.{Heap, Object, HasObject, PointsIntoObject}
 use Rattle.heap_spec.specs.Closure.{Reached}
 use Rattle.heap_spec.specs.Cycles.{TakesOut}
 use Rattle.heap_spec.specs.Laws.{IsNoAlloc}
 use Rattle.heap_spec.specs.Touching.{LedTo, IsBrought}
 use Rattle.plain_core.specs.declared.extent.Extent.{Extent}
-use Rattle.plain_core.specs.Contents.{Contents}
-use Rattle.plain_core.specs.Standing.{StandsFor, place}
+use Rattle.plain_core.specs.PlainContents.{PlainContents}
+use Rattle.plain_core.specs.Standing.{StandsFor, word_index}
 
 -- the object with this base has its flag
 abbrev pub IsFlagged : List Bool → ℕ → Type 0
-IsFlagged flags base = slice_index_or flags (place base) false ≡ true
+IsFlagged flags base = slice_index_or flags (word_index base) false ≡ true
 
 -- there is a flag for each word of so many pages
 abbrev pub HasFlags : ℕ → List Bool → Type 0
@@ -24,19 +24,19 @@ HasFlags pages flags = PAGE_WORDS * pages ≤ length flags
 pub record FlagsMarked (row : List Extent) (marks old new : List Bool) : Type 0 where
   pub size : length new ≡ length old
   pub keeps : (k : ℕ) → slice_index_or old k false ≡ true → slice_index_or new k false ≡ true
-  pub sets : (i : ℕ) (e : Extent) → slice_get row i ≡ Some e → slice_index_or marks i false ≡ true → place e.base < length old → IsFlagged new e.base
-  pub only : (k : ℕ) → slice_index_or new k false ≡ true → (slice_index_or old k false ≡ true) ⊎ ((i : ℕ) × (e : Extent) × (slice_get row i ≡ Some e) × (slice_index_or marks i false ≡ true) × (place e.base ≡ k))
+  pub sets : (i : ℕ) (e : Extent) → slice_get row i ≡ Some e → slice_index_or marks i false ≡ true → word_index e.base < length old → IsFlagged new e.base
+  pub only : (k : ℕ) → slice_index_or new k false ≡ true → (slice_index_or old k false ≡ true) ⊎ ((i : ℕ) × (e : Extent) × (slice_get row i ≡ Some e) × (slice_index_or marks i false ≡ true) × (word_index e.base ≡ k))
 
 -- Of each heap that the core stands for exactly the reached objects have their flags.
-abbrev pub FlagsReached : Contents → List Bool → Type 0
+abbrev pub FlagsReached : PlainContents → List Bool → Type 0
 FlagsReached c flags = HasFlags c.pages flags → (s : Heap) → StandsFor c s → (base : ℕ) (o : Object) → HasObject s base o → IsFlagged flags base ↔ Reached s base
 
 -- The word leads to objects with flags alone, if what it points into has one.
 abbrev pub LeadsToFlagged : Heap → List Bool → ℕ → Type 0
-LeadsToFlagged s flags w = (at : ℕ) (o : Object) → ReadsObject s w at o → IsFlagged flags at → (base : ℕ) → LedTo s w base → IsFlagged flags base
+LeadsToFlagged s flags w = (at : ℕ) (o : Object) → PointsIntoObject s w at o → IsFlagged flags at → (base : ℕ) → LedTo s w base → IsFlagged flags base
 
 -- Flags are set for what the word leads to, and no other.
-pub record FlagsLed (c : Contents) (w : ℕ) (old new : List Bool) : Type 0 where
+pub record FlagsLed (c : PlainContents) (w : ℕ) (old new : List Bool) : Type 0 where
   pub size : length new ≡ length old
   pub keeps : (base : ℕ) → IsFlagged old base → IsFlagged new base
   pub only : (s : Heap) → StandsFor c s → (base : ℕ) (o : Object) → HasObject s base o → IsFlagged new base → IsFlagged old base ⊎ LedTo s w base
@@ -56,17 +56,17 @@ NamesUnflagged s flags bases = (base : ℕ) (o : Object) → HasObject s base o 
 
 -- Of each heap that the core stood for the objects with these bases are gone, none of which is reached, and no object
 -- without a flag is left.
-abbrev pub ForgetsUnflagged : Contents → List Bool → List ℕ → Contents → Type 0
+abbrev pub ForgetsUnflagged : PlainContents → List Bool → List ℕ → PlainContents → Type 0
 ForgetsUnflagged old flags bases new = (s : Heap) → StandsFor old s → (s' : Heap) × TakesOut s bases (Count (length bases)) s' × NamesUnflagged s flags bases × StandsFor new s'
 
 -- Of no heap that the core stands for these can be taken out: they are not the bases of distinct objects, or one is
 -- reached, or one without a flag isn't among them.
-abbrev pub CantForget : Contents → List Bool → List ℕ → Type 0
+abbrev pub CantForget : PlainContents → List Bool → List ℕ → Type 0
 CantForget c flags bases = (s : Heap) → StandsFor c s → (n : ℕ) (s' : Heap) → TakesOut s bases (Count n) s' → NamesUnflagged s flags bases → ⊥
 
 -- Flags are set for what the one word leads to that a call of the slot may have brought, unless it is a request, and for no
 -- other. The core is the one after the call.
-pub record FlagsBrought (c : Contents) (slot : ℕ) (call : Call) (old new : List Bool) : Type 0 where
+pub record FlagsBrought (c : PlainContents) (slot : ℕ) (call : Call) (old new : List Bool) : Type 0 where
   pub size : length new ≡ length old
   pub keeps : (base : ℕ) → IsFlagged old base → IsFlagged new base
   pub only : (s s' : Heap) → StandsFor c s' → (base : ℕ) (o : Object) → HasObject s' base o → IsFlagged new base → IsFlagged old base ⊎ ((w : ℕ) × IsBrought s slot call s' w × LedTo s' w base)

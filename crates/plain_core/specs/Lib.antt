@@ -1,4 +1,4 @@
-pub mod Contents
+pub mod PlainContents
 pub mod Places
 pub mod Standing
 pub mod Along

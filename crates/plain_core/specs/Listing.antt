@@ -5,7 +5,7 @@ use Rattle.std.specs.Vec.{vec_capacity}
 use Rattle.words.specs.declared.limits.TheConstants.{PAGE_GRANULES, PAGE_WORDS}
 use Rattle.plain_core.specs.declared.extent.Extent.{Extent}
 use Rattle.plain_core.specs.declared.listing.Listing.{Listing}
-use Rattle.plain_core.specs.Reached.{PointsIntoPlace, AreApart}
+use Rattle.plain_core.specs.Reached.{PointsIntoNth, AreApart}
 
 -- there is room for so many objects
 pub record HasListRoom (count : ℕ) (l : Listing) : Type 0 where
@@ -37,8 +37,8 @@ pub record IsListing (row : List Extent) (l : Listing) : Type 0 where
 pub record ListGrows (row : List Extent) (words order order' : List ℕ) : Type 0 where
   pub more : List ℕ
   pub goes_on : order' ≡ order ++ more
-  pub only : (i : ℕ) → Contains more i → (w : ℕ) × Contains words w × PointsIntoPlace row w i
-  pub all : (w i : ℕ) → Contains words w → PointsIntoPlace row w i → Contains order' i
+  pub only : (i : ℕ) → Contains more i → (w : ℕ) × Contains words w × PointsIntoNth row w i
+  pub all : (w i : ℕ) → Contains words w → PointsIntoNth row w i → Contains order' i
 
 -- There is room for as many as before.
 pub record KeepsRoom (old new : Listing) : Type 0 where

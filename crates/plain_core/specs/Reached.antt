@@ -2,17 +2,17 @@
 use Rattle.std.specs.Prelude.{◌≡◌, ℕ, Bool, true, false, Some, List, [], Contains, slice_get, slice_index_or}
 use Rattle.words.specs.declared.class.Kind.{Kind}
 use Rattle.words.specs.declared.class.Kind.TheVariants.{Normal, PointerFree}
-use Rattle.heap_spec.specs.Layout.{Reads}
+use Rattle.heap_spec.specs.Layout.{PointsInto}
 use Rattle.plain_core.specs.declared.extent.Extent.{Extent}
 use Rattle.plain_core.specs.Standing.{words_at}
 
--- the word points into the object at this place of the row
-abbrev pub PointsIntoPlace : List Extent → ℕ → ℕ → Type 0
-PointsIntoPlace row w i = (e : Extent) × (slice_get row i ≡ Some e) × Reads w e.base e.length
+-- the word points into the object of this index in the row
+abbrev pub PointsIntoNth : List Extent → ℕ → ℕ → Type 0
+PointsIntoNth row w i = (e : Extent) × (slice_get row i ≡ Some e) × PointsInto w e.base e.length
 
 -- No word points into two objects.
 pub record AreApart (row : List Extent) : Type 0 where
-  pub one : (w i j : ℕ) → PointsIntoPlace row w i → PointsIntoPlace row w j → i ≡ j
+  pub one : (w i j : ℕ) → PointsIntoNth row w i → PointsIntoNth row w j → i ≡ j
 
 -- the words that are read of an object of a kind
 abbrev pub read_words : Kind → List ℕ → List ℕ
@@ -24,11 +24,11 @@ abbrev pub links_of : List ℕ → Extent → List ℕ
 links_of words e = read_words e.kind (words_at words e)
 
 -- The reached objects: those that root words point into, and with each of them those that its words point into.
-pub data IsReachedPlace (roots words : List ℕ) (row : List Extent) : ℕ → Type 0 where
-  by_root : {w i : ℕ} → Contains roots w → PointsIntoPlace row w i → IsReachedPlace roots words row i
-  by_link : {i w j : ℕ} {e : Extent} → IsReachedPlace roots words row i → slice_get row i ≡ Some e → Contains (links_of words e) w → PointsIntoPlace row w j → IsReachedPlace roots words row j
+pub data IsReachedNth (roots words : List ℕ) (row : List Extent) : ℕ → Type 0 where
+  by_root : {w i : ℕ} → Contains roots w → PointsIntoNth row w i → IsReachedNth roots words row i
+  by_link : {i w j : ℕ} {e : Extent} → IsReachedNth roots words row i → slice_get row i ≡ Some e → Contains (links_of words e) w → PointsIntoNth row w j → IsReachedNth roots words row j
 
 -- A row marks exactly the reached objects.
 pub record MarksReached (roots words : List ℕ) (row : List Extent) (marks : List Bool) : Type 0 where
-  pub marked : (i : ℕ) → IsReachedPlace roots words row i → slice_index_or marks i false ≡ true
-  pub reached : (i : ℕ) → slice_index_or marks i false ≡ true → IsReachedPlace roots words row i
+  pub marked : (i : ℕ) → IsReachedNth roots words row i → slice_index_or marks i false ≡ true
+  pub reached : (i : ℕ) → slice_index_or marks i false ≡ true → IsReachedNth roots words row i

@@ -5,22 +5,22 @@ use Rattle.heap_spec.specs.Heap.{Heap, Object, HasObject}
 use Rattle.heap_spec.specs.Sound.{HaveDistinctBirths}
 use Rattle.links.specs.Named.{AreNamed}
 use Rattle.plain_core.specs.declared.extent.Extent.{Extent}
-use Rattle.plain_core.specs.Contents.{Contents}
+use Rattle.plain_core.specs.PlainContents.{PlainContents}
 
 -- where the word at an address stands in the row of words
-abbrev pub place : ℕ → ℕ
-place a = (a - FIRST_ADDRESS) / WORD_BYTES
+abbrev pub word_index : ℕ → ℕ
+word_index a = (a - FIRST_ADDRESS) / WORD_BYTES
 
 -- The object has words, and they are in the row.
 pub record LiesIn (row : List ℕ) (e : Extent) : Type 0 where
   pub start : FIRST_ADDRESS ≤ e.base
   pub aligned : e.base % WORD_BYTES ≡ 0
   pub some : 0 < e.length
-  pub ends : place e.base + e.length ≤ length row
+  pub ends : word_index e.base + e.length ≤ length row
 
 -- the words of an object in the row
 abbrev pub words_at : List ℕ → Extent → List ℕ
-words_at row e = take e.length (drop (place e.base) row)
+words_at row e = take e.length (drop (word_index e.base) row)
 
 -- the object of the heap that lies there
 pub record IsShown (row : List ℕ) (e : Extent) (o : Object) : Type 0 where
@@ -29,7 +29,7 @@ pub record IsShown (row : List ℕ) (e : Extent) (o : Object) : Type 0 where
 
 -- The heap has the core's pages, its objects with their kinds and words, its mutators, its globals, and its links, compared by
 -- the objects that they name. Births are not kept, so any distinct ones from 1 up to their number fit.
-pub record StandsFor (c : Contents) (s : Heap) : Type 0 where
+pub record StandsFor (c : PlainContents) (s : Heap) : Type 0 where
   pub pages : s.pages ≡ c.pages
   pub mutators : s.mutators ≡ c.roots.mutators
   pub globals : s.globals ≡ c.roots.globals

@@ -9,7 +9,7 @@ ghost use Rattle.plain_core.specs.Along.{ClearsWord, holds_word, has_base};
 ghost use Rattle.plain_core.specs.Owners.{AreOwners};
 
 use crate::extent::Extent;
-use crate::owners::{owner_at, owner_of, place_of};
+use crate::owners::{owner_at, owner_of, word_index};
 use arrayvec::ArrayVec;
 use links::{Link, Links};
 use words::limits::MAX_LINKS;
@@ -51,8 +51,8 @@ fn keep_link(words: &mut [u64], objects: &[Extent], owners: &[u64], link: Link) 
     if has_base(objects, owners, link.base) {
         return true;
     }
-    let place = place_of(link.address);
-    words[place] = 0;
+    let position = word_index(link.address);
+    words[position] = 0;
     false
 }
 

@@ -1,6 +1,6 @@
 //! Where an object lies.
 ghost use Rattle.std.specs.Prelude.{◌≡◌, IsTrue, false};
-ghost use Rattle.heap_spec.specs.Layout.{Reads, LiesOn};
+ghost use Rattle.heap_spec.specs.Layout.{PointsInto, LiesOn};
 
 use words::Kind;
 use words::limits::{FIRST_ADDRESS, PAGE_BYTES, PageNo, WORD_BYTES};
@@ -16,8 +16,8 @@ pub struct Extent {
 impl Extent {
     // Whether the address is that of one of its bytes.
     pub(crate) fn contains(&self, address: u64) -> bool
-        ensures yes { IsTrue result → Reads address self.now.base self.now.length }
-        ensures no { result ≡ false → Reads address self.now.base self.now.length → ⊥ }
+        ensures yes { IsTrue result → PointsInto address self.now.base self.now.length }
+        ensures no { result ≡ false → PointsInto address self.now.base self.now.length → ⊥ }
     {
         self.base <= address && (address - self.base) / WORD_BYTES < self.length
     }

@@ -2,7 +2,7 @@
 //! the row of objects, and one that is left by an object that went stands where the next one at that base is.
 ghost use Rattle.std.specs.Prelude.{◌≡◌, ◌<◌, ◌≤◌, ◌⊎◌, All, IsTrue, false, true, ℕ, length, Contains, slice_index_or, slice_set};
 ghost use Rattle.words.specs.declared.limits.TheConstants.{FIRST_ADDRESS};
-ghost use Rattle.plain_core.specs.Standing.{place, LiesIn};
+ghost use Rattle.plain_core.specs.Standing.{word_index, LiesIn};
 ghost use Rattle.plain_core.specs.Reached.{links_of};
 ghost use Rattle.plain_core.specs.Claims.{HasOneEach};
 ghost use Rattle.plain_core.specs.Owners.{AreOwners};
@@ -10,7 +10,7 @@ ghost use Rattle.plain_core.specs.Flags.{IsFlagged, FlagsMarked, NamesRow, AreGo
 
 use crate::claims::unset_named;
 use crate::extent::Extent;
-use crate::owners::place_of;
+use crate::owners::word_index;
 use words::Kind;
 
 // Whether the object with this base has its flag.
@@ -19,8 +19,8 @@ pub(crate) fn is_flagged(flags: &[bool], base: u64) -> bool
     ensures yes { IsTrue result → IsFlagged flags.now base }
     ensures no { result ≡ false → IsFlagged flags.now base → ⊥ }
 {
-    let place = place_of(base);
-    place < flags.len() && flags[place]
+    let position = word_index(base);
+    position < flags.len() && flags[position]
 }
 
 // Unsets all flags.
@@ -46,22 +46,22 @@ pub(crate) fn set_all(flags: &mut [bool])
 // Unsets the flag of the object with this base, if there is room for it.
 pub(crate) fn unset_flag(flags: &mut [bool], base: u64)
     requires { FIRST_ADDRESS ≤ base }
-    ensures { flags.new ≡ slice_set flags.old (place base) false }
+    ensures { flags.new ≡ slice_set flags.old (word_index base) false }
 {
-    let place = place_of(base);
-    if place < flags.len() {
-        flags[place] = false;
+    let position = word_index(base);
+    if position < flags.len() {
+        flags[position] = false;
     }
 }
 
 // Sets the flag of the object with this base, if there is room for it.
 pub(crate) fn set_flag(flags: &mut [bool], base: u64)
     requires { FIRST_ADDRESS ≤ base }
-    ensures { flags.new ≡ slice_set flags.old (place base) true }
+    ensures { flags.new ≡ slice_set flags.old (word_index base) true }
 {
-    let place = place_of(base);
-    if place < flags.len() {
-        flags[place] = true;
+    let position = word_index(base);
+    if position < flags.len() {
+        flags[position] = true;
     }
 }
 
@@ -85,7 +85,7 @@ pub(crate) fn has_no_links(object: Extent, words: &[u64]) -> bool
     if object.kind == Kind::PointerFree {
         return true;
     }
-    let start = place_of(object.base);
+    let start = word_index(object.base);
     let end = start + object.length as usize;
     are_zeros(&words[start..end])
 }

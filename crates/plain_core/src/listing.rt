@@ -9,7 +9,7 @@ ghost use Rattle.plain_core.specs.Aging.{ListsFlagged, MarksClosure};
 
 use crate::extent::Extent;
 use crate::flags::is_flagged;
-use crate::owners::{owner_at, place_of};
+use crate::owners::{owner_at, word_index};
 use std::alloc::{AllocError, Global};
 use words::Kind;
 
@@ -124,7 +124,7 @@ fn list_links(
     if object.kind == Kind::PointerFree {
         return;
     }
-    let start = place_of(object.base);
+    let start = word_index(object.base);
     let end = start + object.length as usize;
     list_all(&words[start..end], objects, owners, listing);
 }

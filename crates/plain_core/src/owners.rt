@@ -1,8 +1,8 @@
 //! Which object each word of the heap belongs to, written down so that an object is found without a search.
 ghost use Rattle.std.specs.Prelude.{◌≡◌, ◌≤◌, ◌<◌, ◌+◌, ◌⊎◌, ℕ, IfSome, IfNone, IfOk, IfErr, All, Contains, Some, length, slice_get, slice_index};
 ghost use Rattle.words.specs.declared.limits.TheConstants.{FIRST_ADDRESS};
-ghost use Rattle.heap_spec.specs.Layout.{Reads};
-ghost use Rattle.plain_core.specs.Standing.{LiesIn, place};
+ghost use Rattle.heap_spec.specs.Layout.{PointsInto};
+ghost use Rattle.plain_core.specs.Standing.{LiesIn, word_index};
 ghost use Rattle.plain_core.specs.Reached.{AreApart};
 ghost use Rattle.plain_core.specs.Owners.{AreOwners, AreOwnersBut};
 
@@ -22,9 +22,9 @@ pub(crate) fn fill(row: &mut [u64], start: usize, count: usize, word: u64)
 }
 
 // Where the word at an address stands in a row of all words.
-pub(crate) fn place_of(address: u64) -> usize
+pub(crate) fn word_index(address: u64) -> usize
     requires { FIRST_ADDRESS ≤ address }
-    ensures { result ≡ place address }
+    ensures { result ≡ word_index address }
 {
     ((address - FIRST_ADDRESS) / WORD_BYTES) as usize
 }
@@ -37,7 +37,7 @@ pub(crate) fn write_owners(objects: &[Extent], owners: &mut [u64])
 {
     for index in 0..objects.len() {
         let object = objects[index];
-        let start = place_of(object.base);
+        let start = word_index(object.base);
         fill(owners, start, object.length as usize, index as u64);
     }
 }
@@ -53,24 +53,24 @@ pub(crate) fn write_owner(objects: &[Extent], owners: &mut [u64], index: usize)
         return;
     }
     let object = objects[index];
-    let start = place_of(object.base);
+    let start = word_index(object.base);
     fill(owners, start, object.length as usize, index as u64);
 }
 
 // Where the object stands that the address points into.
 pub(crate) fn owner_at(objects: &[Extent], owners: &[u64], address: u64) -> Option<usize>
     requires { AreOwners objects.now owners.now }
-    ensures some { IfSome result (λ i. (e : Extent) × (slice_get objects.now i ≡ Some e) × Reads address e.base e.length) }
-    ensures none { IfNone result (All (λ e. Reads address e.base e.length → ⊥) objects.now) }
+    ensures some { IfSome result (λ i. (e : Extent) × (slice_get objects.now i ≡ Some e) × PointsInto address e.base e.length) }
+    ensures none { IfNone result (All (λ e. PointsInto address e.base e.length → ⊥) objects.now) }
 {
     if address < FIRST_ADDRESS {
         return None;
     }
-    let place = place_of(address);
-    if place >= owners.len() {
+    let position = word_index(address);
+    if position >= owners.len() {
         return None;
     }
-    let index = owners[place] as usize;
+    let index = owners[position] as usize;
     if index >= objects.len() {
         return None;
     }
@@ -97,8 +97,8 @@ pub(crate) fn owner_of(objects: &[Extent], owners: &[u64], base: u64) -> Option<
 // The object that the address points into.
 pub(crate) fn object_at(objects: &[Extent], owners: &[u64], address: u64) -> Option<Extent>
     requires { AreOwners objects.now owners.now }
-    ensures some { IfSome result (λ e. Contains objects.now e × Reads address e.base e.length) }
-    ensures none { IfNone result (All (λ e. Reads address e.base e.length → ⊥) objects.now) }
+    ensures some { IfSome result (λ e. Contains objects.now e × PointsInto address e.base e.length) }
+    ensures none { IfNone result (All (λ e. PointsInto address e.base e.length → ⊥) objects.now) }
 {
     let index = owner_at(objects, owners, address)?;
     Some(objects[index])
@@ -107,8 +107,8 @@ pub(crate) fn object_at(objects: &[Extent], owners: &[u64], address: u64) -> Opt
 // The object that the address points into, for a call that is refused where there is none.
 pub(crate) fn find_in(objects: &[Extent], owners: &[u64], address: u64) -> Result<Extent, Refusal>
     requires { AreOwners objects.now owners.now }
-    ensures ok { IfOk result (λ e. Contains objects.now e × Reads address e.base e.length) }
-    ensures err { IfErr result (λ refusal. (refusal ≡ Refusal.NoObject) × All (λ e. Reads address e.base e.length → ⊥) objects.now) }
+    ensures ok { IfOk result (λ e. Contains objects.now e × PointsInto address e.base e.length) }
+    ensures err { IfErr result (λ refusal. (refusal ≡ Refusal.NoObject) × All (λ e. PointsInto address e.base e.length → ⊥) objects.now) }
 {
     object_at(objects, owners, address).ok_or(Refusal::NoObject)
 }

@@ -2,7 +2,7 @@
 ghost use Rattle.std.specs.Prelude.{◌≡◌, ℕ, ◌<◌, ◌≤◌, ◌*◌, ◌%◌, ◌+◌, ◌^◌, All, IfSome, IfNone, false, IsTrue};
 ghost use Rattle.words.specs.declared.limits.TheConstants.{WORD_BYTES, GRANULE_WORDS, PAGE_GRANULES, PAGE_WORDS, MAX_PAGES, MAX_SMALL_WORDS};
 ghost use Rattle.words.specs.Layout.{page_start};
-ghost use Rattle.heap_spec.specs.Layout.{Reads};
+ghost use Rattle.heap_spec.specs.Layout.{PointsInto};
 ghost use Rattle.heap_spec.specs.Room.{length_of};
 ghost use Rattle.plain_core.specs.Owners.{AreOwners, AreFound};
 ghost use Rattle.plain_core.specs.Places.{IsPlace, IsPlaceOn, IsSmallPlace, IsLargePlace, IsFreePage, IsCutPage, IsNoBase, IsSized, granule_start};
@@ -23,8 +23,8 @@ fn granule_start(page: PageNo, granule: u64) -> u64
 // Whether no object has the byte at the address.
 fn is_bare(objects: &[Extent], owners: &[u64], address: u64) -> bool
     requires { AreOwners objects.now owners.now }
-    ensures yes { IsTrue result → All (λ e. Reads address e.base e.length → ⊥) objects.now }
-    ensures no { result ≡ false → All (λ e. Reads address e.base e.length → ⊥) objects.now → ⊥ }
+    ensures yes { IsTrue result → All (λ e. PointsInto address e.base e.length → ⊥) objects.now }
+    ensures no { result ≡ false → All (λ e. PointsInto address e.base e.length → ⊥) objects.now → ⊥ }
 {
     let Some(_) = owner_at(objects, owners, address) else {
         return true;
@@ -57,8 +57,8 @@ fn agrees(object: &Extent, length: u64, kind: Kind) -> bool
 // The same of the object that has the byte at the address, if there is one.
 fn agrees_at(objects: &[Extent], owners: &[u64], address: u64, length: u64, kind: Kind) -> bool
     requires { AreOwners objects.now owners.now }
-    ensures yes { IsTrue result → All (λ e. Reads address e.base e.length → (e.length ≡ length) × (e.kind ≡ kind)) objects.now }
-    ensures no { result ≡ false → All (λ e. Reads address e.base e.length → (e.length ≡ length) × (e.kind ≡ kind)) objects.now → ⊥ }
+    ensures yes { IsTrue result → All (λ e. PointsInto address e.base e.length → (e.length ≡ length) × (e.kind ≡ kind)) objects.now }
+    ensures no { result ≡ false → All (λ e. PointsInto address e.base e.length → (e.length ≡ length) × (e.kind ≡ kind)) objects.now → ⊥ }
 {
     let Some(index) = owner_at(objects, owners, address) else {
         return true;

@@ -40,11 +40,11 @@ pub struct Core {
 
 impl Model for Core {
     ghost use Rattle.std.specs.Vec.{vec_capacity, vec_len};
-    ghost use Rattle.plain_core.specs.Contents.{Contents, IsLaidOut};
+    ghost use Rattle.plain_core.specs.PlainContents.{PlainContents, IsLaidOut};
     ghost use Rattle.plain_core.specs.Listing.{HasMemory};
     ghost use Rattle.plain_core.specs.Owners.{AreOwners};
 
-    ghost Value = { Contents };
+    ghost Value = { PlainContents };
 
     ghost view = { λ c. record { pages = c.pages; words = c.words.items; objects = c.objects.items; roots = c.roots; links = c.links } };
 

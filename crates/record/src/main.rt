@@ -4,8 +4,8 @@
 //! collection forgot; the heap is asked for both by calls that are no events ([`recording::Recorder`]).
 #![tactic(auto)]
 
-use commands::{Fault, end, own_words};
 use heap_core::Core;
+use programs::{Fault, end, own_words};
 use recording::Recorder;
 use scripts::limits::LINE_BYTES;
 use scripts::{Std, command};

@@ -17,7 +17,7 @@ use Rattle.heap_spec.specs.Cycles.{TakesOut}
 use Rattle.heap_spec.proofs.Objects.{with_at-same, with_at-other, at_cases}
 use Rattle.heap_spec.proofs.Links.{stays_by}
 use Rattle.replayer.proofs.Nexts.{any_same, without_same}
-use Rattle.heap_core.specs.Contents.{Contents as CoreContents}
+use Rattle.heap_core.specs.CoreContents.{CoreContents}
 use Rattle.heap_core.specs.Standing.{StandsFor, objects_of}
 use Rattle.recording.specs.Sorting.{IsBase, SortsOut}
 use Rattle.recording.specs.Noting.{Knows}

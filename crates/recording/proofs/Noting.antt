@@ -14,18 +14,18 @@ use Rattle.heap_spec.specs.Cycles.{TakesOut}
 use Rattle.heap_spec.specs.Runs.{Start, Run, Touched, heap_after}
 use Rattle.heap_spec.specs.Steps.{Calls}
 use Rattle.heap_spec.specs.Transcripts.{LineOf}
-use Rattle.heap_core.specs.Contents.{Contents as CoreContents}
+use Rattle.heap_core.specs.CoreContents.{CoreContents}
 use Rattle.heap_core.specs.Following.{Follows, IsLine}
 use Rattle.heap_core.specs.Standing.{StandsFor}
 use Rattle.replayer.specs.declared.hint.Hint.{Hint}
 use Rattle.replayer.specs.Replays.{IsReplay, NamesPlace, NamesBases, MayNameBases}
-use Rattle.recording.specs.Contents.{Contents}
+use Rattle.recording.specs.RecorderContents.{RecorderContents}
 use Rattle.recording.specs.Noting.{Knows, IsKnown, IsHint, IsNoted, NotesTaken, NotesGone, NotesCall, NotesEvent}
 use Rattle.recording.proofs.Knowing.{HasIn, same_known, more_known, stay_known, gone_taken}
 use Rattle.recording.proofs.Placing.{IsPlaced, call_places}
 use Rattle.recording.proofs.Lines.{line_few, refused_same, line_leaves, IsStill, granted, freed_less, taken_less, same_heap}
 
-module _ (before new : Contents) (start : Start) (run : Run) (k : IsKnown before.bases (heap_after start run)) where
+module _ (before new : RecorderContents) (start : Start) (run : Run) (k : IsKnown before.bases (heap_after start run)) where
   -- the checker says yes to what is noted, and the objects are known
   abbrev Tells : Event → Reply → Run → Type 0
   Tells event reply next = ((hint : Hint) → IsHint new.note hint → IsReplay hint start run event reply next) × Knows new.bases (heap_after start next)
@@ -144,7 +144,7 @@ module _ (before new : Contents) (start : Start) (run : Run) (k : IsKnown before
         collect_notes (subst (λ e. NotesEvent c e before new) is notes) (subst (λ e. LineOf start run e reply next) is line) stands n count
 
 -- so a run goes on, where the event is refused
-pub noted_refused : (old new : Contents) (event : Event) (reply : Reply) (why : Refusal) → reply ≡ Refused why → new.bases ≡ old.bases → IsLine old.core event reply new.core → IsNoted old event reply new
+pub noted_refused : (old new : RecorderContents) (event : Event) (reply : Reply) (why : Refusal) → reply ≡ Refused why → new.bases ≡ old.bases → IsLine old.core event reply new.core → IsNoted old event reply new
 noted_refused old new event reply why is same line start run f =
     let x = line start run f in (
       x.0,
@@ -158,7 +158,7 @@ noted_refused old new event reply why is same line start run f =
     )
 
 -- and where it is not
-pub noted : (old before new : Contents) (event : Event) (reply : Reply) → ((why : Refusal) → reply ≡ Refused why → ⊥) → before.bases ≡ old.bases → IsLine old.core event reply before.core → new.core ≡ before.core
+pub noted : (old before new : RecorderContents) (event : Event) (reply : Reply) → ((why : Refusal) → reply ≡ Refused why → ⊥) → before.bases ≡ old.bases → IsLine old.core event reply before.core → new.core ≡ before.core
     → NotesEvent before.core event before new → IsNoted old event reply new
 noted old before new event reply fair same line core notes start run f =
     let x = line start run f in (

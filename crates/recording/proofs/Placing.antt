@@ -15,10 +15,10 @@ use Rattle.heap_spec.proofs.Calls.{attached_is}
 use Rattle.heap_spec.proofs.Layouts.{placed}
 use Rattle.heap_spec.proofs.Objects.{with_at-same}
 use Rattle.heap_history.proofs.Held.{room_none}
-use Rattle.heap_core.specs.Contents.{Contents as CoreContents}
+use Rattle.heap_core.specs.CoreContents.{CoreContents}
 use Rattle.heap_core.specs.Standing.{StandsFor}
 use Rattle.plain_core.specs.Answering.{IsBornAt}
-use Rattle.recording.specs.Contents.{Contents, names_place}
+use Rattle.recording.specs.RecorderContents.{RecorderContents, names_place}
 use Rattle.recording.specs.Noting.{NotesWord}
 
 slice_get-set_same : {A : Type 0} (l : List A) (i : ℕ) (x : A) → i < length l → slice_get (slice_set l i x) i ≡ Some x
@@ -44,7 +44,7 @@ word_of (Err why) w is = absurd (other why w is)
     other r b e = cc
 
 -- an object came at a base that none had, and it is noted
-pub record IsPlaced (s s' : Heap) (old new : Contents) : Type 0 where
+pub record IsPlaced (s s' : Heap) (old new : RecorderContents) : Type 0 where
   pub base : ℕ
   pub note : new.note ≡ names_place base
   pub bases : new.bases ≡ old.bases ++ base ∷ []
@@ -53,10 +53,10 @@ pub record IsPlaced (s s' : Heap) (old new : Contents) : Type 0 where
   pub object : Object
   pub after : s'.objects ≡ with_at s.objects base (Some object)
 
-module _ (c : CoreContents) (slot into words : ℕ) (kind : Kind) (old new : Contents) (is : NotesWord c slot into old new) where
+module _ (c : CoreContents) (slot into words : ℕ) (kind : Kind) (old new : RecorderContents) (is : NotesWord c slot into old new) where
   -- the register has the base of the new object, and a `get` of it was answered
   act_places : (s : Heap) (m : HeapMutator) {s' : Heap} → IsSound s → IsAttached s slot m → Acts s slot m (Alloc into words kind) Done s' → StandsFor c s' → IsPlaced s s' old new
-  act_places s m sound at (Acts.allocated {place = p} a e room) stands =
+  act_places s m sound at (Acts.allocated {placement = p} a e room) stands =
       let changed : HeapMutator = record m { registers = slice_set m.registers into a } in
       let there : into < length m.registers = (let size = (attached_is s slot m sound at).registers.size in let range = is.range in omega arith) in
       let now = slice_get-set_same s.mutators slot (Some changed) (slice_get_within s.mutators slot (Some m) at) in

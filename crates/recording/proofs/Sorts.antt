@@ -9,7 +9,7 @@ use Rattle.std.proofs.lemmas.List.{take_more}
 use Rattle.std.proofs.lemmas.List.Folds.{list_any_none}
 use Rattle.std.proofs.lemmas.Map.Keys.{IsDistinct-head, IsDistinct-tail, IsDistinct-cons, IsDistinct-push}
 use Rattle.std.proofs.lemmas.Map.Made.{IsDistinct-from_count, Contains-tail}
-use Rattle.heap_core.specs.Contents.{Contents as CoreContents}
+use Rattle.heap_core.specs.CoreContents.{CoreContents}
 use Rattle.recording.specs.Sorting.{IsBase, SortsOne, SortsOut}
 
 -- nothing is in an empty list

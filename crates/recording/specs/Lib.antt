@@ -1,3 +1,3 @@
-pub mod Contents
+pub mod RecorderContents
 pub mod Sorting
 pub mod Noting

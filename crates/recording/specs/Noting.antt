@@ -17,13 +17,13 @@ use Rattle.heap_spec.specs.Replies.{word_reply}
 use Rattle.heap_spec.specs.Runs.{Start, Run, Touched, heap_after}
 use Rattle.heap_spec.specs.Sound.{IsSound}
 use Rattle.heap_spec.specs.Transcripts.{LineOf}
-use Rattle.heap_core.specs.Contents.{Contents as CoreContents}
-use Rattle.heap_core.specs.Calls.{IsCall}
+use Rattle.heap_core.specs.CoreContents.{CoreContents}
+use Rattle.heap_core.specs.MutatorCalls.{IsCall}
 use Rattle.heap_core.specs.Following.{Follows}
 use Rattle.replayer.specs.declared.hint.Hint.{Hint}
 use Rattle.replayer.specs.declared.hint.Hint.TheVariants.{Nothing, Place, Forgot}
 use Rattle.replayer.specs.Replays.{IsReplay}
-use Rattle.recording.specs.Contents.{Contents, Note, names_nothing, names_place, names_gone}
+use Rattle.recording.specs.RecorderContents.{RecorderContents, Note, names_nothing, names_place, names_gone}
 use Rattle.recording.specs.Sorting.{SortsOut}
 
 -- The bases are those of the heap's objects, each once, and no other.
@@ -53,7 +53,7 @@ pub record NotesTaken (note : Note) (n : ℕ) (s s' : Heap) : Type 0 where
 -- How a run goes on by an event with its reply, as it is noted: by a line of a legal transcript, to a run that the new core
 -- follows. Where the objects were known it is what a yes of the checker means, with a hint that says what is noted; what a
 -- full collection took out is noted, though the checker asks for no hint there; and the objects are known afterwards.
-pub record GoesOn (old : Contents) (event : Event) (reply : Reply) (new : Contents) (start : Start) (run next : Run) : Type 0 where
+pub record GoesOn (old : RecorderContents) (event : Event) (reply : Reply) (new : RecorderContents) (start : Start) (run next : Run) : Type 0 where
   pub line : LineOf start run event reply next
   pub follows : Follows new.core start next
   pub replay : IsKnown old.bases (heap_after start run) → (hint : Hint) → IsHint new.note hint → IsReplay hint start run event reply next
@@ -61,11 +61,11 @@ pub record GoesOn (old : Contents) (event : Event) (reply : Reply) (new : Conten
   pub knows : IsKnown old.bases (heap_after start run) → Knows new.bases (heap_after start next)
 
 -- From each run that the core followed a run goes on so.
-abbrev pub IsNoted : Contents → Event → Reply → Contents → Type 0
+abbrev pub IsNoted : RecorderContents → Event → Reply → RecorderContents → Type 0
 IsNoted old event reply new = (start : Start) (run : Run) → Follows old.core start run → (next : Run) × GoesOn old event reply new start run next
 
 -- The word of a register, if that has one, is noted as the place, and its object is known.
-pub record NotesWord (c : CoreContents) (slot into : ℕ) (old new : Contents) : Type 0 where
+pub record NotesWord (c : CoreContents) (slot into : ℕ) (old new : RecorderContents) : Type 0 where
   pub range : IsRegister into
   pub answer : Result ℕ Refusal
   pub reads : IsCall c (Mutator slot (Get into)) (word_reply answer) c
@@ -73,21 +73,21 @@ pub record NotesWord (c : CoreContents) (slot into : ℕ) (old new : Contents) :
   pub bases : (base : ℕ) → answer ≡ Ok base → new.bases ≡ old.bases ++ base ∷ []
 
 -- Of the objects that were known those are known that the core still keeps.
-abbrev pub KeepsSome : CoreContents → Contents → Contents → Type 0
+abbrev pub KeepsSome : CoreContents → RecorderContents → RecorderContents → Type 0
 KeepsSome c old new = (gone : List ℕ) × SortsOut c old.bases new.bases gone
 
 -- Those that it no longer keeps are noted.
-abbrev pub NotesGone : CoreContents → Contents → Contents → Type 0
+abbrev pub NotesGone : CoreContents → RecorderContents → RecorderContents → Type 0
 NotesGone c old new = (gone : List ℕ) × SortsOut c old.bases new.bases gone × (new.note ≡ names_gone gone)
 
 -- of a request its object is noted, after a free some objects are known, and after another call all
-abbrev pub NotesCall : CoreContents → ℕ → Call → Contents → Contents → Type 0
+abbrev pub NotesCall : CoreContents → ℕ → Call → RecorderContents → RecorderContents → Type 0
 NotesCall c slot (Alloc into words kind) old new = NotesWord c slot into old new
 NotesCall c slot (Free r) old new = KeepsSome c old new
 NotesCall c slot _ old new = new.bases ≡ old.bases
 
 -- after a collection what is gone is noted, and after another event of the collector all objects are known
-abbrev pub NotesEvent : CoreContents → Event → Contents → Contents → Type 0
+abbrev pub NotesEvent : CoreContents → Event → RecorderContents → RecorderContents → Type 0
 NotesEvent c (Mutator slot call) old new = NotesCall c slot call old new
 NotesEvent c Finish old new = NotesGone c old new
 NotesEvent c Collect old new = NotesGone c old new

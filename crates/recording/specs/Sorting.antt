@@ -2,7 +2,7 @@
 use Rattle.std.specs.Prelude.{◌≡◌, ◌++◌, ◌∷◌, [], ℕ, List, Some, Contains, nat_eq, ◌⊎◌}
 use Rattle.std.specs.List.{IsDistinct}
 use Rattle.block_map.specs.declared.found.Found.{Found}
-use Rattle.heap_core.specs.Contents.{Contents as CoreContents}
+use Rattle.heap_core.specs.CoreContents.{CoreContents}
 use Rattle.heap_core.specs.Standing.{objects_of}
 
 -- the core keeps an object with this base

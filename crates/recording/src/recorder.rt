@@ -2,7 +2,7 @@
 ghost use Rattle.std.specs.Prelude.{◌≡◌, [], IfOk, IfErr};
 ghost use Rattle.heap_core.specs.Acts.{IsAct};
 ghost use Rattle.heap_core.specs.Following.{IsLine};
-ghost use Rattle.recording.specs.Contents.{names_nothing};
+ghost use Rattle.recording.specs.RecorderContents.{names_nothing};
 ghost use Rattle.recording.specs.Noting.{IsHint, IsNoted, KeepsSome, NotesGone, NotesWord, NotesCall, NotesEvent};
 
 use crate::sorting::sort_out;
@@ -25,9 +25,9 @@ pub struct Recorder {
 }
 
 impl Model for Recorder {
-    ghost use Rattle.recording.specs.Contents.{Contents, note_of};
+    ghost use Rattle.recording.specs.RecorderContents.{RecorderContents, note_of};
 
-    ghost Value = { Contents };
+    ghost Value = { RecorderContents };
 
     ghost view = { λ r. record { core = r.core; bases = r.bases.items; note = note_of r.place r.has_collected r.gone.items } };
 }

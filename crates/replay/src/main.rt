@@ -6,7 +6,7 @@
 ghost use Rattle.std.specs.Prelude.{◌≤◌};
 ghost use Rattle.words.specs.declared.limits.TheConstants.{MAX_PAGES};
 
-use commands::{Fault, end, own_words};
+use programs::{Fault, end, own_words};
 use scripts::Std;
 use std::fs;
 use std::process::ExitCode;

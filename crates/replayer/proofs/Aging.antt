@@ -14,12 +14,12 @@ use Rattle.heap_spec.specs.Runs.{Start, Run, heap_after, needs_full_after, old_b
 use Rattle.heap_spec.specs.Steps.{Step}
 use Rattle.heap_spec.specs.Touching.{HasApartObjects}
 use Rattle.heap_spec.proofs.Births.{step_births}
-use Rattle.plain_core.specs.Contents.{Contents as PlainContents}
+use Rattle.plain_core.specs.PlainContents.{PlainContents}
 use Rattle.plain_core.specs.Standing.{StandsFor}
 use Rattle.plain_core.specs.Answering.{IsBornAt}
 use Rattle.plain_core.specs.Flags.{IsFlagged, HasFlags}
 use Rattle.plain_core.specs.Aging.{TellOld, FlagsAll, FlagUnset, FlagsClosure}
-use Rattle.replayer.specs.Contents.{TellTouched}
+use Rattle.replayer.specs.ReplayerContents.{TellTouched}
 
 -- a call that is no free, or that was not done, leaves the need of a full cycle
 pub not_free : (slot : ℕ) (call : Call) (reply : Reply) (before : Bool) → ((r : ℕ) → call ≡ Free r → ⊥) → needs_full_after (Mutator slot call) reply before ≡ before

@@ -40,10 +40,10 @@ legible : (s : Heap) → IsSound s → IsLegible s
 legible s h = record { one = one_read s h; some = λ base o has. (object_lies s h base o has).some }
 
 -- an object that was born is where the request was granted
-born_here : (s : Heap) → IsSound s → (slot d a base : ℕ) (m : HeapMutator) (kind : Kind) (place : Placement) → IsBornAt s base (with_register (with_new s a kind place) slot m d a) → base ≡ a
-born_here s h slot d a base m kind place born =
+born_here : (s : Heap) → IsSound s → (slot d a base : ℕ) (m : HeapMutator) (kind : Kind) (placement : Placement) → IsBornAt s base (with_register (with_new s a kind placement) slot m d a) → base ≡ a
+born_here s h slot d a base m kind placement born =
     ⊎_elim (λ same. same.0) (λ other. let old = h.objects.born base born.object other.1 in let new = born.newest in absurd (omega (arith, old, new)))
-    (at_cases s.objects a (Some (record { birth = s.births + 1; kind = kind; words = replicate (length_of place) 0 })) base (Some born.object) born.there)
+    (at_cases s.objects a (Some (record { birth = s.births + 1; kind = kind; words = replicate (length_of placement) 0 })) base (Some born.object) born.there)
 
 -- An object is born at one base in both heaps.
 abbrev BothBorn : Heap → Heap → Heap → Type 0
@@ -59,7 +59,7 @@ both_born (Forgot a) hint e s t t' x y = absurd x
 -- a request that is granted at one base
 module _ (s : Heap) (h : IsSound s) (slot d n : ℕ) (kind : Kind) where
   granted : (m : HeapMutator) {t t' : Heap} → Acts s slot m (Alloc d n kind) Done t → Acts s slot m (Alloc d n kind) Done t' → BothBorn s t t' → t ≡ t'
-  granted m (Acts.allocated {place = p} a e room) (Acts.allocated {place = q} b e' room') born =
+  granted m (Acts.allocated {placement = p} a e room) (Acts.allocated {placement = q} b e' room') born =
       let at : born.0 ≡ a = born_here s h slot d a born.0 m kind p born.1 in
       let at' : born.0 ≡ b = born_here s h slot d b born.0 m kind q born.2 in
       ap (λ z. with_register (with_new s z kind p) slot m d z) (sym at ∙ at') ∙ ap (λ z. with_register (with_new s b kind z) slot m d b) (same_Some p q (sym e ∙ e'))
@@ -67,7 +67,7 @@ module _ (s : Heap) (h : IsSound s) (slot d n : ℕ) (kind : Kind) where
   requested : (m : HeapMutator) → IsAttached s slot m → (t' : Heap) {reply : Reply} {t : Heap} → Acts s slot m (Alloc d n kind) reply t → Calls s slot (Alloc d n kind) reply t' → (reply ≡ Done → BothBorn s t t') → t ≡ t'
   requested m at t' (Acts.bad_size e) other born = sym (calls_refused s slot (Alloc d n kind) other)
   requested m at t' (Acts.full e none) other born = sym (calls_refused s slot (Alloc d n kind) other)
-  requested m at t' (Acts.allocated {place = p} a e room) (acts {m = k} at' act) born =
+  requested m at t' (Acts.allocated {placement = p} a e room) (acts {m = k} at' act) born =
       granted m (Acts.allocated a e room) (subst (λ x. Acts s slot x (Alloc d n kind) Done t') (sym (same_mutator s slot m k at at')) act) (born refl)
 
   request_next : (t' : Heap) {reply : Reply} {t : Heap} → Calls s slot (Alloc d n kind) reply t → Calls s slot (Alloc d n kind) reply t' → (reply ≡ Done → BothBorn s t t') → t ≡ t'

@@ -13,14 +13,14 @@ use Rattle.heap_spec.specs.Transcripts.{LineOf}
 use Rattle.plain_core.specs.Answering.{CanAnswer, CanAttach, IsNoStep}
 use Rattle.plain_core.specs.Collections.{HasGarbage}
 use Rattle.plain_core.proofs.Forgets.{same_count}
-use Rattle.replayer.specs.Contents.{Contents}
+use Rattle.replayer.specs.ReplayerContents.{ReplayerContents}
 use Rattle.replayer.specs.Expecting.{Expects}
 
 -- a bool is not both
 not_both : (start : Start) (run : Run) → is_marking start run ≡ true → is_marking start run ≡ false → ⊥
 not_both start run marks idle = true≢false (sym marks ∙ idle)
 
-pub expects_attach : (r : Contents) (reply : Reply) → CanAttach r.core reply → ((other : Reply) → (reply ≡ other → ⊥) → IsNoStep r.core Attach other) → Expects r Attach reply
+pub expects_attach : (r : ReplayerContents) (reply : Reply) → CanAttach r.core reply → ((other : Reply) → (reply ≡ other → ⊥) → IsNoStep r.core Attach other) → Expects r Attach reply
 expects_attach r reply can only start run f = record {
   may = let x = can (heap_after start run) f.stands in (goes_on run Attach reply x.0, LineOf.happens x.1);
   only = λ other next ne line. stuck other ne line;
@@ -30,7 +30,7 @@ expects_attach r reply can only start run f = record {
     stuck q ne (LineOf.happens {s' = s'} happens) = only q ne (heap_after start run) f.stands s' happens
     stuck q ne (LineOf.refused wrong) = wrong
 
-pub expects_call : (r : Contents) (slot : ℕ) (call : Call) (reply : Reply) → CanAnswer r.core slot call reply → ((other : Reply) → (reply ≡ other → ⊥) → IsNoStep r.core (Mutator slot call) other) → Expects r (Mutator slot call) reply
+pub expects_call : (r : ReplayerContents) (slot : ℕ) (call : Call) (reply : Reply) → CanAnswer r.core slot call reply → ((other : Reply) → (reply ≡ other → ⊥) → IsNoStep r.core (Mutator slot call) other) → Expects r (Mutator slot call) reply
 expects_call r slot call reply can only start run f = record {
   may = let x = can (heap_after start run) f.stands in (goes_on run (Mutator slot call) reply x.0, LineOf.happens x.1);
   only = λ other next ne line. stuck other ne line;
@@ -40,7 +40,7 @@ expects_call r slot call reply can only start run f = record {
     stuck q ne (LineOf.happens {s' = s'} happens) = only q ne (heap_after start run) f.stands s' happens
     stuck q ne (LineOf.refused wrong) = wrong
 
-pub expects_begin : (r : Contents) → r.marking ≡ false → Expects r Begin Done
+pub expects_begin : (r : ReplayerContents) → r.marking ≡ false → Expects r Begin Done
 expects_begin r idle start run f = record {
   may = (goes_on run Begin Done (heap_after start run), LineOf.happens (sym f.phase ∙ idle, (refl, refl)));
   only = λ other next ne line. stuck other ne line;
@@ -50,7 +50,7 @@ expects_begin r idle start run f = record {
     stuck q ne (LineOf.happens happens) = ne (sym happens.1.0)
     stuck q ne (LineOf.refused wrong) = not_both start run wrong (sym f.phase ∙ idle)
 
-pub expects_no_begin : (r : Contents) → r.marking ≡ true → Expects r Begin (Refused WrongPhase)
+pub expects_no_begin : (r : ReplayerContents) → r.marking ≡ true → Expects r Begin (Refused WrongPhase)
 expects_no_begin r marks start run f = record {
   may = (run, LineOf.refused (sym f.phase ∙ marks));
   only = λ other next ne line. stuck other ne line;
@@ -64,7 +64,7 @@ expects_no_begin r marks start run f = record {
 not_both_needs : (start : Start) (run : Run) → needs_full start run ≡ true → needs_full start run ≡ false → ⊥
 not_both_needs start run needs none = true≢false (sym needs ∙ none)
 
-pub expects_partial : (r : Contents) → r.marking ≡ false → r.needs_full ≡ false → Expects r BeginPartial Done
+pub expects_partial : (r : ReplayerContents) → r.marking ≡ false → r.needs_full ≡ false → Expects r BeginPartial Done
 expects_partial r idle none start run f = record {
   may = (goes_on run BeginPartial Done (heap_after start run), LineOf.happens (sym f.phase ∙ idle, sym f.needs ∙ none, (refl, refl)));
   only = λ other next ne line. stuck other ne line;
@@ -75,7 +75,7 @@ expects_partial r idle none start run f = record {
     stuck q ne (LineOf.refused wrong) = not_both start run wrong (sym f.phase ∙ idle)
     stuck q ne (LineOf.needs m need) = not_both_needs start run need (sym f.needs ∙ none)
 
-pub expects_no_partial : (r : Contents) → r.marking ≡ true → Expects r BeginPartial (Refused WrongPhase)
+pub expects_no_partial : (r : ReplayerContents) → r.marking ≡ true → Expects r BeginPartial (Refused WrongPhase)
 expects_no_partial r marks start run f = record {
   may = (run, LineOf.refused (sym f.phase ∙ marks));
   only = λ other next ne line. stuck other ne line;
@@ -86,7 +86,7 @@ expects_no_partial r marks start run f = record {
     stuck q ne (LineOf.refused wrong) = ne refl
     stuck q ne (LineOf.needs m need) = not_both start run (sym f.phase ∙ marks) m
 
-pub expects_full_first : (r : Contents) → r.marking ≡ false → r.needs_full ≡ true → Expects r BeginPartial (Refused NeedsFull)
+pub expects_full_first : (r : ReplayerContents) → r.marking ≡ false → r.needs_full ≡ true → Expects r BeginPartial (Refused NeedsFull)
 expects_full_first r idle needs start run f = record {
   may = (run, LineOf.needs (sym f.phase ∙ idle) (sym f.needs ∙ needs));
   only = λ other next ne line. stuck other ne line;
@@ -97,7 +97,7 @@ expects_full_first r idle needs start run f = record {
     stuck q ne (LineOf.refused wrong) = not_both start run wrong (sym f.phase ∙ idle)
     stuck q ne (LineOf.needs m need) = ne refl
 
-pub expects_roots : (r : Contents) → r.marking ≡ true → Expects r Roots Done
+pub expects_roots : (r : ReplayerContents) → r.marking ≡ true → Expects r Roots Done
 expects_roots r marks start run f = record {
   may = (run, LineOf.roots (sym f.phase ∙ marks));
   only = λ other next ne line. stuck other ne line;
@@ -108,7 +108,7 @@ expects_roots r marks start run f = record {
     stuck q ne (LineOf.refused wrong) = not_both start run (sym f.phase ∙ marks) wrong
     stuck q ne (LineOf.roots m) = ne refl
 
-pub expects_no_roots : (r : Contents) → r.marking ≡ false → Expects r Roots (Refused WrongPhase)
+pub expects_no_roots : (r : ReplayerContents) → r.marking ≡ false → Expects r Roots (Refused WrongPhase)
 expects_no_roots r idle start run f = record {
   may = (run, LineOf.refused (sym f.phase ∙ idle));
   only = λ other next ne line. stuck other ne line;
@@ -119,7 +119,7 @@ expects_no_roots r idle start run f = record {
     stuck q ne (LineOf.refused wrong) = ne refl
     stuck q ne (LineOf.roots m) = not_both start run m (sym f.phase ∙ idle)
 
-pub expects_no_finish : (r : Contents) → r.marking ≡ false → Expects r Finish (Refused WrongPhase)
+pub expects_no_finish : (r : ReplayerContents) → r.marking ≡ false → Expects r Finish (Refused WrongPhase)
 expects_no_finish r idle start run f = record {
   may = (run, LineOf.refused (sym f.phase ∙ idle));
   only = λ other next ne line. stuck other ne line;
@@ -129,7 +129,7 @@ expects_no_finish r idle start run f = record {
     stuck q ne (LineOf.happens happens) = not_both start run happens.0 (sym f.phase ∙ idle)
     stuck q ne (LineOf.refused wrong) = ne refl
 
-pub expects_number : (r : Contents) (n : ℕ) → n ≡ r.number → Expects r Number (Count n)
+pub expects_number : (r : ReplayerContents) (n : ℕ) → n ≡ r.number → Expects r Number (Count n)
 expects_number r n is start run f = record {
   may = (run, subst (λ k. LineOf start run Number (Count k) run) (sym (is ∙ f.number)) LineOf.number);
   only = λ other next ne line. stuck other ne line;
@@ -146,7 +146,7 @@ full_reply s t t' n other x y =
     let counts = same_count s t t' n (length y.bases) x (subst (λ q. CollectsFully s q t') y.takes.number y) in
     ap Count counts ∙ sym y.takes.number
 
-pub expects_collect : (r : Contents) (n : ℕ) → HasGarbage r.core n → Expects r Collect (Count n)
+pub expects_collect : (r : ReplayerContents) (n : ℕ) → HasGarbage r.core n → Expects r Collect (Count n)
 expects_collect r n garbage start run f = record {
   may = (goes_on run Collect (Count n) x.0, LineOf.happens x.1);
   only = λ other next ne line. stuck other ne line;

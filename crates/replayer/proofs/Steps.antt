@@ -19,7 +19,7 @@ use Rattle.heap_spec.specs.Replies.{IsStep}
 use Rattle.heap_spec.specs.Runs.{Start, Run, heap_after, is_marking, needs_full, needs_full_after, old_births, count, goes_on, marking_after, counted}
 use Rattle.heap_spec.specs.Steps.{Acts, Calls, acts, vacant, Attaches}
 use Rattle.heap_spec.specs.Transcripts.{LineOf, IsWrongPhase}
-use Rattle.plain_core.specs.Contents.{Contents as PlainContents}
+use Rattle.plain_core.specs.PlainContents.{PlainContents}
 use Rattle.plain_core.specs.Standing.{StandsFor}
 use Rattle.plain_core.specs.Answering.{IsNoStep, IsBornAt, IsAllocatedAt, CantAllocateAt}
 use Rattle.plain_core.specs.Collections.{IsCollected, CantCollect, TakesBases, CantTake, HasUnreached}
@@ -30,7 +30,7 @@ use Rattle.heap_spec.proofs.Links.{left_by, stays_by}
 use Rattle.heap_spec.proofs.Touching.{calls_pages, attach_pages}
 use Rattle.replayer.specs.declared.hint.Hint.{Hint}
 use Rattle.replayer.specs.declared.hint.Hint.TheVariants.{Nothing, Place, Forgot}
-use Rattle.replayer.specs.Contents.{Contents, Follows}
+use Rattle.replayer.specs.ReplayerContents.{ReplayerContents, Follows}
 use Rattle.replayer.specs.Replays.{IsGrant, NamesPlace, NamesBases, MayNameBases, IsReplayed, IsNoReplay}
 use Rattle.replayer.proofs.Telling.{attach_tell, call_tell, grant_tell, begin_tell}
 use Rattle.replayer.proofs.Aging.{old_tell, new_tell, all_tell, partial_tell}
@@ -100,7 +100,7 @@ AreApartIn c = (s : Heap) → StandsFor c s → HasApartObjects s
 room_as : (pages pages' : ℕ) (flags flags' : List Bool) → HasFlags pages flags → pages' ≡ pages → length flags' ≡ length flags → HasFlags pages' flags'
 room_as pages pages' flags flags' room same size = omega (arith, room, same, size)
 
-module _ (old : Contents) (small : old.number < word_end) (few : old.births < word_end) where
+module _ (old : ReplayerContents) (small : old.number < word_end) (few : old.births < word_end) where
   -- a mutator comes
   pub attaches : (new : PlainContents) (reply : Reply) (hint : Hint) → AreApartIn old.core → AreApartIn new → IsStep (StandsFor old.core) Attach reply (StandsFor new)
       → IsReplayed old Attach reply hint (record old { core = new })
@@ -432,9 +432,9 @@ pub same_bases : (s s' : Heap) (mine theirs : List ℕ) → s' ≡ without s min
 same_bases s s' mine theirs is other all base o has out = same_among s s' mine theirs is other base o has (all base o has out)
 
 -- collections that are granted
-module _ (old : Contents) (small : old.number < word_end) (few : old.births < word_end) (new : PlainContents) (aged : List Bool) (size : length aged ≡ length old.aged) (all : FlagsAll new aged) (bases : Bor (List ℕ)) where
+module _ (old : ReplayerContents) (small : old.number < word_end) (few : old.births < word_end) (new : PlainContents) (aged : List Bool) (size : length aged ≡ length old.aged) (all : FlagsAll new aged) (bases : Bor (List ℕ)) where
   -- the replayer after one
-  abbrev pub ended : Bool → Contents
+  abbrev pub ended : Bool → ReplayerContents
   ended need = record old { core = new; marking = false; needs_full = need; number = (old.number + 1) % word_end; aged = aged }
 
   follows : (start : Start) (run : Run) (f : Follows old start run) (s' : Heap) (event : Event) (reply : Reply) (need : Bool) → counted event ≡ 1 → marking_after event (is_marking start run) ≡ false
@@ -493,7 +493,7 @@ module _ (old : Contents) (small : old.number < word_end) (few : old.births < wo
       )
 
 -- and those that are not
-module _ (old : Contents) (small : old.number < word_end) (few : old.births < word_end) (reply : Reply) where
+module _ (old : ReplayerContents) (small : old.number < word_end) (few : old.births < word_end) (reply : Reply) where
   -- what is named has as many bases as the reply says
   as_many : (bases : Bor (List ℕ)) (s s' : Heap) (n : ℕ) → NamesBases (Forgot bases) n s s' → n ≡ length bases.now
   as_many bases s s' n takes = count_same n (length bases.now) takes.number
@@ -528,7 +528,7 @@ module _ (old : Contents) (small : old.number < word_end) (few : old.births < wo
   collect_uncounted none = no_collect old small few reply Nothing (λ s h n s' is names full. none n is)
 
 -- full collections of which nothing is said but how many objects they take
-module _ (old : Contents) (small : old.number < word_end) (few : old.births < word_end) (n : ℕ) where
+module _ (old : ReplayerContents) (small : old.number < word_end) (few : old.births < word_end) (n : ℕ) where
   pub collect_unequal : CantCollect old.core n → IsNoReplay old Collect (Count n) Nothing
   collect_unequal cant = no_collect old small few (Count n) Nothing (λ s h k s' is names full. cant s h s' full)
 

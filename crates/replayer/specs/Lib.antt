@@ -1,4 +1,4 @@
-pub mod Contents
+pub mod ReplayerContents
 pub mod Replays
 pub mod Laws
 pub mod Expecting

@@ -15,7 +15,7 @@ use Rattle.heap_spec.specs.Transcripts.{LineOf}
 use Rattle.plain_core.specs.Answering.{IsBornAt}
 use Rattle.replayer.specs.declared.hint.Hint.{Hint}
 use Rattle.replayer.specs.declared.hint.Hint.TheVariants.{Nothing, Place, Forgot}
-use Rattle.replayer.specs.Contents.{Contents, Follows}
+use Rattle.replayer.specs.ReplayerContents.{ReplayerContents, Follows}
 
 -- the call is a granted request
 abbrev pub IsGrant : Call → Reply → Type 0
@@ -50,9 +50,9 @@ pub record IsReplay (hint : Hint) (start : Start) (run : Run) (event : Event) (r
   pub births : (heap_after start next).births < word_end
 
 -- From each run that the replayer followed it is a replay, to one that it follows.
-abbrev pub IsReplayed : Contents → Event → Reply → Hint → Contents → Type 0
+abbrev pub IsReplayed : ReplayerContents → Event → Reply → Hint → ReplayerContents → Type 0
 IsReplayed old event reply hint new = (start : Start) (run : Run) → Follows old start run → (next : Run) × IsReplay hint start run event reply next × Follows new start next
 
 -- From no run that the replayer follows it is a replay.
-abbrev pub IsNoReplay : Contents → Event → Reply → Hint → Type 0
+abbrev pub IsNoReplay : ReplayerContents → Event → Reply → Hint → Type 0
 IsNoReplay r event reply hint = (start : Start) (run next : Run) → Follows r start run → IsReplay hint start run event reply next → ⊥

@@ -2,20 +2,19 @@
 ghost use Rattle.std.specs.Prelude.{◌≡◌, ℕ, ◌+◌, ◌<◌, ◌≤◌, IfOk, IsTrue, false, []};
 ghost use Rattle.words.specs.declared.limits.TheConstants.{MAX_PAGES};
 ghost use Rattle.heap_spec.specs.Layout.{word_end};
-ghost use Rattle.heap_spec.specs.Runs.{fresh, needs_full_after as needs_full_by};
-ghost use Rattle.replayer.specs.Contents.{Follows};
+ghost use Rattle.heap_spec.specs.Runs.{opening_start, needs_full_after as needs_full_by};
+ghost use Rattle.replayer.specs.ReplayerContents.{Follows};
 ghost use Rattle.replayer.specs.declared.hint.Hint.{Hint as HintValue};
 ghost use Rattle.replayer.specs.Replays.{IsReplayed, IsNoReplay, IsGrant};
 
 use crate::flags::{flag_call, flag_place, renew};
 use crate::hint::Hint;
-use faults::RunError;
 use heap_spec::{Call, Event, Reply};
 use plain_core::Core;
 use std::alloc::Global;
 use std::marker::Model;
 use words::limits::PAGE_WORDS;
-use words::{Kind, Reg, Slot};
+use words::{Kind, Reg, RunError, Slot};
 
 /// A checker of the runs of one heap.
 #[derive(Drop)]
@@ -43,9 +42,9 @@ fn needs_full_after(call: &Call, reply: &Reply, before: bool) -> bool
 }
 
 impl Model for Replayer {
-    ghost use Rattle.replayer.specs.Contents.{Contents};
+    ghost use Rattle.replayer.specs.ReplayerContents.{ReplayerContents};
 
-    ghost Value = { Contents };
+    ghost Value = { ReplayerContents };
 
     ghost view = { λ r. record { core = r.core; marking = r.marking; needs_full = r.needs_full; number = r.number; births = r.births; touched = r.touched.items; aged = r.aged.items } };
 }
@@ -57,7 +56,7 @@ impl Replayer {
     /// [`RunError::Memory`] where a growth of memory was refused.
     pub fn new(alloc: Global, pages: u32) -> Result<Replayer, RunError>
         requires { (1 ≤ pages) × (pages ≤ MAX_PAGES) }
-        ensures { IfOk result (λ replayer. Follows replayer (fresh pages) []) }
+        ensures { IfOk result (λ replayer. Follows replayer (opening_start pages) []) }
     {
         let Ok(core) = Core::new(alloc, pages) else {
             return Err(RunError::Memory);

@@ -3,7 +3,7 @@ use Rattle.std.specs.Prelude.{◌≡◌, ℕ, ◌<◌, Option, Some, None, List,
 use Rattle.words.specs.declared.limits.TheConstants.{SLOTS, GLOBALS}
 use Rattle.heap_spec.specs.declared.event.Event.{Event}
 use Rattle.heap_spec.specs.declared.reply.Reply.{Reply}
-use Rattle.heap_spec.specs.Heap.{Heap, Mutator, words_of}
+use Rattle.heap_spec.specs.Heap.{Heap, Mutator, words_of_slot}
 use Rattle.heap_spec.specs.Steps.{Step, register}
 
 -- The roots: the mutator at each slot, and the words of the globals.
@@ -17,7 +17,7 @@ no_roots = record { mutators = replicate SLOTS None; globals = replicate GLOBALS
 
 -- The root words in their order: those of the attached slots, ascending, and then the globals.
 abbrev pub root_words_of : RootSet → List ℕ
-root_words_of roots = flat_map words_of roots.mutators ++ roots.globals
+root_words_of roots = flat_map words_of_slot roots.mutators ++ roots.globals
 
 -- a mutator is attached at the slot
 abbrev pub HasMutator : RootSet → ℕ → Mutator → Type 0

@@ -2,7 +2,7 @@
 ghost use Rattle.arrayvec.specs.ArrayVec.{array_vec_len};
 ghost use Rattle.std.specs.Prelude.{◌≡◌, ◌+◌, ◌≤◌, ◌++◌, [], flat_map};
 ghost use Rattle.words.specs.declared.limits.TheConstants.{GLOBALS, REGISTERS, STACK_WORDS};
-ghost use Rattle.heap_spec.specs.Heap.{words_of};
+ghost use Rattle.heap_spec.specs.Heap.{words_of_slot};
 ghost use Rattle.roots.specs.Roots.{root_words_of};
 
 use crate::mutator_slot::MutatorSlot;
@@ -17,7 +17,7 @@ pub const ROOT_WORDS: usize = SLOTS as usize * (REGISTERS as usize + STACK_WORDS
 // The words of a slot, behind those that are there.
 fn write_slot(slot: &MutatorSlot, into: &mut ArrayVec<u64, ROOT_WORDS>)
     requires { array_vec_len into.old + (REGISTERS + STACK_WORDS) ≤ ROOT_WORDS }
-    ensures items { into.new.items ≡ into.old.items ++ words_of slot.now }
+    ensures items { into.new.items ≡ into.old.items ++ words_of_slot slot.now }
     ensures len { array_vec_len into.new ≤ array_vec_len into.old + (REGISTERS + STACK_WORDS) }
 {
     if let Some(mutator) = slot.mutator() {
@@ -28,7 +28,7 @@ fn write_slot(slot: &MutatorSlot, into: &mut ArrayVec<u64, ROOT_WORDS>)
 // The words of all slots, in their order.
 fn write_slots(mutators: &Mutators, into: &mut ArrayVec<u64, ROOT_WORDS>)
     requires { into.old.items ≡ [] }
-    ensures items { into.new.items ≡ flat_map words_of mutators.now }
+    ensures items { into.new.items ≡ flat_map words_of_slot mutators.now }
     ensures room { array_vec_len into.new + GLOBALS ≤ ROOT_WORDS }
 {
     for slot in mutators {

@@ -7,7 +7,7 @@ use Rattle.std.proofs.lemmas.Fmt.{decimal_is_IsNumeral}
 use Rattle.words.specs.declared.limits.TheConstants.{SLOTS}
 use Rattle.heap_spec.specs.declared.event.Event.{Event}
 use Rattle.heap_spec.specs.declared.event.Event.TheVariants.{Attach, Mutator, Begin, BeginPartial, Roots, Mark, Retrace, Finish, Sweep, Collect, Number}
-use Rattle.scripts.specs.Calls.{AreCommandWords, ReadsCommand}
+use Rattle.scripts.specs.CommandWords.{AreCommandWords, ReadsCommand}
 
 abbrev head : List (List ℕ) → List ℕ
 head [] = []

@@ -5,9 +5,9 @@ use Rattle.std.specs.List.{AllZip}
 use Rattle.std.specs.Io.KnownBytes.{Consumes, Appends, IsAtEnd}
 use Rattle.std.proofs.lemmas.List.{map_push, append-nil}
 use Rattle.std.proofs.lemmas.List.Elements.{All-push, All-nil}
-use Rattle.heap_spec.specs.Runs.{Start, Told, Run, Touched, fresh}
+use Rattle.heap_spec.specs.Runs.{Start, Told, Run, Touched, opening_start}
 use Rattle.heap_spec.specs.Transcripts.{LegalTranscript, LineOf, ends, on}
-use Rattle.heap_core.specs.Contents.{Contents}
+use Rattle.heap_core.specs.CoreContents.{CoreContents}
 use Rattle.heap_core.specs.Opening.{IsNew}
 use Rattle.scripts.specs.declared.limits.TheConstants.{LAST_LINE, LINE_BYTES}
 use Rattle.scripts.specs.declared.errors.ScriptError.{ScriptError}
@@ -37,7 +37,7 @@ printed-push pages [] told = append-nil (reply_line pages told.reply)
 printed-push pages (l ∷ lines) told = ap (λ x. reply_line pages l.reply ++ x) (printed-push pages lines told) ∙ sym (append_assoc (reply_line pages l.reply) (printed pages lines) (reply_line pages told.reply))
 
 -- before the first line
-none_run : (pages : ℕ) (core : Contents) → IsNew pages core → HasRun pages core [] []
+none_run : (pages : ℕ) (core : CoreContents) → IsNew pages core → HasRun pages core [] []
 none_run pages core new = record {
   told = [];
   last = [];
@@ -50,22 +50,22 @@ none_run pages core new = record {
 }
 
 -- one line more
-pub run_on : (pages : ℕ) (old new : Contents) (lines : List (List ℕ)) (out line o : List ℕ) → HasRun pages old lines out → IsPlainLine line → IsLineRun pages line old new o → HasRun pages new (lines ++ line ∷ []) (out ++ o)
+pub run_on : (pages : ℕ) (old new : CoreContents) (lines : List (List ℕ)) (out line o : List ℕ) → HasRun pages old lines out → IsPlainLine line → IsLineRun pages line old new o → HasRun pages new (lines ++ line ∷ []) (out ++ o)
 run_on pages old new lines out line o r plain turn =
-    let next = turn.does (fresh pages) r.last r.follows in
+    let next = turn.does (opening_start pages) r.last r.follows in
     let told : Told = record { event = turn.command; reply = turn.reply } in
     record {
       told = r.told ++ told ∷ [];
       last = next.0;
       plain = All-push IsPlainLine lines line r.plain plain;
       commands = subst (λ es. AllZip IsLineOf (lines ++ line ∷ []) es) (sym (map_push (λ (t : Told). t.event) r.told told)) (zip_push IsLineOf lines (map (λ (t : Told). t.event) r.told) line turn.command r.commands turn.is_line);
-      legal = legal_on (fresh pages) told r.legal next.1;
+      legal = legal_on (opening_start pages) told r.legal next.1;
       calls = call_on pages old new r.told told r.calls turn.acts turn.core;
       prints = ap (λ x. x ++ o) r.prints ∙ ap (λ x. printed pages r.told ++ x) turn.prints ∙ sym (printed-push pages r.told told);
       follows = next.2;
     }
 
-answers : (pages : ℕ) (core : Contents) (lines : List (List ℕ)) (out : List ℕ) → HasRun pages core lines out → length lines < LAST_LINE → Answers pages lines out
+answers : (pages : ℕ) (core : CoreContents) (lines : List (List ℕ)) (out : List ℕ) → HasRun pages core lines out → length lines < LAST_LINE → Answers pages lines out
 answers pages core lines out r few = record {
   told = r.told;
   last = r.last;
@@ -86,7 +86,7 @@ serves pages input b0 buffer text out rem0 rem w0 w result none tells reads wrot
     record { read = text ++ buffer; left = k.left; wrote = out; is_input = k.is_input; is_left = k.is_left; is_written = wrote; answered = answered k.left k.is_left }
 
 -- the run came to the end of the input
-pub end_serves : (pages number : ℕ) (core : Contents) (input b0 buffer buffer' : List ℕ) (rem0 rem rem' w0 w : Option (List ℕ)) (done : ⊤) → number ≤ LAST_LINE → b0 ≡ [] → rem0 ≡ Some input
+pub end_serves : (pages number : ℕ) (core : CoreContents) (input b0 buffer buffer' : List ℕ) (rem0 rem rem' w0 w : Option (List ℕ)) (done : ⊤) → number ≤ LAST_LINE → b0 ≡ [] → rem0 ≡ Some input
     → IsUpTo pages number core (left_of b0 rem0) (left_of buffer rem) w0 w → Consumes (left_of buffer rem) (left_of buffer' rem') [] → IsAtEnd (left_of buffer' rem') → Serves pages input rem' w0 w (Ok done)
 end_serves pages number core input b0 buffer buffer' rem0 rem rem' w0 w done few none tells u reads end =
     let lines = u.lines in
@@ -100,7 +100,7 @@ end_serves pages number core input b0 buffer buffer' rem0 rem rem' w0 w done few
     (subst P (sym all) (answers pages core lines u.out u.run (let c = u.count in omega (arith, c))), no_left buffer' left e))
 
 -- a bad line, however the input goes on
-bad_answered : (pages number : ℕ) (core : Contents) (lines more : List (List ℕ)) (bad out read left : List ℕ) → number ≤ LAST_LINE → length lines + 1 ≡ number → HasRun pages core lines out
+bad_answered : (pages number : ℕ) (core : CoreContents) (lines more : List (List ℕ)) (bad out read left : List ℕ) → number ≤ LAST_LINE → length lines + 1 ≡ number → HasRun pages core lines out
     → lines_of (read ++ left) ≡ lines ++ bad ∷ more → IsBad bad ⊎ (number ≡ LAST_LINE) → IsAnswered pages read left (Err (BadLine number)) out
 bad_answered pages number core lines more bad out read left few count run is why =
     let before : number - 1 ≡ length lines = omega (arith, count) in
@@ -110,7 +110,7 @@ bad_answered pages number core lines more bad out read left few count run is why
     (subst P (sym front) (answers pages core lines out run (omega (arith, count))), record { line = bad; counted = omega (arith, count); is_line = there; bad = why })
 
 -- a line that is too long
-pub too_long_serves : (pages number : ℕ) (core : Contents) (input b0 buffer buffer' line : List ℕ) (rem0 rem rem' w0 w : Option (List ℕ)) → number ≤ LAST_LINE → b0 ≡ [] → rem0 ≡ Some input
+pub too_long_serves : (pages number : ℕ) (core : CoreContents) (input b0 buffer buffer' line : List ℕ) (rem0 rem rem' w0 w : Option (List ℕ)) → number ≤ LAST_LINE → b0 ≡ [] → rem0 ≡ Some input
     → IsUpTo pages number core (left_of b0 rem0) (left_of buffer rem) w0 w → IsPlainLine line → IsLineRead TooLong line (left_of buffer rem) (left_of buffer' rem') → Serves pages input rem' w0 w (Err (BadLine number))
 too_long_serves pages number core input b0 buffer buffer' line rem0 rem rem' w0 w few none tells u plain found =
     let lines = u.lines in
@@ -125,7 +125,7 @@ too_long_serves pages number core input b0 buffer buffer' line rem0 rem rem' w0 
     (inl (λ command l. let short = l.short in let h = first.long in omega (arith, short, h, long))))
 
 -- the reader failed within a line
-pub read_serves : (pages number : ℕ) (core : Contents) (input b0 buffer buffer' part : List ℕ) (rem0 rem rem' w0 w : Option (List ℕ)) → IsShort part → number ≤ LAST_LINE → b0 ≡ [] → rem0 ≡ Some input
+pub read_serves : (pages number : ℕ) (core : CoreContents) (input b0 buffer buffer' part : List ℕ) (rem0 rem rem' w0 w : Option (List ℕ)) → IsShort part → number ≤ LAST_LINE → b0 ≡ [] → rem0 ≡ Some input
     → IsUpTo pages number core (left_of b0 rem0) (left_of buffer rem) w0 w → IsPlainLine part → buffer' ≡ [] → Consumes (left_of buffer rem) (left_of buffer' rem') part → Serves pages input rem' w0 w (Err Read)
 read_serves pages number core input b0 buffer buffer' part rem0 rem rem' w0 w short few none tells u plain empty reads =
     let lines = u.lines in
@@ -137,7 +137,7 @@ read_serves pages number core input b0 buffer buffer' part rem0 rem rem' w0 w sh
     (subst P (sym all) (answers pages core lines u.out u.run (let c = u.count in omega (arith, c))), all_short lines _ part buffer' u.run.commands u.run.plain plain short empty))
 
 -- a line was answered, and there are more
-pub line_on : (pages number : ℕ) (old new : Contents) (line : List ℕ) (input left left' w0 w w' : Option (List ℕ)) → IsUpTo pages number old input left w0 w → IsPlainLine line → IsLineRead Line line left left'
+pub line_on : (pages number : ℕ) (old new : CoreContents) (line : List ℕ) (input left left' w0 w w' : Option (List ℕ)) → IsUpTo pages number old input left w0 w → IsPlainLine line → IsLineRead Line line left left'
     → (out : List ℕ) × IsLineRun pages line old new out × Appends w w' out → IsUpTo pages (number + 1) new input left' w0 w'
 line_on pages number old new line input left left' w0 w w' u plain reads turn = record {
   lines = u.lines ++ line ∷ [];
@@ -153,7 +153,7 @@ take-on [] ys n = let same : 0 + n ≡ n = omega arith in ap (λ k. take k ys) (
 take-on (x ∷ xs) ys n = let same : length (x ∷ xs) + n ≡ suc (length xs + n) = omega arith in ap (λ zs. x ∷ zs) (take-on xs ys n) ∙ ap (λ k. take k (x ∷ (xs ++ ys))) (sym same)
 
 -- the front of the answer to a line was written
-write_answered : (pages number : ℕ) (old new : Contents) (lines more : List (List ℕ)) (line out o whole : List ℕ) (n : ℕ) → number < LAST_LINE → length lines + 1 ≡ number → HasRun pages old lines out → IsPlainLine line
+write_answered : (pages number : ℕ) (old new : CoreContents) (lines more : List (List ℕ)) (line out o whole : List ℕ) (n : ℕ) → number < LAST_LINE → length lines + 1 ≡ number → HasRun pages old lines out → IsPlainLine line
     → IsLineRun pages line old new o → lines_of whole ≡ lines ++ line ∷ more → BeginsAnswer pages (lines_of whole) (out ++ take n o)
 write_answered pages number old new lines more line out o whole n few count run plain turn is =
     let front : take number (lines_of whole) ≡ lines ++ line ∷ []
@@ -168,7 +168,7 @@ write_answered pages number old new lines more line out o whole n few count run 
     }
 
 -- a line that was not answered in full
-pub fault_serves : (pages number : ℕ) (old new : Contents) (input b0 buffer buffer' line : List ℕ) (rem0 rem rem' w0 w w' : Option (List ℕ)) (fault : ScriptError) → number < LAST_LINE → b0 ≡ [] → rem0 ≡ Some input
+pub fault_serves : (pages number : ℕ) (old new : CoreContents) (input b0 buffer buffer' line : List ℕ) (rem0 rem rem' w0 w w' : Option (List ℕ)) (fault : ScriptError) → number < LAST_LINE → b0 ≡ [] → rem0 ≡ Some input
     → IsUpTo pages number old (left_of b0 rem0) (left_of buffer rem) w0 w → IsPlainLine line → IsLineRead Line line (left_of buffer rem) (left_of buffer' rem') → IsTurn pages number line old new w w' (Err fault)
     → Serves pages input rem' w0 w' (Err fault)
 fault_serves pages number old new input b0 buffer buffer' line rem0 rem rem' w0 w w' (BadLine n) few none tells u plain reads turn =
@@ -187,7 +187,7 @@ fault_serves pages number old new input b0 buffer buffer' line rem0 rem rem' w0 
 fault_serves pages number old new input b0 buffer buffer' line rem0 rem rem' w0 w w' Memory few none tells u plain reads turn = absurd turn
 
 -- the last line, which lacks its newline
-pub last_serves : (pages number : ℕ) (old new : Contents) (input b0 buffer buffer' line : List ℕ) (rem0 rem rem' w0 w w' : Option (List ℕ)) (result : Result ⊤ ScriptError) → number < LAST_LINE → b0 ≡ [] → rem0 ≡ Some input
+pub last_serves : (pages number : ℕ) (old new : CoreContents) (input b0 buffer buffer' line : List ℕ) (rem0 rem rem' w0 w w' : Option (List ℕ)) (result : Result ⊤ ScriptError) → number < LAST_LINE → b0 ≡ [] → rem0 ≡ Some input
     → IsUpTo pages number old (left_of b0 rem0) (left_of buffer rem) w0 w → IsPlainLine line → IsLineRead Last line (left_of buffer rem) (left_of buffer' rem') → IsTurn pages number line old new w w' result
     → Serves pages input rem' w0 w' result
 last_serves pages number old new input b0 buffer buffer' line rem0 rem rem' w0 w w' (Ok done) few none tells u plain found turn =
@@ -212,7 +212,7 @@ last_serves pages number old new input b0 buffer buffer' line rem0 rem rem' w0 w
 last_serves pages number old new input b0 buffer buffer' line rem0 rem rem' w0 w w' (Err Memory) few none tells u plain found turn = absurd turn
 
 -- a line of the last number
-pub last_number_serves : (pages : ℕ) (core : Contents) (input b0 buffer buffer' line : List ℕ) (rem0 rem rem' w0 w : Option (List ℕ)) (found : LineRead) → b0 ≡ [] → rem0 ≡ Some input
+pub last_number_serves : (pages : ℕ) (core : CoreContents) (input b0 buffer buffer' line : List ℕ) (rem0 rem rem' w0 w : Option (List ℕ)) (found : LineRead) → b0 ≡ [] → rem0 ≡ Some input
     → IsUpTo pages LAST_LINE core (left_of b0 rem0) (left_of buffer rem) w0 w → IsPlainLine line → IsLineRead found line (left_of buffer rem) (left_of buffer' rem') → (found ≡ End → ⊥) → Serves pages input rem' w0 w (Err (BadLine LAST_LINE))
 last_number_serves pages core input b0 buffer buffer' line rem0 rem rem' w0 w Line none tells u plain reads more =
     serves pages input b0 buffer' (text_of u.lines ++ (line ++ newline ∷ [])) u.out rem0 rem' w0 w (Err (BadLine LAST_LINE)) none tells
@@ -227,7 +227,7 @@ last_number_serves pages core input b0 buffer buffer' line rem0 rem rem' w0 w To
     too_long_serves pages LAST_LINE core input b0 buffer buffer' line rem0 rem rem' w0 w (omega arith) none tells u plain found
 
 -- before the first line
-pub starts : (pages : ℕ) (core : Contents) (left w : Option (List ℕ)) → IsNew pages core → IsUpTo pages 1 core left left w w
+pub starts : (pages : ℕ) (core : CoreContents) (left w : Option (List ℕ)) → IsNew pages core → IsUpTo pages 1 core left left w w
 starts pages core left w new = record { lines = []; out = []; run = none_run pages core new; count = refl; read = Consumes-none left; wrote = Appends-none w }
 
 -- what was found, where it is known
@@ -235,9 +235,9 @@ pub found_is : (found which : LineRead) (line : List ℕ) (old new : Option (Lis
 found_is found which line old new is h = let P : LineRead → Type 0 = λ f. IsLineRead f line old new in subst P is h
 
 -- the number that stands after the last iteration
-pub up_to_last : (pages number : ℕ) (core : Contents) (input left held written : Option (List ℕ)) → number ≡ LAST_LINE → IsUpTo pages number core input left held written → IsUpTo pages LAST_LINE core input left held written
+pub up_to_last : (pages number : ℕ) (core : CoreContents) (input left held written : Option (List ℕ)) → number ≡ LAST_LINE → IsUpTo pages number core input left held written → IsUpTo pages LAST_LINE core input left held written
 up_to_last pages number core input left held written is u = let P : ℕ → Type 0 = λ n. IsUpTo pages n core input left held written in subst P is u
 
 -- the same of the line that was lent
-pub turn_is : (pages number : ℕ) (lent line : List ℕ) (old new : Contents) (wrote writes : Option (List ℕ)) (result : Result ⊤ ScriptError) → lent ≡ line → IsTurn pages number lent old new wrote writes result → IsTurn pages number line old new wrote writes result
+pub turn_is : (pages number : ℕ) (lent line : List ℕ) (old new : CoreContents) (wrote writes : Option (List ℕ)) (result : Result ⊤ ScriptError) → lent ≡ line → IsTurn pages number lent old new wrote writes result → IsTurn pages number line old new wrote writes result
 turn_is pages number lent line old new wrote writes result is h = let P : List ℕ → Type 0 = λ l. IsTurn pages number l old new wrote writes result in subst P is h

@@ -5,7 +5,7 @@ use Rattle.std.specs.List.{slice_split}
 use Rattle.std.proofs.lemmas.List.{take-append-drop, drop_more, get_or-take, length-take, take_rest, take_all}
 use Rattle.std.proofs.lemmas.List.Elements.{All-from_get_or}
 use Rattle.std.proofs.lemmas.List.Splits.{slice_split_at, slice_split_none, length-slice_split}
-use Rattle.scripts.specs.Grammar.{words_of}
+use Rattle.scripts.specs.Grammar.{line_words}
 
 abbrev is_space : ℕ → Bool
 is_space b = eqb b 32
@@ -27,5 +27,5 @@ pub split_none : (line : List ℕ) (i : ℕ) → length line ≤ i → ((k : ℕ
 split_none line i le h = slice_split_none is_space line (subst (All (λ b. is_space b ≡ false)) (take_all i line le) (front_all line i h))
 
 -- a line has a word
-pub words_nonempty : (line : List ℕ) → words_of line ≡ [] → ⊥
-words_nonempty line e = let count = length-slice_split is_space line in let none : length (words_of line) ≡ 0 = ap length e in omega (arith, count, none)
+pub words_nonempty : (line : List ℕ) → line_words line ≡ [] → ⊥
+words_nonempty line e = let count = length-slice_split is_space line in let none : length (line_words line) ≡ 0 = ap length e in omega (arith, count, none)

@@ -2,9 +2,9 @@
 use Rattle.std.specs.Prelude.{◌≡◌, ℕ, ◌-◌, ◌<◌, ◌⊎◌, Option, Some, List, [], ◌++◌, length, take, map, All, slice_get, Result, Ok, Err, ⊤}
 use Rattle.std.specs.List.{AllZip}
 use Rattle.std.specs.Io.KnownBytes.{Appends}
-use Rattle.heap_spec.specs.Runs.{Told, Run, Touched, fresh}
+use Rattle.heap_spec.specs.Runs.{Told, Run, Touched, opening_start}
 use Rattle.heap_spec.specs.Transcripts.{LegalTranscript}
-use Rattle.heap_core.specs.Contents.{Contents}
+use Rattle.heap_core.specs.CoreContents.{CoreContents}
 use Rattle.scripts.specs.declared.limits.TheConstants.{LAST_LINE}
 use Rattle.scripts.specs.declared.errors.ScriptError.{ScriptError}
 use Rattle.scripts.specs.declared.errors.ScriptError.TheVariants.{BadLine, Read, Write, Memory}
@@ -19,10 +19,10 @@ use Rattle.scripts.specs.Printing.{printed}
 pub record Answers (pages : ℕ) (lines : List (List ℕ)) (out : List ℕ) : Type 0 where
   pub told : List Told
   pub last : Run
-  pub core : Contents
+  pub core : CoreContents
   pub commands : AllZip IsLineOf lines (map (λ (t : Told). t.event) told)
   pub few : length lines < LAST_LINE
-  pub legal : LegalTranscript (fresh pages) [] told last
+  pub legal : LegalTranscript (opening_start pages) [] told last
   pub calls : AreCallsOfNew pages told core
   pub prints : out ≡ printed pages told
 

@@ -51,13 +51,13 @@ command_words Collect = codes "gc" ∷ codes "collect" ∷ []
 command_words Number = codes "gc" ∷ codes "no" ∷ []
 
 -- The words of a line: what its spaces part. Two spaces in a row part an empty word, which is no command's.
-abbrev pub words_of : List ℕ → List (List ℕ)
-words_of line = slice_split (λ b. b == 32) line
+abbrev pub line_words : List ℕ → List (List ℕ)
+line_words line = slice_split (λ b. b == 32) line
 
 -- A line is a command's if it is short enough, its words are the command's, and their numbers are in range.
 pub record IsLineOf (line : List ℕ) (command : Event) : Type 0 where
   pub short : length line ≤ LINE_BYTES
-  pub words : words_of line ≡ command_words command
+  pub words : line_words line ≡ command_words command
   pub in_range : InRange command
 
 -- a bad line is no command's

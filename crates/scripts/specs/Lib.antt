@@ -1,7 +1,7 @@
 pub mod Grammar
 pub mod WordsLeft
 pub mod Fields
-pub mod Calls
+pub mod CommandWords
 pub mod Lines
 pub mod Reading
 pub mod Printing

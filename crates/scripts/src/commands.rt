@@ -2,7 +2,7 @@
 ghost use Rattle.std.specs.Prelude.{◌≤◌, ◌∷◌, length, codes, MatchOption};
 ghost use Rattle.scripts.specs.declared.limits.TheConstants.{LINE_BYTES};
 ghost use Rattle.scripts.specs.Grammar.{IsLineOf, IsBad};
-ghost use Rattle.scripts.specs.Calls.{ReadsCall, ReadsCommand};
+ghost use Rattle.scripts.specs.CommandWords.{ReadsCall, ReadsCommand};
 
 use crate::field::Field;
 use crate::numbers::is_text;

@@ -1,6 +1,6 @@
 //! The words of a line, one after another.
 ghost use Rattle.std.specs.Prelude.{◌≡◌, ℕ, List, ◌∷◌, [], IfSome, IfNone, MatchOption, MatchBool};
-ghost use Rattle.scripts.specs.Grammar.{words_of};
+ghost use Rattle.scripts.specs.Grammar.{line_words};
 ghost use Rattle.scripts.specs.Fields.{ReadsOne, ReadsTwo, ReadsThree};
 
 use crate::field::Field;
@@ -8,8 +8,8 @@ use std::marker::Model;
 
 // The first word of a line, and what stands after the space behind it.
 fn next_word(line: &[u8]) -> (&[u8], Option<&[u8]>)
-    ensures last { IfNone result.1 (words_of line.now ≡ result.0.now ∷ []) }
-    ensures more { IfSome result.1 (λ rest. words_of line.now ≡ result.0.now ∷ words_of rest.now) }
+    ensures last { IfNone result.1 (line_words line.now ≡ result.0.now ∷ []) }
+    ensures more { IfSome result.1 (λ rest. line_words line.now ≡ result.0.now ∷ line_words rest.now) }
 {
     for i in 0..line.len() {
         if line[i] == b' ' {
@@ -37,7 +37,7 @@ impl<'a> Model for Words<'a> {
 impl<'a> Words<'a> {
     /// The words of a line.
     pub(crate) fn of(line: &'a [u8]) -> Words<'a>
-        ensures { result ≡ words_of line.now }
+        ensures { result ≡ line_words line.now }
     {
         Words { rest: Some(line) }
     }

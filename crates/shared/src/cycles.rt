@@ -2,7 +2,7 @@
 ghost use Rattle.std.specs.Prelude.{◌≡◌, false};
 ghost use Rattle.heap_spec.specs.declared.event.Event.TheVariants.{Begin, Collect};
 ghost use Rattle.heap_spec.specs.declared.reply.Reply.TheVariants.{Done, Count};
-ghost use Rattle.heap_core.specs.Contents.{Contents};
+ghost use Rattle.heap_core.specs.CoreContents.{CoreContents};
 ghost use Rattle.heap_history.specs.Passes.{is_marking};
 ghost use Rattle.heap_history.specs.Headline.{Extends, Looks, IsGrantedByOwnEvents, BeginsPartialByEvents};
 ghost use Rattle.shared.specs.Lending.{IsLent};
@@ -79,7 +79,7 @@ impl<J: Naming> SharedHeap<J> {
         me: &mut Collector<J>,
         work: &mut Q,
     ) -> Q::Answer
-        ensures gives { (before : Contents) × (after : Contents) × Q.gives work.old before result work.new after × (before.cycle.is_marking ≡ is_marking me.old.mine)
+        ensures gives { (before : CoreContents) × (after : CoreContents) × Q.gives work.old before result work.new after × (before.cycle.is_marking ≡ is_marking me.old.mine)
             × IsLent J.origin me.new.seen before after }
         ensures looks { Looks J.origin me.old me.new }
     {

@@ -4,7 +4,7 @@ ghost use Rattle.words.specs.declared.limits.TheConstants.{SLOTS};
 ghost use Rattle.words.specs.declared.refusal.Refusal.TheVariants.{NoSlot};
 ghost use Rattle.heap_history.specs.Headline.{Begun, Departs, Makes};
 ghost use Rattle.heap_history.specs.Replies.{IsReplyKind};
-ghost use Rattle.shared.specs.Calls.{IsNoDetach};
+ghost use Rattle.shared.specs.WhileAttached.{IsNoDetach};
 
 use crate::tokens::{Collector, Departed, Mutator};
 use heap_core::Core;

@@ -1,7 +1,7 @@
 //! Mutators in threads, each with its own calls, and the one history that they leave.
 ghost use Rattle.std.specs.Prelude.{◌≡◌, All, length};
 ghost use mathlib.Core.List.{IsPrefix};
-ghost use Rattle.shared_register.specs.Calls.{IsPlainCall, IsLegalPass, Ran, Keeps};
+ghost use Rattle.shared_register.specs.LockedCalls.{IsPlainCall, IsLegalPass, Ran, Keeps};
 ghost use Rattle.shared_register.specs.Jobs.{CanRun, AllRan, AllSettled, AllStandIn};
 
 use crate::register::{Call, Reply};

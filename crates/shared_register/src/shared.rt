@@ -4,7 +4,7 @@ ghost use Rattle.history.specs.declared.object.TheConstants.{COLLECTOR as collec
 ghost use Rattle.history.specs.Histories.{count, GrowsByOthers};
 ghost use Rattle.history.specs.Passes.{longer};
 ghost use Rattle.shared_register.specs.Steps.{rank_of};
-ghost use Rattle.shared_register.specs.Calls.{Extends, Looks, Begun, IsPlainCall, IsLegalPass, is_running};
+ghost use Rattle.shared_register.specs.LockedCalls.{Extends, Looks, Begun, IsPlainCall, IsLegalPass, is_running};
 ghost use Rattle.shared_register.specs.declared.register.Call.TheVariants.{Attach, Begin, Finish, Collect};
 ghost use Rattle.shared_register.specs.declared.register.Reply.TheVariants.{Slot, Done};
 ghost use Rattle.shared_register.specs.declared.register.Register.{Register as RegisterValue};

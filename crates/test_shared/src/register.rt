@@ -1,6 +1,6 @@
 //! Mutators of a register behind a lock, and the one history that they leave.
 ghost use Rattle.std.specs.Prelude.{◌≡◌, IfOk};
-ghost use Rattle.shared_register.specs.Calls.{AreReady};
+ghost use Rattle.shared_register.specs.LockedCalls.{AreReady};
 
 use history::{Naming, Opened};
 use shared_register::{

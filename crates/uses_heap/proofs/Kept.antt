@@ -8,19 +8,19 @@ use Rattle.heap_spec.specs.declared.event.Event.TheVariants.{Mutator, Begin, Roo
 use Rattle.heap_spec.specs.declared.reply.Reply.TheVariants.{Done, Count}
 use Rattle.heap_spec.specs.Ranges.{IsRegister, IsWord}
 use Rattle.heap_spec.specs.Replies.{word_reply}
-use Rattle.heap_core.specs.Calls.{IsCall}
+use Rattle.heap_core.specs.MutatorCalls.{IsCall}
 use Rattle.heap_core.specs.Collections.{IsGrantedInPhase, IsAlwaysGranted, BeginsCycle, ReadsRoots, TakesWords, RetracesPage, EndsCycle, SweepsOne}
-use Rattle.heap_core.specs.Contents.{Contents}
+use Rattle.heap_core.specs.CoreContents.{CoreContents}
 use Rattle.heap_core.specs.Held.{IsSoundCore, IsHeld}
 use Rattle.heap_core.proofs.Held.{granted_held, stored_held, held_stays, held_loaded}
 use Rattle.uses_heap.proofs.Stored.{ok_is}
 
-pub stored_is : (c0 c1 c2 c3 : Contents) (slot object scratch w : ℕ) → IsRegister object → IsRegister scratch → object ≢ scratch → IsWord w → IsSoundCore c0
+pub stored_is : (c0 c1 c2 c3 : CoreContents) (slot object scratch w : ℕ) → IsRegister object → IsRegister scratch → object ≢ scratch → IsWord w → IsSoundCore c0
     → IsCall c0 (Mutator slot (Alloc object 2 Normal)) Done c1 → IsCall c1 (Mutator slot (Set scratch w)) Done c2 → IsCall c2 (Mutator slot (Store object 0 scratch)) Done c3 → IsHeld c3 slot object 0 w
 stored_is c0 c1 c2 c3 slot object scratch w one two apart fits sound alloc set store =
     stored_held c1 c2 c3 slot object 0 scratch 0 w (granted_held c0 c1 slot object 2 0 sound (one, omega arith) (omega arith) alloc) (two, fits) (one, omega arith, two) apart set store
 
-pub cycle_is : (c0 c1 c2 c3 c4 c5 c6 : Contents) (slot r w marked read gone swept : ℕ) → IsHeld c0 slot r 0 w → IsGrantedInPhase {A = ⊤} false c0 (Ok tt) c1 (λ _. BeginsCycle c0 c1) → IsGrantedInPhase {A = ⊤} true c1 (Ok tt) c2 (λ _. ReadsRoots c1 c2)
+pub cycle_is : (c0 c1 c2 c3 c4 c5 c6 : CoreContents) (slot r w marked read gone swept : ℕ) → IsHeld c0 slot r 0 w → IsGrantedInPhase {A = ⊤} false c0 (Ok tt) c1 (λ _. BeginsCycle c0 c1) → IsGrantedInPhase {A = ⊤} true c1 (Ok tt) c2 (λ _. ReadsRoots c1 c2)
     → IsGrantedInPhase true c2 (Ok marked) c3 (λ n. TakesWords 1 c2 n c3) → IsGrantedInPhase true c3 (Ok read) c4 (λ n. RetracesPage c3 n c4) → IsGrantedInPhase true c4 (Ok gone) c5 (λ n. EndsCycle c4 n c5)
     → IsAlwaysGranted (Ok swept) (λ n. SweepsOne c5 n c6) → IsHeld c6 slot r 0 w
 cycle_is c0 c1 c2 c3 c4 c5 c6 slot r w marked read gone swept k0 begin roots mark retrace finish sweep =
@@ -31,5 +31,5 @@ cycle_is c0 c1 c2 c3 c4 c5 c6 slot r w marked read gone swept k0 begin roots mar
     let k5 = held_stays c4 c5 Finish (Count gone) slot r 0 w k4 (tt {0}) (tt {0}) (Ok gone, refl, finish) in
     held_stays c5 c6 Sweep (Count swept) slot r 0 w k5 (tt {0}) (tt {0}) (Ok swept, refl, sweep)
 
-pub kept_is : (c new : Contents) (slot d r w : ℕ) (result : Result ℕ Refusal) → IsHeld c slot r 0 w → IsCall c (Mutator slot (Load d r 0)) (word_reply result) new → IfOk result (λ loaded. loaded ≡ w)
+pub kept_is : (c new : CoreContents) (slot d r w : ℕ) (result : Result ℕ Refusal) → IsHeld c slot r 0 w → IsCall c (Mutator slot (Load d r 0)) (word_reply result) new → IfOk result (λ loaded. loaded ≡ w)
 kept_is c new slot d r w result held load = ok_is result w (held_loaded c new (word_reply result) slot d r 0 w held load)

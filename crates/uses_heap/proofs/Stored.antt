@@ -14,7 +14,7 @@ use Rattle.heap_spec.specs.Ranges.{CallInRange, IsRegister, IsWord}
 use Rattle.heap_spec.specs.Sound.{IsSound}
 use Rattle.heap_spec.proofs.Calls.{attached_is, calls_kept}
 use Rattle.heap_spec.proofs.Loads.{load_stored}
-use Rattle.heap_core.specs.Contents.{Contents}
+use Rattle.heap_core.specs.CoreContents.{CoreContents}
 use Rattle.heap_core.specs.Standing.{StandsFor}
 
 slice_get-set_same : {A : Type 0} (l : List A) (i : ℕ) (x : A) → i < length l → slice_get (slice_set l i x) i ≡ Some x
@@ -46,6 +46,6 @@ ok_is (Ok l) w is = ap word_in is
 ok_is (Err why) w is = tt
 
 -- after a call the core stands for a sound heap, as before
-pub after : {new : Contents} {reply : Reply} (s : Heap) (slot : ℕ) (call : Call) → IsSound s → CallInRange call
+pub after : {new : CoreContents} {reply : Reply} (s : Heap) (slot : ℕ) (call : Call) → IsSound s → CallInRange call
     → (s' : Heap) × Calls s slot call reply s' × StandsFor new s' → (s' : Heap) × StandsFor new s' × IsSound s'
 after s slot call sound range step = (step.0, step.2, calls_kept s slot call sound range step.1)

@@ -4,7 +4,7 @@ use Rattle.words.specs.declared.limits.TheConstants.{SLOTS}
 use Rattle.words.specs.declared.class.Kind.TheVariants.{Normal}
 use Rattle.heap_spec.specs.declared.call.Call.TheVariants.{Set, Load, Store, Alloc}
 use Rattle.heap_spec.specs.declared.reply.Reply.TheVariants.{Done, Word}
-use Rattle.heap_history.specs.Passes.{Entry, HeapPass, IsLegalPass}
+use Rattle.heap_history.specs.Passes.{MadeEvent, HeapPass, IsLegalPass}
 use Rattle.heap_history.specs.Headline.{Begun, Makes}
 
 -- An object of two words came into register 1, and the word into register 2 and into the object.
@@ -28,7 +28,7 @@ pub record HasKept (pages word loaded : ℕ) (pass : HeapPass) : Type 0 where
   pub does : PutsAndLoads pages word loaded start pass
 
 -- The mutator has then seen this whole history, and did nothing meanwhile.
-pub record IsSettled (pages : ℕ) (old : HeapPass) (history : List Entry) (new : HeapPass) : Type 0 where
+pub record IsSettled (pages : ℕ) (old : HeapPass) (history : List MadeEvent) (new : HeapPass) : Type 0 where
   pub slot : new.slot ≡ old.slot
   pub mine : new.mine ≡ old.mine
   pub seen : new.seen ≡ history

@@ -28,23 +28,23 @@ at_most : (n : ℕ) → ((n == 0) || nat_lt MAX_REQUEST_WORDS n) ≡ false → n
 at_most n small = grind (arith, nat_tests)
 
 -- A request goes to what has a property where each size class that holds it has it, and so have the pages that hold it.
-pub placement_has : (P : Placement → Type 0) (n : ℕ) (place : Placement) → placement_of n ≡ Some place
+pub placement_has : (P : Placement → Type 0) (n : ℕ) (placement : Placement) → placement_of n ≡ Some placement
     → ((class : ℕ) → IsSizeClass class → n ≤ class → P (Small class))
-    → (MAX_SMALL_WORDS < n → n ≤ MAX_REQUEST_WORDS → P (Large (div_ceil n PAGE_WORDS))) → P place
-placement_has P n place is small large = outer ((n == 0) || nat_lt MAX_REQUEST_WORDS n) refl is
+    → (MAX_SMALL_WORDS < n → n ≤ MAX_REQUEST_WORDS → P (Large (div_ceil n PAGE_WORDS))) → P placement
+placement_has P n placement is small large = outer ((n == 0) || nat_lt MAX_REQUEST_WORDS n) refl is
   where
     classes : All IsSizeClass CLASSES
     classes = AllPass-from_list_all (λ x. list_any (λ c. c == x) CLASSES) CLASSES refl
 
-    in_class : (o : Option ℕ) → ((c : ℕ) → o ≡ Some c → P (Small c)) → option_map Small o ≡ Some place → P place
-    in_class None h e = absurd (none-some place e)
+    in_class : (o : Option ℕ) → ((c : ℕ) → o ≡ Some c → P (Small c)) → option_map Small o ≡ Some placement → P placement
+    in_class None h e = absurd (none-some placement e)
     in_class (Some c) h e = subst P (same_Some _ _ e) (h c refl)
 
-    inner : (b : Bool) → nat_le n MAX_SMALL_WORDS ≡ b → n ≤ MAX_REQUEST_WORDS → cond b (option_map Small (find (λ c. nat_le n c) CLASSES)) (Some (Large (div_ceil n PAGE_WORDS))) ≡ Some place → P place
+    inner : (b : Bool) → nat_le n MAX_SMALL_WORDS ≡ b → n ≤ MAX_REQUEST_WORDS → cond b (option_map Small (find (λ c. nat_le n c) CLASSES)) (Some (Large (div_ceil n PAGE_WORDS))) ≡ Some placement → P placement
     inner true t few e = in_class _ (λ c f. let x = found IsSizeClass (λ c. nat_le n c) CLASSES c classes f in small c x.0 (leb-true n c x.1)) e
     inner false t few e = subst P (same_Some _ _ e) (large (leb-false n MAX_SMALL_WORDS t) few)
 
     outer : (b : Bool) → ((n == 0) || nat_lt MAX_REQUEST_WORDS n) ≡ b
-        → cond b None (cond (nat_le n MAX_SMALL_WORDS) (option_map Small (find (λ c. nat_le n c) CLASSES)) (Some (Large (div_ceil n PAGE_WORDS)))) ≡ Some place → P place
-    outer true t e = absurd (none-some place e)
+        → cond b None (cond (nat_le n MAX_SMALL_WORDS) (option_map Small (find (λ c. nat_le n c) CLASSES)) (Some (Large (div_ceil n PAGE_WORDS)))) ≡ Some placement → P placement
+    outer true t e = absurd (none-some placement e)
     outer false t e = inner (nat_le n MAX_SMALL_WORDS) refl (at_most n t) e

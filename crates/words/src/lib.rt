@@ -9,7 +9,7 @@ mod count;
 pub mod laws;
 mod layout;
 pub mod limits;
-mod places;
+mod numbers;
 mod refusal;
 mod scan;
 
@@ -19,6 +19,6 @@ pub use class::{CLASSES, Class, Kind, Placement, class_of};
 pub use count::ones_of;
 pub use layout::{granule_of, page_of, page_start};
 pub use limits::PageNo;
-pub use places::{Global, Reg, Slot};
-pub use refusal::{OpenError, Refusal};
+pub use numbers::{Global, Reg, Slot};
+pub use refusal::{OpenError, Refusal, RunError};
 pub use scan::first_in;

@@ -33,7 +33,7 @@ pub const MAX_SMALL_WORDS: u64 = 256;
 /// The most words of a request.
 pub const MAX_REQUEST_WORDS: u64 = 65_536;
 
-/// The places for mutators.
+/// The slots for mutators.
 pub const SLOTS: u8 = 16;
 
 /// The registers of a mutator.

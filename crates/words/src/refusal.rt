@@ -1,4 +1,4 @@
-//! Why a call is refused, and why a heap is not opened.
+//! Why a call is refused, and why a heap is not opened or a run not made.
 ghost use Rattle.std.specs.Prelude.{◌≡◌};
 ghost use Rattle.words.specs.Refusals.{code_of, name_of};
 
@@ -104,5 +104,18 @@ impl From<AllocError> for OpenError {
 
     fn from(_refused: AllocError) -> OpenError {
         OpenError::Memory
+    }
+}
+
+/// Why a run isn't made: of a workload, of a random script, or of the checker.
+#[derive(Clone, Copy, Debug, PartialEq, Eq)]
+pub enum RunError {
+    /// Memory was refused.
+    Memory,
+}
+
+impl From<AllocError> for RunError {
+    fn from(_refused: AllocError) -> RunError {
+        RunError::Memory
     }
 }

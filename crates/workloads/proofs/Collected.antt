@@ -13,15 +13,15 @@ use Rattle.heap_spec.specs.declared.event.Event.TheVariants.{Begin, BeginPartial
 use Rattle.heap_spec.specs.declared.reply.Reply.{Reply}
 use Rattle.heap_spec.specs.declared.reply.Reply.TheVariants.{Done, Count, Refused}
 use Rattle.heap_spec.specs.Replies.{done_reply, count_reply}
-use Rattle.heap_spec.specs.Runs.{Touched, fresh, is_marking, count as collections}
+use Rattle.heap_spec.specs.Runs.{Touched, opening_start, is_marking, count as collections}
 use Rattle.heap_spec.specs.Transcripts.{LineOf, IsWrongPhase}
 use Rattle.heap_spec.specs.SequentialObject.{HeapState}
 use Rattle.heap_history.specs.Ranks.{rank_of}
-use Rattle.heap_history.specs.Passes.{Entry, HeapPass, is_marking as marks}
+use Rattle.heap_history.specs.Passes.{MadeEvent, HeapPass, is_marking as marks}
 use Rattle.heap_history.specs.Headline.{Extends, Looks, IsGrantedByOwnEvents, IsRefusedPartial, BeginsPartialByEvents}
 use Rattle.heap_history.proofs.Passing.{phase_is}
 use Rattle.heap_history.proofs.Chains.{need_is}
-use Rattle.heap_core.specs.Contents.{Contents}
+use Rattle.heap_core.specs.CoreContents.{CoreContents}
 use Rattle.heap_core.specs.Collections.{IsGrantedInPhase, IsAlwaysGranted, ReadsRoots, TakesWords, ReadsPage, RetracesPage, SweepsOne}
 use Rattle.workloads.specs.OneHistory.{is_in_history, left_by, left_by_all, IsAnsweredAmong, AreAnswered}
 use Rattle.workloads.specs.Actors.{Commanded, CommandedAll}
@@ -29,7 +29,7 @@ use Rattle.workloads.proofs.Counted.{count_is}
 
 pub extends_seen : (pages : ℕ) (old new : HeapPass) (asked : Event) (reply : Reply) → Extends pages old asked reply new → IsPrefix old.seen new.seen
 extends_seen pages old new asked reply x =
-    subst (λ (l : List Entry). IsPrefix old.seen l) (sym x.seen) (prefix_more old.seen (old.seen ++ x.between) (event old.slot asked reply ∷ []) (x.between, refl))
+    subst (λ (l : List MadeEvent). IsPrefix old.seen l) (sym x.seen) (prefix_more old.seen (old.seen ++ x.between) (event old.slot asked reply ∷ []) (x.between, refl))
 
 -- a command that is an event
 pub made : (pages : ℕ) (old new : HeapPass) (asked : Event) (reply : Reply) → old.slot ≡ COLLECTOR → is_in_history asked reply ≡ true → Extends pages old asked reply new → Commanded pages old asked reply new
@@ -48,30 +48,30 @@ module _ (pages : ℕ) (old new : HeapPass) (slot : old.slot ≡ COLLECTOR) (loo
   slot_now : new.slot ≡ COLLECTOR
   slot_now = looks.slot ∙ slot
 
-  pub phase : is_marking (fresh state.pages) state.run ≡ marks old.mine
+  pub phase : is_marking (opening_start state.pages) state.run ≡ marks old.mine
   phase = phase_is state new.seen new.mine new.slot slot_now looks.fine.owned looks.fine.legal.1 ∙ ap marks looks.mine
 
   own_is : own rank_of COLLECTOR new.seen ≡ old.mine
   own_is = ap (λ (s : ℕ). own rank_of s new.seen) (sym slot_now) ∙ (sym looks.fine.owned.own_is ∙ looks.mine)
 
-  pub number : collections (fresh state.pages) state.run ≡ count rank_of old.mine % 2 ^ 64
-  number = count_is new.seen state looks.fine.legal.1 ∙ ap (λ (l : List Entry). count rank_of l % 2 ^ 64) own_is
+  pub number : collections (opening_start state.pages) state.run ≡ count rank_of old.mine % 2 ^ 64
+  number = count_is new.seen state looks.fine.legal.1 ∙ ap (λ (l : List MadeEvent). count rank_of l % 2 ^ 64) own_is
 
-  pub looked : (asked : Event) (reply : Reply) → is_in_history asked reply ≡ false → LineOf (fresh state.pages) state.run asked reply state.run → Commanded pages old asked reply new
+  pub looked : (asked : Event) (reply : Reply) → is_in_history asked reply ≡ false → LineOf (opening_start state.pages) state.run asked reply state.run → Commanded pages old asked reply new
   looked asked reply quiet allowed = record {
     slot = looks.slot;
     seen = prefix_of old.slot old.seen new.seen looks.seen;
     mine = looks.mine ∙ sym (append-nil old.mine) ∙ ap (λ (b : Bool). old.mine ++ (if b then event COLLECTOR asked reply ∷ [] else [])) (sym quiet);
-    answered = λ _. record { place = new.seen; within = prefix_self new.seen; between = own_is; state = state; reached = looks.fine.legal.1; allowed = allowed };
+    answered = λ _. record { so_far = new.seen; within = prefix_self new.seen; between = own_is; state = state; reached = looks.fine.legal.1; allowed = allowed };
   }
 
 module _ (pages : ℕ) (old new : HeapPass) (asked : Event) (reply : Reply) (slot : old.slot ≡ COLLECTOR) where
   -- refused in the wrong phase
-  refused : (command : Event) (why : Refusal) (looks : Looks pages old new) → is_in_history command (Refused why) ≡ false → why ≡ WrongPhase → IsWrongPhase (is_marking (fresh (state pages old new slot looks).pages) (state pages old new slot looks).run) command
+  refused : (command : Event) (why : Refusal) (looks : Looks pages old new) → is_in_history command (Refused why) ≡ false → why ≡ WrongPhase → IsWrongPhase (is_marking (opening_start (state pages old new slot looks).pages) (state pages old new slot looks).run) command
       → Commanded pages old command (Refused why) new
   refused command why looks quiet is wrong =
       let t = state pages old new slot looks in
-      looked pages old new slot looks command (Refused why) quiet (subst (λ (w : Refusal). LineOf (fresh t.pages) t.run command (Refused w) t.run) (sym is) (LineOf.refused wrong))
+      looked pages old new slot looks command (Refused why) quiet (subst (λ (w : Refusal). LineOf (opening_start t.pages) t.run command (Refused w) t.run) (sym is) (LineOf.refused wrong))
 
   as_asked : (command : Event) (told : Reply) → asked ≡ command → reply ≡ told → Commanded pages old command told new → Commanded pages old asked reply new
   as_asked command told is said c = subst (λ (a : Event). Commanded pages old a reply new) (sym is) (subst (λ (t : Reply). Commanded pages old command t new) (sym said) c)
@@ -110,12 +110,12 @@ module _ (pages : ℕ) (old new : HeapPass) (asked : Event) (reply : Reply) (slo
   pub numbers : (n : ℕ) → asked ≡ Number → reply ≡ Count n → Looks pages old new → n ≡ count rank_of new.mine % 2 ^ 64 → Commanded pages old asked reply new
   numbers n is said looks c =
       let t = state pages old new slot looks in
-      let same : n ≡ collections (fresh t.pages) t.run = c ∙ (ap (λ (l : List Entry). count rank_of l % 2 ^ 64) looks.mine ∙ sym (number pages old new slot looks)) in
-      as_asked Number (Count n) is said (looked pages old new slot looks Number (Count n) refl (subst (λ (m : ℕ). LineOf (fresh t.pages) t.run Number (Count m) t.run) (sym same) LineOf.number))
+      let same : n ≡ collections (opening_start t.pages) t.run = c ∙ (ap (λ (l : List MadeEvent). count rank_of l % 2 ^ 64) looks.mine ∙ sym (number pages old new slot looks)) in
+      as_asked Number (Count n) is said (looked pages old new slot looks Number (Count n) refl (subst (λ (m : ℕ). LineOf (opening_start t.pages) t.run Number (Count m) t.run) (sym same) LineOf.number))
 
   -- the collector's small steps, on a core in the phase that its own events tell
-  module _ (looks : Looks pages old new) (before after : Contents) (same : before.cycle.is_marking ≡ marks old.mine) where
-    phase_now : before.cycle.is_marking ≡ is_marking (fresh (state pages old new slot looks).pages) (state pages old new slot looks).run
+  module _ (looks : Looks pages old new) (before after : CoreContents) (same : before.cycle.is_marking ≡ marks old.mine) where
+    phase_now : before.cycle.is_marking ≡ is_marking (opening_start (state pages old new slot looks).pages) (state pages old new slot looks).run
     phase_now = same ∙ sym (phase pages old new slot looks)
 
     rooted : (r : Result ⊤ Refusal) → IsGrantedInPhase true before r after (λ _. ReadsRoots before after) → Commanded pages old Roots (done_reply r) new
@@ -157,32 +157,32 @@ left_more [] replies i c r lt len = absurd (omega (arith, lt))
 left_more (x ∷ xs) [] i c r lt len = absurd (omega (arith, len))
 left_more (x ∷ xs) (y ∷ ys) zero c r lt len = append-nil (left_by x r)
 left_more (x ∷ xs) (y ∷ ys) (suc i) c r lt len =
-    rw add-one (ap (λ (es : List Entry). left_by x y ++ es) (rw add-one at (left_more xs ys i c r (omega (arith, lt)) (omega (arith, len)))) ∙ sym (append_assoc (left_by x y) (left_by_all (take i xs) (take i ys)) (left_by (get_or xs i c) r)))
+    rw add-one (ap (λ (es : List MadeEvent). left_by x y ++ es) (rw add-one at (left_more xs ys i c r (omega (arith, lt)) (omega (arith, len)))) ∙ sym (append_assoc (left_by x y) (left_by_all (take i xs) (take i ys)) (left_by (get_or xs i c) r)))
 
-among_longer : (pages : ℕ) (history longer mine : List Entry) (command : Event) (reply : Reply) → IsPrefix history longer → IsAnsweredAmong pages history mine command reply → IsAnsweredAmong pages longer mine command reply
-among_longer pages history longer mine command reply p a = record { place = a.place; within = prefix_trans a.place history longer a.within p; between = a.between; state = a.state; reached = a.reached; allowed = a.allowed }
+among_longer : (pages : ℕ) (history longer mine : List MadeEvent) (command : Event) (reply : Reply) → IsPrefix history longer → IsAnsweredAmong pages history mine command reply → IsAnsweredAmong pages longer mine command reply
+among_longer pages history longer mine command reply p a = record { so_far = a.so_far; within = prefix_trans a.so_far history longer a.within p; between = a.between; state = a.state; reached = a.reached; allowed = a.allowed }
 
 -- what was answered stays answered in a longer history
-pub answered_longer : (pages : ℕ) (history longer mine : List Entry) (commands : List Event) (replies : List Reply) → IsPrefix history longer → AreAnswered pages history mine commands replies → AreAnswered pages longer mine commands replies
+pub answered_longer : (pages : ℕ) (history longer mine : List MadeEvent) (commands : List Event) (replies : List Reply) → IsPrefix history longer → AreAnswered pages history mine commands replies → AreAnswered pages longer mine commands replies
 answered_longer pages history longer mine [] [] p a = tt
 answered_longer pages history longer mine [] (y ∷ ys) p a = absurd a
 answered_longer pages history longer mine (x ∷ xs) [] p a = absurd a
 answered_longer pages history longer mine (x ∷ xs) (y ∷ ys) p a =
     (λ no. among_longer pages history longer mine x y p (a.0 no), answered_longer pages history longer (mine ++ left_by x y) xs ys p a.1)
 
-pub answered_more : (pages : ℕ) (history mine : List Entry) (commands : List Event) (replies : List Reply) (i : ℕ) (c : Event) (r : Reply) → i < length commands → length replies ≡ length commands
+pub answered_more : (pages : ℕ) (history mine : List MadeEvent) (commands : List Event) (replies : List Reply) (i : ℕ) (c : Event) (r : Reply) → i < length commands → length replies ≡ length commands
     → AreAnswered pages history mine (take i commands) (take i replies)
     → (is_in_history (get_or commands i c) r ≡ false → IsAnsweredAmong pages history (mine ++ left_by_all (take i commands) (take i replies)) (get_or commands i c) r)
     → AreAnswered pages history mine (take (i + 1) commands) (take (i + 1) (set replies i r))
 answered_more pages history mine [] replies i c r lt len before one = absurd (omega (arith, lt))
 answered_more pages history mine (x ∷ xs) [] i c r lt len before one = absurd (omega (arith, len))
 answered_more pages history mine (x ∷ xs) (y ∷ ys) zero c r lt len before one =
-    (λ no. subst (λ (l : List Entry). IsAnsweredAmong pages history l x r) (append-nil mine) (one no), tt)
+    (λ no. subst (λ (l : List MadeEvent). IsAnsweredAmong pages history l x r) (append-nil mine) (one no), tt)
 answered_more pages history mine (x ∷ xs) (y ∷ ys) (suc i) c r lt len before one =
     rw add-one ((
       before.0,
       rw add-one at (answered_more pages history (mine ++ left_by x y) xs ys i c r (omega (arith, lt)) (omega (arith, len)) before.1
-          (λ no. subst (λ (l : List Entry). IsAnsweredAmong pages history l (get_or xs i c) r) (sym (append_assoc mine (left_by x y) (left_by_all (take i xs) (take i ys)))) (one no))),
+          (λ no. subst (λ (l : List MadeEvent). IsAnsweredAmong pages history l (get_or xs i c) r) (sym (append_assoc mine (left_by x y) (left_by_all (take i xs) (take i ys)))) (one no))),
     ))
 
 -- one command more
@@ -191,8 +191,8 @@ pub commanded_more : (pages : ℕ) (old mid new : HeapPass) (commands : List Eve
 commanded_more pages old mid new commands replies i x r at lt len all given = let one = subst (λ (e : Event). Commanded pages mid e r new) at given in record {
   slot = one.slot ∙ all.slot;
   seen = prefix_trans old.seen mid.seen new.seen all.seen one.seen;
-  mine = one.mine ∙ (ap (λ (l : List Entry). l ++ left_by (get_or commands i x) r) all.mine ∙ (append_assoc old.mine (left_by_all (take i commands) (take i replies)) (left_by (get_or commands i x) r)
-      ∙ ap (λ (l : List Entry). old.mine ++ l) (sym (left_more commands replies i x r lt len))));
+  mine = one.mine ∙ (ap (λ (l : List MadeEvent). l ++ left_by (get_or commands i x) r) all.mine ∙ (append_assoc old.mine (left_by_all (take i commands) (take i replies)) (left_by (get_or commands i x) r)
+      ∙ ap (λ (l : List MadeEvent). old.mine ++ l) (sym (left_more commands replies i x r lt len))));
   answered = answered_more pages new.seen old.mine commands replies i x r lt len (answered_longer pages mid.seen new.seen old.mine (take i commands) (take i replies) one.seen all.answered)
-      (λ no. subst (λ (l : List Entry). IsAnsweredAmong pages new.seen l (get_or commands i x) r) all.mine (one.answered no));
+      (λ no. subst (λ (l : List MadeEvent). IsAnsweredAmong pages new.seen l (get_or commands i x) r) all.mine (one.answered no));
 }

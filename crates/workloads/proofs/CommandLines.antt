@@ -15,7 +15,7 @@ use Rattle.heap_spec.specs.declared.event.Event.TheVariants.{Attach, Mutator, Be
 use Rattle.heap_spec.specs.Ranges.{CallInRange, InRange}
 use Rattle.scripts.specs.Reading.{IsPlainLine}
 use Rattle.scripts.specs.Grammar.{kind_word, call_words, command_words, IsLineOf}
-use Rattle.workloads.specs.Stress.{command_line}
+use Rattle.workloads.specs.Stress.{line_of_command}
 
 -- a word of letters and digits: no space, no newline, and short
 record IsWordText (w : List ℕ) : Type 0 where
@@ -117,9 +117,9 @@ room w [] t = let s = t.0.short in omega arith
 room w (v ∷ vs) t = let s = t.0.short in let r = room v vs t.1 in let a = length-append w (32 ∷ join_with_byte 32 (v ∷ vs)) in omega arith
 
 -- the line of words that are a command's
-line_good : (command : Event) (w : List ℕ) (ws : List (List ℕ)) → command_words command ≡ w ∷ ws → AreWordTexts (w ∷ ws) → length ws ≤ 4 → InRange command → IsLineOf (command_line command) command × IsPlainLine (command_line command)
+line_good : (command : Event) (w : List ℕ) (ws : List (List ℕ)) → command_words command ≡ w ∷ ws → AreWordTexts (w ∷ ws) → length ws ≤ 4 → InRange command → IsLineOf (line_of_command command) command × IsPlainLine (line_of_command command)
 line_good command w ws is texts few range =
-    let line : command_line command ≡ join_with_byte 32 (w ∷ ws) = ap (join_with_byte 32) is in
+    let line : line_of_command command ≡ join_with_byte 32 (w ∷ ws) = ap (join_with_byte 32) is in
     let long = room w ws texts in (
       record {
         short = rw line (omega arith);
@@ -130,7 +130,7 @@ line_good command w ws is texts few range =
     )
 
 -- the line of a command in range
-pub good_line : (command : Event) → InRange command → IsLineOf (command_line command) command × IsPlainLine (command_line command)
+pub good_line : (command : Event) → InRange command → IsLineOf (line_of_command command) command × IsPlainLine (line_of_command command)
 good_line Attach r = line_good Attach (codes "attach") [] refl (literal (codes "attach") refl (lit≤ tt), tt) (lit≤ tt) r
 good_line (Mutator slot call) r = line_good (Mutator slot call) (decimal slot) (call_words call) refl (small slot (omega (arith, r.0)), call_texts call r.1) (few_words call) r
 good_line Begin r = line_good Begin (codes "gc") (codes "begin" ∷ []) refl (literal (codes "gc") refl (lit≤ tt), (literal (codes "begin") refl (lit≤ tt), tt)) (lit≤ tt) r

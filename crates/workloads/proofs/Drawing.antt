@@ -13,7 +13,7 @@ use Rattle.heap_spec.specs.declared.event.Event.{Event}
 use Rattle.heap_spec.specs.declared.event.Event.TheVariants.{Attach, Mutator}
 use Rattle.scripts.specs.Lines.{newline}
 use Rattle.workloads.specs.Draws.{drawn, drawn_calls, drawn_collections}
-use Rattle.workloads.specs.Stress.{command_line, commands_of, drawn_text, drawn_commands}
+use Rattle.workloads.specs.Stress.{line_of_command, commands_of, drawn_text, drawn_commands}
 
 -- a call is drawn
 pub draws_call : (m x0 x1 x2 x3 slot p q : ℕ) (call : Call) → x0 % (m + 1) < m → slot ≡ x0 % (m + 1) → p ≡ x2 % 16 → q ≡ x2 / 16 % 16 → slice_get (drawn_calls p q x3) (x1 % 16) ≡ Some call
@@ -45,12 +45,12 @@ four_words n k x0 x1 x2 x3 w w1 w2 w3 w4 one e1 e2 e3 e4 =
 
 -- one line that is drawn
 pub one_draw : (m k x0 x1 x2 x3 : ℕ) (w w1 w2 w3 w4 : Lcg) (old new : List ℕ) (command : Event) → (x0, w1) ≡ pcg32 w → (x1, w2) ≡ pcg32 w1 → (x2, w3) ≡ pcg32 w2 → (x3, w4) ≡ pcg32 w3
-    → command ≡ drawn m x0 x1 x2 x3 → new ≡ (old ++ command_line command) ++ newline ∷ [] → old ++ drawn_text m (k + 1) w ≡ new ++ drawn_text m k w4
+    → command ≡ drawn m x0 x1 x2 x3 → new ≡ (old ++ line_of_command command) ++ newline ∷ [] → old ++ drawn_text m (k + 1) w ≡ new ++ drawn_text m k w4
 one_draw m k x0 x1 x2 x3 w w1 w2 w3 w4 old new command e1 e2 e3 e4 is wrote =
-    ap (λ ws. old ++ text_of (map command_line (commands_of m ws))) (four_words (k + 1) k x0 x1 x2 x3 w w1 w2 w3 w4 refl e1 e2 e3 e4)
-    ∙ ap (λ c. old ++ ((command_line c ++ newline ∷ []) ++ drawn_text m k w4)) (sym is)
-    ∙ sym (append_assoc old (command_line command ++ newline ∷ []) (drawn_text m k w4))
-    ∙ ap (λ t. t ++ drawn_text m k w4) (sym (append_assoc old (command_line command) (newline ∷ [])) ∙ sym wrote)
+    ap (λ ws. old ++ text_of (map line_of_command (commands_of m ws))) (four_words (k + 1) k x0 x1 x2 x3 w w1 w2 w3 w4 refl e1 e2 e3 e4)
+    ∙ ap (λ c. old ++ ((line_of_command c ++ newline ∷ []) ++ drawn_text m k w4)) (sym is)
+    ∙ sym (append_assoc old (line_of_command command ++ newline ∷ []) (drawn_text m k w4))
+    ∙ ap (λ t. t ++ drawn_text m k w4) (sym (append_assoc old (line_of_command command) (newline ∷ [])) ∙ sym wrote)
 
 -- what follows from a call that succeeds
 pub on_ok : {A E : Type 0} {P Q : Type 0} (r : Result A E) → (P → Q) → OnOk r P → OnOk r Q

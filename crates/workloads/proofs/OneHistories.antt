@@ -9,7 +9,7 @@ use Rattle.heap_spec.specs.declared.call.Call.{Call}
 use Rattle.heap_spec.specs.declared.event.Event.TheVariants.{Attach}
 use Rattle.heap_spec.specs.declared.reply.Reply.TheVariants.{Slot}
 use Rattle.heap_history.specs.Ranks.{rank_of}
-use Rattle.heap_history.specs.Passes.{Entry, HeapPass, IsLegalPass, begins_with_attach}
+use Rattle.heap_history.specs.Passes.{MadeEvent, HeapPass, IsLegalPass, begins_with_attach}
 use Rattle.heap_history.specs.Alone.{attaches, all_of, AreAlone}
 use Rattle.heap_history.proofs.Coming.{firsts_of, own_came}
 use Rattle.heap_history.proofs.Alone.{alone_in}
@@ -58,7 +58,7 @@ upto_below : (n k : ℕ) → Contains (upto n) k → k < n
 upto_below n k among = All-contains (λ (x : ℕ). x < n) (upto n) k (All-from_recursion (λ (x : ℕ). x < n) (upto n) (upto_all (λ (x : ℕ). x < n) n (λ j lt. lt))) among
 
 -- one mutator: it came, made its calls, and then saw all of the history
-module _ {J R : Type 0} (pages : ℕ) (calls : List Call) (slot : ℕ) (a b c : MutatorJob J R) (history : List Entry) (attached : IsAttachedJob pages calls slot a) (ran : HasCalled a b) (settled : Settled pages history b c) where
+module _ {J R : Type 0} (pages : ℕ) (calls : List Call) (slot : ℕ) (a b c : MutatorJob J R) (history : List MadeEvent) (attached : IsAttachedJob pages calls slot a) (ran : HasCalled a b) (settled : Settled pages history b c) where
   slot_is : c.attached.slot ≡ slot
   slot_is = settled.keeps.slot ∙ (ran.called.slot ∙ attached.slot_is)
 
@@ -111,10 +111,10 @@ module _ {J R : Type 0} (pages : ℕ) (lists : ActorLines) (a b c : List (Mutato
       let none : opened.mine ≡ [] = ap (λ (p : HeapPass). p.mine) new in
       let now : w.slot ≡ 16 = keeps.slot ∙ (looks.slot ∙ (commanded.slot ∙ slot)) in
       let o : w.mine ≡ own rank_of 16 w.seen = fine.owned.own_is ∙ ap (λ (s : ℕ). own rank_of s w.seen) now in
-      let mine : w.mine ≡ left_by_all lists.collector replies.collector = keeps.mine ∙ (looks.mine ∙ (commanded.mine ∙ ap (λ (l : List Entry). l ++ left_by_all lists.collector replies.collector) none)) in record {
+      let mine : w.mine ≡ left_by_all lists.collector replies.collector = keeps.mine ∙ (looks.mine ∙ (commanded.mine ∙ ap (λ (l : List MadeEvent). l ++ left_by_all lists.collector replies.collector) none)) in record {
         events = sym nobody.collector ∙ (sym o ∙ mine);
-        answers = answered_longer pages v.seen w.seen [] lists.collector replies.collector grows (answered_longer pages u.seen v.seen [] lists.collector replies.collector (prefix_of u.slot u.seen v.seen looks.seen) (subst (λ (l : List Entry). AreAnswered pages u.seen l lists.collector replies.collector) none commanded.answered));
+        answers = answered_longer pages v.seen w.seen [] lists.collector replies.collector grows (answered_longer pages u.seen v.seen [] lists.collector replies.collector (prefix_of u.slot u.seen v.seen looks.seen) (subst (λ (l : List MadeEvent). AreAnswered pages u.seen l lists.collector replies.collector) none commanded.answered));
       }
 
   pub one_history : HaveOneHistory pages lists replies
-  one_history = record { history = w.seen; legal = fine.legal; alone = All-weaker (λ (e : Entry). Contains (upto (length lists.mutators)) e.who ⊎ (e.who ≡ 16)) (λ (e : Entry). (e.who < length lists.mutators) ⊎ (e.who ≡ 16)) (λ e. ⊎_elim (λ c. inl (upto_below (length lists.mutators) e.who c)) (λ by. inr by)) w.seen nobody.members; size = are.size ∙ (size ∙ (ran.size ∙ attached.size)); mutators = one; collector = collectors }
+  one_history = record { history = w.seen; legal = fine.legal; alone = All-weaker (λ (e : MadeEvent). Contains (upto (length lists.mutators)) e.who ⊎ (e.who ≡ 16)) (λ (e : MadeEvent). (e.who < length lists.mutators) ⊎ (e.who ≡ 16)) (λ e. ⊎_elim (λ c. inl (upto_below (length lists.mutators) e.who c)) (λ by. inr by)) w.seen nobody.members; size = are.size ∙ (size ∙ (ran.size ∙ attached.size)); mutators = one; collector = collectors }

@@ -19,7 +19,7 @@ use Rattle.scripts.specs.Reading.{IsPlainLine}
 use Rattle.scripts.proofs.Texts.{lines_of-text}
 use Rattle.workloads.specs.declared.limits.TheConstants.{MAX_STEPS}
 use Rattle.workloads.specs.Draws.{drawn, drawn_calls, drawn_collections}
-use Rattle.workloads.specs.Stress.{command_line, commands_of, drawn_commands, seeded, stress, stress_text}
+use Rattle.workloads.specs.Stress.{line_of_command, commands_of, drawn_commands, seeded, stress, stress_text}
 use Rattle.workloads.specs.Workloads.{ActorLines, MayRun, call_of, is_collectors}
 use Rattle.workloads.specs.Laws.{IsStressWorkload}
 use Rattle.workloads.proofs.Drawing.{four_words, none_commands}
@@ -100,22 +100,22 @@ list_at slot (suc n) zero commands lt = let none : slot ≡ slot + 0 = omega ari
 list_at slot (suc n) (suc i) commands lt = let moved : slot + 1 + i ≡ slot + suc i = omega arith in list_at (slot + 1) n i commands (omega arith) ∙ ap (λ s. filter_map (call_of s) commands) moved
 
 -- the lines of commands
-lines_are : (commands : List Event) → All InRange commands → AllZip IsLineOf (map command_line commands) commands
+lines_are : (commands : List Event) → All InRange commands → AllZip IsLineOf (map line_of_command commands) commands
 lines_are [] r = tt
 lines_are (c ∷ cs) r = ((good_line c (All-head InRange c cs r)).0, lines_are cs (All-tail InRange c cs r))
 
-lines_plain : (commands : List Event) → All InRange commands → All IsPlainLine (map command_line commands)
-lines_plain commands r = All-map IsPlainLine command_line commands (λ k d lt. (good_line _ (r k d lt)).1)
+lines_plain : (commands : List Event) → All InRange commands → All IsPlainLine (map line_of_command commands)
+lines_plain commands r = All-map IsPlainLine line_of_command commands (λ k d lt. (good_line _ (r k d lt)).1)
 
 pub stress_workload : (seed m steps : ℕ) → m ≤ SLOTS → steps ≤ MAX_STEPS → IsStressWorkload seed m steps
 stress_workload seed m steps few most =
     let commands = drawn_commands m steps (seeded seed) in
     let all = drawn_all m steps (seeded seed) few in
     let range : All InRange (stress seed m steps) = All-append InRange (replicate m Attach) commands (All-replicate InRange m Attach tt) (λ k d lt. (all.0 k d lt).0) in
-    let lines : lines_of (stress_text seed m steps) ≡ map command_line (stress seed m steps) =
-    ap lines_of (sym (append-nil (stress_text seed m steps))) ∙ lines_of-text (map command_line (stress seed m steps)) [] (lines_plain (stress seed m steps) range) ∙ append-nil (map command_line (stress seed m steps)) in
+    let lines : lines_of (stress_text seed m steps) ≡ map line_of_command (stress seed m steps) =
+    ap lines_of (sym (append-nil (stress_text seed m steps))) ∙ lines_of-text (map line_of_command (stress seed m steps)) [] (lines_plain (stress seed m steps) range) ∙ append-nil (map line_of_command (stress seed m steps)) in
     let count : length (lines_of (stress_text seed m steps)) ≡ m + steps =
-    ap length lines ∙ length-map (stress seed m steps) command_line ∙ length-append (replicate m Attach) commands ∙ omega (arith, length-replicate m Attach, all.1) in
+    ap length lines ∙ length-map (stress seed m steps) line_of_command ∙ length-append (replicate m Attach) commands ∙ omega (arith, length-replicate m Attach, all.1) in
     let lists : ActorLines = record { mutators = lists_from 0 m commands; collector = filter is_collectors commands } in
     let long : length (lists_from 0 m commands) ≡ m = length-lists 0 m commands in
     record {

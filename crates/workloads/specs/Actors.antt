@@ -5,9 +5,9 @@ use Rattle.history.specs.declared.object.TheConstants.{COLLECTOR}
 use Rattle.heap_spec.specs.declared.call.Call.{Call}
 use Rattle.heap_spec.specs.declared.event.Event.{Event}
 use Rattle.heap_spec.specs.declared.reply.Reply.{Reply}
-use Rattle.heap_history.specs.Passes.{Entry, HeapPass, IsLegalPass}
+use Rattle.heap_history.specs.Passes.{MadeEvent, HeapPass, IsLegalPass}
 use Rattle.heap_history.specs.Headline.{Begun}
-use Rattle.shared.specs.Calls.{IsNoDetach}
+use Rattle.shared.specs.WhileAttached.{IsNoDetach}
 use Rattle.workloads.specs.Workloads.{is_collectors}
 use Rattle.workloads.specs.OneHistory.{events_of, is_in_history, left_by, left_by_all, IsAnsweredAmong, AreAnswered}
 use Rattle.workloads.specs.declared.mutator_job.MutatorJob.{MutatorJob}
@@ -62,7 +62,7 @@ module _ {J R : Type 0} where
     pub each : (i : ℕ) (d : MutatorJob J R) → i < length lists → IsAttachedJob pages (slice_index_or lists i []) i (slice_index_or jobs i d)
 
   -- a job's mutator has seen this history, and the job is otherwise as it was
-  pub record Settled (pages : ℕ) (history : List Entry) (old new : MutatorJob J R) : Type 0 where
+  pub record Settled (pages : ℕ) (history : List MadeEvent) (old new : MutatorJob J R) : Type 0 where
     pub keeps : Keeps old.attached new.attached
     pub calls : new.calls ≡ old.calls
     pub replies : new.replies ≡ old.replies
@@ -70,7 +70,7 @@ module _ {J R : Type 0} where
     pub fine : IsLegalPass pages new.attached
 
   -- each job's mutator has seen this history, and the jobs are otherwise as they were
-  abbrev pub AllSettled : ℕ → List Entry → List (MutatorJob J R) → List (MutatorJob J R) → Type 0
+  abbrev pub AllSettled : ℕ → List MadeEvent → List (MutatorJob J R) → List (MutatorJob J R) → Type 0
   AllSettled pages history old new = (i : ℕ) (d : MutatorJob J R) → i < length old → Settled pages history (slice_index_or old i d) (slice_index_or new i d)
 
   -- the replies that the jobs have

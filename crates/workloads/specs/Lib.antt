@@ -4,6 +4,7 @@ pub mod Taking
 pub mod Printing
 pub mod Draws
 pub mod Stress
+pub mod Writing
 pub mod Laws
 pub mod OneHistory
 pub mod Actors

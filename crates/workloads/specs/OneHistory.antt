@@ -8,23 +8,23 @@ use Rattle.heap_spec.specs.declared.event.Event.{Event}
 use Rattle.heap_spec.specs.declared.event.Event.TheVariants.{Attach, Mutator, Begin, BeginPartial, Roots, Mark, Retrace, Finish, Sweep, Collect, Number}
 use Rattle.heap_spec.specs.declared.reply.Reply.{Reply}
 use Rattle.heap_spec.specs.declared.reply.Reply.TheVariants.{Slot, Done, Word, Count, Refused}
-use Rattle.heap_spec.specs.Runs.{Touched, fresh}
+use Rattle.heap_spec.specs.Runs.{Touched, opening_start}
 use Rattle.heap_spec.specs.Transcripts.{LineOf}
 use Rattle.heap_spec.specs.SequentialObject.{HeapState, Opens, StateStep}
 use Rattle.heap_history.specs.Ranks.{rank_of}
-use Rattle.heap_history.specs.Passes.{Entry}
+use Rattle.heap_history.specs.Passes.{MadeEvent}
 use Rattle.heap_history.specs.Alone.{all_of}
 use Rattle.workloads.specs.Workloads.{ActorLines}
 use Rattle.workloads.specs.Printing.{ActorReplies}
 
 -- a mutator's calls with their replies, as events
-abbrev pub events_of : ℕ → List Call → List Reply → List Entry
+abbrev pub events_of : ℕ → List Call → List Reply → List MadeEvent
 events_of slot [] replies = []
 events_of slot (call ∷ calls) [] = []
 events_of slot (call ∷ calls) (reply ∷ replies) = event slot (Mutator slot call) reply ∷ events_of slot calls replies
 
 -- A mutator's part of a history: all events of its slot are its attach and then its calls with these replies, in their order.
-pub record IsMutatorsPart (history : List Entry) (slot : ℕ) (calls : List Call) (replies : List Reply) : Type 0 where
+pub record IsMutatorsPart (history : List MadeEvent) (slot : ℕ) (calls : List Call) (replies : List Reply) : Type 0 where
   pub size : length replies ≡ length calls
   pub events : all_of slot history ≡ event slot Attach (Slot slot) ∷ events_of slot calls replies
 
@@ -51,28 +51,28 @@ is_in_history Collect reply = not (is_refusal reply)
 is_in_history Number reply = false
 
 -- what a command of the collector with this reply leaves in the history
-abbrev pub left_by : Event → Reply → List Entry
+abbrev pub left_by : Event → Reply → List MadeEvent
 left_by command reply = if is_in_history command reply then event COLLECTOR command reply ∷ [] else []
 
 -- and what commands with their replies leave, in their order
-abbrev pub left_by_all : List Event → List Reply → List Entry
+abbrev pub left_by_all : List Event → List Reply → List MadeEvent
 left_by_all [] replies = []
 left_by_all (command ∷ commands) [] = []
 left_by_all (command ∷ commands) (reply ∷ replies) = left_by command reply ++ left_by_all commands replies
 
 -- A command that is no event has a reply that a legal transcript allows at a place of the history: at one where the collector's events
 -- so far are these.
-pub record IsAnsweredAmong (pages : ℕ) (history mine : List Entry) (command : Event) (reply : Reply) : Type 0 where
-  pub place : List Entry
-  pub within : IsPrefix place history
-  pub between : own rank_of COLLECTOR place ≡ mine
+pub record IsAnsweredAmong (pages : ℕ) (history mine : List MadeEvent) (command : Event) (reply : Reply) : Type 0 where
+  pub so_far : List MadeEvent
+  pub within : IsPrefix so_far history
+  pub between : own rank_of COLLECTOR so_far ≡ mine
   pub state : HeapState
-  pub reached : Reaches (Opens pages) StateStep place state
-  pub allowed : LineOf (fresh state.pages) state.run command reply state.run
+  pub reached : Reaches (Opens pages) StateStep so_far state
+  pub allowed : LineOf (opening_start state.pages) state.run command reply state.run
 
 -- Commands have these replies, where the collector's events before them are these: each that is no event is answered between the
 -- collector's events before it and those after it.
-abbrev pub AreAnswered : ℕ → List Entry → List Entry → List Event → List Reply → Type 0
+abbrev pub AreAnswered : ℕ → List MadeEvent → List MadeEvent → List Event → List Reply → Type 0
 AreAnswered pages history mine [] [] = Unit {0}
 AreAnswered pages history mine [] (reply ∷ replies) = ⊥
 AreAnswered pages history mine (command ∷ commands) [] = ⊥
@@ -81,16 +81,16 @@ AreAnswered pages history mine (command ∷ commands) (reply ∷ replies) =
 
 -- The collector's part of a history: all its events are its granted begins, finishes and collects with these replies, in their order, and
 -- its other commands are answered between them.
-pub record IsCollectorsPart (pages : ℕ) (history : List Entry) (commands : List Event) (replies : List Reply) : Type 0 where
+pub record IsCollectorsPart (pages : ℕ) (history : List MadeEvent) (commands : List Event) (replies : List Reply) : Type 0 where
   pub events : all_of COLLECTOR history ≡ left_by_all commands replies
   pub answers : AreAnswered pages history [] commands replies
 
 -- There is one legal history of a heap of so many pages, of which each actor's lines with its replies are its part, and nobody else had a
 -- part in it.
 pub record HaveOneHistory (pages : ℕ) (lists : ActorLines) (replies : ActorReplies) : Type 0 where
-  pub history : List Entry
+  pub history : List MadeEvent
   pub legal : Legal (Opens pages) StateStep history
-  pub alone : All (λ (e : Entry). (e.who < length lists.mutators) ⊎ (e.who ≡ COLLECTOR)) history
+  pub alone : All (λ (e : MadeEvent). (e.who < length lists.mutators) ⊎ (e.who ≡ COLLECTOR)) history
   pub size : length replies.mutators ≡ length lists.mutators
   pub mutators : (slot : ℕ) → slot < length lists.mutators → IsMutatorsPart history slot (slice_index_or lists.mutators slot []) (slice_index_or replies.mutators slot [])
   pub collector : IsCollectorsPart pages history lists.collector replies.collector

@@ -12,8 +12,8 @@ use Rattle.scripts.specs.Turns.{text_of}
 use Rattle.workloads.specs.Draws.{drawn}
 
 -- a command as a line, without its newline: its words with a space between two
-abbrev pub command_line : Event → List ℕ
-command_line command = join_with_byte 32 (command_words command)
+abbrev pub line_of_command : Event → List ℕ
+line_of_command command = join_with_byte 32 (command_words command)
 
 -- the generator that a seed makes
 abbrev pub seeded : ℕ → Lcg
@@ -34,8 +34,8 @@ stress seed mutators steps = replicate mutators Attach ++ drawn_commands mutator
 
 -- a random script
 abbrev pub stress_text : ℕ → ℕ → ℕ → List ℕ
-stress_text seed mutators steps = text_of (map command_line (stress seed mutators steps))
+stress_text seed mutators steps = text_of (map line_of_command (stress seed mutators steps))
 
 -- the part of a random script that is drawn
 abbrev pub drawn_text : ℕ → ℕ → Lcg → List ℕ
-drawn_text mutators steps generator = text_of (map command_line (drawn_commands mutators steps generator))
+drawn_text mutators steps generator = text_of (map line_of_command (drawn_commands mutators steps generator))

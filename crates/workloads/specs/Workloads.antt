@@ -5,7 +5,7 @@ use Rattle.words.specs.declared.limits.TheConstants.{SLOTS}
 use Rattle.heap_spec.specs.declared.call.Call.{Call}
 use Rattle.heap_spec.specs.declared.event.Event.{Event}
 use Rattle.heap_spec.specs.declared.event.Event.TheVariants.{Attach, Mutator, Begin, BeginPartial, Roots, Mark, Retrace, Finish, Sweep, Collect, Number}
-use Rattle.shared.specs.Calls.{IsNoDetach}
+use Rattle.shared.specs.WhileAttached.{IsNoDetach}
 use Rattle.scripts.specs.declared.limits.TheConstants.{LAST_LINE}
 use Rattle.scripts.specs.Grammar.{IsLineOf, IsBad}
 

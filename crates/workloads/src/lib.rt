@@ -3,12 +3,12 @@
 #![tactic(auto)]
 
 mod collector_job;
-mod command_line;
 mod draw;
 pub mod laws;
 pub mod limits;
 mod lines;
 mod mutator_job;
+mod random;
 mod reading;
 mod replies;
 mod serving;
@@ -16,11 +16,13 @@ mod settling;
 mod stress;
 mod threads;
 mod workload;
+mod written_commands;
 
-pub use faults::RunError;
 pub use lines::Lines;
+pub use random::write_stress;
 pub use replies::{Replies, print_replies};
 pub use serving::run_workload;
 pub use stress::make_stress;
 pub use threads::run_threads;
+pub use words::RunError;
 pub use workload::Workload;

@@ -3,7 +3,7 @@ ghost use Rattle.std.specs.Prelude.{◌≡◌, ◌%◌, ◌^◌, All, length};
 ghost use mathlib.Core.List.{IsPrefix};
 ghost use Rattle.heap_history.specs.Headline.{Makes};
 ghost use Rattle.heap_history.specs.Passes.{IsLegalPass};
-ghost use Rattle.shared.specs.Calls.{IsNoDetach};
+ghost use Rattle.shared.specs.WhileAttached.{IsNoDetach};
 ghost use Rattle.workloads.specs.Actors.{Called, Keeps, CanCall, HasCalled};
 
 use each_law::Law;
@@ -69,11 +69,11 @@ impl<'a, J: Naming, R: Wait> Law<MutatorJob<'a, J, R>> for MakesCalls {
     ghost does = { λ law job done. HasCalled job done };
 }
 
-/// An actor's call has this number for the gate: its place among the actor's lines, modulo 2^32.
-pub(crate) fn call_number(place: usize) -> u32
-    ensures { result ≡ place % 2 ^ 32 }
+/// An actor's call has this number for the gate: its index among the actor's lines, modulo 2^32.
+pub(crate) fn call_number(index: usize) -> u32
+    ensures { result ≡ index % 2 ^ 32 }
 {
-    (place % (1 << u32::BITS)) as u32
+    (index % (1 << u32::BITS)) as u32
 }
 
 // One call, between two calls of the gate.

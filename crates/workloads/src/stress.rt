@@ -4,22 +4,22 @@ ghost use Rattle.words.specs.declared.limits.TheConstants.{SLOTS};
 ghost use Rattle.scripts.specs.Lines.{newline};
 ghost use Rattle.scripts.specs.Turns.{text_of};
 ghost use Rattle.workloads.specs.declared.limits.TheConstants.{MAX_STEPS};
-ghost use Rattle.workloads.specs.Stress.{command_line, drawn_text, stress_text};
+ghost use Rattle.workloads.specs.Stress.{line_of_command, drawn_text, stress_text};
 
-use crate::command_line::put_command;
 use crate::draw::draw;
+use crate::written_commands::put_command;
 use arrayvec::ArrayString;
-use faults::RunError;
 use heap_spec::Event;
 use rand_core::SeedableRng;
 use rand_core::utils::NextWord;
 use rand_pcg::Lcg64Xsh32;
 use scripts::limits::LINE_BYTES;
 use std::alloc::{AllocError, Global};
+use words::RunError;
 
 // Puts a command's line behind a text.
 fn put_line(text: &mut Vec<u8>, command: Event) -> Result<(), AllocError>
-    ensures { OnOk result (text.new.items ≡ text.old.items ++ command_line command ++ newline ∷ []) }
+    ensures { OnOk result (text.new.items ≡ text.old.items ++ line_of_command command ++ newline ∷ []) }
 {
     let mut line = ArrayString::<LINE_BYTES>::new();
     put_command(&mut line, command);
@@ -42,7 +42,7 @@ fn put_draw(text: &mut Vec<u8>, words: &mut Lcg64Xsh32, mutators: u8) -> Result<
 
 // Puts the attaches of so many mutators.
 fn put_attaches(text: &mut Vec<u8>, mutators: u8) -> Result<(), AllocError>
-    ensures { OnOk result (text.new.items ≡ text.old.items ++ text_of (map command_line (replicate mutators Event.Attach))) }
+    ensures { OnOk result (text.new.items ≡ text.old.items ++ text_of (map line_of_command (replicate mutators Event.Attach))) }
 {
     for _mutator in 0..mutators {
         put_line(text, Event::Attach)?;

@@ -3,7 +3,7 @@ ghost use Rattle.std.specs.Prelude.{◌≡◌, ◌≤◌, ◌<◌, [], All, IfSo
 ghost use Rattle.std.specs.Vec.{vec_capacity};
 ghost use Rattle.words.specs.declared.limits.TheConstants.{MAX_PAGES, SLOTS};
 ghost use Rattle.each_law.specs.Jobs.{HaveRun};
-ghost use Rattle.shared.specs.Calls.{IsNoDetach};
+ghost use Rattle.shared.specs.WhileAttached.{IsNoDetach};
 ghost use Rattle.workloads.specs.Actors.{CanCall, HasCalled, IsAttachedJob, AreAttached, AreReplies, CanCommand, HasCommanded};
 ghost use Rattle.workloads.specs.OneHistory.{HaveOneHistory};
 
@@ -14,7 +14,6 @@ use crate::replies::Replies;
 use crate::settling::settle;
 use crate::workload::Workload;
 use each_law::run_each_beside;
-use faults::RunError;
 use final_pause::{Gate, Helpers};
 use heap_core::Core;
 use heap_spec::{Call, Reply};
@@ -24,6 +23,7 @@ use std::alloc::{AllocError, Global};
 use std::marker::Brand;
 use std::sync::Wait;
 use std::thread::Threads;
+use words::RunError;
 
 // A mutator comes, which has to get this slot.
 fn attach_one<'a, J: Naming, R: Wait>(

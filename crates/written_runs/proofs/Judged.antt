@@ -5,9 +5,9 @@ use Rattle.std.proofs.lemmas.List.{append-nil}
 use Rattle.std.proofs.lemmas.List.Elements.{filter-append}
 use Rattle.heap_spec.specs.declared.event.Event.{Event}
 use Rattle.heap_spec.specs.declared.reply.Reply.{Reply}
-use Rattle.heap_spec.specs.Runs.{Start, Run, fresh}
+use Rattle.heap_spec.specs.Runs.{Start, Run, opening_start}
 use Rattle.replayer.specs.declared.hint.Hint.{Hint}
-use Rattle.replayer.specs.Contents.{Contents, Follows}
+use Rattle.replayer.specs.ReplayerContents.{ReplayerContents, Follows}
 use Rattle.replayer.specs.Replays.{IsReplay}
 use Rattle.scripts.specs.Lines.{newline, lines_of}
 use Rattle.scripts.proofs.Texts.{lines_of-line, lines_of-last}
@@ -32,7 +32,7 @@ pub told_more : (lines : List (List ℕ)) (line : List ℕ) → told_lines (line
 told_more lines line = filter-append (λ l. not (is_comment l)) lines (line ∷ [])
 
 -- The lines that were read led the replayer from the opening to a run, and the rest is still to be read.
-pub record IsUpTo (pages : ℕ) (text rest : List ℕ) (number told : ℕ) (replayer : Contents) : Type 0 where
+pub record IsUpTo (pages : ℕ) (text rest : List ℕ) (number told : ℕ) (replayer : ReplayerContents) : Type 0 where
   pub lines : List (List ℕ)
   pub run : Run
   pub are : lines_of text ≡ lines ++ lines_of rest
@@ -40,22 +40,22 @@ pub record IsUpTo (pages : ℕ) (text rest : List ℕ) (number told : ℕ) (repl
   pub told_are : told ≡ length (told_lines lines)
   pub fewer : told ≤ number
   pub few : number + length rest ≤ length text
-  pub leads : Leads (fresh pages) [] (told_lines lines) run
-  pub follows : Follows replayer (fresh pages) run
+  pub leads : Leads (opening_start pages) [] (told_lines lines) run
+  pub follows : Follows replayer (opening_start pages) run
 
-pub starts : (pages : ℕ) (text : List ℕ) (replayer : Contents) → Follows replayer (fresh pages) [] → IsUpTo pages text text 0 0 replayer
+pub starts : (pages : ℕ) (text : List ℕ) (replayer : ReplayerContents) → Follows replayer (opening_start pages) [] → IsUpTo pages text text 0 0 replayer
 starts pages text replayer follows = record { lines = []; run = []; are = refl; counted = refl; told_are = refl; fewer = omega arith; few = omega arith; leads = ends; follows = follows }
 
-regroup : (pages : ℕ) (text rest behind line : List ℕ) (number told : ℕ) (old : Contents) (u : IsUpTo pages text rest number told old) → lines_of rest ≡ line ∷ lines_of behind → lines_of text ≡ (u.lines ++ line ∷ []) ++ lines_of behind
+regroup : (pages : ℕ) (text rest behind line : List ℕ) (number told : ℕ) (old : ReplayerContents) (u : IsUpTo pages text rest number told old) → lines_of rest ≡ line ∷ lines_of behind → lines_of text ≡ (u.lines ++ line ∷ []) ++ lines_of behind
 regroup pages text rest behind line number told old u e = u.are ∙ ap (λ ls. u.lines ++ ls) e ∙ sym (append_assoc u.lines (line ∷ []) (lines_of behind))
 
 -- Where a line takes a run: what it tells leads there.
-record IsTaken (start : Start) (run : Run) (tells : List (List ℕ)) (new : Contents) : Type 0 where
+record IsTaken (start : Start) (run : Run) (tells : List (List ℕ)) (new : ReplayerContents) : Type 0 where
   next : Run
   leads : (before : List (List ℕ)) → Leads start [] before run → Leads start [] (before ++ tells) next
   follows : Follows new start next
 
-taken : (start : Start) (run : Run) (old new : Contents) (line : List ℕ) (comment : Bool) → Follows old start run → Takes comment old line new → IsTaken start run (cond (not comment) (line ∷ []) []) new
+taken : (start : Start) (run : Run) (old new : ReplayerContents) (line : List ℕ) (comment : Bool) → Follows old start run → Takes comment old line new → IsTaken start run (cond (not comment) (line ∷ []) []) new
 taken start run old new line true follows same = record { next = run; leads = λ before leads. subst (λ ls. Leads start [] ls run) (sym (append-nil before)) leads; follows = subst (λ c. Follows c start run) (sym same) follows }
 taken start run old new line false follows led =
     let next = led.replayed start run follows in
@@ -65,9 +65,9 @@ one_at_most : (line : List ℕ) (comment : Bool) → length (cond (not comment) 
 one_at_most line true = omega arith
 one_at_most line false = omega arith
 
-pub goes_on : (pages : ℕ) (text rest behind line : List ℕ) (number told : ℕ) (old new : Contents) → IsUpTo pages text rest number told old → lines_of rest ≡ line ∷ lines_of behind → length behind < length rest → Takes (is_comment line) old line new → (more : ℕ) → more ≡ length (told_lines (line ∷ [])) → IsUpTo pages text behind (number + 1) (told + more) new
+pub goes_on : (pages : ℕ) (text rest behind line : List ℕ) (number told : ℕ) (old new : ReplayerContents) → IsUpTo pages text rest number told old → lines_of rest ≡ line ∷ lines_of behind → length behind < length rest → Takes (is_comment line) old line new → (more : ℕ) → more ≡ length (told_lines (line ∷ [])) → IsUpTo pages text behind (number + 1) (told + more) new
 goes_on pages text rest behind line number told old new u e shorter takes more is =
-    let next = taken (fresh pages) u.run old new line (is_comment line) u.follows takes in
+    let next = taken (opening_start pages) u.run old new line (is_comment line) u.follows takes in
     record {
       lines = u.lines ++ line ∷ [];
       run = next.next;
@@ -76,21 +76,21 @@ goes_on pages text rest behind line number told old new u e shorter takes more i
       told_are = let h = u.told_are in let all = ap length (told_more u.lines line) in omega (arith, h, is, all, length-append (told_lines u.lines) (told_of line));
       fewer = let h = u.fewer in omega (arith, h, is, one_at_most line (is_comment line));
       few = let h = u.few in omega arith;
-      leads = subst (λ ls. Leads (fresh pages) [] ls next.next) (sym (told_more u.lines line)) (next.leads (told_lines u.lines) u.leads);
+      leads = subst (λ ls. Leads (opening_start pages) [] ls next.next) (sym (told_more u.lines line)) (next.leads (told_lines u.lines) u.leads);
       follows = next.follows;
     }
 
-all_read : (pages : ℕ) (text rest : List ℕ) (number told : ℕ) (replayer : Contents) (u : IsUpTo pages text rest number told replayer) → length rest ≡ 0 → u.lines ≡ lines_of text
+all_read : (pages : ℕ) (text rest : List ℕ) (number told : ℕ) (replayer : ReplayerContents) (u : IsUpTo pages text rest number told replayer) → length rest ≡ 0 → u.lines ≡ lines_of text
 all_read pages text [] number told replayer u none = sym (u.are ∙ append-nil u.lines)
 all_read pages text (b ∷ rest) number told replayer u none = absurd (omega arith)
 
 -- all lines were read
-pub ended : (pages : ℕ) (text rest : List ℕ) (number told : ℕ) (replayer : Contents) → IsUpTo pages text rest number told replayer → length rest ≡ 0 → 1 ≤ told → IsJudged pages (lines_of text) (Legal told)
+pub ended : (pages : ℕ) (text rest : List ℕ) (number told : ℕ) (replayer : ReplayerContents) → IsUpTo pages text rest number told replayer → length rest ≡ 0 → 1 ≤ told → IsJudged pages (lines_of text) (Legal told)
 ended pages text rest number told replayer u none some =
     let all = all_read pages text rest number told replayer u none in
     record {
       last = u.run;
-      leads = subst (λ ls. Leads (fresh pages) [] (told_lines ls) u.run) all u.leads;
+      leads = subst (λ ls. Leads (opening_start pages) [] (told_lines ls) u.run) all u.leads;
       counted = u.told_are ∙ ap (λ ls. length (told_lines ls)) all;
       some = some;
     }
@@ -100,13 +100,13 @@ no_item [] none = refl
 no_item (l ∷ lines) none = absurd (omega arith)
 
 -- and none was told
-pub ended_empty : (pages : ℕ) (text rest : List ℕ) (number told : ℕ) (replayer : Contents) → IsUpTo pages text rest number told replayer → length rest ≡ 0 → told ≡ 0 → IsJudged pages (lines_of text) NoLines
+pub ended_empty : (pages : ℕ) (text rest : List ℕ) (number told : ℕ) (replayer : ReplayerContents) → IsUpTo pages text rest number told replayer → length rest ≡ 0 → told ≡ 0 → IsJudged pages (lines_of text) NoLines
 ended_empty pages text rest number told replayer u none zero =
     ap told_lines (sym (all_read pages text rest number told replayer u none)) ∙ no_item (told_lines u.lines) (sym u.told_are ∙ zero)
 
 -- A line was reached that the replayer doesn't go on by.
-module _ (pages : ℕ) (text rest behind line : List ℕ) (number told : ℕ) (old : Contents) (u : IsUpTo pages text rest number told old) (parted : lines_of rest ≡ line ∷ lines_of behind) where
-  fault : (Fault : Run → List ℕ → Type 0) (n : ℕ) → IsToldAt n (number + 1) line → Fault u.run line → HasFault Fault (fresh pages) (lines_of text) n
+module _ (pages : ℕ) (text rest behind line : List ℕ) (number told : ℕ) (old : ReplayerContents) (u : IsUpTo pages text rest number told old) (parted : lines_of rest ≡ line ∷ lines_of behind) where
+  fault : (Fault : Run → List ℕ → Type 0) (n : ℕ) → IsToldAt n (number + 1) line → Fault u.run line → HasFault Fault (opening_start pages) (lines_of text) n
   fault Fault n at has = record {
     before = u.lines;
     line = line;
@@ -123,12 +123,12 @@ module _ (pages : ℕ) (text rest behind line : List ℕ) (number told : ℕ) (o
   stopped (Legal count) is = absurd is
   stopped NoLines is = absurd is
   stopped (Bad n) is = fault (λ run l. IsUnwritten l) n is.0 is.1
-  stopped (Breaks n rule) is = let s = is.1 in fault (IsBroken (fresh pages) rule) n is.0 (record {
+  stopped (Breaks n rule) is = let s = is.1 in fault (IsBroken (opening_start pages) rule) n is.0 (record {
     event = s.event;
     reply = s.reply;
     hint = s.hint;
     is_written = s.is_written;
-    no_replay = λ next replay. s.no_replay (fresh pages) u.run next u.follows replay;
+    no_replay = λ next replay. s.no_replay (opening_start pages) u.run next u.follows replay;
     named = s.named;
   })
 
@@ -137,13 +137,13 @@ module _ (pages : ℕ) (text rest behind line : List ℕ) (number told : ℕ) (o
   explained (Legal count) (Some reply) is why = absurd why
   explained NoLines (Some reply) is why = absurd why
   explained (Bad n) (Some reply) is why = absurd why
-  explained (Breaks n rule) (Some reply) is why = fault (HadToAnswer (fresh pages) reply) n is.0 (record {
+  explained (Breaks n rule) (Some reply) is why = fault (HadToAnswer (opening_start pages) reply) n is.0 (record {
     event = why.event;
     given = why.given;
     hint = why.hint;
     is_written = why.is_written;
     other = why.other;
-    expected = why.expected (fresh pages) u.run u.follows;
+    expected = why.expected (opening_start pages) u.run u.follows;
   })
 
 -- the first line of a text that was cut at its first newline

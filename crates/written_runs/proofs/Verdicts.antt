@@ -3,7 +3,7 @@ use Rattle.std.proofs.Common.{◌≡◌, ◌⊎◌, ℕ, ◌+◌, ◌≤◌, fal
 use Rattle.std.specs.Prelude.{cond, not}
 use Rattle.std.proofs.lemmas.List.Elements.{filter-append}
 use Rattle.words.specs.declared.limits.TheConstants.{MAX_PAGES}
-use Rattle.heap_spec.specs.Runs.{Start, Run, fresh, heap_after}
+use Rattle.heap_spec.specs.Runs.{Start, Run, opening_start, heap_after}
 use Rattle.heap_spec.specs.Sound.{IsSound}
 use Rattle.heap_spec.proofs.Calls.{opening_is}
 use Rattle.written_runs.specs.declared.rules.Rule.{Rule}
@@ -132,7 +132,7 @@ pub one_verdict : (pages : ℕ) → 1 ≤ pages → pages ≤ MAX_PAGES → (lin
 one_verdict pages some few lines verdict verdict' is is' = by_verdicts verdict verdict' is is'
   where
     start : Start
-    start = fresh pages
+    start = opening_start pages
 
     opens : IsSound (heap_after start [])
     opens = opening_is pages some few

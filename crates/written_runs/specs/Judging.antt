@@ -2,9 +2,9 @@
 use Rattle.std.specs.Prelude.{◌≡◌, ℕ, ◌+◌, ◌≤◌, Bool, true, false, Option, Some, None, List, [], ◌∷◌, ◌++◌, length}
 use Rattle.heap_spec.specs.declared.event.Event.{Event}
 use Rattle.heap_spec.specs.declared.reply.Reply.{Reply}
-use Rattle.heap_spec.specs.Runs.{Start, Run, fresh}
+use Rattle.heap_spec.specs.Runs.{Start, Run, opening_start}
 use Rattle.replayer.specs.declared.hint.Hint.{Hint}
-use Rattle.replayer.specs.Contents.{Contents}
+use Rattle.replayer.specs.ReplayerContents.{ReplayerContents}
 use Rattle.replayer.specs.Replays.{IsReplay, IsReplayed, IsNoReplay}
 use Rattle.replayer.specs.Expecting.{IsTheReply, Expects}
 use Rattle.written_runs.specs.declared.rules.Rule.{Rule}
@@ -59,13 +59,13 @@ pub record AreLegal (start : Start) (lines : List (List ℕ)) (count : ℕ) : Ty
 -- What each verdict says of the lines of a text on a new heap of so many pages.
 abbrev pub IsJudged : ℕ → List (List ℕ) → Verdict → Type 0
 -- they are legal, and tell so many
-IsJudged pages lines (Legal count) = AreLegal (fresh pages) lines count
+IsJudged pages lines (Legal count) = AreLegal (opening_start pages) lines count
 -- they tell nothing
 IsJudged pages lines NoLines = told_lines lines ≡ []
 -- the line of this number is written of nothing
-IsJudged pages lines (Bad number) = HasFault (λ run line. IsUnwritten line) (fresh pages) lines number
+IsJudged pages lines (Bad number) = HasFault (λ run line. IsUnwritten line) (opening_start pages) lines number
 -- the line of this number breaks the run, by this rule
-IsJudged pages lines (Breaks number rule) = HasFault (IsBroken (fresh pages) rule) (fresh pages) lines number
+IsJudged pages lines (Breaks number rule) = HasFault (IsBroken (opening_start pages) rule) (opening_start pages) lines number
 
 -- A line had to have this reply: it is written of an event and another one, and the run goes on by the event with this one alone.
 pub record HadToAnswer (start : Start) (reply : Reply) (run : Run) (line : List ℕ) : Type 0 where
@@ -82,10 +82,10 @@ IsExplained pages lines verdict None = Unit {0}
 IsExplained pages lines (Legal count) (Some reply) = ⊥
 IsExplained pages lines NoLines (Some reply) = ⊥
 IsExplained pages lines (Bad number) (Some reply) = ⊥
-IsExplained pages lines (Breaks number rule) (Some reply) = HasFault (HadToAnswer (fresh pages) reply) (fresh pages) lines number
+IsExplained pages lines (Breaks number rule) (Some reply) = HasFault (HadToAnswer (opening_start pages) reply) (opening_start pages) lines number
 
 -- A line leads a replayer on: it is written of an event, its reply and a hint that replay.
-pub record LeadsOn (old : Contents) (line : List ℕ) (new : Contents) : Type 0 where
+pub record LeadsOn (old : ReplayerContents) (line : List ℕ) (new : ReplayerContents) : Type 0 where
   pub event : Event
   pub reply : Reply
   pub hint : Hint
@@ -94,7 +94,7 @@ pub record LeadsOn (old : Contents) (line : List ℕ) (new : Contents) : Type 0 
 
 -- A line stops a replayer: it is written of an event, its reply and a hint with which nothing that it follows goes on, and
 -- this is the rule for such a line.
-pub record Stops (old : Contents) (rule : Rule) (line : List ℕ) : Type 0 where
+pub record Stops (old : ReplayerContents) (rule : Rule) (line : List ℕ) : Type 0 where
   pub event : Event
   pub reply : Reply
   pub hint : Hint
@@ -103,7 +103,7 @@ pub record Stops (old : Contents) (rule : Rule) (line : List ℕ) : Type 0 where
   pub named : rule ≡ rule_of event reply hint
 
 -- where a line takes a replayer: a comment leaves it as it is, and a line that is told leads it on
-abbrev pub Takes : Bool → Contents → List ℕ → Contents → Type 0
+abbrev pub Takes : Bool → ReplayerContents → List ℕ → ReplayerContents → Type 0
 Takes true old line new = new ≡ old
 Takes false old line new = LeadsOn old line new
 
@@ -113,7 +113,7 @@ pub record IsToldAt (n number : ℕ) (line : List ℕ) : Type 0 where
   pub told : is_comment line ≡ false
 
 -- A line had to have this reply in each run that a replayer follows.
-pub record HasToAnswer (old : Contents) (reply : Reply) (line : List ℕ) : Type 0 where
+pub record HasToAnswer (old : ReplayerContents) (reply : Reply) (line : List ℕ) : Type 0 where
   pub event : Event
   pub given : Reply
   pub hint : Hint
@@ -122,14 +122,14 @@ pub record HasToAnswer (old : Contents) (reply : Reply) (line : List ℕ) : Type
   pub expected : Expects old event reply
 
 -- what a replayer finds of the line of this number, by which it doesn't go on
-abbrev pub IsLineVerdict : Contents → ℕ → List ℕ → Verdict → Type 0
+abbrev pub IsLineVerdict : ReplayerContents → ℕ → List ℕ → Verdict → Type 0
 IsLineVerdict old number line (Legal count) = ⊥
 IsLineVerdict old number line NoLines = ⊥
 IsLineVerdict old number line (Bad n) = IsToldAt n number line × IsUnwritten line
 IsLineVerdict old number line (Breaks n rule) = IsToldAt n number line × Stops old rule line
 
 -- and which reply the line had to have, if one is told
-abbrev pub IsLineExplained : Contents → List ℕ → Verdict → Option Reply → Type 0
+abbrev pub IsLineExplained : ReplayerContents → List ℕ → Verdict → Option Reply → Type 0
 IsLineExplained old line verdict None = Unit {0}
 IsLineExplained old line (Legal count) (Some reply) = ⊥
 IsLineExplained old line NoLines (Some reply) = ⊥
@@ -137,6 +137,6 @@ IsLineExplained old line (Bad n) (Some reply) = ⊥
 IsLineExplained old line (Breaks n rule) (Some reply) = HasToAnswer old reply line
 
 -- whether a line takes a replayer on, or else what is said of it
-abbrev pub IsLineJudged : Contents → ℕ → List ℕ → Option Judgement → Contents → Type 0
+abbrev pub IsLineJudged : ReplayerContents → ℕ → List ℕ → Option Judgement → ReplayerContents → Type 0
 IsLineJudged old number line None new = Takes (is_comment line) old line new
 IsLineJudged old number line (Some judgement) new = IsLineVerdict old number line judgement.verdict × IsLineExplained old line judgement.verdict judgement.expected

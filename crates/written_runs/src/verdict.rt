@@ -9,10 +9,10 @@ ghost use Rattle.written_runs.specs.Told.{is_comment, told_lines};
 use crate::cut::cut;
 use crate::line::read_line;
 use crate::rules::{Rule, rule_of};
-use faults::RunError;
 use heap_spec::{Event, Reply};
 use replayer::Replayer;
 use std::alloc::{AllocError, Global};
+use words::RunError;
 
 /// What is said of a written run.
 #[derive(Clone, Copy, Debug, PartialEq, Eq)]

@@ -15,7 +15,7 @@ impl Core {
 
     /// How many pages are dirty: so many a `retrace` would read, if no other became dirty.
     pub fn dirty_pages(&self) -> u32
-        ensures { result ≡ members self.now.cycle.marking.dirty }
+        ensures { result ≡ members self.now.cycle.marker.dirty }
     {
         self.marker.count_dirty()
     }

@@ -1,7 +1,7 @@
 //! Events: each call of the core as one event with its reply, and lists of them.
 ghost use Rattle.std.specs.Prelude.{◌≡◌, length};
 ghost use Rattle.heap_core.specs.Acts.{IsAct, AreActs};
-ghost use Rattle.heap_core.specs.Calls.{IsCall};
+ghost use Rattle.heap_core.specs.MutatorCalls.{IsCall};
 ghost use Rattle.heap_core.specs.Following.{IsLine, AreLines, told_of};
 
 use super::Core;

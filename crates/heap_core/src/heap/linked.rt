@@ -1,6 +1,6 @@
 //! The calls of mutators on links. A refused call changes nothing.
 ghost use Rattle.heap_spec.specs.Replies.{count_reply, done_reply};
-ghost use Rattle.heap_core.specs.Calls.{IsCall};
+ghost use Rattle.heap_core.specs.MutatorCalls.{IsCall};
 
 use super::Core;
 use super::objects::find_in;

@@ -25,7 +25,7 @@ impl Core {
 
     /// Whether a page is dirty. One that the heap hasn't is not.
     pub fn is_dirty(&self, page: u64) -> bool
-        ensures { result ≡ slice_index_or self.now.cycle.marking.dirty page false }
+        ensures { result ≡ slice_index_or self.now.cycle.marker.dirty page false }
     {
         self.laws();
         if page >= u64::from(self.objects.pages()) {
@@ -36,7 +36,7 @@ impl Core {
 
     /// Whether a page is carried: a partial cycle will read it. One that the heap hasn't is not.
     pub fn is_carried(&self, page: u64) -> bool
-        ensures { result ≡ slice_index_or self.now.cycle.marking.carried page false }
+        ensures { result ≡ slice_index_or self.now.cycle.marker.carried page false }
     {
         self.laws();
         self.marker.laws();
@@ -59,14 +59,14 @@ impl Core {
 
     /// The entry that is begun and no longer on the mark stack.
     pub fn current(&self) -> Option<Entry>
-        ensures { result ≡ self.now.cycle.marking.current }
+        ensures { result ≡ self.now.cycle.marker.current }
     {
         self.marker.current()
     }
 
     /// The entries of the mark stack, the next one last.
     pub fn entries(&self) -> &[Entry]
-        ensures { result.now ≡ self.now.cycle.marking.stack }
+        ensures { result.now ≡ self.now.cycle.marker.stack }
     {
         self.marker.waiting()
     }

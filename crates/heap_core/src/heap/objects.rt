@@ -4,7 +4,7 @@ ghost use Rattle.words.specs.declared.limits.TheConstants.{PAGE_WORDS};
 ghost use Rattle.heap_spec.specs.Replies.{count_reply, done_reply, word_reply};
 ghost use Rattle.block_map.specs.FoundIn.{IsLawful};
 ghost use Rattle.object_space.specs.Kept.{kept_in};
-ghost use Rattle.heap_core.specs.Calls.{IsCall};
+ghost use Rattle.heap_core.specs.MutatorCalls.{IsCall};
 ghost use Rattle.heap_core.specs.Granted.{granted_reply, HoldsWord};
 
 use super::Core;

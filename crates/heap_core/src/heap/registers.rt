@@ -3,7 +3,7 @@
 ghost use Rattle.std.specs.Prelude.{MatchOption};
 ghost use Rattle.roots.specs.Roots.{HasNoSlot, IsNextSlot};
 ghost use Rattle.heap_spec.specs.Replies.{done_reply, slot_reply, word_reply};
-ghost use Rattle.heap_core.specs.Calls.{IsCall};
+ghost use Rattle.heap_core.specs.MutatorCalls.{IsCall};
 
 use super::Core;
 use heap_spec::{Call, Event};

@@ -2,12 +2,12 @@
 ghost use Rattle.std.specs.Prelude.{ℕ, IfSome, IfNone};
 ghost use Rattle.heap_spec.specs.Heap.{Mutator as HeapMutator};
 ghost use Rattle.roots.specs.Roots.{HasMutator, HasNoMutator};
-ghost use Rattle.plain_core.specs.Contents.{Contents, IsLaidOut};
+ghost use Rattle.plain_core.specs.PlainContents.{PlainContents, IsLaidOut};
 ghost use Rattle.plain_core.specs.Answering.{FindsExtent, HoldsWord, FindsNothing, MayAnswer, CanAnswer, CanAttach};
 
 use super::Core;
 use crate::extent::Extent;
-use crate::owners::{object_at, place_of};
+use crate::owners::{object_at, word_index};
 use crate::places::place_for;
 use heap_spec::{Call, Reply};
 use links::is_normal;
@@ -17,7 +17,7 @@ use words::{Global, Kind, Refusal, Reg, Slot, class_of};
 
 // What a push would be answered.
 fn push_answer(mutator: &Mutator) -> Reply
-    ensures { (c : Contents) (from : ℕ) → MayAnswer c mutator.now (Call.Push from) result }
+    ensures { (c : PlainContents) (from : ℕ) → MayAnswer c mutator.now (Call.Push from) result }
 {
     if mutator.is_full() {
         return Reply::Refused(Refusal::StackFull);
@@ -27,7 +27,7 @@ fn push_answer(mutator: &Mutator) -> Reply
 
 // What a pop would be answered.
 fn pop_answer(mutator: &Mutator) -> Reply
-    ensures { (c : Contents) (into : ℕ) → MayAnswer c mutator.now (Call.Pop into) result }
+    ensures { (c : PlainContents) (into : ℕ) → MayAnswer c mutator.now (Call.Pop into) result }
 {
     let Some(word) = mutator.top() else {
         return Reply::Refused(Refusal::StackEmpty);
@@ -65,8 +65,8 @@ impl Core {
         ensures none { IfNone result (FindsNothing self.now address) }
     {
         object_at(&self.objects, &self.owners, address)?;
-        let place = place_of(address);
-        Some(self.words[place])
+        let position = word_index(address);
+        Some(self.words[position])
     }
 
     // What a load would be answered.

@@ -10,7 +10,7 @@ use super::Core;
 use crate::along::take_along;
 use crate::extent::Extent;
 use crate::given_place::place_at;
-use crate::owners::{fill, find_in, owner_at, place_of, write_owner};
+use crate::owners::{fill, find_in, owner_at, word_index, write_owner};
 use crate::places::place_for;
 use heap_spec::{Call, Event};
 use words::limits::WORD_BYTES;
@@ -29,8 +29,8 @@ impl Core {
             return Err(Refusal::Misaligned);
         }
         find_in(&self.objects, &self.owners, address)?;
-        let place = place_of(address);
-        let word = self.words[place];
+        let position = word_index(address);
+        let word = self.words[position];
         self.roots.set_word(slot, into, word);
         Ok(word)
     }
@@ -46,8 +46,8 @@ impl Core {
             return Err(Refusal::Misaligned);
         }
         find_in(&self.objects, &self.owners, address)?;
-        let place = place_of(address);
-        self.words[place] = word;
+        let position = word_index(address);
+        self.words[position] = word;
         Ok(())
     }
 
@@ -57,7 +57,7 @@ impl Core {
         requires fits { (placement : Placement) × MayBePut self.old placement object }
         ensures { (placement : Placement) → MayBePut self.old placement object → IsPut self.old slot into placement object self.new }
     {
-        let start = place_of(object.base);
+        let start = word_index(object.base);
         fill(&mut self.words, start, object.length as usize, 0);
         let index = self.objects.len();
         let _pushed = self.objects.push(object);

@@ -8,5 +8,5 @@ returns-then-index-objects c = own_all _ c.requires.apart _ c.requires.within _ 
 
 pub returns : goal.returns
 returns c = own_all _ c.requires.apart _ c.requires.within _ _ (omega arith) c.fill.auto.row
-    (own_last _ c.requires.apart _ c.requires.within _ _ c.place_of-start.result (slice_get-get_or c.args.objects.now c.args.index _ c.if-index-objects.false) c.place_of-start.ensures _ _ c.requires.others
+    (own_last _ c.requires.apart _ c.requires.within _ _ c.word_index-start.result (slice_get-get_or c.args.objects.now c.args.index _ c.if-index-objects.false) c.word_index-start.ensures _ _ c.requires.others
     c.fill.ensures.filled c.fill.ensures.others)

@@ -7,7 +7,7 @@ loop-index-init c = own_none _ c.requires.apart _ c.requires.within _
 
 pub loop-index-preserved : goal.loop-index-preserved
 loop-index-preserved c =
-    own_more _ c.requires.apart _ c.requires.within _ _ c.place_of-start.result (slice_get-get_or c.args.objects.now c.loop-index.index _ c.loop-index-test.true) c.place_of-start.ensures _ _ c.loop-index.invariant
+    own_more _ c.requires.apart _ c.requires.within _ _ c.word_index-start.result (slice_get-get_or c.args.objects.now c.loop-index.index _ c.loop-index-test.true) c.word_index-start.ensures _ _ c.loop-index.invariant
     c.fill.ensures.filled c.fill.ensures.others
 
 pub returns : goal.returns

@@ -1,7 +1,7 @@
 use Rattle.std.proofs.Common.{◌≡◌, subst, sym}
 use Rattle.std.proofs.lemmas.List.Elements.{All-contains}
 use Rattle.std.proofs.lemmas.Option.{get_or_from_slice_get}
-use Rattle.heap_spec.specs.Layout.{Reads}
+use Rattle.heap_spec.specs.Layout.{PointsInto}
 use Rattle.plain_core.specs.declared.extent.Extent.{Extent}
 use Rattle.plain_core.proofs.Collects.{in_row}
 use Rattle.plain_core.proofs.Owning.{one_there}
@@ -21,4 +21,4 @@ returns-clause-no c refused all =
     let x = c.in-Some.ensures.some in
     c.agrees.ensures.no refused
     (subst (λ (e : Extent). (e.length ≡ c.args.length) × (e.kind ≡ c.args.kind)) (sym (get_or_from_slice_get c.args.objects.now c.in-Some.index x.0 _ x.1))
-    (All-contains (λ (e : Extent). Reads c.args.address e.base e.length → (e.length ≡ c.args.length) × (e.kind ≡ c.args.kind)) _ x.0 all (in_row _ _ x.0 x.1) x.2))
+    (All-contains (λ (e : Extent). PointsInto c.args.address e.base e.length → (e.length ≡ c.args.length) × (e.kind ≡ c.args.kind)) _ x.0 all (in_row _ _ x.0 x.1) x.2))

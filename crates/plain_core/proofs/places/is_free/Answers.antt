@@ -1,13 +1,13 @@
 use Rattle.std.proofs.Common.{ℕ, below_more}
 use Rattle.std.specs.Prelude.{All}
-use Rattle.heap_spec.specs.Layout.{Reads}
+use Rattle.heap_spec.specs.Layout.{PointsInto}
 use Rattle.plain_core.specs.declared.extent.Extent.{Extent}
 use Rattle.plain_core.specs.Places.{granule_start}
 use Rattle.plain_core.proofs.Granules.{all_on, not_on}
 use Rattle.plain_core.proofs.places.is_free.Goals as goal
 
 pub loop-granule-preserved : goal.loop-granule-preserved
-loop-granule-preserved c = below_more (λ (g : ℕ). All (λ (e : Extent). Reads (granule_start c.args.page g) e.base e.length → ⊥) c.args.objects.now) _ c.loop-granule.invariant
+loop-granule-preserved c = below_more (λ (g : ℕ). All (λ (e : Extent). PointsInto (granule_start c.args.page g) e.base e.length → ⊥) c.args.objects.now) _ c.loop-granule.invariant
     (rw c.granule_start.ensures at c.is_bare.ensures.yes c.if-not-is_bare.false)
 
 pub returns-then-not-is_bare-clause-no : goal.returns-then-not-is_bare-clause-no

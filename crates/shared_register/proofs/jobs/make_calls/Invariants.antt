@@ -1,5 +1,5 @@
 use Rattle.std.proofs.Common.{◌≡◌, length, take}
-use Rattle.shared_register.specs.Calls.{Ran}
+use Rattle.shared_register.specs.LockedCalls.{Ran}
 use Rattle.shared_register.proofs.jobs.make_calls.Given as goal
 
 abbrev pub invariant-loop-i : goal.invariant-loop-i

@@ -1,6 +1,6 @@
 use Rattle.std.proofs.Common.{◌∙◌, ap, sym, arith, ◌++◌}
 use Rattle.std.specs.Prelude.{slice_index_or}
-use Rattle.shared_register.specs.Calls.{events}
+use Rattle.shared_register.specs.LockedCalls.{events}
 use Rattle.shared_register.proofs.jobs.run_to_one_history.Goals as goal
 
 pub returns : goal.returns

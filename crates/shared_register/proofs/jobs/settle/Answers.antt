@@ -2,12 +2,12 @@ use Rattle.std.proofs.Common.{◌≡◌, ◌≢◌, ◌∙◌, ℕ, zero, suc, �
 use Rattle.std.proofs.Math.ListN.{length-set}
 use native.Mathlib.Decide.{ℕ_discrete}
 use mathlib.Core.List.{IsPrefix}
-use Rattle.history.specs.declared.event.Event.{Event}
+use Rattle.history.specs.declared.made.Made.{Made}
 use Rattle.history.proofs.Fronts.{prefix_self, prefix_trans}
 use Rattle.shared_register.specs.declared.register.Call.{Call}
 use Rattle.shared_register.specs.declared.register.Reply.{Reply}
 use Rattle.shared_register.specs.declared.jobs.Job.{Job}
-use Rattle.shared_register.specs.Calls.{Keeps, IsLegalPass}
+use Rattle.shared_register.specs.LockedCalls.{Keeps, IsLegalPass}
 use Rattle.shared_register.proofs.jobs.settle.Goals as goal
 
 at_default : {A : Type 0} (l : List A) (i : ℕ) (a b : A) → i < length l → get_or l i a ≡ get_or l i b
@@ -45,7 +45,7 @@ loop-i-preserved g c =
       len = length-set l i x ∙ v.len;
       same = λ n d k. same_set c.args.jobs.now l i y x lt h.same n d (v.same n d k);
       seen = λ n d k. set_each (λ (j : Job g.row.J.Denot). IsPrefix j.me.seen all) l i x lt n d
-          (λ _. subst (λ (s : List (Event Call Reply)). IsPrefix s all) (sym h.both) (prefix_self all))
+          (λ _. subst (λ (s : List (Made Call Reply)). IsPrefix s all) (sym h.both) (prefix_self all))
           (λ ne. prefix_trans (get_or l n d).me.seen c.loop-i.collector.seen all (v.seen n d (omega arith)) h.grows)
           (ℕ_discrete n i);
     }
@@ -64,8 +64,8 @@ loop-k-preserved g c =
       len = length-set l i x ∙ v.len;
       same = λ n d k. same_set c.args.jobs.now l i y x lt h.same n d (v.same n d k);
       begins = λ n d k. set_each (λ (j : Job g.row.J.Denot). IsPrefix j.me.seen all) l i x lt n d
-          (λ _. subst (λ (s : List (Event Call Reply)). IsPrefix s all) (sym h.both) (prefix_self all))
-          (λ ne. subst (λ (s : List (Event Call Reply)). IsPrefix (get_or l n d).me.seen s) (sym stays) (v.begins n d k))
+          (λ _. subst (λ (s : List (Made Call Reply)). IsPrefix s all) (sym h.both) (prefix_self all))
+          (λ ne. subst (λ (s : List (Made Call Reply)). IsPrefix (get_or l n d).me.seen s) (sym stays) (v.begins n d k))
           (ℕ_discrete n i);
       met = λ n d k. set_each (λ (j : Job g.row.J.Denot). (j.me.seen ≡ all) × IsLegalPass g.J.Naming.origin j.me) l i x lt n d
           (λ _. (h.both, h.fine))

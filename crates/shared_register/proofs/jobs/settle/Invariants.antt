@@ -2,7 +2,7 @@ use Rattle.std.proofs.Common.{◌≡◌, ◌<◌, ℕ, length}
 use Rattle.std.specs.Prelude.{slice_index_or}
 use mathlib.Core.List.{IsPrefix}
 use Rattle.shared_register.specs.declared.jobs.Job.{Job}
-use Rattle.shared_register.specs.Calls.{Keeps, IsLegalPass}
+use Rattle.shared_register.specs.LockedCalls.{Keeps, IsLegalPass}
 use Rattle.shared_register.proofs.jobs.settle.Given as goal
 
 abbrev pub invariant-loop-i : goal.invariant-loop-i

@@ -7,7 +7,7 @@ use Rattle.history.proofs.Growing.{prefix_of}
 use Rattle.workloads.specs.declared.mutator_job.MutatorJob.{MutatorJob}
 use Rattle.history.specs.Histories.{counted_up}
 use Rattle.heap_history.specs.Alone.{attaches}
-use Rattle.heap_history.specs.Passes.{Entry, IsLegalPass}
+use Rattle.heap_history.specs.Passes.{MadeEvent, IsLegalPass}
 use Rattle.workloads.specs.Actors.{Keeps}
 use Rattle.workloads.proofs.settling.settle.Goals as goal
 
@@ -49,7 +49,7 @@ loop-i-preserved g c =
       len = length-set l i x ∙ v.len;
       same = λ n d k. same_set c.args.jobs.now l i y x lt h.keeps n d (v.same n d k);
       seen = λ n d k. set_each (λ (j : MutatorJob g.row.J.Denot g.row.R.Denot). IsPrefix j.attached.seen all) l i x lt n d
-          (λ _. subst (λ (s : List Entry). IsPrefix s all) (sym h.both) (prefix_self all))
+          (λ _. subst (λ (s : List MadeEvent). IsPrefix s all) (sym h.both) (prefix_self all))
           (λ ne. prefix_trans (get_or l n d).attached.seen c.loop-i.collector.seen all (v.seen n d (omega arith)) h.grows)
           (ℕ_discrete n i);
     }
@@ -71,10 +71,10 @@ loop-k-preserved g c =
       len = length-set l i x ∙ v.len;
       same = λ n d k. same_set c.args.jobs.now l i y x lt h.keeps n d (v.same n d k);
       begins = λ n d k. set_each (λ (j : MutatorJob g.row.J.Denot g.row.R.Denot). IsPrefix j.attached.seen all) l i x lt n d
-          (λ _. subst (λ (s : List Entry). IsPrefix s all) (sym h.both) (prefix_self all))
-          (λ ne. subst (λ (s : List Entry). IsPrefix (get_or l n d).attached.seen s) (sym stays) (v.begins n d k))
+          (λ _. subst (λ (s : List MadeEvent). IsPrefix s all) (sym h.both) (prefix_self all))
+          (λ ne. subst (λ (s : List MadeEvent). IsPrefix (get_or l n d).attached.seen s) (sym stays) (v.begins n d k))
           (ℕ_discrete n i);
-      count = v.count ∙ ap (λ (s : List Entry). counted_up (attaches s)) (sym stays);
+      count = v.count ∙ ap (λ (s : List MadeEvent). counted_up (attaches s)) (sym stays);
       met = λ n d k. set_each (λ (j : MutatorJob g.row.J.Denot g.row.R.Denot). (j.attached.seen ≡ all) × IsLegalPass g.J.Naming.origin j.attached) l i x lt n d
           (λ _. (h.both, h.fine))
           (λ ne. let m = v.met n d (omega arith) in (m.0 ∙ sym stays, m.1))

@@ -1,7 +1,7 @@
 use Rattle.std.proofs.Common.{◌≡◌, ◌∙◌, ℕ, true, false, List, length, set, refl, sym, ap, subst, arith}
 use Rattle.words.specs.Layout.{page_of}
 use Rattle.marker.specs.Marking.{bytes_of, word_address}
-use Rattle.marker.specs.Growth.{CarriesPage, TellsStray, words_of}
+use Rattle.marker.specs.Growth.{CarriesPage, TellsStray, words_from}
 use Rattle.marker.proofs.Words.{run_page, carries_some, carries_none}
 use Rattle.final_pause.specs.Helping.{found, VisitsAll}
 use Rattle.final_pause.proofs.Growing.{lent_words, reads_run}
@@ -33,7 +33,7 @@ carry-requires g c =
     let p = c.args.self.now in let object = c.args.found in let r = c.requires.fits.ready in let placed = r.map.placed _ _ c.requires.object.points in
     let f = c.from.ensures in
     let run = lent_words p.memory.now c.new-reader.result.words c.read_run.result (length p.map.now) object c.args.first c.args.count _ placed c.requires.inside r.memory (omega arith) c.read_run.ensures.run c.new-reader.ensures.words in
-    let tells : TellsStray (found p) (bytes_of p.marker.now) (words_of p.memory.now object c.args.first c.args.count) true =
+    let tells : TellsStray (found p) (bytes_of p.marker.now) (words_from p.memory.now object c.args.first c.args.count) true =
     subst (λ (ws : List ℕ). TellsStray (found p) (bytes_of p.marker.now) ws true) run (subst (TellsStray (found p) (bytes_of p.marker.now) c.read_run.result) c.if-visit_all.true c.visit_all.ensures.stray) in
     let q = c.page_of.ensures in
     let on = run_page (length p.map.now) p.memory.now object c.args.first c.args.count (found p) (bytes_of p.marker.now) _ true placed c.requires.inside refl tells refl in
@@ -45,7 +45,7 @@ returns-then-visit_all g c =
     let p = c.args.self.now in let object = c.args.found in let r = c.requires.fits.ready in let placed = r.map.placed _ _ c.requires.object.points in
     let f = c.from.ensures in
     let run = lent_words p.memory.now c.new-reader.result.words c.read_run.result (length p.map.now) object c.args.first c.args.count _ placed c.requires.inside r.memory (omega arith) c.read_run.ensures.run c.new-reader.ensures.words in
-    let tells : TellsStray (found p) (bytes_of p.marker.now) (words_of p.memory.now object c.args.first c.args.count) true =
+    let tells : TellsStray (found p) (bytes_of p.marker.now) (words_from p.memory.now object c.args.first c.args.count) true =
     subst (λ (ws : List ℕ). TellsStray (found p) (bytes_of p.marker.now) ws true) run (subst (TellsStray (found p) (bytes_of p.marker.now) c.read_run.result) c.if-visit_all.true c.visit_all.ensures.stray) in
     let q = c.page_of.ensures in
     let on = run_page (length p.map.now) p.memory.now object c.args.first c.args.count (found p) (bytes_of p.marker.now) _ true placed c.requires.inside refl tells refl in
@@ -55,7 +55,7 @@ returns-then-visit_all g c =
     reads_run p object c.args.first c.args.count (page_of (word_address object c.args.first)) c.args.helper.now c.visit_all.new.helper c.carry.new.helper c.requires.inside c.requires.one_page
     (subst (λ (ws : List ℕ). VisitsAll p ws c.args.helper.now c.visit_all.new.helper) run c.visit_all.ensures.visits)
     k.claimer k.stack k.dirty k.share
-    (subst (CarriesPage (found p) (bytes_of p.marker.now) (words_of p.memory.now object c.args.first c.args.count) (page_of (word_address object c.args.first)) c.visit_all.new.helper.carried)
+    (subst (CarriesPage (found p) (bytes_of p.marker.now) (words_from p.memory.now object c.args.first c.args.count) (page_of (word_address object c.args.first)) c.visit_all.new.helper.carried)
     (ap (λ (n : ℕ). set c.visit_all.new.helper.carried n true) (sym is) ∙ sym k.carried)
     (carries_some (found p) (bytes_of p.marker.now) _ (page_of (word_address object c.args.first)) c.visit_all.new.helper.carried (omega arith) tells))
 
@@ -64,7 +64,7 @@ returns-else-visit_all g c =
     let p = c.args.self.now in let object = c.args.found in let r = c.requires.fits.ready in let placed = r.map.placed _ _ c.requires.object.points in
     let f = c.from.ensures in
     let run = lent_words p.memory.now c.new-reader.result.words c.read_run.result (length p.map.now) object c.args.first c.args.count _ placed c.requires.inside r.memory (omega arith) c.read_run.ensures.run c.new-reader.ensures.words in
-    let tells : TellsStray (found p) (bytes_of p.marker.now) (words_of p.memory.now object c.args.first c.args.count) false =
+    let tells : TellsStray (found p) (bytes_of p.marker.now) (words_from p.memory.now object c.args.first c.args.count) false =
     subst (λ (ws : List ℕ). TellsStray (found p) (bytes_of p.marker.now) ws false) run (subst (TellsStray (found p) (bytes_of p.marker.now) c.read_run.result) c.if-visit_all.false c.visit_all.ensures.stray) in
     let h = c.visit_all.new.helper in
     reads_run p object c.args.first c.args.count (page_of (word_address object c.args.first)) c.args.helper.now h h c.requires.inside c.requires.one_page

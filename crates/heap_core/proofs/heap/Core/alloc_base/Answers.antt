@@ -18,7 +18,7 @@ pub allocate-requires-clause-request : goal.allocate-requires-clause-request
 allocate-requires-clause-request c = sized c.args.words _ (sym (rw c.in_ok-placement.ensures.ok_part at c.class_of.ensures))
 
 pub invariant_of-self : goal.invariant_of-self
-invariant_of-self c = traced_swept _ _ (record { marking = c.self.inside.marker; is_marking = c.self.inside.is_marking; needs_full = c.self.inside.needs_full; count = c.self.inside.count }) c.self.invariant (rw c.in_err-base.ensures.ok_part at c.allocate.ensures).sweeps
+invariant_of-self c = traced_swept _ _ (record { marker = c.self.inside.marker; is_marking = c.self.inside.is_marking; needs_full = c.self.inside.needs_full; count = c.self.inside.count }) c.self.invariant (rw c.in_err-base.ensures.ok_part at c.allocate.ensures).sweeps
 
 pub returns-in_err-base-clause-call : goal.returns-in_err-base-clause-call
 returns-in_err-base-clause-call c =
@@ -39,11 +39,11 @@ note_object-requires-clause-inside c =
 pub invariant_of-self-2 : goal.invariant_of-self-2
 invariant_of-self-2 c =
     let a = rw c.in_ok-base.ensures.ok_part at c.allocate.ensures in
-    traced_object _ _ (record { marking = c.self.inside.marker; is_marking = c.self.inside.is_marking; needs_full = c.self.inside.needs_full; count = c.self.inside.count }) _ _ _ _ (traced_swept _ a.ready _ c.self.invariant a.sweeps) a.gains c.note_object.ensures refl refl
+    traced_object _ _ (record { marker = c.self.inside.marker; is_marking = c.self.inside.is_marking; needs_full = c.self.inside.needs_full; count = c.self.inside.count }) _ _ _ _ (traced_swept _ a.ready _ c.self.invariant a.sweeps) a.gains c.note_object.ensures refl refl
 
 pub returns-clause-call : goal.returns-clause-call
 returns-clause-call c =
     let a = rw c.in_ok-base.ensures.ok_part at c.allocate.ensures in
     rw (← c.self.view_is)
     (allocated _ _ _ _ _ _ _ _ _ _ _ _ _ c.in_ok-attached.field-0.now c.in_ok-attached.ensures.ok (sym (rw c.in_ok-placement.ensures.ok_part at c.class_of.ensures)) a.sweeps a.room a.gains c.set_word.ensures c.note_object.ensures
-    (unmarked_new a.ready _ (record { marking = c.self.inside.marker; is_marking = c.self.inside.is_marking; needs_full = c.self.inside.needs_full; count = c.self.inside.count }) _ _ _ (traced_swept _ a.ready (record { marking = c.self.inside.marker; is_marking = c.self.inside.is_marking; needs_full = c.self.inside.needs_full; count = c.self.inside.count }) c.self.invariant a.sweeps).objects a.gains) refl refl refl)
+    (unmarked_new a.ready _ (record { marker = c.self.inside.marker; is_marking = c.self.inside.is_marking; needs_full = c.self.inside.needs_full; count = c.self.inside.count }) _ _ _ (traced_swept _ a.ready (record { marker = c.self.inside.marker; is_marking = c.self.inside.is_marking; needs_full = c.self.inside.needs_full; count = c.self.inside.count }) c.self.invariant a.sweeps).objects a.gains) refl refl refl)

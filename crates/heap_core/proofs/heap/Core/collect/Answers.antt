@@ -1,5 +1,5 @@
 use Rattle.std.proofs.Common.{◌≡◌, refl, sym, subst, ◌∙◌}
-use Rattle.marker.specs.Marking.{IsFresh}
+use Rattle.marker.specs.Marking.{IsBlank}
 use Rattle.roots.specs.Roots.{root_words_of}
 use Rattle.object_space.specs.Sweeps.{ForgetsUnreached}
 use Rattle.heap_core.proofs.Cycling.{collects_all}
@@ -11,7 +11,7 @@ pub returns : goal.returns
 returns c =
     let e : c.as_slice.result.now ≡ root_words_of c.self.inside.roots = c.as_slice.ensures.value ∙ c.write_words.ensures in
     rw (← c.self.view_is)
-    (collects_all _ c.sweep_all.new.self c.begin.new.self _ _ _ _ _ _ c.collect-count.ensures.lawful.map c.sweep_all.ensures.sweeps c.sweep_all.ensures.swept (subst (λ n. IsFresh n c.begin.new.self) (c.self.invariant.pages ∙ sym c.sweep_all.ensures.sweeps.pages) c.begin.ensures.fresh)
+    (collects_all _ c.sweep_all.new.self c.begin.new.self _ _ _ _ _ _ c.collect-count.ensures.lawful.map c.sweep_all.ensures.sweeps c.sweep_all.ensures.swept (subst (λ n. IsBlank n c.begin.new.self) (c.self.invariant.pages ∙ sym c.sweep_all.ensures.sweeps.pages) c.begin.ensures.blank)
     (subst (λ rs. ForgetsUnreached c.sweep_all.new.self rs c.begin.new.self c.collect-count.result c.collect-count.new.marker.marks c.collect-count.new.self) e c.collect-count.ensures.forgets) c.collect-count.ensures.swept c.collect-count.ensures.done refl c.take_along.ensures.lawful.map c.take_along.ensures.along c.take_along.ensures.links)
 
 pub invariant_of-self : goal.invariant_of-self

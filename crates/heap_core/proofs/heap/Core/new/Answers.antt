@@ -15,7 +15,7 @@ returns c = (
       empty = c.laws.ensures.empty;
       lawful = c.laws.ensures.lawful;
       laid = c.laws.ensures.laid;
-      traced = let pages = (c.in_ok-objects.ensures.1.1 (λ _. true)).pages in let fresh = c.in_ok-marker.ensures.1 in traced_ended _ _ _ _ (fresh.dirty.size ∙ pages) (fresh_objects _ _ _ fresh) (λ is. absurd (true≢false is));
+      traced = let pages = (c.in_ok-objects.ensures.1.1 (λ _. true)).pages in let blank = c.in_ok-marker.ensures.1 in traced_ended _ _ _ _ (blank.dirty.size ∙ pages) (fresh_objects _ _ _ blank) (λ is. absurd (true≢false is));
     };
     stands = record {
       mutators = sym (ap (λ (r : RootSet). r.mutators) c.new-3.ensures);
@@ -27,12 +27,12 @@ returns c = (
     count = refl;
     needs_full = refl;
     swept = c.in_ok-objects.ensures.1.0;
-    fresh = c.in_ok-marker.ensures.1;
+    blank = c.in_ok-marker.ensures.1;
   },
 )
 
 pub invariant_of-result : goal.invariant_of-result
 invariant_of-result c =
     let pages = (c.in_ok-objects.ensures.1.1 (λ _. true)).pages in
-    let fresh = c.in_ok-marker.ensures.1 in
-    traced_ended _ _ _ _ (fresh.dirty.size ∙ pages) (fresh_objects _ _ _ fresh) (λ is. absurd (true≢false is))
+    let blank = c.in_ok-marker.ensures.1 in
+    traced_ended _ _ _ _ (blank.dirty.size ∙ pages) (fresh_objects _ _ _ blank) (λ is. absurd (true≢false is))

@@ -1,6 +1,6 @@
 use Rattle.std.proofs.Common.{ap}
 use Rattle.marker.specs.Marking.{Marking}
-use Rattle.heap_core.specs.Contents.{Contents}
+use Rattle.heap_core.specs.CoreContents.{CoreContents}
 use Rattle.heap_core.specs.Collections.{none, page}
 use Rattle.heap_core.proofs.Tracing.{traced_on}
 use Rattle.heap_core.proofs.Cycling.{marks_more}
@@ -8,7 +8,7 @@ use Rattle.heap_core.proofs.heap.Core.retrace.Goals as goal
 
 pub returns-in_default : goal.returns-in_default
 returns-in_default c =
-    let with_marks : Marking → Contents = λ m. record { roots = c.self.inside.roots; store = c.self.inside.objects; cycle = record { marking = m; is_marking = c.self.inside.is_marking; needs_full = c.self.inside.needs_full; count = c.self.inside.count }; links = c.self.inside.links } in
+    let with_marks : Marking → CoreContents = λ m. record { roots = c.self.inside.roots; store = c.self.inside.objects; cycle = record { marker = m; is_marking = c.self.inside.is_marking; needs_full = c.self.inside.needs_full; count = c.self.inside.count }; links = c.self.inside.links } in
     rw (← c.self.view_is) (
       c.if-not-self.false,
       record {

@@ -39,7 +39,7 @@ note_write-requires-clause-inside c =
     omega arith
 
 pub invariant_of-self : goal.invariant_of-self
-invariant_of-self c = traced_write _ _ (record { marking = c.self.inside.marker; is_marking = c.self.inside.is_marking; needs_full = c.self.inside.needs_full; count = c.self.inside.count }) _ _ _ c.self.invariant c.write.ensures c.note_write.ensures refl refl
+invariant_of-self c = traced_write _ _ (record { marker = c.self.inside.marker; is_marking = c.self.inside.is_marking; needs_full = c.self.inside.needs_full; count = c.self.inside.count }) _ _ _ c.self.invariant c.write.ensures c.note_write.ensures refl refl
 
 pub returns : goal.returns
 returns c = rw (← c.self.view_is)

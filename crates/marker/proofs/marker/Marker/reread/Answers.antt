@@ -2,7 +2,7 @@ use Rattle.std.proofs.Common.{length, ℕ, ◌≡◌, ◌+◌, ◌*◌, ◌<◌,
 use Rattle.words.specs.declared.limits.TheConstants.{PAGE_BYTES}
 use Rattle.words.specs.Layout.{page_of}
 use Rattle.marker.specs.Marking.{word_address}
-use Rattle.marker.specs.Growth.{CarriesPage, words_of}
+use Rattle.marker.specs.Growth.{CarriesPage, words_from}
 use Rattle.block_map.specs.FoundIn.{found_in}
 use Rattle.marker.proofs.Closures.{at_base, marks_of}
 use Rattle.marker.proofs.MarkWord.{markable}
@@ -42,7 +42,7 @@ returns-clause-rereads c =
     let t : c.has_words_to_read.result ≡ true = search rules in
     let is = c.has_words_to_read.ensures.yes t in
     rereads_words (length c.args.map.now) (found_in c.args.map.now) c.requires.lawful.map c.args.reader.now.words c.args.low c.args.high c.part_between-part.result.stop _ _ _ c.args.found _ _ (one c)
-    (subst (λ (k : ℕ). CarriesPage (found_in c.args.map.now) (PAGE_BYTES * k) (words_of c.args.reader.now.words c.args.found c.part_between-part.result.first c.part_between-part.result.count) (page_of (word_address c.args.found c.part_between-part.result.first)) c.args.self.now.carried c.mark_words.new.self.carried) (sym c.requires.pages) c.mark_words.ensures.carries)
+    (subst (λ (k : ℕ). CarriesPage (found_in c.args.map.now) (PAGE_BYTES * k) (words_from c.args.reader.now.words c.args.found c.part_between-part.result.first c.part_between-part.result.count) (page_of (word_address c.args.found c.part_between-part.result.first)) c.args.self.now.carried c.mark_words.new.self.carried) (sym c.requires.pages) c.mark_words.ensures.carries)
     (marks_of _ _ c.laws.ensures c.requires.pages) c.requires.next p.inside
     (at_base (length c.args.map.now) (found_in c.args.map.now) c.requires.lawful.map c.requires.next.at c.args.found c.requires.next.reads)
     is.0 is.1 p.fits p.reaches p.back p.ends c.mark_words.ensures.marks

@@ -5,7 +5,7 @@ use Rattle.words.specs.declared.class.Kind.TheVariants.{Normal, PointerFree}
 use Rattle.words.specs.declared.limits.TheConstants.{FIRST_ADDRESS, GRANULE_BYTES, PAGE_BYTES, WORD_BYTES}
 use Rattle.words.specs.Layout.{page_of}
 use Rattle.marker.specs.Marking.{word_address}
-use Rattle.marker.specs.Growth.{CarriesPage, words_of}
+use Rattle.marker.specs.Growth.{CarriesPage, words_from}
 use Rattle.words.specs.Bits.{Has}
 use Rattle.block_map.specs.declared.found.Found.{Found}
 use Rattle.block_map.specs.FoundIn.{found_in}
@@ -54,7 +54,7 @@ returns-clause-rereads c =
     objects_words (length c.args.map.now) (found_in c.args.map.now) c.requires.lawful.map c.args.reader.now.words c.args.self.now c.args.high c.args.granule c.min-stop.result n
     c.args.reader.now.reads c.mark_words.new.reader.reads (page_of (word_address c.in-Some.found 0)) c.in-Some.found c.args.self.now c.mark_words.new.self
     (λ i from below. let one = c.requires.one_page in let low = one.1 in let end = one.2 in omega arith)
-    (subst (λ (k : ℕ). CarriesPage (found_in c.args.map.now) (PAGE_BYTES * k) (words_of c.args.reader.now.words c.in-Some.found 0 n) (page_of (word_address c.in-Some.found 0)) c.args.self.now.carried c.mark_words.new.self.carried) (sym c.requires.pages) c.mark_words.ensures.carries)
+    (subst (λ (k : ℕ). CarriesPage (found_in c.args.map.now) (PAGE_BYTES * k) (words_from c.args.reader.now.words c.in-Some.found 0 n) (page_of (word_address c.in-Some.found 0)) c.args.self.now.carried c.mark_words.new.self.carried) (sym c.requires.pages) c.mark_words.ensures.carries)
     (marks_of _ _ c.laws.ensures c.requires.pages) (omega arith)
     (at_base (length c.args.map.now) (found_in c.args.map.now) c.requires.lawful.map _ c.in-Some.found (sym c.in-Some.ensures.found)) k
     (subst (Has c.args.self.now.marks) (omega arith) c.requires.marked) (omega arith) (omega arith) ends (omega arith) whole (omega arith) c.mark_words.ensures.marks

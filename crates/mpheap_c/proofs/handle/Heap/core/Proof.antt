@@ -36,7 +36,7 @@ use Rattle.std.specs.Prelude.{Option}
 use Rattle.std.proofs.alloc.Calls.{token}
 use Rattle.std_alloc.proofs.BoxSteps.Form.{D, R, B, τ, word, handle}
 use Rattle.std_alloc.proofs.BoxSteps.Steps.{box_out, box_in}
-use Rattle.heap_core.specs.Contents.{Contents}
+use Rattle.heap_core.specs.CoreContents.{CoreContents}
 use Rattle.heap_core.specs.contracts.heap.Core as Core
 use Rattle.mpheap_c.specs.Handle.{IsOpen}
 use Rattle.mpheap_c.specs.Follows.{with_core}
@@ -70,7 +70,7 @@ module _ {M : Type 1} {𝓤 : Ura M} (𝓛 : Logic 𝓤) (at_mem : Memory → SP
     Post = (walk_of 𝓛 F.ended stayed (F.clauses 𝓛 at_mem run)).post bound
 
     -- the handle as a box with this core
-    abbrev boxed : Contents → D E
+    abbrev boxed : CoreContents → D E
     boxed w = record { ptr = h.at; alloc = h.alloc; value = w }
 
     module _ (b o : ℕ) (hv : Val) where
@@ -78,7 +78,7 @@ module _ {M : Type 1} {𝓤 : Ura M} (𝓛 : Logic 𝓤) (at_mem : Memory → SP
       abbrev Rest : Fml
       Rest = fsep (fsep (token E.al h.alloc (bare (τ E)) (block_ptr b o)) (handle E h.alloc hv)) (cell_at full_share Hp.mir (word E hv b o ∷ []) rb ro)
 
-      back : h.at ≡ block_ptr b o → (w : Contents) → ent 𝓤 (sep 𝓤 (sem 𝓛 ((mem Co).own_at w b o)) (sem 𝓛 Rest)) (sem 𝓛 ((mem Hp).own_at (with_core h w) rb ro))
+      back : h.at ≡ block_ptr b o → (w : CoreContents) → ent 𝓤 (sep 𝓤 (sem 𝓛 ((mem Co).own_at w b o)) (sem 𝓛 Rest)) (sem 𝓛 ((mem Hp).own_at (with_core h w) rb ro))
       unfolding part_of
       back at_b w =
           qed 𝓛 (‵ (part_at Co full_share w b o) ∷ ‵ Rest ∷ []) ∵ use1 𝓛 (‵ (part_at (R E) full_share w b o)) (id⊢ 𝓤 _) $ move ! (1 ∷ []) $ fsplit ! $ fsplit ! $ move ! (3 ∷ []) $
@@ -101,7 +101,7 @@ module _ {M : Type 1} {𝓤 : Ura M} (𝓛 : Logic 𝓤) (at_mem : Memory → SP
           let En : Env 𝓤 H = env code.function.locals l in
           move ! (1 ∷ []) $ fsplit ! $ fsplit3 ! $ drop ! $ move ! (3 ∷ []) $ split ! $ move ! (2 ∷ 3 ∷ 0 ∷ []) $
           opens ! tt Hp {h = h} rb ro (λ vs. move ! (1 ∷ []) $
-          rewrite ! 0 (λ (k : Option Contents). ‵ (Hp.own_val (record { at = h.at; alloc = h.alloc; core = k }) vs)) opened.1 refl $
+          rewrite ! 0 (λ (k : Option CoreContents). ‵ (Hp.own_val (record { at = h.at; alloc = h.alloc; core = k }) vs)) opened.1 refl $
           use1 𝓛 (‵ ((B E).own_val (boxed opened.0) vs)) (id⊢ 𝓤 _) $
           box_out E ! (boxed opened.0) vs (λ b o hv at_b ws fa. use1 𝓛 (‵ (part_at Co full_share opened.0 b o)) (id⊢ 𝓤 _) $ move ! (1 ∷ 2 ∷ []) $ fjoin ! $ move ! (1 ∷ []) $
           rewrite ! 2 (λ (us : List Val). ‵ (cell_at full_share Hp.mir us rb ro)) ws refl $

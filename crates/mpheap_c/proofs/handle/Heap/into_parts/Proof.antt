@@ -5,7 +5,7 @@ use Rattle.std.specs.Prelude.{Option}
 use contract.Monad.{fact}
 use denote.Steps.{heard}
 use types.Kit.{rewrite}
-use Rattle.heap_core.specs.Contents.{Contents}
+use Rattle.heap_core.specs.CoreContents.{CoreContents}
 use Rattle.mpheap_c.specs.Handle.{IsOpen}
 use Rattle.mpheap_c.specs.contracts.handle.Heap as Handle
 use seplogic.Ra.Ura.{Ura}
@@ -53,7 +53,7 @@ module _ {M : Type 1} {𝓤 : Ura M} (𝓛 : Logic 𝓤) (at_mem : Memory → SP
       let v : D E = record { ptr = h.at; alloc = h.alloc; value = opened.0 } in
       let made : To.Denot = record { ptr = v.ptr; alloc = v.alloc; value = v.value } in
       split ! $ drop ! $ fsplit ! $
-      rewrite ! 0 (λ (k : Option Contents). ‵ (Handle.the_row.own_val (record { at = h.at; alloc = h.alloc; core = k }) z.0.4.0)) opened.1 refl $
+      rewrite ! 0 (λ (k : Option CoreContents). ‵ (Handle.the_row.own_val (record { at = h.at; alloc = h.alloc; core = k }) z.0.4.0)) opened.1 refl $
       use1 𝓛 (‵ ((B E).own_val v z.0.4.0)) (id⊢ 𝓤 _) $
       box_out E ! v z.0.4.0 (λ b o hv e ws fa. box_in E ! v b o v.value e refl $ use1 𝓛 (‵ (To.own_val made (word E hv b o ∷ []))) (id⊢ 𝓤 _) $ move ! (1 ∷ []) $ drop ! $
       let w = word E hv b o in

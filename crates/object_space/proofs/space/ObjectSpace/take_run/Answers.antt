@@ -1,6 +1,6 @@
 use Rattle.std.proofs.Common.{refl, ◌*◌, ap, subst, arith}
 use Rattle.words.specs.declared.limits.TheConstants.{PAGE_WORDS}
-use Rattle.pages.specs.Memory.{IsZeroed, place}
+use Rattle.pages.specs.Memory.{IsZeroed, word_index}
 use Rattle.object_space.proofs.Stores.{store_of}
 use Rattle.object_space.proofs.Pending.{pending_cut, cut_span}
 use Rattle.object_space.proofs.Allocations.{allocates_large, gains_large, listed_large, no_room_large, sound_large}
@@ -26,7 +26,7 @@ cut_large-requires-clause-free c k low high = c.self.invariant.sound.agree.free_
 pub invariant_of-self-2 : goal.invariant_of-self-2
 invariant_of-self-2 c =
     let run = c.in-Some.ensures.some.0.run in
-    let zeroed = subst (λ b. IsZeroed c.self.inside.memory c.zero.new.self (place b) (PAGE_WORDS * c.args.pages)) c.page_start-base.ensures c.zero.ensures in
+    let zeroed = subst (λ b. IsZeroed c.self.inside.memory c.zero.new.self (word_index b) (PAGE_WORDS * c.args.pages)) c.page_start-base.ensures c.zero.ensures in
     record {
       sound = sound_large _ c.self.invariant.sound c.len.ensures.laid c.len.ensures.lawful _ c.args.kind _ _ _ _ c.requires.0 run c.in-Some.ensures.some.1 c.cut_large.ensures.states c.cut_large.ensures.added zeroed;
       listed = listed_large _ c.self.invariant.sound c.len.ensures.laid c.len.ensures.lawful _ c.args.kind _ _ _ _ c.requires.0 run c.in-Some.ensures.some.1 c.cut_large.ensures.states c.cut_large.ensures.added zeroed
@@ -39,14 +39,14 @@ invariant_of-self-2 c =
 
 pub returns-clause-some : goal.returns-clause-some
 returns-clause-some c =
-    let zeroed = subst (λ b. IsZeroed c.self.inside.memory c.zero.new.self (place b) (PAGE_WORDS * c.args.pages)) c.page_start-base.ensures c.zero.ensures in
+    let zeroed = subst (λ b. IsZeroed c.self.inside.memory c.zero.new.self (word_index b) (PAGE_WORDS * c.args.pages)) c.page_start-base.ensures c.zero.ensures in
     rw (← c.self.view_is, c.page_start-base.ensures)
     (allocates_large _ c.self.invariant.sound c.len.ensures.laid c.len.ensures.lawful _ c.args.kind _ _ _ _ c.requires.0 c.in-Some.ensures.some.0.run c.in-Some.ensures.some.1 c.cut_large.ensures.states c.cut_large.ensures.added zeroed)
 
 pub returns-clause-gains : goal.returns-clause-gains
 returns-clause-gains c =
     let run = c.in-Some.ensures.some.0.run in
-    let zeroed = subst (λ b. IsZeroed c.self.inside.memory c.zero.new.self (place b) (PAGE_WORDS * c.args.pages)) c.page_start-base.ensures c.zero.ensures in
+    let zeroed = subst (λ b. IsZeroed c.self.inside.memory c.zero.new.self (word_index b) (PAGE_WORDS * c.args.pages)) c.page_start-base.ensures c.zero.ensures in
     rw (← c.self.view_is, c.page_start-base.ensures)
     (gains_large _ c.self.invariant.sound c.len.ensures.laid c.len.ensures.lawful _ c.args.kind _ _ _ _ c.requires.0 run c.in-Some.ensures.some.1 c.cut_large.ensures.states c.cut_large.ensures.added zeroed
     (λ page low high. c.self.invariant.sound.agree.free_in_map page (run.free page low high)) c.self.invariant.pending)

@@ -1,6 +1,6 @@
 use Rattle.std.proofs.Common.{sym, ◌∙◌, subst}
 use Rattle.heap_spec.specs.Steps.{Acts}
-use Rattle.plain_core.specs.Contents.{Contents}
+use Rattle.plain_core.specs.PlainContents.{PlainContents}
 use Rattle.plain_core.specs.Standing.{StandsFor}
 use Rattle.roots.proofs.Refusals.{handed_on_none}
 use Rattle.plain_core.proofs.Stands.{refused_vacant, keeps_all}
@@ -25,7 +25,7 @@ returns-in_err-object c =
     let none = rw (c.in_err-object.ensures.ok_part, c.deref.ensures.value) at c.place_for.ensures.none in
     rw (handed_on_none _ _ _ _ c.from_residual-in_err-object.ensures.1 c.in_err-object.ensures.value)
     (keeps_all _ _ _ _ c.in_ok-ok_or.field-0.now (rw c.in_ok-ok_or.ensures.ok_part at c.mutator.ensures.some)
-    (λ s h. Acts.full (sym c.class_of.ensures ∙ c.in_ok-placement.ensures.ok_part) (λ a room. none a (place_of _ c.self.invariant.0 s (subst (λ (x : Contents). StandsFor x s) (sym c.self.view_is) h) _ _ a room))))
+    (λ s h. Acts.full (sym c.class_of.ensures ∙ c.in_ok-placement.ensures.ok_part) (λ a room. none a (place_of _ c.self.invariant.0 s (subst (λ (x : PlainContents). StandsFor x s) (sym c.self.view_is) h) _ _ a room))))
 
 pub put-requires-clause-fits : goal.put-requires-clause-fits
 put-requires-clause-fits c =

@@ -1,7 +1,7 @@
 use Rattle.std.proofs.Common.{ap, subst, ◌∙◌}
 use Rattle.heap_spec.specs.Steps.{Acts, address}
 use Rattle.links.specs.Rows.{HasRowRoom, LacksRowRoom}
-use Rattle.plain_core.specs.Contents.{Contents}
+use Rattle.plain_core.specs.PlainContents.{PlainContents}
 use Rattle.plain_core.proofs.Linking.{room_for, full_acts}
 use Rattle.plain_core.proofs.plain.Core.link_answer.Goals as goal
 
@@ -27,7 +27,7 @@ returns-then-not-has_room c s h slot =
     let object = rw c.word-word.ensures at (c.in-Some-found.ensures.some s h) in (
       s,
       full_acts c.args.self.now s h slot _ _ _ _ _ c.args.mutator.now holder.0 object.0 (rw c.address-address.ensures at c.if-address-ne0.false) holder.1 (holder.3 ∙ c.if-is_normal.ensures) object.1
-          (subst (λ row. LacksRowRoom row (address c.args.mutator.now c.args.at c.args.offset)) (ap (λ (x : Contents). x.links) c.self.view_is) (rw c.address-address.ensures at c.if-not-has_room.ensures)),
+          (subst (λ row. LacksRowRoom row (address c.args.mutator.now c.args.at c.args.offset)) (ap (λ (x : PlainContents). x.links) c.self.view_is) (rw c.address-address.ensures at c.if-not-has_room.ensures)),
     )
 
 pub returns : goal.returns
@@ -36,5 +36,5 @@ returns c s h slot =
     let object = rw c.word-word.ensures at (c.in-Some-found.ensures.some s h) in (
       _,
       Acts.linked (rw c.address-address.ensures at c.if-address-ne0.false) holder.1 (holder.3 ∙ c.if-is_normal.ensures) object.1
-          (room_for c.args.self.now s _ h (subst (λ row. HasRowRoom row (address c.args.mutator.now c.args.at c.args.offset)) (ap (λ (x : Contents). x.links) c.self.view_is) (rw c.address-address.ensures at c.if-not-has_room.ensures))),
+          (room_for c.args.self.now s _ h (subst (λ row. HasRowRoom row (address c.args.mutator.now c.args.at c.args.offset)) (ap (λ (x : PlainContents). x.links) c.self.view_is) (rw c.address-address.ensures at c.if-not-has_room.ensures))),
     )

@@ -30,4 +30,4 @@ returns c =
     (rw c.deref.ensures.value at c.in_ok-find_in.ensures.ok.0)
     (rw c.address-address.ensures at c.in_ok-find_in.ensures.ok.1)
     (rw c.address-address.ensures at c.if-address-ne0.false)
-    (rw (c.place_of-place.ensures, c.address-address.ensures) at c.index-word.ensures) c.set_word.ensures)
+    (rw (c.word_index-position.ensures, c.address-address.ensures) at c.index-word.ensures) c.set_word.ensures)

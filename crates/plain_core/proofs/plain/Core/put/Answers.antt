@@ -3,24 +3,24 @@ use Rattle.std.specs.Vec.{vec_capacity}
 use Rattle.std.proofs.lemmas.List.{with_items_is}
 use Rattle.words.specs.declared.limits.TheConstants.{PAGE_GRANULES}
 use Rattle.roots.specs.Roots.{HasMutator}
-use Rattle.plain_core.specs.Contents.{Contents}
+use Rattle.plain_core.specs.PlainContents.{PlainContents}
 use Rattle.plain_core.specs.Answering.{MayBePut}
 use Rattle.plain_core.proofs.Alloc.{pushed_items, place_from, IsZeroed, room_left, fits_row, alloc_sound, puts}
 use Rattle.plain_core.proofs.Collects.{sound_apart, lie_in}
 use Rattle.plain_core.proofs.Owning.{owners_as, own_pushed}
 use Rattle.plain_core.proofs.plain.Core.put.Goals as goal
 
-pub place_of-start-requires : goal.place_of-start-requires
-place_of-start-requires c = place_from _ _ c.requires.fits.0 _ _ c.requires.fits.1.place
+pub word_index-start-requires : goal.word_index-start-requires
+word_index-start-requires c = place_from _ _ c.requires.fits.0 _ _ c.requires.fits.1.place
 
 pub fill-requires : goal.fill-requires
 fill-requires c =
-    let fits = subst (λ (x : Contents). MayBePut x c.requires.fits.0 c.args.object) (sym c.self.view_is) c.requires.fits.1 in
-    rw (c.place_of-start.ensures, c.deref_mut.ensures.value) (fits_row _ c.requires.fits.0 c.args.object.kind c.args.object c.self.invariant.0 fits.sized fits.size fits.place)
+    let fits = subst (λ (x : PlainContents). MayBePut x c.requires.fits.0 c.args.object) (sym c.self.view_is) c.requires.fits.1 in
+    rw (c.word_index-start.ensures, c.deref_mut.ensures.value) (fits_row _ c.requires.fits.0 c.args.object.kind c.args.object c.self.invariant.0 fits.sized fits.size fits.place)
 
 pub write_owner-requires-clause-apart : goal.write_owner-requires-clause-apart
 write_owner-requires-clause-apart c =
-    let fits = subst (λ (x : Contents). MayBePut x c.requires.fits.0 c.args.object) (sym c.self.view_is) c.requires.fits.1 in
+    let fits = subst (λ (x : PlainContents). MayBePut x c.requires.fits.0 c.args.object) (sym c.self.view_is) c.requires.fits.1 in
     let left : length c.self.inside.objects.items < PAGE_GRANULES * c.self.inside.pages = room_left _ c.requires.fits.0 c.args.object.kind c.args.object c.self.invariant.0 fits.sized fits.size fits.place in
     let spare : PAGE_GRANULES * c.self.inside.pages ≤ vec_capacity c.self.inside.objects = c.self.invariant.1.objects in
     let pushed = pushed_items _ _ _ _ (c.push-pushed.ensures.succeeds (let ok = c.self.inside.objects.ok in omega (arith, ok.0))) c.push-pushed.ensures.items in
@@ -28,7 +28,7 @@ write_owner-requires-clause-apart c =
 
 pub write_owner-requires-clause-within : goal.write_owner-requires-clause-within
 write_owner-requires-clause-within c =
-    let fits = subst (λ (x : Contents). MayBePut x c.requires.fits.0 c.args.object) (sym c.self.view_is) c.requires.fits.1 in
+    let fits = subst (λ (x : PlainContents). MayBePut x c.requires.fits.0 c.args.object) (sym c.self.view_is) c.requires.fits.1 in
     let left : length c.self.inside.objects.items < PAGE_GRANULES * c.self.inside.pages = room_left _ c.requires.fits.0 c.args.object.kind c.args.object c.self.invariant.0 fits.sized fits.size fits.place in
     let spare : PAGE_GRANULES * c.self.inside.pages ≤ vec_capacity c.self.inside.objects = c.self.invariant.1.objects in
     let pushed = pushed_items _ _ _ _ (c.push-pushed.ensures.succeeds (let ok = c.self.inside.objects.ok in omega (arith, ok.0))) c.push-pushed.ensures.items in
@@ -36,7 +36,7 @@ write_owner-requires-clause-within c =
 
 pub write_owner-requires-clause-others : goal.write_owner-requires-clause-others
 write_owner-requires-clause-others c =
-    let fits = subst (λ (x : Contents). MayBePut x c.requires.fits.0 c.args.object) (sym c.self.view_is) c.requires.fits.1 in
+    let fits = subst (λ (x : PlainContents). MayBePut x c.requires.fits.0 c.args.object) (sym c.self.view_is) c.requires.fits.1 in
     let left : length c.self.inside.objects.items < PAGE_GRANULES * c.self.inside.pages = room_left _ c.requires.fits.0 c.args.object.kind c.args.object c.self.invariant.0 fits.sized fits.size fits.place in
     let spare : PAGE_GRANULES * c.self.inside.pages ≤ vec_capacity c.self.inside.objects = c.self.invariant.1.objects in
     let pushed = pushed_items _ _ _ _ (c.push-pushed.ensures.succeeds (let ok = c.self.inside.objects.ok in omega (arith, ok.0))) c.push-pushed.ensures.items in
@@ -45,7 +45,7 @@ write_owner-requires-clause-others c =
 
 pub invariant_of-self : goal.invariant_of-self
 invariant_of-self c =
-    let fits = subst (λ (x : Contents). MayBePut x c.requires.fits.0 c.args.object) (sym c.self.view_is) c.requires.fits.1 in
+    let fits = subst (λ (x : PlainContents). MayBePut x c.requires.fits.0 c.args.object) (sym c.self.view_is) c.requires.fits.1 in
     let left : length c.self.inside.objects.items < PAGE_GRANULES * c.self.inside.pages = room_left _ c.requires.fits.0 c.args.object.kind c.args.object c.self.invariant.0 fits.sized fits.size fits.place in
     let spare : PAGE_GRANULES * c.self.inside.pages ≤ vec_capacity c.self.inside.objects = c.self.invariant.1.objects in
     let long : length c.fill.new.row ≡ length c.self.inside.words.items = c.fill.auto.row ∙ ap length c.deref_mut.ensures.value in (
@@ -58,12 +58,12 @@ invariant_of-self c =
 
 pub returns : goal.returns
 returns c =
-    let at = subst (λ (x : Contents). HasMutator x.roots c.args.slot c.requires.mutator.0) (sym c.self.view_is) c.requires.mutator.1 in
+    let at = subst (λ (x : PlainContents). HasMutator x.roots c.args.slot c.requires.mutator.0) (sym c.self.view_is) c.requires.mutator.1 in
     rw (← c.self.view_is) (λ placement fits.
     let left : length c.self.inside.objects.items < PAGE_GRANULES * c.self.inside.pages = room_left _ placement c.args.object.kind c.args.object c.self.invariant.0 fits.sized fits.size fits.place in
     let spare : PAGE_GRANULES * c.self.inside.pages ≤ vec_capacity c.self.inside.objects = c.self.invariant.1.objects in
     let long : length c.fill.new.row ≡ length c.self.inside.words.items = c.fill.auto.row ∙ ap length c.deref_mut.ensures.value in
-    let zeroed : IsZeroed c.self.inside.words.items c.fill.new.row c.args.object = record { long = long; zeroed = rw c.place_of-start.ensures at c.fill.ensures.filled; others = λ k h. (rw c.place_of-start.ensures at c.fill.ensures.others) k h ∙ ap (λ xs. get_or xs k 0) c.deref_mut.ensures.value } in
+    let zeroed : IsZeroed c.self.inside.words.items c.fill.new.row c.args.object = record { long = long; zeroed = rw c.word_index-start.ensures at c.fill.ensures.filled; others = λ k h. (rw c.word_index-start.ensures at c.fill.ensures.others) k h ∙ ap (λ xs. get_or xs k 0) c.deref_mut.ensures.value } in
     λ s h words is.
     puts _ placement c.args.object.kind c.args.object c.self.invariant.0 fits.sized fits.size fits.place _ _ _ c.requires.mutator.0 _ _ at refl
     (subst (λ r. IsZeroed c.self.inside.words.items r c.args.object) (sym (with_items_is c.self.inside.words c.fill.new.row (long ∙ sym c.self.inside.words.ok.0))) zeroed)

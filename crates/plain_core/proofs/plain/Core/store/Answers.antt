@@ -25,7 +25,7 @@ returns-in_err-find_in c =
 
 pub returns : goal.returns
 returns c =
-    rw (← c.self.view_is, c.place_of-place.ensures, c.address-address.ensures, c.word-word.ensures)
+    rw (← c.self.view_is, c.word_index-position.ensures, c.address-address.ensures, c.word-word.ensures)
     (stores _ _ _ _ _ c.in_ok-mutator.mutator.now _ c.self.invariant.0 c.in_ok-mutator.ensures.ok
     (rw c.deref.ensures.value at c.in_ok-find_in.ensures.ok.0)
     (rw c.address-address.ensures at c.in_ok-find_in.ensures.ok.1)

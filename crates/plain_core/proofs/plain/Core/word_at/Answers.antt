@@ -10,4 +10,4 @@ returns-in_err-object_at-clause-none c = rw (← c.self.view_is, c.from_residual
 
 pub returns-clause-some : goal.returns-clause-some
 returns-clause-some c = rw (← c.self.view_is)
-    (holds_word _ _ _ _ c.self.invariant.0 (rw c.deref.ensures.value at c.in_ok-object_at.ensures.some.0) c.in_ok-object_at.ensures.some.1 (rw c.place_of-place.ensures at c.index.ensures))
+    (holds_word _ _ _ _ c.self.invariant.0 (rw c.deref.ensures.value at c.in_ok-object_at.ensures.some.0) c.in_ok-object_at.ensures.some.1 (rw c.word_index-position.ensures at c.index.ensures))

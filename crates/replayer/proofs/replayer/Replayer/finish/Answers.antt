@@ -1,7 +1,7 @@
 use Rattle.std.proofs.Common.{◌≡◌, ◌<◌, refl, subst, sym, ◌∙◌}
 use Rattle.std.proofs.lemmas.Bool.{true≢false}
 use Rattle.heap_spec.specs.Layout.{word_end}
-use Rattle.replayer.specs.Contents.{Contents}
+use Rattle.replayer.specs.ReplayerContents.{ReplayerContents}
 use Rattle.heap_spec.specs.declared.event.Event.TheVariants.{Finish}
 use Rattle.replayer.proofs.Steps.{refuses, finishes, finish_unnamed, finish_untaken}
 use Rattle.replayer.proofs.replayer.Replayer.finish.Goals as goal
@@ -15,15 +15,15 @@ returns-in_default-clause-no c refused = finish_unnamed _ c.limits.ensures.numbe
 
 pub returns-then-not-forget-clause-no : goal.returns-then-not-forget-clause-no
 returns-then-not-forget-clause-no c refused =
-    let small = subst (λ (r : Contents). r.number < word_end) (sym c.self.view_is) c.limits.ensures.number in
-    let few = subst (λ (r : Contents). r.births < word_end) (sym c.self.view_is) c.limits.ensures.births in
-    let m = subst (λ (r : Contents). c.is_marking.result ≡ r.marking) (sym c.self.view_is) c.is_marking.ensures in
+    let small = subst (λ (r : ReplayerContents). r.number < word_end) (sym c.self.view_is) c.limits.ensures.number in
+    let few = subst (λ (r : ReplayerContents). r.births < word_end) (sym c.self.view_is) c.limits.ensures.births in
+    let m = subst (λ (r : ReplayerContents). c.is_marking.result ≡ r.marking) (sym c.self.view_is) c.is_marking.ensures in
     rw (← c.self.view_is, c.in-Some.ensures.some.0) (finish_untaken _ small few _ (λ idle. absurd (true≢false (sym (sym m ∙ c.if-not-is_marking.false) ∙ idle))) _ (c.forget.ensures.no c.if-not-forget.true))
 
 pub returns-clause-yes : goal.returns-clause-yes
 returns-clause-yes c done =
-    let small = subst (λ (r : Contents). r.number < word_end) (sym c.self.view_is) c.limits.ensures.number in
-    let few = subst (λ (r : Contents). r.births < word_end) (sym c.self.view_is) c.limits.ensures.births in
-    let m = subst (λ (r : Contents). c.is_marking.result ≡ r.marking) (sym c.self.view_is) c.is_marking.ensures in
+    let small = subst (λ (r : ReplayerContents). r.number < word_end) (sym c.self.view_is) c.limits.ensures.number in
+    let few = subst (λ (r : ReplayerContents). r.births < word_end) (sym c.self.view_is) c.limits.ensures.births in
+    let m = subst (λ (r : ReplayerContents). c.is_marking.result ≡ r.marking) (sym c.self.view_is) c.is_marking.ensures in
     rw (← c.self.view_is, c.in-Some.ensures.some.0, c.in-Some.ensures.some.1)
     (finishes _ small few _ _ c.age_all.ensures.size c.age_all.ensures.flags _ (c.forget.ensures.yes c.if-not-forget.false) (sym m ∙ c.if-not-is_marking.false) _ refl)

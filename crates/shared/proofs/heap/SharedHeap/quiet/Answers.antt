@@ -2,7 +2,7 @@ use Rattle.std.proofs.Common.{sym, ap, subst, ◌∙◌}
 use Rattle.history.specs.Histories.{Reaches}
 use Rattle.heap_spec.specs.SequentialObject.{Opens, StateStep}
 use Rattle.heap_history.specs.Passes.{HeapPass, is_marking as marks}
-use Rattle.heap_core.specs.Contents.{IsCore}
+use Rattle.heap_core.specs.CoreContents.{IsCore}
 use Rattle.shared.specs.Lending.{IsLent}
 use Rattle.shared.proofs.Passing.{phase_is}
 use Rattle.shared.proofs.heap.SharedHeap.quiet.Goals as goal

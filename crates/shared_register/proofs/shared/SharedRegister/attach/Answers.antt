@@ -5,7 +5,7 @@ use Rattle.shared_register.specs.declared.register.Call.{Call}
 use Rattle.shared_register.specs.declared.register.Call.TheVariants.{Attach}
 use Rattle.shared_register.specs.declared.register.Reply.{Reply}
 use Rattle.shared_register.specs.declared.register.Reply.TheVariants.{Slot}
-use Rattle.shared_register.specs.Calls.{Begun, IsLegalPass}
+use Rattle.shared_register.specs.LockedCalls.{Begun, IsLegalPass}
 use Rattle.shared_register.proofs.Chains.{free_slot_dead}
 use Rattle.shared_register.proofs.shared.SharedRegister.attach.Goals as goal
 

@@ -1,7 +1,7 @@
 use Rattle.std.proofs.Common.{◌≡◌, rules}
 use Rattle.shared_register.specs.declared.register.Call.TheVariants.{Collect}
 use Rattle.shared_register.specs.declared.register.Reply.TheVariants.{Done}
-use Rattle.shared_register.specs.Calls.{Extends}
+use Rattle.shared_register.specs.LockedCalls.{Extends}
 use Rattle.shared_register.proofs.shared.SharedRegister.collect.Goals as goal
 
 pub returns : goal.returns

@@ -3,7 +3,7 @@ use Rattle.history.specs.Histories.{own}
 use Rattle.shared_register.specs.declared.register.Call.TheVariants.{Finish}
 use Rattle.shared_register.specs.declared.register.Reply.TheVariants.{Done}
 use Rattle.shared_register.specs.Steps.{rank_of}
-use Rattle.shared_register.specs.Calls.{Extends}
+use Rattle.shared_register.specs.LockedCalls.{Extends}
 use Rattle.shared_register.proofs.Chains.{phase}
 use Rattle.shared_register.proofs.shared.SharedRegister.finish.Goals as goal
 

@@ -1,8 +1,0 @@
-use Rattle.std.proofs.Common.{refl}
-use Rattle.commands.proofs.ending.end.Goals as goal
-
-pub returns-in-Ok : goal.returns-in-Ok
-returns-in-Ok g c = rw c.in-Ok.is (refl, refl, refl)
-
-pub returns-in-Err : goal.returns-in-Err
-returns-in-Err g c = rw c.in-Err.is c.end_by.ensures

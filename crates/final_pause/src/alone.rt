@@ -1,0 +1,48 @@
+//! Closing the marks by one thread.
+ghost use Rattle.std.specs.Prelude.{◌≡◌, ◌+◌, ◌*◌, ◌<◌, ◌≤◌, [], true, false, length};
+ghost use Rattle.words.specs.declared.limits.TheConstants.{PAGE_WORDS};
+ghost use Rattle.block_map.specs.FoundIn.{found_in};
+ghost use Rattle.marker.specs.Marking.{IsDone};
+ghost use Rattle.marker.specs.Work.{cost, dirty_pages, newly_pages, entry_words};
+ghost use Rattle.marker.specs.Invariant.{DirtyPageInvariant};
+ghost use Rattle.marker.specs.Closure.{AreClosed};
+ghost use Rattle.marker.specs.Growth.{Traces};
+
+use block_map::BlockMap;
+use marker::Marker;
+use pages::Reader;
+
+/// Marks on until nothing is left to read: the marks become the closure of the marks before and the roots.
+pub fn close_marks(marker: &mut Marker, map: &BlockMap, reader: &mut Reader, roots: &[u64])
+    requires pages { length marker.old.dirty ≡ length map.now }
+    requires memory { length reader.old.words ≡ PAGE_WORDS * length map.now }
+    requires invariant { DirtyPageInvariant (found_in map.now) reader.old.words marker.old }
+    ensures closure { AreClosed (found_in map.now) reader.old.words roots.now marker.old marker.new }
+    ensures done { IsDone marker.new }
+    ensures traces { Traces (found_in map.now) reader.old.words roots.now marker.old marker.new }
+    ensures words { reader.new.words ≡ reader.old.words }
+    ensures reads { reader.new.reads ≤ reader.old.reads + (PAGE_WORDS * (dirty_pages marker.old + newly_pages (found_in map.now) marker.old marker.new) + entry_words (found_in map.now) marker.old) }
+{
+    marker.scan_roots(map, roots);
+    while !mark_on(marker, map, reader) {}
+}
+
+// Reads all entries and then the lowest dirty page. Answers whether nothing was left to read.
+fn mark_on(marker: &mut Marker, map: &BlockMap, reader: &mut Reader) -> bool
+    requires pages { length marker.old.dirty ≡ length map.now }
+    requires memory { length reader.old.words ≡ PAGE_WORDS * length map.now }
+    ensures traces { Traces (found_in map.now) reader.old.words [] marker.old marker.new }
+    ensures done { result ≡ true → IsDone marker.new }
+    ensures less { result ≡ false → cost (found_in map.now) marker.new < cost (found_in map.now) marker.old }
+    ensures words { reader.new.words ≡ reader.old.words }
+    ensures reads { reader.new.reads + cost (found_in map.now) marker.new ≤ reader.old.reads + cost (found_in map.now) marker.old }
+{
+    let marked = marker.step(map, reader, u64::MAX);
+    if !marked.empty {
+        return false;
+    }
+    match marker.retrace(map, reader) {
+        Some(_) => false,
+        None => true,
+    }
+}

@@ -1,5 +1,0 @@
-use Rattle.heap_spec.proofs.Objects.{one_read}
-use Rattle.heap_spec.proofs.laws.reads_at_most_one.Goals as goal
-
-pub returns : goal.returns
-returns c = one_read

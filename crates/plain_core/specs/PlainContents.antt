@@ -1,0 +1,59 @@
+-- What a plain core contains.
+use Rattle.std.specs.Prelude.{◌≡◌, ℕ, ◌+◌, ◌-◌, ◌*◌, ◌/◌, ◌%◌, ◌<◌, ◌≤◌, ◌⊎◌, nat_eq, List, length, map, All, Contains}
+use Rattle.std.specs.List.{IsDistinct}
+use Rattle.words.specs.declared.limits.TheConstants.{WORD_BYTES, GRANULE_BYTES, PAGE_WORDS, FIRST_ADDRESS, MAX_PAGES, MAX_SMALL_WORDS}
+use Rattle.words.specs.Layout.{page_start}
+use Rattle.heap_spec.specs.Layout.{heap_end, PointsInto}
+use Rattle.roots.specs.Roots.{RootSet}
+use Rattle.links.specs.declared.row.Link.{Link}
+use Rattle.plain_core.specs.declared.extent.Extent.{Extent}
+
+-- A plain core: how many pages it has, their words in the order of their addresses, where the objects lie, the roots, and the
+-- links. A link names an object by its base.
+pub record PlainContents : Type 0 where
+  pub pages : ℕ
+  pub words : List ℕ
+  pub objects : List Extent
+  pub roots : RootSet
+  pub links : List Link
+
+-- the object lies in the heap, at a granule
+pub record IsInHeap (pages : ℕ) (e : Extent) : Type 0 where
+  pub start : FIRST_ADDRESS ≤ e.base
+  pub aligned : e.base % GRANULE_BYTES ≡ 0
+  pub some : 0 < e.length
+  pub ends : e.base + WORD_BYTES * e.length ≤ heap_end pages
+
+-- a cell of its page
+pub record IsCellExtent (e : Extent) : Type 0 where
+  pub page : ℕ
+  pub cell : ℕ
+  pub few : e.length ≤ MAX_SMALL_WORDS
+  pub in_page : e.length * (cell + 1) ≤ PAGE_WORDS
+  pub is_cell : e.base ≡ page_start page + WORD_BYTES * (e.length * cell)
+
+-- pages of its own
+pub record HasPages (e : Extent) : Type 0 where
+  pub first : ℕ
+  pub count : ℕ
+  pub some : 1 ≤ count
+  pub whole : e.length ≡ PAGE_WORDS * count
+  pub is_start : e.base ≡ page_start first
+
+-- the object lies where objects are placed
+abbrev pub IsPlacedExtent : Extent → Type 0
+IsPlacedExtent e = IsCellExtent e ⊎ HasPages e
+
+-- the number of the granule at which an object begins
+abbrev pub granule : Extent → ℕ
+granule e = (e.base - FIRST_ADDRESS) / GRANULE_BYTES
+
+-- What is true of every plain core. No address points into two objects, and no two begin at one granule, so that there are
+-- never more objects than granules.
+pub record IsLaidOut (c : PlainContents) : Type 0 where
+  pub pages : c.pages ≤ MAX_PAGES
+  pub words : length c.words ≡ PAGE_WORDS * c.pages
+  pub in_heap : All (IsInHeap c.pages) c.objects
+  pub placed : All IsPlacedExtent c.objects
+  pub distinct : IsDistinct nat_eq (map granule c.objects)
+  pub apart : (e f : Extent) (w : ℕ) → Contains c.objects e → Contains c.objects f → PointsInto w e.base e.length → PointsInto w f.base f.length → e ≡ f
