@@ -1,24 +1,28 @@
 -- Sound heaps that cores stand for, and a held word in them.
-use Rattle.std.proofs.Common.{Result, Ok, Err, ◌≡◌, ◌≢◌, ℕ, ◌+◌, ◌*◌, ◌<◌, Bool, List, length, Some, None, refl, sym, ap, ◌∙◌, subst, arith, ⊎_elim, get_or-set_same}
+use Rattle.std.proofs.Common.{Result, Ok, Err, ◌≡◌, ◌≢◌, ℕ, ◌+◌, ◌*◌, ◌<◌, ◌%◌, ◌⊎◌, inl, inr, Bool, List, length, Some, None, refl, sym, ap, ◌∙◌, subst, arith, ⊎_elim, get_or-set_same}
 use Rattle.std.specs.Prelude.{slice_get, slice_index, slice_set}
 use Rattle.std.proofs.lemmas.Bool.{cases_eq}
 use Rattle.std.proofs.lemmas.Option.{none-some, slice_get_within}
 use Rattle.std.proofs.lemmas.List.{length-set}
 use Rattle.words.specs.declared.refusal.Refusal.{Refusal}
+use Rattle.words.specs.declared.refusal.Refusal.TheVariants.{NoSlot, Full}
+use Rattle.words.specs.declared.class.Kind.{Kind}
 use Rattle.words.specs.declared.class.Kind.TheVariants.{Normal}
+use Rattle.words.specs.Placing.{placement_of}
 use Rattle.pages.specs.Opening.{IsPageCount}
+use Rattle.words.specs.declared.limits.TheConstants.{WORD_BYTES}
 use Rattle.heap_spec.specs.declared.call.Call.{Call}
 use Rattle.heap_spec.specs.declared.call.Call.TheVariants.{Alloc, Load, Set, Store}
 use Rattle.heap_spec.specs.declared.event.Event.{Event}
 use Rattle.heap_spec.specs.declared.event.Event.TheVariants.{Attach, Mutator, Begin, BeginPartial, Roots, Mark, Retrace, Finish, Sweep, Collect, Number}
 use Rattle.heap_spec.specs.declared.reply.Reply.{Reply}
-use Rattle.heap_spec.specs.declared.reply.Reply.TheVariants.{Done, Word}
+use Rattle.heap_spec.specs.declared.reply.Reply.TheVariants.{Done, Word, Refused}
 use Rattle.heap_spec.specs.Cycles.{TakesOut}
 use Rattle.heap_spec.specs.Heap.{Heap, Object, Mutator as HeapMutator, HasObject, IsAttached}
 use Rattle.heap_spec.specs.Layout.{index_in}
 use Rattle.heap_spec.specs.Ranges.{CallInRange}
 use Rattle.heap_spec.specs.Sound.{IsSound}
-use Rattle.heap_spec.specs.Steps.{Attaches, Calls, attached, no_slot, acts, vacant, newcomer, register, address}
+use Rattle.heap_spec.specs.Steps.{Acts, Attaches, Calls, attached, no_slot, acts, vacant, newcomer, register, address}
 use Rattle.heap_spec.proofs.Calls.{attached_is, calls_kept, attaches_kept, takes_out_kept, opening_is}
 use Rattle.heap_spec.proofs.Loads.{same_mutator}
 use Rattle.heap_spec.proofs.Objects.{object_lies}
@@ -29,7 +33,7 @@ use Rattle.heap_history.proofs.Held.{held_reached}
 use Rattle.heap_history.proofs.Keeping.{KeepsWord, calls_keep}
 use Rattle.heap_history.proofs.Loaded.{load_is, calls_leave, attaches_leave, takes_leave}
 use Rattle.heap_history.proofs.Owning.{alloc_is}
-use Rattle.heap_history.proofs.OwnObjects.{HasOwn, place_is, calls_acts, store_own}
+use Rattle.heap_history.proofs.OwnObjects.{HasOwn, Place, place_is, calls_acts, store_own}
 use Rattle.heap_core.specs.Acts.{IsAct}
 use Rattle.heap_core.specs.MutatorCalls.{IsCall}
 use Rattle.heap_core.specs.Collections.{IsGrantedInPhase, IsGrantedPartial, IsAlwaysGranted}
@@ -178,6 +182,36 @@ granted_held old new slot r n k is range lt act =
       };
     }
 
+alloc_refused : (s : Heap) (slot r n : ℕ) (kind : Kind) (why : Refusal) → placement_of n ≢ None → {s' : Heap} → Calls s slot (Alloc r n kind) (Refused why) s' → (why ≡ NoSlot) ⊎ (why ≡ Full)
+alloc_refused s slot r n kind why placed (acts at (Acts.bad_size none)) = absurd (placed none)
+alloc_refused s slot r n kind why placed (acts at (Acts.full e none)) = inr refl
+alloc_refused s slot r n kind why placed (vacant none) = inl refl
+
+pub few_refused : (old new : CoreContents) (slot r n : ℕ) (kind : Kind) (why : Refusal) → IsSoundCore old → placement_of n ≢ None → IsCall old (Mutator slot (Alloc r n kind)) (Refused why) new → (why ≡ NoSlot) ⊎ (why ≡ Full)
+few_refused old new slot r n kind why is placed act = alloc_refused is.0 slot r n kind why placed (act.steps is.0 is.1).1
+
+-- where a held word lies
+held_place : (s : Heap) → IsSound s → (slot r k w : ℕ) → (held : IsHeldWord s slot r k w) → (address held.mutator r k % WORD_BYTES ≡ 0) × Place s held.mutator r k held.object
+held_place s sound slot r k w held =
+    let place = place_is s sound held.mutator r k (length held.object.words) (λ _. None) (held_own s sound slot r k w held) held.within in
+    let at = place.address_is in
+    let even = (object_lies s sound (register held.mutator r) held.object held.has).aligned in
+    (omega (arith, at, even), place)
+
+set_done : (s : Heap) (slot x w : ℕ) (m : HeapMutator) {reply : Reply} {s' : Heap} → Acts s slot m (Set x w) reply s' → reply ≡ Done
+set_done s slot x w m Acts.set = refl
+
+pub holders_set : (old new : CoreContents) (reply : Reply) (slot r k v x w : ℕ) → IsHeld old slot r k v → IsCall old (Mutator slot (Set x w)) reply new → reply ≡ Done
+holders_set old new reply slot r k v x w is act = set_done is.heap slot x w is.held.mutator (calls_acts is.heap slot is.held.mutator is.held.attached (act.steps is.heap is.stands).1)
+
+store_done : (s : Heap) → IsSound s → (slot r k v x : ℕ) → (held : IsHeldWord s slot r k v) → {reply : Reply} {s' : Heap} → Acts s slot held.mutator (Store r k x) reply s' → reply ≡ Done
+store_done s sound slot r k v x held (Acts.stored al reads) = refl
+store_done s sound slot r k v x held (Acts.store_misaligned ne) = absurd (ne (held_place s sound slot r k v held).0)
+store_done s sound slot r k v x held (Acts.store_nothing al none) = absurd (none (register held.mutator r) held.object (held_place s sound slot r k v held).1.reads)
+
+pub holders_store : (old new : CoreContents) (reply : Reply) (slot r k v x : ℕ) → IsHeld old slot r k v → IsCall old (Mutator slot (Store r k x)) reply new → reply ≡ Done
+holders_store old new reply slot r k v x is act = store_done is.heap is.sound slot r k v x is.held (calls_acts is.heap slot is.held.mutator is.held.attached (act.steps is.heap is.stands).1)
+
 -- the register that was set has the word, and the other one what it had
 set_held : (s s' : Heap) (slot r k x v w : ℕ) → IsSound s → IsHeldWord s slot r k v → x < 16 → r ≢ x → Calls s slot (Set x w) Done s' → (held : IsHeldWord s' slot r k v) × (register held.mutator x ≡ w)
 set_held s s' slot r k x v w sound held few ne calls =
@@ -223,18 +257,15 @@ stored_held old mid new slot r k x v w is range range' ne first second =
 
 pub held_loaded : (old new : CoreContents) (reply : Reply) (slot d r k w : ℕ) → IsHeld old slot r k w → IsCall old (Mutator slot (Load d r k)) reply new → reply ≡ Word w
 held_loaded old new reply slot d r k w is act =
-    let s = is.heap in
     let held = is.held in
-    let m = held.mutator in
-    let place = place_is s is.sound m r k (length held.object.words) (λ _. None) (held_own s is.sound slot r k w held) held.within in
-    let at = place.address_is in
-    let even = (object_lies s is.sound (register m r) held.object held.has).aligned in
-    let index : index_in (register m r) (address m r k) ≡ k = omega (arith, at) in
-    load_is s is.sound slot m r k w (record {
+    let place = held_place is.heap is.sound slot r k w held in
+    let at = place.1.address_is in
+    let index : index_in (register held.mutator r) (address held.mutator r k) ≡ k = omega (arith, at) in
+    load_is is.heap is.sound slot held.mutator r k w (record {
       at = held.attached;
-      aligned = omega (arith, at, even);
-      base = register m r;
+      aligned = place.0;
+      base = register held.mutator r;
       object = held.object;
-      reads = place.reads;
+      reads = place.1.reads;
       word = ap (λ i. slice_index held.object.words i) index ∙ held.word;
-    }) (act.steps s is.stands).1
+    }) (act.steps is.heap is.stands).1

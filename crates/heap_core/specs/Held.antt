@@ -1,13 +1,17 @@
 -- A word of an object that a register of a mutator holds, and what a client knows of it by the core's contracts.
-use Rattle.std.specs.Prelude.{◌≡◌, ◌≢◌, ℕ, ◌<◌, length, slice_index}
+use Rattle.std.specs.Prelude.{◌≡◌, ◌≢◌, ℕ, ◌<◌, ◌⊎◌, None, length, slice_index}
+use Rattle.words.specs.declared.class.Kind.{Kind}
 use Rattle.words.specs.declared.class.Kind.TheVariants.{Normal}
+use Rattle.words.specs.declared.refusal.Refusal.{Refusal}
+use Rattle.words.specs.declared.refusal.Refusal.TheVariants.{NoSlot, Full}
+use Rattle.words.specs.Placing.{placement_of}
 use Rattle.pages.specs.Opening.{IsPageCount}
 use Rattle.heap_spec.specs.declared.call.Call.{Call}
 use Rattle.heap_spec.specs.declared.call.Call.TheVariants.{Alloc, Load, Set, Store}
 use Rattle.heap_spec.specs.declared.event.Event.{Event}
 use Rattle.heap_spec.specs.declared.event.Event.TheVariants.{Attach, Mutator, Begin, BeginPartial, Roots, Mark, Retrace, Finish, Sweep, Collect, Number}
 use Rattle.heap_spec.specs.declared.reply.Reply.{Reply}
-use Rattle.heap_spec.specs.declared.reply.Reply.TheVariants.{Done, Word}
+use Rattle.heap_spec.specs.declared.reply.Reply.TheVariants.{Done, Word, Refused}
 use Rattle.heap_spec.specs.Heap.{Heap, Object, Mutator as HeapMutator, HasObject, IsAttached}
 use Rattle.heap_spec.specs.Ranges.{CallInRange, IsRegister}
 use Rattle.heap_spec.specs.Sound.{IsSound}
@@ -78,9 +82,22 @@ NewIsSound = (pages : ℕ) (c : CoreContents) → IsPageCount pages → IsNew pa
 abbrev pub ActsKeepSound : Type 0
 ActsKeepSound = (old new : CoreContents) (event : Event) (reply : Reply) → IsSoundCore old → NamesInRange event → IsAct old event reply new → IsSoundCore new
 
+-- An allocation of a length that objects may have is refused only where the slot has no mutator, or nowhere is room.
+abbrev pub FewAllocationsAreRefused : Type 0
+FewAllocationsAreRefused = (old new : CoreContents) (slot r n : ℕ) (kind : Kind) (why : Refusal) → IsSoundCore old → placement_of n ≢ None
+    → IsCall old (Mutator slot (Alloc r n kind)) (Refused why) new → (why ≡ NoSlot) ⊎ (why ≡ Full)
+
 -- Each word of a Normal object that was granted is held by the register, and is 0.
 abbrev pub GrantedWordsAreHeld : Type 0
 GrantedWordsAreHeld = (old new : CoreContents) (slot r n k : ℕ) → IsSoundCore old → CallInRange (Alloc r n Normal) → k < n → IsCall old (Mutator slot (Alloc r n Normal)) Done new → IsHeld new slot r k 0
+
+-- Whose register holds a word may set its registers,
+abbrev pub HoldersSet : Type 0
+HoldersSet = (old new : CoreContents) (reply : Reply) (slot r k v x w : ℕ) → IsHeld old slot r k v → IsCall old (Mutator slot (Set x w)) reply new → reply ≡ Done
+
+-- and store at its place.
+abbrev pub HoldersStore : Type 0
+HoldersStore = (old new : CoreContents) (reply : Reply) (slot r k v x : ℕ) → IsHeld old slot r k v → IsCall old (Mutator slot (Store r k x)) reply new → reply ≡ Done
 
 -- A word that was set in another register and stored at its place is held there.
 abbrev pub StoredWordIsHeld : Type 0

@@ -1,6 +1,6 @@
 //! Laws of cores: of a word in an object that a register holds, and of words that are written past the calls, as by a program in
 //! C that has the heap's memory in its own address space. Each is a function that does nothing, and its contract is the law.
-ghost use Rattle.heap_core.specs.Held.{NewIsSound, ActsKeepSound, GrantedWordsAreHeld, StoredWordIsHeld, HeldWordStays, HeldWordIsLoaded};
+ghost use Rattle.heap_core.specs.Held.{NewIsSound, ActsKeepSound, FewAllocationsAreRefused, GrantedWordsAreHeld, HoldersSet, HoldersStore, StoredWordIsHeld, HeldWordStays, HeldWordIsLoaded};
 ghost use Rattle.heap_core.specs.DirectWrites.{WritesKeepCores, WritesAreStores, WritesAreLines, WritesAreVisits, ToldMayBeWritten};
 
 /// A new core stands for a sound heap.
@@ -13,24 +13,17 @@ pub fn acts_keep_sound()
     ensures { ActsKeepSound }
 {}
 
-/// The words of a granted object are held by the register that has its base.
-pub fn granted_words_are_held()
-    ensures { GrantedWordsAreHeld }
-{}
-
-/// A word that was stored in a held object is held there.
-pub fn stored_word_is_held()
-    ensures { StoredWordIsHeld }
-{}
-
-/// What is held stays through every call of the collector, and through calls that store and free nothing and leave the register.
-pub fn held_word_stays()
-    ensures { HeldWordStays }
-{}
-
-/// A load of a held word answers it.
-pub fn held_word_is_loaded()
-    ensures { HeldWordIsLoaded }
+/// A word of a `Normal` object is held while a register has the object's base: from the allocation on, which is refused only
+/// where the slot has no mutator or nowhere is room; stores to its place are granted, and what was stored is held then; it stays through
+/// every call of the collector, and through calls that store and free nothing and leave the register; a load answers it.
+pub fn held_words()
+    ensures few_refused { FewAllocationsAreRefused }
+    ensures granted { GrantedWordsAreHeld }
+    ensures sets { HoldersSet }
+    ensures stores { HoldersStore }
+    ensures stored { StoredWordIsHeld }
+    ensures stays { HeldWordStays }
+    ensures loaded { HeldWordIsLoaded }
 {}
 
 /// Whatever is true of every core stays true, where words are written past its calls.

@@ -2,6 +2,7 @@
 ghost use Rattle.std.specs.Prelude.{◌≡◌, IfOk};
 
 use heap_core::Core;
+use heap_core::laws::held_words;
 use std::alloc::Global;
 use words::{Kind, OpenError, Refusal, Reg};
 
@@ -13,8 +14,9 @@ fn keep_in(core: &mut Core, word: u64) -> Result<u64, Refusal>
         unreachable!();
     };
     let slot = core.attach()?;
-    // Its clause tells that a heap is there.
+    // Their clauses tell that a heap is there, and what becomes of a word that a register's object has.
     core.stands();
+    held_words();
     core.alloc(slot, object, 2, Kind::Normal)?;
     core.set(slot, scratch, word)?;
     core.store(slot, object, 0, scratch)?;

@@ -2,6 +2,7 @@
 ghost use Rattle.std.specs.Prelude.{◌≡◌, IfOk};
 
 use heap_core::Core;
+use heap_core::laws::held_words;
 use words::{Kind, Refusal, Reg, Slot};
 
 /// Allocates an object of two words, stores a word into the first of them, and loads it again: what is loaded is what was
@@ -12,8 +13,9 @@ pub fn store_and_load(core: &mut Core, slot: Slot, word: u64) -> Result<u64, Ref
     let (Some(object), Some(scratch)) = (Reg::new(1), Reg::new(2)) else {
         unreachable!();
     };
-    // Its clause tells that a heap is there.
+    // Their clauses tell that a heap is there, and what becomes of a word that a register's object has.
     core.stands();
+    held_words();
     core.alloc(slot, object, 2, Kind::Normal)?;
     core.set(slot, scratch, word)?;
     core.store(slot, object, 0, scratch)?;
