@@ -11,7 +11,8 @@
 //!
 //! # With helpers
 //!
-//! [`close_marks_with`] first marks with helpers, each in a thread of its own, and then ends as [`close_marks`].
+//! [`close_marks_with`] first marks with helpers, the last on the calling thread and each other in a thread of its own, and then ends
+//! as [`close_marks`].
 //!
 //! **Starting.** The marks are copied into a table of bits. Each helper gets a claimer of it, a stack, a row of dirty pages
 //! and one of carried pages. All memory is taken before the first helper starts. Where memory or a thread is refused, those that run are
