@@ -135,17 +135,17 @@ abbrev pub FlaggedSoFar : List Extent → List Bool → ℕ → List Bool → Ty
 FlaggedSoFar row flags done marks = (i : ℕ) (e : Extent) → i < done → slice_get row i ≡ Some e → (get_or marks i false ≡ false) ↔ (IsFlagged flags e.base → ⊥)
 
 false_where : (P : Type 0) (b : Bool) → (b ≡ true → P) → (P → ⊥) → b ≡ false
-false_where P true yes out = absurd (out (yes refl))
-false_where P false yes out = refl
+false_where P true holds out = absurd (out (holds refl))
+false_where P false holds out = refl
 
 pub flagged_more : (row : List Extent) (flags : List Bool) (done : ℕ) (e : Extent) (b : Bool) (marks : List Bool) → done < length marks → slice_get row done ≡ Some e → (b ≡ true → IsFlagged flags e.base) → (b ≡ false → IsFlagged flags e.base → ⊥)
     → FlaggedSoFar row flags done marks → FlaggedSoFar row flags (done + 1) (set marks done b)
-flagged_more row flags done e b marks short there yes no before i f lt at = ⊎_elim
+flagged_more row flags done e b marks short there set_is unset_is before i f lt at = ⊎_elim
     (λ same.
     let is_e : f ≡ e = same_Some f e (sym at ∙ ap (slice_get row) same ∙ there) in
     let value : get_or (set marks done b) i false ≡ b = ap (λ k. get_or (set marks done b) k false) same ∙ get_or-set_same marks done b false short in
-    (λ off has. no (sym value ∙ off) (subst (λ (x : Extent). IsFlagged flags x.base) is_e has),
-    λ out. value ∙ false_where (IsFlagged flags e.base) b yes (λ has. out (subst (λ (x : Extent). IsFlagged flags x.base) (sym is_e) has))))
+    (λ off has. unset_is (sym value ∙ off) (subst (λ (x : Extent). IsFlagged flags x.base) is_e has),
+    λ out. value ∙ false_where (IsFlagged flags e.base) b set_is (λ has. out (subst (λ (x : Extent). IsFlagged flags x.base) (sym is_e) has))))
     (λ ne.
     let value : get_or (set marks done b) i false ≡ get_or marks i false = get_or-set_other marks done i b false ne in
     let old : (get_or marks i false ≡ false) ↔ (IsFlagged flags f.base → ⊥) = before i f (omega arith) at in
