@@ -1,7 +1,7 @@
 use Rattle.std.proofs.Common.{◌≡◌, subst, sym, ◌∙◌}
 use Rattle.replayer.specs.ReplayerContents.{ReplayerContents}
 use Rattle.replayer.proofs.Blamed.{idle, finish_wrong}
-use Rattle.replayer.proofs.blaming.Replayer.wrong_finish.Goals as goal
+use Rattle.replayer.proofs.replayer.Replayer.wrong_finish.Goals as goal
 
 pub returns-then-not-is_marking-clause-wrong : goal.returns-then-not-is_marking-clause-wrong
 returns-then-not-is_marking-clause-wrong c = λ start run f. idle _ start run f (sym c.is_marking.ensures ∙ c.if-not-is_marking.true) _
