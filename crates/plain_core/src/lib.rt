@@ -13,6 +13,8 @@ mod owners;
 mod parting;
 mod places;
 mod plain;
+mod wrongs;
 
 pub use extent::Extent;
 pub use plain::Core;
+pub use wrongs::Wrong;

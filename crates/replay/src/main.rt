@@ -10,7 +10,7 @@ use programs::{Fault, end, own_words};
 use scripts::Std;
 use std::fs;
 use std::process::ExitCode;
-use written_runs::{Judgement, Verdict, judge, reply_text, words_given};
+use written_runs::{Judgement, Verdict, judge, reply_text, words_given, wrong_text};
 
 // Prints what is said of a run, and gives the status that goes with it.
 fn print_verdict(rt: &HostRuntime, verdict: Verdict) -> Result<u8, Fault> {
@@ -43,10 +43,28 @@ fn print_expected(rt: &HostRuntime, judgement: Judgement) -> Result<(), Fault> {
     }
 }
 
+// Prints what is wrong about the objects that a line says were forgotten, if anything is.
+fn print_wrong(rt: &HostRuntime, judgement: Judgement) -> Result<(), Fault> {
+    let Verdict::Breaks(line, _) = judgement.verdict else {
+        return Ok(());
+    };
+    let Some(wrong) = judgement.wrong else {
+        return Ok(());
+    };
+    let Ok(text) = wrong_text(rt.alloc(), &wrong) else {
+        return Err(Fault::Memory);
+    };
+    match println!(rt; "line {line}: {text}") {
+        Ok(()) => Ok(()),
+        Err(_) => Err(Fault::Write),
+    }
+}
+
 // Prints all that is said of a run, and gives the status that goes with it.
 fn print_judgement(rt: &HostRuntime, judgement: Judgement) -> Result<u8, Fault> {
     let status = print_verdict(rt, judgement.verdict)?;
     print_expected(rt, judgement)?;
+    print_wrong(rt, judgement)?;
     Ok(status)
 }
 

@@ -7,6 +7,7 @@
 //! before the last collection: so it has a flag of each of these too.
 #![tactic(auto)]
 
+mod blaming;
 mod collector;
 mod expecting;
 mod flags;

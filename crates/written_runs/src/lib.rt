@@ -15,4 +15,4 @@ mod writing;
 pub use command::words_given;
 pub use rules::Rule;
 pub use verdict::{Judgement, Verdict, judge};
-pub use writing::{line_text, reply_text};
+pub use writing::{line_text, reply_text, wrong_text};
