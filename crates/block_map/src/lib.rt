@@ -5,10 +5,10 @@
 //! # What is proved
 //!
 //! `find` answers for every `u64` the allocated object that the word points into, and `None` exactly where it points into
-//! none. The map is also offered as a function from words to objects with its laws (`IsMap`), each change as a change of that
-//! function, and a walk over the objects of a page. Its calls keep the lists of free cells in the memory (`AreListed`). `put`
-//! answers what is left on the page: its class and kind, whether each cell was allocated before, and whether none is now
-//! (`TellsOf`).
+//! none (`found_in`). The map is also offered as a function from words to objects with its laws (`IsLawful`), each change as a
+//! change of that function, and a walk over the objects of a page. Its calls keep the lists of free cells in the memory
+//! (`AreListed`). `put` answers what is left on the page: its class and kind, whether each cell was allocated before, and whether
+//! none is now (`TellsOf`).
 #![tactic(auto)]
 
 mod found;

@@ -44,9 +44,9 @@
 //! set that holds the marks before, what root words point into, and what words of its Normal members point into; no page is
 //! dirty and no entry is left. Heap words read: at most 512 for each page that was dirty and for each page that a newly
 //! marked object covers, and the words that entries of Normal objects had left. `close_marks_with` leaves the same marks,
-//! also with no page dirty and no entry left, with any number of helpers from 1 to 8, each in a thread of its own, and also
-//! where memory or a thread is refused. Both keep `CarriedPageInvariant`, the helpers by a carried row each. A `Gate` is
-//! asked round each claim of a helper, by tests alone.
+//! also with no page dirty and no entry left, with any number of helpers from 1 to 8 (`Helpers`), and also where memory or a
+//! thread is refused. Both keep `CarriedPageInvariant` (`Traces`). That threads of their own run, how work is shared, and that a
+//! `Gate` is asked round each claim, no clause says: tests show it.
 #![tactic(auto)]
 
 mod alone;

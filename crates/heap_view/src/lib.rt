@@ -7,7 +7,8 @@
 //! # What is proved
 //!
 //! `ShowsObjects` says which objects map and memory show; their births they don't keep. Over each heap with these objects the
-//! marker's closure is the heap's `Closure`, both ways.
+//! marker's closure is the heap's `Closure`, both ways: from births (`closures_agree`) and from marks
+//! (`marked_closures_agree`).
 #![tactic(auto)]
 
 mod laws;

@@ -3,9 +3,9 @@
 //!
 //! # What is proved
 //!
-//! `AreNamed` says that a heap has these links. `link`, `unlink`, `has_room` and `keep` change or ask the row alone; who lets
-//! objects go says which links stay (`TellObjects`, by two tests), and it is proved once that the same links leave the heap,
-//! and that the same words become 0.
+//! `link`, `unlink`, `has_room` and `keep` change or ask the row, each by one function of it (`with_link_at`, `but_at`). `AreNamed`
+//! says that a heap has these links; that it stays so when objects leave, and which words then become 0, is a lemma over two tests
+//! of addresses (`TellObjects`), and what the contracts above this crate rest on.
 #![tactic(auto)]
 
 mod row;

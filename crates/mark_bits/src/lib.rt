@@ -6,9 +6,9 @@
 //! # What is proved
 //!
 //! `set`, `clear` and `clear_all` of the set are exact. On the table a thread claims a mark by one `fetch_or` and looks by
-//! one `load`; neither waits or loops. For every schedule each bit set since the table was made stands in exactly one won
-//! list, and when all claimers are joined the marks are those at the start and the won lists together, each once (`finish`,
-//! `gathered_marks`).
+//! one `load`; neither takes a handle to wait. For every schedule each bit set since the table was made stands in exactly one won
+//! list, and when all claimers are joined the marks are those at the start and the won lists together, each once (`Gathers` of
+//! `finish`, `gathered_marks`).
 #![tactic(auto)]
 
 mod claimer_view;
