@@ -152,8 +152,12 @@ HIDDEN size_t mpgc_count_links(void);
 HIDDEN void mpgc_set_budget(void);
 HIDDEN void mpgc_settle_budget(void);
 HIDDEN bool mpgc_sweep_some(size_t pages);
+HIDDEN bool mpgc_is_off(void);
 HIDDEN bool mpgc_pace(void *unused);
 HIDDEN bool mpgc_collect_a_little(void *unused);
+
+// settings.c. Where the function lies that may break off a collection, or NULL.
+HIDDEN void *mpgc_stop_func(void);
 
 // requests.c
 HIDDEN bool mpgc_find(uintptr_t address, uintptr_t *base, size_t *words);

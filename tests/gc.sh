@@ -115,7 +115,7 @@ else
 fi
 
 # Each function, each place of roots, and what stands round the barrier.
-for test in functions settings limits links roots barrier kernel signals process shadow; do
+for test in functions settings macros limits links roots barrier kernel signals process shadow; do
     "${c[@]}" "$top/tests/gc/$test.c" "-L$room" -lmpgc "-Wl,-rpath,$room" -pthread -o "$room/$test" 2>"$room/said"
     is "$test is built" "" "$(cat "$room/said")"
 done
@@ -123,6 +123,7 @@ counted functions "$room/functions"
 counted "functions, in small steps" env GC_ENABLE_INCREMENTAL=1 "$room/functions"
 counted settings "$room/settings"
 counted "settings, in small steps" env GC_ENABLE_INCREMENTAL=1 "$room/settings"
+counted macros "$room/macros"
 counted limits "$room/limits"
 counted links "$room/links"
 counted "links, in small steps" env GC_ENABLE_INCREMENTAL=1 "$room/links"
@@ -144,7 +145,7 @@ for test in barrier kernel signals; do
     fi
 done
 if [ -e /usr/include/gc/gc_mark.h ]; then
-    for test in functions settings links; do
+    for test in functions settings macros links; do
         cc -std=c11 -O1 -w -DOTHER "$top/tests/gc/$test.c" -lgc -o "$room/${test}_bdw"
         counted "$test, over bdwgc" "$room/${test}_bdw"
     done
