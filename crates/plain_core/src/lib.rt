@@ -10,7 +10,8 @@
 //! `CantTake`), and `forget` so too, where each object without a flag is among them (`ForgetsUnflagged`, `CantForget`).
 //! `flag_reached`, `flag_led` and `flag_brought` set the flags of what the roots, a word, or the word that a call brings into a
 //! root lead to; `flag_closure` those of what the roots or the old objects lead to, where `flag_all` and `unflag` keep the flags of
-//! the old ones.
+//! the old ones. `wrong_collected` and `wrong_forgotten` tell the lowest of what is wrong where objects are said to be gone, if
+//! anything is (`TellsUncollected`, `TellsUnforgotten`), and change nothing.
 #![tactic(auto)]
 
 mod along;
