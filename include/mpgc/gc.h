@@ -139,8 +139,8 @@ GC_API int GC_is_disabled(void);
 
 /* While a cycle marks, pages of ordinary objects are write-protected, and never those of atomic ones. A system call that the
  * program makes and that writes into an ordinary object then answers EFAULT, as with bdwgc; libmpgc.so opens the pages first
- * for read, recv, stat, poll, select, wait and their kin, fread, getcwd, readlink, pipe, accept and its kin, times and ioctl
- * (docs/PROGRAMS.md has them all). Use atomic objects as buffers of others. */
+ * for read, recv, stat, poll, select, wait and their kin, fread, getcwd, readlink, pipe, accept and its kin, clocks and timers,
+ * random bytes and ioctl (docs/PROGRAMS.md has them all). Use atomic objects as buffers of others. */
 #define GC_PROTECTS_NONE 0
 #define GC_PROTECTS_POINTER_HEAP 1
 #define GC_PROTECTS_PTRFREE_HEAP 2
