@@ -67,7 +67,7 @@ get_at : (row : List Extent) (i : ℕ) → i < length row → (e : Extent) × (s
 get_at row i lt = let e : Extent = get_or row i (record { base = 0; kind = Normal; length = 0 }) in (e, slice_get-get_or row i _ lt)
 
 -- what is not reached is not marked
-unmarked : (c : PlainContents) (sound : IsLaidOut c) (marks : List Bool) (m : MarksReached (root_words_of c.roots) c.words c.objects marks) (s : Heap) (h : StandsFor c s) (b : Bool) (i : ℕ) (e : Extent)
+pub unmarked : (c : PlainContents) (sound : IsLaidOut c) (marks : List Bool) (m : MarksReached (root_words_of c.roots) c.words c.objects marks) (s : Heap) (h : StandsFor c s) (b : Bool) (i : ℕ) (e : Extent)
     → slice_get c.objects i ≡ Some e → (Reached s e.base → ⊥) → get_or marks i false ≡ b → get_or marks i false ≡ false
 unmarked c sound marks m s h true i e at out is = absurd (out (reached_out c sound s h i e (m.reached i is) at))
 unmarked c sound marks m s h false i e at out is = is

@@ -21,3 +21,4 @@ pub mod Answering
 pub mod Cells
 pub mod Flagging
 pub mod Aging
+pub mod Lowest

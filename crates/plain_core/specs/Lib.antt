@@ -11,3 +11,4 @@ pub mod Collections
 pub mod Answering
 pub mod Flags
 pub mod Aging
+pub mod Wrongs

@@ -38,7 +38,7 @@ pub(crate) fn unset_flags(
 }
 
 // Unsets the flag of the object that has this base, if there is one.
-fn unset_one(base: u64, objects: &[Extent], owners: &[u64], flags: &mut Vec<bool>)
+pub(crate) fn unset_one(base: u64, objects: &[Extent], owners: &[u64], flags: &mut Vec<bool>)
     requires owners { AreOwners objects.now owners.now }
     requires one { HasOneEach objects.now }
     requires flags { length objects.now ≤ length flags.old.items }

@@ -7,6 +7,7 @@ ghost use Rattle.heap_spec.specs.Heap.{opening};
 mod aging;
 mod answers;
 mod collections;
+mod judging;
 mod linked;
 mod looking;
 mod objects;

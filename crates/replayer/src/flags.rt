@@ -2,9 +2,10 @@
 ghost use Rattle.std.specs.Prelude.{◌≡◌, IsTrue, true, false, length};
 ghost use Rattle.plain_core.specs.Flags.{FlagsReached, FlagsLed, FlagsBrought, ForgetsUnflagged, CantForget};
 ghost use Rattle.plain_core.specs.Aging.{FlagsAll, FlagUnset, FlagsClosure};
+ghost use Rattle.plain_core.specs.Wrongs.{TellsUnforgotten};
 
 use heap_spec::Call;
-use plain_core::Core;
+use plain_core::{Core, Wrong};
 use words::Slot;
 
 // Sets the flags of what is reached, and no other.
@@ -77,4 +78,12 @@ pub(crate) fn forget(core: &mut Core, bases: &[u64], flags: &Vec<bool>) -> bool
     ensures same { result ≡ false → core.new ≡ core.old }
 {
     core.forget(bases, flags)
+}
+
+// What is wrong where the end of a cycle is said to have taken out the objects with these bases.
+pub(crate) fn wrong_forgotten(core: &mut Core, bases: &[u64], flags: &Vec<bool>) -> Option<Wrong>
+    ensures wrong { TellsUnforgotten core.old flags.now.items bases.now result }
+    ensures same { core.new ≡ core.old }
+{
+    core.wrong_forgotten(bases, flags)
 }

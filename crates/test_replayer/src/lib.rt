@@ -17,3 +17,5 @@ mod stress;
 mod touched;
 #[cfg(test)]
 mod verdicts;
+#[cfg(test)]
+mod wrongs;

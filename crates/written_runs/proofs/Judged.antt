@@ -9,13 +9,14 @@ use Rattle.heap_spec.specs.Runs.{Start, Run, opening_start}
 use Rattle.replayer.specs.declared.hint.Hint.{Hint}
 use Rattle.replayer.specs.ReplayerContents.{ReplayerContents, Follows}
 use Rattle.replayer.specs.Replays.{IsReplay}
+use Rattle.plain_core.specs.declared.wrongs.Wrong.{Wrong}
 use Rattle.scripts.specs.Lines.{newline, lines_of}
 use Rattle.scripts.proofs.Texts.{lines_of-line, lines_of-last}
 use Rattle.written_runs.specs.declared.verdict.Verdict.TheVariants.{Legal, NoLines, Bad, Breaks}
 use Rattle.written_runs.specs.declared.verdict.Verdict.{Verdict}
 use Rattle.written_runs.specs.Cuts.{IsEmptyOrFrom, IsTextCut}
 use Rattle.written_runs.specs.Written.{IsWritten}
-use Rattle.written_runs.specs.Judging.{Leads, ends, on, IsUnwritten, IsBroken, HasFault, IsJudged, HadToAnswer, IsExplained, Takes, IsToldAt, IsLineVerdict, IsLineExplained}
+use Rattle.written_runs.specs.Judging.{Leads, ends, on, IsUnwritten, IsBroken, HasFault, IsJudged, HadToAnswer, IsExplained, IsWrongLine, IsBlamed, Takes, IsToldAt, IsLineVerdict, IsLineExplained, IsLineBlamed}
 use Rattle.written_runs.specs.Told.{is_comment, told_lines}
 
 -- one line more
@@ -144,6 +145,18 @@ module _ (pages : ℕ) (text rest behind line : List ℕ) (number told : ℕ) (o
     is_written = why.is_written;
     other = why.other;
     expected = why.expected (opening_start pages) u.run u.follows;
+  })
+
+  pub blamed : (verdict : Verdict) (wrong : Option Wrong) → IsLineVerdict old (number + 1) line verdict → IsLineBlamed old line verdict wrong → IsBlamed pages (lines_of text) verdict wrong
+  blamed (Legal count) wrong is why = why
+  blamed NoLines wrong is why = why
+  blamed (Bad n) wrong is why = why
+  blamed (Breaks n rule) wrong is why = fault (IsWrongLine (opening_start pages) wrong) n is.0 (record {
+    event = why.event;
+    given = why.given;
+    hint = why.hint;
+    is_written = why.is_written;
+    tells = why.tells (opening_start pages) u.run u.follows;
   })
 
 -- the first line of a text that was cut at its first newline

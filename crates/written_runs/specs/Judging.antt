@@ -7,6 +7,9 @@ use Rattle.replayer.specs.declared.hint.Hint.{Hint}
 use Rattle.replayer.specs.ReplayerContents.{ReplayerContents}
 use Rattle.replayer.specs.Replays.{IsReplay, IsReplayed, IsNoReplay}
 use Rattle.replayer.specs.Expecting.{IsTheReply, Expects}
+use Rattle.replayer.specs.Wrongs.{IsWrongOf, TellsWrong}
+use Rattle.plain_core.specs.declared.wrongs.Wrong.{Wrong}
+use Rattle.plain_core.specs.Wrongs.{TellsLowest}
 use Rattle.written_runs.specs.declared.rules.Rule.{Rule}
 use Rattle.written_runs.specs.declared.verdict.Judgement.{Judgement}
 use Rattle.written_runs.specs.declared.verdict.Verdict.{Verdict}
@@ -84,6 +87,21 @@ IsExplained pages lines NoLines (Some reply) = ⊥
 IsExplained pages lines (Bad number) (Some reply) = ⊥
 IsExplained pages lines (Breaks number rule) (Some reply) = HasFault (HadToAnswer (opening_start pages) reply) (opening_start pages) lines number
 
+-- Of a line this is the lowest of what is wrong about the objects that it says were forgotten, or nothing is.
+pub record IsWrongLine (start : Start) (wrong : Option Wrong) (run : Run) (line : List ℕ) : Type 0 where
+  pub event : Event
+  pub given : Reply
+  pub hint : Hint
+  pub is_written : IsWritten line event given hint
+  pub tells : TellsLowest (IsWrongOf start run event hint) wrong
+
+-- what is wrong about the objects that the line which breaks a run says were forgotten
+abbrev pub IsBlamed : ℕ → List (List ℕ) → Verdict → Option Wrong → Type 0
+IsBlamed pages lines (Legal count) wrong = wrong ≡ None
+IsBlamed pages lines NoLines wrong = wrong ≡ None
+IsBlamed pages lines (Bad number) wrong = wrong ≡ None
+IsBlamed pages lines (Breaks number rule) wrong = HasFault (IsWrongLine (opening_start pages) wrong) (opening_start pages) lines number
+
 -- A line leads a replayer on: it is written of an event, its reply and a hint that replay.
 pub record LeadsOn (old : ReplayerContents) (line : List ℕ) (new : ReplayerContents) : Type 0 where
   pub event : Event
@@ -136,7 +154,28 @@ IsLineExplained old line NoLines (Some reply) = ⊥
 IsLineExplained old line (Bad n) (Some reply) = ⊥
 IsLineExplained old line (Breaks n rule) (Some reply) = HasToAnswer old reply line
 
+-- Of a line this is the lowest of what is wrong in each run that a replayer follows, or nothing is.
+pub record HasWrong (old : ReplayerContents) (wrong : Option Wrong) (line : List ℕ) : Type 0 where
+  pub event : Event
+  pub given : Reply
+  pub hint : Hint
+  pub is_written : IsWritten line event given hint
+  pub tells : TellsWrong old event hint wrong
+
+-- and what is wrong about the objects that it says were forgotten
+abbrev pub IsLineBlamed : ReplayerContents → List ℕ → Verdict → Option Wrong → Type 0
+IsLineBlamed old line (Legal count) wrong = wrong ≡ None
+IsLineBlamed old line NoLines wrong = wrong ≡ None
+IsLineBlamed old line (Bad n) wrong = wrong ≡ None
+IsLineBlamed old line (Breaks n rule) wrong = HasWrong old wrong line
+
+-- What is said of a line.
+pub record IsSaid (old : ReplayerContents) (number : ℕ) (line : List ℕ) (judgement : Judgement) : Type 0 where
+  pub verdict : IsLineVerdict old number line judgement.verdict
+  pub expected : IsLineExplained old line judgement.verdict judgement.expected
+  pub wrong : IsLineBlamed old line judgement.verdict judgement.wrong
+
 -- whether a line takes a replayer on, or else what is said of it
 abbrev pub IsLineJudged : ReplayerContents → ℕ → List ℕ → Option Judgement → ReplayerContents → Type 0
 IsLineJudged old number line None new = Takes (is_comment line) old line new
-IsLineJudged old number line (Some judgement) new = IsLineVerdict old number line judgement.verdict × IsLineExplained old line judgement.verdict judgement.expected
+IsLineJudged old number line (Some judgement) new = IsSaid old number line judgement

@@ -3,13 +3,14 @@ ghost use Rattle.std.specs.Prelude.{◌≡◌, ◌<◌, ◌≤◌, [], ◌∷◌
 ghost use Rattle.words.specs.declared.limits.TheConstants.{MAX_PAGES};
 ghost use Rattle.scripts.specs.Lines.{lines_of};
 ghost use Rattle.replayer.specs.Expecting.{Expects};
-ghost use Rattle.written_runs.specs.Judging.{IsExplained, IsJudged, IsLineJudged};
+ghost use Rattle.written_runs.specs.Judging.{IsBlamed, IsExplained, IsJudged, IsLineJudged};
 ghost use Rattle.written_runs.specs.Told.{is_comment, told_lines};
 
 use crate::cut::cut;
 use crate::line::read_line;
 use crate::rules::{Rule, rule_of};
 use heap_spec::{Event, Reply};
+use plain_core::Wrong;
 use replayer::Replayer;
 use std::alloc::{AllocError, Global};
 use words::RunError;
@@ -30,21 +31,25 @@ pub enum Verdict {
     Breaks(u64, Rule),
 }
 
-/// What is said of a written run, and of a line that breaks it which reply it had to have, where just one is open.
+/// What is said of a written run, and of a line that breaks it which reply it had to have, where just one is open, and the lowest
+/// of what is wrong about the objects that it says were forgotten, if anything is.
 #[derive(Clone, Copy, Debug, PartialEq, Eq)]
 pub struct Judgement {
     pub verdict: Verdict,
     pub expected: Option<Reply>,
+    pub wrong: Option<Wrong>,
 }
 
 // A verdict of which there is no more to say.
 fn plainly(verdict: Verdict) -> Judgement
     ensures verdict { result.verdict ≡ verdict }
     ensures expected { result.expected ≡ None }
+    ensures wrong { result.wrong ≡ None }
 {
     Judgement {
         verdict,
         expected: None,
+        wrong: None,
     }
 }
 
@@ -101,9 +106,11 @@ fn judge_line(
     }
     let rule = rule_of(&line.event, &line.reply, hint);
     let expected = other_reply(replayer, &line.event, &line.reply);
+    let wrong = replayer.wrong_with(&line.event, hint);
     Ok(Some(Judgement {
         verdict: Verdict::Breaks(number, rule),
         expected,
+        wrong,
     }))
 }
 
@@ -128,6 +135,7 @@ pub fn judge(alloc: Global, pages: u32, text: &str) -> Result<Judgement, RunErro
     requires { (1 ≤ pages) × (pages ≤ MAX_PAGES) }
     ensures verdict { IfOk result (λ said. IsJudged pages (lines_of text.now) said.verdict) }
     ensures expected { IfOk result (λ said. IsExplained pages (lines_of text.now) said.verdict said.expected) }
+    ensures wrong { IfOk result (λ said. IsBlamed pages (lines_of text.now) said.verdict said.wrong) }
 {
     let mut replayer = Replayer::new(alloc, pages)?;
     let mut number = 0u64;

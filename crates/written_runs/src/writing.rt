@@ -5,6 +5,7 @@ ghost use Rattle.scripts.specs.Grammar.{IsLineOf};
 ghost use Rattle.written_runs.specs.Written.{answer_of, bases_text, hint_text, IsAnswer, NamesWords, IsWritten};
 
 use heap_spec::Reply;
+use plain_core::Wrong;
 use replayer::Hint;
 use std::alloc::{AllocError, Global};
 
@@ -22,6 +23,16 @@ pub fn reply_text(alloc: Global, reply: &Reply) -> Result<String, AllocError>
             refusal.code(),
             refusal.name()
         ),
+    }
+}
+
+/// What is wrong about an object that was forgotten or kept, in words.
+pub fn wrong_text(alloc: Global, wrong: &Wrong) -> Result<String, AllocError> {
+    match wrong {
+        Wrong::IsMissing(base) => format!(in alloc; "no object is at {base}"),
+        Wrong::StandsTwice(base) => format!(in alloc; "{base} is named twice"),
+        Wrong::HasToStay(base) => format!(in alloc; "the object at {base} has to stay"),
+        Wrong::HasToGo(base) => format!(in alloc; "the object at {base} has to go"),
     }
 }
 

@@ -1,0 +1,68 @@
+-- What is wrong about the objects that a collection is said to have forgotten, from what the core tells.
+use Rattle.std.proofs.Common.{◌≡◌, ℕ, true, false, Bool, List, refl, sym, ◌∙◌}
+use Rattle.std.specs.Prelude.{Option, Some, None}
+use Rattle.std.specs.Borrow.{Bor}
+use Rattle.std.proofs.lemmas.Bool.{true≢false}
+use Rattle.heap_spec.specs.Heap.{Heap, Object}
+use Rattle.heap_spec.specs.Closure.{Reached}
+use Rattle.heap_spec.specs.Runs.{Start, Run, Touched, heap_after, is_marking}
+use Rattle.heap_spec.specs.declared.event.Event.{Event}
+use Rattle.heap_spec.specs.declared.event.Event.TheVariants.{Attach, Mutator, Begin, BeginPartial, Roots, Mark, Retrace, Finish, Sweep, Collect, Number}
+use Rattle.plain_core.specs.declared.wrongs.Wrong.{Wrong}
+use Rattle.plain_core.specs.declared.wrongs.Wrong.TheVariants.{IsMissing, StandsTwice, HasToStay, HasToGo}
+use Rattle.plain_core.specs.Flags.{IsFlagged}
+use Rattle.plain_core.specs.Wrongs.{IsWrong, TellsLowest, TellsUncollected, TellsUnforgotten}
+use Rattle.plain_core.proofs.Lowest.{alike}
+use Rattle.replayer.specs.declared.hint.Hint.{Hint}
+use Rattle.replayer.specs.declared.hint.Hint.TheVariants.{Nothing, Place, Forgot}
+use Rattle.replayer.specs.ReplayerContents.{ReplayerContents, Follows}
+use Rattle.replayer.specs.Wrongs.{IsWrongFinish, IsWrongCollect, IsWrongHint, IsWrongOf, TellsWrong}
+
+module _ (r : ReplayerContents) (start : Start) (run : Run) (f : Follows r start run) where
+  -- no cycle is marking
+  pub idle : r.marking ≡ false → (bases : List ℕ) → (x : Wrong) → IsWrongFinish start run bases x → ⊥
+  idle off bases x h = true≢false (sym h.0 ∙ sym f.phase ∙ off)
+
+  module _ (marks : r.marking ≡ true) (bases : List ℕ) where
+    abbrev Flagged : Wrong → Type 0
+    Flagged = IsWrong (heap_after start run) (λ base o. Reached (heap_after start run) base) (λ base o. IsFlagged r.touched base → ⊥) bases
+
+    to_run : (x : Wrong) → Flagged x → IsWrongFinish start run bases x
+    to_run (IsMissing b) h = (sym f.phase ∙ marks, h)
+    to_run (StandsTwice b) h = (sym f.phase ∙ marks, h)
+    to_run (HasToStay b) h = (sym f.phase ∙ marks, h)
+    to_run (HasToGo b) h = let o = h.1 in (sym f.phase ∙ marks, (h.0, (o.0, o.1, λ touched. o.2 ((f.touched marks b o.0 o.1).1 touched))))
+
+    to_flags : (x : Wrong) → IsWrongFinish start run bases x → Flagged x
+    to_flags (IsMissing b) h = h.1
+    to_flags (StandsTwice b) h = h.1
+    to_flags (HasToStay b) h = h.1
+    to_flags (HasToGo b) h = let o = h.1.1 in (h.1.0, (o.0, o.1, λ flag. o.2 ((f.touched marks b o.0 o.1).0 flag)))
+
+    pub finish_wrong : (wrong : Option Wrong) → TellsUnforgotten r.core r.touched bases wrong → TellsLowest (IsWrongFinish start run bases) wrong
+    finish_wrong wrong tells = alike Flagged (IsWrongFinish start run bases) to_run to_flags wrong (tells (heap_after start run) f.stands)
+
+pub collect_wrong : (r : ReplayerContents) (bases : List ℕ) (wrong : Option Wrong) → TellsUncollected r.core bases wrong → (start : Start) (run : Run) → Follows r start run → TellsLowest (IsWrongCollect start run bases) wrong
+collect_wrong r bases wrong tells start run f = tells (heap_after start run) f.stands
+
+-- a hint that names no bases says nothing wrong
+silent : (hint : Hint) → ((bases : Bor (List ℕ)) → hint ≡ Forgot bases → ⊥) → (Holds : List ℕ → Wrong → Type 0) (x : Wrong) → IsWrongHint Holds hint x → ⊥
+silent Nothing none Holds x h = h
+silent (Place base) none Holds x h = h
+silent (Forgot bases) none Holds x h = none bases refl
+
+silent_event : (start : Start) (run : Run) (event : Event) (hint : Hint) → ((Holds : List ℕ → Wrong → Type 0) (x : Wrong) → IsWrongHint Holds hint x → ⊥) → (x : Wrong) → IsWrongOf start run event hint x → ⊥
+silent_event start run Attach hint none x h = h
+silent_event start run (Mutator slot call) hint none x h = h
+silent_event start run Begin hint none x h = h
+silent_event start run BeginPartial hint none x h = h
+silent_event start run Roots hint none x h = h
+silent_event start run (Mark n) hint none x h = h
+silent_event start run Retrace hint none x h = h
+silent_event start run Finish hint none x h = none (IsWrongFinish start run) x h
+silent_event start run Sweep hint none x h = h
+silent_event start run Collect hint none x h = none (IsWrongCollect start run) x h
+silent_event start run Number hint none x h = h
+
+pub unnamed : (r : ReplayerContents) (event : Event) (hint : Hint) → ((bases : Bor (List ℕ)) → hint ≡ Forgot bases → ⊥) → TellsWrong r event hint None
+unnamed r event hint none = λ start run f x h. silent_event start run event hint (silent hint none) x h

@@ -1,0 +1,65 @@
+//! What is wrong about the objects that a collection is said to have forgotten. The run stays where it was.
+ghost use Rattle.std.specs.Prelude.{◌≡◌};
+ghost use Rattle.heap_spec.specs.Runs.{Start, Run};
+ghost use Rattle.plain_core.specs.Wrongs.{TellsLowest};
+ghost use Rattle.replayer.specs.ReplayerContents.{Follows};
+ghost use Rattle.replayer.specs.Wrongs.{IsWrongFinish, IsWrongCollect, TellsWrong};
+
+use crate::flags::wrong_forgotten;
+use crate::hint::Hint;
+use crate::replayer::Replayer;
+use heap_spec::Event;
+use plain_core::Wrong;
+
+impl Replayer {
+    // What is wrong about the bases that the end of a cycle is said to have forgotten.
+    fn wrong_finish(&mut self, bases: &[u64]) -> Option<Wrong>
+        ensures wrong { (start : Start) (run : Run) → Follows self.old start run → TellsLowest (IsWrongFinish start run bases.now) result }
+        ensures same { self.new ≡ self.old }
+    {
+        if !self.is_marking() {
+            return None;
+        }
+        wrong_forgotten(&mut self.core, bases, &self.touched)
+    }
+
+    // What is wrong about the bases that a full collection is said to have forgotten.
+    fn wrong_collect(&mut self, bases: &[u64]) -> Option<Wrong>
+        ensures wrong { (start : Start) (run : Run) → Follows self.old start run → TellsLowest (IsWrongCollect start run bases.now) result }
+        ensures same { self.new ≡ self.old }
+    {
+        self.core.wrong_collected(bases)
+    }
+
+    // What is wrong about an event and its hint, by the kind of the event.
+    fn wrong_by_kind(&mut self, event: Event, hint: Hint) -> Option<Wrong>
+        ensures wrong { TellsWrong self.old event hint.entry result }
+        ensures same { self.new ≡ self.old }
+    {
+        let Hint::Forgot(bases) = hint else {
+            return None;
+        };
+        match event {
+            Event::Attach => None,
+            Event::Mutator(_, _) => None,
+            Event::Begin => None,
+            Event::BeginPartial => None,
+            Event::Roots => None,
+            Event::Mark(_) => None,
+            Event::Retrace => None,
+            Event::Finish => self.wrong_finish(bases),
+            Event::Sweep => None,
+            Event::Collect => self.wrong_collect(bases),
+            Event::Number => None,
+        }
+    }
+
+    /// The lowest of what is wrong about the bases that a `finish` or a `collect` is said to have forgotten: which of them is no
+    /// object, stands twice or has to stay, and which object that isn't named had to go. `None` exactly if nothing is.
+    pub fn wrong_with(&mut self, event: &Event, hint: Hint) -> Option<Wrong>
+        ensures wrong { TellsWrong self.old event.now hint.entry result }
+        ensures same { self.new ≡ self.old }
+    {
+        self.wrong_by_kind(*event, hint)
+    }
+}
