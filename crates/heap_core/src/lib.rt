@@ -17,8 +17,9 @@
 //! `Core::laws` says what is true of every core (`IsCore`), so of a new one too and of what each call of `run` leaves: a word
 //! finds exactly the object that it points into, the free pages are exactly those on which no allocated object lies, each mark is
 //! that of an allocated object, while a cycle is marking the dirty-page invariant holds, and where no full cycle is needed that of
-//! carried pages. The module `laws` says what words that are written past the calls are to the heap (`WritesAreStores`), and what
-//! a client knows of a word that it holds. The core is an object of `history`.
+//! carried pages. `Core::stands` says that every core stands for a sound heap. The module `laws` says what words that are written
+//! past the calls are to the heap (`WritesAreStores`), and what a client knows of a word that it holds (`held_words`). The core is
+//! an object of `history`.
 #![tactic(auto)]
 
 mod heap;

@@ -1,10 +1,13 @@
--- A held word through a whole cycle, and the result of a load that answers it.
-use Rattle.std.proofs.Common.{Result, Ok, Err, true, false, ◌≡◌, ℕ, refl, ap}
-use Rattle.std.specs.Prelude.{⊤, IfOk}
+-- A held word through a whole cycle, and what results of calls say of their replies.
+use Rattle.std.proofs.Common.{Result, Ok, Err, IsErrAnd, Bool, true, false, ◌≡◌, ◌≢◌, ◌<◌, ℕ, refl, sym, ap, subst, arith}
+use Rattle.std.specs.Prelude.{⊤, IfErr, IfOk}
+use Rattle.std.proofs.lemmas.Bool.{true≢false}
+use Rattle.words.specs.declared.limits.TheConstants.{REGISTERS}
 use Rattle.words.specs.declared.refusal.Refusal.{Refusal}
 use Rattle.heap_spec.specs.declared.event.Event.TheVariants.{Begin, Roots, Mark, Retrace, Finish, Sweep}
 use Rattle.heap_spec.specs.declared.reply.Reply.{Reply}
-use Rattle.heap_spec.specs.declared.reply.Reply.TheVariants.{Done, Count, Word}
+use Rattle.heap_spec.specs.declared.reply.Reply.TheVariants.{Done, Count, Refused, Word}
+use Rattle.heap_spec.specs.Ranges.{IsRegister}
 use Rattle.heap_spec.specs.Replies.{word_reply}
 use Rattle.heap_core.specs.Collections.{IsGrantedInPhase, IsAlwaysGranted, BeginsCycle, ReadsRoots, TakesWords, RetracesPage, EndsCycle, SweepsOne}
 use Rattle.heap_core.specs.CoreContents.{CoreContents}
@@ -22,11 +25,37 @@ cycle_is stays c0 c1 c2 c3 c4 c5 c6 slot r w marked read gone swept k0 begin roo
     let k5 = stays c4 c5 Finish (Count gone) slot r 0 w k4 (tt {0}) (tt {0}) (Ok gone, refl, finish) in
     stays c5 c6 Sweep (Count swept) slot r 0 w k5 (tt {0}) (tt {0}) (Ok swept, refl, sweep)
 
+-- the registers of the examples
+pub record AreRegisters (a b : ℕ) : Type 0 where
+  pub first : IsRegister a
+  pub second : IsRegister b
+  pub apart : a ≢ b
+
+pub one_and_two : (a b : ℕ) → (a ≡ 1) × (1 < REGISTERS) → (b ≡ 2) × (2 < REGISTERS) → AreRegisters a b
+one_and_two a b one two = let x = one.0 in let y = two.0 in record { first = rw one.0 one.1; second = rw two.0 two.1; apart = λ e. omega (arith, x, y, e) }
+
+-- a reply that is no refusal is none
+abbrev refuses : Reply → Bool
+refuses (Refused why) = true
+refuses _ = false
+
 abbrev word_in : Reply → ℕ
 word_in (Word w) = w
 word_in _ = 0
 
 -- a result that is this word as a reply
-pub ok_is : (result : Result ℕ Refusal) (w : ℕ) → word_reply result ≡ Word w → IfOk result (λ l. l ≡ w)
-ok_is (Ok l) w is = ap word_in is
-ok_is (Err why) w is = tt
+pub loaded_is : (result : Result ℕ Refusal) (w : ℕ) → word_reply result ≡ Word w → IfOk result (λ l. l ≡ w)
+loaded_is (Ok l) w is = ap word_in is
+loaded_is (Err why) w is = tt
+
+pub never_err : (result : Result ℕ Refusal) (w : ℕ) (P : Refusal → Type 0) → word_reply result ≡ Word w → IfErr result P
+never_err (Ok l) w P is = tt
+never_err (Err why) w P is = absurd (true≢false (ap refuses is))
+
+pub not_done : (why : Refusal) → Refused why ≡ Done → ⊥
+not_done why is = true≢false (ap refuses is)
+
+-- the refusal that a `?` hands on
+pub handed_on : (result : Result ℕ Refusal) (why : Refusal) (P : Refusal → Type 0) → IsErrAnd result (λ y. y ≡ why) → P why → IfErr result P
+handed_on (Ok l) why P is holds = tt
+handed_on (Err y) why P is holds = subst P (sym is) holds

@@ -1,5 +1,6 @@
 //! The first run: a word is stored into a new object, and loaded again.
-ghost use Rattle.std.specs.Prelude.{◌≡◌, IfOk};
+ghost use Rattle.std.specs.Prelude.{◌≡◌, ◌⊎◌, IfErr, IfOk};
+ghost use Rattle.words.specs.declared.refusal.Refusal.{Refusal};
 
 use heap_core::Core;
 use heap_core::laws::held_words;
@@ -7,8 +8,12 @@ use words::{Kind, Refusal, Reg, Slot};
 
 /// Allocates an object of two words, stores a word into the first of them, and loads it again: what is loaded is what was
 /// stored, whatever calls came before. To know that, nothing has to be known of pages, cells or marks.
+///
+/// # Errors
+/// [`Refusal::NoSlot`] where the slot has no mutator, [`Refusal::Full`] where no place of the heap has room, and no other.
 pub fn store_and_load(core: &mut Core, slot: Slot, word: u64) -> Result<u64, Refusal>
     ensures loaded { IfOk result (λ loaded. loaded ≡ word) }
+    ensures refused { IfErr result (λ why. (why ≡ Refusal.NoSlot) ⊎ (why ≡ Refusal.Full)) }
 {
     let (Some(object), Some(scratch)) = (Reg::new(1), Reg::new(2)) else {
         unreachable!();
