@@ -143,9 +143,10 @@ pub flagged_more : (row : List Extent) (flags : List Bool) (done : ℕ) (e : Ext
 flagged_more row flags done e b marks short there set_is unset_is before i f lt at = ⊎_elim
     (λ same.
     let is_e : f ≡ e = same_Some f e (sym at ∙ ap (slice_get row) same ∙ there) in
-    let value : get_or (set marks done b) i false ≡ b = ap (λ k. get_or (set marks done b) k false) same ∙ get_or-set_same marks done b false short in
-    (λ off has. unset_is (sym value ∙ off) (subst (λ (x : Extent). IsFlagged flags x.base) is_e has),
-    λ out. value ∙ false_where (IsFlagged flags e.base) b set_is (λ has. out (subst (λ (x : Extent). IsFlagged flags x.base) (sym is_e) has))))
+    let value : get_or (set marks done b) i false ≡ b = ap (λ k. get_or (set marks done b) k false) same ∙ get_or-set_same marks done b false short in (
+      λ off has. unset_is (sym value ∙ off) (subst (λ (x : Extent). IsFlagged flags x.base) is_e has),
+      λ out. value ∙ false_where (IsFlagged flags e.base) b set_is (λ has. out (subst (λ (x : Extent). IsFlagged flags x.base) (sym is_e) has)),
+    ))
     (λ ne.
     let value : get_or (set marks done b) i false ≡ get_or marks i false = get_or-set_other marks done i b false ne in
     let old : (get_or marks i false ≡ false) ↔ (IsFlagged flags f.base → ⊥) = before i f (omega arith) at in
@@ -188,9 +189,10 @@ module _ (c : PlainContents) (sound : IsLaidOut c) (marks : List Bool) (m : Mark
     left_wrong (HasToStay b) l = absurd l.2
     left_wrong (HasToGo b) l =
         let e = l.2 in
-        let o = h.kept e.0 (in_row c.objects l.0 e.0 e.1) in
-        (λ among. true≢false (sym e.4 ∙ unset.unset l.0 e.0 e.1 (subst (Contains bases) (sym e.2) among)),
-        (o.0, subst (λ q. HasObject s q o.0) e.2 o.1, subst (λ q. Goes q o.0) e.2 ((goes l.0 e.0 o.0 e.1 o.1).0 e.3)))
+        let o = h.kept e.0 (in_row c.objects l.0 e.0 e.1) in (
+          λ among. true≢false (sym e.4 ∙ unset.unset l.0 e.0 e.1 (subst (Contains bases) (sym e.2) among)),
+          (o.0, subst (λ q. HasObject s q o.0) e.2 o.1, subst (λ q. Goes q o.0) e.2 ((goes l.0 e.0 o.0 e.1 o.1).0 e.3)),
+        )
 
     none_there : (b : ℕ) → ((o : Object) → HasObject s b o → ⊥) → All (λ (e : Extent). e.base ≡ b → ⊥) c.objects
     none_there b none k d lt same =
@@ -212,13 +214,17 @@ module _ (c : PlainContents) (sound : IsLaidOut c) (marks : List Bool) (m : Mark
         let o = w.1 in
         let e = extent_of c sound s h b o.0 o.1 in
         let at = at_place c.objects e.0 e.1 in
-        inr (at.0, slice_get_within c.objects at.0 e.0 at.1, (
-          e.0,
-          at.1,
-          e.2,
-          (goes at.0 e.0 o.0 at.1 (subst (λ q. HasObject s q o.0) (sym e.2) o.1)).1 (subst (λ q. Goes q o.0) (sym e.2) o.2),
-          unnamed (get_or stays at.0 false) at.0 e.0 at.1 (λ among. w.0 (subst (Contains bases) e.2 among)) refl,
-        ))
+        inr (
+          at.0,
+          slice_get_within c.objects at.0 e.0 at.1,
+          (
+            e.0,
+            at.1,
+            e.2,
+            (goes at.0 e.0 o.0 at.1 (subst (λ q. HasObject s q o.0) (sym e.2) o.1)).1 (subst (λ q. Goes q o.0) (sym e.2) o.2),
+            unnamed (get_or stays at.0 false) at.0 e.0 at.1 (λ among. w.0 (subst (Contains bases) e.2 among)) refl,
+          ),
+        )
 
     told : (a b r : Option Wrong) → TellsLowest Named a → TellsLowest Left b → IsLowerOf a b r → TellsLowest Wrongs r
     told a b r x y is = alike (EitherOf Named Left) Wrongs (λ v either. ⊎_elim (λ n. named_wrong v n) (λ l. left_wrong v l) either) wrong_there r (lower_lowest Named Left a b r x y is)

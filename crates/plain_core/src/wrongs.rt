@@ -111,7 +111,10 @@ pub(crate) fn lowest_named(
 {
     let mut lowest = None;
     for index in 0..bases.len() {
-        lowest = lower(lowest, named_at(bases, index, objects, owners, marks, stays));
+        lowest = lower(
+            lowest,
+            named_at(bases, index, objects, owners, marks, stays),
+        );
         unset_one(bases[index], objects, owners, stays);
     }
     lowest

@@ -27,7 +27,7 @@ fn print_verdict(rt: &HostRuntime, verdict: Verdict) -> Result<u8, Fault> {
 }
 
 // Prints which reply a line had to have, if one is told.
-fn print_expected(rt: &HostRuntime, judgement: Judgement) -> Result<(), Fault> {
+fn print_expected(rt: &HostRuntime, judgement: &Judgement) -> Result<(), Fault> {
     let Verdict::Breaks(line, _) = judgement.verdict else {
         return Ok(());
     };
@@ -44,7 +44,7 @@ fn print_expected(rt: &HostRuntime, judgement: Judgement) -> Result<(), Fault> {
 }
 
 // Prints what is wrong about the objects that a line says were forgotten, if anything is.
-fn print_wrong(rt: &HostRuntime, judgement: Judgement) -> Result<(), Fault> {
+fn print_wrong(rt: &HostRuntime, judgement: &Judgement) -> Result<(), Fault> {
     let Verdict::Breaks(line, _) = judgement.verdict else {
         return Ok(());
     };
@@ -61,7 +61,7 @@ fn print_wrong(rt: &HostRuntime, judgement: Judgement) -> Result<(), Fault> {
 }
 
 // Prints all that is said of a run, and gives the status that goes with it.
-fn print_judgement(rt: &HostRuntime, judgement: Judgement) -> Result<u8, Fault> {
+fn print_judgement(rt: &HostRuntime, judgement: &Judgement) -> Result<u8, Fault> {
     let status = print_verdict(rt, judgement.verdict)?;
     print_expected(rt, judgement)?;
     print_wrong(rt, judgement)?;
@@ -77,7 +77,7 @@ fn check(rt: &HostRuntime, pages: u32, file: &str) -> Result<u8, Fault>
         Err(error) => return Err(Fault::of_read(&error)),
     };
     match judge(rt.alloc(), pages, text.as_str()) {
-        Ok(judgement) => print_judgement(rt, judgement),
+        Ok(judgement) => print_judgement(rt, &judgement),
         Err(_) => Err(Fault::Memory),
     }
 }

@@ -17,7 +17,9 @@ const OPENING: &str = "attach => mutator 0
 ";
 
 const FIRST: u64 = 268435456;
+
 const SECOND: u64 = 268435472;
+
 const THIRD: u64 = 268435488;
 
 /// Lines behind the opening, and what is wrong about the last of them.

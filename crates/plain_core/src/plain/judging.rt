@@ -8,7 +8,7 @@ ghost use Rattle.plain_core.specs.Wrongs.{TellsUncollected, TellsUnforgotten};
 
 use super::Core;
 use super::collections::list_from_roots;
-use crate::wrongs::{Wrong, lowest_left, lowest_named, lower, mark_flagged};
+use crate::wrongs::{Wrong, lower, lowest_left, lowest_named, mark_flagged};
 
 impl Core {
     /// The lowest of what is wrong where a full collection is said to have taken out the objects with these bases: what is
