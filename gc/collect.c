@@ -92,15 +92,10 @@ bool mpgc_collect_fully(void *unused)
     return true;
 }
 
-// A collection that the program may break off, by the function at `at`: then the cycle stands, and the next collection ends it.
-bool mpgc_collect_unless(void *at)
+// The cycle that marks ends, if there is one, or the program breaks it off: then it stands, and the next collection goes on with it.
+static bool end_unless(GC_stop_func stop)
 {
     enum { WORDS = 4 * PAGE / WORD };
-    GC_stop_func stop = at ? *(GC_stop_func *)at : NULL;
-    if (GC_dont_gc || (stop && stop())) return false;
-    if (!stop) return mpgc_collect_fully(NULL);
-    if (mpgc.is_marking) (void)mpgc_collect_fully(NULL);
-    (void)mpgc_begin_cycle(NULL);
     while (mpgc.is_marking) {
         if (stop()) {
             if (!mpgc.is_incremental) mpgc_leave_open();
@@ -108,5 +103,18 @@ bool mpgc_collect_unless(void *at)
         }
         mpgc_go_on(WORDS);
     }
+    if (!mpgc.is_incremental) mpgc_open_all();
     return true;
+}
+
+// A collection that the program may break off, by the function at `at`, if there is one. What a cycle has marked that stood before it is
+// kept by that one, so another one begins when it has ended.
+bool mpgc_collect_unless(void *at)
+{
+    GC_stop_func stop = at ? *(GC_stop_func *)at : NULL;
+    if (GC_dont_gc || (stop && stop())) return false;
+    if (!stop) return mpgc_collect_fully(NULL);
+    if (!end_unless(stop)) return false;
+    (void)mpgc_begin_cycle(NULL);
+    return end_unless(stop);
 }

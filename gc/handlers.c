@@ -1,6 +1,6 @@
-// The C library's sigaction and signal, also by its old names, for the program's own handler of faults: the barrier's stays in front of it, so that no fault of a
-// closed page reaches a handler that knows nothing of it, and the program is told the handler that it had set itself. Handlers of other
-// signals run without faults being blocked (masks.c), and else as ever. Trusted, not proved.
+// The C library's sigaction and signal, also by its old names, for the program's own handler of faults: the barrier's stays in front of
+// it, so that no fault of a closed page reaches a handler that knows nothing of it, and the program is told the handler that it had set
+// itself. Handlers of other signals run without faults being blocked (masks.c), and else as ever. Trusted, not proved.
 //
 // It owes the core the same as the fault handler does (signals.c): that this one is called is what it sees to.
 #include "layer.h"

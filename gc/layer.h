@@ -1,5 +1,18 @@
-// What the files of libmpgc know of each other. The layer is trusted and not proved: below it stands the proved heap of mpheap_c,
-// above it a C program that knows bdwgc's gc.h. One thread, x86-64, Linux.
+// What the files of libmpgc know of each other. One thread, x86-64, Linux.
+//
+// Trusted and not proved: every file of this folder. Below it stands the proved heap of mpheap_c, above it a C program that knows
+// bdwgc's gc.h, and may do what it likes. The proofs hold for the program as far as the layer keeps what mpheap.h asks of a caller; the
+// head of each file says which of those sentences it owes, and by which lines it pays. An object could be lost, or memory be broken, by
+//
+//   start.c requests.c pages.c      one heap, its own thread; what is given out is an object, and freed once; what each page holds
+//   roots.c                         every word by which the program may still reach an object is a root
+//   protection.c                    told first, then written: the rule of closed pages, which is the heart of the layer
+//   signals.c handlers.c masks.c    a write to a closed page reaches that rule, whatever the program does with its signals
+//   syscalls*.c next.h              so do the kernel's writes (a page that is left closed makes them EFAULT, and loses nothing)
+//   collect.c cycle.c spare.c       the core's calls in an order that it grants, and nothing owed between two cycles
+//   links.c                         words of the program are cleared in kept objects alone
+//
+// and by nothing in pacing.c, settings.c, debug.c, dump.c and unsupported.c, whose faults are wrong figures, pace or answers.
 #ifndef MPGC_LAYER_H
 #define MPGC_LAYER_H
 #define _GNU_SOURCE
@@ -152,8 +165,12 @@ HIDDEN size_t mpgc_count_links(void);
 HIDDEN void mpgc_set_budget(void);
 HIDDEN void mpgc_settle_budget(void);
 HIDDEN bool mpgc_sweep_some(size_t pages);
+HIDDEN bool mpgc_is_off(void);
 HIDDEN bool mpgc_pace(void *unused);
 HIDDEN bool mpgc_collect_a_little(void *unused);
+
+// settings.c. Where the function lies that may break off a collection, or NULL.
+HIDDEN void *mpgc_stop_func(void);
 
 // requests.c
 HIDDEN bool mpgc_find(uintptr_t address, uintptr_t *base, size_t *words);

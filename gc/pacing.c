@@ -79,16 +79,18 @@ static uint64_t tidy(void)
     return is_settled ? mpgc.budget : mpgc.since + STEP;
 }
 
-static bool is_off(void) { return GC_dont_gc || GC_get_disable_automatic_collection(); }
+// No collection begins but those that the program asks for.
+bool mpgc_is_off(void) { return GC_dont_gc || GC_get_disable_automatic_collection(); }
 
 static bool is_due(void) { return (mpgc_is_in_cycle() && mpgc.is_incremental) || mpgc.since >= mpgc.budget; }
 
 static void collect_step(void)
 {
-    if (mpgc.is_incremental)
+    GC_stop_func *stop = mpgc_stop_func();
+    if (!mpgc.is_incremental)
+        (void)mpgc_collect_unless(stop);
+    else if (!stop || !(*stop)())
         mpgc_go_on(WORK);
-    else
-        (void)mpgc_collect_fully(NULL);
     mpgc.next = mpgc.since + STEP;
 }
 
@@ -96,7 +98,7 @@ static void collect_step(void)
 bool mpgc_pace(void *unused)
 {
     (void)unused;
-    if (is_off())
+    if (mpgc_is_off())
         mpgc.next = mpgc.since + STEP;
     else if (is_due())
         collect_step();
@@ -109,7 +111,7 @@ bool mpgc_pace(void *unused)
 bool mpgc_collect_a_little(void *unused)
 {
     (void)unused;
-    if (is_off()) return mpgc_is_in_cycle();
+    if (mpgc_is_off()) return mpgc_is_in_cycle();
     if (is_due()) collect_step();
     return mpgc_is_in_cycle();
 }

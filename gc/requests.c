@@ -57,7 +57,7 @@ static void *out_of_memory(size_t bytes)
 __attribute__((noinline)) static void *ask_again(size_t bytes, size_t words, enum page_kind kind)
 {
     uint64_t base;
-    if (GC_dont_gc || words > MAX_REQUEST_WORDS) return out_of_memory(bytes);
+    if (mpgc_is_off() || words > MAX_REQUEST_WORDS) return out_of_memory(bytes);
     (void)mpgc_from_here(mpgc_collect_fully, NULL);
     if (ask_within(words, kind, &base) != MPHEAP_OK) return out_of_memory(bytes);
     mpgc.since += words;
@@ -112,10 +112,12 @@ void *GC_malloc_many(size_t bytes) { return GC_malloc(bytes); }
 void *GC_memalign(size_t align, size_t bytes)
 {
     if (align <= GRANULE) return GC_malloc(bytes);
-    if (align <= PAGE && (align > PAGE / 2 || bytes > PAGE / 2)) return GC_malloc(bytes > PAGE / 2 ? bytes : PAGE / 2 + 1);
+    bool divides_pages = PAGE % align == 0, fills_page = align > PAGE / 2 || bytes > PAGE / 2;
+    if (divides_pages && fills_page) return GC_malloc(bytes > PAGE / 2 ? bytes : PAGE / 2 + 1);
     if (bytes > SIZE_MAX - align) return out_of_memory(bytes);
     char *object = GC_malloc(bytes + align - 1);
-    return mpgc_is_inside((uintptr_t)object) ? object + (-(uintptr_t)object & (align - 1)) : object;
+    size_t past = (uintptr_t)object % align;
+    return mpgc_is_inside((uintptr_t)object) && past != 0 ? object + (align - past) : object;
 }
 
 int GC_posix_memalign(void **result, size_t align, size_t bytes)

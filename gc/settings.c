@@ -87,6 +87,7 @@ GC_start_callback_proc GC_get_start_callback(void) { return tell_start; }
 void GC_set_log_fd(int file) { (void)file; }
 void GC_set_stop_func(GC_stop_func stop) { stop_by_default = stop; }
 GC_stop_func GC_get_stop_func(void) { return stop_by_default; }
+void *mpgc_stop_func(void) { return stop_by_default == never ? NULL : &stop_by_default; }
 
 void GC_set_all_interior_pointers(int on) { GC_all_interior_pointers = on ? 1 : 0; }
 int GC_get_all_interior_pointers(void) { return GC_all_interior_pointers; }
@@ -113,7 +114,7 @@ int GC_is_disabled(void) { return GC_dont_gc != 0; }
 void GC_gcollect(void)
 {
     mpgc_enter();
-    (void)mpgc_from_here(mpgc_collect_unless, stop_by_default == never ? NULL : &stop_by_default);
+    (void)mpgc_from_here(mpgc_collect_unless, mpgc_stop_func());
 }
 void GC_gcollect_and_unmap(void)
 {

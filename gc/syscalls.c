@@ -5,6 +5,7 @@
 // It owes the core the same as the fault handler does (protection.c), and pays by the same function.
 #include "next.h"
 #include <stdio.h>
+#include <sys/sendfile.h>
 #include <sys/stat.h>
 #include <sys/statvfs.h>
 #include <sys/types.h>
@@ -59,3 +60,9 @@ OPENS(size_t, fread_unlocked, (void *restrict into, size_t size, size_t count, F
     OPENS(int, fstatfs##end, (int file, struct statfs##end *into), (file, into), into, sizeof *into)
 STATS()
 STATS(64)
+OPENS(int, statx, (int folder, const char *restrict path, int flags, unsigned which, struct statx *restrict into),
+      (folder, path, flags, which, into), into, sizeof *into)
+
+// Where the reading went on is told.
+OPENS(ssize_t, sendfile, (int to, int from, off_t *at, size_t bytes), (to, from, at, bytes), at, sizeof *at)
+OPENS(ssize_t, sendfile64, (int to, int from, off64_t *at, size_t bytes), (to, from, at, bytes), at, sizeof *at)

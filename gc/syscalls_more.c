@@ -1,10 +1,11 @@
-// Calls of the C library by which the kernel writes into the program's memory: sockets, waiting, times, devices. As syscalls.c has those
-// of files. Only in libmpgc.so. Trusted, not proved.
+// Calls of the C library by which the kernel writes into the program's memory: sockets, waiting, times, signals, devices. As syscalls.c
+// has those of files. Only in libmpgc.so. Trusted, not proved.
 //
 // It owes the core the same as the fault handler does (protection.c), and pays by the same function. Those that wait with other signals
 // blocked don't block faults (masks.c).
 #include "next.h"
 #include <poll.h>
+#include <sched.h>
 #include <spawn.h>
 #include <stdarg.h>
 #include <sys/epoll.h>
@@ -13,12 +14,15 @@
 #include <sys/resource.h>
 #include <sys/select.h>
 #include <sys/socket.h>
+#include <sys/sysinfo.h>
 #include <sys/time.h>
+#include <sys/timerfd.h>
 #include <sys/times.h>
 #include <sys/uio.h>
 #include <sys/utsname.h>
 #include <sys/wait.h>
 #include <time.h>
+#include <unistd.h>
 
 // Sockets.
 OPENS(ssize_t, recv, (int file, void *into, size_t bytes, int flags), (file, into, bytes, flags), into, bytes)
@@ -40,16 +44,29 @@ SHOWN ssize_t recvfrom(int file, void *into, size_t bytes, int flags, __SOCKADDR
     return next(file, into, bytes, flags, from, length);
 }
 
-SHOWN ssize_t recvmsg(int file, struct msghdr *message, int flags)
+static void will_write_message(struct msghdr *message)
 {
-    NEXT(ssize_t, recvmsg, (int, struct msghdr *, int));
-    if (!message) return next(file, message, flags);
     mpgc_will_write(message, sizeof *message);
     mpgc_will_write(message->msg_name, message->msg_namelen);
     mpgc_will_write(message->msg_control, message->msg_controllen);
     for (size_t k = 0; k < message->msg_iovlen; k++)
         mpgc_will_write(message->msg_iov[k].iov_base, message->msg_iov[k].iov_len);
+}
+
+SHOWN ssize_t recvmsg(int file, struct msghdr *message, int flags)
+{
+    NEXT(ssize_t, recvmsg, (int, struct msghdr *, int));
+    if (message) will_write_message(message);
     return next(file, message, flags);
+}
+
+SHOWN int recvmmsg(int file, struct mmsghdr *messages, unsigned count, int flags, struct timespec *timeout)
+{
+    NEXT(int, recvmmsg, (int, struct mmsghdr *, unsigned, int, struct timespec *));
+    mpgc_will_write(messages, count * sizeof *messages);
+    mpgc_will_write(timeout, sizeof *timeout);
+    for (unsigned k = 0; messages && k < count; k++) will_write_message(&messages[k].msg_hdr);
+    return next(file, messages, count, flags, timeout);
 }
 
 // Those that tell an address.
@@ -146,16 +163,46 @@ SHOWN int epoll_pwait(int file, struct epoll_event *events, int most, int timeou
 
 // Times, and what the system tells of itself.
 OPENS(int, clock_gettime, (clockid_t clock, struct timespec *into), (clock, into), into, sizeof *into)
+OPENS(int, clock_getres, (clockid_t clock, struct timespec *into), (clock, into), into, sizeof *into)
+OPENS(int, gettimeofday, (struct timeval *restrict into, void *restrict zone), (into, zone), into, sizeof *into)
+OPENS(time_t, time, (time_t *into), (into), into, sizeof *into)
 OPENS(int, nanosleep, (const struct timespec *wanted, struct timespec *left), (wanted, left), left, sizeof *left)
+OPENS(int, clock_nanosleep, (clockid_t clock, int flags, const struct timespec *wanted, struct timespec *left),
+      (clock, flags, wanted, left), left, sizeof *left)
 OPENS(clock_t, times, (struct tms *into), (into), into, sizeof *into)
 OPENS(int, getitimer, (__itimer_which_t which, struct itimerval *into), (which, into), into, sizeof *into)
 OPENS(int, setitimer, (__itimer_which_t which, const struct itimerval *restrict next_one, struct itimerval *restrict old),
       (which, next_one, old), old, sizeof *old)
+OPENS(int, timer_gettime, (timer_t timer, struct itimerspec *into), (timer, into), into, sizeof *into)
+OPENS(int, timer_settime, (timer_t timer, int flags, const struct itimerspec *restrict next_one, struct itimerspec *restrict old),
+      (timer, flags, next_one, old), old, sizeof *old)
+OPENS(int, timerfd_gettime, (int timer, struct itimerspec *into), (timer, into), into, sizeof *into)
+OPENS(int, timerfd_settime, (int timer, int flags, const struct itimerspec *next_one, struct itimerspec *old),
+      (timer, flags, next_one, old), old, sizeof *old)
 OPENS(int, getrlimit, (__rlimit_resource_t which, struct rlimit *into), (which, into), into, sizeof *into)
 OPENS(int, getrlimit64, (__rlimit_resource_t which, struct rlimit64 *into), (which, into), into, sizeof *into)
 OPENS(int, getrusage, (__rusage_who_t who, struct rusage *into), (who, into), into, sizeof *into)
 OPENS(int, uname, (struct utsname *into), (into), into, sizeof *into)
+OPENS(int, sysinfo, (struct sysinfo *into), (into), into, sizeof *into)
+OPENS(int, getgroups, (int most, gid_t into[]), (most, into), into, most > 0 ? (size_t)most * sizeof *into : 0)
+OPENS(int, sched_getaffinity, (pid_t process, size_t bytes, cpu_set_t *into), (process, bytes, into), into, bytes)
 OPENS(ssize_t, getrandom, (void *into, size_t bytes, unsigned flags), (into, bytes, flags), into, bytes)
+OPENS(int, getentropy, (void *into, size_t bytes), (into, bytes), into, bytes)
+
+// It ends the program where it can't write.
+SHOWN void arc4random_buf(void *into, size_t bytes);
+SHOWN void arc4random_buf(void *into, size_t bytes)
+{
+    NEXT(void, arc4random_buf, (void *, size_t));
+    mpgc_will_write(into, bytes);
+    next(into, bytes);
+}
+
+// Signals that came.
+OPENS(int, sigpending, (sigset_t *into), (into), into, sizeof *into)
+OPENS(int, sigwaitinfo, (const sigset_t *restrict signals, siginfo_t *restrict into), (signals, into), into, sizeof *into)
+OPENS(int, sigtimedwait, (const sigset_t *restrict signals, siginfo_t *restrict into, const struct timespec *restrict timeout),
+      (signals, into, timeout), into, sizeof *into)
 
 // What a device writes is as long as its number says, where that says it, and else no more than a page, behind the pointer.
 SHOWN int ioctl(int file, unsigned long number, ...)

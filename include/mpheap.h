@@ -271,10 +271,10 @@ static inline void mpheap_tells_anew(mpheap_told *told) {
     memset(told->pages, 0, sizeof told->pages);
 }
 
-/* To be called before a write to a word of the mapped heap. */
+/* To be called before a write to a word of the mapped heap. An address outside of every heap's addresses is ignored. */
 static inline void mpheap_before_write(mpheap *heap, mpheap_told *told, const void *at) {
     uint64_t address = (uint64_t)(uintptr_t)at, page = (address - MPHEAP_FIRST_ADDRESS) / MPHEAP_PAGE_BYTES;
-    if (told->pages[page] == 0) {
+    if (page < MPHEAP_MAX_PAGES && told->pages[page] == 0) {
         mpheap_written(heap, address);
         told->pages[page] = 1;
     }

@@ -8,20 +8,21 @@ kind="refused threads"
 . "$(dirname "$(readlink -f "${BASH_SOURCE[0]}")")/refused/parts.sh"
 program=$crates/mpheap/out/mpheap
 
-# actors MUTATORS: the start of each actor is refused in turn, then that of each of eight helpers, and at last none. Nobody waits
-# for a helper that never starts: each run ends within two seconds.
+# actors MUTATORS: the start of each actor is refused in turn, then that of each of eight helpers but the last, which works on the
+# collector's thread, and at last none. Nobody waits for a helper that never starts: each run ends within two seconds.
 actors() {
-    local start replies helpers=8
+    local start starts replies helpers=8
+    starts=$(($1 + helpers))
     seq "$1" | sed 's/.*/attach/' >"$room/workload"
     seq 0 $(($1 - 1)) | sed 's/$/ alloc 1 2 normal/' >>"$room/workload"
     printf 'gc begin\ngc finish\ngc no\n' >>"$room/workload"
     replies=$(seq 0 $(($1 - 1)) | sed 's/.*/mutator &\nok/' && printf 'collector\nok\n0\n1\n')
-    for start in $(seq $(($1 + 2 + helpers))); do
+    for start in $(seq $((starts + 1))); do
         refuse 2 "REFUSE_START=$start" "$program" threads --pages 4 --helpers $helpers "$room/workload"
         if [ "$start" -le $(($1 + 1)) ]; then
             is "$1 mutators, start $start" "1 1 |no memory" "$refused $status $(cat "$room/out")|$said"
         else
-            is "$1 mutators, start $start" "$((start < $1 + 2 + helpers)) 0 $replies|" "$refused $status $(cat "$room/out")|$said"
+            is "$1 mutators, start $start" "$((start <= starts)) 0 $replies|" "$refused $status $(cat "$room/out")|$said"
         fi
     done
 }

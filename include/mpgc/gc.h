@@ -59,10 +59,38 @@ typedef long GC_signed_word;
 #define GC_UNIMPLEMENTED 3
 #define GC_NOT_FOUND 4
 
-/* The beginning and the end. GC_init is called by the first request if it wasn't before. It reads GC_INITIAL_HEAP_SIZE and
- * GC_MAXIMUM_HEAP_SIZE (bytes, with k, M or G behind them), GC_ENABLE_INCREMENTAL, GC_DISABLE_INCREMENTAL, GC_DONT_GC,
- * GC_FREE_SPACE_DIVISOR and GC_PRINT_STATS. */
-#define GC_INIT() GC_init()
+/* The beginning and the end. GC_init is called by the first request if it wasn't before. It reads from the environment
+ * GC_INITIAL_HEAP_SIZE and GC_MAXIMUM_HEAP_SIZE (bytes, with k, M or G behind them), GC_ENABLE_INCREMENTAL,
+ * GC_DISABLE_INCREMENTAL, GC_DONT_GC, GC_FREE_SPACE_DIVISOR and GC_PRINT_STATS. GC_INIT does too what the program's macros
+ * of these names say: GC_INITIAL_HEAP_SIZE, GC_MAXIMUM_HEAP_SIZE, GC_FREE_SPACE_DIVISOR (numbers), GC_DONT_GC and
+ * GC_IGNORE_WARN. Those that set what has no effect here have none. */
+#ifdef GC_DONT_GC
+#define GC_INIT_DONT_GC (GC_dont_gc = 1)
+#else
+#define GC_INIT_DONT_GC ((void)0)
+#endif
+#ifdef GC_MAXIMUM_HEAP_SIZE
+#define GC_INIT_MAXIMUM GC_set_max_heap_size(GC_MAXIMUM_HEAP_SIZE)
+#else
+#define GC_INIT_MAXIMUM ((void)0)
+#endif
+#ifdef GC_FREE_SPACE_DIVISOR
+#define GC_INIT_DIVISOR GC_set_free_space_divisor(GC_FREE_SPACE_DIVISOR)
+#else
+#define GC_INIT_DIVISOR ((void)0)
+#endif
+#ifdef GC_IGNORE_WARN
+#define GC_INIT_WARN GC_set_warn_proc(GC_ignore_warn_proc)
+#else
+#define GC_INIT_WARN ((void)0)
+#endif
+#ifdef GC_INITIAL_HEAP_SIZE
+#define GC_INIT_SIZE \
+    (void)(GC_get_heap_size() < (GC_INITIAL_HEAP_SIZE) && GC_expand_hp((GC_INITIAL_HEAP_SIZE) - GC_get_heap_size()))
+#else
+#define GC_INIT_SIZE ((void)0)
+#endif
+#define GC_INIT() (GC_INIT_DONT_GC, GC_INIT_MAXIMUM, GC_INIT_DIVISOR, GC_init(), GC_INIT_WARN, GC_INIT_SIZE)
 GC_API void GC_init(void);
 GC_API int GC_is_init_called(void);
 GC_API void GC_deinit(void);
@@ -111,8 +139,8 @@ GC_API int GC_is_disabled(void);
 
 /* While a cycle marks, pages of ordinary objects are write-protected, and never those of atomic ones. A system call that the
  * program makes and that writes into an ordinary object then answers EFAULT, as with bdwgc; libmpgc.so opens the pages first
- * for read, recv, stat, poll, select, wait and their kin, fread, getcwd, readlink, pipe, accept and its kin, times and ioctl
- * (docs/PROGRAMS.md has them all). Use atomic objects as buffers of others. */
+ * for read, recv, stat, poll, select, wait and their kin, fread, getcwd, readlink, pipe, accept and its kin, clocks and timers,
+ * random bytes and ioctl (docs/PROGRAMS.md has them all). Use atomic objects as buffers of others. */
 #define GC_PROTECTS_NONE 0
 #define GC_PROTECTS_POINTER_HEAP 1
 #define GC_PROTECTS_PTRFREE_HEAP 2

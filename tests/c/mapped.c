@@ -100,6 +100,31 @@ static void ranges_are_told(void) {
     mpheap_close(&heap);
 }
 
+/* What is told of a write stands beside nothing else: an address outside of the heap's is ignored by the barrier too. */
+static void others_are_ignored(void) {
+    struct { uint64_t before; mpheap_told told; uint64_t after; } kept;
+    mpheap heap = MPHEAP_CLOSED;
+    static uint64_t outside;
+    uint64_t *const first = (uint64_t *)(uintptr_t)MPHEAP_FIRST_ADDRESS;
+    kept.before = kept.after = 0;
+    mpheap_tells_anew(&kept.told);
+    IS(mpheap_open_mapped(MPHEAP_MAX_PAGES, &heap), MPHEAP_OK);
+    IS(mpheap_begin(&heap), MPHEAP_OK);
+    mpheap_before_write(&heap, &kept.told, first - 1);
+    mpheap_before_write(&heap, &kept.told, first + MPHEAP_MAX_PAGES * MPHEAP_PAGE_WORDS);
+    mpheap_before_write(&heap, &kept.told, NULL);
+    mpheap_before_write(&heap, &kept.told, (void *)UINTPTR_MAX);
+    mpheap_write(&heap, &kept.told, &outside, 5);
+    IS(mpheap_dirty_pages(&heap), 0);
+    IS(kept.before, 0);
+    IS(kept.after, 0);
+    IS(outside, 5);
+    mpheap_before_write(&heap, &kept.told, first + MPHEAP_MAX_PAGES * MPHEAP_PAGE_WORDS - 1);
+    IS(mpheap_dirty_pages(&heap), 1);
+    IS(kept.told.pages[MPHEAP_MAX_PAGES - 1], 1);
+    mpheap_close(&heap);
+}
+
 int main(void) {
     for (uint32_t pages = 1; pages <= 40; pages++) words_stand_at_their_addresses(pages);
     words_stand_at_their_addresses(MPHEAP_MAX_PAGES);
@@ -107,5 +132,6 @@ int main(void) {
     bad_pages_map_nothing();
     a_range_is_taken();
     ranges_are_told();
+    others_are_ignored();
     return counts("mapped");
 }

@@ -177,6 +177,10 @@ static NOINLINE void aligned(void)
         CHECK((uintptr_t)p % align == 0 && GC_base(p) != NULL);
         CHECK(GC_posix_memalign(&q, align, 50) == 0 && (uintptr_t)q % align == 0);
     }
+    for (size_t align = 17; align < 2000; align += 31) {
+        char *p = GC_memalign(align, 50), *end = GC_base(p + 49);
+        CHECK((uintptr_t)p % align == 0 && end != NULL && end == GC_base(p));
+    }
     void *q = NULL;
     CHECK(GC_posix_memalign(&q, 24, 50) == EINVAL);
 }

@@ -5,17 +5,21 @@
 #include <fcntl.h>
 #include <netinet/in.h>
 #include <poll.h>
+#include <sched.h>
 #include <signal.h>
 #include <sys/epoll.h>
 #include <sys/ioctl.h>
 #include <sys/random.h>
 #include <sys/resource.h>
 #include <sys/select.h>
+#include <sys/sendfile.h>
 #include <sys/socket.h>
 #include <sys/stat.h>
-#include <sys/uio.h>
+#include <sys/sysinfo.h>
 #include <sys/time.h>
+#include <sys/timerfd.h>
 #include <sys/times.h>
+#include <sys/uio.h>
 #include <sys/utsname.h>
 #include <sys/vfs.h>
 #include <time.h>
@@ -212,6 +216,85 @@ static void of_the_rest(void)
     if (child == 0) _exit(6);
     CHECK(wait3(last_status, 0, place(342)) == child && WEXITSTATUS(*last_status) == 6);
 }
+
+static void of_files_again(void)
+{
+    struct statx *about = place(0);
+    CHECK(statx(AT_FDCWD, "/", 0, STATX_ALL, about) == 0 && S_ISDIR(about->stx_mode));
+    int file = open("/proc/self/exe", O_RDONLY), ends[2];
+    off_t *at = place(4);
+    off64_t *at64 = place(8);
+    CHECK(pipe(ends) == 0 && sendfile(ends[1], file, at, 10) == 10 && *at == 10);
+    CHECK(sendfile64(ends[1], file, at64, 10) == 10 && *at64 == 10);
+    close(ends[0]);
+    close(ends[1]);
+    close(file);
+    CHECK(socketpair(AF_UNIX, SOCK_DGRAM, 0, ends) == 0 && send(ends[0], "one of them", 12, 0) == 12);
+    struct mmsghdr *messages = place(12);
+    struct iovec *part = place(16);
+    *part = (struct iovec){ closed(20), 2000 };
+    messages->msg_hdr.msg_iov = part;
+    messages->msg_hdr.msg_iovlen = 1;
+    CHECK(recvmmsg(ends[1], messages, 1, 0, NULL) == 1 && messages->msg_len == 12 && strcmp(closed(20), "one of them") == 0);
+    close(ends[0]);
+    close(ends[1]);
+}
+
+static void of_clocks(void)
+{
+    struct timespec *grain = place(24);
+    struct timeval *now = place(28);
+    time_t *seconds = place(32);
+    CHECK(clock_getres(CLOCK_PROCESS_CPUTIME_ID, grain) == 0 && grain->tv_nsec > 0);
+    CHECK(gettimeofday(now, NULL) == 0 && now->tv_sec > 0 && time(seconds) == *seconds && *seconds >= now->tv_sec);
+    struct itimerspec late = { { 0, 0 }, { 1000, 0 } }, *left = place(36), *was = place(40), *more = place(44), *once = place(48);
+    timer_t timer;
+    CHECK(timer_create(CLOCK_MONOTONIC, &(struct sigevent){ .sigev_notify = SIGEV_NONE }, &timer) == 0);
+    CHECK(timer_settime(timer, 0, &late, NULL) == 0 && timer_gettime(timer, left) == 0 && left->it_value.tv_sec > 0);
+    CHECK(timer_settime(timer, 0, &late, was) == 0 && was->it_value.tv_sec > 0);
+    timer_delete(timer);
+    int file = timerfd_create(CLOCK_MONOTONIC, 0);
+    CHECK(timerfd_settime(file, 0, &late, NULL) == 0 && timerfd_gettime(file, more) == 0 && more->it_value.tv_sec > 0);
+    CHECK(timerfd_settime(file, 0, &late, once) == 0 && once->it_value.tv_sec > 0);
+    close(file);
+    struct timespec moment = { 0, 1000 };
+    CHECK(clock_nanosleep(CLOCK_MONOTONIC, 0, &moment, place(52)) == 0);
+}
+
+static void of_the_system(void)
+{
+    static const char zeros[100];
+    struct sysinfo *system = place(56);
+    cpu_set_t *processors = place(60);
+    CHECK(sysinfo(system) == 0 && system->totalram > 0);
+    CHECK(sched_getaffinity(0, sizeof *processors, processors) == 0 && CPU_COUNT(processors) > 0);
+    CHECK(getgroups(400, place(64)) >= 0);
+    CHECK(getentropy(closed(68), 100) == 0 && memcmp(closed(68), zeros, 100) != 0);
+#if __GLIBC_PREREQ(2, 36)
+    arc4random_buf(closed(72), 100);
+    CHECK(memcmp(closed(72), zeros, 100) != 0);
+#endif
+    sigset_t one, old;
+    sigemptyset(&one);
+    sigaddset(&one, SIGUSR1);
+    sigprocmask(SIG_BLOCK, &one, &old);
+    raise(SIGUSR1);
+    CHECK(sigpending(place(76)) == 0 && sigismember(place(76), SIGUSR1));
+    siginfo_t *came = place(80), *next = place(84);
+    CHECK(sigwaitinfo(&one, came) == SIGUSR1 && came->si_signo == SIGUSR1);
+    raise(SIGUSR1);
+    CHECK(sigtimedwait(&one, next, &(struct timespec){ 1, 0 }) == SIGUSR1 && next->si_signo == SIGUSR1);
+    sigprocmask(SIG_SETMASK, &old, NULL);
+}
+
+static void more_system_calls(void)
+{
+    begin();
+    of_files_again();
+    of_clocks();
+    of_the_system();
+    end();
+}
 #endif
 
 static void system_calls(void)
@@ -248,10 +331,22 @@ static void system_calls(void)
     CHECK(GC_base(*(void **)(void *)ordinary[10]) != NULL);
 }
 
+/* Without small steps no page is closed while the program runs, also where a collection could be broken off. */
+static int never(void) { return 0; }
+static void of_full_collections(void)
+{
+    for (int k = 0; k < COUNT; k++) ordinary[k] = GC_malloc(2000);
+    CHECK(GC_try_to_collect(never) == 1 && reads(by_read, ordinary[5]) && reads(by_read, ordinary[395]));
+}
+
 int main(void)
 {
     GC_INIT();
+    of_full_collections();
     GC_enable_incremental();
     system_calls();
+#ifndef WITHOUT_SYSCALLS
+    more_system_calls();
+#endif
     return check_ends();
 }

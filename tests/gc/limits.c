@@ -181,6 +181,19 @@ static int is_off_and_on(void)
     return GC_malloc(1000) && GC_get_gc_no() > 0 ? 0 : 2;
 }
 
+/* No collection begins by itself: then what has no room is refused, and the program's own collection makes room. */
+static int is_off_by_itself(void)
+{
+    GC_set_max_heap_size(MEGABYTE);
+    GC_set_warn_proc(GC_ignore_warn_proc);
+    GC_set_disable_automatic_collection(1);
+    size_t bytes = 0;
+    while (bytes < 4 * MEGABYTE && GC_malloc(1000)) bytes += 1000;
+    if (bytes < MEGABYTE / 2 || bytes > MEGABYTE || GC_get_gc_no() != 0) return 1;
+    GC_gcollect();
+    return GC_malloc(1000) && GC_get_gc_no() == 1 ? 0 : 2;
+}
+
 /* Aligned memory of a page or more begins an object, so that it can be freed and grown. */
 static int pages_are_objects(void)
 {
@@ -192,7 +205,8 @@ static int pages_are_objects(void)
         GC_free(p);
         GC_free(q);
     }
-    char *p = GC_memalign(65536, 10);
+    char *p = GC_memalign(65536, 10), *q = GC_memalign(3000, 5000);
+    if ((uintptr_t)q % 3000 != 0 || GC_base(q + 4999) != GC_base(q)) return 4;
     return (uintptr_t)p % 65536 == 0 && GC_base(p) != NULL ? 0 : 3;
 }
 
@@ -231,6 +245,7 @@ int main(void)
     CHECK(status_of(is_small) == 0);
     CHECK(status_of(is_small_in_steps) == 0);
     CHECK(status_of(is_off_and_on) == 0);
+    CHECK(status_of(is_off_by_itself) == 0);
     CHECK(status_of(pages_are_objects) == 0);
     CHECK(status_of(stack_may_grow) == 0);
     return check_ends();

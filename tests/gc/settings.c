@@ -118,6 +118,37 @@ static NOINLINE void debugging(void)
     GC_reachable_here(p);
 }
 
+/* The program's stop function breaks off the collections that requests begin, too: at once, or in their midst. */
+static int polls, least_polls;
+static int stops_until(void) { return ++polls < least_polls; }
+static int stops_now_and_then(void) { return ++polls % 8 == 0; }
+
+static NOINLINE void ask_for_megabytes(void)
+{
+    for (int k = 0; k < 40000; k++) GC_reachable_here(GC_malloc(100));
+}
+
+static NOINLINE void stop_function(void)
+{
+    GC_stop_func was = GC_get_stop_func();
+    GC_gcollect();
+    GC_word count = GC_get_gc_no();
+    least_polls = 1 << 30;
+    GC_set_stop_func(stops_until);
+    ask_for_megabytes();
+    CHECK(polls > 0 && GC_get_gc_no() == count);
+    least_polls = 0;
+    ask_for_megabytes();
+    CHECK(GC_get_gc_no() > count);
+    count = GC_get_gc_no();
+    GC_set_stop_func(stops_now_and_then);
+    ask_for_megabytes();
+#ifndef OTHER /* bdwgc begins anew each time */
+    CHECK(GC_get_gc_no() > count);
+#endif
+    GC_set_stop_func(was);
+}
+
 /* Added roots, all of them taken away: what they named goes, what static data names stays. */
 enum { COUNT = 200 };
 static GC_word hidden[COUNT];
@@ -273,6 +304,7 @@ int main(void)
     callbacks();
     figures();
     debugging();
+    stop_function();
     all_roots_go();
     pieces_of_static_data();
     stack();

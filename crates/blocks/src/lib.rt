@@ -1,6 +1,13 @@
 //! Pages that are cut into cells, and the heads of large objects. A block knows where its cells lie in a page, which of
 //! them are allocated, and where the list of its free cells begins; each call that takes or gives back a cell is told its
 //! page, and lent the memory in which the list stands. Of the memory only the first words of free cells are touched.
+//!
+//! # What is proved
+//!
+//! Contracts see a block as the row of its cells and the number of its first free cell. `cell_of` is exact for every byte of
+//! the page. The free cells are a list through their own first words, which has each of them once (`Lists`): `take` gives the
+//! first, and `None` exactly if every cell is taken; the one that its word names is first then, and `put` makes its cell the
+//! first. `put` writes that one word, `take` none.
 #![tactic(auto)]
 
 mod block;

@@ -1,6 +1,12 @@
-//! The pages that were written since the collector read them. Contracts see the set as one `bool` a page.
-//! The collector takes the pages out from the least one on. A set lies in the value itself, a bit a page, and takes no
-//! memory; what goes through its pages passes over 64 that aren't in it at once.
+//! A set of pages: those that were written since the collector read them, or those that are carried. Contracts see it as one
+//! `bool` a page. The collector takes the pages out from the least one on. A set lies in the value itself, a bit a page, and takes
+//! no memory; what goes through its pages passes over 64 that aren't in it at once.
+//!
+//! # What is proved
+//!
+//! `set`, `clear` and `clear_all` change the one `bool` of the page, or all; `first` is the least member, and `None` exactly if
+//! there is none; `count` is how many there are; `add` is the union with another set. The word that says which of the others
+//! aren't 0 is right (`IsSummary`, an invariant); that it is used to pass over them, no clause says.
 #![tactic(auto)]
 
 ghost use Rattle.std.specs.Prelude.{◌≡◌, ℕ, ◌<◌, ◌≤◌, ◌⊎◌, true, false, length, slice_index_or, slice_set, IfOk, IfSome, MatchOption};

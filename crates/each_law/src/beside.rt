@@ -54,8 +54,8 @@ fn start_and_join_beside<
     }
 }
 
-/// Runs each job in a thread of its own, and one job of another kind in one more, all at the same time. The error is as that of
-/// `run_each`.
+/// Runs each job in a thread of its own, and one job of another kind in one more, all at the same time. The error is that memory or
+/// a thread could not be had: each job that had a thread was then run to its end, and all are dropped.
 pub fn run_each_beside<
     R: Threads + Wait + Sync,
     T: Send + Drop,

@@ -1,5 +1,5 @@
-//! Jobs of one kind.
-ghost use Rattle.std.specs.Prelude.{All, IfOk};
+//! Jobs of one kind, the last of them on the calling thread.
+ghost use Rattle.std.specs.Prelude.{◌≡◌, All, IfOk, MatchOption, true, false};
 ghost use Rattle.each_law.specs.Jobs.{HaveRun};
 
 use crate::law::Law;
@@ -9,7 +9,16 @@ use std::sync::Wait;
 use std::thread;
 use std::thread::{Scope, Threads};
 
-// Starts all jobs and joins them. Where one had no thread, those that run go to their end first.
+// Does the job, or drops it at once.
+fn do_or_drop<T: Drop, F: Fn(T) -> T>(work: &F, job: T, is_done: bool) -> Option<T>
+    requires can { F.pre work.now job }
+    ensures { MatchOption result (is_done ≡ false) (λ r. (is_done ≡ true) × F.post work.now job r) }
+{
+    if is_done { Some(work(job)) } else { None }
+}
+
+// Starts all jobs but the last, does that one, and joins them. Where one had no thread, the last isn't done, and those that run
+// go to their end.
 fn start_and_join<
     's,
     'w: 's,
@@ -24,7 +33,7 @@ fn start_and_join<
     alloc: Global,
     law: &L,
     work: &'w F,
-    jobs: Vec<T>,
+    mut jobs: Vec<T>,
 ) -> Result<Vec<T>, AllocError>
     requires can { All (λ j. F.pre work.now j) jobs.items }
     requires lawful { (j : T) (r : T) → F.post work.now j r → L.does law.now j r }
@@ -32,13 +41,22 @@ fn start_and_join<
 {
     let mut running = Vec::with_capacity(alloc, jobs.len())?;
     let mut done = Vec::with_capacity(alloc, jobs.len())?;
+    let Some(last) = jobs.pop() else {
+        return Ok(done);
+    };
     let each = start_all::<_, _, L, _>(scope, law, work, jobs, &mut running);
+    let last = do_or_drop(work, last, each);
     join_all(rt, running, &mut done);
-    if each { Ok(done) } else { Err(AllocError) }
+    let Some(last) = last else {
+        return Err(AllocError);
+    };
+    done.push(last)?;
+    Ok(done)
 }
 
-/// Runs each job in a thread of its own, all at the same time, and gives them back in their order. The error is that memory or a thread
-/// could not be had; each job that had a thread was then run to its end, and all are dropped.
+/// Runs all jobs at the same time, the last on the calling thread and each other in a thread of its own, and gives them back in
+/// their order; so a single job starts no thread. The error is that memory or a thread could not be had: each job that had a thread
+/// was then run to its end, the last wasn't run, and all are dropped.
 pub fn run_each<R: Threads + Wait + Sync, T: Send + Drop, L: Law<T>, F: Fn(T) -> T + Sync>(
     rt: &R,
     alloc: Global,

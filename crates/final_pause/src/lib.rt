@@ -11,7 +11,8 @@
 //!
 //! # With helpers
 //!
-//! [`close_marks_with`] first marks with helpers, each in a thread of its own, and then ends as [`close_marks`].
+//! [`close_marks_with`] first marks with helpers, the last on the calling thread and each other in a thread of its own, and then ends
+//! as [`close_marks`].
 //!
 //! **Starting.** The marks are copied into a table of bits. Each helper gets a claimer of it, a stack, a row of dirty pages
 //! and one of carried pages. All memory is taken before the first helper starts. Where memory or a thread is refused, those that run are
@@ -37,6 +38,16 @@
 //! **Joining.** What helpers know, won, made dirty and carry is put together: the table's bits become the marks, the rows of
 //! dirty pages the dirty ones, those of carried pages are carried beside the pages that were, and no entry is left. Both
 //! invariants hold then, and the calling thread reads what found no room.
+//!
+//! # What is proved
+//!
+//! Where the dirty-page invariant holds before `close_marks`, an object is marked afterwards exactly if it is in the least
+//! set that holds the marks before, what root words point into, and what words of its Normal members point into; no page is
+//! dirty and no entry is left. Heap words read: at most 512 for each page that was dirty and for each page that a newly
+//! marked object covers, and the words that entries of Normal objects had left. `close_marks_with` leaves the same marks,
+//! also with no page dirty and no entry left, with any number of helpers from 1 to 8 (`Helpers`), and also where memory or a
+//! thread is refused. Both keep `CarriedPageInvariant` (`Traces`). That threads of their own run, how work is shared, and that a
+//! `Gate` is asked round each claim, no clause says: tests show it.
 #![tactic(auto)]
 
 mod alone;

@@ -33,7 +33,8 @@ impl<'a, 'b> Law<Helper<'b>> for Pause<'a> {
     ghost does = { λ p old new. HasServed p old.share new };
 }
 
-// All helpers do their shares, each in a thread of its own. The error is that memory or a thread could not be had.
+// All helpers do their shares, the last on the calling thread and each other in a thread of its own. The error is that memory or a
+// thread could not be had.
 fn help_each<'b, R: Threads + Wait + Sync, G: Gate, J: Offering + Sync>(
     rt: &R,
     alloc: Global,
@@ -57,7 +58,7 @@ fn help_each<'b, R: Threads + Wait + Sync, G: Gate, J: Offering + Sync>(
     run_each(rt, alloc, &pause, &work, crew)
 }
 
-// Marks with helpers, each in a thread of its own. The answer is whether it did: without memory or a thread nothing
+// Marks with helpers, all at the same time. The answer is whether it did: without memory or a thread nothing
 // changes.
 fn mark_with_helpers<R: Threads + Wait + Sync, G: Gate>(
     rt: &R,
@@ -112,8 +113,9 @@ fn mark_with_helpers<R: Threads + Wait + Sync, G: Gate>(
     true
 }
 
-/// Marks on until nothing is left to read, with helpers in threads of their own: the marks become the closure of the marks
-/// before and the roots, as [`close_marks`] leaves them. Where memory or a thread is refused, the calling thread does it alone.
+/// Marks on until nothing is left to read, with helpers at the same time, the last of them on the calling thread: the marks become
+/// the closure of the marks before and the roots, as [`close_marks`] leaves them. Where memory or a thread is refused, the calling
+/// thread does it alone.
 pub fn close_marks_with<R: Threads + Wait + Sync, G: Gate>(
     rt: &R,
     alloc: Global,

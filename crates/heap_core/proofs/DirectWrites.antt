@@ -16,6 +16,9 @@ use Rattle.object_space.proofs.Kept.{kept_cases, kept_none}
 use Rattle.object_space.specs.Store.{IsWholeSpace}
 use Rattle.heap_view.proofs.Shows.{is_word}
 use Rattle.heap_core.specs.CoreContents.{CoreContents}
+use Rattle.heap_core.specs.Held.{IsSoundCore}
+use Rattle.heap_core.proofs.DirectStores.{writes_store}
+use Rattle.heap_core.proofs.Legal.{stores_sound}
 use Rattle.heap_core.specs.Standing.{keeps}
 use Rattle.heap_core.specs.DirectWrites.{with_memory, IsLeftOrWritten, IsWholeCore, WritesKeepCores}
 
@@ -100,8 +103,9 @@ keeps_space c words dirty whole size each = record {
 
 keeps_core : (c : CoreContents) (words : List ℕ) (dirty : List Bool) → IsWholeCore c → length words ≡ length c.store.words
     → ((a : ℕ) → IsWordAddress c.store.words a → IsLeftOrWritten c words dirty a) → length dirty ≡ length c.cycle.marker.dirty → ((p : ℕ) → Has c.cycle.marker.dirty p → Has dirty p)
-    → IsWholeCore (with_memory c words dirty)
-keeps_core c words dirty whole size each dirty_len more = record {
+    → IsSoundCore (with_memory c words dirty) → IsWholeCore (with_memory c words dirty)
+keeps_core c words dirty whole size each dirty_len more sound = record {
+  sound = sound;
   core = record {
     sound = record { agree = whole.core.sound.agree; used = whole.core.sound.used };
     pending = record { size = whole.core.pending.size; cut = whole.core.pending.cut };
@@ -127,5 +131,9 @@ keeps_core c words dirty whole size each dirty_len more = record {
 }
 
 pub writes_keep : WritesKeepCores
-writes_keep old new whole writes = subst (λ (n : CoreContents). IsWholeCore n) (sym writes.alone)
-    (keeps_core old new.store.words new.cycle.marker.dirty whole writes.size writes.words writes.dirty_len writes.stays_dirty)
+writes_keep old new whole writes =
+    let s = whole.sound in
+    let went = writes_store old new whole writes s.0 s.1 in
+    subst (λ (n : CoreContents). IsWholeCore n) (sym writes.alone)
+    (keeps_core old new.store.words new.cycle.marker.dirty whole writes.size writes.words writes.dirty_len writes.stays_dirty
+    (subst IsSoundCore writes.alone (went.0, went.4, stores_sound s.0 went.0 went.1 s.2)))

@@ -17,3 +17,4 @@ pub mod DirectStores
 pub mod DirectLines
 pub mod DirectTold
 pub mod Held
+pub mod Legal

@@ -20,11 +20,11 @@ use Rattle.marker.proofs.MarkWord.{markable}
 use Rattle.heap_core.specs.CoreContents.{CoreContents, Cycle, IsCore}
 use Rattle.heap_core.specs.MutatorCalls.{IsCall, MakesDirty}
 use Rattle.heap_core.specs.Beside.{NotesWrite}
-use Rattle.std.specs.Prelude.{Bool, IfSome, Option}
+use Rattle.std.specs.Prelude.{Bool, IfSome, IfNone, Option}
 use Rattle.object_space.specs.Kept.{restrict, is_kept}
 use Rattle.heap_view.specs.Shows.{Shows, IsShown}
 use Rattle.object_space.specs.Stores.{Stores}
-use Rattle.heap_core.specs.KeptAt.{IsKeptAt}
+use Rattle.heap_core.specs.KeptAt.{IsKeptAt, KeepsNothingAt}
 use Rattle.heap_core.specs.Standing.{StandsFor, keeps, objects_of}
 use Rattle.object_space.proofs.Kept.{kept_map}
 use Rattle.heap_view.proofs.Shows.{reads_object, reads_nothing, word_read, is_word}
@@ -58,6 +58,11 @@ markable_at c base f core consistent is begins =
 pub finds_nothing : (keep : Found → Bool) (t : Store) (s : Heap) (w : ℕ) → IsLawful t.states → Stores keep t s → restrict keep (found_in t.states) w ≡ None → PointsIntoNothing s w
 finds_nothing keep t s w lawful stores none base o r =
     reads_nothing (restrict keep (found_in t.states)) (length t.states) (kept_map (length t.states) keep (found_in t.states) lawful.map) t.words s.objects stores.shows.shown w none base o r.0 r.1
+
+-- what the core's look-up doesn't find isn't there
+pub nothing_if_none : (c : CoreContents) (w : ℕ) (r : Option Found) → IsLawful c.store.states → r ≡ objects_of c w → IfNone r (KeepsNothingAt c w)
+nothing_if_none c w None lawful is = λ s h. finds_nothing (keeps c) c.store s w lawful h.store (sym is)
+nothing_if_none c w (Some f) lawful is = tt
 
 pub loads : (roots roots' : RootSet) (t : Store) (y : Cycle) {ls : List Link} (slot d a n w : ℕ) (m : HeapMutator) (f : Found) → IsLawful t.states → HasMutator roots slot m → address m a n % 8 ≡ 0 → restrict (is_kept t.pending y.marker.marks) (found_in t.states) (address m a n) ≡ Some f
     → w ≡ word_at t.words (address m a n) → SetsWord roots slot d w roots' → IsCall (core_of roots t y ls) (Mutator slot (Load d a n)) (Word w) (core_of roots' t y ls)

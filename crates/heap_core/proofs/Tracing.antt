@@ -124,6 +124,18 @@ traced_swept t0 t y x sweeps = record {
     kept_stays f marked there =
         (kept_cases (is_kept t.pending y.marker.marks) (found_in t.states) f.base f (sweeps.same.same f.base ∙ kept_is (is_kept t0.pending y.marker.marks) (found_in t0.states) f.base f there (marked_kept t0.pending y.marker.marks f marked))).0
 
+-- a cycle begins with no mark
+pub traced_begun : (t0 t : Store) (y : Cycle) (m : Marking) (count : ℕ) → IsTraced t0 y → Sweeps t0 y.marker.marks t → IsSwept t → IsBlank (length y.marker.dirty) m
+    → ((found : ℕ → Option Found) (words : List ℕ) → DirtyPageInvariant found words m) → ((found : ℕ → Option Found) (words : List ℕ) → CarriedPageInvariant found words m)
+    → IsTraced t (record { marker = m; is_marking = true; needs_full = false; count = count })
+traced_begun t0 t y m count x sweeps swept blank invariant carried = record {
+  pages = blank.dirty.size ∙ x.pages ∙ sym sweeps.pages;
+  objects = fresh_objects (found_in t.states) (length y.marker.dirty) m blank;
+  swept = λ is. swept;
+  invariant = λ is. invariant (found_in t.states) t.words;
+  carried = λ is. carried (found_in t.states) t.words;
+}
+
 -- a cycle begins with the marks of the last one
 pub traced_partial : (t0 t : Store) (y : Cycle) (m : Marking) (count : ℕ) → IsTraced t0 y → Sweeps t0 y.marker.marks t → IsSwept t → IsMap (length t.states) (found_in t.states) → y.needs_full ≡ false → BeginsPartial y.marker m
     → ((found : ℕ → Option Found) (words : List ℕ) → IsMap (length y.marker.dirty) found → CarriedPageInvariant found words y.marker → DirtyPageInvariant found words m)

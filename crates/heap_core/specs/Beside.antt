@@ -1,9 +1,11 @@
 -- What calls of mutators tell the marker.
-use Rattle.std.specs.Prelude.{◌≡◌, ◌≢◌, ℕ, ◌⊎◌, Bool, true, false, slice_index_or, length}
+use Rattle.std.specs.Prelude.{◌≡◌, ◌≢◌, ℕ, ◌⊎◌, Bool, true, false, slice_index_or, length, Option, Some}
 use Rattle.words.specs.Bits.{Has}
 use Rattle.words.specs.Layout.{granule, page_of}
-use Rattle.marker.specs.Marking.{Marking, IsMarked}
-use Rattle.marker.specs.Mutations.{StaysOnWrite, StaysOnAllocation, StaysCarriedOnWrite, StaysCarriedOnAllocation}
+use Rattle.block_map.specs.Changes.{IsRemoved}
+use Rattle.block_map.specs.declared.found.Found.{Found}
+use Rattle.marker.specs.Marking.{Marking, IsMarked, AreMarksObjects}
+use Rattle.marker.specs.Mutations.{IsFreed, StaysOnWrite, StaysOnAllocation, StaysOnFree, StaysCarriedOnWrite, StaysCarriedOnAllocation}
 
 -- A word was written at the address: its page has become dirty, no other has, and the invariants stay.
 pub record NotesWrite (address : ℕ) (old new : Marking) : Type 0 where
@@ -32,3 +34,11 @@ pub record NotesObject (is_marking : Bool) (base : ℕ) (old new : Marking) : Ty
   pub idle : is_marking ≡ false → new ≡ old
   pub keeps : is_marking ≡ true → StaysOnAllocation base old new
   pub carries : is_marking ≡ true → StaysCarriedOnAllocation base old new
+
+-- The object with this base has gone: it is marked no more, and a full cycle is needed. Each mark is still an object's, and the
+-- dirty-page invariant stays.
+pub record NotesFree (base : ℕ) (old new : Marking) (needs_full : Bool) : Type 0 where
+  pub freed : IsFreed base old new
+  pub objects : (found after : ℕ → Option Found) (f : Found) → f.base ≡ base → found base ≡ Some f → IsRemoved found after f → AreMarksObjects found old → AreMarksObjects after new
+  pub keeps : StaysOnFree base old new
+  pub needs : needs_full ≡ true

@@ -21,6 +21,7 @@ use Rattle.marker.specs.Marking.{IsConsistent, IsMarked, StaysDirty, with_dirty}
 use Rattle.roots.specs.Roots.{HasMutator, IsNextSlot}
 use Rattle.object_space.specs.Store.{IsWholeStore}
 use Rattle.heap_core.specs.CoreContents.{CoreContents, IsCore}
+use Rattle.heap_core.specs.Held.{IsSoundCore}
 use Rattle.heap_core.specs.Standing.{StandsFor, objects_of}
 use Rattle.heap_core.specs.Following.{AreLines, Follows}
 
@@ -46,10 +47,11 @@ pub record WritesWords (old new : CoreContents) : Type 0 where
   pub dirty_len : length new.cycle.marker.dirty ≡ length old.cycle.marker.dirty
   pub stays_dirty : StaysDirty old.cycle.marker new.cycle.marker
 
--- All that is true of a core: what its callers are told, and what its parts keep to themselves, the lists of free cells in the
--- words, the rows of ready and of waiting pages, and what the marker knows of its entries.
+-- All that is true of a core: what its callers are told, that it stands for a sound heap, and what its parts keep to themselves,
+-- the lists of free cells in the words, the rows of ready and of waiting pages, and what the marker knows of its entries.
 pub record IsWholeCore (c : CoreContents) : Type 0 where
   pub core : IsCore c
+  pub sound : IsSoundCore c
   pub space : IsWholeStore c.store
   pub marker : IsConsistent c.cycle.marker
 

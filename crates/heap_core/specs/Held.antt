@@ -5,7 +5,7 @@ use Rattle.pages.specs.Opening.{IsPageCount}
 use Rattle.heap_spec.specs.declared.call.Call.{Call}
 use Rattle.heap_spec.specs.declared.call.Call.TheVariants.{Alloc, Load, Set, Store}
 use Rattle.heap_spec.specs.declared.event.Event.{Event}
-use Rattle.heap_spec.specs.declared.event.Event.TheVariants.{Mutator}
+use Rattle.heap_spec.specs.declared.event.Event.TheVariants.{Attach, Mutator, Begin, BeginPartial, Roots, Mark, Retrace, Finish, Sweep, Collect, Number}
 use Rattle.heap_spec.specs.declared.reply.Reply.{Reply}
 use Rattle.heap_spec.specs.declared.reply.Reply.TheVariants.{Done, Word}
 use Rattle.heap_spec.specs.Heap.{Heap, Object, Mutator as HeapMutator, HasObject, IsAttached}
@@ -43,14 +43,32 @@ pub record IsHeld (c : CoreContents) (slot r k w : ℕ) : Type 0 where
 
 -- the registers and words that an event names are ones
 abbrev pub NamesInRange : Event → Type 0
+NamesInRange Attach = Unit {0}
 NamesInRange (Mutator slot call) = CallInRange call
-NamesInRange _ = Unit {0}
+NamesInRange Begin = Unit {0}
+NamesInRange BeginPartial = Unit {0}
+NamesInRange Roots = Unit {0}
+NamesInRange (Mark n) = Unit {0}
+NamesInRange Retrace = Unit {0}
+NamesInRange Finish = Unit {0}
+NamesInRange Sweep = Unit {0}
+NamesInRange Collect = Unit {0}
+NamesInRange Number = Unit {0}
 
 -- The event leaves the words of objects and this register of the slot: it is the collector's, an attach, or a call of any slot that
 -- stores and frees nothing and is no change of the register.
 abbrev pub LeavesHeld : ℕ → ℕ → Event → Type 0
+LeavesHeld slot r Attach = Unit {0}
 LeavesHeld slot r (Mutator by call) = LeavesWordsCall call × (by ≡ slot → LeavesRegister r call)
-LeavesHeld slot r _ = Unit {0}
+LeavesHeld slot r Begin = Unit {0}
+LeavesHeld slot r BeginPartial = Unit {0}
+LeavesHeld slot r Roots = Unit {0}
+LeavesHeld slot r (Mark n) = Unit {0}
+LeavesHeld slot r Retrace = Unit {0}
+LeavesHeld slot r Finish = Unit {0}
+LeavesHeld slot r Sweep = Unit {0}
+LeavesHeld slot r Collect = Unit {0}
+LeavesHeld slot r Number = Unit {0}
 
 -- a new core stands for a sound heap
 abbrev pub NewIsSound : Type 0

@@ -9,6 +9,7 @@ pub mod Collections
 pub mod Acts
 pub mod Following
 pub mod AsObject
+pub mod Held
+pub mod Legal
 pub mod DirectWrites
 pub mod Granted
-pub mod Held

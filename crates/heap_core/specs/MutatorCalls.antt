@@ -7,7 +7,7 @@ use Rattle.words.specs.Layout.{page_of}
 use Rattle.heap_spec.specs.declared.call.Call.{Call}
 use Rattle.heap_spec.specs.declared.call.Call.TheVariants.{Store, Alloc, Free}
 use Rattle.heap_spec.specs.declared.event.Event.{Event}
-use Rattle.heap_spec.specs.declared.event.Event.TheVariants.{Mutator}
+use Rattle.heap_spec.specs.declared.event.Event.TheVariants.{Attach, Mutator, Begin, BeginPartial, Roots, Mark, Retrace, Finish, Sweep, Collect, Number}
 use Rattle.heap_spec.specs.declared.reply.Reply.{Reply}
 use Rattle.heap_spec.specs.declared.reply.Reply.TheVariants.{Done, Refused}
 use Rattle.heap_spec.specs.Heap.{Mutator as HeapMutator}
@@ -34,8 +34,17 @@ CallReachesPages _ _ = ⊥
 
 -- the event with this reply does
 abbrev pub ReachesPages : Event → Reply → Type 0
+ReachesPages Attach reply = ⊥
 ReachesPages (Mutator slot call) reply = CallReachesPages call reply
-ReachesPages _ _ = ⊥
+ReachesPages Begin reply = ⊥
+ReachesPages BeginPartial reply = ⊥
+ReachesPages Roots reply = ⊥
+ReachesPages (Mark n) reply = ⊥
+ReachesPages Retrace reply = ⊥
+ReachesPages Finish reply = ⊥
+ReachesPages Sweep reply = ⊥
+ReachesPages Collect reply = ⊥
+ReachesPages Number reply = ⊥
 
 -- the event with this reply is an allocation for which there was no place
 pub data IsFullAlloc : Event → Reply → Type 0 where
@@ -53,8 +62,17 @@ CallMaySweep c slot _ p = ⊥
 
 -- a page that an event may sweep
 abbrev pub MaySweep : CoreContents → Event → ℕ → Type 0
+MaySweep c Attach p = ⊥
 MaySweep c (Mutator slot call) p = CallMaySweep c slot call p
-MaySweep c _ p = ⊥
+MaySweep c Begin p = ⊥
+MaySweep c BeginPartial p = ⊥
+MaySweep c Roots p = ⊥
+MaySweep c (Mark n) p = ⊥
+MaySweep c Retrace p = ⊥
+MaySweep c Finish p = ⊥
+MaySweep c Sweep p = ⊥
+MaySweep c Collect p = ⊥
+MaySweep c Number p = ⊥
 
 -- A call of a mutator is a step of the heap. It leaves the phase and the count as they are, and the work of the marker too,
 -- but for its own part of it: no object that is there before and after is newly marked or loses its mark, an object that

@@ -1,9 +1,12 @@
 //! The core, and how it is made.
 ghost use Rattle.pages.specs.Opening.{IsOpened};
 ghost use Rattle.std.specs.Prelude.{Bool, List};
+ghost use Rattle.heap_spec.specs.Heap.{Heap};
+ghost use Rattle.heap_spec.specs.Sound.{IsSound};
 ghost use Rattle.heap_core.specs.CoreContents.{IsCore};
 ghost use Rattle.heap_core.specs.DirectWrites.{IsWholeCore};
 ghost use Rattle.heap_core.specs.Opening.{IsNew};
+ghost use Rattle.heap_core.specs.Standing.{StandsFor};
 
 mod beside;
 mod close_with;
@@ -41,13 +44,14 @@ pub struct Core {
 }
 
 impl Model for Core {
-    ghost use Rattle.heap_core.specs.CoreContents.{CoreContents, IsTraced};
+    ghost use Rattle.heap_core.specs.CoreContents.{CoreContents};
+    ghost use Rattle.heap_core.specs.Legal.{IsLegalCore};
 
     ghost Value = { CoreContents };
 
     ghost view = { λ c. record { roots = c.roots; store = c.objects; cycle = record { marker = c.marker; is_marking = c.is_marking; needs_full = c.needs_full; count = c.count }; links = c.links } };
 
-    ghost invariant = { λ c. IsTraced c.objects (record { marker = c.marker; is_marking = c.is_marking; needs_full = c.needs_full; count = c.count }) };
+    ghost invariant = { λ c. IsLegalCore (record { roots = c.roots; store = c.objects; cycle = record { marker = c.marker; is_marking = c.is_marking; needs_full = c.needs_full; count = c.count }; links = c.links }) };
 }
 
 impl Core {
@@ -87,6 +91,15 @@ impl Core {
         let _marker = &self.marker;
     }
 
+    /// A heap is there, and it is sound: the core stands for one, whatever calls made it. Which one that is its births alone leave
+    /// open.
+    #[inline]
+    pub fn stands(&self)
+        ensures stands { (s : Heap) × StandsFor self.now s × IsSound s }
+    {
+        let _roots = &self.roots;
+    }
+
     /// The same, and what the core's parts keep to themselves beside it: the premise of the laws of words that are written past
     /// the calls.
     #[inline]
@@ -94,6 +107,7 @@ impl Core {
         ensures { IsWholeCore self.now }
     {
         self.laws();
+        self.stands();
         self.objects.whole();
         self.marker.laws();
     }

@@ -2,6 +2,13 @@
 //!
 //! [`Marks`] is a set of granules that one thread changes. [`MarkTable`] is the same set while several threads
 //! mark side by side, and each mark is won by one of them. Neither knows what lies at a granule.
+//!
+//! # What is proved
+//!
+//! `set`, `clear` and `clear_all` of the set are exact. On the table a thread claims a mark by one `fetch_or` and looks by
+//! one `load`; neither takes a handle to wait. For every schedule each bit set since the table was made stands in exactly one won
+//! list, and when all claimers are joined the marks are those at the start and the won lists together, each once (`Gathers` of
+//! `finish`, `gathered_marks`).
 #![tactic(auto)]
 
 mod claimer_view;

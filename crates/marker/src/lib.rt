@@ -49,6 +49,17 @@
 //! no entry. The object of an entry may be freed and its page cut again: the entry is then stale, and is read on only if
 //! its base is again that of a marked Normal object, which does no harm, since such an object was marked and its words
 //! were zero when it came.
+//!
+//! # What is proved
+//!
+//! `DirtyPageInvariant` is the sentence above. Every call keeps it, also where the stack is full, where an object was freed
+//! and its page cut again under an entry, and whatever a mutator writes to a page that it makes dirty. What is done with a
+//! word is exact (`MarksWord`), and so is a step (`Settles`, `ReadsOn`): it reads as many words as it answers, fewer than its
+//! budget only if no entry is left, and an entry once begun to its end before another. `retrace` cleans the lowest dirty page
+//! and reads at most 512 words: those of marked Normal objects on it, and it marks from no others. Only objects are marked,
+//! and only within the closure of what was marked and the roots (`Traces`); a freed object's mark is cleared.
+//! `CarriedPageInvariant` is that of carried pages. All but `freed` keep it, `begin_partial` makes the dirty-page invariant
+//! of it, and a page becomes carried only where a stray word of a Normal object of that closure stands.
 #![tactic(auto)]
 
 mod count;

@@ -1,5 +1,11 @@
 //! The memory of the heap and the pool of its free pages. Nothing above this crate touches a word of the heap but
 //! through [`Memory`] and [`Reader`], and this crate knows nothing of objects.
+//!
+//! # What is proved
+//!
+//! Contracts see the heap's words as a list; the reader counts its reads at no cost. `read`, `write` and `zero` say exactly
+//! which words change; `read_run` counts so many words in a row and gives each of them once, singly or by four (`Words`).
+//! `take_run` gives n consecutive free pages, and `None` exactly where there are none.
 #![tactic(auto)]
 
 mod count;

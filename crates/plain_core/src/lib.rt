@@ -1,6 +1,17 @@
 //! A heap core that is plain: one row of words, one list of objects, a row that says of each word which object it is of, and
-//! nothing of blocks, marks or dirty pages. Each of its calls is proved to be a step of the sequential heap. It takes memory when it is made and never
-//! again, and has no thread, lock or atomic word.
+//! nothing of blocks, marks or dirty pages: an object is found by its words, without a search. It takes memory when it is made and
+//! never again, and has no thread, lock or atomic word.
+//!
+//! # What is proved
+//!
+//! Each call of a mutator is a step of the sequential heap (`IsStep`, `StandsFor`), and `call_as` makes it only if it has a given
+//! reply; `collect` takes out exactly the objects that aren't reached (`IsCollected`), `collect_counted` too, if they are so many,
+//! and else nothing (`CantCollect`), `collect_as` exactly those that are named, or nothing where these may not go (`TakesBases`,
+//! `CantTake`), and `forget` so too, where each object without a flag is among them (`ForgetsUnflagged`, `CantForget`).
+//! `flag_reached`, `flag_led` and `flag_brought` set the flags of what the roots, a word, or the word that a call brings into a
+//! root lead to; `flag_closure` those of what the roots or the old objects lead to, where `flag_all` and `unflag` keep the flags of
+//! the old ones. `wrong_collected` and `wrong_forgotten` tell the lowest of what is wrong where objects are said to be gone, if
+//! anything is (`TellsUncollected`, `TellsUnforgotten`), and change nothing.
 #![tactic(auto)]
 
 mod along;

@@ -1,4 +1,10 @@
 //! What all programs do around their work: the words that they are given, how a program ends, and what is told of a fault.
+//!
+//! # What is proved
+//!
+//! `end` is the status of each fault, 2 for bad words and bad lines and 1 for any other, with its line told (`Ends`).
+//! `Fault::of_read` is `no memory` exactly where memory was refused, and else a read fault; `own_words` fails only with
+//! refused memory or bad words.
 #![tactic(auto)]
 
 mod ending;

@@ -5,6 +5,18 @@
 //! While a cycle marks it has a flag of each object that was touched since the cycle began, so that the end of the cycle has to
 //! forget all others. A cycle that begins with the marks of the last one touches the old objects first, those that were born
 //! before the last collection: so it has a flag of each of these too.
+//!
+//! # What is proved
+//!
+//! `Replayer::step` is told an event, its reply and a hint: where a granted `alloc` went, which bases a `finish` forgot; of a
+//! full collection the hint may name them or say nothing, since its number leaves nothing open. While a cycle marks it keeps
+//! a flag a granule for what the cycle touched, so it knows which objects a `finish` has to forget, and at all times one for
+//! what was allocated before the last collection, with which a `gc partial` begins. A yes means that this is a line of a
+//! legal transcript, to the heap that the checker then holds; a no means that with this hint it is none, from no heap that
+//! the checker stands for, or that the count of births would pass 2^64 - 1; it stays where it was. `reply_to` is the one
+//! reply that an event has here, where it is known that only one is open (`Expects`), and `wrong_with` the lowest of what is wrong
+//! about the objects that a collection's hint names (`IsWrongOf`). By its law an event, a reply and what a
+//! hint says lead from a run whose heap is sound to at most one run, whose heap is sound (`replays_have_one_next`).
 #![tactic(auto)]
 
 mod blaming;

@@ -1,5 +1,9 @@
 //! The roots of a heap: the registers and stacks of its mutators, and its globals. The calls of mutators that touch
 //! nothing else stand here. This crate touches no object, and takes no memory.
+//!
+//! # What is proved
+//!
+//! Whatever else a heap has, each call is a step of it (`StepsRoots`). `write_words` gives the root words in their order.
 #![tactic(auto)]
 
 mod mutator;

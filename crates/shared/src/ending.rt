@@ -31,8 +31,8 @@ impl<J: Naming> SharedHeap<J> {
         self.finish_after(rt, me, |_core| Ok(()))
     }
 
-    /// Ends the cycle as `finish` does, but what is left to mark is marked with helpers in threads of their own, all under
-    /// one hold of the lock. Where memory or a thread is refused, the calling thread marks alone, and the answer is the same.
+    /// Ends the cycle as `finish` does, but what is left to mark is marked with helpers at the same time, the last of them on the
+    /// calling thread, all under one hold of the lock. Where memory or a thread is refused, the calling thread marks alone, and the answer is the same.
     ///
     /// # Errors
     /// [`Refusal::WrongPhase`] exactly while none is marking, which the collector's own events tell.

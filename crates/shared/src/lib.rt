@@ -5,6 +5,17 @@
 //! A call takes the lock, learns the history so far, and acts; what it learnt is how it knows that its slot is attached, and in which
 //! phase the heap is. `gc_no`, `gc_no_of`, `meet`, `meet_collector`, `hear` and `hear_of` take no lock and wait for nobody. After `open`
 //! no call takes memory, but for the helpers of `finish_with` and for what the caller's own work in `quiet` takes.
+//!
+//! # What is proved
+//!
+//! Each call of a `Mutator`, its `attach` (`Begun`), its `depart` (`Departs`), and each granted `begin`, `begin_partial`, `finish`,
+//! `finish_with` and `collect` of the `Collector` says the headline (`Makes`, `Extends`). NoSlot can't come; WrongPhase comes exactly
+//! by the collector's own events (`IsGrantedByOwnEvents`), NeedsFull by all that it has then seen (`BeginsPartialByEvents`). `quiet`
+//! runs the caller's own work on the core, under the lock; that core stands for where the history leads which the collector has
+//! then seen, and what is true of every core is true of it before and after (`IsLent`). `finish_with` has the contract of
+//! `finish`: it closes the marks with helpers and ends the cycle under one hold of the lock. Of `meet`, `meet_collector`, `hear` and
+//! `hear_of` it is proved that one of two has seen a beginning of what the other has, and of `attaches` and `attaches_of` that they
+//! answer how many mutators came.
 #![tactic(auto)]
 
 mod calls;

@@ -1,4 +1,9 @@
 //! A worked example of `history`: a register behind a lock, whose calls say the sentence that `history` is for.
+//!
+//! # What is proved
+//!
+//! `call`, and each granted `begin`, `finish` and `collect`, says the headline for a register (`Extends`); `run_to_one_history` runs
+//! threads on it, and what they did is one history.
 #![tactic(auto)]
 
 mod jobs;

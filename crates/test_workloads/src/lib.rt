@@ -19,6 +19,8 @@ mod gates;
 #[cfg(test)]
 mod helped_cores;
 #[cfg(test)]
+mod helped_cycles;
+#[cfg(test)]
 mod linking;
 #[cfg(test)]
 mod overflow;

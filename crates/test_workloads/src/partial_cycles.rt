@@ -6,39 +6,39 @@ use crate::tables::Row;
 use std::process::Abort;
 use std::test::Fail;
 
-const PARTIAL: [Row; 15] = [
+const PARTIAL: [Row; 18] = [
     Row {
-        name: "partial_needs_a_full_one_first",
+        name: "partial_needs_full",
         pages: 4,
         script: "attach\ngc partial\n",
         replies: "mutator 0\nrefused 12 NeedsFull\n",
     },
     Row {
-        name: "partial_takes_what_is_young",
+        name: "partial_keeps_old",
         pages: 4,
         script: "attach\n0 alloc 1 2 normal\ngc collect\n0 alloc 2 2 normal\n0 set 1 0\n0 set 2 0\ngc partial\ngc finish\ngc collect\n",
         replies: "mutator 0\nok\n0\nok\nok\nok\nok\n1\n1\n",
     },
     Row {
-        name: "partial_reads_what_was_stored_before_it",
+        name: "partial_sees_old_to_young",
         pages: 4,
         script: "attach\n0 alloc 1 2 normal\ngc collect\n0 alloc 2 2 normal\n0 store 1 0 2\n0 set 2 0\ngc partial\ngc finish\n0 load 2 1 0\n0 size 2\n",
         replies: "mutator 0\nok\n0\nok\nok\nok\nok\n0\nptr\n2\n",
     },
     Row {
-        name: "partial_reads_a_word_that_pointed_nowhere",
+        name: "carried_page",
         pages: 1,
         script: "attach\n0 alloc 1 256 normal\n0 set 2 268435456\n0 store 1 0 2\n0 set 2 268437504\n0 store 1 1 2\n0 set 2 0\ngc collect\n0 alloc 2 256 normal\n0 set 2 0\ngc partial\ngc finish\ngc collect\n",
         replies: "mutator 0\nok\nok\nok\nok\nok\nok\n0\nok\nok\nok\n0\n0\n",
     },
     Row {
-        name: "partial_after_a_free",
+        name: "partial_after_free",
         pages: 4,
         script: "attach\n0 alloc 1 2 normal\ngc collect\n0 free 1\ngc partial\ngc begin\ngc finish\ngc partial\ngc partial\n",
         replies: "mutator 0\nok\n0\nok\nrefused 12 NeedsFull\nok\n0\nok\nrefused 9 WrongPhase\n",
     },
     Row {
-        name: "partial_after_a_free_in_the_last_cycle",
+        name: "partial_after_free_while_marking",
         pages: 4,
         script: "attach\n0 alloc 1 2 normal\ngc begin\n0 free 1\ngc finish\ngc partial\n",
         replies: "mutator 0\nok\nok\nok\n0\nrefused 12 NeedsFull\n",
@@ -72,6 +72,24 @@ const PARTIAL: [Row; 15] = [
         pages: 1,
         script: "attach\ngc collect\n0 alloc 1 256 normal\n0 set 2 268435456\n0 store 1 0 2\n0 set 2 268437504\n0 store 1 1 2\n0 set 2 0\ngc partial\ngc finish\n0 alloc 2 256 normal\n0 set 2 0\ngc partial\ngc finish\ngc collect\n",
         replies: "mutator 0\n0\nok\nok\nok\nok\nok\nok\nok\n0\nok\nok\nok\n0\n0\n",
+    },
+    Row {
+        name: "nothing_carried_in_vain",
+        pages: 4,
+        script: "attach\n0 alloc 1 2 normal\n0 store 1 0 1\ngc collect\ngc partial\ngc retrace\ngc finish\ngc partial\ngc retrace\ngc finish\n",
+        replies: "mutator 0\nok\nok\n0\nok\n0\n0\nok\n0\n0\n",
+    },
+    Row {
+        name: "stray_word_carried_again",
+        pages: 1,
+        script: "attach\n0 alloc 1 256 normal\n0 set 2 268435456\n0 store 1 0 2\n0 set 2 268437504\n0 store 1 1 2\n0 set 2 0\ngc collect\ngc partial\ngc retrace\ngc retrace\ngc finish\ngc partial\ngc retrace\ngc finish\n",
+        replies: "mutator 0\nok\nok\nok\nok\nok\nok\n0\nok\n1\n0\n0\nok\n1\n0\n",
+    },
+    Row {
+        name: "chain_through_a_carried_page",
+        pages: 3,
+        script: "attach\n0 alloc 1 512 normal\n0 alloc 2 2 normal\n0 set 3 268435456\n0 store 1 0 3\n0 set 3 268439552\n0 store 1 1 3\n0 set 3 268443648\n0 store 1 2 3\n0 set 3 0\ngc collect\n0 alloc 3 512 normal\n0 store 3 0 2\n0 set 2 0\n0 set 3 0\ngc partial\ngc finish\ngc collect\n0 set 1 0\ngc collect\n",
+        replies: "mutator 0\nok\nok\nok\nok\nok\nok\nok\nok\nok\n0\nok\nok\nok\nok\nok\n0\n0\nok\n3\n",
     },
     Row {
         name: "free_in_a_partial_cycle",
@@ -132,4 +150,36 @@ fn check_overflow(rt: &impl Abort, scene: &mut Scene) -> Result<(), Fail> {
 fn an_overflow_in_a_partial_cycle_loses_nothing(rt: HostRuntime) -> Result<(), Fail> {
     let mut scene = Scene::new(rt.alloc())?;
     check_overflow(&rt, &mut scene)
+}
+
+// The addresses of six pages, in the words of an object.
+const STRAY_WORDS: &str =
+    "0 set 3 268435456\n0 store 2 0 3\n0 set 3 268439552\n0 store 2 1 3\n0 set 3 268443648\n0 store 2 2 3\n0 set 3 268447744\n0 store 2 3 3\n0 set 3 268451840\n0 store 2 4 3\n0 set 3 268455936\n0 store 2 5 3\n";
+
+// Three hundred new objects of six words, which fill three pages and lie on a fourth. The last of them, which finds no room on the mark
+// stack, has the addresses of all six pages, and a later object comes to lie on the one that was free.
+fn check_stray_overflow(rt: &impl Abort, scene: &mut Scene) -> Result<(), Fail> {
+    let mut script = String::from_str(scene.alloc, "attach\n0 alloc 1 300 normal\ngc collect\n")?;
+    let mut replies = String::from_str(scene.alloc, "mutator 0\nok\n0\n")?;
+    for i in 0..300u32 {
+        write!(script, "0 alloc 2 6 normal\n0 store 1 {i} 2\n")?;
+        replies.push_str("ok\nok\n")?;
+    }
+    script.push_str(STRAY_WORDS)?;
+    replies.push_str("ok\nok\nok\nok\nok\nok\nok\nok\nok\nok\nok\nok\n")?;
+    script.push_str(
+        "0 set 2 0\n0 set 3 0\ngc partial\ngc finish\n0 alloc 2 512 normal\n0 set 2 0\n",
+    )?;
+    replies.push_str("ok\nok\nok\n0\nok\nok\n")?;
+    script.push_str("gc partial\ngc finish\n0 set 1 0\ngc begin\ngc finish\n")?;
+    replies.push_str("ok\n0\nok\nok\n302\n")?;
+    let name = "overflow_while_carrying";
+    scene.check_row(rt, name, 6, script.as_str(), replies.as_str());
+    Ok(())
+}
+
+#[test]
+fn an_overflow_while_carrying_loses_nothing(rt: HostRuntime) -> Result<(), Fail> {
+    let mut scene = Scene::new(rt.alloc())?;
+    check_stray_overflow(&rt, &mut scene)
 }

@@ -18,7 +18,7 @@ const SETTING: Setting = Setting {
 };
 
 // Workloads, what they answer, and what they print.
-const ROWS: [(&str, Result<(), ScriptError>, &str); 6] = [
+const ROWS: [(&str, Result<(), ScriptError>, &str); 7] = [
     ("", Ok(()), "collector\n"),
     (
         "attach\n0 get 1\ngc no\n",
@@ -34,6 +34,11 @@ const ROWS: [(&str, Result<(), ScriptError>, &str); 6] = [
         "gc finish\ngc mark 4\ngc collect\ngc begin\ngc begin\ngc roots\ngc retrace\ngc finish\ngc sweep\ngc no\n",
         Ok(()),
         "collector\nrefused 9 WrongPhase\nrefused 9 WrongPhase\n0\nok\nrefused 9 WrongPhase\nok\n0\n0\n0\n2\n",
+    ),
+    (
+        "gc partial\ngc collect\ngc partial\ngc partial\ngc finish\ngc begin\ngc partial\ngc collect\ngc partial\ngc no\n",
+        Ok(()),
+        "collector\nrefused 12 NeedsFull\n0\nok\nrefused 9 WrongPhase\n0\nok\nrefused 9 WrongPhase\n0\nok\n3\n",
     ),
     (
         "attach\n0 alloc 1 2 atomic\n0 alloc 2 2 normal\n0 store 1 1 2\n0 link 1 1 2\n0 free 2\n0 load 3 1 1\n0 unlink 1 1\n",

@@ -19,12 +19,18 @@ pub struct Repeated {
 }
 
 /// Rows of every part.
-pub const ROWS: [Row; 15] = [
+pub const ROWS: [Row; 16] = [
     Row {
         name: "empty_input",
         pages: 4,
         script: "",
         replies: "",
+    },
+    Row {
+        name: "first_run",
+        pages: 4,
+        script: "attach\n0 alloc 1 3 normal\n0 set 2 77\n0 store 1 0 2\n0 load 3 1 0\n",
+        replies: "mutator 0\nok\nok\nok\n77\n",
     },
     Row {
         name: "store_and_load",
@@ -33,7 +39,7 @@ pub const ROWS: [Row; 15] = [
         replies: "mutator 0\nok\n4\nok\nok\n77\n",
     },
     Row {
-        name: "request_sizes",
+        name: "request_sizes_with_larger_limits",
         pages: 4,
         script: "attach\n0 alloc 1 256 normal\n0 size 1\n0 alloc 2 257 normal\n0 size 2\n0 alloc 3 0 normal\n0 alloc 3 16385 normal\n",
         replies: "mutator 0\nok\n256\nok\n512\nrefused 5 BadSize\nrefused 6 Full\n",

@@ -1,6 +1,5 @@
 //! A cycle of the collector, by small steps: a word that was stored is there afterwards.
 ghost use Rattle.std.specs.Prelude.{◌≡◌, IfOk};
-ghost use Rattle.heap_core.specs.Held.{IsSoundCore};
 
 use heap_core::Core;
 use std::alloc::Global;
@@ -8,13 +7,14 @@ use words::{Kind, OpenError, Refusal, Reg};
 
 // A mutator comes, allocates an object and stores a word in it, a whole cycle runs, and the word is loaded.
 fn keep_in(core: &mut Core, word: u64) -> Result<u64, Refusal>
-    requires { IsSoundCore core.old }
     ensures loaded { IfOk result (λ loaded. loaded ≡ word) }
 {
     let (Some(object), Some(scratch)) = (Reg::new(1), Reg::new(2)) else {
         unreachable!();
     };
     let slot = core.attach()?;
+    // Its clause tells that a heap is there.
+    core.stands();
     core.alloc(slot, object, 2, Kind::Normal)?;
     core.set(slot, scratch, word)?;
     core.store(slot, object, 0, scratch)?;

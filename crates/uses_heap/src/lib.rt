@@ -1,4 +1,9 @@
 //! How a program uses the heap, by examples: its calls as a caller writes them, and what their contracts tell it.
+//!
+//! # What is proved
+//!
+//! A word that is stored into a new object and loaded again is that word (`store_and_load`), and so it is after a whole cycle, in
+//! a heap of the caller's own (`keep_through_cycle`), by the laws of `heap_core`.
 #![tactic(auto)]
 
 mod cycle;

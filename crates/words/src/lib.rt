@@ -1,5 +1,11 @@
-//! The words of the heap: its limits, the small numbers that name its parts, size classes, refusals and
-//! rows of bits. This crate stands on nothing and touches no memory of the heap.
+//! The words of the heap: its limits, the small numbers that name its parts, size classes, refusals, why a heap isn't opened or
+//! a run not made, and rows of bits. This crate stands on nothing and touches no memory of the heap.
+//!
+//! # What is proved
+//!
+//! Contracts see a class as its words and a row as the list of its bits; the five of `laws` make a row a set. `class_of` is the
+//! table of size classes, exactly (`placement_of`); `next` and `next_clear` find the least place, and `None` exactly where there
+//! is none; `count` is the number of bits between two places (`members_between`).
 #![tactic(auto)]
 
 mod bit_row;

@@ -1,5 +1,15 @@
 //! Workloads: scripts for threads, with a list of lines for each actor. How one is read, how it is run, how its replies are printed, and
 //! random ones.
+//!
+//! # What is proved
+//!
+//! `Workload::read` gives the lists of the lines of each actor, or the first line that breaks a rule of workloads.
+//! `run_threads` runs them over `shared`, each actor in a thread of its own, and there is one legal history of a heap of
+//! these pages in which each actor's lines with their replies are its part (`HaveOneHistory`). `print_replies` writes exactly
+//! the text of its replies, or after a write fault a beginning of it; `run_workload` is all three, from bytes to bytes
+//! (`ServesWorkload`). `make_stress` gives random scripts, the table of draws over the words of `rand_pcg`'s generator byte
+//! for byte, and each is a workload (`stress_is_workload`). `write_stress` writes exactly its bytes, or after a write fault a
+//! beginning of them (`IsWrittenAs`).
 #![tactic(auto)]
 
 mod collector_job;

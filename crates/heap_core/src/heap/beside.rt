@@ -2,7 +2,7 @@
 ghost use Rattle.std.specs.Prelude.{◌*◌, ◌<◌, ◌≤◌, length};
 ghost use Rattle.words.specs.declared.limits.TheConstants.{FIRST_ADDRESS, PAGE_GRANULES};
 ghost use Rattle.words.specs.Layout.{granule, page_of};
-ghost use Rattle.heap_core.specs.Beside.{NotesWrite, NotesObject};
+ghost use Rattle.heap_core.specs.Beside.{NotesFree, NotesWrite, NotesObject};
 
 use marker::Marker;
 
@@ -28,4 +28,15 @@ pub(crate) fn note_object(marker: &mut Marker, is_marking: bool, base: u64)
     if is_marking {
         marker.allocated(base);
     }
+}
+
+// The object with this base was freed.
+#[inline]
+pub(crate) fn note_free(marker: &mut Marker, needs_full: &mut bool, base: u64)
+    requires low { FIRST_ADDRESS ≤ base }
+    requires inside { granule base < length marker.old.marks }
+    ensures { NotesFree base marker.old marker.new needs_full.new }
+{
+    marker.freed(base);
+    *needs_full = true;
 }

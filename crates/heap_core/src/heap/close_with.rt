@@ -10,8 +10,8 @@ use std::thread::Threads;
 use words::Refusal;
 
 impl Core {
-    /// Marks on until nothing is left to read, with helpers in threads of their own. It marks what [`Core::finish`] would
-    /// mark, so a `finish` right after it finds nothing to read. Where memory or a thread is refused, the calling thread
+    /// Marks on until nothing is left to read, with helpers at the same time, the last of them on the calling thread. It marks
+    /// what [`Core::finish`] would mark, so a `finish` right after it finds nothing to read. Where memory or a thread is refused, the calling thread
     /// marks alone, and leaves the same. The gate stands round each claim of a helper.
     ///
     /// # Errors

@@ -8,7 +8,7 @@ ghost use Rattle.heap_core.specs.MutatorCalls.{IsCall};
 ghost use Rattle.heap_core.specs.Granted.{granted_reply, HoldsWord};
 
 use super::Core;
-use super::beside::{note_object, note_write};
+use super::beside::{note_free, note_object, note_write};
 use block_map::Found;
 use heap_spec::{Call, Event};
 use marker::Marker;
@@ -158,9 +158,8 @@ impl Core {
         // Its clauses tell how many marks there are.
         self.marker.laws();
         self.objects.release(found);
-        self.marker.freed(word);
+        note_free(&mut self.marker, &mut self.needs_full, word);
         self.objects.take_along(&self.marker, &mut self.links);
-        self.needs_full = true;
         Ok(())
     }
 }

@@ -1,7 +1,14 @@
 use Rattle.std.proofs.Common.{subst}
 use Rattle.marker.specs.Marking.{IsBlank}
 use Rattle.heap_core.proofs.Cycling.{begins}
+use Rattle.heap_core.proofs.Tracing.{traced_begun}
+use Rattle.heap_core.proofs.Legal.{legal_begun}
 use Rattle.heap_core.proofs.heap.Core.begin.Goals as goal
 
 pub returns : goal.returns
-returns c = rw (← c.self.view_is) (c.if-self.false, begins _ _ _ c.sweep_all.ensures.sweeps c.sweep_all.ensures.swept (subst (λ n. IsBlank n c.begin.new.self) c.self.invariant.pages c.begin.ensures.blank))
+returns c = rw (← c.self.view_is) (c.if-self.false, begins _ _ _ c.sweep_all.ensures.sweeps c.sweep_all.ensures.swept (subst (λ n. IsBlank n c.begin.new.self) c.self.invariant.traced.pages c.begin.ensures.blank))
+
+pub invariant_of-self : goal.invariant_of-self
+invariant_of-self c = legal_begun _ _ c.self.invariant
+    (traced_begun _ _ _ _ _ c.self.invariant.traced c.sweep_all.ensures.sweeps c.sweep_all.ensures.swept c.begin.ensures.blank c.begin.ensures.invariant c.begin.ensures.carried)
+    (begins _ _ _ c.sweep_all.ensures.sweeps c.sweep_all.ensures.swept (subst (λ n. IsBlank n c.begin.new.self) c.self.invariant.traced.pages c.begin.ensures.blank))

@@ -1,8 +1,12 @@
 use Rattle.heap_spec.specs.declared.call.Call.TheVariants.{Copy}
 use Rattle.heap_spec.specs.declared.event.Event.TheVariants.{Mutator}
 use Rattle.heap_spec.specs.Replies.{done_reply}
+use Rattle.heap_core.proofs.Legal.{legal_roots}
 use Rattle.heap_core.proofs.Roots.{steps_roots}
 use Rattle.heap_core.proofs.heap.Core.copy.Goals as goal
 
 pub returns : goal.returns
 returns c = rw (← c.self.view_is) (steps_roots _ _ _ _ (Mutator c.args.slot (Copy c.args.into c.args.from)) (done_reply c.copy.result) (λ h. h) c.copy.ensures)
+
+pub invariant_of-self : goal.invariant_of-self
+invariant_of-self c = legal_roots _ _ _ _ _ c.self.invariant c.args.slot (Copy c.args.into c.args.from) (done_reply c.copy.result) tt (λ h. h) c.copy.ensures

@@ -1,9 +1,12 @@
 use Rattle.std.proofs.Common.{refl, sym, ◌∙◌}
+use Rattle.heap_spec.specs.declared.call.Call.TheVariants.{Link}
+use Rattle.heap_spec.specs.declared.reply.Reply.TheVariants.{Done}
 use Rattle.heap_spec.specs.Steps.{Acts}
 use Rattle.roots.proofs.Refusals.{handed_on}
 use Rattle.heap_core.proofs.Roots.{refused, refused_vacant}
 use Rattle.heap_core.proofs.Lookups.{finds, finds_nothing}
 use Rattle.heap_core.proofs.Linking.{linked, no_room}
+use Rattle.heap_core.proofs.Legal.{legal_called}
 use Rattle.heap_core.proofs.heap.Core.link.Goals as goal
 
 pub returns-in_err-mutator : goal.returns-in_err-mutator
@@ -42,3 +45,10 @@ returns c = rw (← c.self.view_is, c.link.ensures, c.address-address.ensures)
     (linked _ _ _ _ _ _ _ _ c.in_ok-mutator.mutator.now c.in_ok-holder.holder c.in_ok-named.named c.in_ok-holder.ensures.lawful c.in_ok-mutator.ensures.ok
     (rw c.address-address.ensures at c.if-address-ne0.false) (rw c.address-address.ensures at (sym c.in_ok-holder.ensures.ok)) c.if-is_normal.ensures (rw c.word-word.ensures at (sym c.in_ok-named.ensures.ok))
     (rw c.address-address.ensures at c.if-not-has_room.ensures))
+
+pub invariant_of-self : goal.invariant_of-self
+invariant_of-self c = rw (c.link.ensures, c.address-address.ensures)
+    (legal_called _ _ c.self.invariant c.self.invariant.traced c.args.slot (Link c.args.at c.args.offset c.args.to) Done tt
+    (linked _ _ _ _ _ _ _ _ c.in_ok-mutator.mutator.now c.in_ok-holder.holder c.in_ok-named.named c.in_ok-holder.ensures.lawful c.in_ok-mutator.ensures.ok
+    (rw c.address-address.ensures at c.if-address-ne0.false) (rw c.address-address.ensures at (sym c.in_ok-holder.ensures.ok)) c.if-is_normal.ensures (rw c.word-word.ensures at (sym c.in_ok-named.ensures.ok))
+    (rw c.address-address.ensures at c.if-not-has_room.ensures)))

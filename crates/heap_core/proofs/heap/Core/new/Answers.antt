@@ -1,6 +1,8 @@
 use Rattle.links.specs.Named.{AreNamed, none}
 use Rattle.std.proofs.Common.{None, [], subst, true, refl, sym, ap, ◌∙◌}
 use Rattle.std.proofs.lemmas.Bool.{true≢false}
+use Rattle.heap_spec.specs.Heap.{opening}
+use Rattle.heap_spec.proofs.Calls.{opening_is}
 use Rattle.heap_core.proofs.Tracing.{fresh_objects, traced_ended}
 use Rattle.roots.specs.Roots.{RootSet}
 use Rattle.heap_core.proofs.heap.Core.new.Goals as goal
@@ -35,4 +37,16 @@ pub invariant_of-result : goal.invariant_of-result
 invariant_of-result c =
     let pages = (c.in_ok-objects.ensures.1.1 (λ _. true)).pages in
     let blank = c.in_ok-marker.ensures.1 in
-    traced_ended _ _ _ _ (blank.dirty.size ∙ pages) (fresh_objects _ _ _ blank) (λ is. absurd (true≢false is))
+    record {
+      traced = traced_ended _ _ _ _ (blank.dirty.size ∙ pages) (fresh_objects _ _ _ blank) (λ is. absurd (true≢false is));
+      sound = (
+        opening c.args.pages,
+        record {
+          mutators = sym (ap (λ (r : RootSet). r.mutators) c.new-3.ensures);
+          globals = sym (ap (λ (r : RootSet). r.globals) c.new-3.ensures);
+          store = c.in_ok-objects.ensures.1.1 _;
+          links = subst (λ row. AreNamed (λ _. None) row []) (sym c.new-4.ensures) none;
+        },
+        opening_is c.args.pages c.in_ok-objects.ensures.0.0 c.in_ok-objects.ensures.0.1,
+      );
+    }

@@ -1,13 +1,15 @@
 use Rattle.std.proofs.Common.{◌≡◌, ap, arith}
 use Rattle.std.specs.Prelude.{count_by}
 use Rattle.object_space.specs.Store.{Store}
+use Rattle.heap_core.proofs.Calls.{swept_stands}
 use Rattle.heap_core.proofs.Cycling.{sweeps_one}
 use Rattle.heap_core.proofs.Tracing.{traced_swept}
+use Rattle.heap_core.proofs.Legal.{legal_still}
 use Rattle.heap_core.proofs.heap.Core.sweep.Goals.{then-sweep, else-sweep}
 use Rattle.heap_core.proofs.heap.Core.sweep.Goals as goal
 
 pub invariant_of-self : goal.invariant_of-self
-invariant_of-self c = traced_swept _ _ _ c.self.invariant c.sweep.ensures.sweeps
+invariant_of-self c = legal_still _ _ c.self.invariant (traced_swept _ _ _ c.self.invariant.traced c.sweep.ensures.sweeps) (swept_stands _ _ _ _ c.sweep.ensures.sweeps)
 
 pub returns : goal.returns
 returns c = rw (← c.self.view_is) (elim c.if-sweep.branch [
