@@ -103,6 +103,7 @@ static bool end_unless(GC_stop_func stop)
         }
         mpgc_go_on(WORDS);
     }
+    if (!mpgc.is_incremental) mpgc_open_all();
     return true;
 }
 

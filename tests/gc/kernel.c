@@ -331,9 +331,18 @@ static void system_calls(void)
     CHECK(GC_base(*(void **)(void *)ordinary[10]) != NULL);
 }
 
+/* Without small steps no page is closed while the program runs, also where a collection could be broken off. */
+static int never(void) { return 0; }
+static void of_full_collections(void)
+{
+    for (int k = 0; k < COUNT; k++) ordinary[k] = GC_malloc(2000);
+    CHECK(GC_try_to_collect(never) == 1 && reads(by_read, ordinary[5]) && reads(by_read, ordinary[395]));
+}
+
 int main(void)
 {
     GC_INIT();
+    of_full_collections();
     GC_enable_incremental();
     system_calls();
 #ifndef WITHOUT_SYSCALLS

@@ -1,11 +1,10 @@
 -- What is wrong about the objects that a collection is said to have forgotten, from what the core tells.
-use Rattle.std.proofs.Common.{◌≡◌, ℕ, true, false, Bool, List, refl, sym, ◌∙◌}
-use Rattle.std.specs.Prelude.{Option, Some, None}
+use Rattle.std.proofs.Common.{◌≡◌, ℕ, true, false, List, refl, sym, ◌∙◌}
+use Rattle.std.specs.Prelude.{Option, None}
 use Rattle.std.specs.Borrow.{Bor}
 use Rattle.std.proofs.lemmas.Bool.{true≢false}
-use Rattle.heap_spec.specs.Heap.{Heap, Object}
 use Rattle.heap_spec.specs.Closure.{Reached}
-use Rattle.heap_spec.specs.Runs.{Start, Run, Touched, heap_after, is_marking}
+use Rattle.heap_spec.specs.Runs.{Start, Run, heap_after}
 use Rattle.heap_spec.specs.declared.event.Event.{Event}
 use Rattle.heap_spec.specs.declared.event.Event.TheVariants.{Attach, Mutator, Begin, BeginPartial, Roots, Mark, Retrace, Finish, Sweep, Collect, Number}
 use Rattle.plain_core.specs.declared.wrongs.Wrong.{Wrong}

@@ -1,7 +1,7 @@
 use Rattle.std.proofs.Common.{◌<◌, subst, sym}
 use Rattle.heap_spec.specs.Layout.{word_end}
 use Rattle.replayer.specs.ReplayerContents.{ReplayerContents}
-use Rattle.replayer.proofs.Steps.{collects_counted, collect_uncounted, collect_unequal}
+use Rattle.replayer.proofs.Collecting.{collects_counted, collect_uncounted, collect_unequal}
 use Rattle.replayer.proofs.replayer.Replayer.collect_counted.Goals as goal
 
 pub returns-in_default-clause-no : goal.returns-in_default-clause-no

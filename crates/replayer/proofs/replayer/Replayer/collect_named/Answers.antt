@@ -1,7 +1,7 @@
 use Rattle.std.proofs.Common.{◌<◌, refl, subst, sym}
 use Rattle.heap_spec.specs.Layout.{word_end}
 use Rattle.replayer.specs.ReplayerContents.{ReplayerContents}
-use Rattle.replayer.proofs.Steps.{collects, collect_unnamed, collect_untaken}
+use Rattle.replayer.proofs.Collecting.{collects, collect_unnamed, collect_untaken}
 use Rattle.replayer.proofs.replayer.Replayer.collect_named.Goals as goal
 
 pub returns-in_default-clause-no : goal.returns-in_default-clause-no

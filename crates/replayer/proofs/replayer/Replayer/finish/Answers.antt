@@ -3,7 +3,8 @@ use Rattle.std.proofs.lemmas.Bool.{true≢false}
 use Rattle.heap_spec.specs.Layout.{word_end}
 use Rattle.replayer.specs.ReplayerContents.{ReplayerContents}
 use Rattle.heap_spec.specs.declared.event.Event.TheVariants.{Finish}
-use Rattle.replayer.proofs.Steps.{refuses, finishes, finish_unnamed, finish_untaken}
+use Rattle.replayer.proofs.Steps.{refuses}
+use Rattle.replayer.proofs.Collecting.{finishes, finish_unnamed, finish_untaken}
 use Rattle.replayer.proofs.replayer.Replayer.finish.Goals as goal
 
 pub returns-then-not-is_marking-clause-yes : goal.returns-then-not-is_marking-clause-yes
