@@ -8,6 +8,7 @@ mod claims;
 mod extent;
 mod flags;
 mod given_place;
+mod keepers;
 mod listing;
 mod owners;
 mod parting;
@@ -16,5 +17,6 @@ mod plain;
 mod wrongs;
 
 pub use extent::Extent;
+pub use keepers::Keeper;
 pub use plain::Core;
 pub use wrongs::Wrong;

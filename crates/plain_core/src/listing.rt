@@ -101,7 +101,7 @@ fn list_flagged(flags: &[bool], objects: &[Extent], owners: &[u64], listing: &mu
 }
 
 // The object at a place.
-fn at(objects: &[Extent], index: usize) -> Extent
+pub(crate) fn at(objects: &[Extent], index: usize) -> Extent
     requires { index < length objects.now }
     ensures { slice_get objects.now index ≡ Some result }
 {
