@@ -1,0 +1,25 @@
+-- What a collector knows, as a trace shows it.
+use Rattle.std.specs.Prelude.{◌≡◌, ℕ, Bool, false, List, map, slice_index_or}
+use Rattle.std.specs.Option.{option_map}
+use Rattle.heap_core.specs.CoreContents.{CoreContents}
+use Rattle.heap_core.specs.Looks.{marks_at}
+use Rattle.tracing.specs.declared.knowledge.Knowledge.{Knowledge}
+use Rattle.tracing.specs.declared.knowledge.PageSet.{PageSet}
+use Rattle.tracing.specs.declared.knowledge.PageSet.TheVariants.{Dirty, Carried, Pending}
+use Rattle.tracing.specs.Sets.{places_that, those_that}
+use Rattle.tracing.specs.Entries.{shown}
+
+-- whether a page is in a set of the collector
+abbrev pub is_in : CoreContents → PageSet → ℕ → Bool
+is_in c Dirty page = slice_index_or c.cycle.marker.dirty page false
+is_in c Carried page = slice_index_or c.cycle.marker.carried page false
+is_in c Pending page = slice_index_or c.store.pending page false
+
+-- The collector's marks of these objects, its sets of these pages, and its entries.
+pub record IsKnown (c : CoreContents) (objects pages : List ℕ) (k : Knowledge) : Type 0 where
+  pub marked : k.marked.items ≡ places_that (λ base. marks_at c base) objects
+  pub dirty : k.dirty.items ≡ those_that (λ page. is_in c Dirty page) pages
+  pub carried : k.carried.items ≡ those_that (λ page. is_in c Carried page) pages
+  pub pending : k.pending.items ≡ those_that (λ page. is_in c Pending page) pages
+  pub entries : k.entries.items ≡ map shown c.cycle.marker.stack
+  pub current : k.current ≡ option_map shown c.cycle.marker.current

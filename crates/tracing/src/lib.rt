@@ -1,0 +1,21 @@
+//! A run of a heap, line by line, as records of a trace: what a line changed is asked of the core and of the checker beside it.
+//!
+//! What only a collector knows (marks, dirty, carried and pending pages, entries) comes from the core; what is true (which
+//! objects are there, reached and touched, and the words) from the checker, which is told the same events, replies and hints.
+//! Each question is no event. The same without a core shows a run that was written down.
+#![tactic(auto)]
+
+mod changes;
+mod comings;
+mod knowledge;
+mod leaving;
+mod looked;
+mod places;
+mod reply;
+mod roots_changed;
+mod sets;
+mod tracer;
+mod truth;
+
+pub use reply::shown_reply;
+pub use tracer::Tracer;
