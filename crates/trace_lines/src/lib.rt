@@ -10,6 +10,6 @@ mod shown;
 
 pub use line::{head_line, record_line};
 pub use record::{
-    Current, EntriesChange, EntryAt, LinkChange, NewObject, Numbered, Reads, Record, RegisterWord,
-    SetChange, StackChange,
+    Current, CycleChanges, EntriesChange, EntryAt, LinkChange, NewObject, Numbered, ObjectChanges,
+    Reads, Record, RegisterWord, SetChange, SetChanges, StackChange, WordChanges,
 };

@@ -1,14 +1,18 @@
 //! The lines of a trace.
 ghost use Rattle.std.specs.Prelude.{◌≡◌, ◌++◌, IfOk, OnOk, string_bytes};
-ghost use Rattle.trace_lines.specs.Records.{changes_text, head_text, marking_text, objects_text, record_text, sets_text, words_text};
+ghost use Rattle.trace_lines.specs.Records.{changes_text, cycle_text, head_text, objects_text, record_text, sets_text, words_text};
 
 use crate::keys::{put_any, put_key, put_some};
-use crate::record::Record;
+use crate::record::{CycleChanges, ObjectChanges, Record, SetChanges, WordChanges};
 use crate::shown::Shown;
 use std::alloc::{AllocError, Global};
 
 // Puts behind a text which mutators and objects come and go.
-fn put_objects(behind: &mut String, alloc: Global, changes: &Record) -> Result<(), AllocError>
+fn put_objects(
+    behind: &mut String,
+    alloc: Global,
+    changes: &ObjectChanges,
+) -> Result<(), AllocError>
     ensures { OnOk result (string_bytes behind.new ≡ string_bytes behind.old ++ objects_text changes.now) }
 {
     put_any(behind, alloc, "attach", changes.attached.as_slice())?;
@@ -19,7 +23,7 @@ fn put_objects(behind: &mut String, alloc: Global, changes: &Record) -> Result<(
 }
 
 // Puts behind a text how sets change.
-fn put_sets(behind: &mut String, alloc: Global, changes: &Record) -> Result<(), AllocError>
+fn put_sets(behind: &mut String, alloc: Global, changes: &SetChanges) -> Result<(), AllocError>
     ensures { OnOk result (string_bytes behind.new ≡ string_bytes behind.old ++ sets_text changes.now) }
 {
     put_some(behind, alloc, "marked", &changes.marked)?;
@@ -31,7 +35,7 @@ fn put_sets(behind: &mut String, alloc: Global, changes: &Record) -> Result<(), 
 }
 
 // Puts behind a text which words change.
-fn put_words(behind: &mut String, alloc: Global, changes: &Record) -> Result<(), AllocError>
+fn put_words(behind: &mut String, alloc: Global, changes: &WordChanges) -> Result<(), AllocError>
     ensures { OnOk result (string_bytes behind.new ≡ string_bytes behind.old ++ words_text changes.now) }
 {
     put_any(behind, alloc, "wrote", changes.wrote.as_slice())?;
@@ -42,8 +46,8 @@ fn put_words(behind: &mut String, alloc: Global, changes: &Record) -> Result<(),
 }
 
 // Puts behind a text what the collector has to read, and where it is.
-fn put_marking(behind: &mut String, alloc: Global, changes: &Record) -> Result<(), AllocError>
-    ensures { OnOk result (string_bytes behind.new ≡ string_bytes behind.old ++ marking_text changes.now) }
+fn put_cycle(behind: &mut String, alloc: Global, changes: &CycleChanges) -> Result<(), AllocError>
+    ensures { OnOk result (string_bytes behind.new ≡ string_bytes behind.old ++ cycle_text changes.now) }
 {
     put_some(behind, alloc, "entries", &changes.entries)?;
     put_some(behind, alloc, "current", &changes.current)?;
@@ -56,10 +60,10 @@ fn put_marking(behind: &mut String, alloc: Global, changes: &Record) -> Result<(
 fn put_changes(behind: &mut String, alloc: Global, changes: &Record) -> Result<(), AllocError>
     ensures { OnOk result (string_bytes behind.new ≡ string_bytes behind.old ++ changes_text changes.now) }
 {
-    put_objects(behind, alloc, changes)?;
-    put_sets(behind, alloc, changes)?;
-    put_words(behind, alloc, changes)?;
-    put_marking(behind, alloc, changes)
+    put_objects(behind, alloc, &changes.objects)?;
+    put_sets(behind, alloc, &changes.sets)?;
+    put_words(behind, alloc, &changes.words)?;
+    put_cycle(behind, alloc, &changes.cycle)
 }
 
 /// The line of a command, its reply, and what is different after it, without a newline. Neither text may have a character

@@ -91,10 +91,9 @@ pub struct Reads {
     pub pages: u64,
 }
 
-/// What is different after a line from before it. What is empty or `None` stayed.
+/// Which mutators and objects come and go: slots, and objects by their places.
 #[derive(Debug, Drop)]
-pub struct Record {
-    /// The slots of mutators that come, and of those that go.
+pub struct ObjectChanges {
     pub attached: Vec<u64>,
     pub detached: Vec<u64>,
 
@@ -104,28 +103,44 @@ pub struct Record {
 
     /// The objects that come.
     pub born: Vec<NewObject>,
+}
 
-    /// Objects by their places.
+/// How sets change: three of objects, by their places, and three of pages.
+#[derive(Debug, Drop)]
+pub struct SetChanges {
     pub marked: Option<SetChange>,
     pub reached: Option<SetChange>,
     pub touched: Option<SetChange>,
-
-    /// Pages.
     pub dirty: Option<SetChange>,
     pub carried: Option<SetChange>,
     pub pending: Option<SetChange>,
+}
 
-    /// Words.
+/// Which words change, and which links.
+#[derive(Debug, Drop)]
+pub struct WordChanges {
     pub wrote: Vec<Numbered>,
     pub registers: Vec<RegisterWord>,
     pub stacks: Vec<StackChange>,
     pub globals: Vec<Numbered>,
     pub links: Vec<LinkChange>,
+}
 
-    /// What the collector has to read, its phase, how many collections there were, and what this line looked at.
+/// What the collector has to read, its phase, how many collections there were, and what this line looked at.
+#[derive(Debug, Drop)]
+pub struct CycleChanges {
     pub entries: Option<EntriesChange>,
     pub current: Option<Current>,
     pub is_marking: Option<bool>,
     pub count: Option<u64>,
     pub read: Option<Reads>,
+}
+
+/// What is different after a line from before it. What is empty or `None` stayed.
+#[derive(Debug, Drop)]
+pub struct Record {
+    pub objects: ObjectChanges,
+    pub sets: SetChanges,
+    pub words: WordChanges,
+    pub cycle: CycleChanges,
 }

@@ -4,3 +4,4 @@ pub mod Entries
 pub mod Pages
 pub mod Truth
 pub mod Leaving
+pub mod Comings

@@ -3,6 +3,7 @@ use Rattle.std.specs.Prelude.{◌≡◌, ℕ, Bool, false, List, map, slice_inde
 use Rattle.std.specs.Option.{option_map}
 use Rattle.heap_core.specs.CoreContents.{CoreContents}
 use Rattle.heap_core.specs.Looks.{marks_at}
+use Rattle.plain_core.specs.declared.extent.Extent.{Extent}
 use Rattle.tracing.specs.declared.knowledge.Knowledge.{Knowledge}
 use Rattle.tracing.specs.declared.knowledge.PageSet.{PageSet}
 use Rattle.tracing.specs.declared.knowledge.PageSet.TheVariants.{Dirty, Carried, Pending}
@@ -16,7 +17,7 @@ is_in c Carried page = slice_index_or c.cycle.marker.carried page false
 is_in c Pending page = slice_index_or c.store.pending page false
 
 -- The collector's marks of these objects, its sets of these pages, and its entries.
-pub record IsKnown (c : CoreContents) (objects pages : List ℕ) (k : Knowledge) : Type 0 where
+pub record IsKnown (c : CoreContents) (objects : List Extent) (pages : List ℕ) (k : Knowledge) : Type 0 where
   pub marked : k.marked.items ≡ places_that (λ base. marks_at c base) objects
   pub dirty : k.dirty.items ≡ those_that (λ page. is_in c Dirty page) pages
   pub carried : k.carried.items ≡ those_that (λ page. is_in c Carried page) pages

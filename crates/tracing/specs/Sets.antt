@@ -1,6 +1,7 @@
 -- Lists of what passes, and how a set becomes another.
-use Rattle.std.specs.Prelude.{◌≡◌, ℕ, Bool, not, Option, Some, None, List, [], ◌∷◌, flat_map, if◌then◌else◌, nat_eq}
+use Rattle.std.specs.Prelude.{◌≡◌, ℕ, Bool, not, Option, Some, None, List, [], ◌∷◌, flat_map, map, if◌then◌else◌, nat_eq}
 use Rattle.std.specs.Set.{is_member}
+use Rattle.plain_core.specs.declared.extent.Extent.{Extent}
 use Rattle.plain_core.specs.Standing.{word_index}
 use Rattle.trace_lines.specs.declared.record.SetChange.{SetChange}
 use Rattle.trace_lines.specs.declared.record.SetChange.TheVariants.{Comes, Goes, Differs, Whole}
@@ -9,9 +10,22 @@ use Rattle.trace_lines.specs.declared.record.SetChange.TheVariants.{Comes, Goes,
 abbrev pub those_that : {A : Type 0} → (A → Bool) → List A → List A
 those_that passes items = flat_map (λ item. if passes item then item ∷ [] else []) items
 
--- the places of those bases that pass
-abbrev pub places_that : (ℕ → Bool) → List ℕ → List ℕ
-places_that passes bases = flat_map (λ base. if passes base then word_index base ∷ [] else []) bases
+-- the one item, or none
+abbrev pub listed : {A : Type 0} → Option A → List A
+listed None = []
+listed (Some item) = item ∷ []
+
+-- the places of those objects whose bases pass
+abbrev pub places_that : (ℕ → Bool) → List Extent → List ℕ
+places_that passes objects = flat_map (λ o. if passes o.base then word_index o.base ∷ [] else []) objects
+
+-- the bases of objects
+abbrev pub bases_of : List Extent → List ℕ
+bases_of objects = map (λ o. o.base) objects
+
+-- those objects at whose bases none of the others lies
+abbrev pub objects_without : List Extent → List Extent → List Extent
+objects_without objects others = those_that (λ o. not (is_member nat_eq (bases_of others) o.base)) objects
 
 -- those numbers that are none of the others
 abbrev pub without : List ℕ → List ℕ → List ℕ

@@ -14,9 +14,7 @@ use trace_lines::{Current, EntriesChange, EntryAt, LinkChange};
 fn has_link(links: &[Link], wanted: Link) -> bool
     ensures { result ≡ has_link_of links.now wanted }
 {
-    links
-        .iter()
-        .any(|link| link.address == wanted.address && link.base == wanted.base)
+    links.iter().any(|link| link.address == wanted.address && link.base == wanted.base)
 }
 
 // Whether a link stands at the address.
@@ -27,11 +25,7 @@ fn has_link_at(links: &[Link], address: u64) -> bool
 }
 
 /// The links of a row that stand no more.
-pub(crate) fn links_gone(
-    alloc: Global,
-    old: &[Link],
-    new: &[Link],
-) -> Result<Vec<Link>, AllocError>
+pub(crate) fn links_gone(alloc: Global, old: &[Link], new: &[Link]) -> Result<Vec<Link>, AllocError>
     ensures { IfOk result (λ gone. gone.items ≡ gone_of old.now new.now) }
 {
     let mut gone = Vec::new(alloc);
@@ -107,7 +101,10 @@ fn entries_from(
     requires { first ≤ length entries.now }
     ensures { IfOk result (λ pushed. pushed.items ≡ drop first entries.now) }
 {
-    entries[first..].iter().copied().collect::<Vec<EntryAt>>(alloc)
+    entries[first..]
+        .iter()
+        .copied()
+        .collect::<Vec<EntryAt>>(alloc)
 }
 
 /// How the mark stack changes.

@@ -1,14 +1,19 @@
 //! Mutators and objects that come and go, and stacks.
+ghost use Rattle.std.specs.Prelude.{◌≡◌, IfOk};
+ghost use Rattle.tracing.specs.Comings.{attached_slot, detached_slot, is_pointer_free, new_object as new_object_of, born as born_of};
+
 use crate::places::place_of;
+use crate::sets::objects_without;
 use heap_spec::{Call, Event, Reply};
 use plain_core::{Core, Extent};
-use replayer::Hint;
 use std::alloc::{AllocError, Global};
 use trace_lines::{NewObject, StackChange};
 use words::{Kind, Slot};
 
 /// The slot of the mutator that came.
-pub(crate) fn attached(reply: &Reply) -> Option<u64> {
+pub(crate) fn attached(reply: &Reply) -> Option<u64>
+    ensures { result ≡ attached_slot reply.now }
+{
     let Reply::Slot(slot) = reply else {
         return None;
     };
@@ -16,32 +21,55 @@ pub(crate) fn attached(reply: &Reply) -> Option<u64> {
 }
 
 /// The slot of the mutator that went.
-pub(crate) fn detached(event: &Event, reply: &Reply) -> Option<u64> {
-    match (event, reply) {
-        (Event::Mutator(slot, Call::Detach), Reply::Done) => Some(u64::from(slot.number())),
-        _ => None,
+pub(crate) fn detached(event: &Event, reply: &Reply) -> Option<u64>
+    ensures { result ≡ detached_slot event.now reply.now }
+{
+    let Event::Mutator(slot, Call::Detach) = event else {
+        return None;
+    };
+    let Reply::Done = reply else {
+        return None;
+    };
+    Some(u64::from(slot.number()))
+}
+
+// Whether words of the kind are never read.
+fn is_atomic(kind: Kind) -> bool
+    ensures { result ≡ is_pointer_free kind }
+{
+    match kind {
+        Kind::Normal => false,
+        Kind::PointerFree => true,
     }
 }
 
-// The object that lies there, the last that was born.
-fn new_object(extent: Extent, births: u64) -> NewObject {
+// An object that came, by the number of its birth.
+fn new_object(object: Extent, birth: u64) -> NewObject
+    ensures { result ≡ new_object_of birth object }
+{
     NewObject {
-        place: place_of(extent.base),
-        birth: births,
-        words: extent.length,
-        is_atomic: extent.kind == Kind::PointerFree,
+        place: place_of(object.base),
+        birth,
+        words: object.length,
+        is_atomic: is_atomic(object.kind),
     }
 }
 
-/// The object that came, the last of so many births.
-pub(crate) fn born(core: &Core, hint: Hint, births: u64) -> Option<NewObject> {
-    let Hint::Place(base) = hint else {
-        return None;
-    };
-    let Some(extent) = core.object_at(base) else {
-        return None;
-    };
-    Some(new_object(extent, births))
+/// The objects that came: those at whose bases none lay before. One comes at a time, and its birth is the last.
+pub(crate) fn born(
+    alloc: Global,
+    old: &[Extent],
+    new: &[Extent],
+    births: u64,
+) -> Result<Vec<NewObject>, AllocError>
+    ensures { IfOk result (λ born. born.items ≡ born_of births old.now new.now) }
+{
+    let came = objects_without(alloc, new, old)?;
+    let mut born = Vec::new(alloc);
+    for object in came.as_slice() {
+        born.push(new_object(*object, births))?;
+    }
+    Ok(born)
 }
 
 // The stack of a slot, as far as its lowest words stayed.

@@ -10,6 +10,7 @@ use crate::places::place_of;
 use crate::sets::push_if;
 use heap_core::Core;
 use marker::Entry;
+use plain_core::Extent;
 use std::alloc::{AllocError, Global};
 use trace_lines::EntryAt;
 
@@ -79,12 +80,13 @@ fn current(core: &Core) -> Option<EntryAt>
 }
 
 // The places of the marked objects.
-fn marked(alloc: Global, core: &Core, objects: &[u64]) -> Result<Vec<u64>, AllocError>
+fn marked(alloc: Global, core: &Core, objects: &[Extent]) -> Result<Vec<u64>, AllocError>
     ensures { IfOk result (λ places. places.items ≡ places_that (λ base. marks_at core.now base) objects.now) }
 {
     let mut places = Vec::new(alloc);
-    for base in objects {
-        push_if(&mut places, core.is_marked(*base), place_of(*base))?;
+    for object in objects {
+        let base = object.base;
+        push_if(&mut places, core.is_marked(base), place_of(base))?;
     }
     Ok(places)
 }
@@ -112,12 +114,7 @@ fn has(core: &Core, set: PageSet, page: u64) -> bool
 }
 
 // Those pages that are in the set.
-fn pages_in(
-    alloc: Global,
-    core: &Core,
-    set: PageSet,
-    pages: &[u64],
-) -> Result<Vec<u64>, AllocError>
+fn pages_in(alloc: Global, core: &Core, set: PageSet, pages: &[u64]) -> Result<Vec<u64>, AllocError>
     ensures { IfOk result (λ numbers. numbers.items ≡ those_that (λ page. is_in core.now set page) pages.now) }
 {
     let mut numbers = Vec::new(alloc);
@@ -131,7 +128,7 @@ fn pages_in(
 pub(crate) fn knowledge_now(
     alloc: Global,
     core: &Core,
-    objects: &[u64],
+    objects: &[Extent],
     pages: &[u64],
 ) -> Result<Knowledge, AllocError>
     ensures { IfOk result (IsKnown core.now objects.now pages.now) }

@@ -82,7 +82,7 @@ fn free(
     Ok(some)
 }
 
-/// Where the objects went that this event took, and the cells that waited before it.
+/// Where the objects went that this event took, and the cells that waited before it: all by their bases.
 pub(crate) fn leaving_now(
     alloc: Global,
     core: Option<&Core>,

@@ -1,8 +1,9 @@
 //! Where an address of the heap stands in a trace.
-ghost use Rattle.std.specs.Prelude.{◌≡◌, ◌/◌, Bool, false, slice_index_or};
+ghost use Rattle.std.specs.Prelude.{◌≡◌, ◌/◌, IfOk, false, map, slice_index_or};
 ghost use Rattle.words.specs.declared.limits.TheConstants.{PAGE_WORDS};
 ghost use Rattle.plain_core.specs.Standing.{word_index};
 
+use std::alloc::{AllocError, Global};
 use words::limits::{FIRST_ADDRESS, PAGE_WORDS, WORD_BYTES};
 
 /// The number of the word at an address.
@@ -10,6 +11,16 @@ pub(crate) fn place_of(address: u64) -> u64
     ensures { result ≡ word_index address }
 {
     address.saturating_sub(FIRST_ADDRESS) / WORD_BYTES
+}
+
+/// The numbers of the words at some addresses.
+pub(crate) fn places_of(alloc: Global, addresses: &[u64]) -> Result<Vec<u64>, AllocError>
+    ensures { IfOk result (λ places. places.items ≡ map word_index addresses.now) }
+{
+    addresses
+        .iter()
+        .map(|address| place_of(*address))
+        .collect::<Vec<u64>>(alloc)
 }
 
 /// The page of an address.

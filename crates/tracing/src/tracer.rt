@@ -11,16 +11,16 @@ use crate::leaving::{Leaving, clears, leaving_now};
 use crate::looked::reads_of;
 use crate::places::place_of;
 use crate::roots_changed::{global_of, register_of, stored};
-use crate::sets::{set_change, without};
+use crate::sets::{bases, objects_without, set_change};
 use crate::truth::{Truth, truth_now};
-
 use heap_core::Core;
 use heap_spec::{Event, Reply};
 use links::Link;
+use plain_core::Extent;
 use replayer::{Hint, Replayer};
 use std::alloc::{AllocError, Global};
 use std::mem::replace;
-use trace_lines::{LinkChange, NewObject, Numbered, Record, RegisterWord, StackChange};
+use trace_lines::{LinkChange, Numbered, Record, RegisterWord, StackChange};
 use words::RunError;
 use words::limits::PAGE_WORDS;
 
@@ -159,14 +159,8 @@ impl Tracer {
     }
 
     // Looks at the heap, and gives what was known before.
-    fn look(&mut self, core: Option<&Core>, hint: Hint) -> Result<(Truth, Knowledge), AllocError> {
-        let truth = truth_now(
-            self.alloc,
-            &mut self.replayer,
-            self.truth.objects.as_slice(),
-            hint,
-            &mut self.flags,
-        )?;
+    fn look(&mut self, core: Option<&Core>) -> Result<(Truth, Knowledge), AllocError> {
+        let truth = truth_now(self.alloc, &mut self.replayer, &mut self.flags)?;
         let knowledge = match core {
             Some(core) => knowledge_now(
                 self.alloc,
@@ -186,9 +180,10 @@ impl Tracer {
         &mut self,
         core: Option<&Core>,
         event: &Event,
-        objects: &[u64],
+        objects: &[Extent],
     ) -> Result<Leaving, AllocError> {
-        let gone = without(self.alloc, objects, self.truth.objects.as_slice())?;
+        let gone = objects_without(self.alloc, objects, self.truth.objects.as_slice())?;
+        let gone = bases(self.alloc, gone.as_slice())?;
         let waited = replace(&mut self.waiting, Vec::new(self.alloc));
         leaving_now(self.alloc, core, event, waited.as_slice(), gone.as_slice())
     }
@@ -207,7 +202,6 @@ impl Tracer {
         &self,
         event: &Event,
         reply: &Reply,
-        hint: Hint,
         old: &Truth,
         known: &Knowledge,
         leaving: &Leaving,
@@ -229,7 +223,12 @@ impl Tracer {
             detached: listed(alloc, detached(event, reply))?,
             forgotten: self.places(leaving.forgotten.as_slice())?,
             freed: self.places(leaving.freed.as_slice())?,
-            born: listed::<NewObject>(alloc, born(core, hint, self.replayer.births()))?,
+            born: born(
+                alloc,
+                old.objects.as_slice(),
+                truth.objects.as_slice(),
+                self.replayer.births(),
+            )?,
             marked: set_change(alloc, known.marked.as_slice(), now.marked.as_slice())?,
             reached: set_change(alloc, old.reached.as_slice(), truth.reached.as_slice())?,
             touched: set_change(alloc, old.touched.as_slice(), truth.touched.as_slice())?,
@@ -265,10 +264,10 @@ impl Tracer {
         if !self.replayer.step(event, reply, hint) {
             return Ok(None);
         }
-        let (old, known) = self.look(core, hint)?;
+        let (old, known) = self.look(core)?;
         let mut leaving = self.leave(core, event, old.objects.as_slice())?;
         let words = self.words(event, reply, &before, old.links.as_slice())?;
-        let record = self.record(event, reply, hint, &old, &known, &leaving, words)?;
+        let record = self.record(event, reply, &old, &known, &leaving, words)?;
         self.waiting = replace(&mut leaving.waiting, Vec::new(self.alloc));
         Ok(Some(record))
     }

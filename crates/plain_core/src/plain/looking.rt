@@ -1,10 +1,8 @@
 //! What a core has, for a caller that shows it. Nothing changes.
 ghost use Rattle.std.specs.Prelude.{◌≡◌, IfSome, IfNone};
-ghost use Rattle.plain_core.specs.Along.{has_base};
-ghost use Rattle.plain_core.specs.Answering.{FindsExtent, FindsNothing, HoldsWord};
+ghost use Rattle.plain_core.specs.Answering.{FindsNothing, HoldsWord};
 
 use super::Core;
-use crate::along::has_base;
 use crate::extent::Extent;
 use links::Link;
 use roots::Roots;
@@ -24,19 +22,11 @@ impl Core {
         self.links.as_slice()
     }
 
-    /// Whether an object begins at a base.
-    pub fn has_object(&self, base: u64) -> bool
-        ensures { result ≡ has_base self.now.objects base }
+    /// Where the objects lie. Their order says nothing.
+    pub fn objects(&self) -> &[Extent]
+        ensures { result.now ≡ self.now.objects }
     {
-        has_base(&self.objects, &self.owners, base)
-    }
-
-    /// The object that an address points into.
-    pub fn object_at(&self, address: u64) -> Option<Extent>
-        ensures some { IfSome result (λ e. FindsExtent self.now address e) }
-        ensures none { IfNone result (FindsNothing self.now address) }
-    {
-        self.found(address)
+        self.objects.as_slice()
     }
 
     /// The word at an address, if that points into an object.

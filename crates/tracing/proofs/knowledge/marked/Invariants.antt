@@ -4,5 +4,5 @@ use Rattle.tracing.specs.Sets.{places_that}
 use Rattle.tracing.proofs.knowledge.marked.Given as goal
 
 -- of the objects so far the marked ones are there
-abbrev pub invariant-loop-base : goal.invariant-loop-base
-invariant-loop-base l = l.places.items ≡ places_that (λ base. marks_at l.core base) (take l.base-index l.objects)
+abbrev pub invariant-loop-object : goal.invariant-loop-object
+invariant-loop-object l = l.places.items ≡ places_that (λ base. marks_at l.core base) (take l.object-index l.objects)

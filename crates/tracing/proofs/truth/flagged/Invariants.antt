@@ -3,5 +3,5 @@ use Rattle.tracing.specs.Truth.{flagged}
 use Rattle.tracing.proofs.truth.flagged.Given as goal
 
 -- of the objects so far those are there that have their flags
-abbrev pub invariant-loop-base : goal.invariant-loop-base
-invariant-loop-base l = l.places.items ≡ flagged l.flags (take l.base-index l.objects)
+abbrev pub invariant-loop-object : goal.invariant-loop-object
+invariant-loop-object l = l.places.items ≡ flagged l.flags (take l.object-index l.objects)
