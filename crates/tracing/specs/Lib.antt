@@ -5,3 +5,7 @@ pub mod Pages
 pub mod Truth
 pub mod Leaving
 pub mod Comings
+pub mod RootWords
+pub mod Stacks
+pub mod Values
+pub mod Telling

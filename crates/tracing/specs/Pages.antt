@@ -1,5 +1,6 @@
 -- What a collector knows, as a trace shows it.
-use Rattle.std.specs.Prelude.{◌≡◌, ℕ, Bool, false, List, map, slice_index_or}
+use Rattle.std.specs.Prelude.{◌≡◌, ℕ, Bool, false, Option, Some, None, List, [], map, slice_index_or}
+use Rattle.std.specs.Borrow.{Bor}
 use Rattle.std.specs.Option.{option_map}
 use Rattle.heap_core.specs.CoreContents.{CoreContents}
 use Rattle.heap_core.specs.Looks.{marks_at}
@@ -24,3 +25,17 @@ pub record IsKnown (c : CoreContents) (objects : List Extent) (pages : List ℕ)
   pub pending : k.pending.items ≡ those_that (λ page. is_in c Pending page) pages
   pub entries : k.entries.items ≡ map shown c.cycle.marker.stack
   pub current : k.current ≡ option_map shown c.cycle.marker.current
+
+-- Nothing is known of a collector.
+pub record IsNothing (k : Knowledge) : Type 0 where
+  pub marked : k.marked.items ≡ []
+  pub dirty : k.dirty.items ≡ []
+  pub carried : k.carried.items ≡ []
+  pub pending : k.pending.items ≡ []
+  pub entries : k.entries.items ≡ []
+  pub current : k.current ≡ None
+
+-- what the core's collector knows of these objects and pages, if there is a core
+abbrev pub KnowsOf : Option (Bor CoreContents) → List Extent → List ℕ → Knowledge → Type 0
+KnowsOf None objects pages k = IsNothing k
+KnowsOf (Some core) objects pages k = IsKnown core.now objects pages k

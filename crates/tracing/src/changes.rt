@@ -1,8 +1,9 @@
 //! What is different between two lines, of links, entries and single values.
-ghost use Rattle.std.specs.Prelude.{◌≡◌, ◌++◌, ◌≤◌, IfOk, OnOk, take, drop, length, IsTrue, false, MatchOption};
+ghost use Rattle.std.specs.Prelude.{◌≡◌, ◌++◌, ◌≤◌, IfOk, OnOk, take, drop, length, IsTrue, false};
 ghost use Rattle.links.specs.Rows.{has_at};
 ghost use Rattle.tracing.specs.Links.{has_link as has_link_of, link_changes as changes_of, links_came, links_gone as gone_of};
 ghost use Rattle.tracing.specs.Entries.{SaysCurrent, SaysEntries};
+ghost use Rattle.tracing.specs.Values.{SaysValue};
 
 use crate::places::place_of;
 use crate::sets::push_if;
@@ -147,14 +148,14 @@ pub(crate) fn current_change(old: Option<EntryAt>, new: Option<EntryAt>) -> Opti
 
 /// The number, if it is another than before.
 pub(crate) fn number_change(old: u64, new: u64) -> Option<u64>
-    ensures { MatchOption result (old ≡ new) (λ now. now ≡ new) }
+    ensures { SaysValue old new result }
 {
     if old == new { None } else { Some(new) }
 }
 
 /// The flag, if it is another than before.
 pub(crate) fn flag_change(old: bool, new: bool) -> Option<bool>
-    ensures { MatchOption result (old ≡ new) (λ now. now ≡ new) }
+    ensures { SaysValue old new result }
 {
     if old == new { None } else { Some(new) }
 }

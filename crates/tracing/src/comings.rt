@@ -1,14 +1,14 @@
-//! Mutators and objects that come and go, and stacks.
+//! Mutators and objects that come and go.
 ghost use Rattle.std.specs.Prelude.{◌≡◌, IfOk};
 ghost use Rattle.tracing.specs.Comings.{attached_slot, detached_slot, is_pointer_free, new_object as new_object_of, born as born_of};
 
 use crate::places::place_of;
 use crate::sets::objects_without;
 use heap_spec::{Call, Event, Reply};
-use plain_core::{Core, Extent};
+use plain_core::Extent;
 use std::alloc::{AllocError, Global};
-use trace_lines::{NewObject, StackChange};
-use words::{Kind, Slot};
+use trace_lines::NewObject;
+use words::Kind;
 
 /// The slot of the mutator that came.
 pub(crate) fn attached(reply: &Reply) -> Option<u64>
@@ -70,41 +70,4 @@ pub(crate) fn born(
         born.push(new_object(*object, births))?;
     }
     Ok(born)
-}
-
-// The stack of a slot, as far as its lowest words stayed.
-fn stack_change(
-    alloc: Global,
-    core: &Core,
-    slot: Slot,
-    pushed: usize,
-) -> Result<Option<StackChange>, AllocError> {
-    let Some(mutator) = core.roots().mutator(slot) else {
-        return Ok(None);
-    };
-    let stack = mutator.stack();
-    let keep = stack.len().saturating_sub(pushed);
-    let mut words = Vec::new(alloc);
-    for i in keep..stack.len() {
-        words.push(stack[i])?;
-    }
-    Ok(Some(StackChange {
-        slot: u64::from(slot.number()),
-        keep: keep as u64,
-        pushed: words,
-    }))
-}
-
-/// The stack that an event changed: a push that was granted has one word more, a pop one less.
-pub(crate) fn stack_of(
-    alloc: Global,
-    core: &Core,
-    event: &Event,
-    reply: &Reply,
-) -> Result<Option<StackChange>, AllocError> {
-    match (event, reply) {
-        (Event::Mutator(slot, Call::Push(_)), Reply::Done) => stack_change(alloc, core, *slot, 1),
-        (Event::Mutator(slot, Call::Pop(_)), Reply::Word(_)) => stack_change(alloc, core, *slot, 0),
-        _ => Ok(None),
-    }
 }

@@ -1,10 +1,10 @@
 //! What a collector knows after a line, asked of the core.
-ghost use Rattle.std.specs.Prelude.{◌≡◌, [], None, IfOk, map};
+ghost use Rattle.std.specs.Prelude.{◌≡◌, IfOk, map};
 ghost use Rattle.std.specs.Option.{option_map};
 ghost use Rattle.heap_core.specs.Looks.{marks_at};
 ghost use Rattle.tracing.specs.Sets.{places_that, those_that};
 ghost use Rattle.tracing.specs.Entries.{shown as shown_entry};
-ghost use Rattle.tracing.specs.Pages.{is_in, IsKnown};
+ghost use Rattle.tracing.specs.Pages.{is_in, IsKnown, IsNothing, KnowsOf};
 
 use crate::places::place_of;
 use crate::sets::push_if;
@@ -41,12 +41,7 @@ pub(crate) enum PageSet {
 impl Knowledge {
     /// That of a new heap's collector, or of none.
     pub(crate) fn nothing(alloc: Global) -> Knowledge
-        ensures marked { result.marked.items ≡ [] }
-        ensures dirty { result.dirty.items ≡ [] }
-        ensures carried { result.carried.items ≡ [] }
-        ensures pending { result.pending.items ≡ [] }
-        ensures entries { result.entries.items ≡ [] }
-        ensures current { result.current ≡ None }
+        ensures { IsNothing result }
     {
         Knowledge {
             marked: Vec::new(alloc),
@@ -124,8 +119,8 @@ fn pages_in(alloc: Global, core: &Core, set: PageSet, pages: &[u64]) -> Result<V
     Ok(numbers)
 }
 
-/// What the core's collector knows now of these objects and pages.
-pub(crate) fn knowledge_now(
+// What the core's collector knows now of these objects and pages.
+fn knowledge_now(
     alloc: Global,
     core: &Core,
     objects: &[Extent],
@@ -141,4 +136,19 @@ pub(crate) fn knowledge_now(
         entries: entries(alloc, core)?,
         current: current(core),
     })
+}
+
+/// What a collector knows of these objects and pages, if there is one.
+pub(crate) fn known_of(
+    alloc: Global,
+    core: Option<&Core>,
+    objects: &[Extent],
+    pages: &[u64],
+) -> Result<Knowledge, AllocError>
+    ensures { IfOk result (KnowsOf core.entry objects.now pages.now) }
+{
+    match core {
+        Some(core) => knowledge_now(alloc, core, objects, pages),
+        None => Ok(Knowledge::nothing(alloc)),
+    }
 }

@@ -34,10 +34,10 @@ fn forgets(event: &Event) -> bool
 
 /// Whether an event may take objects: then it writes 0 into the words of links to them.
 pub(crate) fn clears(event: &Event) -> bool {
-    match event {
-        Event::Mutator(_, Call::Free(_)) => true,
-        _ => forgets(event),
-    }
+    let Event::Mutator(_, Call::Free(_)) = event else {
+        return forgets(event);
+    };
+    true
 }
 
 // Whether the page of a base is pending. Where no core is known none is.

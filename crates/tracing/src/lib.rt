@@ -7,6 +7,7 @@
 
 mod changes;
 mod comings;
+mod heap_words;
 mod knowledge;
 mod leaving;
 mod looked;
@@ -14,6 +15,8 @@ mod places;
 mod reply;
 mod roots_changed;
 mod sets;
+mod stacks;
+mod telling;
 mod tracer;
 mod truth;
 

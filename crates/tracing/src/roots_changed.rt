@@ -1,12 +1,25 @@
-//! Which words a call changed: a call puts a word into at most one register, one global, one stack and one word of the heap.
-use crate::places::place_of;
-use heap_spec::{Call, Event, Reply};
+//! Which register and which global a call changed: it puts a word into at most one.
+ghost use Rattle.std.specs.Prelude.{◌≡◌};
+ghost use Rattle.std.specs.Option.{option_map};
+ghost use Rattle.heap_spec.specs.Steps.{register};
+ghost use Rattle.tracing.specs.RootWords.{before_of, changed_global, changed_register, event_put, global_of as global_put_of, into_of as into_register, register_of as register_put_of, there_at};
+
+use heap_spec::{Call, Event};
 use plain_core::Core;
 use trace_lines::{Numbered, RegisterWord};
-use words::{Global as GlobalNo, Reg, Slot};
+use words::{Global, Reg, Slot};
+
+/// The register and the global that an event may change, with their words.
+#[derive(Clone, Copy)]
+pub(crate) struct Before {
+    pub(crate) register: Option<RegisterWord>,
+    pub(crate) global: Option<Numbered>,
+}
 
 // The register that a call puts a word into.
-fn into_of(call: &Call) -> Option<Reg> {
+fn into_of(call: &Call) -> Option<Reg>
+    ensures { result ≡ into_register call.now }
+{
     match call {
         Call::Set(into, _)
         | Call::Copy(into, _)
@@ -30,15 +43,19 @@ fn into_of(call: &Call) -> Option<Reg> {
 }
 
 // The word of a register, if its slot has a mutator.
-fn word_of(core: &Core, slot: Slot, reg: Reg) -> Option<u64> {
+fn word_of(core: &Core, slot: Slot, reg: Reg) -> Option<u64>
+    ensures { result ≡ option_map (λ m. register m reg) (there_at core.now.roots slot) }
+{
     match core.roots().mutator(slot) {
         Some(mutator) => Some(mutator.word(reg)),
         None => None,
     }
 }
 
-/// The register that an event may change, with its word.
-pub(crate) fn register_of(core: &Core, event: &Event) -> Option<RegisterWord> {
+// The register that an event may change, with its word.
+fn register_of(core: &Core, event: &Event) -> Option<RegisterWord>
+    ensures { result ≡ register_put_of core.now.roots event.now }
+{
     let Event::Mutator(slot, call) = event else {
         return None;
     };
@@ -56,7 +73,9 @@ pub(crate) fn register_of(core: &Core, event: &Event) -> Option<RegisterWord> {
 }
 
 // The global that an event may change.
-fn global_put(event: &Event) -> Option<GlobalNo> {
+fn global_put(event: &Event) -> Option<Global>
+    ensures { result ≡ event_put event.now }
+{
     let Event::Mutator(_, call) = event else {
         return None;
     };
@@ -66,8 +85,10 @@ fn global_put(event: &Event) -> Option<GlobalNo> {
     Some(*global)
 }
 
-/// The global that an event may change, with its word.
-pub(crate) fn global_of(core: &Core, event: &Event) -> Option<Numbered> {
+// The global that an event may change, with its word.
+fn global_of(core: &Core, event: &Event) -> Option<Numbered>
+    ensures { result ≡ global_put_of core.now.roots event.now }
+{
     let Some(global) = global_put(event) else {
         return None;
     };
@@ -77,26 +98,49 @@ pub(crate) fn global_of(core: &Core, event: &Event) -> Option<Numbered> {
     })
 }
 
-/// The word of the heap that an event wrote, if it is a store that was granted.
-pub(crate) fn stored(core: &Core, event: &Event, reply: &Reply) -> Option<Numbered> {
-    let Event::Mutator(slot, call) = event else {
+/// What an event may change, as it is in a core.
+pub(crate) fn before(core: &Core, event: &Event) -> Before
+    ensures { result ≡ before_of core.now.roots event.now }
+{
+    Before {
+        register: register_of(core, event),
+        global: global_of(core, event),
+    }
+}
+
+/// The register, if its word is another than before.
+pub(crate) fn register_change(
+    old: Option<RegisterWord>,
+    new: Option<RegisterWord>,
+) -> Option<RegisterWord>
+    ensures { result ≡ changed_register old new }
+{
+    let Some(old) = old else {
         return None;
     };
-    let Call::Store(at, offset, _) = call else {
+    let Some(new) = new else {
         return None;
     };
-    let Reply::Done = reply else {
+    if old.word == new.word {
+        None
+    } else {
+        Some(new)
+    }
+}
+
+/// The global, if its word is another than before.
+pub(crate) fn global_change(old: Option<Numbered>, new: Option<Numbered>) -> Option<Numbered>
+    ensures { result ≡ changed_global old new }
+{
+    let Some(old) = old else {
         return None;
     };
-    let Some(mutator) = core.roots().mutator(*slot) else {
+    let Some(new) = new else {
         return None;
     };
-    let address = mutator.address(*at, *offset);
-    let Some(word) = core.word(address) else {
-        return None;
-    };
-    Some(Numbered {
-        number: place_of(address),
-        word,
-    })
+    if old.word == new.word {
+        None
+    } else {
+        Some(new)
+    }
 }

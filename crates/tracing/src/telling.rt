@@ -1,17 +1,24 @@
 //! What is said of a line: how what was asked before it became what was asked after it.
 ghost use Rattle.std.specs.Prelude.{IfOk};
-ghost use Rattle.tracing.specs.Telling.{SaysObjects, SaysSets, SaysCycle};
+ghost use Rattle.tracing.specs.Telling.{SaysCycle, SaysObjects, SaysSets, SaysWords};
 
-use crate::changes::{current_change, entries_change, flag_change, number_change};
+use crate::changes::{
+    current_change, entries_change, flag_change, link_changes, links_gone, number_change,
+};
 use crate::comings::{attached, born, detached};
+use crate::heap_words::wrote;
 use crate::knowledge::Knowledge;
 use crate::leaving::Leaving;
 use crate::places::places_of;
+use crate::roots_changed::{Before, before, global_change, register_change};
 use crate::sets::{listed, set_change};
+use crate::stacks::{stack_change, stack_step};
 use crate::truth::Truth;
 use heap_spec::{Event, Reply};
+use links::Link;
+use plain_core::Core;
 use std::alloc::{AllocError, Global};
-use trace_lines::{CycleChanges, ObjectChanges, Reads, SetChanges};
+use trace_lines::{CycleChanges, ObjectChanges, Reads, SetChanges, WordChanges};
 
 /// Which mutators and objects come and go, where so many objects were born.
 pub(crate) fn object_changes(
@@ -56,6 +63,30 @@ pub(crate) fn set_changes(
         dirty: set_change(alloc, known.dirty.as_slice(), now.dirty.as_slice())?,
         carried: set_change(alloc, known.carried.as_slice(), now.carried.as_slice())?,
         pending: set_change(alloc, known.pending.as_slice(), now.pending.as_slice())?,
+    })
+}
+
+/// Which words change in the core, and how these links became those.
+pub(crate) fn word_changes(
+    alloc: Global,
+    core: &Core,
+    event: &Event,
+    reply: &Reply,
+    old: &Before,
+    links: &[Link],
+    now: &[Link],
+) -> Result<WordChanges, AllocError>
+    ensures { IfOk result (SaysWords core.now event.now reply.now old.now links.now now.now) }
+{
+    let new = before(core, event);
+    let gone = links_gone(alloc, links, now)?;
+    let stack = stack_change(alloc, core, stack_step(event, reply))?;
+    Ok(WordChanges {
+        wrote: wrote(alloc, core, event, reply, gone.as_slice())?,
+        registers: listed(alloc, register_change(old.register, new.register))?,
+        stacks: listed(alloc, stack)?,
+        globals: listed(alloc, global_change(old.global, new.global))?,
+        links: link_changes(alloc, links, now)?,
     })
 }
 

@@ -1,5 +1,5 @@
--- Which words a line changed.
-use Rattle.std.specs.Prelude.{◌≡◌, ℕ, Option, Some, None, List, slice_get, slice_index}
+-- Which words of the roots a line changed.
+use Rattle.std.specs.Prelude.{◌==◌, ℕ, Option, Some, None, List, if◌then◌else◌, slice_get, slice_index}
 use Rattle.heap_spec.specs.declared.call.Call.{Call}
 use Rattle.heap_spec.specs.declared.call.Call.TheVariants.{Detach, Set, Copy, Add, Sub, Get, Push, Pop, Load, Store, Alloc, Free, Base, Size, GlobalGet, GlobalPut, Link, Unlink}
 use Rattle.heap_spec.specs.declared.event.Event.{Event}
@@ -9,6 +9,7 @@ use Rattle.heap_spec.specs.Steps.{register}
 use Rattle.roots.specs.Roots.{RootSet}
 use Rattle.trace_lines.specs.declared.record.Numbered.{Numbered}
 use Rattle.trace_lines.specs.declared.record.RegisterWord.{RegisterWord}
+use Rattle.tracing.specs.declared.roots_changed.Before.{Before}
 
 -- the register that a call puts a word into
 abbrev pub into_of : Call → Option ℕ
@@ -36,6 +37,10 @@ abbrev pub there : Option (Option HeapMutator) → Option HeapMutator
 there None = None
 there (Some slot) = slot
 
+-- the mutator at a slot, if one is attached
+abbrev pub there_at : RootSet → ℕ → Option HeapMutator
+there_at roots slot = there (slice_get roots.mutators slot)
+
 -- a register of a mutator, if there are both
 abbrev pub register_in : ℕ → Option ℕ → Option HeapMutator → Option RegisterWord
 register_in slot None m = None
@@ -44,7 +49,7 @@ register_in slot (Some r) (Some m) = Some (record { slot = slot; register = r; w
 
 -- the register that an event may change, with its word
 abbrev pub register_of : RootSet → Event → Option RegisterWord
-register_of roots (Mutator slot call) = register_in slot (into_of call) (there (slice_get roots.mutators slot))
+register_of roots (Mutator slot call) = register_in slot (into_of call) (there_at roots slot)
 register_of roots Attach = None
 register_of roots Begin = None
 register_of roots BeginPartial = None
@@ -99,3 +104,19 @@ event_put Number = None
 -- the global that an event may change, with its word
 abbrev pub global_of : RootSet → Event → Option Numbered
 global_of roots event = global_in roots.globals (event_put event)
+
+-- what an event may change, with its words
+abbrev pub before_of : RootSet → Event → Before
+before_of roots event = record { register = register_of roots event; global = global_of roots event }
+
+-- the register, if its word is another than before
+abbrev pub changed_register : Option RegisterWord → Option RegisterWord → Option RegisterWord
+changed_register None new = None
+changed_register (Some old) None = None
+changed_register (Some old) (Some new) = if old.word == new.word then None else Some new
+
+-- the global, if its word is another than before
+abbrev pub changed_global : Option Numbered → Option Numbered → Option Numbered
+changed_global None new = None
+changed_global (Some old) None = None
+changed_global (Some old) (Some new) = if old.word == new.word then None else Some new
