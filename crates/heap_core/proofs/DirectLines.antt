@@ -56,7 +56,7 @@ set_call roots t y ls slot r w m at =
 abbrev noted : Cycle → ℕ → Cycle
 noted y p = record y { marker = with_dirty y.marker (set y.marker.dirty p true) }
 
-notes : (y : Cycle) (a : ℕ) → page_of a < length y.marker.dirty → NotesWrite a y.marker (noted y (page_of a)).marking
+notes : (y : Cycle) (a : ℕ) → page_of a < length y.marker.dirty → NotesWrite a y.marker (noted y (page_of a)).marker
 notes y a inside = record {
   marks = refl;
   dirty_len = length-set y.marker.dirty (page_of a) true;
@@ -66,11 +66,11 @@ notes y a inside = record {
   carried = refl;
   current = refl;
   stack = refl;
-  keeps = λ found words w old. store_traced found words a w y.marker (noted y (page_of a)).marking dirties inside old;
-  carries = λ found words w old. store_carried found words a w y.marker (noted y (page_of a)).marking dirties inside old;
+  keeps = λ found words w old. store_traced found words a w y.marker (noted y (page_of a)).marker dirties inside old;
+  carries = λ found words w old. store_carried found words a w y.marker (noted y (page_of a)).marker dirties inside old;
 }
   where
-    dirties : DirtiesPage a y.marker (noted y (page_of a)).marking
+    dirties : DirtiesPage a y.marker (noted y (page_of a)).marker
     dirties = record { marks = refl; dirty = refl; carried = refl; current = refl; stack = refl }
 
 -- the dirty pages are nothing to a run
