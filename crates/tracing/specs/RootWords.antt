@@ -9,7 +9,7 @@ use Rattle.heap_spec.specs.Steps.{register}
 use Rattle.roots.specs.Roots.{RootSet}
 use Rattle.trace_lines.specs.declared.record.Numbered.{Numbered}
 use Rattle.trace_lines.specs.declared.record.RegisterWord.{RegisterWord}
-use Rattle.tracing.specs.declared.roots_changed.Before.{Before}
+use Rattle.tracing.specs.declared.roots_changed.PutWords.{PutWords}
 
 -- the register that a call puts a word into
 abbrev pub into_of : Call → Option ℕ
@@ -105,9 +105,9 @@ event_put Number = None
 abbrev pub global_of : RootSet → Event → Option Numbered
 global_of roots event = global_in roots.globals (event_put event)
 
--- what an event may change, with its words
-abbrev pub before_of : RootSet → Event → Before
-before_of roots event = record { register = register_of roots event; global = global_of roots event }
+-- what an event may put a word into
+abbrev pub words_put : RootSet → Event → PutWords
+words_put roots event = record { register = register_of roots event; global = global_of roots event }
 
 -- the register, if its word is another than before
 abbrev pub changed_register : Option RegisterWord → Option RegisterWord → Option RegisterWord

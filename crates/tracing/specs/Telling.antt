@@ -25,9 +25,9 @@ use Rattle.tracing.specs.declared.truth.Truth.{Truth}
 use Rattle.tracing.specs.declared.knowledge.Knowledge.{Knowledge}
 use Rattle.tracing.specs.declared.leaving.Leaving.{Leaving}
 use Rattle.tracing.specs.Sets.{SaysChange, bases_of, listed, objects_without}
-use Rattle.tracing.specs.declared.roots_changed.Before.{Before}
+use Rattle.tracing.specs.declared.roots_changed.PutWords.{PutWords}
 use Rattle.tracing.specs.Links.{link_changes}
-use Rattle.tracing.specs.RootWords.{before_of, changed_global, changed_register, global_of, register_of}
+use Rattle.tracing.specs.RootWords.{words_put, changed_global, changed_register, global_of, register_of}
 use Rattle.tracing.specs.Stacks.{SaysStack, stack_step}
 use Rattle.tracing.specs.Entries.{SaysEntries, SaysCurrent}
 use Rattle.tracing.specs.Values.{SaysValue}
@@ -60,7 +60,7 @@ pub record SaysStacks (roots : RootSet) (event : Event) (reply : Reply) (said : 
   pub one : said ≡ listed top
 
 -- Which words of the roots change, and how links do.
-pub record SaysWords (c : PlainContents) (event : Event) (reply : Reply) (old : Before) (before now : List Link) (r : WordChanges) : Type 0 where
+pub record SaysWords (c : PlainContents) (event : Event) (reply : Reply) (old : PutWords) (before now : List Link) (r : WordChanges) : Type 0 where
   pub registers : r.registers.items ≡ listed (changed_register old.register (register_of c.roots event))
   pub globals : r.globals.items ≡ listed (changed_global old.global (global_of c.roots event))
   pub stacks : SaysStacks c.roots event reply r.stacks.items
@@ -109,7 +109,7 @@ pub record IsTold (old : TracerContents) (core : Option (Bor CoreContents)) (eve
   pub parted : IsParted core event old.waiting (bases_of (objects_without old.truth.objects.items new.truth.objects.items)) leaving
   pub objects : SaysObjects event reply old.truth new.truth leaving new.replayer.births r.objects
   pub sets : SaysSets old.truth new.truth old.knowledge new.knowledge r.sets
-  pub words : SaysWords new.replayer.core event reply (before_of old.replayer.core.roots event) old.truth.links.items new.truth.links.items r.words
+  pub words : SaysWords new.replayer.core event reply (words_put old.replayer.core.roots event) old.truth.links.items new.truth.links.items r.words
   pub read : Option Reads
   pub cycle : SaysCycle old.truth new.truth old.knowledge new.knowledge read r.cycle
   pub waiting : new.waiting ≡ leaving.waiting.items

@@ -2,16 +2,16 @@
 ghost use Rattle.std.specs.Prelude.{◌≡◌};
 ghost use Rattle.std.specs.Option.{option_map};
 ghost use Rattle.heap_spec.specs.Steps.{register};
-ghost use Rattle.tracing.specs.RootWords.{before_of, changed_global, changed_register, event_put, global_of as global_put_of, into_of as into_register, register_of as register_put_of, there_at};
+ghost use Rattle.tracing.specs.RootWords.{words_put as words_put_of, changed_global, changed_register, event_put, global_of as global_put_of, into_of as into_register, register_of as register_put_of, there_at};
 
 use heap_spec::{Call, Event};
 use plain_core::Core;
 use trace_lines::{Numbered, RegisterWord};
 use words::{Global, Reg, Slot};
 
-/// The register and the global that an event may change, with their words.
+/// The register and the global that an event may put a word into, with their words.
 #[derive(Clone, Copy)]
-pub(crate) struct Before {
+pub(crate) struct PutWords {
     pub(crate) register: Option<RegisterWord>,
     pub(crate) global: Option<Numbered>,
 }
@@ -98,11 +98,11 @@ fn global_of(core: &Core, event: &Event) -> Option<Numbered>
     })
 }
 
-/// What an event may change, as it is in a core.
-pub(crate) fn before(core: &Core, event: &Event) -> Before
-    ensures { result ≡ before_of core.now.roots event.now }
+/// What an event may put a word into, as it is in a core.
+pub(crate) fn words_put(core: &Core, event: &Event) -> PutWords
+    ensures { result ≡ words_put_of core.now.roots event.now }
 {
-    Before {
+    PutWords {
         register: register_of(core, event),
         global: global_of(core, event),
     }

@@ -10,7 +10,7 @@ use crate::heap_words::wrote;
 use crate::knowledge::Knowledge;
 use crate::leaving::Leaving;
 use crate::places::places_of;
-use crate::roots_changed::{Before, before, global_change, register_change};
+use crate::roots_changed::{PutWords, global_change, register_change, words_put};
 use crate::sets::{listed, set_change};
 use crate::stacks::{stack_change, stack_step};
 use crate::truth::Truth;
@@ -72,13 +72,13 @@ pub(crate) fn word_changes(
     core: &Core,
     event: &Event,
     reply: &Reply,
-    old: &Before,
+    old: &PutWords,
     links: &[Link],
     now: &[Link],
 ) -> Result<WordChanges, AllocError>
     ensures { IfOk result (SaysWords core.now event.now reply.now old.now links.now now.now) }
 {
-    let new = before(core, event);
+    let new = words_put(core, event);
     let gone = links_gone(alloc, links, now)?;
     let stack = stack_change(alloc, core, stack_step(event, reply))?;
     Ok(WordChanges {

@@ -8,7 +8,7 @@ ghost use Rattle.tracing.specs.Telling.{IsNewTracer, Tells};
 use crate::knowledge::{Knowledge, known_of};
 use crate::leaving::{Leaving, leaving_now};
 use crate::looked::reads_of;
-use crate::roots_changed::before;
+use crate::roots_changed::words_put;
 use crate::sets::{bases, objects_without};
 use crate::telling::{cycle_changes, object_changes, set_changes, word_changes};
 use crate::truth::{Truth, truth_now};
@@ -105,7 +105,7 @@ impl Tracer {
         ensures { IfOk result (λ told. Tells self.old core.entry event.now reply.now hint.entry told self.new) }
     {
         let alloc = self.alloc;
-        let old = before(self.replayer.core(), event);
+        let old = words_put(self.replayer.core(), event);
         if !self.replayer.step(event, reply, hint) {
             return Ok(None);
         }
