@@ -1,6 +1,7 @@
 #!/usr/bin/env bash
-# Tests of the program `draw`, by an unproved build: its words and statuses, and each worked example's trace beside the run that
-# `record` writes of the same script, from which tests/draw/run.py works out what is true. It leaves nothing behind.
+# Tests of `draw`, by the wrapper: each worked example's trace, taken out of its page, beside the run that `record` writes of the
+# same script, from which tests/draw/run.py works out what is true. With the proved builds (`mpheap build`) it takes seconds, and
+# half an hour and more without them, since the wrapper then makes a build for each run. It leaves nothing behind.
 set -uo pipefail
 top=$(dirname "$(dirname "$(readlink -f "${BASH_SOURCE[0]}")")")
 room=$(mktemp -d)
@@ -9,9 +10,9 @@ trap 'exit 143' INT TERM HUP
 failed=0
 pages=4
 
-# printed PROGRAM SCRIPT: what it prints of the script.
-printed() {
-    (cd "$top/crates/$1" && rt try -- --pages $pages /dev/stdin <"$2" 2>"$room/said")
+# trace SCRIPT: the trace in the page of its run.
+trace() {
+    "$top/mpheap" draw --pages $pages "$1" 2>"$room/said" | sed -n '/id="trace"/,/<\/script>/p' | sed '1d;$d'
 }
 
 wrong() {
@@ -23,8 +24,9 @@ examples_agree() {
     local script name
     for script in "$top"/examples/*.script; do
         name=$(basename "$script" .script)
-        printed draw "$script" >"$room/$name.jsonl" || wrong "$name: $(tail -n 2 "$room/said")"
-        printed record "$script" >"$room/$name.run" || wrong "$name: $(tail -n 2 "$room/said")"
+        trace "$script" >"$room/$name.jsonl" || wrong "$name: $(tail -n 2 "$room/said")"
+        "$top/mpheap" record --pages $pages "$script" >"$room/$name.run" 2>"$room/said" ||
+            wrong "$name: $(tail -n 2 "$room/said")"
         python3 "$top/tests/draw/compare.py" "$room/$name.jsonl" "$room/$name.run" 2>"$room/differ" ||
             wrong "$name: $(tail -n 1 "$room/differ")"
     done

@@ -6,8 +6,11 @@
 ghost use Rattle.std.specs.Prelude.{◌≤◌};
 ghost use Rattle.words.specs.declared.limits.TheConstants.{MAX_PAGES};
 
-use programs::{Fault, end, own_words};
+mod reply;
+
+use crate::reply::shown_reply;
 use heap_core::Core;
+use programs::{Fault, end, own_words};
 use recording::Recorder;
 use scripts::limits::LINE_BYTES;
 use scripts::{Std, command};
@@ -15,7 +18,7 @@ use std::alloc::Global;
 use std::fs;
 use std::process::ExitCode;
 use trace_lines::{head_line, record_line};
-use tracing::{Tracer, shown_reply};
+use tracing::Tracer;
 use written_runs::words_given;
 
 // A heap, and what is told of its run.

@@ -7,5 +7,7 @@ pub mod Leaving
 pub mod Comings
 pub mod RootWords
 pub mod Stacks
+pub mod HeapWords
+pub mod Looked
 pub mod Values
 pub mod Telling

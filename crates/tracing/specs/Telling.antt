@@ -26,9 +26,11 @@ use Rattle.tracing.specs.declared.knowledge.Knowledge.{Knowledge}
 use Rattle.tracing.specs.declared.leaving.Leaving.{Leaving}
 use Rattle.tracing.specs.Sets.{SaysChange, bases_of, listed, objects_without}
 use Rattle.tracing.specs.declared.roots_changed.PutWords.{PutWords}
-use Rattle.tracing.specs.Links.{link_changes}
+use Rattle.tracing.specs.Links.{link_changes, links_gone}
+use Rattle.tracing.specs.HeapWords.{words_told, written_to}
 use Rattle.tracing.specs.RootWords.{words_put, changed_global, changed_register, global_of, register_of}
 use Rattle.tracing.specs.Stacks.{SaysStack, stack_step}
+use Rattle.tracing.specs.Looked.{reads_of}
 use Rattle.tracing.specs.Entries.{SaysEntries, SaysCurrent}
 use Rattle.tracing.specs.Values.{SaysValue}
 use Rattle.tracing.specs.Pages.{IsNothing, KnowsOf}
@@ -59,8 +61,9 @@ pub record SaysStacks (roots : RootSet) (event : Event) (reply : Reply) (said : 
   pub says : SaysStack roots (stack_step event reply) top
   pub one : said ≡ listed top
 
--- Which words of the roots change, and how links do.
+-- Which words change, and how links do.
 pub record SaysWords (c : PlainContents) (event : Event) (reply : Reply) (old : PutWords) (before now : List Link) (r : WordChanges) : Type 0 where
+  pub wrote : r.wrote.items ≡ words_told c (written_to c.roots event reply (links_gone before now))
   pub registers : r.registers.items ≡ listed (changed_register old.register (register_of c.roots event))
   pub globals : r.globals.items ≡ listed (changed_global old.global (global_of c.roots event))
   pub stacks : SaysStacks c.roots event reply r.stacks.items
@@ -110,8 +113,7 @@ pub record IsTold (old : TracerContents) (core : Option (Bor CoreContents)) (eve
   pub objects : SaysObjects event reply old.truth new.truth leaving new.replayer.births r.objects
   pub sets : SaysSets old.truth new.truth old.knowledge new.knowledge r.sets
   pub words : SaysWords new.replayer.core event reply (words_put old.replayer.core.roots event) old.truth.links.items new.truth.links.items r.words
-  pub read : Option Reads
-  pub cycle : SaysCycle old.truth new.truth old.knowledge new.knowledge read r.cycle
+  pub cycle : SaysCycle old.truth new.truth old.knowledge new.knowledge (reads_of new.replayer.core.roots event reply) r.cycle
   pub waiting : new.waiting ≡ leaving.waiting.items
   pub room : new.room ≡ old.room
   pub pages : new.pages ≡ old.pages

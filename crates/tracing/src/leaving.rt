@@ -6,7 +6,7 @@ ghost use Rattle.tracing.specs.Leaving.{IsParted, forgets as is_forgetting, wait
 use crate::places::page_of;
 use crate::sets::push_if;
 use heap_core::Core;
-use heap_spec::{Call, Event};
+use heap_spec::Event;
 use std::alloc::{AllocError, Global};
 
 /// Bases of what is no object any more.
@@ -22,22 +22,14 @@ pub(crate) struct Leaving {
     pub(crate) waiting: Vec<u64>,
 }
 
-// Whether an event forgets objects: then small ones wait until their pages are swept.
-fn forgets(event: &Event) -> bool
+/// Whether an event forgets objects: then small ones wait until their pages are swept.
+pub(crate) fn forgets(event: &Event) -> bool
     ensures { result ≡ is_forgetting event.now }
 {
     match event {
         Event::Finish | Event::Collect => true,
         _ => false,
     }
-}
-
-/// Whether an event may take objects: then it writes 0 into the words of links to them.
-pub(crate) fn clears(event: &Event) -> bool {
-    let Event::Mutator(_, Call::Free(_)) = event else {
-        return forgets(event);
-    };
-    true
 }
 
 // Whether the page of a base is pending. Where no core is known none is.

@@ -12,7 +12,6 @@ mod knowledge;
 mod leaving;
 mod looked;
 mod places;
-mod reply;
 mod roots_changed;
 mod sets;
 mod stacks;
@@ -20,5 +19,4 @@ mod telling;
 mod tracer;
 mod truth;
 
-pub use reply::shown_reply;
 pub use tracer::Tracer;

@@ -1,8 +1,9 @@
 //! What a core has, for a caller that shows it. Nothing changes.
-ghost use Rattle.std.specs.Prelude.{◌≡◌, IfSome, IfNone};
-ghost use Rattle.plain_core.specs.Answering.{FindsNothing, HoldsWord};
+ghost use Rattle.std.specs.Prelude.{◌≡◌};
+ghost use Rattle.plain_core.specs.Along.{word_of};
 
 use super::Core;
+use crate::along::word_in;
 use crate::extent::Extent;
 use links::Link;
 use roots::Roots;
@@ -29,11 +30,10 @@ impl Core {
         self.objects.as_slice()
     }
 
-    /// The word at an address, if that points into an object.
+    /// The word at an address, if one of the objects has it.
     pub fn word(&self, address: u64) -> Option<u64>
-        ensures some { IfSome result (λ w. HoldsWord self.now address w) }
-        ensures none { IfNone result (FindsNothing self.now address) }
+        ensures { result ≡ word_of self.now address }
     {
-        self.word_at(address)
+        word_in(&self.words, &self.objects, &self.owners, address)
     }
 }

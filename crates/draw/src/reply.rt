@@ -9,7 +9,7 @@ use words::limits::{FIRST_ADDRESS, PAGE_BYTES};
 use written_runs::reply_text;
 
 /// A reply of a heap of so many pages: every word that is an address of the heap prints alike.
-pub fn shown_reply(alloc: Global, pages: u32, reply: &Reply) -> Result<String, AllocError>
+pub(crate) fn shown_reply(alloc: Global, pages: u32, reply: &Reply) -> Result<String, AllocError>
     requires { pages ≤ MAX_PAGES }
     ensures { IfOk result (λ text. string_bytes text ≡ text_of_reply pages reply.now) }
 {
