@@ -70,12 +70,12 @@ pub record SaysWords (c : PlainContents) (event : Event) (reply : Reply) (old : 
   pub links : r.links.items ≡ link_changes before now
 
 -- How far the collector is.
-pub record SaysCycle (old new : Truth) (known now : Knowledge) (read : Option Reads) (r : CycleChanges) : Type 0 where
+pub record SaysCycle (old new : Truth) (known now : Knowledge) (looked : Option Reads) (r : CycleChanges) : Type 0 where
   pub entries : SaysEntries known.entries.items now.entries.items r.entries
   pub current : SaysCurrent known.current now.current r.current
   pub marking : SaysValue old.is_marking new.is_marking r.is_marking
   pub count : SaysValue old.count new.count r.count
-  pub read : r.read ≡ read
+  pub read : r.read ≡ looked
 
 -- A tracer: the checker, how many flags of words there is room for, the numbers of the pages, what was asked after the last line, and
 -- the bases of the cells that wait to be swept.
@@ -89,10 +89,10 @@ pub record TracerContents : Type 0 where
 
 -- A tracer of a new heap: its checker follows the empty run of a heap of so many pages, there is a flag for each word, and nothing
 -- was asked yet.
-pub record IsNewTracer (pages : ℕ) (t : TracerContents) : Type 0 where
-  pub replayer : Follows t.replayer (opening_start pages) []
-  pub room : t.room ≡ PAGE_WORDS * pages
-  pub pages : t.pages ≡ range_with_len 0 pages
+pub record IsNewTracer (n : ℕ) (t : TracerContents) : Type 0 where
+  pub replayer : Follows t.replayer (opening_start n) []
+  pub room : t.room ≡ PAGE_WORDS * n
+  pub pages : t.pages ≡ range_with_len 0 n
   pub objects : t.truth.objects.items ≡ []
   pub reached : t.truth.reached.items ≡ []
   pub touched : t.truth.touched.items ≡ []

@@ -16,18 +16,18 @@ use trace_lines::EntryAt;
 
 /// What a collector knows.
 #[derive(Drop)]
-pub(crate) struct Knowledge {
+pub struct Knowledge {
     /// The places of the marked objects.
-    pub(crate) marked: Vec<u64>,
+    pub marked: Vec<u64>,
 
     /// Numbers of pages.
-    pub(crate) dirty: Vec<u64>,
-    pub(crate) carried: Vec<u64>,
-    pub(crate) pending: Vec<u64>,
+    pub dirty: Vec<u64>,
+    pub carried: Vec<u64>,
+    pub pending: Vec<u64>,
 
     /// The mark stack, the next entry last, and the entry that is begun.
-    pub(crate) entries: Vec<EntryAt>,
-    pub(crate) current: Option<EntryAt>,
+    pub entries: Vec<EntryAt>,
+    pub current: Option<EntryAt>,
 }
 
 /// A set of pages that a collector has.

@@ -19,4 +19,6 @@ mod telling;
 mod tracer;
 mod truth;
 
+pub use knowledge::Knowledge;
 pub use tracer::Tracer;
+pub use truth::Truth;

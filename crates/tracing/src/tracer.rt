@@ -90,6 +90,20 @@ impl Tracer {
         &self.replayer
     }
 
+    /// What is true after the last line.
+    pub fn truth(&self) -> &Truth
+        ensures { result.now ≡ self.now.truth }
+    {
+        &self.truth
+    }
+
+    /// What the collector knows after the last line.
+    pub fn knowledge(&self) -> &Knowledge
+        ensures { result.now ≡ self.now.knowledge }
+    {
+        &self.knowledge
+    }
+
     /// Goes on by an event with its reply and what that leaves open, after which the core, if there is one, is this, and says
     /// what is different; `None` if the checker says no, and then the run stays where it was.
     ///

@@ -11,19 +11,19 @@ use std::alloc::{AllocError, Global};
 
 /// What is true after a line.
 #[derive(Drop)]
-pub(crate) struct Truth {
+pub struct Truth {
     /// Where the objects lie.
-    pub(crate) objects: Vec<Extent>,
+    pub objects: Vec<Extent>,
 
     /// The places of the reached objects, and of the touched ones while a cycle marks.
-    pub(crate) reached: Vec<u64>,
-    pub(crate) touched: Vec<u64>,
+    pub reached: Vec<u64>,
+    pub touched: Vec<u64>,
 
     /// The links that stand.
-    pub(crate) links: Vec<Link>,
+    pub links: Vec<Link>,
 
-    pub(crate) is_marking: bool,
-    pub(crate) count: u64,
+    pub is_marking: bool,
+    pub count: u64,
 }
 
 impl Truth {
