@@ -77,7 +77,8 @@ fn add_word(words: &mut Vec<Numbered>, core: &Core, address: u64) -> Result<(), 
     words.push(Numbered {
         number: place_of(address),
         word,
-    })
+    })?;
+    Ok(())
 }
 
 /// The words of objects that the event wrote, as they are now, where these links are gone.
