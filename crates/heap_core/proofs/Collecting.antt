@@ -76,7 +76,7 @@ module _ (c : CoreContents) (map : IsMap (length c.store.states) (found_in c.sto
       subst (IsMarked m) f.2 ((closed f.0 there).1 ((closures f.0 there).1 (subst (heap.Closure s (IsMarkedBirth s c.cycle.marker)) (sym f.2) inside)))
 
   -- a page of stray words to the collector is one to the heap
-  pub has_stray : (births : ℕ → Type 0) → ({base : ℕ} → heap.Closure s (IsMarkedBirth s c.cycle.marker) base → heap.Closure s births base)
+  pub has_stray : (births : ℕ → Type 0) → ((base : ℕ) → heap.Closure s (IsMarkedBirth s c.cycle.marker) base → heap.Closure s births base)
       → length c.cycle.marker.dirty ≡ length c.store.states → (p : ℕ) → IsStrayPage (found_in c.store.states) c.store.words (root_words_of c.roots) c.cycle.marker p → HasStray s births p
   has_stray births among pages p x =
       let f = x.object in
@@ -88,7 +88,7 @@ module _ (c : CoreContents) (map : IsMap (length c.store.states) (found_in c.sto
         object = o.0;
         has = o.1;
         normal = o.2.kind ∙ x.normal;
-        reached = among ((closures f x.is).0 x.reached);
+        reached = among f.base ((closures f x.is).0 x.reached);
         index = x.index;
         inside = omega arith;
         on = x.on;
@@ -100,8 +100,8 @@ module _ (c : CoreContents) (map : IsMap (length c.store.states) (found_in c.sto
       }
 
   -- where nothing was marked, the closure is what is reached
-  pub reached_alone : IsBlank (length c.store.states) c.cycle.marker → {base : ℕ} → heap.Closure s (IsMarkedBirth s c.cycle.marker) base → Reached s base
-  reached_alone blank inside = closure_mono s (IsMarkedBirth s c.cycle.marker) (λ _. ⊥) (λ b m. false≢true (sym (blank.marks.clear (granule m.base)) ∙ m.marked)) inside
+  pub reached_alone : IsBlank (length c.store.states) c.cycle.marker → (base : ℕ) → heap.Closure s (IsMarkedBirth s c.cycle.marker) base → Reached s base
+  reached_alone blank base inside = closure_mono s (IsMarkedBirth s c.cycle.marker) (λ _. ⊥) (λ b m. false≢true (sym (blank.marks.clear (granule m.base)) ∙ m.marked)) inside
 
   -- what is forgotten was an object, outside of the closure
   forgotten : (t' : Store) (n : ℕ) (marks : List Bool) (x : ForgetsUnreached c.store (root_words_of c.roots) c.cycle.marker n marks t') (base : ℕ) → Contains x.bases base
@@ -171,7 +171,7 @@ module _ (c : CoreContents) (map : IsMap (length c.store.states) (found_in c.sto
       record {
         bases = x.bases;
         takes = takes_out t' n y.marker.marks x;
-        all = λ base o has n'. goes t' n y.marker.marks x base o has (λ inside. n' (reached_alone blank inside));
+        all = λ base o has n'. goes t' n y.marker.marks x base o has (λ inside. n' (reached_alone blank base inside));
       },
       stands_without,
     )

@@ -117,7 +117,7 @@ ends_cycle c t1 t' m count n ls' map swept x cells pending done pages traces cou
       forgets = λ s h. ends c map swept s h t1 t'.words _ n x map' along.words;
       cells = record { less = cells.less; small = cells.small };
       pending = pending;
-      strays = λ s h p has. ⊎_elim (λ old. inl old) (λ o. inr (has_stray c map swept s h (IsMarkedBirth s c.cycle.marker) (λ inside. inside) pages p o)) (traces.strays p has);
+      strays = λ s h p has. ⊎_elim (λ old. inl old) (λ o. inr (has_stray c map swept s h (IsMarkedBirth s c.cycle.marker) (λ base inside. inside) pages p o)) (traces.strays p has);
     }))
 
 -- a collection sweeps, and drops the marks, first
