@@ -8,7 +8,15 @@ unsafe extern "C" {
     fn GC_malloc(bytes: usize) -> *mut c_void;
     fn GC_malloc_atomic(bytes: usize) -> *mut c_void;
     fn GC_gcollect();
+    fn GC_enable_incremental();
+    fn GC_set_time_limit(milliseconds: u64);
+    fn GC_set_full_freq(collections: i32);
+    fn GC_start_incremental_collection();
+    fn GC_get_gc_no() -> u64;
 }
+
+// No limit to a step of an incremental collection: each is a whole one, its generational mode.
+const TIME_UNLIMITED: u64 = 999_999;
 
 static mut ROOTS: [u64; 16] = [0; 16];
 
@@ -16,6 +24,7 @@ pub struct Bdwgc;
 
 impl Heap for Bdwgc {
     const HAS_CYCLES: bool = false;
+    const HAS_PARTIAL: bool = true;
 
     fn open(pages: u32) -> Bdwgc {
         unsafe {
@@ -54,5 +63,21 @@ impl Heap for Bdwgc {
     fn collect(&mut self) -> u64 {
         unsafe { GC_gcollect() }
         0
+    }
+
+    fn keep_marks(&mut self) {
+        unsafe {
+            GC_enable_incremental();
+            GC_set_time_limit(TIME_UNLIMITED);
+            GC_set_full_freq(i32::MAX);
+        }
+    }
+
+    fn collect_new(&mut self) {
+        unsafe {
+            let before = GC_get_gc_no();
+            GC_start_incremental_collection();
+            assert_eq!(GC_get_gc_no(), before + 1);
+        }
     }
 }

@@ -277,6 +277,7 @@ fn list_of(class: usize, pointer_free: bool) -> usize {
 
 impl Heap for Independent {
     const HAS_CYCLES: bool = true;
+    const HAS_PARTIAL: bool = false;
 
     // Page 0 is left out, so that a cursor of 0 is none.
     fn open(pages: u32) -> Independent {

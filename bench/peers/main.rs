@@ -11,6 +11,9 @@ pub trait Heap {
     /// Whether the marking can be had in steps.
     const HAS_CYCLES: bool;
 
+    /// Whether a cycle can begin with the marks of the last one.
+    const HAS_PARTIAL: bool;
+
     /// A heap of so many pages of 4,096 bytes.
     fn open(pages: u32) -> Self;
 
@@ -35,6 +38,14 @@ pub trait Heap {
 
     /// A whole collection at once; how many objects went, if the heap tells.
     fn collect(&mut self) -> u64;
+
+    /// From now on stores are told, so that a cycle can begin with the marks of the last one.
+    fn keep_marks(&mut self) {}
+
+    /// A whole cycle at once that begins with the marks of the last one.
+    fn collect_new(&mut self) {
+        unreachable!()
+    }
 }
 
 fn main() {

@@ -17,6 +17,7 @@ unsafe extern "C" {
     fn mpheap_alloc_pointer_free_base(heap: *mut Handle, slot: u8, into: u8, words: u64, base: *mut u64) -> u32;
     fn mpheap_collect(heap: *mut Handle, count: *mut u64) -> u32;
     fn mpheap_begin(heap: *mut Handle) -> u32;
+    fn mpheap_begin_partial(heap: *mut Handle) -> u32;
     fn mpheap_roots(heap: *mut Handle) -> u32;
     fn mpheap_mark(heap: *mut Handle, most: u64, count: *mut u64) -> u32;
     fn mpheap_retrace(heap: *mut Handle, count: *mut u64) -> u32;
@@ -28,6 +29,7 @@ unsafe extern "C" {
 pub struct Proved {
     heap: Handle,
     marking: bool,
+    keeps_marks: bool,
 }
 
 // A call that can't be refused here.
@@ -37,6 +39,7 @@ fn done(status: u32) {
 
 impl Heap for Proved {
     const HAS_CYCLES: bool = true;
+    const HAS_PARTIAL: bool = true;
 
     fn open(pages: u32) -> Proved {
         let mut heap = Handle { core: std::ptr::null_mut() };
@@ -45,7 +48,7 @@ impl Heap for Proved {
             done(mpheap_open_mapped(pages, &mut heap));
             done(mpheap_attach(&mut heap, &mut slot));
         }
-        Proved { heap, marking: false }
+        Proved { heap, marking: false, keeps_marks: false }
     }
 
     fn alloc(&mut self, root: usize, words: u64, pointer_free: bool) -> u64 {
@@ -61,7 +64,7 @@ impl Heap for Proved {
 
     fn store(&mut self, at: u64, word: u64) {
         unsafe {
-            if self.marking {
+            if self.marking || self.keeps_marks {
                 mpheap_written(&mut self.heap, at);
             }
             *(at as *mut u64) = word;
@@ -106,6 +109,15 @@ impl Heap for Proved {
         unsafe { done(mpheap_collect(&mut self.heap, &mut count)) }
         self.marking = false;
         count
+    }
+
+    fn keep_marks(&mut self) {
+        self.keeps_marks = true;
+    }
+
+    fn collect_new(&mut self) {
+        unsafe { done(mpheap_begin_partial(&mut self.heap)) }
+        self.finish();
     }
 }
 

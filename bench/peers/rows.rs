@@ -226,6 +226,44 @@ fn pause<H: Heap>(stores: u64) -> Option<(u64, u64)> {
     Some((timed(1, || gone = heap.finish()), gone))
 }
 
+// 1,000 objects of two words come beside 100,000 old ones, and one in ten of them stays; then a collection, full or from the marks of the
+// last one. A round, all in all.
+fn collect_beside_new<H: Heap>(is_partial: bool) -> Option<(u64, u64)> {
+    if is_partial && !H::HAS_PARTIAL {
+        return None;
+    }
+    let mut heap = H::open(PAGES);
+    if is_partial {
+        heap.keep_marks();
+    }
+    list(&mut heap, 0, 100_000, 2);
+    heap.collect();
+    let mut kept = 0;
+    let rounds = 10;
+    let cost = timed(rounds, || {
+        for _ in 0..rounds {
+            for i in 0..1000 {
+                let base = heap.alloc(1, 2, false);
+                if i % 10 == 0 {
+                    heap.store(base, kept);
+                    heap.set_root(2, base);
+                    kept = base;
+                }
+            }
+            match is_partial {
+                true => heap.collect_new(),
+                false => _ = heap.collect(),
+            }
+        }
+    });
+    let mut there = 0;
+    while kept != 0 {
+        kept = load(kept);
+        there += 1;
+    }
+    Some((cost, there))
+}
+
 /// The row of this name; none where there is no such row on this heap.
 pub fn run<H: Heap>(row: &str) -> Option<(u64, u64)> {
     match row {
@@ -241,6 +279,8 @@ pub fn run<H: Heap>(row: &str) -> Option<(u64, u64)> {
         "forget_and_sweep" => forget_and_sweep::<H>(),
         "collect_10000" => Some(collect::<H>(10_000)),
         "collect_100000" => Some(collect::<H>(100_000)),
+        "full_beside_1000_new" => collect_beside_new::<H>(false),
+        "partial_beside_1000_new" => collect_beside_new::<H>(true),
         "pause_0" => pause::<H>(0),
         "pause_10" => pause::<H>(10),
         "pause_100" => pause::<H>(100),

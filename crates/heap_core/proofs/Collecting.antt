@@ -1,5 +1,5 @@
 -- What the collector's view of the objects is to the heap: its closure is the heap's, and what it forgets is what goes.
-use Rattle.std.proofs.Common.{Bool, ◌≡◌, ℕ, List, length, Contains, Some, refl, sym, ap, ◌∙◌, subst, flat_map, ◌++◌}
+use Rattle.std.proofs.Common.{Bool, ◌≡◌, ℕ, List, length, Contains, Some, refl, sym, ap, ◌∙◌, subst, flat_map, ◌++◌, arith}
 use Rattle.std.specs.Prelude.{◌↔◌}
 use Rattle.std.proofs.lemmas.Bool.{false≢true}
 use Rattle.std.proofs.lemmas.List.Elements.{All-contains, All-contains_itself, All-weaker}
@@ -20,14 +20,16 @@ use Rattle.block_map.specs.FoundIn.{found_in}
 use Rattle.block_map.specs.Objects.{IsMap}
 use Rattle.marker.specs.Marking.{Marking, IsMarked, IsBlank}
 use Rattle.marker.specs.Closure.{Closure, AreClosed}
-use Rattle.marker.specs.Growth.{Traces}
+use Rattle.marker.specs.Growth.{Traces, IsStrayPage}
 use Rattle.marker.proofs.Closures.{closure_more}
 use Rattle.heap_view.specs.Shows.{Shows, ShowsHeap, IsMarkedBirth}
 use Rattle.heap_view.proofs.Closures.{marks_agree}
+use Rattle.heap_view.proofs.Shows.{reads_nothing, word_shown}
 use Rattle.roots.specs.Roots.{root_words_of}
 use Rattle.object_space.specs.Store.{Store, IsSwept}
 use Rattle.heap_core.specs.CoreContents.{CoreContents, Cycle}
 use Rattle.heap_core.specs.Standing.{StandsFor, keeps}
+use Rattle.heap_core.specs.Strays.{IsStray, HasStray}
 use Rattle.object_space.specs.Kept.{restrict, kept_in, is_kept}
 use Rattle.object_space.proofs.Kept.{kept_all, kept_map, nothing_pending}
 use Rattle.object_space.proofs.Allocations.{shows_same}
@@ -72,6 +74,34 @@ module _ (c : CoreContents) (map : IsMap (length c.store.states) (found_in c.sto
       let f = found_at base o has in
       let there = ap (found_in c.store.states) f.2 ∙ f.1 in
       subst (IsMarked m) f.2 ((closed f.0 there).1 ((closures f.0 there).1 (subst (heap.Closure s (IsMarkedBirth s c.cycle.marker)) (sym f.2) inside)))
+
+  -- a page of stray words to the collector is one to the heap
+  pub has_stray : (births : ℕ → Type 0) → ((base : ℕ) → heap.Closure s (IsMarkedBirth s c.cycle.marker) base → heap.Closure s births base)
+      → length c.cycle.marker.dirty ≡ length c.store.states → (p : ℕ) → IsStrayPage (found_in c.store.states) c.store.words (root_words_of c.roots) c.cycle.marker p → HasStray s births p
+  has_stray births among pages p x =
+      let f = x.object in
+      let o = all_shown.shown.kept f x.is in
+      let size = o.2.size in let inside = x.inside in let below = x.stray.below in
+      let whole : s.pages ≡ length c.cycle.marker.dirty = h.store.pages ∙ sym pages in
+      record {
+        base = f.base;
+        object = o.0;
+        has = o.1;
+        normal = o.2.kind ∙ x.normal;
+        reached = among f.base ((closures f x.is).0 x.reached);
+        index = x.index;
+        inside = omega arith;
+        on = x.on;
+        stray = subst (IsStray s) (sym (word_shown (found_in c.store.states) (length c.store.states) map c.store.words f o.0 x.is o.2 x.index x.inside)) (record {
+          from = x.stray.from;
+          below = omega arith;
+          nothing = λ b q r. reads_nothing (found_in c.store.states) (length c.store.states) map c.store.words s.objects all_shown.shown _ x.stray.nothing b q r.0 r.1;
+        });
+      }
+
+  -- where nothing was marked, the closure is what is reached
+  pub reached_alone : IsBlank (length c.store.states) c.cycle.marker → (base : ℕ) → heap.Closure s (IsMarkedBirth s c.cycle.marker) base → Reached s base
+  reached_alone blank base inside = closure_mono s (IsMarkedBirth s c.cycle.marker) (λ _. ⊥) (λ b m. false≢true (sym (blank.marks.clear (granule m.base)) ∙ m.marked)) inside
 
   -- what is forgotten was an object, outside of the closure
   forgotten : (t' : Store) (n : ℕ) (marks : List Bool) (x : ForgetsUnreached c.store (root_words_of c.roots) c.cycle.marker n marks t') (base : ℕ) → Contains x.bases base
@@ -135,16 +165,13 @@ module _ (c : CoreContents) (map : IsMap (length c.store.states) (found_in c.sto
     )
 
     -- where nothing was marked, exactly what is not reached goes
-    none_marked : (b : ℕ) → IsBlank (length c.store.states) c.cycle.marker → IsMarkedBirth s c.cycle.marker b → ⊥
-    none_marked b blank m = false≢true (sym (blank.marks.clear (granule m.base)) ∙ m.marked)
-
     pub collects : IsBlank (length c.store.states) c.cycle.marker → (s' : Heap) × CollectsFully s (Count n) s' × StandsFor (record { roots = c.roots; store = record t' { words = words }; cycle = y; links = row' }) s'
     collects blank = (
       without s x.bases,
       record {
         bases = x.bases;
         takes = takes_out t' n y.marker.marks x;
-        all = λ base o has n'. goes t' n y.marker.marks x base o has (λ inside. n' (closure_mono s (IsMarkedBirth s c.cycle.marker) (λ _. ⊥) (λ b m. none_marked b blank m) inside));
+        all = λ base o has n'. goes t' n y.marker.marks x base o has (λ inside. n' (reached_alone blank base inside));
       },
       stands_without,
     )

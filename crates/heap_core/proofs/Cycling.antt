@@ -1,6 +1,7 @@
 -- The calls of the collector, over the core as a whole.
-use Rattle.std.proofs.Common.{◌≡◌, ℕ, ◌+◌, ◌≤◌, ◌%◌, true, false, List, [], length, Contains, refl, sym, ap, ◌∙◌, subst, arith}
+use Rattle.std.proofs.Common.{◌≡◌, ℕ, ◌+◌, ◌≤◌, ◌%◌, true, false, List, [], length, Contains, ⊎_elim, inl, inr, refl, sym, ap, ◌∙◌, subst, arith}
 use Rattle.std.specs.Prelude.{count_by}
+use Rattle.std.proofs.lemmas.Bool.{false≢true}
 use Rattle.block_map.specs.FoundIn.{found_in}
 use Rattle.block_map.specs.Objects.{IsMap}
 use Rattle.heap_spec.specs.Heap.{Heap}
@@ -9,6 +10,7 @@ use Rattle.marker.specs.Closure.{AreClosed}
 use Rattle.marker.specs.Marking.{Marking, IsBlank, IsDone}
 use Rattle.marker.specs.Growth.{Traces}
 use Rattle.marker.specs.Mutations.{BeginsPartial}
+use Rattle.heap_view.specs.Shows.{IsMarkedBirth}
 use Rattle.roots.specs.Roots.{root_words_of}
 use Rattle.object_space.specs.Store.{Store, IsSwept}
 use Rattle.links.specs.declared.row.Link.{Link}
@@ -23,7 +25,7 @@ use Rattle.object_space.proofs.Kept.{kept_same, nothing_pending}
 use Rattle.object_space.proofs.Allocations.{shows_same}
 use Rattle.heap_core.proofs.Calls.{swept_stands}
 use Rattle.heap_core.specs.Collections.{BeginsCycle, BeginsPartialCycle, MarksOn, ClosesMarks, EndsCycle, CollectsAll, SweepsOne}
-use Rattle.heap_core.proofs.Collecting.{grows_within, all_marked, ends, collects}
+use Rattle.heap_core.proofs.Collecting.{grows_within, all_marked, ends, collects, has_stray, reached_alone}
 
 none_in : (w : ℕ) → Contains [] w → ⊥
 none_in w h = let l = h.1 in omega arith
@@ -103,9 +105,10 @@ closes_marks c m map swept traces done closed = record {
 }
 
 pub ends_cycle : (c : CoreContents) (t1 t' : Store) (m : Marking) (count n : ℕ) (ls' : List Link) → IsMap (length c.store.states) (found_in c.store.states) → IsSwept c.store → ForgetsUnreached c.store (root_words_of c.roots) c.cycle.marker n m.marks t1 → KeepsCells c.store t1 → IsPendingAfter t1.states m.marks t1.pending → IsDone m
+    → length c.cycle.marker.dirty ≡ length c.store.states → Traces (found_in c.store.states) c.store.words (root_words_of c.roots) c.cycle.marker m
     → count ≡ (c.cycle.count + 1) % word_end → IsMap (length t1.states) (found_in t1.states) → TakesAlong (kept_in t1.states t1.pending m.marks) c.links t1 t' → ls' ≡ filter (stays (kept_in t1.states t1.pending m.marks)) c.links
     → EndsCycle c n (record { roots = c.roots; store = t'; cycle = record { marker = m; is_marking = false; needs_full = c.cycle.needs_full; count = count }; links = ls' })
-ends_cycle c t1 t' m count n ls' map swept x cells pending done counts map' along same =
+ends_cycle c t1 t' m count n ls' map swept x cells pending done pages traces counts map' along same =
     subst (λ z. EndsCycle c n (record { roots = c.roots; store = z; cycle = record { marker = m; is_marking = false; needs_full = c.cycle.needs_full; count = count }; links = ls' })) (sym (beside_is t1 t' along.beside))
     (subst (λ row. EndsCycle c n (record { roots = c.roots; store = record t1 { words = t'.words }; cycle = record { marker = m; is_marking = false; needs_full = c.cycle.needs_full; count = count }; links = row })) (sym same)
     (record {
@@ -114,19 +117,31 @@ ends_cycle c t1 t' m count n ls' map swept x cells pending done counts map' alon
       forgets = λ s h. ends c map swept s h t1 t'.words _ n x map' along.words;
       cells = record { less = cells.less; small = cells.small };
       pending = pending;
+      strays = λ s h p has. ⊎_elim (λ old. inl old) (λ o. inr (has_stray c map swept s h (IsMarkedBirth s c.cycle.marker) (λ base inside. inside) pages p o)) (traces.strays p has);
     }))
 
 -- a collection sweeps, and drops the marks, first
 pub collects_all : (c : CoreContents) (t : Store) (dropped : Marking) (t1 t' : Store) (m : Marking) (count n : ℕ) (ls' : List Link) → IsMap (length t.states) (found_in t.states) → Sweeps c.store c.cycle.marker.marks t → IsSwept t → IsBlank (length t.states) dropped
-    → ForgetsUnreached t (root_words_of c.roots) dropped n m.marks t1 → IsSwept t1 → IsDone m → count ≡ (c.cycle.count + 1) % word_end
+    → ForgetsUnreached t (root_words_of c.roots) dropped n m.marks t1 → IsSwept t1 → IsDone m
+    → Traces (found_in t.states) t.words (root_words_of c.roots) dropped m → count ≡ (c.cycle.count + 1) % word_end
     → IsMap (length t1.states) (found_in t1.states) → TakesAlong (kept_in t1.states t1.pending m.marks) c.links t1 t' → ls' ≡ filter (stays (kept_in t1.states t1.pending m.marks)) c.links
     → CollectsAll c n (record { roots = c.roots; store = t'; cycle = record { marker = m; is_marking = false; needs_full = false; count = count }; links = ls' })
-collects_all c t dropped t1 t' m count n ls' map sweeps swept blank x swept' done counts map' along same =
+collects_all c t dropped t1 t' m count n ls' map sweeps swept blank x swept' done traces counts map' along same =
     subst (λ z. CollectsAll c n (record { roots = c.roots; store = z; cycle = record { marker = m; is_marking = false; needs_full = false; count = count }; links = ls' })) (sym (beside_is t1 t' along.beside))
     (subst (λ row. CollectsAll c n (record { roots = c.roots; store = record t1 { words = t'.words }; cycle = record { marker = m; is_marking = false; needs_full = false; count = count }; links = row })) (sym same)
     (record {
       needs_full = refl;
       ends = record { roots = refl; phase = refl; count = counts; done = done; marked = x.marked };
       swept = swept';
-      collects = λ s h. collects (record { roots = c.roots; store = t; cycle = record c.cycle { marker = dropped }; links = c.links }) map swept s (stands_still (record c { store = t }) _ swept s (swept_stands c.roots c.store t c.cycle sweeps s h)) t1 t'.words _ n x map' along.words blank;
+      collects = λ s h. collects begun map swept s (stands s h) t1 t'.words _ n x map' along.words blank;
+      strays = λ s h p has. ⊎_elim
+          (λ old. absurd (false≢true (sym (blank.carried.clear p) ∙ old)))
+          (λ o. has_stray begun map swept s (stands s h) (λ _. ⊥) (reached_alone begun map swept s (stands s h) blank) blank.dirty.size p o)
+          (traces.strays p has);
     }))
+  where
+    begun : CoreContents
+    begun = record { roots = c.roots; store = t; cycle = record c.cycle { marker = dropped }; links = c.links }
+
+    stands : (s : Heap) → StandsFor c s → StandsFor begun s
+    stands s h = stands_still (record c { store = t }) _ swept s (swept_stands c.roots c.store t c.cycle sweeps s h)

@@ -1,5 +1,5 @@
 -- What calls of the collector do to a core.
-use Rattle.std.specs.Prelude.{◌≡◌, ℕ, ◌+◌, ◌%◌, ◌<◌, ◌≤◌, Bool, true, false, List, [], length, count_by, Contains, Some, Result, Ok, Err, if◌then◌else◌}
+use Rattle.std.specs.Prelude.{◌≡◌, ℕ, ◌+◌, ◌%◌, ◌<◌, ◌≤◌, Bool, true, false, List, [], length, count_by, Contains, Some, Result, Ok, Err, if◌then◌else◌, ◌⊎◌}
 use Rattle.words.specs.Bits.{Has}
 use Rattle.words.specs.declared.refusal.Refusal.{Refusal}
 use Rattle.words.specs.declared.refusal.Refusal.TheVariants.{WrongPhase, NeedsFull}
@@ -24,6 +24,7 @@ use Rattle.object_space.specs.Kept.{IsPendingAfter}
 use Rattle.object_space.specs.Sweeps.{KeepsCells, SweepsAny}
 use Rattle.block_map.specs.FoundIn.{found_in}
 use Rattle.heap_core.specs.Standing.{StandsFor, objects_of}
+use Rattle.heap_core.specs.Strays.{HasStray}
 
 -- A call of the collector in one phase alone: granted exactly in that phase, refused in the other, and refused it changes
 -- nothing.
@@ -130,20 +131,24 @@ pub record EndsMarking (old new : CoreContents) : Type 0 where
   pub marked : (f : Found) → objects_of new f.base ≡ Some f → IsMarked new.cycle.marker f.base
 
 -- A cycle ends: exactly the objects outside of the closure of the marks go, so many, the small ones only when their pages are
--- swept. The pending pages are then the blocks with an unmarked allocated object.
+-- swept. The pending pages are then the blocks with an unmarked allocated object. Each carried page was carried before, or a
+-- stray word of an object of that closure stands on it.
 pub record EndsCycle (old : CoreContents) (n : ℕ) (new : CoreContents) : Type 0 where
   pub ends : EndsMarking old new
   pub needs_full : new.cycle.needs_full ≡ old.cycle.needs_full
   pub forgets : (s : Heap) → StandsFor old s → (s' : Heap) × ForgetsOutside s (IsMarkedBirth s old.cycle.marker) (Count n) s' × StandsFor new s'
   pub cells : KeepsCells old.store new.store
   pub pending : IsPendingAfter new.store.states new.cycle.marker.marks new.store.pending
+  pub strays : (s : Heap) → StandsFor old s → (p : ℕ) → Has new.cycle.marker.carried p → Has old.cycle.marker.carried p ⊎ HasStray s (IsMarkedBirth s old.cycle.marker) p
 
--- A full collection: exactly the objects that are not reached go, so many, and no page is pending.
+-- A full collection: exactly the objects that are not reached go, so many, and no page is pending. On each carried page a stray
+-- word of a reached object stands.
 pub record CollectsAll (old : CoreContents) (n : ℕ) (new : CoreContents) : Type 0 where
   pub ends : EndsMarking old new
   pub needs_full : new.cycle.needs_full ≡ false
   pub swept : IsSwept new.store
   pub collects : (s : Heap) → StandsFor old s → (s' : Heap) × CollectsFully s (Count n) s' × StandsFor new s'
+  pub strays : (s : Heap) → StandsFor old s → (p : ℕ) → Has new.cycle.marker.carried p → HasStray s (λ _. ⊥) p
 
 -- One page was swept if one was pending: its unmarked objects are gone, no other page has changed, and one fewer is pending,
 -- none of them new. Else nothing has changed. The core stands for what it stood for.

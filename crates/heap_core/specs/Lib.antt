@@ -5,6 +5,7 @@ pub mod Beside
 pub mod KeptAt
 pub mod Looks
 pub mod MutatorCalls
+pub mod Strays
 pub mod Collections
 pub mod Acts
 pub mod Following

@@ -5,6 +5,7 @@ ghost use Rattle.std.specs.Prelude.{◌≡◌, ◌<◌, length};
 ghost use Rattle.block_map.specs.FoundIn.{found_in, IsLawful};
 ghost use Rattle.block_map.specs.States.{IsCut, state_at};
 ghost use Rattle.marker.specs.Marking.{AreMarksObjects, IsDone};
+ghost use Rattle.marker.specs.Growth.{Traces};
 ghost use Rattle.marker.specs.Invariant.{DirtyPageInvariant, CarriedPageInvariant};
 ghost use Rattle.object_space.specs.Store.{IsSwept};
 ghost use Rattle.object_space.specs.Kept.{IsPendingAfter};
@@ -86,6 +87,7 @@ impl ObjectSpace {
         ensures forgets { ForgetsUnreached self.old roots.now marker.old result marker.new.marks self.new }
         ensures cells { KeepsCells self.old self.new }
         ensures pending { IsPendingAfter self.new.states marker.new.marks self.new.pending }
+        ensures traces { Traces (found_in self.old.states) self.old.words roots.now marker.old marker.new }
         ensures done { IsDone marker.new }
         ensures pages { length marker.new.dirty ≡ length self.new.states }
         ensures carries { CarriedPageInvariant (found_in self.old.states) self.old.words marker.old → CarriedPageInvariant (found_in self.new.states) self.new.words marker.new }
@@ -105,6 +107,7 @@ impl ObjectSpace {
         requires invariant { DirtyPageInvariant (found_in self.old.states) self.old.words marker.old }
         ensures forgets { ForgetsUnreached self.old roots.now marker.old result marker.new.marks self.new }
         ensures swept { IsSwept self.new }
+        ensures traces { Traces (found_in self.old.states) self.old.words roots.now marker.old marker.new }
         ensures done { IsDone marker.new }
         ensures pages { length marker.new.dirty ≡ length self.new.states }
         ensures carries { CarriedPageInvariant (found_in self.old.states) self.old.words marker.old → CarriedPageInvariant (found_in self.new.states) self.new.words marker.new }

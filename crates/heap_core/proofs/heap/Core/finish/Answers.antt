@@ -1,4 +1,6 @@
 use Rattle.std.proofs.Common.{◌≡◌, refl, subst, ◌∙◌}
+use Rattle.block_map.specs.FoundIn.{found_in}
+use Rattle.marker.specs.Growth.{Traces}
 use Rattle.roots.specs.Roots.{root_words_of}
 use Rattle.object_space.specs.Sweeps.{ForgetsUnreached}
 use Rattle.heap_core.proofs.Cycling.{ends_cycle}
@@ -13,7 +15,8 @@ returns c =
     rw (← c.self.view_is) (
       c.if-not-self.false,
       ends_cycle _ _ _ _ _ _ _ c.finish-count.ensures.lawful.map (c.self.invariant.traced.swept c.if-not-self.false)
-          (subst (λ rs. ForgetsUnreached c.self.inside.objects rs c.self.inside.marker c.finish-count.result c.finish-count.new.marker.marks c.finish-count.new.self) e c.finish-count.ensures.forgets) c.finish-count.ensures.cells c.finish-count.ensures.pending c.finish-count.ensures.done refl c.take_along.ensures.lawful.map c.take_along.ensures.along c.take_along.ensures.links,
+          (subst (λ rs. ForgetsUnreached c.self.inside.objects rs c.self.inside.marker c.finish-count.result c.finish-count.new.marker.marks c.finish-count.new.self) e c.finish-count.ensures.forgets) c.finish-count.ensures.cells c.finish-count.ensures.pending c.finish-count.ensures.done c.self.invariant.traced.pages
+          (subst (λ rs. Traces (found_in c.self.inside.objects.states) c.self.inside.objects.words rs c.self.inside.marker c.finish-count.new.marker) e c.finish-count.ensures.traces) refl c.take_along.ensures.lawful.map c.take_along.ensures.along c.take_along.ensures.links,
     )
 
 pub invariant_of-self : goal.invariant_of-self
@@ -23,4 +26,5 @@ invariant_of-self c =
     (traced_along _ _ _ _ _ c.take_along.ensures.lawful.map (traced_ended _ _ _ _ c.finish-count.ensures.pages c.finish-count.ensures.objects (λ is. c.finish-count.ensures.carries (c.self.invariant.traced.carried is))) c.take_along.ensures.along)
     c.finish-count.result
     (ends_cycle _ _ _ _ _ _ _ c.finish-count.ensures.lawful.map (c.self.invariant.traced.swept c.if-not-self.false)
-    (subst (λ rs. ForgetsUnreached c.self.inside.objects rs c.self.inside.marker c.finish-count.result c.finish-count.new.marker.marks c.finish-count.new.self) e c.finish-count.ensures.forgets) c.finish-count.ensures.cells c.finish-count.ensures.pending c.finish-count.ensures.done refl c.take_along.ensures.lawful.map c.take_along.ensures.along c.take_along.ensures.links)
+    (subst (λ rs. ForgetsUnreached c.self.inside.objects rs c.self.inside.marker c.finish-count.result c.finish-count.new.marker.marks c.finish-count.new.self) e c.finish-count.ensures.forgets) c.finish-count.ensures.cells c.finish-count.ensures.pending c.finish-count.ensures.done c.self.invariant.traced.pages
+    (subst (λ rs. Traces (found_in c.self.inside.objects.states) c.self.inside.objects.words rs c.self.inside.marker c.finish-count.new.marker) e c.finish-count.ensures.traces) refl c.take_along.ensures.lawful.map c.take_along.ensures.along c.take_along.ensures.links)
