@@ -20,6 +20,19 @@ one_or_none (y ∷ ys) x = ⊎_elim
     (λ other. ⊎_elim (λ c. inl (Contains-append_right (y ∷ []) ys x c)) (λ away. inr (ne_eqb x y other, away)) (one_or_none ys x))
     (cases_eq x y)
 
+-- Where none came to any other slot, each event is one of these slots' or the collector's.
+pub members_of : (pages : ℕ) (history : List MadeEvent) (legal : Legal (Opens pages) StateStep history) (slots : List ℕ) → ((x : ℕ) → x < 16 → AllByRecursion (λ y. nat_eq x y ≡ false) slots → firsts_of x history ≡ 0)
+    → All (λ (e : MadeEvent). Contains slots e.who ⊎ (e.who ≡ 16)) history
+members_of pages history legal slots none = λ k d lt. ⊎_elim
+    (λ (slot : (slice_index_or history k d).who < 16). ⊎_elim
+    (λ c. inl c)
+    (λ away.
+    let who = (slice_index_or history k d).who in
+    absurd (walks_nothing legal.1.0 legal.0 history who slot legal.1.2 (none_at_first legal.1.0 who legal.1.1.nothing) (none who slot away) k d lt refl))
+    (one_or_none slots (slice_index_or history k d).who))
+    (λ collector. inr collector)
+    (walks_who legal.1.0 legal.0 history legal.1.2 k d lt)
+
 module _ (pages : ℕ) (history : List MadeEvent) (legal : Legal (Opens pages) StateStep history) (slots : List ℕ) (distinct : IsDistinct nat_eq slots)
     (came : AllCame slots history) (few : attaches history ≤ length slots) where
   walk : Walks StateStep legal.1.0 history legal.0
@@ -33,16 +46,7 @@ module _ (pages : ℕ) (history : List MadeEvent) (legal : Legal (Opens pages) S
   -- nobody but these slots and the collector
   pub alone_in : AllByRecursion (λ s. s < 16) slots → AreAlone slots history
   alone_in below = record {
-    members = λ k d lt. ⊎_elim
-        (λ (slot : (slice_index_or history k d).who < 16). ⊎_elim
-        (λ c. inl c)
-        (λ away.
-        let who = (slice_index_or history k d).who in
-        let none = no_other slots history who away distinct came few in
-        absurd (walks_nothing legal.1.0 legal.0 history who slot walk (none_at_first legal.1.0 who legal.1.1.nothing) none k d lt refl))
-        (one_or_none slots (slice_index_or history k d).who))
-        (λ collector. inr collector)
-        (walks_who legal.1.0 legal.0 history walk k d lt);
+    members = members_of pages history legal slots (λ x lt away. no_other slots history x away distinct came few);
     lives = All-from_recursion (λ s. own rank_of s history ≡ all_of s history) slots (lives_of slots (each_once slots history distinct came few) below);
     collector = own_after 16 [] history (walks_collector legal.1.0 legal.0 history walk);
   }

@@ -20,3 +20,5 @@ pub mod KnownRegisters
 pub mod OwnObjects
 pub mod Privacy
 pub mod OwnAlone
+pub mod Sums
+pub mod InTurn
