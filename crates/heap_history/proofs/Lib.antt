@@ -22,3 +22,4 @@ pub mod Privacy
 pub mod OwnAlone
 pub mod Sums
 pub mod InTurn
+pub mod OwnInTurn

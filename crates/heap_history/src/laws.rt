@@ -78,3 +78,15 @@ pub fn left_before()
 pub fn nobody_else_came_in_turn()
     ensures { NobodyElseCameInTurn }
 {}
+
+/// Where all that had a part in a history are known, in turn, and those of other slots stored and freed nothing, no call
+/// has a store or a free between it and what its mutator had seen.
+pub fn others_leave_words_in_turn()
+    ensures { OthersLeaveWordsInTurn }
+{}
+
+/// Where all that had a part in a history are known, in turn, and each stored in its own Normal objects alone and freed
+/// none, each loads from these what it last stored there itself.
+pub fn own_words_as_known_in_turn()
+    ensures { OwnWordsAsKnownInTurn }
+{}
