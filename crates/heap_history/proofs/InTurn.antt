@@ -1,7 +1,6 @@
 -- Where no more mutators came than are known, each slot's events are what those that had it did, one after another.
 use Rattle.std.proofs.Common.{◌≡◌, ◌≢◌, ℕ, zero, suc, ◌+◌, ◌<◌, ◌≤◌, ◌==◌, ◌⊎◌, Bool, true, false, cond, not, List, [], ◌∷◌, ◌++◌, length, refl, sym, ap, ◌∙◌, subst, arith, eq-eqb, ne_eqb, true≢false, append_assoc, inl, inr, ⊎_elim}
 use Rattle.std.specs.Prelude.{All}
-use Rattle.std.specs.List.{AllByRecursion}
 use Rattle.std.proofs.lemmas.Bool.{cases_eq}
 use Rattle.std.proofs.lemmas.List.{append-nil}
 use Rattle.std.proofs.lemmas.List.Elements.{All-head, All-tail, All-weaker, filter-append}
@@ -11,13 +10,13 @@ use Rattle.history.proofs.Fronts.{prefix_self, prefix_shorter}
 use Rattle.heap_spec.specs.SequentialObject.{heap_of, Opens, StateStep}
 use Rattle.heap_history.specs.Ranks.{rank_of}
 use Rattle.heap_history.specs.Passes.{MadeEvent, HeapPass, IsLegalPass, IsLegalPast, begins_with_attach}
-use Rattle.heap_history.specs.Alone.{attaches, all_of, slots_of}
+use Rattle.heap_history.specs.Alone.{attaches, all_of, slots_of, CameIn}
 use Rattle.heap_history.specs.InTurn.{came_to, IsBefore, AreInTurn, CameWhole, did_in, AreAloneInTurn}
 use Rattle.heap_history.proofs.Slots.{is_attached}
-use Rattle.heap_history.proofs.Chains.{attached_live, mine_begins}
+use Rattle.heap_history.proofs.Chains.{attached_live}
 use Rattle.heap_history.proofs.Stored.{walks_through}
-use Rattle.heap_history.proofs.Coming.{firsts_of, firsts_more, own_after, own_came, walks_nothing, walks_once, walks_collector}
-use Rattle.heap_history.proofs.Alone.{members_of}
+use Rattle.heap_history.proofs.Coming.{firsts_of, firsts_more, own_after, walks_nothing, walks_once, walks_collector}
+use Rattle.heap_history.proofs.Alone.{members_of, own_is, begun, came_first, all_below, slots_length}
 use Rattle.heap_history.proofs.Gone.{none_of, own_parts}
 use Rattle.heap_history.proofs.Sums.{times, all_counted, times_none, came_is}
 
@@ -61,9 +60,15 @@ none_did x (p ∷ ps) none = by (none_did x ps) (p.slot == x) none
     by rest true h = absurd (omega (arith, h))
     by rest false h = rest (omega (arith, h))
 
--- what a mutator did is its slot's own events in what it has seen
-own_is : (pages : ℕ) (history : List MadeEvent) (p : HeapPass) → CameWhole pages history p → p.mine ≡ own rank_of p.slot p.seen
-own_is pages history p came = ⊎_elim (λ here. here.1.owned.own_is) (λ gone. gone.1.recalls.own_is) came.known
+-- it came, as far as it has seen
+came_of : (pages : ℕ) (history : List MadeEvent) (p : HeapPass) → CameWhole pages history p → CameIn pages history p
+came_of pages history p came = ⊎_elim
+    (λ here. record { mutator = came.mutator; fine = inl here.1; within = subst (λ (l : List MadeEvent). IsPrefix l history) (sym here.0) (prefix_self history) })
+    (λ gone. record { mutator = came.mutator; fine = inr gone.1; within = gone.0 })
+    came.known
+
+pub whole_begun : (pages : ℕ) (history : List MadeEvent) (p : HeapPass) → CameWhole pages history p → begins_with_attach p.mine ≡ true
+whole_begun pages history p came = begun pages history p (came_of pages history p came)
 
 module _ (pages : ℕ) (history : List MadeEvent) (legal : Legal (Opens pages) StateStep history) where
   -- what became of a slot after a beginning of the history at whose end it had no mutator
@@ -72,12 +77,10 @@ module _ (pages : ℕ) (history : List MadeEvent) (legal : Legal (Opens pages) S
   since x lt before more spent within =
       let first = walks_through legal.1.0 legal.0 (before ++ more) within.0 (subst (λ (l : List MadeEvent). Walks StateStep legal.1.0 l legal.0) (sym within.1) legal.1.2) in
       let second = walks_through legal.1.0 first.0 before more first.1 in
-      let vacant : is_attached (heap_of second.0) x ≡ false = attached_live before second.0 x lt (legal.1.0, legal.1.1, second.1) ∙ spent in
-      (walks_nothing second.0 first.0 more x lt second.2 vacant,
-      λ one. own_parts x [] before more ∙ (own_fresh x (own rank_of x before) more (omega (arith, one)) ∙ walks_once second.0 first.0 more x lt second.2 vacant one))
-
-  within_of : (p : HeapPass) → CameWhole pages history p → IsPrefix p.seen history
-  within_of p came = ⊎_elim (λ here. subst (λ (l : List MadeEvent). IsPrefix l history) (sym here.0) (prefix_self history)) (λ gone. gone.0) came.known
+      let vacant : is_attached (heap_of second.0) x ≡ false = attached_live before second.0 x lt (legal.1.0, legal.1.1, second.1) ∙ spent in (
+        walks_nothing second.0 first.0 more x lt second.2 vacant,
+        λ one. own_parts x [] before more ∙ (own_fresh x (own rank_of x before) more (omega (arith, one)) ∙ walks_once second.0 first.0 more x lt second.2 vacant one),
+      )
 
   -- those behind one with the slot came later
   next_of : (x : ℕ) (p : HeapPass) (ps : List HeapPass) → p.slot ≡ x → All (IsBefore p) ps → All (λ (q : HeapPass). q.slot ≡ x → firsts_of x p.seen < firsts_of x q.seen) ps
@@ -94,7 +97,7 @@ module _ (pages : ℕ) (history : List MadeEvent) (legal : Legal (Opens pages) S
       (λ (same : p.slot ≡ x).
       let m = firsts_of x p.seen in
       let up = All-head (λ (q : HeapPass). q.slot ≡ x → n < firsts_of x q.seen) p ps later same in
-      let within = within_of p (All-head (CameWhole pages history) p ps all) in
+      let within = (came_of pages history p (All-head (CameWhole pages history) p ps all)).within in
       let more = firsts_more x p.seen within.0 in
       let whole = ap (firsts_of x) within.1 in
       let next = next_of x p ps same turn.0 in
@@ -119,7 +122,7 @@ module _ (pages : ℕ) (history : List MadeEvent) (legal : Legal (Opens pages) S
       (λ (same : p.slot ≡ x).
       let here = All-head (CameWhole pages history) p ps all in
       let rest = All-tail (CameWhole pages history) p ps all in
-      let seen = within_of p here in
+      let seen = (came_of pages history p here).within in
       let up = All-head (λ (q : HeapPass). q.slot ≡ x → firsts_of x before < firsts_of x q.seen) p ps later same in
       let next = next_of x p ps same turn.0 in
       let one = ap {B = ℕ} (λ (b : Bool). cond b 1 0) (eq-eqb p.slot x same) in
@@ -129,7 +132,7 @@ module _ (pages : ℕ) (history : List MadeEvent) (legal : Legal (Opens pages) S
       let more = fewer_first x before p.seen history within seen up in
       let grown = firsts_parts x before more.0 in
       let is = ap (firsts_of x) more.1 in
-      let mine : p.mine ≡ all_of x more.0 = own_is pages history p here ∙ (ap (λ (n : ℕ). own rank_of n p.seen) same
+      let mine : p.mine ≡ all_of x more.0 = own_is pages history p (came_of pages history p here) ∙ (ap (λ (n : ℕ). own rank_of n p.seen) same
       ∙ (sym (ap (own rank_of x) more.1) ∙ (since x lt before more.0 spent (subst (λ (l : List MadeEvent). IsPrefix l history) (sym more.1) seen)).1 (omega (arith, one, up, most, grown, is, count)))) in
       let upto : all_of x p.seen ≡ all_of x before ++ p.mine = sym (ap (all_of x) more.1) ∙ (filter-append (λ (e : MadeEvent). e.who == x) before more.0 ∙ ap (λ l. all_of x before ++ l) (sym mine)) in
       let did : did_in x (p ∷ ps) ≡ p.mine ++ did_in x ps = ap (λ (b : Bool). cond b (p.mine ++ did_in x ps) (did_in x ps)) (eq-eqb p.slot x same) in
@@ -146,21 +149,6 @@ module _ (pages : ℕ) (history : List MadeEvent) (legal : Legal (Opens pages) S
       ∙ ap (λ l. all_of x before ++ l) (sym (ap (λ (b : Bool). cond b (p.mine ++ did_in x ps) (did_in x ps)) (ne_eqb p.slot x other))))
       (cases_eq p.slot x)
 
--- each came, and its own events begin with that
-pub begun : (pages : ℕ) (history : List MadeEvent) (p : HeapPass) → CameWhole pages history p → begins_with_attach p.mine ≡ true
-begun pages history p came = ⊎_elim (λ here. mine_begins pages p here.1 came.mutator) (λ gone. gone.1.begins) came.known
-
-first_came : (pages : ℕ) (history : List MadeEvent) (p : HeapPass) → CameWhole pages history p → 1 ≤ firsts_of p.slot p.seen
-first_came pages history p came = own_came p.slot p.seen (sym (ap begins_with_attach (own_is pages history p came)) ∙ begun pages history p came)
-
-all_below : (pages : ℕ) (history : List MadeEvent) (passes : List HeapPass) → All (CameWhole pages history) passes → AllByRecursion (λ s. s < 16) (slots_of passes)
-all_below pages history [] all = tt
-all_below pages history (p ∷ ps) all = ((All-head (CameWhole pages history) p ps all).mutator, all_below pages history ps (All-tail (CameWhole pages history) p ps all))
-
-slots_length : (passes : List HeapPass) → length (slots_of passes) ≡ length passes
-slots_length [] = refl
-slots_length (p ∷ ps) = let h = slots_length ps in omega (arith, h)
-
 pub nobody_else : (pages : ℕ) (history : List MadeEvent) (passes : List HeapPass) → Legal (Opens pages) StateStep history → AreInTurn passes → All (CameWhole pages history) passes → attaches history ≤ length passes → AreAloneInTurn passes history
 nobody_else pages history passes legal turn all few = record {
   members = members_of pages history legal (slots_of passes) (λ x lt away. counts x lt ∙ times_none x (slots_of passes) away);
@@ -169,9 +157,10 @@ nobody_else pages history passes legal turn all few = record {
 }
   where
     later : (x : ℕ) → All (λ (q : HeapPass). q.slot ≡ x → 0 < firsts_of x q.seen) passes
-    later x = All-weaker (CameWhole pages history) (λ (q : HeapPass). q.slot ≡ x → 0 < firsts_of x q.seen) (λ q came is. subst (λ (n : ℕ). 1 ≤ firsts_of n q.seen) is (first_came pages history q came)) passes all
+    later x = All-weaker (CameWhole pages history) (λ (q : HeapPass). q.slot ≡ x → 0 < firsts_of x q.seen) (λ q came is. subst (λ (n : ℕ). 1 ≤ firsts_of n q.seen) is (came_first pages history q (came_of pages history q came))) passes all
+
     counts : (x : ℕ) → x < 16 → firsts_of x history ≡ times x (slots_of passes)
-    counts = all_counted 16 (slots_of passes) history (all_below pages history passes all) (λ x. let h = enough pages history legal x 0 passes all turn (later x) (omega arith) in omega (arith, h))
+    counts = all_counted 16 (slots_of passes) history (all_below pages history passes (All-weaker (CameWhole pages history) (CameIn pages history) (came_of pages history) passes all)) (λ x. let h = enough pages history legal x 0 passes all turn (later x) (omega arith) in omega (arith, h))
         (let size = slots_length passes in omega (arith, size, few))
 
 -- what others do leaves a slot as it is

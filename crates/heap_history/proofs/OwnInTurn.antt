@@ -13,7 +13,7 @@ use Rattle.heap_history.specs.Laws.{KeptToOwn}
 use Rattle.heap_history.specs.InTurn.{did_in, AreAloneInTurn}
 use Rattle.heap_history.specs.OwnObjects.{Content, nothing_known, known_after, KeepsToOwn, AllKeepToOwn, IsAsKnown, AreAsKnown}
 use Rattle.heap_history.proofs.Chains.{call_between}
-use Rattle.heap_history.proofs.InTurn.{begun}
+use Rattle.heap_history.proofs.InTurn.{whole_begun}
 use Rattle.heap_history.proofs.OwnAlone.{slots_as_known}
 
 -- the only event with which a slot begins
@@ -81,7 +81,7 @@ each_as_known x known (p ∷ ps) keeps are = ⊎_elim
 
 pub own_as_known : (pages : ℕ) (history : List MadeEvent) (passes : List HeapPass) → Legal (Opens pages) StateStep history → AreAloneInTurn passes history → All (KeptToOwn pages history) passes → All (λ (p : HeapPass). AreAsKnown nothing_known p.mine) passes
 own_as_known pages history passes legal alone kept =
-    let keeps = All-weaker (KeptToOwn pages history) Keeps (λ p k. (begun pages history p (record { mutator = k.mutator; known = k.known }), k.kept)) passes kept in
+    let keeps = All-weaker (KeptToOwn pages history) Keeps (λ p k. (whole_begun pages history p (record { mutator = k.mutator; known = k.known }), k.kept)) passes kept in
     let are = slots_as_known pages history legal (λ x lt. subst (λ (es : List MadeEvent). AllKeepToOwn nothing_known es) (sym (alone.slots x lt)) (slot_keeps x nothing_known passes keeps)) in
     λ k d below.
     let p : HeapPass = slice_index_or passes k d in

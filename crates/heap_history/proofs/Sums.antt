@@ -1,12 +1,13 @@
 -- Where as many mutators came to each slot as are known at least, and no more in all, as many came to each.
-use Rattle.std.proofs.Common.{◌≡◌, ◌≢◌, ℕ, zero, suc, ◌+◌, ◌<◌, ◌≤◌, ◌==◌, ◌⊎◌, Bool, false, cond, List, [], ◌∷◌, ◌++◌, length, refl, sym, ap, ◌∙◌, arith, eq-eqb, ne_eqb, true≢false, inl, inr, ⊎_elim}
+use Rattle.std.proofs.Common.{◌≡◌, ℕ, zero, suc, ◌+◌, ◌<◌, ◌≤◌, ◌==◌, ◌⊎◌, Bool, false, cond, List, [], ◌∷◌, length, refl, sym, ap, ◌∙◌, subst, arith, eq-eqb, ne_eqb, true≢false, inl, inr, ⊎_elim}
 use Rattle.std.specs.Prelude.{nat_eq}
-use Rattle.std.specs.List.{AllByRecursion}
+use Rattle.std.specs.List.{AllByRecursion, IsDistinct}
 use Rattle.std.proofs.lemmas.Bool.{cases_eq}
+use Rattle.std.proofs.lemmas.Map.Keys.{IsDistinct-head, IsDistinct-tail}
 use Rattle.heap_history.specs.Passes.{MadeEvent}
 use Rattle.heap_history.specs.Alone.{attaches, all_of}
 use Rattle.heap_history.specs.InTurn.{came_to}
-use Rattle.heap_history.proofs.Coming.{came, firsts_of}
+use Rattle.heap_history.proofs.Coming.{came, firsts_of, AllCame}
 
 -- how often a slot is one of these
 abbrev pub times : ℕ → List ℕ → ℕ
@@ -100,6 +101,21 @@ times_none x (s ∷ slots) away =
   where
     sym_eqb : (s x : ℕ) → nat_eq x s ≡ false → (s == x) ≡ false
     sym_eqb s x e = ne_eqb s x (λ same. true≢false (sym (eq-eqb x s (sym same)) ∙ e))
+
+-- different slots, to each of which one came
+pub times_few : (x : ℕ) (slots : List ℕ) (es : List MadeEvent) → IsDistinct nat_eq slots → AllCame slots es → (times x slots ≤ 1) × (times x slots ≤ firsts_of x es)
+times_few x [] es distinct came = (omega arith, omega arith)
+times_few x (s ∷ slots) es distinct came = ⊎_elim
+    (λ (same : s ≡ x).
+    let here = ap {B = ℕ} (λ (b : Bool). cond b 1 0) (eq-eqb s x same) in
+    let none = times_none x slots (subst (λ (k : ℕ). AllByRecursion (λ y. nat_eq k y ≡ false) slots) same (IsDistinct-head nat_eq s slots distinct)) in
+    let one = subst (λ (k : ℕ). 1 ≤ firsts_of k es) same came.0 in
+    (omega (arith, here, none), omega (arith, here, none, one)))
+    (λ other.
+    let here = ap {B = ℕ} (λ (b : Bool). cond b 1 0) (ne_eqb s x other) in
+    let rest = times_few x slots es (IsDistinct-tail nat_eq s slots distinct) came.1 in
+    (omega (arith, here, rest.0), omega (arith, here, rest.1)))
+    (cases_eq s x)
 
 -- how many came to a slot, counted among all events and among its own
 pub came_is : (x : ℕ) (es : List MadeEvent) → came_to x es ≡ firsts_of x es
