@@ -1,4 +1,4 @@
--- Where all that had a part in a history in turn are known and keep to their own objects, each is answered as it is known.
+-- Where all that had a part in turn are known and keep to their own objects, each is answered as it is known.
 use Rattle.std.proofs.Common.{◌≡◌, ℕ, ◌==◌, Bool, true, false, cond, List, [], ◌∷◌, ◌++◌, refl, sym, ap, ◌∙◌, subst, true≢false, eq-eqb, ne_eqb, ⊎_elim}
 use Rattle.std.specs.Prelude.{All, slice_index_or}
 use Rattle.std.proofs.lemmas.Bool.{cases_eq}
