@@ -126,7 +126,7 @@ pub count_own : {pages : ℕ} → (log : List MadeEvent) → Legal (Opens pages)
 count_own {pages = pages} log l = let h = walks_count l.1.0 l.0 log [] l.1.2 in omega arith
 
 -- a first call among others is none
-pub call_between : (call : Call) → is_first (rank_of_call call) ≡ false
+call_between : (call : Call) → is_first (rank_of_call call) ≡ false
 call_between Detach = refl
 call_between _ = refl
 

@@ -4,22 +4,27 @@ use Rattle.std.specs.Prelude.{All, slice_index_or}
 use Rattle.std.proofs.lemmas.Bool.{cases_eq}
 use Rattle.std.proofs.lemmas.List.Elements.{All-nil, All-cons, All-head, All-tail, All-weaker}
 use Rattle.history.specs.Histories.{is_first, Legal}
+use Rattle.heap_spec.specs.declared.call.Call.{Call}
+use Rattle.heap_spec.specs.declared.call.Call.TheVariants.{Detach}
 use Rattle.heap_spec.specs.declared.event.Event.{Event}
 use Rattle.heap_spec.specs.declared.event.Event.TheVariants.{Attach, Mutator, Begin, BeginPartial, Roots, Mark, Retrace, Finish, Sweep, Collect, Number}
 use Rattle.heap_spec.specs.SequentialObject.{Opens, StateStep}
-use Rattle.heap_history.specs.Ranks.{rank_of}
+use Rattle.heap_history.specs.Ranks.{rank_of, rank_of_call}
 use Rattle.heap_history.specs.Passes.{MadeEvent, HeapPass, begins_with_attach}
 use Rattle.heap_history.specs.Laws.{KeptToOwn}
 use Rattle.heap_history.specs.InTurn.{did_in, AreAloneInTurn}
 use Rattle.heap_history.specs.OwnObjects.{Content, nothing_known, known_after, KeepsToOwn, AllKeepToOwn, IsAsKnown, AreAsKnown}
-use Rattle.heap_history.proofs.Chains.{call_between}
 use Rattle.heap_history.proofs.InTurn.{whole_begun}
 use Rattle.heap_history.proofs.OwnAlone.{slots_as_known}
 
 -- the only event with which a slot begins
+call_first : (call : Call) → is_first (rank_of_call call) ≡ true → ⊥
+call_first Detach first = true≢false (sym first)
+call_first _ first = true≢false (sym first)
+
 first_is : (asked : Event) → is_first (rank_of asked) ≡ true → asked ≡ Attach
 first_is Attach first = refl
-first_is (Mutator slot call) first = absurd (true≢false (sym first ∙ call_between call))
+first_is (Mutator slot call) first = absurd (call_first call first)
 first_is Begin first = absurd (true≢false (sym first))
 first_is BeginPartial first = absurd (true≢false (sym first))
 first_is Roots first = absurd (true≢false (sym first))
