@@ -1,10 +1,9 @@
 -- How often a slot's mutator came in a history, and what its own events are then.
-use Rattle.std.proofs.Common.{◌≡◌, ◌≢◌, ℕ, ◌+◌, ◌<◌, ◌≤◌, ◌==◌, ◌⊎◌, Bool, true, false, cond, List, [], ◌∷◌, ◌++◌, length, zero, suc, refl, sym, ap, ◌∙◌, subst, arith, eq-eqb, ne_eqb, true≢false, append_assoc, inl, inr, ⊎_elim}
-use Rattle.std.specs.Prelude.{All, nat_eq}
-use Rattle.std.specs.List.{AllByRecursion, IsDistinct}
+use Rattle.std.proofs.Common.{◌≡◌, ◌≢◌, ℕ, ◌+◌, ◌<◌, ◌≤◌, ◌==◌, ◌⊎◌, Bool, true, false, cond, List, [], ◌∷◌, ◌++◌, zero, suc, refl, sym, ap, ◌∙◌, subst, arith, eq-eqb, ne_eqb, true≢false, append_assoc, inl, inr, ⊎_elim}
+use Rattle.std.specs.Prelude.{All}
+use Rattle.std.specs.List.{AllByRecursion}
 use Rattle.std.proofs.lemmas.Bool.{cases_eq, cases_Bool}
 use Rattle.std.proofs.lemmas.List.{append-nil}
-use Rattle.std.proofs.lemmas.Map.Keys.{IsDistinct-cons, IsDistinct-head, IsDistinct-tail}
 use Rattle.std.proofs.lemmas.List.Elements.{All-nil, All-cons}
 use Rattle.history.specs.Histories.{begins, is_first, own_with, own_from, own, Walks}
 use Rattle.heap_spec.specs.declared.event.Event.{Event}
@@ -13,7 +12,7 @@ use Rattle.heap_spec.specs.declared.reply.Reply.{Reply}
 use Rattle.heap_spec.specs.SequentialObject.{HeapState, heap_of, StateStep}
 use Rattle.heap_history.specs.Ranks.{rank_of}
 use Rattle.heap_history.specs.Passes.{MadeEvent, begins_with_attach}
-use Rattle.heap_history.specs.Alone.{attaches, all_of}
+use Rattle.heap_history.specs.Alone.{all_of}
 use Rattle.heap_history.proofs.Slots.{is_there, is_attached, step_other}
 use Rattle.heap_history.proofs.Chains.{step_collector}
 
@@ -26,76 +25,9 @@ abbrev pub firsts_of : ℕ → List MadeEvent → ℕ
 firsts_of slot [] = 0
 firsts_of slot (e ∷ es) = cond (e.who == slot) (came e) 0 + firsts_of slot es
 
--- how often one came to these slots
-abbrev in_slots : List ℕ → List MadeEvent → ℕ
-in_slots [] es = 0
-in_slots (s ∷ slots) es = firsts_of s es + in_slots slots es
-
-abbrev hits : List ℕ → ℕ → ℕ → ℕ
-hits [] who n = 0
-hits (s ∷ slots) who n = cond (who == s) n 0 + hits slots who n
-
-in_none : (slots : List ℕ) → in_slots slots [] ≡ 0
-in_none [] = refl
-in_none (s ∷ slots) = let h = in_none slots in omega (arith, h)
-
-in_more : (slots : List ℕ) (e : MadeEvent) (es : List MadeEvent) → in_slots slots (e ∷ es) ≡ hits slots e.who (came e) + in_slots slots es
-in_more [] e es = refl
-in_more (s ∷ slots) e es = let h = in_more slots e es in omega (arith, h)
-
-hits_none : (slots : List ℕ) (who n : ℕ) → AllByRecursion (λ y. nat_eq who y ≡ false) slots → hits slots who n ≡ 0
-hits_none [] who n h = refl
-hits_none (s ∷ slots) who n h =
-    let here : hits (s ∷ slots) who n ≡ 0 + hits slots who n = ap (λ (b : Bool). cond b n 0 + hits slots who n) h.0 in
-    let else = hits_none slots who n h.1 in
-    omega (arith, here, else)
-
-hits_few : (slots : List ℕ) (who n : ℕ) → IsDistinct nat_eq slots → hits slots who n ≤ n
-hits_few [] who n d = omega arith
-hits_few (s ∷ slots) who n d = ⊎_elim
-    (λ (same : who ≡ s).
-    let here : hits (s ∷ slots) who n ≡ n + hits slots who n = ap (λ (b : Bool). cond b n 0 + hits slots who n) (eq-eqb who s same) in
-    let else = hits_none slots who n (subst (λ (k : ℕ). AllByRecursion (λ y. nat_eq k y ≡ false) slots) (sym same) (IsDistinct-head nat_eq s slots d)) in
-    omega (arith, here, else))
-    (λ other.
-    let here : hits (s ∷ slots) who n ≡ 0 + hits slots who n = ap (λ (b : Bool). cond b n 0 + hits slots who n) (ne_eqb who s other) in
-    let else = hits_few slots who n (IsDistinct-tail nat_eq s slots d) in
-    omega (arith, here, else))
-    (cases_eq who s)
-
--- to different slots no more came than came in all
-in_few : (slots : List ℕ) (es : List MadeEvent) → IsDistinct nat_eq slots → in_slots slots es ≤ attaches es
-in_few slots [] d = let h = in_none slots in omega (arith, h)
-in_few slots (e ∷ es) d =
-    let a = in_more slots e es in
-    let b = hits_few slots e.who (came e) d in
-    let c = in_few slots es d in
-    omega (arith, a, b, c)
-
+-- one came to each of these slots
 abbrev pub AllCame : List ℕ → List MadeEvent → Type 0
 AllCame slots es = AllByRecursion (λ s. 1 ≤ firsts_of s es) slots
-
-in_many : (slots : List ℕ) (es : List MadeEvent) → AllCame slots es → length slots ≤ in_slots slots es
-in_many [] es h = omega arith
-in_many (s ∷ slots) es h = let one = h.0 in let rest = in_many slots es h.1 in omega (arith, one, rest)
-
-in_once : (slots : List ℕ) (es : List MadeEvent) → AllCame slots es → in_slots slots es ≤ length slots → AllByRecursion (λ s. firsts_of s es ≡ 1) slots
-in_once [] es h few = tt
-in_once (s ∷ slots) es h few =
-    let one = h.0 in
-    let rest = in_many slots es h.1 in
-    (omega (arith, one, rest, few), in_once slots es h.1 (omega (arith, one, few)))
-
--- where no more came than there are slots, one came to each
-pub each_once : (slots : List ℕ) (es : List MadeEvent) → IsDistinct nat_eq slots → AllCame slots es → attaches es ≤ length slots → AllByRecursion (λ s. firsts_of s es ≡ 1) slots
-each_once slots es d h few = let all = in_few slots es d in in_once slots es h (omega (arith, all, few))
-
--- and none to any other
-pub no_other : (slots : List ℕ) (es : List MadeEvent) (x : ℕ) → AllByRecursion (λ y. nat_eq x y ≡ false) slots → IsDistinct nat_eq slots → AllCame slots es → attaches es ≤ length slots → firsts_of x es ≡ 0
-no_other slots es x away d h few =
-    let all = in_few (x ∷ slots) es (IsDistinct-cons nat_eq x slots away d) in
-    let many = in_many slots es h in
-    omega (arith, all, many, few)
 
 -- more may have come later
 pub firsts_more : (slot : ℕ) (es more : List MadeEvent) → firsts_of slot es ≤ firsts_of slot (es ++ more)

@@ -21,7 +21,7 @@ none_of x (e ∷ es) none =
     ap (λ (b : Bool). cond b (e ∷ all_of x es) (all_of x es)) (ne_eqb e.who x (All-head (λ (y : MadeEvent). y.who ≢ x) e es none)) ∙ none_of x es (All-tail (λ (y : MadeEvent). y.who ≢ x) e es none)
 
 -- the events of two parts
-own_parts : (x : ℕ) (mine es more : List MadeEvent) → own_from rank_of x mine (es ++ more) ≡ own_from rank_of x (own_from rank_of x mine es) more
+pub own_parts : (x : ℕ) (mine es more : List MadeEvent) → own_from rank_of x mine (es ++ more) ≡ own_from rank_of x (own_from rank_of x mine es) more
 own_parts x mine [] more = refl
 own_parts x mine (e ∷ es) more = own_parts x (own_with rank_of x mine e) es more
 

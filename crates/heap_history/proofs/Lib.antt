@@ -12,6 +12,7 @@ pub mod Loaded
 pub mod Owning
 pub mod OwnWords
 pub mod Coming
+pub mod Sums
 pub mod Gone
 pub mod OwnRegisters
 pub mod Alone
@@ -20,3 +21,5 @@ pub mod KnownRegisters
 pub mod OwnObjects
 pub mod Privacy
 pub mod OwnAlone
+pub mod InTurn
+pub mod OwnInTurn

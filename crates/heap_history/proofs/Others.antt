@@ -1,8 +1,8 @@
 -- What is known of the others where all that had a part in a history are known.
-use Rattle.std.proofs.Common.{◌≡◌, ◌≢◌, ℕ, ◌<◌, ◌==◌, Bool, true, false, cond, List, [], ◌∷◌, ◌++◌, length, refl, sym, ap, ◌∙◌, subst, arith, eq-eqb, true≢false, append_assoc, ⊎_elim}
+use Rattle.std.proofs.Common.{◌≡◌, ◌≢◌, ℕ, ◌<◌, ◌==◌, Bool, true, false, cond, List, [], ◌∷◌, ◌++◌, length, refl, sym, ap, ◌∙◌, subst, arith, eq-eqb, ne_eqb, true≢false, append_assoc, ⊎_elim}
 use Rattle.std.specs.Prelude.{All, Contains, filter, slice_index_or}
-use Rattle.std.proofs.lemmas.Bool.{cases_Bool}
-use Rattle.std.proofs.lemmas.List.Elements.{All-nil, All-cons, All-head, All-tail, All-map, All-weaker, All-contains}
+use Rattle.std.proofs.lemmas.Bool.{cases_Bool, cases_eq}
+use Rattle.std.proofs.lemmas.List.Elements.{All-nil, All-cons, All-head, All-tail, All-map, All-weaker, All-append, All-contains}
 use mathlib.Core.List.{IsPrefix}
 use Rattle.history.specs.Histories.{event, own, AreOfOthers, Walks, Legal}
 use Rattle.heap_spec.specs.declared.call.Call.{Call}
@@ -15,6 +15,8 @@ use Rattle.heap_history.specs.Ranks.{rank_of}
 use Rattle.heap_history.specs.Passes.{MadeEvent, HeapPass}
 use Rattle.heap_history.specs.Headline.{Looks, Makes}
 use Rattle.heap_history.specs.Alone.{all_of, slots_of, AreAlone}
+use Rattle.heap_history.specs.InTurn.{did_in, AreAloneInTurn}
+use Rattle.heap_history.proofs.Coming.{walks_who}
 use Rattle.heap_history.proofs.Gone.{known_mine}
 use Rattle.heap_history.specs.Laws.{IsNoFreeCall, IsNoFree, LeavesWordsCall, LeavesWords, LeftWords, MakesAfterNoWrite, MakesAfterNoFree}
 
@@ -89,6 +91,18 @@ event_frees Retrace l = tt
 event_frees Sweep l = tt
 event_frees Number l = tt
 
+-- Where others store and free nothing, a call is made undisturbed.
+undisturbed_by : (pages : ℕ) (history : List MadeEvent) (me : ℕ) → All (λ (e : MadeEvent). e.who ≢ me → LeavesWords e.call) history
+    → (old new : HeapPass) (call : Call) (reply : Reply) → old.slot ≡ me → IsPrefix new.seen history → Makes pages old call reply new → MakesAfterNoWrite pages old call reply new × MakesAfterNoFree pages old call reply new
+undisturbed_by pages history me left old new call reply is within makes =
+    let ext = makes.extends in
+    let e = event old.slot (Mutator old.slot call) reply in
+    let parts : history ≡ old.seen ++ (ext.between ++ (e ∷ within.0)) = sym within.1 ∙ (ap (λ l. l ++ within.0) ext.seen ∙ (append_assoc (old.seen ++ ext.between) (e ∷ []) within.0 ∙ append_assoc old.seen ext.between (e ∷ within.0))) in
+    let part : All (λ (x : MadeEvent). x.who ≢ me → LeavesWords x.call) ext.between =
+    all_first (λ (x : MadeEvent). x.who ≢ me → LeavesWords x.call) ext.between (e ∷ within.0) (all_rest (λ (x : MadeEvent). x.who ≢ me → LeavesWords x.call) old.seen (ext.between ++ (e ∷ within.0)) (subst (λ (l : List MadeEvent). All (λ (x : MadeEvent). x.who ≢ me → LeavesWords x.call) l) parts left)) in
+    let words : All (λ (x : MadeEvent). LeavesWords x.call) ext.between = λ k d lt. part k d lt (subst (λ (n : ℕ). (slice_index_or ext.between k d).who ≢ n) is (ext.others k d lt)) in
+    (record { makes = makes; left = words }, record { makes = makes; kept = λ k d lt. event_frees (slice_index_or ext.between k d).call (words k d lt) })
+
 module _ (pages : ℕ) (history : List MadeEvent) (legal : Legal (Opens pages) StateStep history) (me : ℕ) (others : List HeapPass) (alone : AreAlone (me ∷ slots_of others) history)
     (left : All (LeftWords pages history) others) where
   -- one of the others, at this slot
@@ -116,14 +130,29 @@ module _ (pages : ℕ) (history : List MadeEvent) (legal : Legal (Opens pages) S
 
   -- so a call of the one is made undisturbed
   pub undisturbed : (old new : HeapPass) (call : Call) (reply : Reply) → old.slot ≡ me → IsPrefix new.seen history → Makes pages old call reply new → MakesAfterNoWrite pages old call reply new × MakesAfterNoFree pages old call reply new
-  undisturbed old new call reply is within makes =
-      let ext = makes.extends in
-      let e = event old.slot (Mutator old.slot call) reply in
-      let parts : history ≡ old.seen ++ (ext.between ++ (e ∷ within.0)) = sym within.1 ∙ (ap (λ l. l ++ within.0) ext.seen ∙ (append_assoc (old.seen ++ ext.between) (e ∷ []) within.0 ∙ append_assoc old.seen ext.between (e ∷ within.0))) in
-      let part : All (λ (x : MadeEvent). x.who ≢ me → LeavesWords x.call) ext.between =
-      all_first (λ (x : MadeEvent). x.who ≢ me → LeavesWords x.call) ext.between (e ∷ within.0) (all_rest (λ (x : MadeEvent). x.who ≢ me → LeavesWords x.call) old.seen (ext.between ++ (e ∷ within.0)) (subst (λ (l : List MadeEvent). All (λ (x : MadeEvent). x.who ≢ me → LeavesWords x.call) l) parts others_left)) in
-      let words : All (λ (x : MadeEvent). LeavesWords x.call) ext.between = λ k d lt. part k d lt (subst (λ (n : ℕ). (slice_index_or ext.between k d).who ≢ n) is (ext.others k d lt)) in
-      (record { makes = makes; left = words }, record { makes = makes; kept = λ k d lt. event_frees (slice_index_or ext.between k d).call (words k d lt) })
+  undisturbed = undisturbed_by pages history me others_left
+
+-- what those that had another slot did in turn
+left_in : (me x : ℕ) → x ≢ me → (passes : List HeapPass) → All (λ (p : HeapPass). p.slot ≢ me → All (λ (e : MadeEvent). LeavesWords e.call) p.mine) passes → All (λ (e : MadeEvent). LeavesWords e.call) (did_in x passes)
+left_in me x ne [] left = All-nil (λ (e : MadeEvent). LeavesWords e.call)
+left_in me x ne (p ∷ ps) left =
+    let rest = left_in me x ne ps (All-tail (λ (p : HeapPass). p.slot ≢ me → All (λ (e : MadeEvent). LeavesWords e.call) p.mine) p ps left) in
+    ⊎_elim
+    (λ (same : p.slot ≡ x).
+    let mine = All-head (λ (p : HeapPass). p.slot ≢ me → All (λ (e : MadeEvent). LeavesWords e.call) p.mine) p ps left (λ is. ne (sym same ∙ is)) in
+    subst (λ (b : Bool). All (λ (e : MadeEvent). LeavesWords e.call) (cond b (p.mine ++ did_in x ps) (did_in x ps))) (sym (eq-eqb p.slot x same)) (All-append (λ (e : MadeEvent). LeavesWords e.call) p.mine (did_in x ps) mine rest))
+    (λ other. subst (λ (b : Bool). All (λ (e : MadeEvent). LeavesWords e.call) (cond b (p.mine ++ did_in x ps) (did_in x ps))) (sym (ne_eqb p.slot x other)) rest)
+    (cases_eq p.slot x)
+
+pub undisturbed_in_turn : (pages : ℕ) (history : List MadeEvent) (passes : List HeapPass) → Legal (Opens pages) StateStep history → AreAloneInTurn passes history → (me : ℕ)
+    → All (λ (p : HeapPass). p.slot ≢ me → All (λ (e : MadeEvent). LeavesWords e.call) p.mine) passes → (old new : HeapPass) (call : Call) (reply : Reply) → old.slot ≡ me → IsPrefix new.seen history → Makes pages old call reply new
+    → MakesAfterNoWrite pages old call reply new × MakesAfterNoFree pages old call reply new
+undisturbed_in_turn pages history passes legal alone me left = undisturbed_by pages history me (λ k d lt ne. ⊎_elim
+    (λ (slot : (slice_index_or history k d).who < 16).
+    let who = (slice_index_or history k d).who in
+    unfilter (λ (e : MadeEvent). LeavesWords e.call) (λ (e : MadeEvent). e.who == who) history (subst (λ (l : List MadeEvent). All (λ (e : MadeEvent). LeavesWords e.call) l) (sym (alone.slots who slot)) (left_in me who ne passes left)) k d lt (eq-eqb who who refl))
+    (λ collector. walks_leaves legal.1.0 legal.0 history legal.1.2 k d lt collector)
+    (walks_who legal.1.0 legal.0 history legal.1.2 k d lt))
 
 -- a call after a look is a call
 pub looks_makes : (pages : ℕ) (old mid new : HeapPass) (call : Call) (reply : Reply) → Looks pages old mid → Makes pages mid call reply new → Makes pages old call reply new

@@ -14,6 +14,13 @@ use Rattle.heap_history.proofs.Gone.{none_of, known_mine}
 use Rattle.heap_history.proofs.Stored.{reached_fresh}
 use Rattle.heap_history.proofs.Privacy.{Private, walks_as_known}
 
+-- Where all that each slot did keeps to own objects, it is answered as it is known.
+pub slots_as_known : (pages : ℕ) (history : List MadeEvent) → Legal (Opens pages) StateStep history → ((x : ℕ) → x < 16 → AllKeepToOwn nothing_known (all_of x history)) → (x : ℕ) → x < 16 → AreAsKnown nothing_known (all_of x history)
+slots_as_known pages history legal keeps = walks_as_known legal.1.0 legal.0 history legal.1.2 (reached_fresh pages [] legal.1.0 (legal.1.0, legal.1.1, refl)) (λ x d. unknown) private keeps
+  where
+    private : Private (heap_of legal.1.0) (λ x d. unknown)
+    private = record { as_known = λ x d m lt at. tt; apart = λ x y d e m k ltx lty atx aty own. absurd own }
+
 -- what holds of each slot holds of each pass's
 each_slot : (P : ℕ → Type 0) (passes : List HeapPass) → All P (slots_of passes) → All (λ (p : HeapPass). P p.slot) passes
 each_slot P [] all = All-nil (λ (p : HeapPass). P p.slot)
@@ -45,13 +52,10 @@ module _ (pages : ℕ) (history : List MadeEvent) (passes : List HeapPass) (lega
       subst (λ (es : List MadeEvent). AllKeepToOwn nothing_known es) (sym (none_of x history none)) tt)
       (one_or_none (slots_of passes) x)
 
-  private : Private (heap_of legal.1.0) (λ x d. unknown)
-  private = record { as_known = λ x d m lt at. tt; apart = λ x y d e m k ltx lty atx aty own. absurd own }
-
   pub own_as_known : All (λ (p : HeapPass). AreAsKnown nothing_known p.mine) passes
   own_as_known = λ k d below.
       let p : HeapPass = slice_index_or passes k d in
       let mine = kept k d below in
       let among = each_slot (Contains (slots_of passes)) passes (All-contains_itself (slots_of passes)) k d below in
       subst (λ (es : List MadeEvent). AreAsKnown nothing_known es) (sym (mine_is p mine p.slot refl among))
-      (walks_as_known legal.1.0 legal.0 history legal.1.2 (reached_fresh pages [] legal.1.0 (legal.1.0, legal.1.1, refl)) (λ x d. unknown) private slot_keeps p.slot mine.mutator)
+      (slots_as_known pages history legal slot_keeps p.slot mine.mutator)

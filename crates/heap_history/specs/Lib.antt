@@ -5,3 +5,4 @@ pub mod Headline
 pub mod Replies
 pub mod OwnObjects
 pub mod Laws
+pub mod InTurn

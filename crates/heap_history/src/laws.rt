@@ -1,5 +1,6 @@
 //! What follows from the headline for a caller, whatever others do. Each law is a function that does nothing, and its contract is the law.
 ghost use Rattle.heap_history.specs.Laws.{SeenIsLegal, OwnLoadAnswers, OwnRegisterAnswers, OwnObjectStays, OwnWordStays, OwnObjectsApart, MineBegins, CountGrows, NobodyElseCame, LooksThenMakes, OthersLeaveWords, OwnWordsAsKnown};
+ghost use Rattle.heap_history.specs.InTurn.{LeftBefore, NobodyElseCameInTurn, OthersLeaveWordsInTurn, OwnWordsAsKnownInTurn};
 
 /// What a pass has seen is a legal history of the sequential heap.
 pub fn seen_is_legal()
@@ -65,4 +66,27 @@ pub fn others_leave_words()
 /// loads from these what it last stored there itself.
 pub fn own_words_as_known()
     ensures { OwnWordsAsKnown }
+{}
+
+/// A mutator that left was there before one that has seen all that it had.
+pub fn left_before()
+    ensures { LeftBefore }
+{}
+
+/// Where no more mutators came in a history than are known, which had their slots in turn, nobody else had a part in it,
+/// and what a slot did is what they did there, one after another.
+pub fn nobody_else_came_in_turn()
+    ensures { NobodyElseCameInTurn }
+{}
+
+/// Where all that had a part in a history are known, in turn, and those of other slots stored and freed nothing, no call
+/// has a store or a free between it and what its mutator had seen.
+pub fn others_leave_words_in_turn()
+    ensures { OthersLeaveWordsInTurn }
+{}
+
+/// Where all that had a part in a history are known, in turn, and each stored in its own Normal objects alone and freed
+/// none, each loads from these what it last stored there itself.
+pub fn own_words_as_known_in_turn()
+    ensures { OwnWordsAsKnownInTurn }
 {}

@@ -15,6 +15,9 @@
 //! Once a client knows all passes of as many mutators as came, nobody else had a part (`nobody_else_came`), and what others did
 //! between its calls follows: where they stored and freed nothing (`others_leave_words`), or each stored in its own Normal objects
 //! alone and freed none (`own_words_as_known`).
+//!
+//! Where a slot is used again, the mutators that had it stand in the order in which they did (`left_before` says of two which was
+//! there before), and the same follows: `nobody_else_came_in_turn`, `others_leave_words_in_turn`, `own_words_as_known_in_turn`.
 #![tactic(auto)]
 
 pub mod laws;

@@ -52,7 +52,7 @@ impl<'a, J: Naming, R: Wait> Drop for Attached<'a, J, R> {
 }
 
 // The register of the object, and that of words.
-fn registers() -> (Reg, Reg)
+pub(crate) fn registers() -> (Reg, Reg)
     ensures { (result.0 ≡ 1) × (result.1 ≡ 2) }
 {
     let (Some(object), Some(word)) = (Reg::new(1), Reg::new(2)) else {
@@ -62,7 +62,7 @@ fn registers() -> (Reg, Reg)
 }
 
 // Puts the word into a new object.
-fn put<J: Naming>(
+pub(crate) fn put<J: Naming>(
     rt: &impl Wait,
     heap: &SharedHeap<J>,
     me: &mut Mutator<J>,
