@@ -6,7 +6,7 @@ use Rattle.history.specs.Histories.{count, Legal}
 use Rattle.heap_spec.specs.declared.call.Call.{Call}
 use Rattle.heap_spec.specs.declared.call.Call.TheVariants.{Detach, Set, Copy, Add, Sub, Get, Push, Pop, Load, Store, Alloc, Free, Base, Size, GlobalGet, GlobalPut, Link, Unlink}
 use Rattle.heap_spec.specs.declared.event.Event.{Event}
-use Rattle.heap_spec.specs.declared.event.Event.TheVariants.{Mutator, Finish, Collect}
+use Rattle.heap_spec.specs.declared.event.Event.TheVariants.{Attach, Mutator, Begin, BeginPartial, Roots, Mark, Retrace, Finish, Sweep, Collect, Number}
 use Rattle.heap_spec.specs.declared.reply.Reply.{Reply}
 use Rattle.heap_spec.specs.declared.reply.Reply.TheVariants.{Done, Word}
 use Rattle.heap_spec.specs.Runs.{Told}
@@ -37,8 +37,17 @@ IsNoFreeCall _ = Unit {0}
 
 -- and an event that does not: a cycle may be one
 abbrev pub IsNoFree : Event → Type 0
+IsNoFree Attach = Unit {0}
 IsNoFree (Mutator slot call) = IsNoFreeCall call
-IsNoFree _ = Unit {0}
+IsNoFree Begin = Unit {0}
+IsNoFree BeginPartial = Unit {0}
+IsNoFree Roots = Unit {0}
+IsNoFree (Mark n) = Unit {0}
+IsNoFree Retrace = Unit {0}
+IsNoFree Finish = Unit {0}
+IsNoFree Sweep = Unit {0}
+IsNoFree Collect = Unit {0}
+IsNoFree Number = Unit {0}
 
 -- a call that stores nothing and frees nothing
 abbrev pub LeavesWordsCall : Call → Type 0
@@ -48,14 +57,31 @@ LeavesWordsCall _ = Unit {0}
 
 -- and an event that does neither: a cycle may be one
 abbrev pub LeavesWords : Event → Type 0
+LeavesWords Attach = Unit {0}
 LeavesWords (Mutator slot call) = LeavesWordsCall call
-LeavesWords _ = Unit {0}
+LeavesWords Begin = Unit {0}
+LeavesWords BeginPartial = Unit {0}
+LeavesWords Roots = Unit {0}
+LeavesWords (Mark n) = Unit {0}
+LeavesWords Retrace = Unit {0}
+LeavesWords Finish = Unit {0}
+LeavesWords Sweep = Unit {0}
+LeavesWords Collect = Unit {0}
+LeavesWords Number = Unit {0}
 
 -- an event that is no collection
 abbrev pub IsNoCollection : Event → Type 0
+IsNoCollection Attach = Unit {0}
+IsNoCollection (Mutator slot call) = Unit {0}
+IsNoCollection Begin = Unit {0}
+IsNoCollection BeginPartial = Unit {0}
+IsNoCollection Roots = Unit {0}
+IsNoCollection (Mark n) = Unit {0}
+IsNoCollection Retrace = Unit {0}
 IsNoCollection Finish = ⊥
+IsNoCollection Sweep = Unit {0}
 IsNoCollection Collect = ⊥
-IsNoCollection _ = Unit {0}
+IsNoCollection Number = Unit {0}
 
 -- A call with no store and no free between it and what its caller had seen, whatever else others did.
 pub record MakesAfterNoWrite (pages : ℕ) (old : HeapPass) (call : Call) (reply : Reply) (new : HeapPass) : Type 0 where
