@@ -30,10 +30,10 @@
 //! `find` answers the kept object that a word points into, for every `u64`. `allocate` may sweep, gives an address that has room, and
 //! `None` exactly if none has, and then nothing is pending (`Allocates`, `FindsNoRoom`). `release` takes the object that it is given
 //! (`Loses`), and `sweep` and `sweep_all` none that is kept (`Sweeps`); `close_with` closes the marks with helpers; `finish` and
-//! `collect` forget exactly what the marks and the roots don't reach, say how many (`ForgetsUnreached`), and leave no dirty page and
-//! no entry; after `finish` each small object still has its cell (`KeepsCells`). Of the memory they say that the words of kept
-//! objects stay, and that those of a new object are 0. At any time the free pages are exactly those on which no allocated object lies
-//! (`laws`).
+//! `collect` forget exactly what the marks and the roots don't reach, say how many (`ForgetsUnreached`), leave no dirty page and no
+//! entry, and make only pages carried on which a stray word stands (`Traces`); after `finish` each small object still has its cell
+//! (`KeepsCells`). Of the memory they say that the words of kept objects stay, and that those of a new object are 0. At any time the
+//! free pages are exactly those on which no allocated object lies (`laws`).
 #![tactic(auto)]
 
 mod space;
