@@ -22,7 +22,7 @@ abbrev with_call : (ℕ → List MadeEvent) → Call → Reply → ℕ → List 
 with_call events call reply slot = events slot ++ event slot (Mutator slot call) reply ∷ []
 
 -- what a mutator that kept its word did
-abbrev came : ℕ → List MadeEvent
+abbrev pub came : ℕ → List MadeEvent
 came slot = event slot Attach (Slot slot) ∷ []
 
 abbrev kept : ℕ → ℕ → ℕ → List MadeEvent
