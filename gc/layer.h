@@ -60,6 +60,7 @@ struct layer {
     volatile uint8_t is_closed[MAX_PAGES];
     volatile uint8_t is_noted[MAX_PAGES];
     _Atomic uint64_t uncollectable[MAX_PAGES * PAGE / GRANULE / 64];  // a bit a granule, at the bases of such objects
+    atomic_size_t reserved;            // how many such bits there are, or more
     unsigned long cycles, full, faults;
     double longest_cycle_end, longest_full, full_time;  // microseconds
 };

@@ -53,9 +53,8 @@ bool mpgc_is_uncollectable(uintptr_t base)
 void mpgc_set_uncollectable(uintptr_t base, bool on)
 {
     size_t granule = (base - FIRST) / GRANULE;
-    uint64_t bit = (uint64_t)1 << granule % 64;
-    if (on)
-        atomic_fetch_or(&mpgc.uncollectable[granule / 64], bit);
-    else
-        atomic_fetch_and(&mpgc.uncollectable[granule / 64], ~bit);
+    uint64_t bit = (uint64_t)1 << granule % 64, old;
+    if (on) mpgc.reserved++;  // first, since a handler may collect at any moment
+    old = on ? atomic_fetch_or(&mpgc.uncollectable[granule / 64], bit) : atomic_fetch_and(&mpgc.uncollectable[granule / 64], ~bit);
+    if (old & bit) mpgc.reserved--;
 }

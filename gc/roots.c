@@ -62,12 +62,25 @@ static void push(uint64_t word)
     depth++;
 }
 
-// Every aligned word between the two places.
+static void push_inside(uint64_t word)
+{
+    if (mpgc_is_inside(word)) push(word);
+}
+
+static inline uint64_t least(uint64_t a, uint64_t b) { return a < b ? a : b; }
+
+// Every aligned word between the two places. Most lie outside of the heap, and the least of four distances from its first address
+// tells this of all four.
 UNCHECKED static void scan(const char *from, const char *to)
 {
     const uint64_t *word = (const uint64_t *)(((uintptr_t)from + WORD - 1) & ~(WORD - 1));
-    for (; (const char *)(word + 1) <= to; word++)
-        if (mpgc_is_inside(*word)) push(*word);
+    const uint64_t *end = (const uint64_t *)((uintptr_t)to & ~(WORD - 1));
+    size_t bytes = mpgc.pages * PAGE;
+    for (; word + 4 <= end; word += 4) {
+        uint64_t nearest = least(least(word[0] - FIRST, word[1] - FIRST), least(word[2] - FIRST, word[3] - FIRST));
+        for (size_t k = 0; nearest < bytes && k < 4; k++) push_inside(word[k]);
+    }
+    for (; word < end; word++) push_inside(*word);
 }
 
 // The same, without the excluded ranges from the k-th on.
@@ -144,7 +157,7 @@ static void scan_stack(void)
 
 static void scan_uncollectable(void)
 {
-    for (size_t k = 0; k < mpgc.size * (PAGE / GRANULE / 64); k++)
+    for (size_t k = 0; mpgc.reserved != 0 && k < mpgc.size * (PAGE / GRANULE / 64); k++)
         for (uint64_t bits = mpgc.uncollectable[k]; bits != 0; bits &= bits - 1)
             push(FIRST + (k * 64 + (size_t)__builtin_ctzll(bits)) * GRANULE);
 }
