@@ -23,8 +23,6 @@ mod helped_cycles;
 #[cfg(test)]
 mod linking;
 #[cfg(test)]
-mod overflow;
-#[cfg(test)]
 mod partial_cycles;
 #[cfg(test)]
 mod pause;
@@ -40,6 +38,8 @@ mod random;
 mod refused;
 #[cfg(test)]
 mod refused_helpers;
+#[cfg(test)]
+mod repeated;
 #[cfg(test)]
 mod rows;
 #[cfg(test)]

@@ -21,18 +21,25 @@ fn lines(alloc: Global, replies: &[Reply]) -> Result<Lines<Reply>, AllocError> {
     Ok(lines)
 }
 
-// The replies that print as the text, on one page.
-fn replies(alloc: Global) -> Result<Replies, AllocError> {
+// The replies of three mutators.
+fn mutators(alloc: Global) -> Result<Vec<Lines<Reply>>, AllocError> {
     let words = [
         Reply::Done,
         Reply::Word(268_435_456),
         Reply::Word(268_439_552),
     ];
-    let first = lines(alloc, &words)?;
-    let third = lines(alloc, &[Reply::Refused(Refusal::Full)])?;
+    let full = [Reply::Refused(Refusal::Full)];
+    let mut mutators = Vec::new(alloc);
+    for replies in [words.as_slice(), &[], full.as_slice()] {
+        mutators.push(lines(alloc, replies)?)?;
+    }
+    Ok(mutators)
+}
+
+// The replies that print as the text, on one page.
+fn replies(alloc: Global) -> Result<Replies, AllocError> {
     let collector = lines(alloc, &[Reply::Count(7)])?;
-    let mutators = vec![in alloc; first, Lines::new(alloc), third]?;
-    Ok(Replies::new(mutators, collector))
+    Ok(Replies::new(mutators(alloc)?, collector))
 }
 
 #[test]
