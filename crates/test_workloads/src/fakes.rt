@@ -49,9 +49,10 @@ impl Source for Script<'_> {
             self.faults = self.faults.next();
             return Err(Failed);
         }
-        let n = buf.len().min(self.bytes.len()).min(self.most);
-        buf[..n].copy_from_slice(&self.bytes[..n]);
-        self.bytes = &self.bytes[n..];
+        let most = buf.len().min(self.most);
+        let Ok(n) = self.bytes.read(&mut buf[..most]) else {
+            unreachable!();
+        };
         Ok(n)
     }
 }

@@ -64,8 +64,6 @@ const LINKS: [Row; 9] = [
 #[test]
 fn links_print_their_replies(rt: HostRuntime) -> Result<(), Fail> {
     let mut scene = Scene::new(rt.alloc())?;
-    for row in &LINKS {
-        scene.check_row(&rt, row.name, row.pages, row.script, row.replies);
-    }
+    scene.check_rows(&rt, &LINKS);
     Ok(())
 }

@@ -119,8 +119,6 @@ const PARTIAL: [Row; 18] = [
 #[test]
 fn partial_cycles_print_their_replies(rt: HostRuntime) -> Result<(), Fail> {
     let mut scene = Scene::new(rt.alloc())?;
-    for row in &PARTIAL {
-        scene.check_row(&rt, row.name, row.pages, row.script, row.replies);
-    }
+    scene.check_rows(&rt, &PARTIAL);
     Ok(())
 }

@@ -6,6 +6,7 @@ use scripts::ScriptError;
 use std::alloc::{AllocError, Global};
 use std::process::Abort;
 use std::test::Fail;
+use words::limits::MAX_PAGES;
 use words::{Refusal, Slot};
 use workloads::{Lines, Replies, print_replies};
 
@@ -42,12 +43,16 @@ fn replies(alloc: Global) -> Result<Replies, AllocError> {
     Ok(Replies::new(mutators(alloc)?, collector))
 }
 
+fn print(replies: &Replies, pages: u32, output: &mut Taken) -> Result<(), ScriptError> {
+    print_replies(replies, pages.min(MAX_PAGES), output)
+}
+
 #[test]
 fn replies_are_printed(rt: HostRuntime) -> Result<(), Fail> {
     let replies = replies(rt.alloc())?;
     for most in [1usize, 3, 4_096] {
         let mut output = Taken::limited(rt.alloc(), most, None)?;
-        assert_eq!(rt; print_replies(&replies, 1, &mut output), Ok(()));
+        assert_eq!(rt; print(&replies, 1, &mut output), Ok(()));
         assert_eq!(rt; output.text(), Some(TEXT));
     }
     Ok(())
@@ -58,7 +63,7 @@ fn replies_are_printed(rt: HostRuntime) -> Result<(), Fail> {
 fn no_replies(rt: HostRuntime) -> Result<(), Fail> {
     let replies = Replies::new(Vec::new(rt.alloc()), Lines::new(rt.alloc()));
     let mut output = Taken::new(rt.alloc())?;
-    assert_eq!(rt; print_replies(&replies, 4, &mut output), Ok(()));
+    assert_eq!(rt; print(&replies, 4, &mut output), Ok(()));
     assert_eq!(rt; output.text(), Some("collector\n"));
     Ok(())
 }
@@ -66,10 +71,7 @@ fn no_replies(rt: HostRuntime) -> Result<(), Fail> {
 // What the writer took before its fault stands, and no call of it follows.
 fn check_fault(rt: &impl Abort, alloc: Global, replies: &Replies, call: usize) -> Result<(), Fail> {
     let mut output = Taken::limited(alloc, 1, Some(call))?;
-    assert_eq!(rt;
-        print_replies(replies, 1, &mut output),
-        Err(ScriptError::Write)
-    );
+    assert_eq!(rt; print(replies, 1, &mut output), Err(ScriptError::Write));
     assert_eq!(rt; output.text(), TEXT.get(..call));
     assert_eq!(rt; output.calls, call.saturating_add(1));
     Ok(())

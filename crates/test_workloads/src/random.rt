@@ -3,14 +3,14 @@
 use crate::fakes::{Script, Taken};
 use crate::possible::may_print;
 use crate::runs::{Setting, run};
+use crate::scene::answer_bytes;
 use final_pause::Open;
-use scripts::{ScriptError, run_bytes};
+use scripts::ScriptError;
 use std::alloc::{AllocError, Global};
 use std::process::Abort;
 use std::sync::Wait;
 use std::test::Fail;
 use std::thread::Threads;
-use words::limits::MAX_PAGES;
 use workloads::{RunError, Workload, make_stress};
 
 // So many random lines behind the attaches.
@@ -107,8 +107,7 @@ fn check_alone<R: Threads + Wait + Abort + Sync>(
     pages: u32,
     output: &mut Taken,
 ) {
-    assert!(rt; 1 <= pages && pages <= MAX_PAGES);
-    let (replies, answer) = run_bytes(alloc, script, pages);
+    let (replies, answer) = answer_bytes(alloc, script, pages).expect(rt, "pages");
     assert_eq!(rt; answer, Ok(()));
     let setting = Setting { pages, helpers: 1 };
     let answer = run(rt, alloc, script, setting, &Open, output);

@@ -209,12 +209,13 @@ pub const REPEATED: [Repeated; 10] = [
 
 // The text, in which `#` stands for the number.
 fn put_numbered(into: &mut String, text: &str, number: u32) -> Result<(), AllocError> {
-    let mut rest = text;
-    while let Some((before, behind)) = rest.split_once('#') {
-        write!(into, "{before}{number}")?;
-        rest = behind;
+    for (i, piece) in text.split('#').enumerate() {
+        if i > 0 {
+            write!(into, "{number}")?;
+        }
+        into.push_str(piece)?;
     }
-    into.push_str(rest)
+    Ok(())
 }
 
 /// Puts lines and their replies behind those before, so many times.
