@@ -6,34 +6,25 @@ use scripts::ScriptError;
 use std::process::Abort;
 use std::test::Fail;
 
-// A line is bad behind others, which are answered.
-fn check_behind(
-    rt: &impl Abort,
-    scene: &mut Scene,
-    row: (&str, &str),
-    before: &str,
-    wanted: (&str, Result<(), ScriptError>),
-) -> Result<(), Fail> {
-    let (name, line) = row;
-    let text = format!(in scene.alloc; "{before}{line}\nattach\n")?;
-    let mut input = Script::new(text.as_bytes());
+// A line is bad as the first of its script, and as the second.
+fn check_bad(rt: &impl Abort, scene: &mut Scene, name: &str, line: &str) -> Result<(), Fail> {
+    let first = format!(in scene.alloc; "{line}\nattach\n")?;
+    let mut input = Script::new(first.as_bytes());
+    let wanted = ("", Err(ScriptError::BadLine(1)));
+    scene.check(rt, name, 4, &mut input, wanted);
+
+    let second = format!(in scene.alloc; "attach\n{line}\nattach\n")?;
+    let mut input = Script::new(second.as_bytes());
+    let wanted = ("mutator 0\n", Err(ScriptError::BadLine(2)));
     scene.check(rt, name, 4, &mut input, wanted);
     Ok(())
-}
-
-// A line is bad as the first of its script, and as the second.
-fn check_bad(rt: &impl Abort, scene: &mut Scene, row: (&str, &str)) -> Result<(), Fail> {
-    let first = ("", Err(ScriptError::BadLine(1)));
-    check_behind(rt, scene, row, "", first)?;
-    let second = ("mutator 0\n", Err(ScriptError::BadLine(2)));
-    check_behind(rt, scene, row, "attach\n", second)
 }
 
 #[test]
 fn bad_lines_end_the_script(rt: HostRuntime) -> Result<(), Fail> {
     let mut scene = Scene::new(rt.alloc())?;
-    for row in BAD_LINES {
-        check_bad(&rt, &mut scene, row)?;
+    for (name, line) in &BAD_LINES {
+        check_bad(&rt, &mut scene, name, line)?;
     }
     Ok(())
 }

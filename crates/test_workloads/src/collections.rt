@@ -1,6 +1,6 @@
 //! Scripts with the collector's lines, and what is printed for them. None of the expected texts comes from the program.
 
-use crate::tables::Row;
+use crate::tables::{Repeated, Row};
 
 /// A pointer that moves, while a cycle is marking, to where the marker has been.
 pub const HIDDEN_POINTER: &str =
@@ -150,3 +150,19 @@ pub const COLLECTIONS: [Row; 23] = [
         replies: "mutator 0\nok\nok\nok\nok\n2\n1\n1\n0\n",
     },
 ];
+
+/// A list of a thousand objects, each pointing into the one before.
+pub const THOUSAND_LONG_LIST: Repeated = Repeated {
+    name: "thousand_long_list",
+    pages: 4,
+    before: ("attach\n0 set 1 0\n", "mutator 0\nok\n"),
+    line: (
+        "0 alloc 2 2 normal\n0 store 2 0 1\n0 copy 1 2\n",
+        "ok\nok\nok\n",
+    ),
+    times: 1_000,
+    after: (
+        "0 set 2 0\ngc begin\ngc roots\ngc mark 2000\ngc finish\ngc collect\n",
+        "ok\nok\nok\n2000\n0\n0\n",
+    ),
+};

@@ -49,10 +49,9 @@ impl Source for Script<'_> {
             self.faults = self.faults.next();
             return Err(Failed);
         }
-        let most = buf.len().min(self.most);
-        let Ok(n) = self.bytes.read(&mut buf[..most]) else {
-            unreachable!();
-        };
+        let n = buf.len().min(self.bytes.len()).min(self.most);
+        buf[..n].copy_from_slice(&self.bytes[..n]);
+        self.bytes = &self.bytes[n..];
         Ok(n)
     }
 }

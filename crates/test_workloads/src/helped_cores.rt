@@ -1,5 +1,4 @@
 //! Cores that are marking: by each number of helpers the pause marks what the pause alone marks, and leaves nothing to read.
-use crate::repeated::put_parts;
 use final_pause::{Helpers, Open};
 use heap_core::Core;
 use heap_spec::{Call, Event, Reply};
@@ -11,7 +10,7 @@ use std::sync::Wait;
 use std::test::Fail;
 use std::thread::Threads;
 use words::limits::{FIRST_ADDRESS, GLOBALS, GRANULE_BYTES, MAX_HELPERS, PAGE_GRANULES};
-use words::{OpenError, Refusal, Reg, Slot};
+use words::{Refusal, Reg, Slot};
 use workloads::make_stress;
 
 const PAGES: u32 = 8;
@@ -89,42 +88,20 @@ fn compare(rt: &impl Abort, helped: &mut Core, alone: &mut Core) -> Result<(), F
     Ok(())
 }
 
-// Two cores to which the same calls are made.
-#[derive(Drop)]
-struct Pair {
-    helped: Core,
-    alone: Core,
-}
-
-impl Pair {
-    fn new(alloc: Global) -> Result<Pair, OpenError> {
-        let helped = Core::new(alloc, PAGES)?;
-        let alone = Core::new(alloc, PAGES)?;
-        Ok(Pair { helped, alone })
-    }
-
-    fn run(&mut self, text: &[u8]) -> Result<(), Fail> {
-        run(&mut self.helped, text)?;
-        run(&mut self.alone, text)
-    }
-
-    fn end_alike(&mut self, rt: &impl Abort) {
-        end_alike(rt, &mut self.helped, &mut self.alone);
-    }
-}
-
-// The cycle of one of them ends with so many helpers.
+// Two cores to which the same calls were made, one of them with so many helpers.
 fn check(
     rt: &(impl Abort + Threads + Wait + Sync),
     alloc: Global,
-    pair: &mut Pair,
+    helped: &mut Core,
+    alone: &mut Core,
     text: &[u8],
     number: u8,
 ) -> Result<(), Fail> {
-    pair.run(text)?;
+    run(helped, text)?;
+    run(alone, text)?;
     let helpers = Helpers::new(number).ok_or("a number of helpers")?;
-    assert_eq!(rt; close_with(rt, alloc, &mut pair.helped, helpers), Ok(()));
-    compare(rt, &mut pair.helped, &mut pair.alone)
+    assert_eq!(rt; close_with(rt, alloc, helped, helpers), Ok(()));
+    compare(rt, helped, alone)
 }
 
 // The same on new cores.
@@ -134,8 +111,9 @@ fn check_new(
     text: &[u8],
     number: u8,
 ) -> Result<(), Fail> {
-    let mut pair = Pair::new(alloc).ok().ok_or("two cores")?;
-    check(rt, alloc, &mut pair, text, number)
+    let mut helped = Core::new(alloc, PAGES).ok().ok_or("a core")?;
+    let mut alone = Core::new(alloc, PAGES).ok().ok_or("a core")?;
+    check(rt, alloc, &mut helped, &mut alone, text, number)
 }
 
 // By each number of helpers.
@@ -174,17 +152,19 @@ fn begin_partial(rt: &impl Abort, core: &mut Core) -> Result<(), Fail> {
 fn check_partial(
     rt: &(impl Abort + Threads + Wait + Sync),
     alloc: Global,
-    pair: &mut Pair,
+    helped: &mut Core,
+    alone: &mut Core,
     text: &[u8],
     helpers: Helpers,
 ) -> Result<(), Fail> {
-    pair.run(text)?;
-    assert_eq!(rt; close_with(rt, alloc, &mut pair.helped, helpers), Ok(()));
-    pair.end_alike(rt);
-    begin_partial(rt, &mut pair.helped)?;
-    begin_partial(rt, &mut pair.alone)?;
-    assert_eq!(rt; close_with(rt, alloc, &mut pair.helped, helpers), Ok(()));
-    pair.end_alike(rt);
+    run(helped, text)?;
+    run(alone, text)?;
+    assert_eq!(rt; close_with(rt, alloc, helped, helpers), Ok(()));
+    end_alike(rt, helped, alone);
+    begin_partial(rt, helped)?;
+    begin_partial(rt, alone)?;
+    assert_eq!(rt; close_with(rt, alloc, helped, helpers), Ok(()));
+    end_alike(rt, helped, alone);
     Ok(())
 }
 
@@ -194,74 +174,57 @@ fn check_new_partial(
     text: &[u8],
     number: u8,
 ) -> Result<(), Fail> {
+    let mut helped = Core::new(alloc, PAGES).ok().ok_or("a core")?;
+    let mut alone = Core::new(alloc, PAGES).ok().ok_or("a core")?;
     let helpers = Helpers::new(number).ok_or("a number of helpers")?;
-    let mut pair = Pair::new(alloc).ok().ok_or("two cores")?;
-    check_partial(rt, alloc, &mut pair, text, helpers)
+    check_partial(rt, alloc, &mut helped, &mut alone, text, helpers)
 }
 
 // By each number of helpers.
-fn check_all_partial(
-    rt: &(impl Abort + Threads + Wait + Sync),
-    alloc: Global,
-    text: &[u8],
-) -> Result<(), Fail> {
-    for number in 1..=MAX_HELPERS {
-        check_new_partial(rt, alloc, text, number)?;
-    }
-    Ok(())
-}
-
-fn check_partial_seed(
-    rt: &(impl Abort + Threads + Wait + Sync),
-    alloc: Global,
-    seed: u64,
-) -> Result<(), Fail> {
-    let text = draw(alloc, seed)?;
-    check_all_partial(rt, alloc, text.as_slice())
-}
-
 #[test]
 fn partial_cycles_after_helpers_keep_the_same(rt: HostRuntime) -> Result<(), Fail> {
     for seed in 1..=SEEDS {
-        check_partial_seed(&rt, rt.alloc(), seed)?;
+        let text = draw(rt.alloc(), seed)?;
+        for number in 1..=MAX_HELPERS {
+            check_new_partial(&rt, rt.alloc(), text.as_slice(), number)?;
+        }
     }
     Ok(())
-}
-
-fn check_seed(
-    rt: &(impl Abort + Threads + Wait + Sync),
-    alloc: Global,
-    seed: u64,
-) -> Result<(), Fail> {
-    let text = draw(alloc, seed)?;
-    check_all(rt, alloc, text.as_slice())
 }
 
 #[test]
 fn random_cores_keep_the_same(rt: HostRuntime) -> Result<(), Fail> {
     for seed in 1..=SEEDS {
-        check_seed(&rt, rt.alloc(), seed)?;
+        let text = draw(rt.alloc(), seed)?;
+        check_all(&rt, rt.alloc(), text.as_slice())?;
     }
     Ok(())
 }
 
-// An object of 300 words, each of which points to an object of its own, with its number.
-const WIDE: [(&str, &str, u32); 3] = [
-    ("attach\n0 alloc 1 300 normal\n", "", 1),
-    (
-        "0 alloc 2 2 normal\n0 set 3 #\n0 store 2 0 3\n0 store 1 # 2\n",
-        "",
-        300,
-    ),
-    ("0 set 2 0\ngc begin\ngc roots\n", "", 1),
-];
+// An object with its number, to which a word of the first one points.
+fn put_child(alloc: Global, text: &mut Vec<u8>, child: u32) -> Result<(), Fail> {
+    let lines = format!(in alloc;
+        "0 alloc 2 2 normal\n0 set 3 {child}\n0 store 2 0 3\n0 store 1 {child} 2\n"
+    )?;
+    text.extend_from_slice(lines.as_bytes())?;
+    Ok(())
+}
+
+// An object of 300 words, each of which points to an object of its own.
+fn widen(alloc: Global, text: &mut Vec<u8>) -> Result<(), Fail> {
+    text.extend_from_slice(b"attach\n0 alloc 1 300 normal\n")?;
+    for child in 0..300u32 {
+        put_child(alloc, text, child)?;
+    }
+    text.extend_from_slice(b"0 set 2 0\ngc begin\ngc roots\n")?;
+    Ok(())
+}
 
 #[test]
 fn more_objects_than_entries_are_kept(rt: HostRuntime) -> Result<(), Fail> {
-    let mut text = String::new(rt.alloc());
-    let mut none = String::new(rt.alloc());
-    put_parts(&mut text, &mut none, &WIDE)?;
-    check_all(&rt, rt.alloc(), text.as_bytes())
+    let mut text = Vec::new(rt.alloc());
+    widen(rt.alloc(), &mut text)?;
+    check_all(&rt, rt.alloc(), text.as_slice())
 }
 
 #[test]

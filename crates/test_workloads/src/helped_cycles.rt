@@ -3,7 +3,6 @@
 
 use crate::fakes::Taken;
 use crate::gates::InTurn;
-use crate::repeated::put_parts;
 use crate::runs::{Setting, run};
 use final_pause::COLLECTOR_ACTOR;
 use std::alloc::{AllocError, Global};
@@ -72,19 +71,17 @@ fn what_helpers_carried_is_read(rt: HostRuntime) -> Result<(), Fail> {
 }
 
 // Sixty-four links to one object.
-const FULL_ROW: [(&str, &str, u32); 3] = [
-    (
-        "attach\n0 alloc 1 64 atomic\n0 alloc 2 2 normal\n",
-        "mutator 0\nok\nok\n",
-        1,
-    ),
-    ("0 store 1 # 2\n0 link 1 # 2\n", "ok\nok\n", 64),
-    (
-        "0 set 2 0\n0 load 3 1 0\n0 load 3 1 63\n0 unlink 1 0\ngc begin\ngc finish\n",
-        "ok\n0\n0\n0\ncollector\nok\n1\n",
-        1,
-    ),
-];
+fn put_links(lines: &mut String, printed: &mut String) -> Result<(), AllocError> {
+    lines.push_str("attach\n0 alloc 1 64 atomic\n0 alloc 2 2 normal\n")?;
+    printed.push_str("mutator 0\nok\nok\n")?;
+    for i in 0..64u32 {
+        write!(lines, "0 store 1 {i} 2\n0 link 1 {i} 2\n")?;
+        printed.push_str("ok\nok\n")?;
+    }
+    lines.push_str("0 set 2 0\n0 load 3 1 0\n0 load 3 1 63\n0 unlink 1 0\ngc begin\ngc finish\n")?;
+    printed.push_str("ok\n0\n0\n0\ncollector\nok\n1\n")?;
+    Ok(())
+}
 
 // The object's last pointers are its links' words when a cycle begins, and then the words are loaded.
 fn put_order(order: &mut Vec<u8>) -> Result<(), AllocError> {
@@ -99,7 +96,7 @@ fn helpers_clear_a_full_row_of_links(rt: HostRuntime) -> Result<(), Fail> {
     let mut lines = String::new(rt.alloc());
     let mut printed = String::new(rt.alloc());
     let mut order = Vec::new(rt.alloc());
-    put_parts(&mut lines, &mut printed, &FULL_ROW)?;
+    put_links(&mut lines, &mut printed)?;
     put_order(&mut order)?;
     let mut output = Taken::new(rt.alloc())?;
     let row = Worked {

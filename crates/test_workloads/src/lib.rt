@@ -23,6 +23,8 @@ mod helped_cycles;
 #[cfg(test)]
 mod linking;
 #[cfg(test)]
+mod overflow;
+#[cfg(test)]
 mod partial_cycles;
 #[cfg(test)]
 mod pause;
@@ -38,8 +40,6 @@ mod random;
 mod refused;
 #[cfg(test)]
 mod refused_helpers;
-#[cfg(test)]
-mod repeated;
 #[cfg(test)]
 mod rows;
 #[cfg(test)]

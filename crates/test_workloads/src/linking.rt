@@ -2,6 +2,7 @@
 
 use crate::scene::Scene;
 use crate::tables::Row;
+use std::process::Abort;
 use std::test::Fail;
 
 const LINKS: [Row; 9] = [
@@ -64,6 +65,33 @@ const LINKS: [Row; 9] = [
 #[test]
 fn links_print_their_replies(rt: HostRuntime) -> Result<(), Fail> {
     let mut scene = Scene::new(rt.alloc())?;
-    scene.check_rows(&rt, &LINKS);
+    for row in &LINKS {
+        scene.check_row(&rt, row.name, row.pages, row.script, row.replies);
+    }
     Ok(())
+}
+
+// As many links as there may be, each to the same object, and one more. A cycle then clears those that stand.
+fn check_full(rt: &impl Abort, scene: &mut Scene) -> Result<(), Fail> {
+    let mut script = String::from_str(
+        scene.alloc,
+        "attach\n0 alloc 1 128 atomic\n0 alloc 2 2 normal\n",
+    )?;
+    let mut replies = String::from_str(scene.alloc, "mutator 0\nok\nok\n")?;
+    for i in 0..64u32 {
+        write!(script, "0 store 1 {i} 2\n0 link 1 {i} 2\n")?;
+        replies.push_str("ok\nok\n")?;
+    }
+    script.push_str("0 link 1 64 2\n0 link 1 63 2\n0 unlink 1 0\n0 link 1 64 2\n0 set 2 0\n")?;
+    replies.push_str("refused 10 LinksFull\nok\n1\nok\nok\n")?;
+    script.push_str("gc begin\ngc finish\n0 load 3 1 0\n0 load 3 1 1\n0 load 3 1 63\n")?;
+    replies.push_str("ok\n1\nptr\n0\n0\n")?;
+    scene.check_row(rt, "links_full", 4, script.as_str(), replies.as_str());
+    Ok(())
+}
+
+#[test]
+fn a_full_row_of_links_is_cleared(rt: HostRuntime) -> Result<(), Fail> {
+    let mut scene = Scene::new(rt.alloc())?;
+    check_full(&rt, &mut scene)
 }

@@ -3,6 +3,7 @@
 
 use crate::scene::Scene;
 use crate::tables::Row;
+use std::process::Abort;
 use std::test::Fail;
 
 const PARTIAL: [Row; 18] = [
@@ -119,6 +120,66 @@ const PARTIAL: [Row; 18] = [
 #[test]
 fn partial_cycles_print_their_replies(rt: HostRuntime) -> Result<(), Fail> {
     let mut scene = Scene::new(rt.alloc())?;
-    scene.check_rows(&rt, &PARTIAL);
+    for row in &PARTIAL {
+        scene.check_row(&rt, row.name, row.pages, row.script, row.replies);
+    }
     Ok(())
+}
+
+// Three hundred new objects to which one old object leads, each with its number, which are more than the mark stack holds.
+fn check_overflow(rt: &impl Abort, scene: &mut Scene) -> Result<(), Fail> {
+    let mut script = String::from_str(scene.alloc, "attach\n0 alloc 1 300 normal\ngc collect\n")?;
+    let mut replies = String::from_str(scene.alloc, "mutator 0\nok\n0\n")?;
+    for i in 0..300u32 {
+        write!(
+            script,
+            "0 alloc 2 2 normal\n0 set 3 {i}\n0 store 2 0 3\n0 store 1 {i} 2\n"
+        )?;
+        replies.push_str("ok\nok\nok\nok\n")?;
+    }
+    script.push_str("0 set 2 0\ngc partial\ngc finish\n0 load 4 1 299\n0 load 5 4 0\n0 set 4 0\n")?;
+    replies.push_str("ok\nok\n0\nptr\n299\nok\n")?;
+    script.push_str("0 set 1 0\ngc partial\ngc finish\ngc begin\ngc finish\n")?;
+    replies.push_str("ok\nok\n0\nok\n301\n")?;
+    let name = "overflow_in_a_partial_cycle";
+    scene.check_row(rt, name, 4, script.as_str(), replies.as_str());
+    Ok(())
+}
+
+#[test]
+fn an_overflow_in_a_partial_cycle_loses_nothing(rt: HostRuntime) -> Result<(), Fail> {
+    let mut scene = Scene::new(rt.alloc())?;
+    check_overflow(&rt, &mut scene)
+}
+
+// The addresses of six pages, in the words of an object.
+const STRAY_WORDS: &str =
+    "0 set 3 268435456\n0 store 2 0 3\n0 set 3 268439552\n0 store 2 1 3\n0 set 3 268443648\n0 store 2 2 3\n0 set 3 268447744\n0 store 2 3 3\n0 set 3 268451840\n0 store 2 4 3\n0 set 3 268455936\n0 store 2 5 3\n";
+
+// Three hundred new objects of six words, which fill three pages and lie on a fourth. The last of them, which finds no room on the mark
+// stack, has the addresses of all six pages, and a later object comes to lie on the one that was free.
+fn check_stray_overflow(rt: &impl Abort, scene: &mut Scene) -> Result<(), Fail> {
+    let mut script = String::from_str(scene.alloc, "attach\n0 alloc 1 300 normal\ngc collect\n")?;
+    let mut replies = String::from_str(scene.alloc, "mutator 0\nok\n0\n")?;
+    for i in 0..300u32 {
+        write!(script, "0 alloc 2 6 normal\n0 store 1 {i} 2\n")?;
+        replies.push_str("ok\nok\n")?;
+    }
+    script.push_str(STRAY_WORDS)?;
+    replies.push_str("ok\nok\nok\nok\nok\nok\nok\nok\nok\nok\nok\nok\n")?;
+    script.push_str(
+        "0 set 2 0\n0 set 3 0\ngc partial\ngc finish\n0 alloc 2 512 normal\n0 set 2 0\n",
+    )?;
+    replies.push_str("ok\nok\nok\n0\nok\nok\n")?;
+    script.push_str("gc partial\ngc finish\n0 set 1 0\ngc begin\ngc finish\n")?;
+    replies.push_str("ok\n0\nok\nok\n302\n")?;
+    let name = "overflow_while_carrying";
+    scene.check_row(rt, name, 6, script.as_str(), replies.as_str());
+    Ok(())
+}
+
+#[test]
+fn an_overflow_while_carrying_loses_nothing(rt: HostRuntime) -> Result<(), Fail> {
+    let mut scene = Scene::new(rt.alloc())?;
+    check_stray_overflow(&rt, &mut scene)
 }

@@ -6,7 +6,6 @@ use scripts::ScriptError;
 use std::alloc::{AllocError, Global};
 use std::process::Abort;
 use std::test::Fail;
-use words::limits::MAX_PAGES;
 use words::{Refusal, Slot};
 use workloads::{Lines, Replies, print_replies};
 
@@ -22,29 +21,18 @@ fn lines(alloc: Global, replies: &[Reply]) -> Result<Lines<Reply>, AllocError> {
     Ok(lines)
 }
 
-// The replies of three mutators.
-fn mutators(alloc: Global) -> Result<Vec<Lines<Reply>>, AllocError> {
+// The replies that print as the text, on one page.
+fn replies(alloc: Global) -> Result<Replies, AllocError> {
     let words = [
         Reply::Done,
         Reply::Word(268_435_456),
         Reply::Word(268_439_552),
     ];
-    let full = [Reply::Refused(Refusal::Full)];
-    let mut mutators = Vec::new(alloc);
-    for replies in [words.as_slice(), &[], full.as_slice()] {
-        mutators.push(lines(alloc, replies)?)?;
-    }
-    Ok(mutators)
-}
-
-// The replies that print as the text, on one page.
-fn replies(alloc: Global) -> Result<Replies, AllocError> {
+    let first = lines(alloc, &words)?;
+    let third = lines(alloc, &[Reply::Refused(Refusal::Full)])?;
     let collector = lines(alloc, &[Reply::Count(7)])?;
-    Ok(Replies::new(mutators(alloc)?, collector))
-}
-
-fn print(replies: &Replies, pages: u32, output: &mut Taken) -> Result<(), ScriptError> {
-    print_replies(replies, pages.min(MAX_PAGES), output)
+    let mutators = vec![in alloc; first, Lines::new(alloc), third]?;
+    Ok(Replies::new(mutators, collector))
 }
 
 #[test]
@@ -52,7 +40,7 @@ fn replies_are_printed(rt: HostRuntime) -> Result<(), Fail> {
     let replies = replies(rt.alloc())?;
     for most in [1usize, 3, 4_096] {
         let mut output = Taken::limited(rt.alloc(), most, None)?;
-        assert_eq!(rt; print(&replies, 1, &mut output), Ok(()));
+        assert_eq!(rt; print_replies(&replies, 1, &mut output), Ok(()));
         assert_eq!(rt; output.text(), Some(TEXT));
     }
     Ok(())
@@ -63,7 +51,7 @@ fn replies_are_printed(rt: HostRuntime) -> Result<(), Fail> {
 fn no_replies(rt: HostRuntime) -> Result<(), Fail> {
     let replies = Replies::new(Vec::new(rt.alloc()), Lines::new(rt.alloc()));
     let mut output = Taken::new(rt.alloc())?;
-    assert_eq!(rt; print(&replies, 4, &mut output), Ok(()));
+    assert_eq!(rt; print_replies(&replies, 4, &mut output), Ok(()));
     assert_eq!(rt; output.text(), Some("collector\n"));
     Ok(())
 }
@@ -71,7 +59,10 @@ fn no_replies(rt: HostRuntime) -> Result<(), Fail> {
 // What the writer took before its fault stands, and no call of it follows.
 fn check_fault(rt: &impl Abort, alloc: Global, replies: &Replies, call: usize) -> Result<(), Fail> {
     let mut output = Taken::limited(alloc, 1, Some(call))?;
-    assert_eq!(rt; print(replies, 1, &mut output), Err(ScriptError::Write));
+    assert_eq!(rt;
+        print_replies(replies, 1, &mut output),
+        Err(ScriptError::Write)
+    );
     assert_eq!(rt; output.text(), TEXT.get(..call));
     assert_eq!(rt; output.calls, call.saturating_add(1));
     Ok(())

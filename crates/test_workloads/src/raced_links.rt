@@ -58,40 +58,27 @@ fn are_cycles(printed: &str, cycles: usize, stays: bool) -> bool {
     printed.len() == cycles.saturating_mul(5) && ends == cycles && gone == usize::from(!stays)
 }
 
-// What follows these texts, if the printed one begins with them.
-fn behind<'a>(printed: &'a str, texts: &[&str]) -> Option<&'a str> {
-    let mut rest = printed;
-    for text in texts {
-        let Some(next) = rest.strip_prefix(*text) else {
-            return None;
-        };
-        rest = next;
-    }
-    Some(rest)
-}
-
 // Which of the answers was printed, with so many cycles.
-fn answer_of(printed: &str, cycles: usize) -> Option<usize> {
+fn answer_of(alloc: Global, printed: &str, cycles: usize) -> Result<Option<usize>, AllocError> {
     for (k, answer) in ANSWERS.iter().enumerate() {
         let (first, second, stays) = *answer;
-        let texts = [FIRST, first, "mutator 1\n", second, "collector\n"];
-        let Some(rest) = behind(printed, &texts) else {
+        let wanted = format!(in alloc; "{FIRST}{first}mutator 1\n{second}collector\n")?;
+        let Some(rest) = printed.strip_prefix(wanted.as_str()) else {
             continue;
         };
         if are_cycles(rest, cycles, stays) {
-            return Some(k);
+            return Ok(Some(k));
         }
     }
-    None
+    Ok(None)
 }
 
-// The mutators' lines, and so many cycles.
-fn put_lines(lines: &mut String, cycles: usize) -> Result<(), AllocError> {
-    lines.push_str(MUTATORS)?;
+fn with_cycles(alloc: Global, cycles: usize) -> Result<String, AllocError> {
+    let mut lines = String::from_str(alloc, MUTATORS)?;
     for _ in 0..cycles {
         lines.push_str(CYCLE)?;
     }
-    Ok(())
+    Ok(lines)
 }
 
 // Orders of the calls, and the answer to each.
@@ -109,44 +96,37 @@ const ORDERS: [(&[u8], usize); 5] = [
 fn check_order<R: Threads + Wait + Abort + Sync>(
     rt: &R,
     alloc: Global,
-    lines: &str,
     row: (&[u8], usize),
     helpers: u8,
     output: &mut Taken,
-) {
+) -> Result<(), Fail> {
     let (order, wanted) = row;
     let gate = InTurn::new(order);
+    let lines = with_cycles(alloc, 1)?;
     let setting = Setting {
         pages: PAGES,
         helpers,
     };
-    let answer = run(rt, alloc, lines.as_bytes(), setting, &gate, output);
+    let answer = run(rt, alloc, lines.as_str().as_bytes(), setting, &gate, output);
     assert_eq!(rt; answer, Ok(()));
     assert_eq!(rt; gate.missed.load(Ordering::SeqCst), 0);
     let printed = output.text().unwrap_or("");
-    assert_eq!(rt; answer_of(printed, 1), Some(wanted), "{helpers} helpers");
-}
-
-// By one helper, by two, and by eight.
-fn check_orders<R: Threads + Wait + Abort + Sync>(
-    rt: &R,
-    alloc: Global,
-    lines: &str,
-    output: &mut Taken,
-) {
-    for row in ORDERS {
-        for helpers in [1u8, 2, 8] {
-            check_order(rt, alloc, lines, row, helpers, output);
-        }
-    }
+    assert_eq!(rt;
+        answer_of(alloc, printed, 1)?,
+        Some(wanted),
+        "{helpers} helpers"
+    );
+    Ok(())
 }
 
 #[test]
 fn a_word_is_taken_before_it_is_cleared(rt: HostRuntime) -> Result<(), Fail> {
     let mut output = Taken::new(rt.alloc())?;
-    let mut lines = String::new(rt.alloc());
-    put_lines(&mut lines, 1)?;
-    check_orders(&rt, rt.alloc(), lines.as_str(), &mut output);
+    for row in ORDERS {
+        for helpers in [1u8, 2, 8] {
+            check_order(&rt, rt.alloc(), row, helpers, &mut output)?;
+        }
+    }
     Ok(())
 }
 
@@ -157,7 +137,7 @@ fn check_race<R: Threads + Wait + Abort + Sync>(
     lines: &str,
     cycles: usize,
     output: &mut Taken,
-) {
+) -> Result<(), Fail> {
     let setting = Setting {
         pages: PAGES,
         helpers: 2,
@@ -165,16 +145,16 @@ fn check_race<R: Threads + Wait + Abort + Sync>(
     let answer = run(rt, alloc, lines.as_bytes(), setting, &Open, output);
     assert_eq!(rt; answer, Ok(()));
     let printed = output.text().unwrap_or("");
-    assert!(rt; answer_of(printed, cycles).is_some(), "{printed}");
+    assert!(rt; answer_of(alloc, printed, cycles)?.is_some(), "{printed}");
+    Ok(())
 }
 
 #[test]
 fn no_word_leads_to_an_object_that_left(rt: HostRuntime) -> Result<(), Fail> {
     let mut output = Taken::new(rt.alloc())?;
-    let mut lines = String::new(rt.alloc());
-    put_lines(&mut lines, 8)?;
+    let lines = with_cycles(rt.alloc(), 8)?;
     for _ in 0..200u32 {
-        check_race(&rt, rt.alloc(), lines.as_str(), 8, &mut output);
+        check_race(&rt, rt.alloc(), lines.as_str(), 8, &mut output)?;
     }
     Ok(())
 }

@@ -1,24 +1,11 @@
 //! A run of a script, and what can be seen of it.
 
 use crate::fakes::{Script, Taken};
-use crate::tables::Row;
-use scripts::{ScriptError, run_bytes, run_script};
+use scripts::{ScriptError, run_script};
 use std::alloc::{AllocError, Global};
 use std::process::Abort;
 use std::test::Fail;
 use words::limits::MAX_PAGES;
-
-/// Runs a script from bytes to bytes on so many pages. There is no answer where no heap has as many.
-pub fn answer_bytes(
-    alloc: Global,
-    script: &[u8],
-    pages: u32,
-) -> Option<(Vec<u8>, Result<(), ScriptError>)> {
-    if pages < 1 || MAX_PAGES < pages {
-        return None;
-    }
-    Some(run_bytes(alloc, script, pages))
-}
 
 /// What the scripts of a test are run with.
 #[derive(Drop)]
@@ -67,13 +54,6 @@ impl Scene {
     ) {
         let answer = self.answer(pages, input);
         self.expect(rt, name, answer, wanted);
-    }
-
-    /// The same of each row of a table.
-    pub fn check_rows(&mut self, rt: &impl Abort, rows: &[Row]) {
-        for row in rows {
-            self.check_row(rt, row.name, row.pages, row.script, row.replies);
-        }
     }
 
     /// The same of a script of good lines.

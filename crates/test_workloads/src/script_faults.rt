@@ -61,20 +61,17 @@ fn short_reads(rt: HostRuntime) -> Result<(), Fail> {
     Ok(())
 }
 
-fn answer(alloc: Global, output: &mut Taken) -> Result<(), ScriptError> {
-    let mut input = Script::new(SCRIPT.as_bytes());
-    run_script(alloc, &mut input, output, 4)
-}
-
 // The script gets this answer from the writer, which has taken so much of the replies.
 fn check_written(
     rt: &impl Abort,
     output: &mut Taken,
     alloc: Global,
-    wanted: Result<(), ScriptError>,
+    answer: Result<(), ScriptError>,
     written: Option<&str>,
 ) {
-    assert_eq!(rt; answer(alloc, output), wanted);
+    let mut input = Script::new(SCRIPT.as_bytes());
+    let answered = run_script(alloc, &mut input, output, 4);
+    assert_eq!(rt; answered, answer);
     assert_eq!(rt; output.text(), written);
 }
 
@@ -133,16 +130,6 @@ fn short_writes(rt: HostRuntime) -> Result<(), Fail> {
     Ok(())
 }
 
-fn check_memory(rt: &impl Abort, output: &mut Taken, alloc: Global) {
-    let mut end = answer(alloc, output);
-    if end == Err(ScriptError::Memory) {
-        assert_eq!(rt; output.text(), Some(""));
-        end = answer(alloc, output);
-    }
-    assert_eq!(rt; end, Ok(()));
-    assert_eq!(rt; output.text(), Some(REPLIES));
-}
-
 // Where memory is refused, at whichever request, nothing was written, and the same script run again prints its replies. By
 // itself this runs with ample memory; `rt try --test --fail-alloc N` refuses the N-th request.
 #[test]
@@ -150,6 +137,14 @@ fn refused_memory(rt: HostRuntime) -> Result<(), Fail> {
     let Ok(mut output) = Taken::new(rt.alloc()) else {
         return Ok(());
     };
-    check_memory(&rt, &mut output, rt.alloc());
+    let mut input = Script::new(SCRIPT.as_bytes());
+    let answer = run_script(rt.alloc(), &mut input, &mut output, 4);
+    if answer == Err(ScriptError::Memory) {
+        assert_eq!(rt; output.text(), Some(""));
+        check_written(&rt, &mut output, rt.alloc(), Ok(()), Some(REPLIES));
+        return Ok(());
+    }
+    assert_eq!(rt; answer, Ok(()));
+    assert_eq!(rt; output.text(), Some(REPLIES));
     Ok(())
 }

@@ -1,6 +1,6 @@
 //! Readers and writers of std: an interrupted call is made again, and a failed one isn't.
 
-use scripts::{ScriptError, Sink, Source, Std, run_script};
+use scripts::{ScriptError, Std, run_script};
 use std::alloc::Global;
 use std::io::{self, ErrorKind, Read, Write};
 use std::process::Abort;
@@ -62,14 +62,6 @@ const ROWS: [(
     ),
 ];
 
-fn run<S: Source, W: Sink>(
-    alloc: Global,
-    input: &mut S,
-    output: &mut W,
-) -> Result<(), ScriptError> {
-    run_script(alloc, input, output, 4)
-}
-
 // An empty script from a reader whose first call fails so.
 fn check_reader(
     rt: &impl Abort,
@@ -80,7 +72,7 @@ fn check_reader(
 ) {
     let mut reader = Std::new(Flaky::new(kind));
     let mut output = Std::new(Vec::<u8>::new(alloc));
-    assert_eq!(rt; run(alloc, &mut reader, &mut output), answer);
+    assert_eq!(rt; run_script(alloc, &mut reader, &mut output, 4), answer);
     assert_eq!(rt; reader.inner.calls, calls);
 }
 
@@ -94,7 +86,7 @@ fn check_writer(
 ) {
     let mut input = Std::new("attach\n".as_bytes());
     let mut writer = Std::new(Flaky::new(kind));
-    assert_eq!(rt; run(alloc, &mut input, &mut writer), answer);
+    assert_eq!(rt; run_script(alloc, &mut input, &mut writer, 4), answer);
     assert_eq!(rt; writer.inner.calls, calls);
 }
 

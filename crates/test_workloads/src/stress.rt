@@ -2,8 +2,7 @@
 
 use crate::fakes::Script;
 use crate::rules::mutators_of;
-use crate::scene::answer_bytes;
-use scripts::ScriptError;
+use scripts::{ScriptError, run_bytes};
 use std::alloc::Global;
 use std::process::Abort;
 use workloads::{RunError, make_stress};
@@ -45,7 +44,7 @@ pub fn lines_of(text: &[u8]) -> usize {
 // All lines of a script of 2,003 are answered, and it is a workload of three mutators.
 fn check_lines(rt: &impl Abort, alloc: Global, text: &[u8]) {
     assert_eq!(rt; lines_of(text), 2_003);
-    let (replies, answer) = answer_bytes(alloc, text, 8).expect(rt, "pages");
+    let (replies, answer) = run_bytes(alloc, text, 8);
     assert_eq!(rt; answer, Ok(()));
     assert_eq!(rt; lines_of(replies.as_slice()), 2_003);
     let mutators = mutators_of(alloc, &mut Script::new(text));

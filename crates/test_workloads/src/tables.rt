@@ -8,6 +8,16 @@ pub struct Row {
     pub replies: &'static str,
 }
 
+/// A script that says one line again and again, between others, and what is printed for it.
+pub struct Repeated {
+    pub name: &'static str,
+    pub pages: u32,
+    pub before: (&'static str, &'static str),
+    pub line: (&'static str, &'static str),
+    pub times: usize,
+    pub after: (&'static str, &'static str),
+}
+
 /// Rows of every part.
 pub const ROWS: [Row; 16] = [
     Row {
@@ -105,6 +115,29 @@ pub const ROWS: [Row; 16] = [
         pages: 4,
         script: "attach\n0 alloc 1 2 normal\n0 load 2 1 2305843009213693952\n",
         replies: "mutator 0\nok\n0\n",
+    },
+];
+
+/// Rows that say one line again and again.
+pub const REPEATED: [Repeated; 2] = [
+    Repeated {
+        name: "stack_full",
+        pages: 4,
+        before: ("attach\n", "mutator 0\n"),
+        line: ("0 push 1\n", "ok\n"),
+        times: 256,
+        after: ("0 push 1\n", "refused 7 StackFull\n"),
+    },
+    Repeated {
+        name: "free_cell_again",
+        pages: 1,
+        before: ("attach\n", "mutator 0\n"),
+        line: ("0 alloc 1 2 normal\n", "ok\n"),
+        times: 256,
+        after: (
+            "0 alloc 2 2 normal\n0 free 1\n0 alloc 2 2 normal\n0 alloc 3 2 normal\n",
+            "refused 6 Full\nok\nok\nrefused 6 Full\n",
+        ),
     },
 ];
 

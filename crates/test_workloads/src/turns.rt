@@ -39,10 +39,8 @@ impl Source for Asking<'_> {
         let Some((line, reply)) = TALK.get(self.next) else {
             return Ok(0);
         };
-        let mut bytes = line.as_bytes();
-        let Ok(n) = bytes.read(buf) else {
-            unreachable!();
-        };
+        let n = line.len().min(buf.len());
+        buf[..n].copy_from_slice(&line.as_bytes()[..n]);
         self.answered = self.answered.saturating_add(reply.len());
         self.next = self.next.saturating_add(1);
         Ok(n)
