@@ -5,7 +5,7 @@ use Rattle.words.specs.declared.class.Kind.TheVariants.{Normal}
 use Rattle.heap_spec.specs.declared.call.Call.TheVariants.{Set, Load, Store, Alloc}
 use Rattle.heap_spec.specs.declared.reply.Reply.TheVariants.{Done, Word}
 use Rattle.heap_history.specs.Passes.{MadeEvent, HeapPass, IsLegalPass}
-use Rattle.heap_history.specs.Headline.{Begun, Makes, Departs}
+use Rattle.heap_history.specs.Headline.{Begun, Makes}
 
 -- An object of two words came into register 1, and the word into register 2 and into the object.
 pub record Puts (pages word : ℕ) (old new : HeapPass) : Type 0 where
@@ -20,12 +20,6 @@ pub record PutsAndLoads (pages word loaded : ℕ) (old new : HeapPass) : Type 0 
   pub put : HeapPass
   pub puts : Puts pages word old put
   pub loads : Makes pages put (Load 2 1 0) (Word loaded) new
-
--- And then the mutator left.
-pub record PutsLoadsAndLeaves (pages word loaded : ℕ) (old past : HeapPass) : Type 0 where
-  pub kept : HeapPass
-  pub does : PutsAndLoads pages word loaded old kept
-  pub leaves : Departs pages kept past
 
 -- The mutator did this and nothing else since it came.
 pub record HasKept (pages word loaded : ℕ) (pass : HeapPass) : Type 0 where
