@@ -7,6 +7,7 @@ ghost use Rattle.words.specs.Layout.{IsOnPage, IsOutside};
 ghost use Rattle.block_map.specs.States.{head, state_at};
 ghost use Rattle.block_map.specs.Objects.{IsFoundOrNone, cell_object, large_object};
 ghost use Rattle.block_map.specs.FoundIn.{found_in, found_in_block, found_large, IsLawful};
+ghost use Rattle.block_map.specs.declared.found.Found.{Found};
 
 use crate::found::Found;
 use crate::map::BlockMap;
@@ -26,6 +27,21 @@ impl BlockMap {
         ensures lawful { IsLawful self.now }
     {
         self.look_up(w)
+    }
+
+    /// The object with this base. It costs less than a look-up of a word.
+    #[inline]
+    pub fn object_at(&self, base: u64) -> Found
+        requires base { (f : Found) × (found_in self.now base ≡ Some f) × (f.base ≡ base) }
+        ensures { found_in self.now base ≡ Some result }
+    {
+        self.laws();
+        let page = page_of(base) as PageNo;
+        match self.page(page) {
+            Page::Cut(block) => object_in_block(page, block, base),
+            Page::Head(large) => large_at(page, *large),
+            Page::Free | Page::Body(_) => unreachable!(),
+        }
     }
 
     // What `find` answers; large objects lie on consecutive pages, and blocks have the cells of their class.
@@ -94,6 +110,26 @@ fn find_in_block(page: PageNo, block: &Block, w: u64) -> Option<Found>
         Some(cell_at(page, block, cell))
     } else {
         None
+    }
+}
+
+// The object of a block with this base. The base isn't computed from the cell again.
+#[inline]
+#[tactic(auto, using(crate::proofs::Finding::on_page))]
+fn object_in_block(page: PageNo, block: &Block, base: u64) -> Found
+    requires page { page < MAX_PAGES }
+    requires base { (f : Found) × (found_in_block page block.now base ≡ Some f) × (f.base ≡ base) }
+    ensures { found_in_block page block.now base ≡ Some result }
+{
+    let Some(cell) = block.cell_of(base) else {
+        unreachable!();
+    };
+    Found {
+        base,
+        len: u32::from(block.class().words()),
+        kind: block.kind(),
+        page,
+        cell,
     }
 }
 
