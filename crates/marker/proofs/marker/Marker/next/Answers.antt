@@ -13,7 +13,7 @@ unread c =
     known_current (found_in c.args.map.now) c.args.self.now c.args.known c.in-Some.entry c.requires.known (e.known c.in-Some.entry c.in-Some.is) (e.entry c.in-Some.entry c.in-Some.is)
 
 pub object_at-requires : goal.object_at-requires
-object_at-requires c = let u = unread (goal.at.object_at-requires c).After-laws in (u.0, ap (found_in c.args.map.now) (sym u.1.base) ∙ u.1.object, u.1.base)
+object_at-requires c = let u = unread (goal.at.object_at-requires c).After-laws in record { base = (u.0, ap (found_in c.args.map.now) (sym u.1.base) ∙ u.1.object, u.1.base) }
 
 pub returns-clause-settles : goal.returns-clause-settles
 returns-clause-settles c = settles_none (found_in c.args.map.now) c.args.self.now c.in-Some.entry (c.known_entry.ensures.entry c.in-Some.entry c.in-Some.is)
