@@ -110,6 +110,14 @@ pub fn find(map: &[Page], w: u64) -> Option<Found> {
     }
 }
 
+/// The object of a block that begins at an address of its page.
+#[inline]
+pub fn object_from(page: u32, block: &Block, base: u64) -> Option<Found> {
+    let cell = block.cell_of(base)?;
+    let found = block.at(page, cell);
+    (is_set(&block.taken, usize::from(cell)) && found.base == base).then_some(found)
+}
+
 /// The object with this base.
 #[inline]
 pub fn object_at(map: &[Page], base: u64) -> Found {

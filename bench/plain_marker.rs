@@ -2,7 +2,7 @@
 // A program uses a part of it.
 #![allow(dead_code)]
 
-use crate::plain_map::{Found, Kind, Page, START, find, next_on_page, object_at};
+use crate::plain_map::{Block, Found, Kind, Page, START, find, next_on_page, object_at, object_from};
 use crate::plain_row::{clear, is_set, next, set};
 
 const ENTRIES: usize = 256;
@@ -214,22 +214,20 @@ impl Marker {
     }
 
     #[inline]
-    fn reread_at(&mut self, map: &[Page], heap_bytes: u64, memory: &[u64], granule: usize, end: u64) {
-        let base = START + 16 * granule as u64;
-        let Some(found) = find(map, base) else {
-            return;
-        };
-        if found.base == base && found.kind == Kind::Normal {
-            let stop = (base + 8 * u64::from(found.len)).min(end);
-            self.mark_words(map, heap_bytes, memory, base, 0, (stop - base) / 8);
+    fn reread_at(&mut self, map: &[Page], heap_bytes: u64, memory: &[u64], page: u32, block: &Block, granule: usize) {
+        if let Some(found) = object_from(page, block, START + 16 * granule as u64) {
+            self.mark_words(map, heap_bytes, memory, found.base, 0, u64::from(found.len));
         }
     }
 
-    fn reread_cells(&mut self, map: &[Page], heap_bytes: u64, memory: &[u64], page: u32, end: u64) {
+    fn reread_cells(&mut self, map: &[Page], heap_bytes: u64, memory: &[u64], page: u32, block: &Block) {
+        if block.kind == Kind::PointerFree {
+            return;
+        }
         for word in 4 * page as usize..4 * page as usize + 4 {
             let mut left = self.marks[word];
             while left != 0 {
-                self.reread_at(map, heap_bytes, memory, 64 * word + left.trailing_zeros() as usize, end);
+                self.reread_at(map, heap_bytes, memory, page, block, 64 * word + left.trailing_zeros() as usize);
                 left &= left - 1;
             }
         }
@@ -255,8 +253,8 @@ impl Marker {
         let page = page as u32;
         let heap_bytes = 4_096 * map.len() as u64;
         let end = START + 4_096 * (u64::from(page) + 1);
-        match map[page as usize] {
-            Page::Cut(_) => self.reread_cells(map, heap_bytes, memory, page, end),
+        match &map[page as usize] {
+            Page::Cut(block) => self.reread_cells(map, heap_bytes, memory, page, block),
             _ => self.reread_objects(map, heap_bytes, memory, page, end),
         }
         Some(page)
