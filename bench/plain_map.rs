@@ -110,6 +110,28 @@ pub fn find(map: &[Page], w: u64) -> Option<Found> {
     }
 }
 
+/// The object of a block that begins at an address of its page.
+#[inline]
+pub fn object_from(page: u32, block: &Block, base: u64) -> Option<Found> {
+    let cell = block.cell_of(base)?;
+    let found = block.at(page, cell);
+    (is_set(&block.taken, usize::from(cell)) && found.base == base).then_some(found)
+}
+
+/// The object with this base.
+#[inline]
+pub fn object_at(map: &[Page], base: u64) -> Found {
+    let page = ((base - START) / 4_096) as u32;
+    match &map[page as usize] {
+        Page::Cut(block) => match block.cell_of(base) {
+            Some(cell) => Found { base, len: u32::from(block.class.words()), kind: block.kind, page, cell },
+            None => unreachable!(),
+        },
+        Page::Head(pages, kind) => large(page, *pages, *kind),
+        _ => unreachable!(),
+    }
+}
+
 /// The first allocated object that has a word of a page from an address on.
 #[inline]
 pub fn next_on_page(map: &[Page], page: u32, from: u64) -> Option<Found> {

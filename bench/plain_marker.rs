@@ -2,7 +2,7 @@
 // A program uses a part of it.
 #![allow(dead_code)]
 
-use crate::plain_map::{Found, Kind, Page, START, find, next_on_page};
+use crate::plain_map::{Block, Found, Kind, Page, START, find, next_on_page, object_at, object_from};
 use crate::plain_row::{clear, is_set, next, set};
 
 const ENTRIES: usize = 256;
@@ -116,36 +116,74 @@ impl Marker {
         false
     }
 
+    #[inline(never)]
+    fn mark_four(&mut self, map: &[Page], words: &[u64; 4]) -> bool {
+        let heap_bytes = 4_096 * map.len() as u64;
+        words.iter().fold(false, |stray, word| stray | self.mark_word(map, heap_bytes, *word))
+    }
+
+    // Most words lie outside of the heap, so that four are tested at a time.
+    #[inline(never)]
+    fn mark_many(&mut self, map: &[Page], heap_bytes: u64, words: &[u64]) -> bool {
+        let (fours, left) = words.as_chunks();
+        let mut stray = false;
+        for four in fours {
+            let [a, b, c, d] = four.map(|word| word.wrapping_sub(START));
+            if a.min(b).min(c.min(d)) < heap_bytes {
+                stray |= self.mark_four(map, four);
+            }
+        }
+        stray | self.mark_each(map, heap_bytes, left)
+    }
+
+    #[inline]
+    fn mark_each(&mut self, map: &[Page], heap_bytes: u64, words: &[u64]) -> bool {
+        words.iter().fold(false, |stray, word| stray | self.mark_word(map, heap_bytes, *word))
+    }
+
     // The words stand on one page.
+    #[inline]
     fn mark_words(&mut self, map: &[Page], heap_bytes: u64, memory: &[u64], base: u64, first: u32, count: u64) {
         let start = ((base - START) / 8) as usize + first as usize;
-        let mut stray = false;
-        for word in &memory[start..start + count as usize] {
-            stray |= self.mark_word(map, heap_bytes, *word);
-        }
+        let words = &memory[start..start + count as usize];
+        let stray = if words.len() < 4 { self.mark_each(map, heap_bytes, words) } else { self.mark_many(map, heap_bytes, words) };
         if stray {
             set(&mut self.carried, start / 512);
         }
     }
 
-    fn live(&self, map: &[Page]) -> Option<(Found, u32)> {
+    fn live(&self, map: &[Page]) -> Option<Found> {
         let (base, next) = self.current?;
         let found = find(map, base)?;
         let is_live = found.base == base && found.kind == Kind::Normal && next < found.len && self.is_marked(base);
-        is_live.then_some((found, next))
+        is_live.then_some(found)
     }
 
-    fn settle(&mut self, map: &[Page]) -> Option<(Found, u32)> {
+    #[inline]
+    fn take_entry(&mut self) -> bool {
+        self.current = self.len.checked_sub(1).map(|top| self.stack[top]);
+        self.len = self.len.saturating_sub(1);
+        self.current.is_some()
+    }
+
+    #[inline(never)]
+    fn settle(&mut self, map: &[Page]) -> Option<Found> {
         loop {
             if let Some(live) = self.live(map) {
                 return Some(live);
             }
-            self.current = None;
-            if self.len == 0 {
+            if !self.take_entry() {
                 return None;
             }
-            self.len -= 1;
-            self.current = Some(self.stack[self.len]);
+        }
+    }
+
+    // Entries from number `known` on have a word left, and aren't looked up.
+    #[inline]
+    fn next(&mut self, map: &[Page], known: usize) -> Option<Found> {
+        match self.current {
+            Some((base, _)) if known <= self.len => Some(object_at(map, base)),
+            _ => self.settle(map),
         }
     }
 
@@ -153,27 +191,50 @@ impl Marker {
     pub fn step(&mut self, map: &[Page], memory: &[u64], budget: u64) -> u64 {
         let heap_bytes = 4_096 * map.len() as u64;
         let mut read = 0;
-        while let Some((found, next)) = self.settle(map) {
+        let mut known = self.len + 1;
+        while let Some(found) = self.next(map, known) {
             if read == budget {
                 return read;
             }
-            let on_page = 512 - ((found.base - START) / 8 + u64::from(next)) % 512;
-            let count = u64::from(found.len - next).min(budget - read).min(on_page);
-            self.mark_words(map, heap_bytes, memory, found.base, next, count);
-            self.current = Some((found.base, next + count as u32));
+            known = known.min(self.len);
+            let Some((base, next)) = self.current else {
+                unreachable!();
+            };
+            let left = u64::from(found.len - next);
+            let on_page = 512 - ((base - START) / 8 + u64::from(next)) % 512;
+            let count = left.min(budget - read).min(on_page);
+            self.mark_words(map, heap_bytes, memory, base, next, count);
+            self.current = Some((base, next + count as u32));
+            if count == left {
+                self.take_entry();
+            }
             read += count;
         }
         read
     }
 
-    /// Reads the lowest dirty page again.
-    pub fn retrace(&mut self, map: &[Page], memory: &[u64]) -> Option<u32> {
-        let page = next(&self.dirty, 0, true)?;
-        clear(&mut self.dirty, page);
-        let page = page as u32;
-        let heap_bytes = 4_096 * map.len() as u64;
-        let mut address = START + 4_096 * u64::from(page);
-        let end = address + 4_096;
+    #[inline]
+    fn reread_at(&mut self, map: &[Page], heap_bytes: u64, memory: &[u64], page: u32, block: &Block, granule: usize) {
+        if let Some(found) = object_from(page, block, START + 16 * granule as u64) {
+            self.mark_words(map, heap_bytes, memory, found.base, 0, u64::from(found.len));
+        }
+    }
+
+    fn reread_cells(&mut self, map: &[Page], heap_bytes: u64, memory: &[u64], page: u32, block: &Block) {
+        if block.kind == Kind::PointerFree {
+            return;
+        }
+        for word in 4 * page as usize..4 * page as usize + 4 {
+            let mut left = self.marks[word];
+            while left != 0 {
+                self.reread_at(map, heap_bytes, memory, page, block, 64 * word + left.trailing_zeros() as usize);
+                left &= left - 1;
+            }
+        }
+    }
+
+    fn reread_objects(&mut self, map: &[Page], heap_bytes: u64, memory: &[u64], page: u32, end: u64) {
+        let mut address = end - 4_096;
         while let Some(found) = next_on_page(map, page, address) {
             let stop = (found.base + 8 * u64::from(found.len)).min(end);
             if found.kind == Kind::Normal && self.is_marked(found.base) {
@@ -182,6 +243,19 @@ impl Marker {
                 self.mark_words(map, heap_bytes, memory, found.base, first as u32, count);
             }
             address = stop;
+        }
+    }
+
+    /// Reads the lowest dirty page again.
+    pub fn retrace(&mut self, map: &[Page], memory: &[u64]) -> Option<u32> {
+        let page = next(&self.dirty, 0, true)?;
+        clear(&mut self.dirty, page);
+        let page = page as u32;
+        let heap_bytes = 4_096 * map.len() as u64;
+        let end = START + 4_096 * (u64::from(page) + 1);
+        match &map[page as usize] {
+            Page::Cut(block) => self.reread_cells(map, heap_bytes, memory, page, block),
+            _ => self.reread_objects(map, heap_bytes, memory, page, end),
         }
         Some(page)
     }

@@ -1,8 +1,9 @@
 -- What a word finds on its page.
-use Rattle.std.proofs.Common.{◌≡◌, ℕ, ◌+◌, ◌*◌, ◌/◌, ◌%◌, ◌<◌, ◌≤◌, true, false, List, length, get_or, Option, None, Some, sym, ap, ◌∙◌, arith, ⊎_elim}
-use Rattle.std.specs.Prelude.{nat_lt}
-use Rattle.std.proofs.lemmas.Bool.{cond-true, cond-false, cases_lt}
+use Rattle.std.proofs.Common.{◌≡◌, ℕ, ◌+◌, ◌*◌, ◌/◌, ◌%◌, ◌<◌, ◌≤◌, true, false, List, length, get_or, Option, None, Some, refl, sym, ap, ◌∙◌, arith, ⊎_elim}
+use Rattle.std.specs.Prelude.{Bool, nat_lt, if◌then◌else◌}
+use Rattle.std.proofs.lemmas.Bool.{cond-true, cond-false, cases_lt, false≢true}
 use Rattle.std.proofs.lemmas.List.{get_or_past}
+use Rattle.std.proofs.lemmas.Option.{same_Some}
 use Rattle.std.proofs.Math.Nat.{mul-le-mul_right}
 use Rattle.words.specs.declared.limits.TheConstants.{FIRST_ADDRESS, MAX_PAGES, PAGE_BYTES, PAGE_WORDS}
 use Rattle.words.specs.declared.class.Kind.{Kind}
@@ -114,3 +115,14 @@ pub cell_fits : (c i : ℕ) → i < PAGE_WORDS / c → i * (8 * c) + 8 * c ≤ P
 cell_fits c i h = cells_end c i h
 
 pub ruleset on_page = (block_taken, block_free, block_left, cell_fits)
+
+-- what a word finds in a block is the object of an allocated cell
+block_cases : (p i : ℕ) (b : Cells) (f : Found) (taken : Bool) → get_or b.taken i false ≡ taken → (if taken then Some (cell_object p b i) else None) ≡ Some f → (f ≡ cell_object p b i) × (i < length b.taken)
+block_cases p i b f true t e = (
+  sym (same_Some _ f e),
+  ⊎_elim (λ (lt : i < length b.taken). lt) (λ (past : length b.taken ≤ i). absurd (false≢true (sym (get_or_past b.taken i false past) ∙ t))) (cases_lt i (length b.taken)),
+)
+block_cases p i b f false t e = absurd (cc e)
+
+pub block_object : (p w : ℕ) (b : Cells) (f : Found) → found_in_block p b w ≡ Some f → (f ≡ cell_object p b (cell_at b w)) × (cell_at b w < length b.taken)
+block_object p w b f e = block_cases p (cell_at b w) b f (get_or b.taken (cell_at b w) false) refl e

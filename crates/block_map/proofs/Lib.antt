@@ -1,3 +1,4 @@
+pub mod Bases
 pub mod Changing
 pub mod Filling
 pub mod Finding

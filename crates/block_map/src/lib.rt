@@ -20,4 +20,5 @@ mod page_changes;
 mod walk;
 
 pub use found::{Found, Put, Taken};
+pub use look::object_from;
 pub use map::BlockMap;

@@ -1,12 +1,14 @@
 //! The object that a word points into. No search: the word's page, one look at what stands there, and in a block one
 //! multiplication.
-ghost use Rattle.std.specs.Prelude.{◌≡◌, ℕ, ◌<◌, ◌≤◌, length, MatchOption, Option, None, Some};
+ghost use Rattle.std.specs.Prelude.{◌≡◌, ℕ, ◌+◌, ◌*◌, ◌<◌, ◌≤◌, length, IfSome, MatchOption, Option, None, Some};
 ghost use Rattle.words.specs.declared.class.Kind.{Kind};
-ghost use Rattle.words.specs.declared.limits.TheConstants.{MAX_PAGES};
-ghost use Rattle.words.specs.Layout.{IsOnPage, IsOutside};
+ghost use Rattle.words.specs.declared.limits.TheConstants.{MAX_PAGES, WORD_BYTES};
+ghost use Rattle.words.specs.Layout.{page_start, IsOnPage, IsOutside};
+ghost use Rattle.blocks.specs.Cells.{IsCells};
 ghost use Rattle.block_map.specs.States.{head, state_at};
 ghost use Rattle.block_map.specs.Objects.{IsFoundOrNone, cell_object, large_object};
 ghost use Rattle.block_map.specs.FoundIn.{found_in, found_in_block, found_large, IsLawful};
+ghost use Rattle.block_map.specs.declared.found.Found.{Found};
 
 use crate::found::Found;
 use crate::map::BlockMap;
@@ -26,6 +28,21 @@ impl BlockMap {
         ensures lawful { IsLawful self.now }
     {
         self.look_up(w)
+    }
+
+    /// The object with this base. It costs less than a look-up of a word.
+    #[inline]
+    pub fn object_at(&self, base: u64) -> Found
+        requires base { (f : Found) × (found_in self.now base ≡ Some f) × (f.base ≡ base) }
+        ensures { found_in self.now base ≡ Some result }
+    {
+        self.laws();
+        let page = page_of(base) as PageNo;
+        match self.page(page) {
+            Page::Cut(block) => object_in_block(page, block, base),
+            Page::Head(large) => large_at(page, *large),
+            Page::Free | Page::Body(_) => unreachable!(),
+        }
     }
 
     // What `find` answers; large objects lie on consecutive pages, and blocks have the cells of their class.
@@ -85,7 +102,8 @@ impl BlockMap {
 #[tactic(auto, using(crate::proofs::Finding::on_page))]
 fn find_in_block(page: PageNo, block: &Block, w: u64) -> Option<Found>
     requires { page < MAX_PAGES }
-    ensures { result ≡ found_in_block page block.now w }
+    ensures found { result ≡ found_in_block page block.now w }
+    ensures cells { IsCells block.now }
 {
     let Some(cell) = block.cell_of(w) else {
         return None;
@@ -94,6 +112,44 @@ fn find_in_block(page: PageNo, block: &Block, w: u64) -> Option<Found>
         Some(cell_at(page, block, cell))
     } else {
         None
+    }
+}
+
+/// The object of a block that begins at an address of its page, and `None` exactly where none does. It costs less than a
+/// look-up of the address.
+#[inline]
+pub fn object_from(page: PageNo, block: &Block, base: u64) -> Option<Found>
+    requires { page < MAX_PAGES }
+    ensures object { MatchOption result ((f : Found) → found_in_block page block.now base ≡ Some f → f.base ≡ base → ⊥) (λ f. (found_in_block page block.now base ≡ Some f) × (f.base ≡ base)) }
+    ensures inside { IfSome result (λ f. f.base + WORD_BYTES * f.len ≤ page_start (page + 1)) }
+{
+    let Some(found) = find_in_block(page, block, base) else {
+        return None;
+    };
+    if found.base == base {
+        Some(found)
+    } else {
+        None
+    }
+}
+
+// The object of a block with this base. The base isn't computed from the cell again.
+#[inline]
+#[tactic(auto, using(crate::proofs::Finding::on_page))]
+fn object_in_block(page: PageNo, block: &Block, base: u64) -> Found
+    requires page { page < MAX_PAGES }
+    requires base { (f : Found) × (found_in_block page block.now base ≡ Some f) × (f.base ≡ base) }
+    ensures { found_in_block page block.now base ≡ Some result }
+{
+    let Some(cell) = block.cell_of(base) else {
+        unreachable!();
+    };
+    Found {
+        base,
+        len: u32::from(block.class().words()),
+        kind: block.kind(),
+        page,
+        cell,
     }
 }
 

@@ -4,6 +4,7 @@ pub mod Costs
 pub mod Spreads
 pub mod MarkWord
 pub mod Words
+pub mod Known
 pub mod Settling
 pub mod Reading
 pub mod Taking

@@ -1,21 +1,21 @@
 -- A page that is cut is read again, by its mark bits.
-use Rattle.std.proofs.Common.{◌≡◌, ℕ, ◌+◌, ◌*◌, ◌<◌, ◌≤◌, ◌⊎◌, List, [], ◌++◌, length, Bool, true, false, Contains, Option, Some, None, refl, sym, ap, ◌∙◌, subst, inl, inr, ⊎_elim, arith, get_or}
+use Rattle.std.proofs.Common.{◌≡◌, ℕ, ◌+◌, ◌*◌, ◌<◌, ◌≤◌, ◌⊎◌, List, [], ◌++◌, length, Bool, true, false, Contains, Option, Some, refl, sym, ap, ◌∙◌, subst, inl, inr, ⊎_elim, arith, get_or}
 use Rattle.std.proofs.lemmas.Option.{same_Some}
 use Rattle.std.proofs.lemmas.Bool.{cases_lt, false≢true}
 use Rattle.std.proofs.lemmas.List.Elements.{Contains-append_cases, Contains-append_left, Contains-append_right}
-use Rattle.std.specs.Prelude.{◌==◌, ◌%◌, ◌/◌, if◌then◌else◌}
+use Rattle.std.specs.Prelude.{◌==◌, ◌%◌, ◌/◌}
 use Rattle.std.specs.Int.{bit_at}
 use Rattle.words.specs.declared.class.Kind.TheVariants.{Normal}
 use Rattle.words.specs.declared.limits.TheConstants.{FIRST_ADDRESS, GRANULE_BYTES, PAGE_BYTES, PAGE_GRANULES, PAGE_WORDS, WORD_BYTES}
 use Rattle.words.specs.Bits.{Has, HasBit}
-use Rattle.words.specs.Layout.{granule, page_of, page_start, IsOnPage}
+use Rattle.words.specs.Layout.{granule, page_of, page_start}
 use Rattle.pages.specs.Memory.{word_at}
 use Rattle.blocks.specs.Cells.{Cells}
 use Rattle.block_map.specs.declared.found.Found.{Found}
-use Rattle.block_map.specs.Objects.{IsMap, cell_object}
-use Rattle.block_map.specs.FoundIn.{found_in, cell_at}
-use Rattle.block_map.specs.States.{PageState, free, cut, head, body, state_at, IsCut}
-use Rattle.block_map.proofs.Finding.{found_as}
+use Rattle.block_map.specs.Objects.{IsMap}
+use Rattle.block_map.specs.FoundIn.{found_in, found_in_block}
+use Rattle.block_map.specs.States.{PageState, cut, state_at}
+use Rattle.block_map.proofs.Finding.{found_as, block_object}
 use Rattle.marker.specs.Marking.{Marking, IsMarked, with_carried, word_address}
 use Rattle.marker.specs.Closure.{held}
 use Rattle.marker.specs.Invariant.{IsSettled}
@@ -26,19 +26,19 @@ use Rattle.marker.proofs.Growing.{settled_grows, stray_page_more}
 use Rattle.marker.proofs.Rescanning.{reads_own, between_more, run_settled}
 use Rattle.marker.proofs.Words.{words_append, words_carried, words_extends, words_within, word_of, contains_word, run_strays}
 
+-- what a word of a page that is cut finds
+pub found_cut : (states : List PageState) (page w : ℕ) (b : Cells) → state_at states page ≡ cut b → page_start page ≤ w → w < page_start (page + 1) → found_in states w ≡ found_in_block page b w
+found_cut states page w b is low high = found_as states page w (cut b) (record { from = low; below = high }) is
+
 -- on a page that is cut, an object begins there that a word of it points into
-found_begins : (page w : ℕ) (b : Cells) (f : Found) (taken : Bool) → (if taken then Some (cell_object page b (cell_at b w)) else None) ≡ Some f → page_start page ≤ f.base
-found_begins page w b f true e = let s = ap (λ (x : Found). x.base) (same_Some _ f e) in omega arith
-found_begins page w b f false e = absurd (cc e)
+pub cut_begins : (states : List PageState) (page w : ℕ) (b : Cells) (f : Found) → state_at states page ≡ cut b → page_start page ≤ w → w < page_start (page + 1) → found_in states w ≡ Some f → page_start page ≤ f.base
+cut_begins states page w b f is low high e =
+    let base = ap (λ (x : Found). x.base) (block_object page w b f (sym (found_cut states page w b is low high) ∙ e)).0 in
+    omega arith
 
-begins_on : (states : List PageState) (page w : ℕ) (f : Found) (st : PageState) → state_at states page ≡ st → IsCut st → IsOnPage page w → found_in states w ≡ Some f → page_start page ≤ f.base
-begins_on states page w f free is c on e = absurd c
-begins_on states page w f (cut b) is c on e = found_begins page w b f (get_or b.taken (cell_at b w) false) (sym (found_as states page w (cut b) on is) ∙ e)
-begins_on states page w f (head n kind) is c on e = absurd c
-begins_on states page w f (body first) is c on e = absurd c
-
-pub cut_begins : (states : List PageState) (page w : ℕ) (f : Found) → IsCut (state_at states page) → page_start page ≤ w → w < page_start (page + 1) → found_in states w ≡ Some f → page_start page ≤ f.base
-cut_begins states page w f c low high e = begins_on states page w f (state_at states page) refl c (record { from = low; below = high }) e
+-- the objects of a block have its kind
+pub cut_kind : (states : List PageState) (page w : ℕ) (b : Cells) (f : Found) → state_at states page ≡ cut b → page_start page ≤ w → w < page_start (page + 1) → found_in states w ≡ Some f → f.kind ≡ b.kind
+cut_kind states page w b f is low high e = ap (λ (x : Found). x.kind) (block_object page w b f (sym (found_cut states page w b is low high) ∙ e)).0
 
 before_more : (found : ℕ → Option Found) (high low past at : ℕ) → low ≤ past → IsBefore found high low at → IsBefore found high past at
 before_more found high low past at le b = record { within = b.within; before = λ f e from below. b.before f e (omega arith) below }

@@ -1,5 +1,5 @@
 -- What becomes of the entries.
-use Rattle.std.specs.Prelude.{◌≡◌, ℕ, ◌+◌, ◌<◌, ◌≤◌, Bool, List, [], ◌++◌, Contains, Option, Some, None, ◌⊎◌}
+use Rattle.std.specs.Prelude.{◌≡◌, ℕ, ◌+◌, ◌<◌, ◌≤◌, Bool, List, [], ◌++◌, length, slice_index_or, Contains, Option, Some, None, ◌⊎◌}
 use Rattle.words.specs.declared.class.Kind.TheVariants.{Normal}
 use Rattle.words.specs.Layout.{page_of}
 use Rattle.pages.specs.Memory.{word_at}
@@ -26,6 +26,10 @@ pub record IsLive (found : ℕ → Option Found) (m : Marking) (f : Found) : Typ
   pub entry : Entry
   pub current : m.current ≡ Some entry
   pub unread : IsUnread found m entry f
+
+-- each of these entries from number `known` on has a word left to read
+pub record AreUnreadFrom (found : ℕ → Option Found) (m : Marking) (known : ℕ) (es : List Entry) : Type 0 where
+  pub each : (i : ℕ) (e : Entry) → known ≤ i → i < length es → slice_index_or es i e ≡ e → (f : Found) × IsUnread found m e f
 
 -- Entries that have no word to read are dropped, the one that is being read first and then from the top of the stack.
 -- The one that is then on top is the one that is being read; nothing else changes.

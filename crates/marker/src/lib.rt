@@ -48,7 +48,8 @@
 //! entries are unread, so that it is read to its end, over calls too, before another is begun. Pointer-free objects get
 //! no entry. The object of an entry may be freed and its page cut again: the entry is then stale, and is read on only if
 //! its base is again that of a marked Normal object, which does no harm, since such an object was marked and its words
-//! were zero when it came.
+//! were zero when it came. The map is lent to a step, so that no object goes meanwhile: an entry that was pushed in the
+//! same step is read with no look-up, its object's words told by what stands on its page.
 //!
 //! # What is proved
 //!

@@ -1,10 +1,10 @@
 //! The reading again of dirty pages.
 ghost use Rattle.std.specs.Prelude.{◌≡◌, ℕ, ◌+◌, ◌*◌, ◌%◌, ◌<◌, ◌≤◌, [], true, false, length, slice_set, MatchOption, IfSome, IfNone};
-ghost use Rattle.words.specs.declared.limits.TheConstants.{FIRST_ADDRESS, GRANULE_BYTES, MAX_PAGES, PAGE_BYTES, PAGE_WORDS, WORD_BYTES};
+ghost use Rattle.words.specs.declared.limits.TheConstants.{FIRST_ADDRESS, MAX_PAGES, PAGE_BYTES, PAGE_GRANULES, PAGE_WORDS, WORD_BYTES};
 ghost use Rattle.words.specs.declared.class.Kind.TheVariants.{Normal};
 ghost use Rattle.words.specs.Bits.{Has, HasNoBit, IsFirstBit, IsFirstFrom};
 ghost use Rattle.words.specs.Layout.{granule, page_start};
-ghost use Rattle.block_map.specs.States.{state_at, IsCut};
+ghost use Rattle.block_map.specs.States.{cut, state_at};
 ghost use Rattle.block_map.specs.Walks.{IsNextObject};
 ghost use Rattle.block_map.specs.FoundIn.{found_in, IsLawful};
 ghost use Rattle.marker.specs.Marking.{IsClean, IsMarked, with_dirty};
@@ -13,7 +13,8 @@ ghost use Rattle.marker.specs.Retracing.{Rereads, RereadsObjects, Retraces};
 
 use crate::marker::{Marker, heap_bytes};
 use crate::part::part_between;
-use block_map::{BlockMap, Found};
+use block_map::{BlockMap, Found, object_from};
+use blocks::Block;
 use pages::Reader;
 use words::limits::{FIRST_ADDRESS, GRANULE_BYTES, PAGE_BYTES, PAGE_GRANULES, WORD_BYTES};
 use words::{Kind, PageNo, page_start};
@@ -51,7 +52,7 @@ impl Marker {
         let page = self.take_page()?;
         let heap_bytes = heap_bytes(map);
         match map.block(page) {
-            Some(_) => self.reread_cells(map, heap_bytes, reader, page),
+            Some(block) => self.reread_cells(map, heap_bytes, reader, page, block),
             None => self.reread_objects(map, heap_bytes, reader, page),
         }
         Some(page)
@@ -86,98 +87,96 @@ impl Marker {
         }
     }
 
-    // Reads the words of marked Normal objects on a page that is cut again, by the page's mark bits.
-    fn reread_cells(&mut self, map: &BlockMap, heap_bytes: u64, reader: &mut Reader, page: PageNo)
-        requires pages { length self.old.dirty ≡ length map.now }
-        requires lawful { IsLawful map.now }
-        requires bytes { heap_bytes ≡ PAGE_BYTES * length map.now }
-        requires memory { length reader.old.words ≡ PAGE_WORDS * length map.now }
-        requires inside { page < length map.now }
-        requires cut { IsCut (state_at map.now page) }
-        ensures rereads { Rereads (found_in map.now) reader.old.words (page_start page) (page_start (page + 1)) self.old self.new }
-        ensures words { reader.new.words ≡ reader.old.words }
-        ensures reads { reader.new.reads ≤ reader.old.reads + PAGE_WORDS }
-    {
-        self.laws();
-        let end = page_start(page) + PAGE_BYTES;
-        let first = MARK_WORDS * page as usize;
-        for j in first..first + MARK_WORDS {
-            self.reread_marked(map, heap_bytes, reader, j, end);
-        }
-    }
-
-    // Reads the words of Normal objects again that stand below an address, of those that begin at the 64 granules from
-    // 64 j on and are marked.
-    fn reread_marked(
+    // Reads the words of marked Normal objects on a page that is cut again: where they begin is told by the page's mark
+    // bits, and what they are by its block.
+    fn reread_cells(
         &mut self,
         map: &BlockMap,
         heap_bytes: u64,
         reader: &mut Reader,
-        j: usize,
-        high: u64,
+        page: PageNo,
+        block: &Block,
     )
         requires pages { length self.old.dirty ≡ length map.now }
         requires lawful { IsLawful map.now }
         requires bytes { heap_bytes ≡ PAGE_BYTES * length map.now }
         requires memory { length reader.old.words ≡ PAGE_WORDS * length map.now }
-        requires inside { 64 * j < length self.old.marks }
-        requires below { FIRST_ADDRESS + GRANULE_BYTES * (64 * (j + 1)) ≤ high }
-        requires high { high % WORD_BYTES ≡ 0 }
-        requires one_page { (page : ℕ) × (page_start page ≤ FIRST_ADDRESS + GRANULE_BYTES * (64 * j)) × (high ≤ page_start (page + 1)) }
-        ensures rereads { RereadsObjects (found_in map.now) reader.old.words self.old high (64 * j) (64 * (j + 1)) reader.old.reads self.old reader.new.reads self.new }
+        requires inside { page < length map.now }
+        requires cut { state_at map.now page ≡ cut block.now }
+        ensures rereads { Rereads (found_in map.now) reader.old.words (page_start page) (page_start (page + 1)) self.old self.new }
+        ensures words { reader.new.words ≡ reader.old.words }
+        ensures reads { reader.new.reads ≤ reader.old.reads + PAGE_WORDS }
+    {
+        self.laws();
+        if block.kind() == Kind::PointerFree {
+            return;
+        }
+        let first = MARK_WORDS * page as usize;
+        for j in first..first + MARK_WORDS {
+            self.reread_marked(map, heap_bytes, reader, page, block, j);
+        }
+    }
+
+    // Reads the words of the objects of a block again that begin at the 64 granules from 64 j on and are marked.
+    fn reread_marked(
+        &mut self,
+        map: &BlockMap,
+        heap_bytes: u64,
+        reader: &mut Reader,
+        page: PageNo,
+        block: &Block,
+        j: usize,
+    )
+        requires pages { length self.old.dirty ≡ length map.now }
+        requires lawful { IsLawful map.now }
+        requires bytes { heap_bytes ≡ PAGE_BYTES * length map.now }
+        requires memory { length reader.old.words ≡ PAGE_WORDS * length map.now }
+        requires inside { page < length map.now }
+        requires cut { state_at map.now page ≡ cut block.now }
+        requires normal { block.now.kind ≡ Normal }
+        requires on { (PAGE_GRANULES * page ≤ 64 * j) × (64 * (j + 1) ≤ PAGE_GRANULES * (page + 1)) }
+        ensures rereads { RereadsObjects (found_in map.now) reader.old.words self.old (page_start (page + 1)) (64 * j) (64 * (j + 1)) reader.old.reads self.old reader.new.reads self.new }
         ensures words { reader.new.words ≡ reader.old.words }
     {
         self.laws();
         let marks = self.marks.word(j);
         let mut low = 0;
         while let Some(i) = next_mark(marks, low) {
-            self.reread_at(map, heap_bytes, reader, 64 * j + i as usize, high);
+            self.reread_at(map, heap_bytes, reader, page, block, 64 * j + i as usize);
             low = i + 1;
         }
     }
 
-    // Reads the words that stand below an address of the object again that begins at a marked granule, if it is a
-    // Normal one.
+    // Reads the words of the object of a block again that begins at a marked granule, if one does.
     #[inline]
     fn reread_at(
         &mut self,
         map: &BlockMap,
         heap_bytes: u64,
         reader: &mut Reader,
+        page: PageNo,
+        block: &Block,
         granule: usize,
-        high: u64,
     )
         requires pages { length self.old.dirty ≡ length map.now }
         requires lawful { IsLawful map.now }
         requires bytes { heap_bytes ≡ PAGE_BYTES * length map.now }
         requires memory { length reader.old.words ≡ PAGE_WORDS * length map.now }
+        requires inside { page < length map.now }
+        requires cut { state_at map.now page ≡ cut block.now }
+        requires normal { block.now.kind ≡ Normal }
+        requires on { (PAGE_GRANULES * page ≤ granule) × (granule < PAGE_GRANULES * (page + 1)) }
         requires marked { Has self.old.marks granule }
-        requires below { FIRST_ADDRESS + GRANULE_BYTES * granule < high }
-        requires high { high % WORD_BYTES ≡ 0 }
-        requires one_page { (page : ℕ) × (page_start page ≤ FIRST_ADDRESS + GRANULE_BYTES * granule) × (high ≤ page_start (page + 1)) }
-        ensures rereads { RereadsObjects (found_in map.now) reader.old.words self.old high granule (granule + 1) reader.old.reads self.old reader.new.reads self.new }
+        ensures rereads { RereadsObjects (found_in map.now) reader.old.words self.old (page_start (page + 1)) granule (granule + 1) reader.old.reads self.old reader.new.reads self.new }
         ensures words { reader.new.words ≡ reader.old.words }
     {
         self.laws();
         let base = FIRST_ADDRESS + GRANULE_BYTES * granule as u64;
-        let Some(found) = map.find(base) else {
+        let Some(found) = object_from(page, block, base) else {
             return;
         };
-        if found.base != base {
-            return;
-        }
-        if found.kind == Kind::PointerFree {
-            return;
-        }
-        let stop = (base + WORD_BYTES * u64::from(found.len)).min(high);
-        self.mark_words(
-            map,
-            heap_bytes,
-            reader,
-            found,
-            0,
-            (stop - base) / WORD_BYTES,
-        );
+        // The block's objects end on its page, so that all their words are read, and the number of them is the block's.
+        self.mark_words(map, heap_bytes, reader, found, 0, u64::from(found.len));
     }
 
     // Whether an object's words are read: it is a marked Normal one.

@@ -1,5 +1,5 @@
 //! Steps of marking: words of entries are read, at most so many a call.
-ghost use Rattle.std.specs.Prelude.{◌≡◌, ◌+◌, ◌*◌, ◌<◌, ◌≤◌, ◌↔◌, [], true, false, length, MatchOption, IfSome, Some};
+ghost use Rattle.std.specs.Prelude.{◌≡◌, ℕ, ◌+◌, ◌*◌, ◌<◌, ◌≤◌, ◌↔◌, [], true, false, length, MatchOption, IfSome, Some};
 ghost use Rattle.words.specs.declared.limits.TheConstants.{MAX_PAGES, PAGE_BYTES, PAGE_WORDS};
 ghost use Rattle.block_map.specs.declared.found.Found.{Found};
 ghost use Rattle.block_map.specs.Objects.{IsPlaced};
@@ -8,7 +8,7 @@ ghost use Rattle.marker.specs.declared.entry.Entry.{Entry};
 ghost use Rattle.marker.specs.Marking.{IsEmpty, StaysDirty, entries};
 ghost use Rattle.marker.specs.Work.{cost};
 ghost use Rattle.marker.specs.Growth.{Traces};
-ghost use Rattle.marker.specs.Entries.{IsSpent, IsUnread, IsLive, Settles, ReadsOn, ReadsOff, Takes, TakesOff};
+ghost use Rattle.marker.specs.Entries.{IsSpent, IsUnread, IsLive, AreUnreadFrom, Settles, ReadsOn, ReadsOff, Takes, TakesOff};
 
 use crate::entry::Entry;
 use crate::marker::{Marker, heap_bytes};
@@ -47,16 +47,57 @@ impl Marker {
         self.laws();
         let heap_bytes = heap_bytes(map);
         let mut read = 0;
-        while let Some(found) = self.settle(map) {
+        // The objects of entries that were there before may be gone, so that none is known.
+        let mut known = usize::MAX;
+        while let Some(found) = self.next(map, known) {
             if read == budget {
                 return Marked { read, empty: false };
             }
+            known = known.min(self.depth());
             read += self.read_off(map, heap_bytes, reader, found, budget - read);
         }
         Marked { read, empty: true }
     }
 
+    // How many entries wait.
+    #[inline]
+    fn depth(&self) -> usize
+        ensures { result ≡ length self.now.stack }
+    {
+        self.stack.len()
+    }
+
+    // The entry that is being read, unless its number is below `known`. It is the last one.
+    #[inline]
+    fn known_entry(&self, known: usize) -> Option<Entry>
+        ensures entry { (e : Entry) → result ≡ Some e → self.now.current ≡ Some e }
+        ensures known { (e : Entry) → result ≡ Some e → known ≤ length self.now.stack }
+    {
+        if known > self.depth() {
+            return None;
+        }
+        self.current()
+    }
+
+    // Drops entries that have no word to read, up to one that has. Those from number `known` on have one, and aren't looked
+    // up.
+    #[inline]
+    fn next(&mut self, map: &BlockMap, known: usize) -> Option<Found>
+        requires pages { length self.old.dirty ≡ length map.now }
+        requires known { AreUnreadFrom (found_in map.now) self.old known (entries self.old) }
+        ensures settles { Settles (found_in map.now) self.old self.new }
+        ensures live { MatchOption result (IsEmpty self.new) (λ f. IsLive (found_in map.now) self.new f) }
+        ensures placed { IfSome result (λ f. IsPlaced (length map.now) f × (length map.now ≤ MAX_PAGES)) }
+    {
+        let Some(entry) = self.known_entry(known) else {
+            return self.settle(map);
+        };
+        map.laws();
+        Some(map.object_at(entry.base))
+    }
+
     // Drops entries that have no word to read, up to one that has.
+    #[inline(never)]
     fn settle(&mut self, map: &BlockMap) -> Option<Found>
         requires pages { length self.old.dirty ≡ length map.now }
         ensures settles { Settles (found_in map.now) self.old self.new }
@@ -149,11 +190,13 @@ impl Marker {
         requires memory { length reader.old.words ≡ PAGE_WORDS * length map.now }
         requires some { 0 < most }
         ensures read { ReadsOff (found_in map.now) reader.old.words result self.old self.new }
+        ensures known { (known : ℕ) → AreUnreadFrom (found_in map.now) self.old known self.old.stack → AreUnreadFrom (found_in map.now) self.new known (entries self.new) }
         ensures some { 0 < result }
         ensures most { result ≤ most }
         ensures words { reader.new.words ≡ reader.old.words }
         ensures reads { reader.new.reads ≡ reader.old.reads + result }
     {
+        self.laws();
         let left = self.left_in(found);
         let count = self.read_on(map, heap_bytes, reader, found, most);
         if count == left {

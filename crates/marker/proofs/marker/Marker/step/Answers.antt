@@ -6,68 +6,70 @@ use Rattle.marker.specs.Work.{cost}
 use Rattle.marker.specs.Growth.{Traces}
 use Rattle.marker.specs.Entries.{ReadsOff, Takes, TakesOff, nothing, settled, read}
 use Rattle.marker.proofs.Closures.{marks_of}
+use Rattle.marker.proofs.Known.{known_none, known_settles, known_waiting}
 use Rattle.marker.proofs.Settling.{settled_cost}
 use Rattle.marker.proofs.Reading.{read_cost}
 use Rattle.marker.proofs.Taking.{takes_traces, takes_cost, takes_taken, takes_dirty}
 use Rattle.marker.proofs.marker.Marker.step.Goals as goal
-use Rattle.marker.proofs.marker.Marker.step.Goals.{After-settle, After-read_off-read}
+use Rattle.marker.proofs.marker.Marker.step.Goals.{After-next, After-read_off-read}
 
 pub loop-found-init : goal.loop-found-init
-loop-found-init c = record { takes = nothing; within = omega arith; words = refl; reads = omega arith }
+loop-found-init c = record { takes = nothing; known = known_none (found_in c.args.map.now) c.args.self.now _ (let room = c.laws.ensures.room in omega arith); within = omega arith; words = refl; reads = omega arith }
 
 -- what a chain of the marker's words comes to
-traces : (c : After-settle) {n : ℕ} {m : Marking} → Takes (found_in c.args.map.now) c.args.reader.now.words c.args.self.now n m → Traces (found_in c.args.map.now) c.args.reader.now.words [] c.args.self.now m
+traces : (c : After-next) {n : ℕ} {m : Marking} → Takes (found_in c.args.map.now) c.args.reader.now.words c.args.self.now n m → Traces (found_in c.args.map.now) c.args.reader.now.words [] c.args.self.now m
 traces c t =
     takes_traces (length c.args.map.now) (found_in c.args.map.now) c.heap_bytes-heap_bytes.ensures.lawful.map c.args.reader.now.words c.args.self.now (marks_of _ _ c.laws.ensures c.requires.pages) t
 
-pub settle-requires : goal.settle-requires
-settle-requires c =
-    record {
-      pages = (takes_traces (length c.args.map.now) (found_in c.args.map.now) c.heap_bytes-heap_bytes.ensures.lawful.map c.args.reader.now.words c.args.self.now (marks_of _ _ c.laws.ensures c.requires.pages) c.loop-found.invariant.takes).dirty_len
-          ∙ c.requires.pages;
-    }
+pub next-requires-clause-pages : goal.next-requires-clause-pages
+next-requires-clause-pages c =
+    (takes_traces (length c.args.map.now) (found_in c.args.map.now) c.heap_bytes-heap_bytes.ensures.lawful.map c.args.reader.now.words c.args.self.now (marks_of _ _ c.laws.ensures c.requires.pages) c.loop-found.invariant.takes).dirty_len
+    ∙ c.requires.pages
 
-takes : (c : After-settle) → Takes (found_in c.args.map.now) c.args.reader.now.words c.args.self.now c.loop-found.read c.settle.new.self
-takes c = settled c.loop-found.invariant.takes c.settle.ensures.settles
+pub next-requires-clause-known : goal.next-requires-clause-known
+next-requires-clause-known c = c.loop-found.invariant.known
 
-reads : (c : After-read_off-read) → ReadsOff (found_in c.args.map.now) c.args.reader.now.words c.read_off-read.result c.settle.new.self c.read_off-read.new.self
-reads c = subst (λ (w : List ℕ). ReadsOff (found_in c.args.map.now) w c.read_off-read.result c.settle.new.self c.read_off-read.new.self) c.loop-found.invariant.words c.read_off-read.ensures.read
+takes : (c : After-next) → Takes (found_in c.args.map.now) c.args.reader.now.words c.args.self.now c.loop-found.read c.next.new.self
+takes c = settled c.loop-found.invariant.takes c.next.ensures.settles
+
+reads : (c : After-read_off-read) → ReadsOff (found_in c.args.map.now) c.args.reader.now.words c.read_off-read.result c.next.new.self c.read_off-read.new.self
+reads c = subst (λ (w : List ℕ). ReadsOff (found_in c.args.map.now) w c.read_off-read.result c.next.new.self c.read_off-read.new.self) c.loop-found.invariant.words c.read_off-read.ensures.read
 
 pub read_off-read-requires-clause-pages : goal.read_off-read-requires-clause-pages
 read_off-read-requires-clause-pages c =
-    let s = (goal.at.read_off-read-requires-clause-pages c).After-settle in (traces s (takes s)).dirty_len ∙ c.requires.pages
+    let s = (goal.at.read_off-read-requires-clause-pages c).After-next in (traces s (takes s)).dirty_len ∙ c.requires.pages
 
 pub returns-then-read-budget-clause-takes : goal.returns-then-read-budget-clause-takes
-returns-then-read-budget-clause-takes c = takes (goal.at.returns-then-read-budget-clause-takes c).After-settle
+returns-then-read-budget-clause-takes c = takes (goal.at.returns-then-read-budget-clause-takes c).After-next
 
 pub returns-clause-takes : goal.returns-clause-takes
-returns-clause-takes c = takes (goal.at.returns-clause-takes c).After-settle
+returns-clause-takes c = takes (goal.at.returns-clause-takes c).After-next
 
 pub returns-then-read-budget-clause-traces : goal.returns-then-read-budget-clause-traces
-returns-then-read-budget-clause-traces c = let s = (goal.at.returns-then-read-budget-clause-traces c).After-settle in traces s (takes s)
+returns-then-read-budget-clause-traces c = let s = (goal.at.returns-then-read-budget-clause-traces c).After-next in traces s (takes s)
 
 pub returns-clause-traces : goal.returns-clause-traces
-returns-clause-traces c = let s = (goal.at.returns-clause-traces c).After-settle in traces s (takes s)
+returns-clause-traces c = let s = (goal.at.returns-clause-traces c).After-next in traces s (takes s)
 
-taken : (c : After-settle) → TakesOff (found_in c.args.map.now) c.args.reader.now.words c.args.self.now c.settle.new.self
+taken : (c : After-next) → TakesOff (found_in c.args.map.now) c.args.reader.now.words c.args.self.now c.next.new.self
 taken c =
     takes_taken (length c.args.map.now) (found_in c.args.map.now) c.heap_bytes-heap_bytes.ensures.lawful.map c.args.reader.now.words c.args.self.now (marks_of _ _ c.laws.ensures c.requires.pages) (takes c)
 
 pub returns-then-read-budget-clause-taken : goal.returns-then-read-budget-clause-taken
-returns-then-read-budget-clause-taken c = taken (goal.at.returns-then-read-budget-clause-taken c).After-settle
+returns-then-read-budget-clause-taken c = taken (goal.at.returns-then-read-budget-clause-taken c).After-next
 
 pub returns-clause-taken : goal.returns-clause-taken
-returns-clause-taken c = taken (goal.at.returns-clause-taken c).After-settle
+returns-clause-taken c = taken (goal.at.returns-clause-taken c).After-next
 
-dirty : (c : After-settle) → StaysDirty c.args.self.now c.settle.new.self
+dirty : (c : After-next) → StaysDirty c.args.self.now c.next.new.self
 dirty c =
     takes_dirty (length c.args.map.now) (found_in c.args.map.now) c.heap_bytes-heap_bytes.ensures.lawful.map c.args.reader.now.words c.args.self.now (marks_of _ _ c.laws.ensures c.requires.pages) (takes c)
 
 pub returns-then-read-budget-clause-dirty : goal.returns-then-read-budget-clause-dirty
-returns-then-read-budget-clause-dirty c = dirty (goal.at.returns-then-read-budget-clause-dirty c).After-settle
+returns-then-read-budget-clause-dirty c = dirty (goal.at.returns-then-read-budget-clause-dirty c).After-next
 
 pub returns-clause-dirty : goal.returns-clause-dirty
-returns-clause-dirty c = dirty (goal.at.returns-clause-dirty c).After-settle
+returns-clause-dirty c = dirty (goal.at.returns-clause-dirty c).After-next
 
 pub returns-then-read-budget-clause-live : goal.returns-then-read-budget-clause-live
 returns-then-read-budget-clause-live c = λ e. (c.in-Some.found, c.in-Some.ensures.live)
@@ -75,20 +77,20 @@ returns-then-read-budget-clause-live c = λ e. (c.in-Some.found, c.in-Some.ensur
 pub returns-clause-live : goal.returns-clause-live
 returns-clause-live c = λ e. absurd (false≢true (sym e))
 
-less : (c : After-settle) → cost (found_in c.args.map.now) c.settle.new.self + c.loop-found.read ≤ cost (found_in c.args.map.now) c.args.self.now
+less : (c : After-next) → cost (found_in c.args.map.now) c.next.new.self + c.loop-found.read ≤ cost (found_in c.args.map.now) c.args.self.now
 less c =
     takes_cost (length c.args.map.now) (found_in c.args.map.now) c.heap_bytes-heap_bytes.ensures.lawful.map c.args.reader.now.words c.args.self.now (marks_of _ _ c.laws.ensures c.requires.pages) (takes c)
 
 pub returns-then-read-budget-clause-cost : goal.returns-then-read-budget-clause-cost
-returns-then-read-budget-clause-cost c = less (goal.at.returns-then-read-budget-clause-cost c).After-settle
+returns-then-read-budget-clause-cost c = less (goal.at.returns-then-read-budget-clause-cost c).After-next
 
 pub returns-clause-cost : goal.returns-clause-cost
-returns-clause-cost c = less (goal.at.returns-clause-cost c).After-settle
+returns-clause-cost c = less (goal.at.returns-clause-cost c).After-next
 
 pub loop-found-smaller : goal.loop-found-smaller
 loop-found-smaller c =
-    let s = (goal.at.loop-found-smaller c).After-settle in
-    let a = settled_cost (found_in c.args.map.now) _ _ c.settle.ensures.settles in
+    let s = (goal.at.loop-found-smaller c).After-next in
+    let a = settled_cost (found_in c.args.map.now) _ _ c.next.ensures.settles in
     let b = read_cost (length c.args.map.now) (found_in c.args.map.now) c.heap_bytes-heap_bytes.ensures.lawful.map c.args.reader.now.words _ _ _ ((traces s (takes s)).marks_len ∙ marks_of _ _ c.laws.ensures c.requires.pages) (reads c).reads in
     let d = settled_cost (found_in c.args.map.now) _ _ (reads c).settles in
     let some = c.read_off-read.ensures.some in
@@ -100,7 +102,10 @@ loop-found-preserved c =
     let i = c.loop-found.invariant in
     let w = i.within in let n = c.read_off-read.ensures.most in let b = c.if-read-budget.false in
     record {
-      takes = settled (read (takes (goal.at.loop-found-preserved c).After-settle) (reads a).reads) (reads a).settles;
+      takes = settled (read (takes (goal.at.loop-found-preserved c).After-next) (reads a).reads) (reads a).settles;
+      known = c.read_off-read.ensures.known c.min-known.result
+          (known_waiting (found_in c.args.map.now) c.next.new.self c.loop-found.known c.min-known.result (λ k from lt. (let m = c.min-known.ensures in let d = c.depth.ensures in omega arith))
+          (known_settles (found_in c.args.map.now) _ _ _ c.next.ensures.settles i.known));
       within = omega arith;
       words = c.read_off-read.ensures.words ∙ i.words;
       reads = (let a = c.read_off-read.ensures.reads in let b = i.reads in omega arith);
