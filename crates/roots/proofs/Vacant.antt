@@ -1,5 +1,5 @@
 -- An array that calls made, each of which gives the same.
-use Rattle.std.proofs.Common.{◌≡◌, ℕ, ◌<◌, List, Result, Ok, Err, IfOk, length, sym, ◌∙◌, subst}
+use Rattle.std.proofs.Common.{◌≡◌, ℕ, ◌<◌, List, Result, Ok, Err, IfOk, sym, ◌∙◌, subst}
 use Rattle.std.proofs.Math.ListN.{get_or, replicate}
 use Rattle.std.proofs.lemmas.List.{ext_get_or, get_or-replicate, length-replicate}
 use Rattle.std.specs.Fn.{Mut, Called}

@@ -1,4 +1,4 @@
-use Rattle.std.proofs.Common.{◌≡◌, ℕ, None}
+use Rattle.std.proofs.Common.{None}
 use Rattle.roots.proofs.Vacant.{made_alike}
 use Rattle.roots.proofs.roots.vacant_slots.Goals as goal
 
