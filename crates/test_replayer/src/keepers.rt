@@ -50,7 +50,7 @@ fn check_row(rt: &impl Abort, alloc: Global, row: &Row) -> Result<(), Fail> {
     let text = format!(in alloc; "{OPENING}{lines}")?;
     let said = judge(alloc, 1, text.as_str()).ok().ok_or("a verdict")?;
     let wrong = said.wrong.ok_or("what is wrong")?;
-    let told = wrong_text(alloc, &wrong, &said.keeper)?;
+    let told = wrong_text(alloc, &wrong, said.keeper)?;
     assert_eq!(rt; told.as_str(), row.told, "{lines}");
     Ok(())
 }

@@ -76,10 +76,13 @@ fn keeper_of(replayer: &mut Replayer, wrong: Option<Wrong>) -> Option<Keeper>
     ensures why { TellsWhy replayer.old wrong result }
     ensures same { replayer.new ≡ replayer.old }
 {
-    let Some(Wrong::HasToStay(base)) = wrong else {
-        return None;
-    };
-    replayer.keeper(base)
+    match wrong {
+        None => None,
+        Some(Wrong::IsMissing(_)) => None,
+        Some(Wrong::StandsTwice(_)) => None,
+        Some(Wrong::HasToStay(base)) => replayer.keeper(base),
+        Some(Wrong::HasToGo(_)) => None,
+    }
 }
 
 // Whether a line is a comment.

@@ -57,13 +57,13 @@ fn keeper_text(alloc: Global, keeper: &Keeper) -> Result<String, AllocError> {
 pub fn wrong_text(
     alloc: Global,
     wrong: &Wrong,
-    keeper: &Option<Keeper>,
+    keeper: Option<Keeper>,
 ) -> Result<String, AllocError> {
     let said = plain_text(alloc, wrong)?;
     let Some(keeper) = keeper else {
         return Ok(said);
     };
-    let kept = keeper_text(alloc, keeper)?;
+    let kept = keeper_text(alloc, &keeper)?;
     format!(in alloc; "{said}: {kept} points into it")
 }
 
