@@ -66,9 +66,10 @@ impl Core {
         let objects = ObjectSpace::new(alloc, pages)?;
         objects.laws();
         let marker = Marker::new(alloc, pages)?;
+        let roots = Roots::new(alloc)?;
         let root_words = RootWords::new(alloc)?;
         Ok(Core {
-            roots: Roots::new(alloc)?,
+            roots,
             objects,
             marker,
             is_marking: false,

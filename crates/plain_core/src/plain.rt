@@ -68,6 +68,7 @@ impl Core {
         let words = vec![in alloc; 0u64; PAGE_WORDS as usize * pages as usize]?;
         let objects = Vec::with_capacity(alloc, PAGE_GRANULES as usize * pages as usize)?;
         let owners = vec![in alloc; 0u64; PAGE_WORDS as usize * pages as usize]?;
+        let roots = Roots::new(alloc)?;
         let root_words = RootWords::new(alloc)?;
         let listing = Listing::new(alloc, PAGE_GRANULES as usize * pages as usize)?;
         let stays = vec![in alloc; true; PAGE_GRANULES as usize * pages as usize]?;
@@ -75,7 +76,7 @@ impl Core {
             pages,
             words,
             objects,
-            roots: Roots::new(alloc)?,
+            roots,
             root_words,
             owners,
             listing,
