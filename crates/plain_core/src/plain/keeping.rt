@@ -29,13 +29,7 @@ impl Core {
             &self.owners,
             &mut self.listing,
         );
-        link_into(
-            &self.listing.order,
-            &self.words,
-            &self.objects,
-            own,
-            object,
-        )
+        link_into(&self.listing.order, &self.words, &self.objects, own, object)
     }
 
     /// What keeps the object with this base reached: a root that points into it, or else a word of another reached object.

@@ -1,4 +1,4 @@
-use Rattle.std.proofs.Common.{refl, subst}
+use Rattle.std.proofs.Common.{refl}
 use Rattle.plain_core.proofs.Collects.{sound_apart, all_lie, marks_are, room_for}
 use Rattle.plain_core.proofs.Keeping.{kept_in_list}
 use Rattle.plain_core.proofs.plain.Core.keeping_word.Goals as goal
