@@ -4,7 +4,7 @@ ghost use Rattle.roots.specs.Roots.{root_words_of};
 ghost use Rattle.plain_core.specs.Standing.{LiesIn};
 ghost use Rattle.plain_core.specs.Owners.{AreOwners};
 ghost use Rattle.plain_core.specs.Reached.{AreApart, MarksReached};
-ghost use Rattle.plain_core.specs.Listing.{HasListRoom, KeepsRoom};
+ghost use Rattle.plain_core.specs.Listing.{HasListRoom, IsListing, KeepsRoom};
 ghost use Rattle.plain_core.specs.Collections.{IsCollected, HasGarbage, CantCollect, TakesBases, CantTake};
 
 use super::Core;
@@ -14,13 +14,12 @@ use crate::extent::Extent;
 use crate::listing::{Listing, list_reached};
 use crate::owners::write_owners;
 use crate::parting::{count_unflagged, keep_flagged};
-use arrayvec::ArrayVec;
-use roots::{ROOT_WORDS, Roots};
+use roots::{RootWords, Roots};
 
 // Lists the objects that are reached from the roots.
 pub(super) fn list_from_roots(
     roots: &Roots,
-    root_words: &mut ArrayVec<u64, ROOT_WORDS>,
+    root_words: &mut RootWords,
     words: &[u64],
     objects: &[Extent],
     owners: &[u64],
@@ -31,6 +30,7 @@ pub(super) fn list_from_roots(
     requires lie { All (LiesIn words.now) objects.now }
     requires room { HasListRoom (length objects.now) listing.old }
     ensures marks { MarksReached (root_words_of roots.now) words.now objects.now listing.new.marks.items }
+    ensures listed { IsListing objects.now listing.new }
     ensures room { KeepsRoom listing.old listing.new }
 {
     roots.write_words(root_words);
