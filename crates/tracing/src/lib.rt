@@ -1,0 +1,24 @@
+//! A run of a heap, line by line, as records of a trace: what a line changed is asked of the core and of the checker beside it.
+//!
+//! What only a collector knows (marks, dirty, carried and pending pages, entries) comes from the core; what is true (which
+//! objects are there, reached and touched, and the words) from the checker, which is told the same events, replies and hints.
+//! Each question is no event. The same without a core shows a run that was written down.
+#![tactic(auto)]
+
+mod changes;
+mod comings;
+mod heap_words;
+mod knowledge;
+mod leaving;
+mod looked;
+mod places;
+mod roots_changed;
+mod sets;
+mod stacks;
+mod telling;
+mod tracer;
+mod truth;
+
+pub use knowledge::Knowledge;
+pub use tracer::Tracer;
+pub use truth::Truth;
