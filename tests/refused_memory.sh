@@ -85,5 +85,6 @@ program mpheap all_or_none "$top/examples/two_threads.replies" threads --pages 4
 program mpheap all_or_none "$room/stress" stress --seed 1 --mutators 2 --steps 100
 program replay all_or_first "$crates/replay/stdout" --pages 1 "$crates/replay/data/first.replay"
 program record all_or_first "$crates/record/stdout" --pages 1 "$crates/record/data/first.script"
+program draw all_or_first "$crates/draw/stdout" --pages 4 "$crates/draw/data/lazy_sweep.script"
 after_open
 close

@@ -127,7 +127,7 @@ usage_comes_first() {
     has "no words: stress" "mpheap stress --seed S --mutators M --steps K" "$err"
     has "no words: record" "mpheap record --pages N FILE" "$err"
     has "no words: replay" "mpheap replay --pages N FILE" "$err"
-    has "no words: draw" "mpheap draw --pages N FILE" "$err"
+    has "no words: draw" "mpheap draw --pages N [FILE]" "$err"
     has "no words: build" "mpheap build" "$err"
     has "no words: install" "mpheap install PREFIX" "$err"
     has "no words: which page says more" "$tree/docs/SCRIPTS.md" "$err"
@@ -238,6 +238,10 @@ a_drawn_run_is_a_page() {
     try_ends 1 "" "no memory"
     call draw --pages 4 first.script
     is "draw: no line, no page" "" "$out"
+    echo "0 get 1" >"$room/script"
+    call draw --pages 4 <"$room/script"
+    is "draw: a script from standard input" "draw try -- --pages 4 /dev/stdin|0 get 1" "$(calls)|$(input)"
+    refused 2 "draw --pages N FILE" "'draw' takes a number of pages and one FILE" draw --pages 4 a b
 }
 
 # The limits that the wrapper knows are those of the program.

@@ -37,7 +37,7 @@ takes_file() {
 
 # reads_input COMMAND: it reads standard input where it is given no FILE.
 reads_input() {
-    [ "$1" = run ]
+    case $1 in run | draw) true ;; *) false ;; esac
 }
 
 # is_in A LIST: the word is one of the list.
@@ -98,7 +98,7 @@ has_one_order() {
 look_at_order() {
     has_one_order "$1" || return 0
     [ "${2-}" = --pages ] || bad_words "'--pages' has to be the first word behind '$1'"
-    [ $# = 4 ] || bad_words "'$1' takes a number of pages and one FILE"
+    [ $# = 4 ] || { [ $# = 3 ] && reads_input "$1"; } || bad_words "'$1' takes a number of pages and one FILE"
 }
 
 # Looks at all words of a command line. What is left in file_at is the place of FILE among them, 0 if there is none.
