@@ -6,53 +6,19 @@
 ghost use Rattle.std.specs.Prelude.{◌≤◌};
 ghost use Rattle.words.specs.declared.limits.TheConstants.{MAX_PAGES};
 
+mod drawing;
 mod reply;
 
-use crate::reply::shown_reply;
+use crate::drawing::{Run, written};
 use heap_core::Core;
 use programs::{Fault, end, own_words};
 use recording::Recorder;
-use scripts::limits::LINE_BYTES;
-use scripts::{Std, command};
-use std::alloc::Global;
+use scripts::Std;
 use std::fs;
 use std::process::ExitCode;
-use trace_lines::{head_line, record_line};
+use trace_lines::head_line;
 use tracing::Tracer;
 use written_runs::words_given;
-
-// A heap, and what is told of its run.
-#[derive(Drop)]
-struct Run {
-    recorder: Recorder,
-    tracer: Tracer,
-    pages: u32,
-}
-
-// The record of a command, which is the line of this number in its script.
-fn written(alloc: Global, run: &mut Run, number: u64, line: &str) -> Result<String, Fault> {
-    if line.len() > LINE_BYTES {
-        return Err(Fault::BadLine(number));
-    }
-    let Some(event) = command(line.as_bytes()) else {
-        return Err(Fault::BadLine(number));
-    };
-    let Ok(reply) = run.recorder.act(&event) else {
-        return Err(Fault::Memory);
-    };
-    // What the recorder noted is what a yes of the checker means, so a no can come only where births can't be counted any more.
-    let core = Some(run.recorder.core());
-    let Ok(Some(changes)) = run.tracer.tell(core, &event, &reply, run.recorder.hint()) else {
-        return Err(Fault::Memory);
-    };
-    let Ok(text) = shown_reply(alloc, run.pages, &reply) else {
-        return Err(Fault::Memory);
-    };
-    match record_line(alloc, line, text.as_str(), &changes) {
-        Ok(record) => Ok(record),
-        Err(_) => Err(Fault::Memory),
-    }
-}
 
 // Prints the first line of a trace of so many records.
 fn print_head(rt: &HostRuntime, pages: u32, lines: u64) -> Result<(), Fault> {
@@ -94,9 +60,9 @@ fn draw(rt: &HostRuntime, pages: u32, file: &str) -> Result<(), Fault>
         return Err(Fault::Memory);
     };
     let mut run = Run {
+        pages,
         recorder: Recorder::new(rt.alloc(), core),
         tracer,
-        pages,
     };
     let mut lines = 0u64;
     for _ in script.split_inclusive('\n') {

@@ -1,6 +1,5 @@
 //! A reply as `run` prints it.
-ghost use Rattle.std.specs.Prelude.{◌≡◌, ◌≤◌, IfOk, string_bytes};
-ghost use Rattle.words.specs.declared.limits.TheConstants.{MAX_PAGES};
+ghost use Rattle.std.specs.Prelude.{◌≡◌, IfOk, string_bytes};
 ghost use Rattle.scripts.specs.Printing.{reply_text as text_of_reply};
 
 use heap_spec::Reply;
@@ -10,7 +9,6 @@ use written_runs::reply_text;
 
 /// A reply of a heap of so many pages: every word that is an address of the heap prints alike.
 pub(crate) fn shown_reply(alloc: Global, pages: u32, reply: &Reply) -> Result<String, AllocError>
-    requires { pages ≤ MAX_PAGES }
     ensures { IfOk result (λ text. string_bytes text ≡ text_of_reply pages reply.now) }
 {
     let Reply::Word(word) = reply else {
