@@ -10,4 +10,5 @@ pub mod Stacks
 pub mod HeapWords
 pub mod Looked
 pub mod Values
+pub mod Seen
 pub mod Telling

@@ -1,5 +1,5 @@
 -- What a tracer says of a line.
-use Rattle.std.specs.Prelude.{◌≡◌, ℕ, ◌*◌, false, Option, Some, None, List, [], map}
+use Rattle.std.specs.Prelude.{◌≡◌, ℕ, ◌*◌, Option, Some, None, List, [], map}
 use Rattle.std.specs.List.{range_with_len}
 use Rattle.std.specs.Borrow.{Bor}
 use Rattle.words.specs.declared.limits.TheConstants.{PAGE_WORDS}
@@ -33,8 +33,8 @@ use Rattle.tracing.specs.Stacks.{SaysStack, stack_step}
 use Rattle.tracing.specs.Looked.{reads_of}
 use Rattle.tracing.specs.Entries.{SaysEntries, SaysCurrent}
 use Rattle.tracing.specs.Values.{SaysValue}
-use Rattle.tracing.specs.Pages.{IsNothing, KnowsOf}
-use Rattle.tracing.specs.Truth.{IsTrueOf}
+use Rattle.tracing.specs.declared.seen.Seen.{Seen}
+use Rattle.tracing.specs.Seen.{IsBlank, IsSeen}
 use Rattle.tracing.specs.Leaving.{IsParted}
 use Rattle.tracing.specs.Comings.{attached_slot, detached_slot, born}
 
@@ -77,43 +77,39 @@ pub record SaysCycle (old new : Truth) (known now : Knowledge) (looked : Option 
   pub count : SaysValue old.count new.count r.count
   pub read : r.read ≡ looked
 
--- A tracer: the checker, how many flags of words there is room for, the numbers of the pages, what was asked after the last line, and
+-- What is said of an event after which the checker is this: how what was seen before became what is seen now.
+pub record SaysLine (event : Event) (reply : Reply) (c : ReplayerContents) (put : PutWords) (old new : Seen) (l : Leaving) (r : Record) : Type 0 where
+  pub objects : SaysObjects event reply old.truth new.truth l c.births r.objects
+  pub sets : SaysSets old.truth new.truth old.knowledge new.knowledge r.sets
+  pub words : SaysWords c.core event reply put old.truth.links.items new.truth.links.items r.words
+  pub cycle : SaysCycle old.truth new.truth old.knowledge new.knowledge (reads_of c.core.roots event reply) r.cycle
+
+-- A tracer: the checker, how many flags of words there is room for, the numbers of the pages, what was seen after the last line, and
 -- the bases of the cells that wait to be swept.
 pub record TracerContents : Type 0 where
   pub replayer : ReplayerContents
   pub room : ℕ
   pub pages : List ℕ
-  pub truth : Truth
-  pub knowledge : Knowledge
+  pub seen : Seen
   pub waiting : List ℕ
 
 -- A tracer of a new heap: its checker follows the empty run of a heap of so many pages, there is a flag for each word, and nothing
--- was asked yet.
+-- was seen yet.
 pub record IsNewTracer (n : ℕ) (t : TracerContents) : Type 0 where
   pub replayer : Follows t.replayer (opening_start n) []
   pub room : t.room ≡ PAGE_WORDS * n
   pub pages : t.pages ≡ range_with_len 0 n
-  pub objects : t.truth.objects.items ≡ []
-  pub reached : t.truth.reached.items ≡ []
-  pub touched : t.truth.touched.items ≡ []
-  pub links : t.truth.links.items ≡ []
-  pub marking : t.truth.is_marking ≡ false
-  pub count : t.truth.count ≡ 0
-  pub knowledge : IsNothing t.knowledge
+  pub seen : IsBlank t.seen
   pub waiting : t.waiting ≡ []
 
--- The checker has gone on by the event. What is asked now is what the checker and the core have, and what is said is how what was
--- asked before became that.
+-- The checker has gone on by the event. What is seen now is what the checker and the core have, and what is said is how what was
+-- seen before became that.
 pub record IsTold (old : TracerContents) (core : Option (Bor CoreContents)) (event : Event) (reply : Reply) (hint : Hint) (r : Record) (new : TracerContents) : Type 0 where
   pub replayed : IsReplayed old.replayer event reply hint new.replayer
-  pub truth : IsTrueOf new.replayer old.room new.truth
-  pub knowledge : KnowsOf core new.replayer.core.objects old.pages new.knowledge
+  pub seen : IsSeen core new.replayer old.room old.pages new.seen
   pub leaving : Leaving
-  pub parted : IsParted core event old.waiting (bases_of (objects_without old.truth.objects.items new.truth.objects.items)) leaving
-  pub objects : SaysObjects event reply old.truth new.truth leaving new.replayer.births r.objects
-  pub sets : SaysSets old.truth new.truth old.knowledge new.knowledge r.sets
-  pub words : SaysWords new.replayer.core event reply (words_put old.replayer.core.roots event) old.truth.links.items new.truth.links.items r.words
-  pub cycle : SaysCycle old.truth new.truth old.knowledge new.knowledge (reads_of new.replayer.core.roots event reply) r.cycle
+  pub parted : IsParted core event old.waiting (bases_of (objects_without old.seen.truth.objects.items new.seen.truth.objects.items)) leaving
+  pub says : SaysLine event reply new.replayer (words_put old.replayer.core.roots event) old.seen new.seen leaving r
   pub waiting : new.waiting ≡ leaving.waiting.items
   pub room : new.room ≡ old.room
   pub pages : new.pages ≡ old.pages

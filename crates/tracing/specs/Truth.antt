@@ -23,3 +23,12 @@ pub record IsTrueOf (r : ReplayerContents) (size : ℕ) (t : Truth) : Type 0 whe
   pub links : t.links.items ≡ r.core.links
   pub marking : t.is_marking ≡ r.marking
   pub count : t.count ≡ r.number
+
+-- What is true of a new heap: nothing is there, and no cycle was.
+pub record IsBare (t : Truth) : Type 0 where
+  pub objects : t.objects.items ≡ []
+  pub reached : t.reached.items ≡ []
+  pub touched : t.touched.items ≡ []
+  pub links : t.links.items ≡ []
+  pub marking : t.is_marking ≡ false
+  pub count : t.count ≡ 0

@@ -13,6 +13,7 @@ mod leaving;
 mod looked;
 mod places;
 mod roots_changed;
+mod seen;
 mod sets;
 mod stacks;
 mod telling;
@@ -20,5 +21,6 @@ mod tracer;
 mod truth;
 
 pub use knowledge::Knowledge;
+pub use seen::Seen;
 pub use tracer::Tracer;
 pub use truth::Truth;

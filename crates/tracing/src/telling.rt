@@ -1,6 +1,6 @@
 //! What is said of a line: how what was asked before it became what was asked after it.
 ghost use Rattle.std.specs.Prelude.{IfOk};
-ghost use Rattle.tracing.specs.Telling.{SaysCycle, SaysObjects, SaysSets, SaysWords};
+ghost use Rattle.tracing.specs.Telling.{SaysCycle, SaysLine, SaysObjects, SaysSets, SaysWords};
 
 use crate::changes::{
     current_change, entries_change, flag_change, link_changes, links_gone, number_change,
@@ -9,19 +9,22 @@ use crate::comings::{attached, born, detached};
 use crate::heap_words::wrote;
 use crate::knowledge::Knowledge;
 use crate::leaving::Leaving;
+use crate::looked::reads_of;
 use crate::places::places_of;
 use crate::roots_changed::{PutWords, global_change, register_change, words_put};
+use crate::seen::Seen;
 use crate::sets::{listed, set_change};
 use crate::stacks::{stack_change, stack_step};
 use crate::truth::Truth;
 use heap_spec::{Event, Reply};
 use links::Link;
 use plain_core::Core;
+use replayer::Replayer;
 use std::alloc::{AllocError, Global};
-use trace_lines::{CycleChanges, ObjectChanges, Reads, SetChanges, WordChanges};
+use trace_lines::{CycleChanges, ObjectChanges, Reads, Record, SetChanges, WordChanges};
 
-/// Which mutators and objects come and go, where so many objects were born.
-pub(crate) fn object_changes(
+// Which mutators and objects come and go, where so many objects were born.
+fn object_changes(
     alloc: Global,
     event: &Event,
     reply: &Reply,
@@ -46,8 +49,8 @@ pub(crate) fn object_changes(
     })
 }
 
-/// How sets change.
-pub(crate) fn set_changes(
+// How sets change.
+fn set_changes(
     alloc: Global,
     old: &Truth,
     new: &Truth,
@@ -66,8 +69,8 @@ pub(crate) fn set_changes(
     })
 }
 
-/// Which words change in the core, and how these links became those.
-pub(crate) fn word_changes(
+// Which words change in the core, and how these links became those.
+fn word_changes(
     alloc: Global,
     core: &Core,
     event: &Event,
@@ -90,8 +93,8 @@ pub(crate) fn word_changes(
     })
 }
 
-/// How far the collector is, and what the line looked at.
-pub(crate) fn cycle_changes(
+// How far the collector is, and what the line looked at.
+fn cycle_changes(
     alloc: Global,
     old: &Truth,
     new: &Truth,
@@ -107,5 +110,36 @@ pub(crate) fn cycle_changes(
         is_marking: flag_change(old.is_marking, new.is_marking),
         count: number_change(old.count, new.count),
         read,
+    })
+}
+
+/// What is said of an event after which the checker is this: how the words that it put, and what was seen, became others, where
+/// objects left so.
+pub(crate) fn changes(
+    alloc: Global,
+    event: &Event,
+    reply: &Reply,
+    replayer: &Replayer,
+    put: &PutWords,
+    old: &Seen,
+    new: &Seen,
+    leaving: &Leaving,
+) -> Result<Record, AllocError>
+    ensures { IfOk result (SaysLine event.now reply.now replayer.now put.now old.now new.now leaving.now) }
+{
+    let core = replayer.core();
+    let births = replayer.births();
+    let (then, now) = (&old.truth, &new.truth);
+    let objects = object_changes(alloc, event, reply, then, now, leaving, births)?;
+    let sets = set_changes(alloc, then, now, &old.knowledge, &new.knowledge)?;
+    let (links, links_now) = (then.links.as_slice(), now.links.as_slice());
+    let words = word_changes(alloc, core, event, reply, put, links, links_now)?;
+    let read = reads_of(core, event, reply);
+    let cycle = cycle_changes(alloc, then, now, &old.knowledge, &new.knowledge, read)?;
+    Ok(Record {
+        objects,
+        sets,
+        words,
+        cycle,
     })
 }

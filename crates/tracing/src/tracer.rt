@@ -5,13 +5,11 @@ ghost use Rattle.tracing.specs.Leaving.{IsParted};
 ghost use Rattle.tracing.specs.Sets.{bases_of, objects_without as gone_from};
 ghost use Rattle.tracing.specs.Telling.{IsNewTracer, Tells};
 
-use crate::knowledge::{Knowledge, known_of};
 use crate::leaving::{Leaving, leaving_now};
-use crate::looked::reads_of;
 use crate::roots_changed::words_put;
+use crate::seen::{Seen, seen_now};
 use crate::sets::{bases, objects_without};
-use crate::telling::{cycle_changes, object_changes, set_changes, word_changes};
-use crate::truth::{Truth, truth_now};
+use crate::telling::changes;
 use heap_core::Core;
 use heap_spec::{Event, Reply};
 use plain_core::Extent;
@@ -23,15 +21,14 @@ use trace_lines::Record;
 use words::RunError;
 use words::limits::PAGE_WORDS;
 
-/// A run so far, and what was asked after its last line.
+/// A run so far, and what was seen after its last line.
 #[derive(Drop)]
 pub struct Tracer {
     alloc: Global,
     pages: Vec<u64>,
     replayer: Replayer,
     flags: Vec<bool>,
-    truth: Truth,
-    knowledge: Knowledge,
+    seen: Seen,
     waiting: Vec<u64>,
 }
 
@@ -41,7 +38,7 @@ impl Model for Tracer {
 
     ghost Value = { TracerContents };
 
-    ghost view = { λ t. record { replayer = t.replayer; room = length t.flags.items; pages = t.pages.items; truth = t.truth; knowledge = t.knowledge; waiting = t.waiting.items } };
+    ghost view = { λ t. record { replayer = t.replayer; room = length t.flags.items; pages = t.pages.items; seen = t.seen; waiting = t.waiting.items } };
 }
 
 // Where the objects went that were there, and the cells that waited.
@@ -77,8 +74,7 @@ impl Tracer {
             pages: numbers,
             replayer,
             flags,
-            truth: Truth::of_new_heap(alloc),
-            knowledge: Knowledge::nothing(alloc),
+            seen: Seen::nothing(alloc),
             waiting: Vec::new(alloc),
         })
     }
@@ -90,25 +86,18 @@ impl Tracer {
         &self.replayer
     }
 
-    /// What is true after the last line.
-    pub fn truth(&self) -> &Truth
-        ensures { result.now ≡ self.now.truth }
+    /// What was seen after the last line.
+    pub fn seen(&self) -> &Seen
+        ensures { result.now ≡ self.now.seen }
     {
-        &self.truth
-    }
-
-    /// What the collector knows after the last line.
-    pub fn knowledge(&self) -> &Knowledge
-        ensures { result.now ≡ self.now.knowledge }
-    {
-        &self.knowledge
+        &self.seen
     }
 
     /// Goes on by an event with its reply and what that leaves open, after which the core, if there is one, is this, and says
     /// what is different; `None` if the checker says no, and then the run stays where it was.
     ///
     /// # Errors
-    /// If memory is refused; what was asked last may then lack some.
+    /// If memory is refused, after which the tracer is of no use.
     pub fn tell(
         &mut self,
         core: Option<&Core>,
@@ -119,53 +108,27 @@ impl Tracer {
         ensures { IfOk result (λ told. Tells self.old core.entry event.now reply.now hint.entry told self.new) }
     {
         let alloc = self.alloc;
-        let old = words_put(self.replayer.core(), event);
+        let put = words_put(self.replayer.core(), event);
         if !self.replayer.step(event, reply, hint) {
             return Ok(None);
         }
-        let truth = truth_now(alloc, &mut self.replayer, &mut self.flags)?;
-        let objects = truth.objects.as_slice();
-        let knowledge = known_of(alloc, core, objects, self.pages.as_slice())?;
-        let mut leaving = leaving_from(
+        let pages = self.pages.as_slice();
+        let seen = seen_now(alloc, core, &mut self.replayer, &mut self.flags, pages)?;
+        let (old, new) = (&self.seen.truth.objects, &seen.truth.objects);
+        let waited = self.waiting.as_slice();
+        let mut left = leaving_from(alloc, core, event, waited, old.as_slice(), new.as_slice())?;
+        let record = changes(
             alloc,
-            core,
             event,
-            self.waiting.as_slice(),
-            self.truth.objects.as_slice(),
-            objects,
+            reply,
+            &self.replayer,
+            &put,
+            &self.seen,
+            &seen,
+            &left,
         )?;
-        let record = Record {
-            objects: object_changes(
-                alloc,
-                event,
-                reply,
-                &self.truth,
-                &truth,
-                &leaving,
-                self.replayer.births(),
-            )?,
-            sets: set_changes(alloc, &self.truth, &truth, &self.knowledge, &knowledge)?,
-            words: word_changes(
-                alloc,
-                self.replayer.core(),
-                event,
-                reply,
-                &old,
-                self.truth.links.as_slice(),
-                truth.links.as_slice(),
-            )?,
-            cycle: cycle_changes(
-                alloc,
-                &self.truth,
-                &truth,
-                &self.knowledge,
-                &knowledge,
-                reads_of(self.replayer.core(), event, reply),
-            )?,
-        };
-        self.truth = truth;
-        self.knowledge = knowledge;
-        self.waiting = replace(&mut leaving.waiting, Vec::new(alloc));
+        self.seen = seen;
+        self.waiting = replace(&mut left.waiting, Vec::new(alloc));
         Ok(Some(record))
     }
 }

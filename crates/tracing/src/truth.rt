@@ -1,6 +1,6 @@
 //! What is true of a heap after a line, asked of the checker.
 ghost use Rattle.std.specs.Prelude.{◌≡◌, [], IfOk, false, length, if◌then◌else◌};
-ghost use Rattle.tracing.specs.Truth.{IsTrueOf, flagged as flagged_of};
+ghost use Rattle.tracing.specs.Truth.{IsBare, IsTrueOf, flagged as flagged_of};
 
 use crate::places::{is_flagged, place_of};
 use crate::sets::push_if;
@@ -29,12 +29,7 @@ pub struct Truth {
 impl Truth {
     /// What is true of a new heap.
     pub(crate) fn of_new_heap(alloc: Global) -> Truth
-        ensures objects { result.objects.items ≡ [] }
-        ensures reached { result.reached.items ≡ [] }
-        ensures touched { result.touched.items ≡ [] }
-        ensures links { result.links.items ≡ [] }
-        ensures marking { result.is_marking ≡ false }
-        ensures count { result.count ≡ 0 }
+        ensures { IsBare result }
     {
         Truth {
             objects: Vec::new(alloc),
