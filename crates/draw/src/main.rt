@@ -1,6 +1,11 @@
 //! A script is run on a heap, and its run is written as a trace, in the lines of docs/TRACE.md.
 //!
 //! `draw --pages N FILE` prints the trace; the wrapper `mpheap` joins it with the page that shows it.
+//!
+//! # What is proved
+//!
+//! What is written of a line is the text of its command, of the core's reply and of what the tracer says is different, which was
+//! told both and the core as it was then (`written`, `IsDrawn`).
 #![tactic(auto)]
 
 ghost use Rattle.std.specs.Prelude.{◌≤◌};
