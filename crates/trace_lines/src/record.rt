@@ -1,7 +1,7 @@
 //! What a line of a run changed. Objects, entries and links are named by places, pages by their numbers.
 
 /// An object that comes.
-#[derive(Clone, Copy, Debug)]
+#[derive(Clone, Copy)]
 pub struct NewObject {
     /// The place of its base.
     pub place: u64,
@@ -17,7 +17,7 @@ pub struct NewObject {
 }
 
 /// How a set changes.
-#[derive(Debug, Drop)]
+#[derive(Drop)]
 pub enum SetChange {
     /// These come.
     Comes(Vec<u64>),
@@ -33,14 +33,14 @@ pub enum SetChange {
 }
 
 /// A word, and the number of where it stands: a word of the heap by its place, a global by its number.
-#[derive(Clone, Copy, Debug)]
+#[derive(Clone, Copy)]
 pub struct Numbered {
     pub number: u64,
     pub word: u64,
 }
 
 /// The word of a register.
-#[derive(Clone, Copy, Debug)]
+#[derive(Clone, Copy)]
 pub struct RegisterWord {
     pub slot: u64,
     pub register: u64,
@@ -48,7 +48,7 @@ pub struct RegisterWord {
 }
 
 /// Of a stack so many of the lowest words stay, and these are pushed upon them.
-#[derive(Debug, Drop)]
+#[derive(Drop)]
 pub struct StackChange {
     pub slot: u64,
     pub keep: u64,
@@ -56,35 +56,35 @@ pub struct StackChange {
 }
 
 /// The link at a place names this base, or there is none any more.
-#[derive(Clone, Copy, Debug)]
+#[derive(Clone, Copy)]
 pub struct LinkChange {
     pub place: u64,
     pub base: Option<u64>,
 }
 
 /// An entry of the mark stack: an object, and its word that is read next.
-#[derive(Clone, Copy, Debug)]
+#[derive(Clone, Copy)]
 pub struct EntryAt {
     pub place: u64,
     pub next: u64,
 }
 
 /// Of the mark stack so many of the lowest entries stay, and these are pushed upon them.
-#[derive(Debug, Drop)]
+#[derive(Drop)]
 pub struct EntriesChange {
     pub keep: u64,
     pub pushed: Vec<EntryAt>,
 }
 
 /// The entry that is begun and no longer on the mark stack.
-#[derive(Clone, Copy, Debug)]
+#[derive(Clone, Copy)]
 pub enum Current {
     Begun(EntryAt),
     Nothing,
 }
 
 /// What a line looked at: root words, words of marked objects, dirty pages.
-#[derive(Clone, Copy, Debug)]
+#[derive(Clone, Copy)]
 pub struct Reads {
     pub roots: u64,
     pub words: u64,
@@ -92,7 +92,7 @@ pub struct Reads {
 }
 
 /// Which mutators and objects come and go: slots, and objects by their places.
-#[derive(Debug, Drop)]
+#[derive(Drop)]
 pub struct ObjectChanges {
     pub attached: Vec<u64>,
     pub detached: Vec<u64>,
@@ -106,7 +106,7 @@ pub struct ObjectChanges {
 }
 
 /// How sets change: three of objects, by their places, and three of pages.
-#[derive(Debug, Drop)]
+#[derive(Drop)]
 pub struct SetChanges {
     pub marked: Option<SetChange>,
     pub reached: Option<SetChange>,
@@ -117,7 +117,7 @@ pub struct SetChanges {
 }
 
 /// Which words change, and which links.
-#[derive(Debug, Drop)]
+#[derive(Drop)]
 pub struct WordChanges {
     pub wrote: Vec<Numbered>,
     pub registers: Vec<RegisterWord>,
@@ -127,7 +127,7 @@ pub struct WordChanges {
 }
 
 /// What the collector has to read, its phase, how many collections there were, and what this line looked at.
-#[derive(Debug, Drop)]
+#[derive(Drop)]
 pub struct CycleChanges {
     pub entries: Option<EntriesChange>,
     pub current: Option<Current>,
@@ -137,7 +137,7 @@ pub struct CycleChanges {
 }
 
 /// What is different after a line from before it. What is empty or `None` stayed.
-#[derive(Debug, Drop)]
+#[derive(Drop)]
 pub struct Record {
     pub objects: ObjectChanges,
     pub sets: SetChanges,
