@@ -226,11 +226,12 @@ wrong_words_are_told() {
 
 # A drawn run is the page with the trace that the program printed: joined wherever there is any line, with its status.
 a_drawn_run_is_a_page() {
-    try_ends 0 $'{"c":"attach","r":"<"}\n'
+    try_ends 0 $'{"title":"a script"}\n{"c":"attach","r":"<"}\n'
     call draw --pages 4 first.script
     is "draw: its crate and words" "draw try -- --pages 4 /dev/stdin" "$(calls)"
     is "draw: the page" "<!doctype html>" "$(printf '%s' "${out%%$'\n'*}" | tr '[:upper:]' '[:lower:]')"
     has "draw: the trace is in it" '{"c":"attach","r":"\u003c"}' "$out"
+    has "draw: its title is FILE's name" '{"title":"first"}' "$out"
     try_ends 2 $'{"c":"attach"}\n' "bad line 2"
     call draw --pages 4 first.script
     is "draw: the status of a bad line" 2 "$status"
