@@ -16,18 +16,18 @@ use trace_lines::EntryAt;
 
 /// What a collector knows.
 #[derive(Drop)]
-pub struct Knowledge {
+pub(crate) struct Knowledge {
     /// The places of the marked objects.
-    pub marked: Vec<u64>,
+    pub(crate) marked: Vec<u64>,
 
     /// Numbers of pages.
-    pub dirty: Vec<u64>,
-    pub carried: Vec<u64>,
-    pub pending: Vec<u64>,
+    pub(crate) dirty: Vec<u64>,
+    pub(crate) carried: Vec<u64>,
+    pub(crate) pending: Vec<u64>,
 
     /// The mark stack, the next entry last, and the entry that is begun.
-    pub entries: Vec<EntryAt>,
-    pub current: Option<EntryAt>,
+    pub(crate) entries: Vec<EntryAt>,
+    pub(crate) current: Option<EntryAt>,
 }
 
 /// A set of pages that a collector has.

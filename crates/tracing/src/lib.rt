@@ -28,7 +28,4 @@ mod telling;
 mod tracer;
 mod truth;
 
-pub use knowledge::Knowledge;
-pub use seen::Seen;
 pub use tracer::Tracer;
-pub use truth::Truth;

@@ -10,9 +10,9 @@ use std::alloc::{AllocError, Global};
 
 /// What is true after a line, and what the collector knows.
 #[derive(Drop)]
-pub struct Seen {
-    pub truth: Truth,
-    pub knowledge: Knowledge,
+pub(crate) struct Seen {
+    pub(crate) truth: Truth,
+    pub(crate) knowledge: Knowledge,
 }
 
 impl Seen {

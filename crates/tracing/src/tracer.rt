@@ -79,20 +79,6 @@ impl Tracer {
         })
     }
 
-    /// The checker, after the last line.
-    pub fn replayer(&self) -> &Replayer
-        ensures { result.now ≡ self.now.replayer }
-    {
-        &self.replayer
-    }
-
-    /// What was seen after the last line.
-    pub fn seen(&self) -> &Seen
-        ensures { result.now ≡ self.now.seen }
-    {
-        &self.seen
-    }
-
     /// Goes on by an event with its reply and what that leaves open, after which the core, if there is one, is this, and says
     /// what is different; `None` if the checker says no, and then the run stays where it was.
     ///

@@ -11,19 +11,19 @@ use std::alloc::{AllocError, Global};
 
 /// What is true after a line.
 #[derive(Drop)]
-pub struct Truth {
+pub(crate) struct Truth {
     /// Where the objects lie.
-    pub objects: Vec<Extent>,
+    pub(crate) objects: Vec<Extent>,
 
     /// The places of the reached objects, and of the touched ones while a cycle marks.
-    pub reached: Vec<u64>,
-    pub touched: Vec<u64>,
+    pub(crate) reached: Vec<u64>,
+    pub(crate) touched: Vec<u64>,
 
     /// The links that stand.
-    pub links: Vec<Link>,
+    pub(crate) links: Vec<Link>,
 
-    pub is_marking: bool,
-    pub count: u64,
+    pub(crate) is_marking: bool,
+    pub(crate) count: u64,
 }
 
 impl Truth {
