@@ -129,13 +129,33 @@ pub(crate) fn changes(
 {
     let core = replayer.core();
     let births = replayer.births();
-    let (then, now) = (&old.truth, &new.truth);
-    let objects = object_changes(alloc, event, reply, then, now, leaving, births)?;
-    let sets = set_changes(alloc, then, now, &old.knowledge, &new.knowledge)?;
-    let (links, links_now) = (then.links.as_slice(), now.links.as_slice());
-    let words = word_changes(alloc, core, event, reply, put, links, links_now)?;
+    let objects = object_changes(alloc, event, reply, &old.truth, &new.truth, leaving, births)?;
+    let sets = set_changes(
+        alloc,
+        &old.truth,
+        &new.truth,
+        &old.knowledge,
+        &new.knowledge,
+    )?;
+    let links = old.truth.links.as_slice();
+    let words = word_changes(
+        alloc,
+        core,
+        event,
+        reply,
+        put,
+        links,
+        new.truth.links.as_slice(),
+    )?;
     let read = reads_of(core, event, reply);
-    let cycle = cycle_changes(alloc, then, now, &old.knowledge, &new.knowledge, read)?;
+    let cycle = cycle_changes(
+        alloc,
+        &old.truth,
+        &new.truth,
+        &old.knowledge,
+        &new.knowledge,
+        read,
+    )?;
     Ok(Record {
         objects,
         sets,

@@ -12,7 +12,6 @@ use crate::sets::{bases, objects_without};
 use crate::telling::changes;
 use heap_core::Core;
 use heap_spec::{Event, Reply};
-use plain_core::Extent;
 use replayer::{Hint, Replayer};
 use std::alloc::{AllocError, Global};
 use std::marker::Model;
@@ -47,12 +46,16 @@ fn leaving_from(
     core: Option<&Core>,
     event: &Event,
     waited: &[u64],
-    old: &[Extent],
-    new: &[Extent],
+    old: &Seen,
+    new: &Seen,
 ) -> Result<Leaving, AllocError>
-    ensures { IfOk result (IsParted core.entry event.now waited.now (bases_of (gone_from old.now new.now))) }
+    ensures { IfOk result (IsParted core.entry event.now waited.now (bases_of (gone_from old.now.truth.objects.items new.now.truth.objects.items))) }
 {
-    let gone = objects_without(alloc, old, new)?;
+    let gone = objects_without(
+        alloc,
+        old.truth.objects.as_slice(),
+        new.truth.objects.as_slice(),
+    )?;
     let gone = bases(alloc, gone.as_slice())?;
     leaving_now(alloc, core, event, waited, gone.as_slice())
 }
@@ -100,9 +103,8 @@ impl Tracer {
         }
         let pages = self.pages.as_slice();
         let seen = seen_now(alloc, core, &mut self.replayer, &mut self.flags, pages)?;
-        let (old, new) = (&self.seen.truth.objects, &seen.truth.objects);
         let waited = self.waiting.as_slice();
-        let mut left = leaving_from(alloc, core, event, waited, old.as_slice(), new.as_slice())?;
+        let mut left = leaving_from(alloc, core, event, waited, &self.seen, &seen)?;
         let record = changes(
             alloc,
             event,
