@@ -1,7 +1,8 @@
 #!/usr/bin/env bash
-# Tests of the program `draw`, by an unproved build of it and one of `record`: the trace of each worked example is compared, line by
-# line, with the run that `record` writes of the same script, from which tests/draw/run.py works out what is true, and its replies
-# with those beside the script. Run by hand; it needs rt and Python 3, takes one to two minutes, and leaves nothing behind.
+# Tests of the program `draw`, by an unproved build of it and one of `record`: the trace of each worked example is
+# compared, line by line, with the run that `record` writes of the same script, from which tests/draw/run.py works out
+# what is true, and its replies with those beside the script. Run by hand; it needs rt and Python 3, takes one to two
+# minutes, and leaves nothing behind.
 set -uo pipefail
 top=$(dirname "$(dirname "$(readlink -f "${BASH_SOURCE[0]}")")")
 room=$(mktemp -d)

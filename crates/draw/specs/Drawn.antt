@@ -14,8 +14,9 @@ use Rattle.trace_lines.specs.declared.record.Record.{Record}
 use Rattle.trace_lines.specs.Records.{record_text}
 use Rattle.tracing.specs.Telling.{TracerContents, IsTold}
 
--- The line is a command, whose call the core made and answered. The tracer was told it, its reply, what was noted of it and the core as
--- it is then; and the text is that of the line, the reply as it is printed, and what the tracer says is different.
+-- The line is a command, whose call the core made and answered. The tracer was told it, its reply, what was noted of it
+-- and the core as it is then; and the text is that of the line, the reply as it is printed, and what the tracer says is
+-- different.
 pub record IsDrawn (pages : ℕ) (heap : RecorderContents) (tracer : TracerContents) (line : List ℕ) (heap' : RecorderContents) (tracer' : TracerContents) (text : List ℕ) : Type 0 where
   pub event : Event
   pub command : IsLineOf line event

@@ -38,7 +38,8 @@ pub(crate) fn written(
     let Ok(reply) = run.recorder.act(&event) else {
         return Err(Fault::Memory);
     };
-    // What the recorder noted is what a yes of the checker means, so a no can come only where births can't be counted any more.
+    // What the recorder noted is what a yes of the checker means, so a no can come only where births can't be counted
+    // any more.
     let core = Some(run.recorder.core());
     let Ok(Some(changes)) = run.tracer.tell(core, &event, &reply, run.recorder.hint()) else {
         return Err(Fault::Memory);

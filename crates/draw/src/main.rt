@@ -4,8 +4,8 @@
 //!
 //! # What is proved
 //!
-//! What is written of a line is the text of its command, of the core's reply and of what the tracer says is different, which was
-//! told both and the core as it was then (`written`, `IsDrawn`).
+//! What is written of a line is the text of its command, of the core's reply and of what the tracer says is different,
+//! which was told both and the core as it was then (`written`, `IsDrawn`).
 #![tactic(auto)]
 
 ghost use Rattle.std.specs.Prelude.{◌≤◌};

@@ -1,11 +1,12 @@
-//! Lines of a trace: one JSON object of what a line of a run changed, in the format of docs/TRACE.md. This crate knows numbers
-//! and texts alone: what they are of is its caller's.
+//! Lines of a trace: one JSON object of what a line of a run changed, in the format of docs/TRACE.md. This crate knows
+//! numbers and texts alone: what they are of is its caller's.
 //!
 //! # What is proved
 //!
-//! `record_line` is the bytes of a command, its reply and what is different after it (`record_text`), `head_line` those of the
-//! first line (`head_text`): each key stands exactly where something changed, numbers from 2^53 on are quoted, and nothing else
-//! is written. That the two texts hold no character that JSON would write otherwise is the caller's word.
+//! `record_line` is the bytes of a command, its reply and what is different after it (`record_text`), `head_line` those
+//! of the first line (`head_text`): each key stands exactly where something changed, numbers from 2^53 on are quoted,
+//! and nothing else is written. That the two texts hold no character that JSON would write otherwise is the caller's
+//! word.
 #![tactic(auto)]
 
 mod keys;

@@ -66,8 +66,8 @@ fn put_changes(behind: &mut String, alloc: Global, changes: &Record) -> Result<(
     put_cycle(behind, alloc, &changes.cycle)
 }
 
-/// The line of a command, its reply, and what is different after it, without a newline. Neither text may have a character
-/// that JSON would write otherwise.
+/// The line of a command, its reply, and what is different after it, without a newline. Neither text may have a
+/// character that JSON would write otherwise.
 ///
 /// # Errors
 /// If memory is refused.
@@ -85,8 +85,8 @@ pub fn record_line(
     Ok(line)
 }
 
-/// The first line of a trace, without a newline: what it is of, how many pages the heap has, and how many records follow. The
-/// title may have no character that JSON would write otherwise.
+/// The first line of a trace, without a newline: what it is of, how many pages the heap has, and how many records
+/// follow. The title may have no character that JSON would write otherwise.
 ///
 /// # Errors
 /// If memory is refused.

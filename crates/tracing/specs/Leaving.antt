@@ -20,8 +20,8 @@ abbrev pub waits : Option (Bor CoreContents) → ℕ → Bool
 waits None base = false
 waits (Some core) base = slice_index_or core.now.store.pending (word_index base / PAGE_WORDS) false
 
--- What the event took waits, if it forgets and the page is pending, and is free otherwise; of what waited that is free whose
--- page is pending no more.
+-- What the event took waits, if it forgets and the page is pending, and is free otherwise; of what waited that is free
+-- whose page is pending no more.
 pub record IsParted (core : Option (Bor CoreContents)) (event : Event) (waited gone : List ℕ) (l : Leaving) : Type 0 where
   pub forgotten : l.forgotten.items ≡ those_that (λ base. forgets event && waits core base) gone
   pub freed : l.freed.items ≡ those_that (λ base. not (waits core base)) waited ++ those_that (λ base. not (forgets event && waits core base)) gone

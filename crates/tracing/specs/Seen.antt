@@ -12,8 +12,8 @@ pub record IsBlank (s : Seen) : Type 0 where
   pub truth : IsBare s.truth
   pub knowledge : IsNothing s.knowledge
 
--- What is true is what the checker has, told by so many flags, and what is known is what the core, if there is one, has of these
--- objects and pages.
+-- What is true is what the checker has, told by so many flags, and what is known is what the core, if there is one, has
+-- of these objects and pages.
 pub record IsSeen (core : Option (Bor CoreContents)) (c : ReplayerContents) (room : ℕ) (pages : List ℕ) (s : Seen) : Type 0 where
   pub truth : IsTrueOf c room s.truth
   pub knowledge : KnowsOf core s.truth.objects.items pages s.knowledge

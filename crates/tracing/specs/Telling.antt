@@ -84,8 +84,8 @@ pub record SaysLine (event : Event) (reply : Reply) (c : ReplayerContents) (put 
   pub words : SaysWords c.core event reply put old.truth.links.items new.truth.links.items r.words
   pub cycle : SaysCycle old.truth new.truth old.knowledge new.knowledge (reads_of c.core.roots event reply) r.cycle
 
--- A tracer: the checker, how many flags of words there is room for, the numbers of the pages, what was seen after the last line, and
--- the bases of the cells that wait to be swept.
+-- A tracer: the checker, how many flags of words there is room for, the numbers of the pages, what was seen after the
+-- last line, and the bases of the cells that wait to be swept.
 pub record TracerContents : Type 0 where
   pub replayer : ReplayerContents
   pub room : ℕ
@@ -93,8 +93,8 @@ pub record TracerContents : Type 0 where
   pub seen : Seen
   pub waiting : List ℕ
 
--- A tracer of a new heap: its checker follows the empty run of a heap of so many pages, there is a flag for each word, and nothing
--- was seen yet.
+-- A tracer of a new heap: its checker follows the empty run of a heap of so many pages, there is a flag for each word,
+-- and nothing was seen yet.
 pub record IsNewTracer (n : ℕ) (t : TracerContents) : Type 0 where
   pub replayer : Follows t.replayer (opening_start n) []
   pub room : t.room ≡ PAGE_WORDS * n
@@ -102,8 +102,8 @@ pub record IsNewTracer (n : ℕ) (t : TracerContents) : Type 0 where
   pub seen : IsBlank t.seen
   pub waiting : t.waiting ≡ []
 
--- The checker has gone on by the event. What is seen now is what the checker and the core have, and what is said is how what was
--- seen before became that.
+-- The checker has gone on by the event. What is seen now is what the checker and the core have, and what is said is how
+-- what was seen before became that.
 pub record IsTold (old : TracerContents) (core : Option (Bor CoreContents)) (event : Event) (reply : Reply) (hint : Hint) (r : Record) (new : TracerContents) : Type 0 where
   pub replayed : IsReplayed old.replayer event reply hint new.replayer
   pub seen : IsSeen core new.replayer old.room old.pages new.seen

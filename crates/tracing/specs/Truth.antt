@@ -11,8 +11,8 @@ use Rattle.tracing.specs.Sets.{places_that}
 abbrev pub flagged : List Bool → List Extent → List ℕ
 flagged flags objects = places_that (λ base. slice_index_or flags (word_index base) false) objects
 
--- The objects, which of them are reached and, while a cycle marks, touched, the links, the phase and the count, of a checker.
--- The reached ones are told by a row of flags of this size.
+-- The objects, which of them are reached and, while a cycle marks, touched, the links, the phase and the count, of a
+-- checker. The reached ones are told by a row of flags of this size.
 pub record IsTrueOf (r : ReplayerContents) (size : ℕ) (t : Truth) : Type 0 where
   pub objects : t.objects.items ≡ r.core.objects
   pub flags : List Bool

@@ -113,8 +113,8 @@ fn cycle_changes(
     })
 }
 
-/// What is said of an event after which the checker is this: how the words that it put, and what was seen, became others, where
-/// objects left so.
+/// What is said of an event after which the checker is this: how the words that it put, and what was seen, became
+/// others, where objects left so.
 pub(crate) fn changes(
     alloc: Global,
     event: &Event,

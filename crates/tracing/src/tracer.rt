@@ -82,8 +82,8 @@ impl Tracer {
         })
     }
 
-    /// Goes on by an event with its reply and what that leaves open, after which the core, if there is one, is this, and says
-    /// what is different; `None` if the checker says no, and then the run stays where it was.
+    /// Goes on by an event with its reply and what that leaves open, after which the core, if there is one, is this,
+    /// and says what is different; `None` if the checker says no, and then the run stays where it was.
     ///
     /// # Errors
     /// If memory is refused, after which the tracer is of no use.
