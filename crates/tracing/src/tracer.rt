@@ -1,6 +1,7 @@
 //! The tracer: told a line, it says what is different after it.
-ghost use Rattle.std.specs.Prelude.{◌≡◌, ◌≤◌, IfOk};
-ghost use Rattle.words.specs.declared.limits.TheConstants.{MAX_PAGES};
+ghost use Rattle.std.specs.Prelude.{◌≡◌, ◌≤◌, ◌*◌, IfOk, length};
+ghost use Rattle.std.specs.List.{range_with_len};
+ghost use Rattle.words.specs.declared.limits.TheConstants.{MAX_PAGES, PAGE_WORDS};
 ghost use Rattle.tracing.specs.Leaving.{IsParted};
 ghost use Rattle.tracing.specs.Sets.{bases_of, objects_without as gone_from};
 ghost use Rattle.tracing.specs.Telling.{IsNewTracer, Tells};
@@ -40,6 +41,21 @@ impl Model for Tracer {
     ghost view = { λ t. record { replayer = t.replayer; room = length t.flags.items; pages = t.pages.items; seen = t.seen; waiting = t.waiting.items } };
 }
 
+// The numbers of so many pages.
+fn page_numbers(alloc: Global, pages: u32) -> Result<Vec<u64>, AllocError>
+    ensures { IfOk result (λ numbers. numbers.items ≡ range_with_len 0 pages) }
+{
+    (0..u64::from(pages)).collect::<Vec<u64>>(alloc)
+}
+
+// Room for a flag of each word of so many pages.
+fn flags_for(alloc: Global, pages: u32) -> Result<Vec<bool>, AllocError>
+    requires { pages ≤ MAX_PAGES }
+    ensures { IfOk result (λ flags. length flags.items ≡ PAGE_WORDS * pages) }
+{
+    vec![in alloc; false; PAGE_WORDS as usize * pages as usize]
+}
+
 // Where the objects went that were there, and the cells that waited.
 fn leaving_from(
     alloc: Global,
@@ -70,13 +86,11 @@ impl Tracer {
         ensures { IfOk result (IsNewTracer pages) }
     {
         let replayer = Replayer::new(alloc, pages)?;
-        let numbers = (0..u64::from(pages)).collect::<Vec<u64>>(alloc)?;
-        let flags = vec![in alloc; false; PAGE_WORDS as usize * pages as usize]?;
         Ok(Tracer {
             alloc,
-            pages: numbers,
+            pages: page_numbers(alloc, pages)?,
             replayer,
-            flags,
+            flags: flags_for(alloc, pages)?,
             seen: Seen::nothing(alloc),
             waiting: Vec::new(alloc),
         })
