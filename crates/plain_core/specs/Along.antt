@@ -1,10 +1,11 @@
 -- The objects that are left tell which links stay.
-use Rattle.std.specs.Prelude.{◌≡◌, ℕ, ◌*◌, ◌+◌, ◌&&◌, ◌==◌, Bool, List, nat_le, nat_lt, if◌then◌else◌, length, slice_index}
+use Rattle.std.specs.Prelude.{◌≡◌, ℕ, ◌*◌, ◌+◌, ◌&&◌, ◌==◌, Bool, Option, Some, None, List, nat_le, nat_lt, if◌then◌else◌, length, slice_index}
 use Rattle.std.specs.List.{list_any}
 use Rattle.words.specs.declared.limits.TheConstants.{WORD_BYTES}
 use Rattle.links.specs.declared.row.Link.{Link}
 use Rattle.links.specs.Leaving.{loses_with}
 use Rattle.plain_core.specs.declared.extent.Extent.{Extent}
+use Rattle.plain_core.specs.PlainContents.{PlainContents}
 use Rattle.plain_core.specs.Standing.{word_index}
 
 -- whether one of the objects has the word at the address
@@ -14,6 +15,10 @@ holds_word row a = list_any (λ e. nat_le e.base a && nat_lt a (e.base + WORD_BY
 -- whether one of the objects has the base
 abbrev pub has_base : List Extent → ℕ → Bool
 has_base row base = list_any (λ e. e.base == base) row
+
+-- the word at an address, if one of the objects has it
+abbrev pub word_of : PlainContents → ℕ → Option ℕ
+word_of c a = if holds_word c.objects a then Some (slice_index c.words (word_index a)) else None
 
 -- The word of the link is 0, if it has to become so, and all others are as they were.
 pub record ClearsWord (objects : List Extent) (l : Link) (old new : List ℕ) : Type 0 where

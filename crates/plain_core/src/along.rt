@@ -1,10 +1,10 @@
 //! What leaves takes its links along: the links to it are gone, and their words are 0 where their holder stays; and the links
 //! whose words lie in it are gone.
-ghost use Rattle.std.specs.Prelude.{◌≡◌, ◌≤◌, [], All, filter, length};
+ghost use Rattle.std.specs.Prelude.{◌≡◌, ◌≤◌, [], All, None, Some, filter, if◌then◌else◌, length, slice_index};
 ghost use Rattle.words.specs.declared.limits.TheConstants.{MAX_LINKS};
 ghost use Rattle.links.specs.Rows.{IsAlignedRow};
 ghost use Rattle.links.specs.Leaving.{ClearsWords, stays_with};
-ghost use Rattle.plain_core.specs.Standing.{LiesIn};
+ghost use Rattle.plain_core.specs.Standing.{LiesIn, word_index as word_position};
 ghost use Rattle.plain_core.specs.Along.{ClearsWord, holds_word, has_base};
 ghost use Rattle.plain_core.specs.Owners.{AreOwners};
 
@@ -28,7 +28,7 @@ fn holds_word(objects: &[Extent], owners: &[u64], address: u64) -> bool
 }
 
 // Whether one of the objects has the base.
-pub(crate) fn has_base(objects: &[Extent], owners: &[u64], base: u64) -> bool
+fn has_base(objects: &[Extent], owners: &[u64], base: u64) -> bool
     requires { AreOwners objects.now owners.now }
     ensures { result ≡ has_base objects.now base }
 {
@@ -36,6 +36,24 @@ pub(crate) fn has_base(objects: &[Extent], owners: &[u64], base: u64) -> bool
         return false;
     };
     true
+}
+
+/// The word at an address, if one of the objects has it.
+pub(crate) fn word_in(
+    words: &[u64],
+    objects: &[Extent],
+    owners: &[u64],
+    address: u64,
+) -> Option<u64>
+    requires lie { All (LiesIn words.now) objects.now }
+    requires owners { AreOwners objects.now owners.now }
+    ensures { result ≡ (if holds_word objects.now address then Some (slice_index words.now (word_position address)) else None) }
+{
+    if !holds_word(objects, owners, address) {
+        return None;
+    }
+    let position = word_index(address);
+    Some(words[position])
 }
 
 // Whether a link stays. Where its holder does and the object that it names doesn't, its word becomes 0.

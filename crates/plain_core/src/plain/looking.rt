@@ -1,10 +1,9 @@
 //! What a core has, for a caller that shows it. Nothing changes.
-ghost use Rattle.std.specs.Prelude.{◌≡◌, IfSome, IfNone};
-ghost use Rattle.plain_core.specs.Along.{has_base};
-ghost use Rattle.plain_core.specs.Answering.{FindsExtent, FindsNothing, HoldsWord};
+ghost use Rattle.std.specs.Prelude.{◌≡◌};
+ghost use Rattle.plain_core.specs.Along.{word_of};
 
 use super::Core;
-use crate::along::has_base;
+use crate::along::word_in;
 use crate::extent::Extent;
 use links::Link;
 use roots::Roots;
@@ -24,26 +23,17 @@ impl Core {
         self.links.as_slice()
     }
 
-    /// Whether an object begins at a base.
-    pub fn has_object(&self, base: u64) -> bool
-        ensures { result ≡ has_base self.now.objects base }
+    /// Where the objects lie. Their order says nothing.
+    pub fn objects(&self) -> &[Extent]
+        ensures { result.now ≡ self.now.objects }
     {
-        has_base(&self.objects, &self.owners, base)
+        self.objects.as_slice()
     }
 
-    /// The object that an address points into.
-    pub fn object_at(&self, address: u64) -> Option<Extent>
-        ensures some { IfSome result (λ e. FindsExtent self.now address e) }
-        ensures none { IfNone result (FindsNothing self.now address) }
-    {
-        self.found(address)
-    }
-
-    /// The word at an address, if that points into an object.
+    /// The word at an address, if one of the objects has it.
     pub fn word(&self, address: u64) -> Option<u64>
-        ensures some { IfSome result (λ w. HoldsWord self.now address w) }
-        ensures none { IfNone result (FindsNothing self.now address) }
+        ensures { result ≡ word_of self.now address }
     {
-        self.word_at(address)
+        word_in(&self.words, &self.objects, &self.owners, address)
     }
 }
