@@ -193,28 +193,15 @@ seeds() {
     for seed in $(seq 200); do echo "$seed $((seed % 5 + 1)) $((seed % 7 * 60 + 40)) $((seed % 9 + 1))"; done
 }
 
-# The worked rows of test_workloads, each line NAME, PAGES, SCRIPT and REPLIES behind tabs, the texts as the sources write them.
-rows() {
-    local most
-    most=$(sed -n 's/^pub const MAX_PAGES: u32 = \([0-9_]*\);/\1/p' "$top/crates/words/src/limits.rt")
-    sed -n -e "s/pages: MAX_PAGES,/pages: $most,/" -e 's/^ *\(pages\): \([0-9_]*\),$/\1\t\2/p' \
-        -e 's/^ *\(name\|script\|replies\): "\(.*\)",$/\1\t\2/p' "$top"/crates/test_workloads/src/*.rt | awk -F '\t' '
-        { has[$1] = $2 }
-        $1 != "replies" { next }
-        has["pages"] && "script" in has { gsub("_", "", has["pages"]); print has["name"] "\t" has["pages"] "\t" has["script"] "\t" has["replies"] }
-        { delete has }'
-}
-
-# Each worked row's replies through the calls of C. Nobody but its writer has made them.
+# The replies of each row of tests/rows through the calls of C. Nobody but its writer has made them.
 rows_have_their_replies() {
-    local row name pages script replies count=0
-    while IFS= read -r row; do
-        # Tabs are no blanks here: a text may be empty.
-        IFS=$'\x1f' read -r name pages script replies <<<"${row//$'\t'/$'\x1f'}"
-        is "row $name through C" "$(printf '%b' "$replies")" "$(printf '%b' "$script" | "$room/script" "$pages" 2>&1)"
+    local name pages count=0
+    mkdir "$room/rows"
+    while read -r name pages; do
+        is "row $name through C" "$(cat "$room/rows/$name.stdout")" "$("$room/script" "$pages" <"$room/rows/$name" 2>&1)"
         count=$((count + 1))
-    done < <(rows)
-    is "rows enough" yes "$([ $count -ge 70 ] && echo yes)"
+    done < <("$top/tests/rows/split" -v "room=$room/rows" "$top"/tests/rows/*.rows)
+    is "rows enough" yes "$([ $count -ge 91 ] && echo yes)"
 }
 
 # The proved program's replies to random scripts, which it writes too, and those through C. rt ci and mpheap build make it.

@@ -2,8 +2,7 @@
 
 use crate::fakes::{Script, Taken};
 use crate::gates::Counts;
-use crate::rules::mutators_of;
-use crate::runs::{Setting, run_read};
+use crate::runs::{Setting, mutators_of, run_read};
 use crate::stress::lines_of;
 use scripts::ScriptError;
 use std::alloc::Global;

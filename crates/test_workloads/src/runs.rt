@@ -1,4 +1,4 @@
-//! A run of a workload, and what was printed.
+//! A workload that is read, or run, and what was printed.
 
 use crate::fakes::{Script, Taken};
 use final_pause::{Gate, Helpers};
@@ -8,13 +8,21 @@ use std::process::Abort;
 use std::sync::Wait;
 use std::thread::Threads;
 use words::limits::MAX_PAGES;
-use workloads::run_workload;
+use workloads::{Workload, run_workload};
 
 /// The pages of a run's heap, and the helpers that end its cycles.
 #[derive(Clone, Copy)]
 pub struct Setting {
     pub pages: u32,
     pub helpers: u8,
+}
+
+/// The number of a workload's mutators, or the fault.
+pub fn mutators_of(alloc: Global, input: &mut Script<'_>) -> Result<usize, ScriptError> {
+    match Workload::read(alloc, input) {
+        Ok(workload) => Ok(workload.mutators()),
+        Err(fault) => Err(fault),
+    }
 }
 
 /// Runs a workload that a reader gives, and keeps what was printed.

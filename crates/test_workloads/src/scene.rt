@@ -55,18 +55,4 @@ impl Scene {
         let answer = self.answer(pages, input);
         self.expect(rt, name, answer, wanted);
     }
-
-    /// The same of a script of good lines.
-    pub fn check_row(
-        &mut self,
-        rt: &impl Abort,
-        name: &str,
-        pages: u32,
-        script: &str,
-        replies: &str,
-    ) {
-        let mut input = Script::new(script.as_bytes());
-        let answer = self.answer(pages, &mut input);
-        self.expect(rt, name, answer, (replies, Ok(())));
-    }
 }

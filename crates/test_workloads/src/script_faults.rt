@@ -1,12 +1,18 @@
 //! Reads, writes and allocations that fail.
 
-use crate::collections::{HIDDEN_POINTER as SCRIPT, HIDDEN_POINTER_REPLIES as REPLIES};
 use crate::fakes::{Script, Taken};
 use crate::scene::Scene;
-use scripts::{ScriptError, run_script};
+use scripts::{ScriptError, run_bytes, run_script};
 use std::alloc::Global;
 use std::process::Abort;
 use std::test::Fail;
+
+// A pointer that moves, while a cycle is marking, to where the marker has been.
+const SCRIPT: &str =
+    "attach\n0 alloc 1 2 normal\n0 alloc 4 2 normal\n0 alloc 2 2 normal\n0 set 5 77\n0 store 2 0 5\n0 store 1 0 2\n0 set 2 0\ngc begin\ngc roots\ngc mark 2\n0 load 6 1 0\n0 store 4 0 6\n0 store 1 0 2\n0 set 6 0\ngc finish\n0 load 6 4 0\n0 load 7 6 0\n";
+
+const REPLIES: &str =
+    "mutator 0\nok\nok\nok\nok\nok\nok\nok\nok\nok\n2\nptr\nok\nok\nok\n0\nptr\n77\n";
 
 // How many lines the script has, each with a reply of one line.
 const LINES: usize = 18;
@@ -59,6 +65,18 @@ fn short_reads(rt: HostRuntime) -> Result<(), Fail> {
         assert_eq!(rt; input.calls, calls);
     }
     Ok(())
+}
+
+// From bytes to bytes it is answered as from a reader to a writer.
+fn check_bytes(rt: &impl Abort, alloc: Global) {
+    let (replies, answer) = run_bytes(alloc, SCRIPT.as_bytes(), 4);
+    assert_eq!(rt; answer, Ok(()));
+    assert_eq!(rt; replies.as_slice(), REPLIES.as_bytes());
+}
+
+#[test]
+fn a_script_goes_from_bytes_to_bytes(rt: HostRuntime) {
+    check_bytes(&rt, rt.alloc());
 }
 
 // The script gets this answer from the writer, which has taken so much of the replies.

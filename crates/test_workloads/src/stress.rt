@@ -1,7 +1,7 @@
 //! Random scripts. The texts were made by a program of its own in another language, over the generator's published rule.
 
 use crate::fakes::Script;
-use crate::rules::mutators_of;
+use crate::runs::mutators_of;
 use scripts::{ScriptError, run_bytes};
 use std::alloc::Global;
 use std::process::Abort;
