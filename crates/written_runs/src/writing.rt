@@ -47,9 +47,7 @@ fn keeper_text(alloc: Global, keeper: &Keeper) -> Result<String, AllocError> {
             format!(in alloc; "word {index} on the stack of mutator {slot}")
         }
         Keeper::ByRoot(Root::Global(index)) => format!(in alloc; "global {index}"),
-        Keeper::ByWord(base, index) => {
-            format!(in alloc; "word {index} of the object at {base}")
-        }
+        Keeper::ByWord(base, index) => { format!(in alloc; "word {index} of the object at {base}") }
     }
 }
 
