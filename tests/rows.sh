@@ -1,17 +1,15 @@
 #!/usr/bin/env bash
-# Runs the rows of tests/rows: scripts beside their replies and workloads beside what is printed, all worked by hand, and lines that are
-# none. It takes the proved program that `rt ci` or `./mpheap build` left, in some seconds; where there is none it makes an unproved
-# build.
+# Runs the rows of tests/rows, all worked by hand: scripts beside their replies, workloads beside what is printed, lines that are none, and
+# written runs beside what is said of them. It takes the proved programs that `rt ci` or `./mpheap build` left, in some seconds; where
+# they aren't there it makes unproved builds.
 set -uo pipefail
 top=$(dirname "$(dirname "$(readlink -f "${BASH_SOURCE[0]}")")")
-program=$top/crates/mpheap/out/mpheap
+rows=$top/tests/rows
 room=$(mktemp -d)
-cases=$room/cases
 trap 'rm -rf "$room"' EXIT
 trap 'exit 143' INT TERM HUP
 passed=0
 failed=0
-mkdir "$cases"
 
 # is WHAT WANTED SEEN
 is() {
@@ -23,18 +21,25 @@ is() {
     fi
 }
 
+# open_cases PROGRAM: the cases of a program.
+open_cases() {
+    program=$1
+    cases=$room/$program
+    mkdir "$cases"
+}
+
 # case_is NAME STATUS SAID WORDS..: how the program is to end with these words, where {} is the file NAME of `cases`. What it is to print
 # lies beside that file.
 case_is() {
     printf '%s\n' "${@:4}" >"$cases/$1.args"
-    printf '%s|%s|%s\n' "$1" "$2" "$3" >>"$room/wanted"
+    printf '%s|%s|%s\n' "$1" "$2" "$3" >>"$cases.wanted"
 }
 
-good_rows() {
+good_scripts() {
     local name pages
     while read -r name pages; do
         case_is "$name" 0 "" run --pages "$pages" {}
-    done < <("$top/tests/rows/split" -v "room=$cases" "$top"/tests/rows/*.rows)
+    done < <("$rows/split" -v "room=$cases" "$rows"/*.rows)
 }
 
 # bad_script NAME NUMBER REPLIES TEXT: a script whose line of this number is bad; both texts with the escapes of printf.
@@ -52,10 +57,13 @@ bad_lines() {
         line=${line%\"}
         bad_script "${name}_first" 1 "" "$line\nattach\n"
         bad_script "${name}_second" 2 "mutator 0\n" "attach\n$line\nattach\n"
-    done < <(grep -v '^#' "$top/tests/rows/bad_lines")
+    done < <(grep -v '^#' "$rows/bad_lines")
     # A byte above 127 makes its line bad.
     bad_script byte_255 2 "mutator 0\n" 'attach\n\0377'
 }
+
+# texts FILE: the texts of a file and what it has behind each, with a | between.
+texts() { sed -nE 's/^"(.*)" => "?([^"]*)"?$/\1|\2/p' "$rows/$1"; }
 
 workloads() {
     local text wanted name number=0
@@ -67,32 +75,65 @@ workloads() {
             bad*) : >"$cases/$name.stdout" && case_is "$name" 2 "$wanted" threads --pages 4 {} ;;
             *) printf '%b' "$wanted" >"$cases/$name.stdout" && case_is "$name" 0 "" threads --pages 4 {} ;;
         esac
-    done < <(sed -nE 's/^"(.*)" => "?([^"]*)"?$/\1|\2/p' "$top/tests/rows/workloads")
+    done < <(texts workloads)
+}
+
+written_runs() {
+    local name pages status
+    while read -r name pages status; do
+        case_is "$name" "$status" "" --pages "$pages" {}
+    done < <("$rows/split_runs" -v "room=$cases" "$rows"/*.runs)
+}
+
+run_texts() {
+    local text said name status number=0
+    while IFS='|' read -r text said; do
+        number=$((number + 1))
+        name=text_$number
+        printf '%b' "$text" >"$cases/$name"
+        printf '%b\n' "$said" >"$cases/$name.stdout"
+        case $said in
+            legal*) status=0 ;;
+            *"not a line of a run" | "no lines") status=2 ;;
+            *) status=1 ;;
+        esac
+        case_is "$name" $status "" --pages 1 {}
+    done < <(texts run_texts)
 }
 
 run_proved() {
     local name status said words
     while IFS='|' read -r name status said; do
         mapfile -t words <"$cases/$name.args"
-        "$program" "${words[@]/#\{\}/"$cases/$name"}" >"$room/out" 2>"$room/err" </dev/null
+        "$top/crates/$program/out/$program" "${words[@]/#\{\}/"$cases/$name"}" >"$room/out" 2>"$room/err" </dev/null
         is "$name: status, what is said" "$status $said" "$? $(cat "$room/err")"
         is "$name: what is printed" "" "$(cmp "$cases/$name.stdout" "$room/out" 2>&1)"
-    done <"$room/wanted"
+    done <"$cases.wanted"
 }
 
 run_unproved() {
     local name status said
-    echo "rows: no proved program here: an unproved build, of which only what it prints and its status are compared"
-    (cd "$top/crates/mpheap" && rt try --cases "$cases") >"$room/out" 2>&1
+    echo "rows: no proved $program here: an unproved build, of which only what it prints and its status are compared"
+    (cd "$top/crates/$program" && rt try --cases "$cases") >"$room/out" 2>&1
     while IFS='|' read -r name status said; do
         is "$name" 1 "$(grep -c "^case=$name run=ended status=$status .* output=expected" "$room/out")"
-    done <"$room/wanted"
+    done <"$cases.wanted"
 }
 
-good_rows
+# run_cases LEAST: the cases of the program, of which there are so many at least.
+run_cases() {
+    is "cases of $program" yes "$([ "$(wc -l <"$cases.wanted")" -ge "$1" ] && echo yes)"
+    if [ -x "$top/crates/$program/out/$program" ]; then run_proved; else run_unproved; fi
+}
+
+open_cases mpheap
+good_scripts
 bad_lines
 workloads
-is "rows enough" yes "$([ "$(wc -l <"$room/wanted")" -ge 266 ] && echo yes)"
-if [ -x "$program" ]; then run_proved; else run_unproved; fi
+run_cases 266
+open_cases replay
+written_runs
+run_texts
+run_cases 130
 echo "rows: $passed passed, $failed failed"
 [ "$failed" = 0 ]
