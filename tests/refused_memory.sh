@@ -1,6 +1,7 @@
 #!/usr/bin/env bash
 # What holds where memory is refused, in the programs and the tests that 'rt ci' left: each request of a run is refused alone, the
-# first, the second and on until a run asks for no more. And a row's calls on an open heap ask for none. It needs cc.
+# first, the second and on until a run asks for no more. A row's calls on an open heap ask for none. And each program runs on a small
+# stack, as docs/SCRIPTS.md says. It needs cc.
 set -uo pipefail
 kind="refused memory"
 # shellcheck source=tests/refused/parts.sh
@@ -69,6 +70,15 @@ after_open() {
     echo "$kind: $((from - 1)) requests of open, and none of a row's calls behind it"
 }
 
+# on_small_stack LINES NAME WORDS..: the program prints these lines on a stack of 128 KB.
+on_small_stack() {
+    local lines=$1 name=$2 program=$crates/$2/out/$2
+    shift 2
+    is_there "$program" || return
+    { (ulimit -c 0 && ulimit -s 128 && exec "$program" "$@") >"$room/out" 2>"$room/err" </dev/null; status=$?; } 2>>"$room/err"
+    is "$name $* on a small stack" "status 0, all lines" "status $status, $(cmp -s "$room/out" "$lines" && echo all lines)"
+}
+
 tests test_core opening::a_refused_heap_can_be_opened_again
 tests test_shared scenes::a_refused_open_can_be_made_again
 tests test_shared register::a_refused_open_can_be_made_again
@@ -85,5 +95,10 @@ program mpheap all_or_none "$top/examples/two_threads.replies" threads --pages 4
 program mpheap all_or_none "$room/stress" stress --seed 1 --mutators 2 --steps 100
 program replay all_or_first "$crates/replay/stdout" --pages 1 "$crates/replay/data/first.replay"
 program record all_or_first "$crates/record/stdout" --pages 1 "$crates/record/data/first.script"
+on_small_stack "$top/examples/hidden_pointer.replies" mpheap run --pages 4 "$top/examples/hidden_pointer.script"
+on_small_stack "$top/examples/two_threads.replies" mpheap threads --pages 4 --helpers 8 "$top/examples/two_threads.workload"
+on_small_stack "$room/stress" mpheap stress --seed 1 --mutators 2 --steps 100
+on_small_stack "$crates/replay/stdout" replay --pages 1 "$crates/replay/data/first.replay"
+on_small_stack "$crates/record/stdout" record --pages 1 "$crates/record/data/first.script"
 after_open
 close

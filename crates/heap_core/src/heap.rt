@@ -21,11 +21,10 @@ mod partial;
 mod registers;
 mod written;
 
-use arrayvec::ArrayVec;
 use links::Links;
 use marker::Marker;
 use object_space::ObjectSpace;
-use roots::{ROOT_WORDS, Roots};
+use roots::{RootWords, Roots};
 use std::alloc::Global;
 use std::marker::Model;
 use words::OpenError;
@@ -40,7 +39,7 @@ pub struct Core {
     needs_full: bool,
     count: u64,
     links: Links,
-    root_words: ArrayVec<u64, ROOT_WORDS>,
+    root_words: RootWords,
 }
 
 impl Model for Core {
@@ -67,15 +66,17 @@ impl Core {
         let objects = ObjectSpace::new(alloc, pages)?;
         objects.laws();
         let marker = Marker::new(alloc, pages)?;
+        let roots = Roots::new(alloc)?;
+        let root_words = RootWords::new(alloc)?;
         Ok(Core {
-            roots: Roots::new(),
+            roots,
             objects,
             marker,
             is_marking: false,
             needs_full: true,
             count: 0,
             links: Links::new(),
-            root_words: ArrayVec::new(),
+            root_words,
         })
     }
 

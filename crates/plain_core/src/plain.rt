@@ -17,9 +17,8 @@ mod touching;
 
 use crate::extent::Extent;
 use crate::listing::Listing;
-use arrayvec::ArrayVec;
 use links::Links;
-use roots::{ROOT_WORDS, Roots};
+use roots::{RootWords, Roots};
 use std::alloc::Global;
 use std::marker::Model;
 use words::OpenError;
@@ -32,7 +31,7 @@ pub struct Core {
     words: Vec<u64>,
     objects: Vec<Extent>,
     roots: Roots,
-    root_words: ArrayVec<u64, ROOT_WORDS>,
+    root_words: RootWords,
     owners: Vec<u64>,
     listing: Listing,
     stays: Vec<bool>,
@@ -68,14 +67,16 @@ impl Core {
         let words = vec![in alloc; 0u64; PAGE_WORDS as usize * pages as usize]?;
         let objects = Vec::with_capacity(alloc, PAGE_GRANULES as usize * pages as usize)?;
         let owners = vec![in alloc; 0u64; PAGE_WORDS as usize * pages as usize]?;
+        let roots = Roots::new(alloc)?;
+        let root_words = RootWords::new(alloc)?;
         let listing = Listing::new(alloc, PAGE_GRANULES as usize * pages as usize)?;
         let stays = vec![in alloc; true; PAGE_GRANULES as usize * pages as usize]?;
         Ok(Core {
             pages,
             words,
             objects,
-            roots: Roots::new(),
-            root_words: ArrayVec::new(),
+            roots,
+            root_words,
             owners,
             listing,
             stays,

@@ -1,5 +1,5 @@
 //! The roots of a heap: the registers and stacks of its mutators, and its globals. The calls of mutators that touch
-//! nothing else stand here. This crate touches no object, and takes no memory.
+//! nothing else stand here. This crate touches no object, and takes memory where roots are made alone.
 //!
 //! # What is proved
 //!
@@ -12,5 +12,5 @@ mod root_words;
 mod roots;
 
 pub use mutator::Mutator;
-pub use root_words::ROOT_WORDS;
+pub use root_words::RootWords;
 pub use roots::Roots;

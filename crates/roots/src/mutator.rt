@@ -1,24 +1,25 @@
 //! The registers and the stack of an attached mutator. Contracts see them as the heap has them.
-ghost use Rattle.std.specs.Prelude.{◌≡◌, ℕ, ◌+◌, ◌<◌, ◌≤◌, List, ◌∷◌, ◌++◌, [], MatchBool, MatchOption, length};
-ghost use Rattle.arrayvec.specs.ArrayVec.{array_vec_len};
+ghost use Rattle.std.specs.Prelude.{◌≡◌, ℕ, ◌+◌, ◌<◌, ◌≤◌, List, ◌∷◌, ◌++◌, [], IfOk, MatchBool, MatchOption, length, vec_len};
+ghost use Rattle.std.specs.Vec.{vec_capacity};
 ghost use Rattle.words.specs.declared.limits.TheConstants.{REGISTERS};
 ghost use Rattle.words.specs.declared.limits.TheConstants.{STACK_WORDS};
 ghost use Rattle.heap_spec.specs.Steps.{newcomer, register, address};
 ghost use Rattle.roots.specs.Roots.{with_word, with_pushed, PopsWord};
 
-use crate::root_words::ROOT_WORDS;
 use arrayvec::ArrayVec;
+use std::alloc::{AllocError, Global};
 use std::marker::Model;
 use words::Reg;
 use words::limits::{REGISTERS, STACK_WORDS, WORD_BYTES};
 
 const MOST: usize = STACK_WORDS as usize;
 
-/// An attached mutator: the words of its registers, and its stack.
+/// An attached mutator: the words of its registers, and its stack. The stack has memory of its own: so what holds mutators is
+/// small, and can be moved over a small stack of the machine.
 #[derive(Drop)]
 pub struct Mutator {
     registers: [u64; REGISTERS as usize],
-    stack: ArrayVec<u64, MOST>,
+    stack: Box<ArrayVec<u64, MOST>>,
 }
 
 impl Model for Mutator {
@@ -28,20 +29,20 @@ impl Model for Mutator {
 
     ghost Value = { HeapMutator };
 
-    ghost view = { λ m. record { registers = m.registers; stack = m.stack.items } };
+    ghost view = { λ m. record { registers = m.registers; stack = m.stack.value.items } };
 
-    ghost invariant = { λ m. length m.stack.items ≤ STACK_WORDS };
+    ghost invariant = { λ m. length m.stack.value.items ≤ STACK_WORDS };
 }
 
 impl Mutator {
     // A mutator that comes.
-    pub(crate) fn new() -> Mutator
-        ensures { result ≡ newcomer }
+    pub(crate) fn new(alloc: Global) -> Result<Mutator, AllocError>
+        ensures { IfOk result (λ m. m ≡ newcomer) }
     {
-        Mutator {
+        Ok(Mutator {
             registers: [0; REGISTERS as usize],
-            stack: ArrayVec::new(),
-        }
+            stack: Box::new(alloc, ArrayVec::new())?,
+        })
     }
 
     // It is as a mutator that comes. Of the stack only the words that it had are written.
@@ -97,15 +98,16 @@ impl Mutator {
     }
 
     // Its words, registers first, behind those that are there.
-    pub(crate) fn write_words(&self, into: &mut ArrayVec<u64, ROOT_WORDS>)
-        requires { array_vec_len into.old + (REGISTERS + STACK_WORDS) ≤ ROOT_WORDS }
+    pub(crate) fn write_words(&self, into: &mut Vec<u64>)
+        requires { vec_len into.old + (REGISTERS + STACK_WORDS) ≤ vec_capacity into.old }
         ensures items { into.new.items ≡ into.old.items ++ (self.now.registers ++ self.now.stack) }
-        ensures len { array_vec_len into.new ≤ array_vec_len into.old + (REGISTERS + STACK_WORDS) }
+        ensures len { vec_len into.new ≤ vec_len into.old + (REGISTERS + STACK_WORDS) }
+        ensures capacity { vec_capacity into.old ≤ vec_capacity into.new }
     {
-        let Ok(()) = into.try_extend_from_slice(&self.registers) else {
+        let Ok(()) = into.extend_from_slice(&self.registers) else {
             unreachable!();
         };
-        let Ok(()) = into.try_extend_from_slice(self.stack.as_slice()) else {
+        let Ok(()) = into.extend_from_slice(self.stack.as_slice()) else {
             unreachable!();
         };
     }

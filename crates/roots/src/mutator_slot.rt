@@ -1,12 +1,13 @@
 //! A slot, with the mutator that is attached there. A vacant one keeps the registers and the stack that stood there: so a mutator
 //! goes without a write to them, and comes with writes to no more of the stack than was used. Contracts see no mutator there.
-ghost use Rattle.std.specs.Prelude.{◌≡◌, ◌<◌, Some, None, IfSome, IfNone, length};
+ghost use Rattle.std.specs.Prelude.{◌≡◌, ◌<◌, Some, None, IfOk, IfSome, IfNone, length};
 ghost use Rattle.words.specs.declared.limits.TheConstants.{STACK_WORDS};
 ghost use Rattle.heap_spec.specs.Heap.{Mutator as HeapMutator};
 ghost use Rattle.heap_spec.specs.Steps.{newcomer};
 ghost use Rattle.roots.specs.Roots.{with_word, with_pushed, PopsWord, Changes};
 
 use crate::mutator::Mutator;
+use std::alloc::{AllocError, Global};
 use std::marker::Model;
 use words::Reg;
 
@@ -26,21 +27,17 @@ impl Model for MutatorSlot {
     ghost view = { λ s. cond s.is_attached (Some s.mutator) None };
 }
 
-impl Default for MutatorSlot {
-    ghost use Rattle.std.specs.Prelude.{◌≡◌, None};
-
-    ghost is_default = { λ s. s ≡ None };
-
-    // A vacant slot.
-    fn default() -> MutatorSlot {
-        MutatorSlot {
-            is_attached: false,
-            mutator: Mutator::new(),
-        }
-    }
-}
-
 impl MutatorSlot {
+    // A vacant slot.
+    pub(crate) fn new(alloc: Global) -> Result<MutatorSlot, AllocError>
+        ensures { IfOk result (λ s. s ≡ None) }
+    {
+        Ok(MutatorSlot {
+            is_attached: false,
+            mutator: Mutator::new(alloc)?,
+        })
+    }
+
     // The mutator, if one is attached.
     #[inline]
     pub(crate) fn mutator(&self) -> Option<&Mutator>

@@ -1,5 +1,5 @@
 //! The roots of a heap: how a slot's mutator is read, and how it changes.
-ghost use Rattle.std.specs.Prelude.{◌≡◌, ◌<◌, Some, IfSome, IfNone, IfOk, IfErr, length, slice_get, slice_index};
+ghost use Rattle.std.specs.Prelude.{◌≡◌, ◌<◌, Some, None, IfSome, IfNone, IfOk, IfErr, length, slice_get, slice_index};
 ghost use Rattle.words.specs.declared.limits.TheConstants.{STACK_WORDS};
 ghost use Rattle.heap_spec.specs.Heap.{Mutator as HeapMutator};
 ghost use Rattle.roots.specs.Roots.{no_roots, HasMutator, HasNoMutator, with_word, with_pushed, PopsWord, ChangesSlot, SetsWord};
@@ -8,6 +8,8 @@ mod calls;
 
 use crate::mutator::Mutator;
 use crate::mutator_slot::MutatorSlot;
+use std::alloc::AllocError;
+use std::array::try_from_fn;
 use std::marker::Model;
 use words::limits::{GLOBALS, SLOTS};
 use words::{Global, Refusal, Reg, Slot};
@@ -27,6 +29,16 @@ impl Model for Roots {
     ghost Value = { RootSet };
 
     ghost view = { λ r. record { mutators = r.mutators; globals = r.globals } };
+}
+
+// Slots, all of them vacant.
+fn vacant_slots(alloc: std::alloc::Global) -> Result<Mutators, AllocError>
+    ensures { IfOk result (λ slots. slots ≡ no_roots.mutators) }
+{
+    let slot = |_number: usize|
+        ensures { IfOk result (λ s. s ≡ None) }
+    { MutatorSlot::new(alloc) };
+    try_from_fn(slot)
 }
 
 // Puts a word into a register of a mutator that is attached.
@@ -54,14 +66,14 @@ fn pop_of(mutators: &mut Mutators, slot: Slot, into: Reg) -> u64
 }
 
 impl Roots {
-    /// No mutator, and globals of 0.
-    pub fn new() -> Roots
-        ensures { result ≡ no_roots }
+    /// No mutator, and globals of 0. The memory of all stacks is taken here.
+    pub fn new(alloc: std::alloc::Global) -> Result<Roots, AllocError>
+        ensures { IfOk result (λ roots. roots ≡ no_roots) }
     {
-        Roots {
-            mutators: Default::default(),
+        Ok(Roots {
+            mutators: vacant_slots(alloc)?,
             globals: [0; GLOBALS as usize],
-        }
+        })
     }
 
     /// The mutator attached at a slot.

@@ -11,15 +11,14 @@ use super::Core;
 use crate::extent::Extent;
 use crate::flags::{flag_marked, set_all, unset_all, unset_flag};
 use crate::listing::{Listing, list_closure};
-use arrayvec::ArrayVec;
-use roots::{ROOT_WORDS, Roots};
+use roots::{RootWords, Roots};
 use words::limits::FIRST_ADDRESS;
 
 // Lists the objects that are reached from the roots, or from the objects with flags.
 fn list_from_roots_and(
     flags: &[bool],
     roots: &Roots,
-    root_words: &mut ArrayVec<u64, ROOT_WORDS>,
+    root_words: &mut RootWords,
     words: &[u64],
     objects: &[Extent],
     owners: &[u64],

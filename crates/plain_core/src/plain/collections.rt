@@ -14,13 +14,12 @@ use crate::extent::Extent;
 use crate::listing::{Listing, list_reached};
 use crate::owners::write_owners;
 use crate::parting::{count_unflagged, keep_flagged};
-use arrayvec::ArrayVec;
-use roots::{ROOT_WORDS, Roots};
+use roots::{RootWords, Roots};
 
 // Lists the objects that are reached from the roots.
 pub(super) fn list_from_roots(
     roots: &Roots,
-    root_words: &mut ArrayVec<u64, ROOT_WORDS>,
+    root_words: &mut RootWords,
     words: &[u64],
     objects: &[Extent],
     owners: &[u64],

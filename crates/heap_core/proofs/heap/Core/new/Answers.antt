@@ -20,10 +20,10 @@ returns c = (
       traced = let pages = (c.in_ok-objects.ensures.1.1 (λ _. true)).pages in let blank = c.in_ok-marker.ensures.1 in traced_ended _ _ _ _ (blank.dirty.size ∙ pages) (fresh_objects _ _ _ blank) (λ is. absurd (true≢false is));
     };
     stands = record {
-      mutators = sym (ap (λ (r : RootSet). r.mutators) c.new-3.ensures);
-      globals = sym (ap (λ (r : RootSet). r.globals) c.new-3.ensures);
+      mutators = sym (ap (λ (r : RootSet). r.mutators) c.in_ok-roots.ensures);
+      globals = sym (ap (λ (r : RootSet). r.globals) c.in_ok-roots.ensures);
       store = c.in_ok-objects.ensures.1.1 _;
-      links = subst (λ row. AreNamed (λ _. None) row []) (sym c.new-4.ensures) none;
+      links = subst (λ row. AreNamed (λ _. None) row []) (sym c.new-5.ensures) none;
     };
     phase = refl;
     count = refl;
@@ -42,10 +42,10 @@ invariant_of-result c =
       sound = (
         opening c.args.pages,
         record {
-          mutators = sym (ap (λ (r : RootSet). r.mutators) c.new-3.ensures);
-          globals = sym (ap (λ (r : RootSet). r.globals) c.new-3.ensures);
+          mutators = sym (ap (λ (r : RootSet). r.mutators) c.in_ok-roots.ensures);
+          globals = sym (ap (λ (r : RootSet). r.globals) c.in_ok-roots.ensures);
           store = c.in_ok-objects.ensures.1.1 _;
-          links = subst (λ row. AreNamed (λ _. None) row []) (sym c.new-4.ensures) none;
+          links = subst (λ row. AreNamed (λ _. None) row []) (sym c.new-5.ensures) none;
         },
         opening_is c.args.pages c.in_ok-objects.ensures.0.0 c.in_ok-objects.ensures.0.1,
       );
