@@ -90,6 +90,13 @@ impl Mutator {
         self.stack.as_slice().last().copied()
     }
 
+    /// The words of the registers.
+    pub fn registers(&self) -> &[u64]
+        ensures { result.now ≡ self.now.registers }
+    {
+        &self.registers
+    }
+
     /// The stack, its bottom first.
     pub fn stack(&self) -> &[u64]
         ensures { result.now ≡ self.now.stack }
