@@ -22,3 +22,4 @@ pub mod Cells
 pub mod Flagging
 pub mod Aging
 pub mod Lowest
+pub mod Keeping

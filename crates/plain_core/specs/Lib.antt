@@ -12,3 +12,4 @@ pub mod Answering
 pub mod Flags
 pub mod Aging
 pub mod Wrongs
+pub mod Keepers

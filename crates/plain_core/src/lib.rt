@@ -11,7 +11,8 @@
 //! `flag_reached`, `flag_led` and `flag_brought` set the flags of what the roots, a word, or the word that a call brings into a
 //! root lead to; `flag_closure` those of what the roots or the old objects lead to, where `flag_all` and `unflag` keep the flags of
 //! the old ones. `wrong_collected` and `wrong_forgotten` tell the lowest of what is wrong where objects are said to be gone, if
-//! anything is (`TellsUncollected`, `TellsUnforgotten`), and change nothing.
+//! anything is (`TellsUncollected`, `TellsUnforgotten`), and change nothing. `keeper` tells of a reached object a root or a word of
+//! another reached object that points into it (`TellsKeeper`).
 #![tactic(auto)]
 
 mod along;
@@ -19,6 +20,7 @@ mod claims;
 mod extent;
 mod flags;
 mod given_place;
+mod keepers;
 mod listing;
 mod owners;
 mod parting;
@@ -27,5 +29,6 @@ mod plain;
 mod wrongs;
 
 pub use extent::Extent;
+pub use keepers::Keeper;
 pub use plain::Core;
 pub use wrongs::Wrong;

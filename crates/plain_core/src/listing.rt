@@ -101,11 +101,24 @@ fn list_flagged(flags: &[bool], objects: &[Extent], owners: &[u64], listing: &mu
 }
 
 // The object at a place.
-fn at(objects: &[Extent], index: usize) -> Extent
+pub(crate) fn at(objects: &[Extent], index: usize) -> Extent
     requires { index < length objects.now }
     ensures { slice_get objects.now index ≡ Some result }
 {
     objects[index]
+}
+
+// The words of an object that the collector reads.
+pub(crate) fn links(object: Extent, words: &[u64]) -> &[u64]
+    requires within { LiesIn words.now object }
+    ensures { result.now ≡ links_of words.now object }
+{
+    if object.kind == Kind::PointerFree {
+        return &[];
+    }
+    let start = word_index(object.base);
+    let end = start + object.length as usize;
+    &words[start..end]
 }
 
 // Lists the objects that the words of one point into.
@@ -121,12 +134,7 @@ fn list_links(
     requires within { LiesIn words.now object }
     ensures { ListsAll objects.now (links_of words.now object) listing.old listing.new }
 {
-    if object.kind == Kind::PointerFree {
-        return;
-    }
-    let start = word_index(object.base);
-    let end = start + object.length as usize;
-    list_all(&words[start..end], objects, owners, listing);
+    list_all(links(object, words), objects, owners, listing);
 }
 
 // Lists the objects that are reached from these roots, or from the objects with flags.
@@ -143,6 +151,7 @@ pub(crate) fn list_closure(
     requires room { HasListRoom (length objects.now) listing.old }
     requires within { All (LiesIn words.now) objects.now }
     ensures marks { MarksClosure roots.now words.now objects.now flags.now listing.new.marks.items }
+    ensures listed { IsListing objects.now listing.new }
     ensures room { KeepsRoom listing.old listing.new }
 {
     clear(objects, listing);
@@ -169,6 +178,7 @@ pub(crate) fn list_reached(
     requires room { HasListRoom (length objects.now) listing.old }
     requires within { All (LiesIn words.now) objects.now }
     ensures marks { MarksReached roots.now words.now objects.now listing.new.marks.items }
+    ensures listed { IsListing objects.now listing.new }
     ensures room { KeepsRoom listing.old listing.new }
 {
     list_closure(roots, &[], words, objects, owners, listing);

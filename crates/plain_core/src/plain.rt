@@ -8,6 +8,7 @@ mod aging;
 mod answers;
 mod collections;
 mod judging;
+mod keeping;
 mod linked;
 mod looking;
 mod objects;

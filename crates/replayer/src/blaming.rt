@@ -1,6 +1,7 @@
-//! What is wrong about the objects that a collection is said to have forgotten. The run stays where it was.
+//! What is wrong about the objects that a collection is said to have forgotten, and what keeps one of them. The run stays where it was.
 ghost use Rattle.std.specs.Prelude.{◌≡◌};
-ghost use Rattle.heap_spec.specs.Runs.{Start, Run};
+ghost use Rattle.heap_spec.specs.Runs.{Start, Run, heap_after};
+ghost use Rattle.plain_core.specs.Keepers.{TellsKeeper};
 ghost use Rattle.plain_core.specs.Wrongs.{TellsLowest};
 ghost use Rattle.replayer.specs.ReplayerContents.{Follows};
 ghost use Rattle.replayer.specs.Wrongs.{IsWrongFinish, IsWrongCollect, TellsWrong};
@@ -9,7 +10,7 @@ use crate::flags::wrong_forgotten;
 use crate::hint::Hint;
 use crate::replayer::Replayer;
 use heap_spec::Event;
-use plain_core::Wrong;
+use plain_core::{Keeper, Wrong};
 
 impl Replayer {
     // What is wrong about the bases that the end of a cycle is said to have forgotten.
@@ -61,5 +62,14 @@ impl Replayer {
         ensures same { self.new ≡ self.old }
     {
         self.wrong_by_kind(*event, hint)
+    }
+
+    /// What keeps the object with this base reached: a root that points into it, or else a word of another reached object.
+    /// `None` only if it isn't reached.
+    pub fn keeper(&mut self, base: u64) -> Option<Keeper>
+        ensures keeper { (start : Start) (run : Run) → Follows self.old start run → TellsKeeper (heap_after start run) base result }
+        ensures same { self.new ≡ self.old }
+    {
+        self.core.keeper(base)
     }
 }

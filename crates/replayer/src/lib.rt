@@ -14,9 +14,10 @@
 //! what was allocated before the last collection, with which a `gc partial` begins. A yes means that this is a line of a
 //! legal transcript, to the heap that the checker then holds; a no means that with this hint it is none, from no heap that
 //! the checker stands for, or that the count of births would pass 2^64 - 1; it stays where it was. `reply_to` is the one
-//! reply that an event has here, where it is known that only one is open (`Expects`), and `wrong_with` the lowest of what is wrong
-//! about the objects that a collection's hint names (`IsWrongOf`). By its law an event, a reply and what a
-//! hint says lead from a run whose heap is sound to at most one run, whose heap is sound (`replays_have_one_next`).
+//! reply that an event has here, where it is known that only one is open (`Expects`), and `wrong_with` the lowest of what is
+//! wrong about the objects that a collection's hint names (`IsWrongOf`); `keeper` tells what keeps an object reached
+//! (`TellsKeeper`). By its law an event, a reply and what a hint says lead from a run whose heap is sound to at most one run,
+//! whose heap is sound (`replays_have_one_next`).
 #![tactic(auto)]
 
 mod blaming;

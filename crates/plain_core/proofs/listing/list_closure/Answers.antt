@@ -41,3 +41,6 @@ returns-clause-marks c = record {
   are = c.loop-next.invariant.1;
   marks_all = traced_all _ _ _ _ _ _ c.loop-next-test.false c.loop-next.invariant.2;
 }
+
+pub returns-clause-listed : goal.returns-clause-listed
+returns-clause-listed c = c.loop-next.invariant.2.ready

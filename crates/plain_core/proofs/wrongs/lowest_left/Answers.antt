@@ -1,6 +1,6 @@
 use Rattle.std.proofs.Common.{◌≡◌, length, subst, arith}
 use Rattle.plain_core.specs.Wrongs.{TellsLowest, IsBelow, IsLeftAt}
-use Rattle.plain_core.proofs.Lowest.{below_none, below_one}
+use Rattle.plain_core.proofs.Lowest.{below_one}
 use Rattle.plain_core.proofs.wrongs.lowest_left.Goals as goal
 
 pub loop-index-preserved : goal.loop-index-preserved

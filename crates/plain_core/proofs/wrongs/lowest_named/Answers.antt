@@ -1,8 +1,7 @@
-use Rattle.std.proofs.Common.{◌≡◌, ◌≤◌, ◌∙◌, length, refl, subst, sym, arith}
-use Rattle.std.proofs.lemmas.List.{take_more, take_all}
+use Rattle.std.proofs.Common.{◌∙◌, subst, sym}
+use Rattle.std.proofs.lemmas.List.{take_more}
 use Rattle.plain_core.specs.Claims.{AreUnset}
-use Rattle.plain_core.specs.Wrongs.{TellsLowest, IsBelow, IsNamedAt}
-use Rattle.plain_core.proofs.Lowest.{below_none, below_one}
+use Rattle.plain_core.proofs.Lowest.{below_one}
 use Rattle.plain_core.proofs.wrongs.lowest_named.Goals as goal
 
 pub loop-index-preserved : goal.loop-index-preserved

@@ -1,5 +1,3 @@
-use Rattle.std.proofs.Common.{◌≡◌, get_or, length}
-use Rattle.std.specs.Prelude.{Some, slice_get}
 use Rattle.std.proofs.lemmas.Option.{slice_get-get_or}
 use Rattle.plain_core.proofs.Lowest.{named_missing, named_marked, named_twice, named_right}
 use Rattle.plain_core.proofs.wrongs.named_at.Goals as goal

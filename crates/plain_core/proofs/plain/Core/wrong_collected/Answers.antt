@@ -1,6 +1,6 @@
 use Rattle.std.proofs.Common.{refl, sym, subst, ◌∙◌}
 use Rattle.plain_core.specs.Claims.{AreUnset}
-use Rattle.plain_core.proofs.Collects.{sound_apart, all_lie, marks_are, room_for, room_kept}
+use Rattle.plain_core.proofs.Collects.{sound_apart, marks_are, room_for, room_kept}
 use Rattle.plain_core.proofs.Forgets.{one_each, all_set}
 use Rattle.plain_core.proofs.Lowest.{named_are, left_are, uncollected}
 use Rattle.plain_core.proofs.plain.Core.wrong_collected.Goals as goal

@@ -1,10 +1,9 @@
 use Rattle.std.proofs.Common.{refl, sym, subst, ap, arith, length, ◌∙◌}
 use Rattle.std.proofs.lemmas.List.{with_items_is}
 use Rattle.plain_core.specs.Claims.{AreUnset}
-use Rattle.plain_core.proofs.Collects.{sound_apart, all_lie, marks_are, room_for, room_kept}
+use Rattle.plain_core.proofs.Collects.{sound_apart, marks_are, room_for, room_kept}
 use Rattle.plain_core.proofs.Forgets.{one_each, all_set}
 use Rattle.plain_core.specs.Wrongs.{MarksFlagged}
-use Rattle.plain_core.proofs.Flagging.{starts}
 use Rattle.plain_core.proofs.Lowest.{named_are, left_are, unforgotten}
 use Rattle.plain_core.proofs.plain.Core.wrong_forgotten.Goals as goal
 
