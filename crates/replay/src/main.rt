@@ -51,7 +51,7 @@ fn print_wrong(rt: &HostRuntime, judgement: &Judgement) -> Result<(), Fault> {
     let Some(wrong) = judgement.wrong else {
         return Ok(());
     };
-    let Ok(text) = wrong_text(rt.alloc(), &wrong) else {
+    let Ok(text) = wrong_text(rt.alloc(), &wrong, judgement.keeper) else {
         return Err(Fault::Memory);
     };
     match println!(rt; "line {line}: {text}") {

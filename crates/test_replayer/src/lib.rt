@@ -6,6 +6,8 @@ mod answers;
 #[cfg(test)]
 mod changes;
 #[cfg(test)]
+mod keepers;
+#[cfg(test)]
 mod linking;
 #[cfg(test)]
 mod orders;

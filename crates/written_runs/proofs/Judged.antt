@@ -9,6 +9,7 @@ use Rattle.heap_spec.specs.Runs.{Start, Run, opening_start}
 use Rattle.replayer.specs.declared.hint.Hint.{Hint}
 use Rattle.replayer.specs.ReplayerContents.{ReplayerContents, Follows}
 use Rattle.replayer.specs.Replays.{IsReplay}
+use Rattle.plain_core.specs.declared.keepers.Keeper.{Keeper}
 use Rattle.plain_core.specs.declared.wrongs.Wrong.{Wrong}
 use Rattle.scripts.specs.Lines.{newline, lines_of}
 use Rattle.scripts.proofs.Texts.{lines_of-line, lines_of-last}
@@ -147,16 +148,17 @@ module _ (pages : ℕ) (text rest behind line : List ℕ) (number told : ℕ) (o
     expected = why.expected (opening_start pages) u.run u.follows;
   })
 
-  pub blamed : (verdict : Verdict) (wrong : Option Wrong) → IsLineVerdict old (number + 1) line verdict → IsLineBlamed old line verdict wrong → IsBlamed pages (lines_of text) verdict wrong
-  blamed (Legal count) wrong is why = why
-  blamed NoLines wrong is why = why
-  blamed (Bad n) wrong is why = why
-  blamed (Breaks n rule) wrong is why = fault (IsWrongLine (opening_start pages) wrong) n is.0 (record {
-    event = why.event;
-    given = why.given;
-    hint = why.hint;
-    is_written = why.is_written;
-    tells = why.tells (opening_start pages) u.run u.follows;
+  pub blamed : (verdict : Verdict) (wrong : Option Wrong) (keeper : Option Keeper) → IsLineVerdict old (number + 1) line verdict → IsLineBlamed old line verdict wrong keeper → IsBlamed pages (lines_of text) verdict wrong keeper
+  blamed (Legal count) wrong keeper is has = has
+  blamed NoLines wrong keeper is has = has
+  blamed (Bad n) wrong keeper is has = has
+  blamed (Breaks n rule) wrong keeper is has = fault (IsWrongLine (opening_start pages) wrong keeper) n is.0 (record {
+    event = has.event;
+    given = has.given;
+    hint = has.hint;
+    is_written = has.is_written;
+    tells = has.tells (opening_start pages) u.run u.follows;
+    why = has.why (opening_start pages) u.run u.follows;
   })
 
 -- the first line of a text that was cut at its first newline

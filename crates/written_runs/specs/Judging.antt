@@ -2,13 +2,17 @@
 use Rattle.std.specs.Prelude.{◌≡◌, ℕ, ◌+◌, ◌≤◌, Bool, true, false, Option, Some, None, List, [], ◌∷◌, ◌++◌, length}
 use Rattle.heap_spec.specs.declared.event.Event.{Event}
 use Rattle.heap_spec.specs.declared.reply.Reply.{Reply}
-use Rattle.heap_spec.specs.Runs.{Start, Run, opening_start}
+use Rattle.heap_spec.specs.Heap.{Heap}
+use Rattle.heap_spec.specs.Runs.{Start, Run, opening_start, heap_after}
 use Rattle.replayer.specs.declared.hint.Hint.{Hint}
-use Rattle.replayer.specs.ReplayerContents.{ReplayerContents}
+use Rattle.replayer.specs.ReplayerContents.{ReplayerContents, Follows}
 use Rattle.replayer.specs.Replays.{IsReplay, IsReplayed, IsNoReplay}
 use Rattle.replayer.specs.Expecting.{IsTheReply, Expects}
 use Rattle.replayer.specs.Wrongs.{IsWrongOf, TellsWrong}
+use Rattle.plain_core.specs.declared.keepers.Keeper.{Keeper}
 use Rattle.plain_core.specs.declared.wrongs.Wrong.{Wrong}
+use Rattle.plain_core.specs.declared.wrongs.Wrong.TheVariants.{IsMissing, StandsTwice, HasToStay, HasToGo}
+use Rattle.plain_core.specs.Keepers.{TellsKeeper}
 use Rattle.plain_core.specs.Wrongs.{TellsLowest}
 use Rattle.written_runs.specs.declared.rules.Rule.{Rule}
 use Rattle.written_runs.specs.declared.verdict.Judgement.{Judgement}
@@ -87,20 +91,29 @@ IsExplained pages lines NoLines (Some reply) = ⊥
 IsExplained pages lines (Bad number) (Some reply) = ⊥
 IsExplained pages lines (Breaks number rule) (Some reply) = HasFault (HadToAnswer (opening_start pages) reply) (opening_start pages) lines number
 
--- Of a line this is the lowest of what is wrong about the objects that it says were forgotten, or nothing is.
-pub record IsWrongLine (start : Start) (wrong : Option Wrong) (run : Run) (line : List ℕ) : Type 0 where
+-- where an object has to stay this keeps it, and else nothing is told
+abbrev pub IsWhy : Heap → Option Wrong → Option Keeper → Type 0
+IsWhy s None keeper = keeper ≡ None
+IsWhy s (Some (IsMissing base)) keeper = keeper ≡ None
+IsWhy s (Some (StandsTwice base)) keeper = keeper ≡ None
+IsWhy s (Some (HasToStay base)) keeper = TellsKeeper s base keeper
+IsWhy s (Some (HasToGo base)) keeper = keeper ≡ None
+
+-- Of a line this is the lowest of what is wrong about the objects that it says were forgotten, or nothing is, and why.
+pub record IsWrongLine (start : Start) (wrong : Option Wrong) (keeper : Option Keeper) (run : Run) (line : List ℕ) : Type 0 where
   pub event : Event
   pub given : Reply
   pub hint : Hint
   pub is_written : IsWritten line event given hint
   pub tells : TellsLowest (IsWrongOf start run event hint) wrong
+  pub why : IsWhy (heap_after start run) wrong keeper
 
 -- what is wrong about the objects that the line which breaks a run says were forgotten
-abbrev pub IsBlamed : ℕ → List (List ℕ) → Verdict → Option Wrong → Type 0
-IsBlamed pages lines (Legal count) wrong = wrong ≡ None
-IsBlamed pages lines NoLines wrong = wrong ≡ None
-IsBlamed pages lines (Bad number) wrong = wrong ≡ None
-IsBlamed pages lines (Breaks number rule) wrong = HasFault (IsWrongLine (opening_start pages) wrong) (opening_start pages) lines number
+abbrev pub IsBlamed : ℕ → List (List ℕ) → Verdict → Option Wrong → Option Keeper → Type 0
+IsBlamed pages lines (Legal count) wrong keeper = (wrong ≡ None) × (keeper ≡ None)
+IsBlamed pages lines NoLines wrong keeper = (wrong ≡ None) × (keeper ≡ None)
+IsBlamed pages lines (Bad number) wrong keeper = (wrong ≡ None) × (keeper ≡ None)
+IsBlamed pages lines (Breaks number rule) wrong keeper = HasFault (IsWrongLine (opening_start pages) wrong keeper) (opening_start pages) lines number
 
 -- A line leads a replayer on: it is written of an event, its reply and a hint that replay.
 pub record LeadsOn (old : ReplayerContents) (line : List ℕ) (new : ReplayerContents) : Type 0 where
@@ -154,26 +167,31 @@ IsLineExplained old line NoLines (Some reply) = ⊥
 IsLineExplained old line (Bad n) (Some reply) = ⊥
 IsLineExplained old line (Breaks n rule) (Some reply) = HasToAnswer old reply line
 
--- Of a line this is the lowest of what is wrong in each run that a replayer follows, or nothing is.
-pub record HasWrong (old : ReplayerContents) (wrong : Option Wrong) (line : List ℕ) : Type 0 where
+-- what keeps the object in each run that a replayer follows, where it has to stay
+abbrev pub TellsWhy : ReplayerContents → Option Wrong → Option Keeper → Type 0
+TellsWhy r wrong keeper = (start : Start) (run : Run) → Follows r start run → IsWhy (heap_after start run) wrong keeper
+
+-- Of a line this is the lowest of what is wrong in each run that a replayer follows, or nothing is, and why.
+pub record HasWrong (old : ReplayerContents) (wrong : Option Wrong) (keeper : Option Keeper) (line : List ℕ) : Type 0 where
   pub event : Event
   pub given : Reply
   pub hint : Hint
   pub is_written : IsWritten line event given hint
   pub tells : TellsWrong old event hint wrong
+  pub why : TellsWhy old wrong keeper
 
 -- and what is wrong about the objects that it says were forgotten
-abbrev pub IsLineBlamed : ReplayerContents → List ℕ → Verdict → Option Wrong → Type 0
-IsLineBlamed old line (Legal count) wrong = wrong ≡ None
-IsLineBlamed old line NoLines wrong = wrong ≡ None
-IsLineBlamed old line (Bad n) wrong = wrong ≡ None
-IsLineBlamed old line (Breaks n rule) wrong = HasWrong old wrong line
+abbrev pub IsLineBlamed : ReplayerContents → List ℕ → Verdict → Option Wrong → Option Keeper → Type 0
+IsLineBlamed old line (Legal count) wrong keeper = (wrong ≡ None) × (keeper ≡ None)
+IsLineBlamed old line NoLines wrong keeper = (wrong ≡ None) × (keeper ≡ None)
+IsLineBlamed old line (Bad n) wrong keeper = (wrong ≡ None) × (keeper ≡ None)
+IsLineBlamed old line (Breaks n rule) wrong keeper = HasWrong old wrong keeper line
 
 -- What is said of a line.
 pub record IsSaid (old : ReplayerContents) (number : ℕ) (line : List ℕ) (judgement : Judgement) : Type 0 where
   pub verdict : IsLineVerdict old number line judgement.verdict
   pub expected : IsLineExplained old line judgement.verdict judgement.expected
-  pub wrong : IsLineBlamed old line judgement.verdict judgement.wrong
+  pub wrong : IsLineBlamed old line judgement.verdict judgement.wrong judgement.keeper
 
 -- whether a line takes a replayer on, or else what is said of it
 abbrev pub IsLineJudged : ReplayerContents → ℕ → List ℕ → Option Judgement → ReplayerContents → Type 0

@@ -10,7 +10,8 @@
 //! nothing; a broken one, if it does and line n is told and written of an event, a reply and a hint with which this run
 //! doesn't go on, and the rule is that of a line of this kind (`rule_of`); its words are only tested. Of a broken line it may
 //! also name the reply that its run goes on by, alone of all (`IsExplained`, `IsTheReply`), and it names the lowest of what is
-//! wrong about the objects that the line says were forgotten, if anything is (`IsBlamed`, `IsWrongOf`). Two laws: a line is
+//! wrong about the objects that the line says were forgotten, if anything is, and what keeps an object that has to stay
+//! (`IsBlamed`, `IsWrongOf`, `TellsKeeper`). Two laws: a line is
 //! written of at most one event, reply and hint (`lines_have_one_reading`), and of the lines of a run at most one verdict is true
 //! (`runs_have_one_verdict`). `line_text` writes such a line, and `words_given` reads the words of both programs
 //! (`AreGiven`).

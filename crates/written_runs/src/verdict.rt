@@ -3,14 +3,14 @@ ghost use Rattle.std.specs.Prelude.{◌≡◌, ◌<◌, ◌≤◌, [], ◌∷◌
 ghost use Rattle.words.specs.declared.limits.TheConstants.{MAX_PAGES};
 ghost use Rattle.scripts.specs.Lines.{lines_of};
 ghost use Rattle.replayer.specs.Expecting.{Expects};
-ghost use Rattle.written_runs.specs.Judging.{IsBlamed, IsExplained, IsJudged, IsLineJudged};
+ghost use Rattle.written_runs.specs.Judging.{IsBlamed, IsExplained, IsJudged, IsLineJudged, TellsWhy};
 ghost use Rattle.written_runs.specs.Told.{is_comment, told_lines};
 
 use crate::cut::cut;
 use crate::line::read_line;
 use crate::rules::{Rule, rule_of};
 use heap_spec::{Event, Reply};
-use plain_core::Wrong;
+use plain_core::{Keeper, Wrong};
 use replayer::Replayer;
 use std::alloc::{AllocError, Global};
 use words::RunError;
@@ -32,12 +32,13 @@ pub enum Verdict {
 }
 
 /// What is said of a written run, and of a line that breaks it which reply it had to have, where just one is open, and the lowest
-/// of what is wrong about the objects that it says were forgotten, if anything is.
+/// of what is wrong about the objects that it says were forgotten, if anything is: with what keeps the object, where it has to stay.
 #[derive(Clone, Copy, Debug, PartialEq, Eq)]
 pub struct Judgement {
     pub verdict: Verdict,
     pub expected: Option<Reply>,
     pub wrong: Option<Wrong>,
+    pub keeper: Option<Keeper>,
 }
 
 // A verdict of which there is no more to say.
@@ -45,11 +46,13 @@ fn plainly(verdict: Verdict) -> Judgement
     ensures verdict { result.verdict ≡ verdict }
     ensures expected { result.expected ≡ None }
     ensures wrong { result.wrong ≡ None }
+    ensures keeper { result.keeper ≡ None }
 {
     Judgement {
         verdict,
         expected: None,
         wrong: None,
+        keeper: None,
     }
 }
 
@@ -66,6 +69,20 @@ fn other_reply(replayer: &mut Replayer, event: &Event, reply: &Reply) -> Option<
         return None;
     }
     Some(expected)
+}
+
+// What keeps an object, where it is wrong that it is gone.
+fn keeper_of(replayer: &mut Replayer, wrong: Option<Wrong>) -> Option<Keeper>
+    ensures why { TellsWhy replayer.old wrong result }
+    ensures same { replayer.new ≡ replayer.old }
+{
+    match wrong {
+        None => None,
+        Some(Wrong::IsMissing(_)) => None,
+        Some(Wrong::StandsTwice(_)) => None,
+        Some(Wrong::HasToStay(base)) => replayer.keeper(base),
+        Some(Wrong::HasToGo(_)) => None,
+    }
 }
 
 // Whether a line is a comment.
@@ -107,10 +124,12 @@ fn judge_line(
     let rule = rule_of(&line.event, &line.reply, hint);
     let expected = other_reply(replayer, &line.event, &line.reply);
     let wrong = replayer.wrong_with(&line.event, hint);
+    let keeper = keeper_of(replayer, wrong);
     Ok(Some(Judgement {
         verdict: Verdict::Breaks(number, rule),
         expected,
         wrong,
+        keeper,
     }))
 }
 
@@ -135,7 +154,7 @@ pub fn judge(alloc: Global, pages: u32, text: &str) -> Result<Judgement, RunErro
     requires { (1 ≤ pages) × (pages ≤ MAX_PAGES) }
     ensures verdict { IfOk result (λ said. IsJudged pages (lines_of text.now) said.verdict) }
     ensures expected { IfOk result (λ said. IsExplained pages (lines_of text.now) said.verdict said.expected) }
-    ensures wrong { IfOk result (λ said. IsBlamed pages (lines_of text.now) said.verdict said.wrong) }
+    ensures wrong { IfOk result (λ said. IsBlamed pages (lines_of text.now) said.verdict said.wrong said.keeper) }
 {
     let mut replayer = Replayer::new(alloc, pages)?;
     let mut number = 0u64;

@@ -5,8 +5,9 @@ ghost use Rattle.scripts.specs.Grammar.{IsLineOf};
 ghost use Rattle.written_runs.specs.Written.{answer_of, bases_text, hint_text, IsAnswer, NamesWords, IsWritten};
 
 use heap_spec::Reply;
-use plain_core::Wrong;
+use plain_core::{Keeper, Wrong};
 use replayer::Hint;
+use roots::Root;
 use std::alloc::{AllocError, Global};
 
 /// The text of a reply in a line: each word is its number.
@@ -26,14 +27,42 @@ pub fn reply_text(alloc: Global, reply: &Reply) -> Result<String, AllocError>
     }
 }
 
-/// What is wrong about an object that was forgotten or kept, in words.
-pub fn wrong_text(alloc: Global, wrong: &Wrong) -> Result<String, AllocError> {
+// What is wrong about an object that was forgotten or kept, in words.
+fn plain_text(alloc: Global, wrong: &Wrong) -> Result<String, AllocError> {
     match wrong {
         Wrong::IsMissing(base) => format!(in alloc; "no object is at {base}"),
         Wrong::StandsTwice(base) => format!(in alloc; "{base} is named twice"),
         Wrong::HasToStay(base) => format!(in alloc; "the object at {base} has to stay"),
         Wrong::HasToGo(base) => format!(in alloc; "the object at {base} has to go"),
     }
+}
+
+// What keeps an object, in words.
+fn keeper_text(alloc: Global, keeper: &Keeper) -> Result<String, AllocError> {
+    match keeper {
+        Keeper::ByRoot(Root::Register(slot, reg)) => {
+            format!(in alloc; "register {reg} of mutator {slot}")
+        }
+        Keeper::ByRoot(Root::Stack(slot, index)) => {
+            format!(in alloc; "word {index} on the stack of mutator {slot}")
+        }
+        Keeper::ByRoot(Root::Global(index)) => format!(in alloc; "global {index}"),
+        Keeper::ByWord(base, index) => { format!(in alloc; "word {index} of the object at {base}") }
+    }
+}
+
+/// What is wrong about an object that was forgotten or kept, in words, with what keeps it, if that is told.
+pub fn wrong_text(
+    alloc: Global,
+    wrong: &Wrong,
+    keeper: Option<Keeper>,
+) -> Result<String, AllocError> {
+    let said = plain_text(alloc, wrong)?;
+    let Some(keeper) = keeper else {
+        return Ok(said);
+    };
+    let kept = keeper_text(alloc, &keeper)?;
+    format!(in alloc; "{said}: {kept} points into it")
 }
 
 // Puts bases behind a text, each behind a space.
