@@ -147,7 +147,7 @@ pub(crate) fn changes(
         links,
         new.truth.links.as_slice(),
     )?;
-    let read = reads_of(core, event, reply);
+    let read = reads_of(alloc, core, event, reply)?;
     let cycle = cycle_changes(
         alloc,
         &old.truth,
