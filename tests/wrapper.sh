@@ -72,7 +72,7 @@ try_ends() {
 # copy_tree FOLDER: what the wrapper reads of the repository.
 copy_tree() {
     mkdir -p "$1"
-    (cd "$top" && tar cf - mpheap wrapper README.md HANDLES crates.txt c include crates/*/{src,specs,proofs} crates/mpheap/args 2>/dev/null) |
+    (cd "$top" && tar cf - mpheap wrapper viewer README.md HANDLES crates.txt c include crates/*/{src,specs,proofs} crates/mpheap/args 2>/dev/null) |
         tar xf - -C "$1"
 }
 
@@ -127,6 +127,7 @@ usage_comes_first() {
     has "no words: stress" "mpheap stress --seed S --mutators M --steps K" "$err"
     has "no words: record" "mpheap record --pages N FILE" "$err"
     has "no words: replay" "mpheap replay --pages N FILE" "$err"
+    has "no words: draw" "mpheap draw --pages N [FILE]" "$err"
     has "no words: build" "mpheap build" "$err"
     has "no words: install" "mpheap install PREFIX" "$err"
     has "no words: which page says more" "$tree/docs/SCRIPTS.md" "$err"
@@ -221,6 +222,27 @@ wrong_words_are_told() {
     refused 2 "replay --pages N FILE" "'--pages' has to be the first word behind 'replay'" replay first.script --pages 4
     refused 2 "record --pages N FILE" "'record' takes a number of pages and one FILE" record --pages 4
     refused 2 "replay --pages N FILE" "'0' is no number for '--pages': 1 to 4096, in decimal" replay --pages 0 first.script
+}
+
+# A drawn run is the page with the trace that the program printed: joined wherever there is any line, with its status.
+a_drawn_run_is_a_page() {
+    try_ends 0 $'{"title":"a script"}\n{"c":"attach","r":"<"}\n'
+    call draw --pages 4 first.script
+    is "draw: its crate and words" "draw try -- --pages 4 /dev/stdin" "$(calls)"
+    is "draw: the page" "<!doctype html>" "$(printf '%s' "${out%%$'\n'*}" | tr '[:upper:]' '[:lower:]')"
+    has "draw: the trace is in it" '{"c":"attach","r":"\u003c"}' "$out"
+    has "draw: its title is FILE's name" '{"title":"first"}' "$out"
+    try_ends 2 $'{"c":"attach"}\n' "bad line 2"
+    call draw --pages 4 first.script
+    is "draw: the status of a bad line" 2 "$status"
+    has "draw: the lines before it are drawn" '{"c":"attach"}' "$out"
+    try_ends 1 "" "no memory"
+    call draw --pages 4 first.script
+    is "draw: no line, no page" "" "$out"
+    echo "0 get 1" >"$room/script"
+    call draw --pages 4 <"$room/script"
+    is "draw: a script from standard input" "draw try -- --pages 4 /dev/stdin|0 get 1" "$(calls)|$(input)"
+    refused 2 "draw --pages N FILE" "'draw' takes a number of pages and one FILE" draw --pages 4 a b
 }
 
 # The limits that the wrapper knows are those of the program.
@@ -373,13 +395,14 @@ build_shows_its_way() {
     call build
     is "a build: status" 0 "$status"
     is "a build: a line of output for each program and for C" \
-        "$(printf "mpheap: the proved build is $tree/crates/%s/out/%s\n" mpheap mpheap replay replay record record mpheap_c libmpheap_c.a
+        "$(printf "mpheap: the proved build is $tree/crates/%s/out/%s\n" mpheap mpheap replay replay record record draw draw mpheap_c libmpheap_c.a
             echo "mpheap: a program in C: cc -I$tree/include program.c $tree/crates/mpheap_c/out/libmpheap.a")" "$out"
     is "a build: the archive" yes "$(test -f "$tree/crates/mpheap_c/out/libmpheap.a" && echo yes || echo no)"
     has "a build: how long, beforehand" "minutes" "$(head -n 1 "$room/err")"
     is "a build: the lowest crate first" "words lib" "$(calls | head -n 1)"
     is "a build: each program is run on nothing" \
-        "$(lines "mpheap run -- run --pages 1" "replay run -- --pages 1 /dev/null" "record run -- --pages 1 /dev/null")" \
+        "$(lines "mpheap run -- run --pages 1" "replay run -- --pages 1 /dev/null" "record run -- --pages 1 /dev/null" \
+            "draw run -- --pages 1 /dev/null")" \
         "$(calls | grep -v ' lib$')"
     is "a build: a line for each crate" "$(calls | wc -l)" "$(grep -c ' of .*: proved, ' "$room/err")"
     lacks "a build: no crate that isn't below" "elsewhere" "$(calls)"
@@ -574,6 +597,7 @@ open_room
 usage_comes_first
 words_stay_as_they_are
 each_program_is_called_by_its_name
+a_drawn_run_is_a_page
 wrong_words_are_told
 limits_are_the_programs
 file_is_the_callers

@@ -12,7 +12,7 @@ most_seed=18446744073709551615
 # options_of COMMAND: its options, which all have a number.
 options_of() {
     case $1 in
-        run | replay | record) echo pages ;;
+        run | replay | record | draw) echo pages ;;
         threads) echo pages helpers ;;
         stress) echo seed mutators steps ;;
     esac
@@ -37,7 +37,7 @@ takes_file() {
 
 # reads_input COMMAND: it reads standard input where it is given no FILE.
 reads_input() {
-    [ "$1" = run ]
+    case $1 in run | draw) true ;; *) false ;; esac
 }
 
 # is_in A LIST: the word is one of the list.
@@ -92,19 +92,19 @@ look_at_place() {
 
 # has_one_order COMMAND: its words are --pages, a number and FILE, whatever FILE looks like.
 has_one_order() {
-    case $1 in replay | record) true ;; *) false ;; esac
+    case $1 in replay | record | draw) true ;; *) false ;; esac
 }
 
 look_at_order() {
     has_one_order "$1" || return 0
     [ "${2-}" = --pages ] || bad_words "'--pages' has to be the first word behind '$1'"
-    [ $# = 4 ] || bad_words "'$1' takes a number of pages and one FILE"
+    [ $# = 4 ] || { [ $# = 3 ] && reads_input "$1"; } || bad_words "'$1' takes a number of pages and one FILE"
 }
 
 # Looks at all words of a command line. What is left in file_at is the place of FILE among them, 0 if there is none.
 look_at_words() {
     command=$1 file_at=0 file='' at=0 option='' given='' are_options=yes
-    is_in "$command" "run threads stress replay record" || bad_words "'$1' is no command"
+    is_in "$command" "run threads stress replay record draw" || bad_words "'$1' is no command"
     look_at_order "$@"
     for word in "$@"; do
         at=$((at + 1))

@@ -1,0 +1,14 @@
+pub mod Sets
+pub mod Links
+pub mod Entries
+pub mod Pages
+pub mod Truth
+pub mod Leaving
+pub mod Comings
+pub mod RootWords
+pub mod Stacks
+pub mod HeapWords
+pub mod Looked
+pub mod Values
+pub mod Seen
+pub mod Telling

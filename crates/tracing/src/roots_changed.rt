@@ -1,0 +1,146 @@
+//! Which register and which global a call changed: it puts a word into at most one.
+ghost use Rattle.std.specs.Prelude.{◌≡◌};
+ghost use Rattle.std.specs.Option.{option_map};
+ghost use Rattle.heap_spec.specs.Steps.{register};
+ghost use Rattle.tracing.specs.RootWords.{words_put as words_put_of, changed_global, changed_register, event_put, global_of as global_put_of, into_of as into_register, register_of as register_put_of, there_at};
+
+use heap_spec::{Call, Event};
+use plain_core::Core;
+use trace_lines::{Numbered, RegisterWord};
+use words::{Global, Reg, Slot};
+
+/// The register and the global that an event may put a word into, with their words.
+#[derive(Clone, Copy)]
+pub(crate) struct PutWords {
+    pub(crate) register: Option<RegisterWord>,
+    pub(crate) global: Option<Numbered>,
+}
+
+// The register that a call puts a word into.
+fn into_of(call: &Call) -> Option<Reg>
+    ensures { result ≡ into_register call.now }
+{
+    match call {
+        Call::Set(into, _)
+        | Call::Copy(into, _)
+        | Call::Add(into, _, _)
+        | Call::Sub(into, _, _)
+        | Call::Pop(into)
+        | Call::Load(into, _, _)
+        | Call::Alloc(into, _, _)
+        | Call::Base(into, _)
+        | Call::GlobalGet(into, _) => Some(*into),
+        Call::Detach
+        | Call::Get(_)
+        | Call::Push(_)
+        | Call::Store(_, _, _)
+        | Call::Free(_)
+        | Call::Size(_)
+        | Call::GlobalPut(_, _)
+        | Call::Link(_, _, _)
+        | Call::Unlink(_, _) => None,
+    }
+}
+
+// The word of a register, if its slot has a mutator.
+fn word_of(core: &Core, slot: Slot, reg: Reg) -> Option<u64>
+    ensures { result ≡ option_map (λ m. register m reg) (there_at core.now.roots slot) }
+{
+    match core.roots().mutator(slot) {
+        Some(mutator) => Some(mutator.word(reg)),
+        None => None,
+    }
+}
+
+// The register that an event may change, with its word.
+fn register_of(core: &Core, event: &Event) -> Option<RegisterWord>
+    ensures { result ≡ register_put_of core.now.roots event.now }
+{
+    let Event::Mutator(slot, call) = event else {
+        return None;
+    };
+    let Some(reg) = into_of(call) else {
+        return None;
+    };
+    let Some(word) = word_of(core, *slot, reg) else {
+        return None;
+    };
+    Some(RegisterWord {
+        slot: u64::from(slot.number()),
+        register: u64::from(reg.number()),
+        word,
+    })
+}
+
+// The global that an event may change.
+fn global_put(event: &Event) -> Option<Global>
+    ensures { result ≡ event_put event.now }
+{
+    let Event::Mutator(_, call) = event else {
+        return None;
+    };
+    let Call::GlobalPut(global, _) = call else {
+        return None;
+    };
+    Some(*global)
+}
+
+// The global that an event may change, with its word.
+fn global_of(core: &Core, event: &Event) -> Option<Numbered>
+    ensures { result ≡ global_put_of core.now.roots event.now }
+{
+    let Some(global) = global_put(event) else {
+        return None;
+    };
+    Some(Numbered {
+        number: u64::from(global.number()),
+        word: core.roots().global(global),
+    })
+}
+
+/// What an event may put a word into, as it is in a core.
+pub(crate) fn words_put(core: &Core, event: &Event) -> PutWords
+    ensures { result ≡ words_put_of core.now.roots event.now }
+{
+    PutWords {
+        register: register_of(core, event),
+        global: global_of(core, event),
+    }
+}
+
+/// The register, if its word is another than before.
+pub(crate) fn register_change(
+    old: Option<RegisterWord>,
+    new: Option<RegisterWord>,
+) -> Option<RegisterWord>
+    ensures { result ≡ changed_register old new }
+{
+    let Some(old) = old else {
+        return None;
+    };
+    let Some(new) = new else {
+        return None;
+    };
+    if old.word == new.word {
+        None
+    } else {
+        Some(new)
+    }
+}
+
+/// The global, if its word is another than before.
+pub(crate) fn global_change(old: Option<Numbered>, new: Option<Numbered>) -> Option<Numbered>
+    ensures { result ≡ changed_global old new }
+{
+    let Some(old) = old else {
+        return None;
+    };
+    let Some(new) = new else {
+        return None;
+    };
+    if old.word == new.word {
+        None
+    } else {
+        Some(new)
+    }
+}

@@ -1,0 +1,128 @@
+"""Compares a trace (docs/TRACE.md) with the run of the same script that `record` wrote down: compare.py TRACE RUN.
+
+After each line both have to agree on objects, their words, roots, links, the phase, the count, and on what is reached and
+touched. Of what a collector knows: after each collection the objects that are left are those that are marked, no page is dirty
+and no entry is left; a cycle that begins has no dirty or carried page and, if it is full, no mark; a store's page is dirty; and
+the pages of forgotten objects are the pending ones.
+"""
+import json
+import sys
+
+from run import PAGE, Run
+
+SETS = ["marked", "reached", "touched", "dirty", "carried", "pending"]
+
+
+class Trace:
+    """The state of the page, by the format alone."""
+
+    def __init__(self):
+        self.mutators, self.globals, self.words, self.objects, self.links = {}, {}, {}, {}, {}
+        self.forgotten, self.phase, self.count, self.entries = set(), 0, 0, []
+        for name in SETS:
+            setattr(self, name, set())
+
+    def fold_objects(self, record):
+        for slot in record.get("attach", []):
+            self.mutators[slot] = ([0] * 16, [])
+        for slot in record.get("detach", []):
+            del self.mutators[slot]
+        for name in SETS:
+            change = record.get(name, {})
+            getattr(self, name).difference_update(change.get("-", []))
+        for place in record.get("forget", []):
+            del self.objects[place]
+            self.forgotten.add(place)
+        for place in record.get("free", []):
+            if place in self.forgotten:
+                self.forgotten.remove(place)
+            else:
+                del self.objects[place]
+        for place, birth, n, kind in record.get("new", []):
+            assert place not in self.objects and place not in self.forgotten, place
+            self.objects[place] = (birth, n, kind)
+            for at in range(place, place + n):
+                self.words.pop(at, None)
+
+    def fold(self, record):
+        self.fold_objects(record)
+        for name in SETS:
+            change = record.get(name, {})
+            if "=" in change:
+                setattr(self, name, set(change["="]))
+            getattr(self, name).update(change.get("+", []))
+        for at, word in record.get("wrote", []):
+            self.words[at] = int(word)
+        for slot, number, word in record.get("regs", []):
+            self.mutators[slot][0][number] = int(word)
+        for slot, keep, *pushed in record.get("stacks", []):
+            self.mutators[slot][1][keep:] = [int(word) for word in pushed]
+        for number, word in record.get("globals", []):
+            self.globals[number] = int(word)
+        for at, base in record.get("links", []):
+            if base is None:
+                del self.links[at]
+            else:
+                self.links[at] = base
+        if "entries" in record:
+            keep, *pushed = record["entries"]
+            self.entries[keep:] = [place for place, _ in pushed]
+        self.phase, self.count = record.get("phase", self.phase), record.get("count", self.count)
+
+
+def nonzero(words):
+    return {at: word for at, word in words.items() if word}
+
+
+def words_of(objects, words):
+    return {at: word for place, (_, n, _) in objects.items() for at in range(place, place + n) if (word := words.get(at, 0))}
+
+
+def known(trace, record):
+    """What a collector has to know after a line, and what the trace says that it knows."""
+    if "refused" in record["r"]:
+        return {}
+    if record["c"] == "gc begin":
+        return {"dirty": (trace.dirty, set()), "carried": (trace.carried, set()), "marked": (trace.marked, set())}
+    if record["c"] in ("gc finish", "gc collect"):
+        return {"dirty": (trace.dirty, set()), "entries": (trace.entries, []), "marked": (trace.marked, set(trace.objects))}
+    if record["c"] == "gc partial":
+        return {"carried": (trace.carried, set())}
+    stored = {place // PAGE for place, _ in record.get("wrote", [])} if " store " in record["c"] else set()
+    unmarked = [place for place in trace.entries if place not in trace.marked and place in trace.objects]
+    return {"stored": (stored - trace.dirty, set()), "entries": (unmarked, [])}
+
+
+def compare(trace, run, record):
+    pairs = {
+        "objects": (trace.objects, run.objects),
+        "words": (words_of(trace.objects, trace.words), words_of(run.objects, run.words)),
+        "mutators": (trace.mutators, run.mutators),
+        "globals": (nonzero(trace.globals), nonzero(run.globals)),
+        "links": (trace.links, run.links),
+        "phase": (trace.phase, int(run.marking)),
+        "count": (trace.count, run.count),
+        "reached": (trace.reached, run.reached()),
+        "touched": (trace.touched, run.touched),
+    }
+    pairs |= known(trace, record)
+    pairs["forgotten"] = ({place // PAGE for place in trace.forgotten}, trace.pending)
+    return [f"{what}: trace {left}, run {right}" for what, (left, right) in pairs.items() if left != right]
+
+
+def main(trace_path, run_path):
+    lines = open(trace_path).read().splitlines()
+    told = [line for line in open(run_path).read().splitlines() if not line.startswith("#")]
+    head = json.loads(lines[0])
+    assert head["mpheap"] == "trace" and head["version"] == 1 and head["lines"] == len(lines) - 1 == len(told), head
+    trace, run = Trace(), Run()
+    for number, (line, said) in enumerate(zip(lines[1:], told), 1):
+        record = json.loads(line)
+        command = run.step(said)
+        trace.fold(record)
+        differs = compare(trace, run, record)
+        if record["c"] != command or differs:
+            sys.exit(f"line {number}, {command}: " + "; ".join(differs))
+
+
+main(*sys.argv[1:])

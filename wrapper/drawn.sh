@@ -1,0 +1,27 @@
+# shellcheck shell=sh disable=SC2154 # (mpheap has the other names)
+# Part of the wrapper mpheap, read by it: the page of `draw`, which is its trace joined with the page in viewer/.
+
+# titled TRACE: the trace, which the program calls a script, by the name of FILE, of which no character needs JSON's escapes.
+titled() {
+    title=$(basename -- "${file:-a script}" .script | LC_ALL=C tr -cd 'A-Za-z0-9_. -')
+    sed "1s/\"title\":\"a script\"/\"title\":\"$title\"/" "$1"
+}
+
+# give FILE: what a program printed; of `draw` the page that shows it, if there is any line to show.
+give() {
+    if [ "$program" != draw ]; then
+        cat "$1"
+    elif [ -s "$1" ]; then
+        titled "$1" | "$here/viewer/join.sh" -
+    fi
+}
+
+# draw_proved WORDS..: the page of a run by the proved build, with the status of that.
+draw_proved() {
+    make_room
+    "$(built draw)" "$@" >"$room/trace" <&0 &
+    wait_for_child
+    status=$?
+    give "$room/trace" || no_answer "the page can't be written to standard output"
+    exit "$status"
+}
