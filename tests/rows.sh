@@ -1,39 +1,11 @@
 #!/usr/bin/env bash
 # Runs the rows of tests/rows, all worked by hand: scripts beside their replies, workloads beside what is printed, lines that are none, and
-# written runs beside what is said of them. It takes the proved programs that `rt ci` or `./mpheap build` left, in some seconds; where
-# they aren't there it makes unproved builds.
+# written runs beside what is said of them. Over proved programs (tests/cases.sh) it takes some seconds.
 set -uo pipefail
-top=$(dirname "$(dirname "$(readlink -f "${BASH_SOURCE[0]}")")")
+kind=rows
+# shellcheck source=tests/cases.sh
+. "$(dirname "$(readlink -f "${BASH_SOURCE[0]}")")/cases.sh"
 rows=$top/tests/rows
-room=$(mktemp -d)
-trap 'rm -rf "$room"' EXIT
-trap 'exit 143' INT TERM HUP
-passed=0
-failed=0
-
-# is WHAT WANTED SEEN
-is() {
-    if [ "$2" = "$3" ]; then
-        passed=$((passed + 1))
-    else
-        failed=$((failed + 1))
-        printf 'rows: %s\n  wanted: %s\n  seen:   %s\n' "$1" "$2" "$3"
-    fi
-}
-
-# open_cases PROGRAM: the cases of a program.
-open_cases() {
-    program=$1
-    cases=$room/$program
-    mkdir "$cases"
-}
-
-# case_is NAME STATUS SAID WORDS..: how the program is to end with these words, where {} is the file NAME of `cases`. What it is to print
-# lies beside that file.
-case_is() {
-    printf '%s\n' "${@:4}" >"$cases/$1.args"
-    printf '%s|%s|%s\n' "$1" "$2" "$3" >>"$cases.wanted"
-}
 
 good_scripts() {
     local name pages
@@ -101,31 +73,6 @@ run_texts() {
     done < <(texts run_texts)
 }
 
-run_proved() {
-    local name status said words
-    while IFS='|' read -r name status said; do
-        mapfile -t words <"$cases/$name.args"
-        "$top/crates/$program/out/$program" "${words[@]/#\{\}/"$cases/$name"}" >"$room/out" 2>"$room/err" </dev/null
-        is "$name: status, what is said" "$status $said" "$? $(cat "$room/err")"
-        is "$name: what is printed" "" "$(cmp "$cases/$name.stdout" "$room/out" 2>&1)"
-    done <"$cases.wanted"
-}
-
-run_unproved() {
-    local name status said
-    echo "rows: no proved $program here: an unproved build, of which only what it prints and its status are compared"
-    (cd "$top/crates/$program" && rt try --cases "$cases") >"$room/out" 2>&1
-    while IFS='|' read -r name status said; do
-        is "$name" 1 "$(grep -c "^case=$name run=ended status=$status .* output=expected" "$room/out")"
-    done <"$cases.wanted"
-}
-
-# run_cases LEAST: the cases of the program, of which there are so many at least.
-run_cases() {
-    is "cases of $program" yes "$([ "$(wc -l <"$cases.wanted")" -ge "$1" ] && echo yes)"
-    if [ -x "$top/crates/$program/out/$program" ]; then run_proved; else run_unproved; fi
-}
-
 open_cases mpheap
 good_scripts
 bad_lines
@@ -135,5 +82,4 @@ open_cases replay
 written_runs
 run_texts
 run_cases 130
-echo "rows: $passed passed, $failed failed"
-[ "$failed" = 0 ]
+close_cases

@@ -1,8 +1,7 @@
 #!/usr/bin/env bash
 # Tests of the wrapper `mpheap` at the top of the repository, over a copy of the tree. What the wrapper alone decides is tested
 # with a stand-in for rt, which notes how it was called and answers as it is told. Meanwhile some runs of the real rt go on, over
-# another copy, so that the stand-in's answers are known to be rt's; one more runs examples/, and tests/replay.sh is called. It
-# leaves nothing behind.
+# another copy, so that the stand-in's answers are known to be rt's. It leaves nothing behind.
 set -uo pipefail
 top=$(dirname "$(dirname "$(readlink -f "${BASH_SOURCE[0]}")")")
 room=$(mktemp -d)
@@ -517,24 +516,21 @@ found_from_everywhere() {
 # Runs of the real rt, each with a folder of its own, which go on meanwhile.
 start_real_runs() {
     copy_tree "$room/real"
-    mkdir -p "$room/lane" "$room/alone"
+    mkdir -p "$room/alone"
     local TMPDIR=$room/alone
-    a_bad_line_and_examples >"$room/lane/examples" 2>&1 &
+    a_bad_line &
     lanes=($!)
-    too_many_replies >"$room/lane/replies" 2>&1 &
-    lanes+=($!)
-    "$top/tests/replay.sh" >"$room/lane/replay" 2>&1 &
+    too_many_replies &
     lanes+=($!)
 }
 
-# A script that ends in a bad line, under a name that stands in the crate too; and examples/.
-a_bad_line_and_examples() {
+# A script that ends in a bad line, under a name that stands in the crate too.
+a_bad_line() {
     mkdir "$room/alone/line" && cd "$room/alone/line" || exit 1
     lines attach "0 alloc 1 3 normal" "0 get 1" "0 load 1" >args
     status=0
     "$room/real/mpheap" run --pages 4 args >out 2>err || status=$?
     echo "$status" >status
-    real_examples
 }
 
 # More than 1 MiB of replies; and then a run that is stopped.
@@ -554,25 +550,7 @@ too_many_replies() {
     grep -lsz "^TMPDIR=$room/alone/stopped" /proc/[0-9]*/environ >left
 }
 
-# Each of examples/ prints the replies that stand beside it, by an unproved build of the program.
-real_examples() {
-    local file name cases=$room/cases
-    mkdir "$cases"
-    cd "$top" || exit 1
-    for file in examples/*.script examples/*.workload; do
-        name=$(basename "${file%.*}")
-        cp "$file" "$cases/$name"
-        cp "examples/$name.replies" "$cases/$name.stdout"
-        case $file in
-            *.script) lines run --pages 4 >"$cases/$name.args" ;;
-            *) lines threads --pages 4 {} >"$cases/$name.args" ;;
-        esac
-    done
-    cd "$room/real/crates/mpheap" && rt try --cases "$cases" 2>&1
-}
-
 real_runs() {
-    local file name
     wait "${lanes[@]}"
     cd "$room/alone/line" || exit 1
     is "the real rt, a bad line: status" 2 "$(cat status)"
@@ -585,11 +563,6 @@ real_runs() {
     is "the real rt, too much: one line tells it" 2 "$(wc -l <err)"
     is "the real rt, stopped: at once" yes "$([ "$(cat took)" -le 5 ] && echo yes || cat took)"
     is "the real rt, stopped: nothing is left" "" "$(ls -A "$room/alone/stopped")$(cat left)"
-    for file in "$room"/cases/*.stdout; do
-        name=$(basename "$file" .stdout)
-        is "examples/$name prints its replies" 1 "$(grep -c "case=$name run=ended status=0 .* output=expected" "$room/lane/examples")"
-    done
-    is "replay and record end as they are to" "" "$(cat "$room/lane/replay")"
 }
 
 PATH=$real_path start_real_runs

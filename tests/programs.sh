@@ -1,0 +1,91 @@
+#!/usr/bin/env bash
+# Tests of whole programs on files: each of examples/ prints the replies that stand beside it; and what `replay` and `record` print and
+# say, and with which status they end, on files that are legal, broken or bad or can't be read, and with words that they don't take.
+# Expected replies and statuses are worked by hand, from docs/REPLAY.md. Over proved programs (tests/cases.sh) it takes some seconds.
+# It needs cc.
+set -uo pipefail
+kind=programs
+# shellcheck source=tests/cases.sh
+. "$(dirname "$(readlink -f "${BASH_SOURCE[0]}")")/cases.sh"
+
+lines() { printf '%s\n' "$@"; }
+
+# file_is NAME STATUS SAID PRINTED WORDS..: standard input is the file {}, and with these words the program is to end so.
+file_is() {
+    cat >"$cases/$1"
+    printf '%s' "${4:+$4$'\n'}" >"$cases/$1.stdout"
+    case_is "$1" "$2" "$3" "${@:5}"
+}
+
+# The scripts and workloads of examples, each on four pages.
+examples_print_their_replies() {
+    local file name
+    for file in "$top"/examples/*.script "$top"/examples/*.workload; do
+        name=$(basename "${file%.*}")
+        cp "$file" "$cases/$name"
+        cp "${file%.*}.replies" "$cases/$name.stdout"
+        case $file in
+            *.script) case_is "$name" 0 "" run --pages 4 {} ;;
+            *) case_is "$name" 0 "" threads --pages 4 {} ;;
+        esac
+    done
+}
+
+# Words that neither of `replay` and `record` takes, and files that neither can read.
+faults_are_told() {
+    local usage="$program --pages N FILE"
+    printf 'attach\n\377\n' | file_is no_text 1 "read fault" "" --pages 1 {}
+    file_is no_file 1 "read fault" "" --pages 1 not.there </dev/null
+    file_is no_page 2 "$usage" "" --pages 0 {} </dev/null
+    file_is many_pages 2 "$usage" "" --pages 4097 {} </dev/null
+    file_is few_words 2 "$usage" "" --pages 1 </dev/null
+}
+
+# example_block N: the lines of the Nth block of the example in docs/REPLAY.md.
+example_block() {
+    awk -v wanted="$1" '/^## An example/ { here = 1 } here && /^```/ { fence++; next } fence == 2 * wanted - 1' "$top/docs/REPLAY.md"
+}
+
+written_runs_are_judged() {
+    example_block 1 | file_is legal 0 "" "legal, 9 lines" --pages 1 {}
+    example_block 1 | sed '7s/ - .*//' | file_is unnamed 0 "" "legal, 9 lines" --pages 1 {}
+    example_block 1 | sed '3s/^/# a comment\n/' | file_is comment 0 "" "legal, 9 lines" --pages 1 {}
+    example_block 1 | sed '3s/^/#\n/; 7s/=>.*//' | file_is broken_behind 2 "" "line 8: not a line of a run" --pages 1 {}
+    file_is empty 2 "" "no lines" --pages 1 {} </dev/null
+    lines "# a recorder that died" | file_is comments_alone 2 "" "no lines" --pages 1 {}
+    example_block 1 | sed '7s/=>.*/=> 0 -/' | file_is breaks 1 "" "$(example_block 2)" --pages 1 {}
+    example_block 1 | sed '7s/=>.*//' | file_is broken 2 "" "line 7: not a line of a run" --pages 1 {}
+}
+
+# Runs of the hobby collector in examples/c, as it stands and with each of its bugs: its .expected has what is said of each,
+# behind the number of the bug.
+foreign_runs_are_judged() {
+    local bug said source=$top/examples/c/foreign_heap
+    for bug in 0 1 2 3 4 5 6 7 8; do
+        cc -std=c99 -Wall -Wextra -Werror -pedantic -g -fsanitize=address,undefined -fno-sanitize-recover=all "-DBUG=$bug" \
+            "$source.c" -o "$room/foreign_heap"
+        is "foreign_heap with -DBUG=$bug compiles" 0 $?
+        said=$(sed -n "s/^$bug: //p" "$source.expected")
+        "$room/foreign_heap" | file_is "foreign_$bug" "$((bug > 0))" "" "$said" --pages 4 {}
+    done
+}
+
+runs_are_written() {
+    lines attach "0 alloc 1 2 normal" | file_is written 0 "" "$(lines "attach => mutator 0" "0 alloc 1 2 normal => ok @ 268435456")" --pages 1 {}
+    lines attach "0 get 16" attach | file_is bad_line 2 "bad line 2" "attach => mutator 0" --pages 1 {}
+    printf '\n' | file_is empty_line 2 "bad line 1" "" --pages 1 {}
+}
+
+open_cases mpheap
+examples_print_their_replies
+run_cases 12
+open_cases replay
+written_runs_are_judged
+foreign_runs_are_judged
+faults_are_told
+run_cases 22
+open_cases record
+runs_are_written
+faults_are_told
+run_cases 8
+close_cases
