@@ -1,7 +1,8 @@
 #!/usr/bin/env bash
 # Runs the rows of tests/rows, all worked by hand: scripts beside their replies, workloads beside what is printed, lines that are none, and
-# written runs beside what is said of them. It takes the proved programs that `rt ci` or `./mpheap build` left, in some seconds; where
-# they aren't there it makes unproved builds.
+# written runs beside what is said of them. `replay`, which has a plain heap without pages, finds what `record` writes of each script
+# legal. It takes the proved programs that `rt ci` or `./mpheap build` left, in some seconds; where they aren't there it makes unproved
+# builds.
 set -uo pipefail
 top=$(dirname "$(dirname "$(readlink -f "${BASH_SOURCE[0]}")")")
 rows=$top/tests/rows
@@ -37,9 +38,11 @@ case_is() {
 
 good_scripts() {
     local name pages
+    scripts=$cases
+    "$rows/split" -v "room=$scripts" "$rows"/*.rows >"$room/scripts"
     while read -r name pages; do
         case_is "$name" 0 "" run --pages "$pages" {}
-    done < <("$rows/split" -v "room=$cases" "$rows"/*.rows)
+    done <"$room/scripts"
 }
 
 # bad_script NAME NUMBER REPLIES TEXT: a script whose line of this number is bad; both texts with the escapes of printf.
@@ -101,6 +104,24 @@ run_texts() {
     done < <(texts run_texts)
 }
 
+# The run of each script that has lines, as `record` writes it: the plain heap gives the same replies.
+recorded_runs() {
+    local name pages count
+    mkdir "$room/record"
+    while read -r name pages; do
+        cp "$scripts/$name" "$room/record/$name"
+        printf '%s\n' --pages "$pages" {} >"$room/record/$name.args"
+    done <"$room/scripts"
+    is "scripts are recorded" "" "$("$top/tests/outputs.sh" record "$room/record" "$room/recorded" 2>&1)"
+    while read -r name pages; do
+        count=$(wc -l <"$scripts/$name.stdout")
+        [ "$count" -gt 0 ] || continue
+        cp "$room/recorded/$name" "$cases/recorded_$name"
+        echo "legal, $count lines" >"$cases/recorded_$name.stdout"
+        case_is "recorded_$name" 0 "" --pages "$pages" {}
+    done <"$room/scripts"
+}
+
 run_proved() {
     local name status said words
     while IFS='|' read -r name status said; do
@@ -114,7 +135,7 @@ run_proved() {
 run_unproved() {
     local name status said
     echo "rows: no proved $program here: an unproved build, of which only what it prints and its status are compared"
-    (cd "$top/crates/$program" && rt try --cases "$cases") >"$room/out" 2>&1
+    (cd "$top/crates/$program" && rt try --seconds 600 --cases "$cases") >"$room/out" 2>&1
     while IFS='|' read -r name status said; do
         is "$name" 1 "$(grep -c "^case=$name run=ended status=$status .* output=expected" "$room/out")"
     done <"$cases.wanted"
@@ -130,10 +151,11 @@ open_cases mpheap
 good_scripts
 bad_lines
 workloads
-run_cases 266
+run_cases 308
 open_cases replay
 written_runs
 run_texts
-run_cases 130
+recorded_runs
+run_cases 264
 echo "rows: $passed passed, $failed failed"
 [ "$failed" = 0 ]
