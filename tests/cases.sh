@@ -46,7 +46,7 @@ run_proved() {
 run_unproved() {
     local name status said
     echo "$kind: no proved $program here: an unproved build, of which only what it prints and its status are compared"
-    (cd "$top/crates/$program" && rt try --cases "$cases") >"$room/out" 2>&1
+    (cd "$top/crates/$program" && rt try --seconds 600 --cases "$cases") >"$room/out" 2>&1
     while IFS='|' read -r name status said; do
         is "$name" 1 "$(grep -c "^case=$name run=ended status=$status .* output=expected" "$room/out")"
     done <"$cases.wanted"

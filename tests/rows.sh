@@ -1,6 +1,7 @@
 #!/usr/bin/env bash
 # Runs the rows of tests/rows, all worked by hand: scripts beside their replies, workloads beside what is printed, lines that are none, and
-# written runs beside what is said of them. Over proved programs (tests/cases.sh) it takes some seconds.
+# written runs beside what is said of them. `replay`, which has a plain heap without pages, finds what `record` writes of each script
+# legal. Over proved programs (tests/cases.sh) it takes some seconds.
 set -uo pipefail
 kind=rows
 # shellcheck source=tests/cases.sh
@@ -9,9 +10,11 @@ rows=$top/tests/rows
 
 good_scripts() {
     local name pages
+    scripts=$cases
+    "$rows/split" -v "room=$scripts" "$rows"/*.rows >"$room/scripts"
     while read -r name pages; do
         case_is "$name" 0 "" run --pages "$pages" {}
-    done < <("$rows/split" -v "room=$cases" "$rows"/*.rows)
+    done <"$room/scripts"
 }
 
 # bad_script NAME NUMBER REPLIES TEXT: a script whose line of this number is bad; both texts with the escapes of printf.
@@ -73,13 +76,32 @@ run_texts() {
     done < <(texts run_texts)
 }
 
+# The run of each script that has lines, as `record` writes it: the plain heap gives the same replies.
+recorded_runs() {
+    local name pages count
+    mkdir "$room/record"
+    while read -r name pages; do
+        cp "$scripts/$name" "$room/record/$name"
+        printf '%s\n' --pages "$pages" {} >"$room/record/$name.args"
+    done <"$room/scripts"
+    is "scripts are recorded" "" "$("$top/tests/outputs.sh" record "$room/record" "$room/recorded" 2>&1)"
+    while read -r name pages; do
+        count=$(wc -l <"$scripts/$name.stdout")
+        [ "$count" -gt 0 ] || continue
+        cp "$room/recorded/$name" "$cases/recorded_$name"
+        echo "legal, $count lines" >"$cases/recorded_$name.stdout"
+        case_is "recorded_$name" 0 "" --pages "$pages" {}
+    done <"$room/scripts"
+}
+
 open_cases mpheap
 good_scripts
 bad_lines
 workloads
-run_cases 266
+run_cases 308
 open_cases replay
 written_runs
 run_texts
-run_cases 130
+recorded_runs
+run_cases 264
 close_cases

@@ -1,38 +1,69 @@
-"""Three actors, two mutators and the collector, whose calls are made in a random order: an object that a global keeps stays, and
-one that nothing keeps goes once, in the cycle that is running or in the full collection at the end."""
+#!/usr/bin/env python3
+"""Three actors round one object, whose calls are made in many orders.
+
+    orders.py write FOLDER      writes FOLDER/order_K_N, a script on one page for each way K that the second actor takes and each order N
+    orders.py check FOLDER      looks at what `record` wrote of each, in FOLDER/order_K_N
+
+While a cycle marks, the first actor moves the one pointer to an object, which stays. The second makes an object: it is kept by a global
+(a), or by nothing (b). The check prints each order with a wrong reply, and ends with 1 if there is any.
+"""
 import random
+import sys
+
+ORDERS = 500
 
 OPENING = ["attach", "attach", "0 alloc 1 2 normal", "0 alloc 2 2 normal", "0 store 1 0 2", "0 alloc 3 2 normal", "0 set 2 0"]
 FIRST = ["0 load 2 1 0", "0 store 3 0 2", "0 store 1 0 4"]
+SECOND = {
+    "a": ["1 alloc 1 2 normal", "1 gput 0 1", "1 set 1 0"],
+    "b": ["1 alloc 1 2 normal", "1 set 1 0", "1 gget 2 0"],
+}
 COLLECTOR = ["gc begin", "gc roots", "gc mark 64", "gc retrace", "gc finish"]
 CLOSING = ["0 set 2 0", "0 load 2 3 0", "0 size 2", "gc collect"]
 
-# What the second mutator does with its object: it is kept by a global, or by nothing.
-KEPT = ["1 alloc 1 2 normal", "1 gput 0 1", "1 set 1 0"]
-LEFT = ["1 alloc 1 2 normal", "1 set 1 0", "1 gget 2 0"]
+
+def order(way, number):
+    """The lines of an order."""
+    turns = random.Random(f"{way} {number}")
+    actors = [list(FIRST), list(SECOND[way]), list(COLLECTOR)]
+    lines = []
+    while any(actors):
+        lines.append(turns.choice([actor for actor in actors if actor]).pop(0))
+    return OPENING + lines + CLOSING
 
 
-def order(seed, second):
-    """The lines of a script, and whether nothing kept the second mutator's object any more when the cycle began."""
-    draw, left, lines, early = random.Random(seed), [list(FIRST), list(second), list(COLLECTOR)], list(OPENING), False
-    while any(left):
-        calls = draw.choice([calls for calls in left if calls])
-        if calls[0] == "gc begin":
-            early = len(left[1]) <= 1
-        lines.append(calls.pop(0))
-    return lines + CLOSING, early
-
-
-def wrong(second, early, run):
-    """What is wrong about the run of such a script, if anything is: what stands behind the arrow in each of its lines is looked up."""
-    replies = {line.split(" => ")[0]: line.split(" => ")[1].split()[0] for line in run}
-    finished, collected = replies["gc finish"], replies["gc collect"]
-    if replies["0 size 2"] != "2":
-        return f"the first mutator's object has {replies['0 size 2']} words"
-    if second is KEPT and (finished, collected) != ("0", "0"):
-        return f"what a global keeps was taken: {finished}, {collected}"
-    if second is LEFT and sorted([finished, collected]) != ["0", "1"]:
-        return f"what nothing keeps went {finished} and {collected} times"
-    if second is LEFT and early and finished != "1":
-        return "what nothing kept when the cycle began was left"
+def wrong(way, run):
+    """What is wrong about a run, or nothing. A second object that was let go before the cycle began goes with it, and any goes once."""
+    replies = [line.split(" => ") for line in run]
+    reply_to = {line: reply.split(" ")[0] for line, reply in replies}
+    lines = [line for line, _ in replies]
+    size, finished, collected = reply_to["0 size 2"], reply_to["gc finish"], reply_to["gc collect"]
+    if size != "2":
+        return f"the object has size {size}"
+    if way == "a":
+        return None if (finished, collected) == ("0", "0") else f"{finished} and {collected} objects went"
+    is_early = lines.index("1 set 1 0") < lines.index("gc begin")
+    if (finished, collected) not in ([("1", "0")] if is_early else [("1", "0"), ("0", "1")]):
+        return f"{finished} and {collected} objects went"
     return None
+
+
+def main():
+    verb, folder = sys.argv[1:]
+    status = 0
+    for way in SECOND:
+        for number in range(1, ORDERS + 1):
+            name = f"{folder}/order_{way}_{number}"
+            if verb == "write":
+                with open(name, "w", encoding="ascii") as file:
+                    file.write("\n".join(order(way, number)) + "\n")
+                continue
+            with open(name, encoding="ascii") as file:
+                said = wrong(way, file.read().splitlines())
+            if said:
+                print(f"order {way} {number}: {said}")
+                status = 1
+    return status
+
+
+sys.exit(main())

@@ -26,7 +26,7 @@ def run_proved(built, files, room):
 
 
 def run_unproved(program, files, room):
-    print(f"random: no proved {program} here: an unproved build", flush=True)
+    print(f"judged: no proved {program} here: an unproved build", flush=True)
     for name, (pages, _) in files.items():
         with open(f"{room}/{name}.args", "w", encoding="ascii") as file:
             file.write(f"--pages\n{pages}\n{{}}\n")

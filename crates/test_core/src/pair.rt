@@ -21,8 +21,8 @@ pub(crate) struct Pair {
     pub(crate) twins: Twins,
 }
 
-/// What the plain heap answers to a call.
-pub(crate) fn ask_plain(core: &mut plain_core::Core, slot: Slot, call: Call) -> Reply {
+// What the plain heap answers to a call.
+fn ask_plain(core: &mut plain_core::Core, slot: Slot, call: Call) -> Reply {
     match call {
         Call::Detach => done(core.detach(slot)),
         Call::Set(reg, number) => done(core.set(slot, reg, number)),

@@ -3,37 +3,16 @@ ghost use Rattle.std.specs.Prelude.{◌≡◌, ℕ, ◌<◌, ◌≤◌, Option, 
 ghost use Rattle.words.specs.declared.limits.TheConstants.{MAX_PAGES};
 ghost use Rattle.block_map.specs.declared.found.Found.{Found};
 ghost use Rattle.block_map.specs.Changes.{IsAdded};
-ghost use Rattle.block_map.specs.Objects.{cell_object, large_object};
+ghost use Rattle.block_map.specs.Objects.{large_object};
 ghost use Rattle.block_map.specs.FoundIn.{found_in};
 ghost use Rattle.block_map.specs.Listed.{AreListed};
 ghost use Rattle.marker.specs.Invariant.{DirtyPageInvariant};
 
 use block_map::{BlockMap, Found};
-use blocks::Block;
 use marker::Marker;
 use pages::Memory;
-use words::limits::{FIRST_ADDRESS, PAGE_BYTES, PAGE_WORDS, WORD_BYTES};
+use words::limits::{FIRST_ADDRESS, PAGE_BYTES, PAGE_WORDS};
 use words::{Kind, PageNo};
-
-/// The object in a cell of a block.
-#[tactic(auto, using(block_map::proofs::Finding::on_page))]
-pub(crate) fn object_in(page: PageNo, block: &Block, cell: u16) -> Found
-    requires page { page < MAX_PAGES }
-    requires cell { cell < length block.now.taken }
-    ensures object { result ≡ cell_object page block.now cell }
-    ensures some { 0 < result.len }
-{
-    let words = block.class().words();
-    Found {
-        base: FIRST_ADDRESS
-            + PAGE_BYTES * u64::from(page)
-            + u64::from(cell) * (WORD_BYTES * u64::from(words)),
-        len: u32::from(words),
-        kind: block.kind(),
-        page,
-        cell,
-    }
-}
 
 /// The large object that begins on a page.
 pub(crate) fn large_at(page: PageNo, pages: u32, kind: Kind) -> Found

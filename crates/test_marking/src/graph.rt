@@ -85,12 +85,6 @@ impl Graph {
         Ok(())
     }
 
-    /// All objects go, with their words.
-    pub(crate) fn clear(&mut self) {
-        self.objects.clear();
-        self.written.clear();
-    }
-
     /// A word is written.
     pub(crate) fn write(&mut self, address: u64, word: u64) -> Result<(), Fail> {
         for pair in self.written.iter_mut() {

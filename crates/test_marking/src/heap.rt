@@ -1,7 +1,7 @@
 //! A heap under a marker. Each call looks first whether its conditions hold, and answers whether they did.
-use crate::coming::{large_at, object_in, receive};
+use crate::coming::{large_at, receive};
 use block_map::{BlockMap, Found};
-use final_pause::{Gate, Helpers, close_marks, close_marks_with};
+use final_pause::{Gate, Helpers, close_marks_with};
 use fixtures::{are_free, small_class};
 use marker::{Marked, Marker};
 use pages::{Memory, Reader};
@@ -12,7 +12,7 @@ use std::thread::Threads;
 use words::limits::{FIRST_ADDRESS, PAGE_BYTES, WORD_BYTES};
 use words::{Kind, PageNo};
 
-/// Objects that come, are written and go while a marker marks them.
+/// Objects that come and are written while a marker marks them.
 #[derive(Drop)]
 pub(crate) struct Heap {
     map: BlockMap,
@@ -102,34 +102,6 @@ impl Heap {
         Some(found)
     }
 
-    /// Makes an allocated cell free.
-    #[tactic(auto, using(block_map::proofs::Seen::has_cell))]
-    pub(crate) fn free(&mut self, page: PageNo, cell: u16) -> bool {
-        self.marker.laws();
-        if page >= self.map.len() {
-            return false;
-        }
-        let Some(block) = self.map.block(page) else {
-            return false;
-        };
-        if cell >= block.cells() || !block.is_taken(cell) {
-            return false;
-        }
-        let found = object_in(page, block, cell);
-        self.map.put(&mut self.memory, page, cell);
-        self.marker.freed(found.base);
-        true
-    }
-
-    /// Gives the page of a block back. Its objects were freed before.
-    pub(crate) fn uncut(&mut self, page: PageNo) -> bool {
-        if page >= self.map.len() || self.map.span(page) == 0 {
-            return false;
-        }
-        self.map.uncut(page);
-        true
-    }
-
     /// Writes a word of an object.
     #[tactic(auto, using(fixtures::proofs::Lists::lists))]
     pub(crate) fn store(&mut self, address: u64, word: u64) -> bool {
@@ -178,12 +150,6 @@ impl Heap {
     pub(crate) fn retrace(&mut self) -> Option<PageNo> {
         let mut reader = Reader::new(&self.memory);
         self.marker.retrace(&self.map, &mut reader)
-    }
-
-    /// Ends the marking in one pause.
-    pub(crate) fn close(&mut self, roots: &[u64]) {
-        let mut reader = Reader::new(&self.memory);
-        close_marks(&mut self.marker, &self.map, &mut reader, roots);
     }
 
     /// Ends the marking in one pause with helpers.

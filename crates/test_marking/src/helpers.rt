@@ -1,6 +1,6 @@
 //! Pauses with helpers: they are at work at the same time, and leave the marks that a pause without them leaves.
-use crate::overflow::widen;
 use crate::scene::Scene;
+use crate::wide::widen;
 use final_pause::{FIRST_HELPER, Gate, Helpers, Open};
 use std::process::Abort;
 use std::sync::Wait;

@@ -1,13 +1,11 @@
-//! Heaps that are laid out here and marked while they are written, and what words point into there, against plain loops over
-//! what was put there; and threads that claim marks.
+//! Heaps that are laid out here and marked by helpers, and what words point into there, against plain loops over what was put there; and
+//! threads that claim marks.
 #![tactic(auto)]
 
 #[cfg(test)]
 mod claims;
 #[cfg(test)]
 mod coming;
-#[cfg(test)]
-mod cut_again;
 #[cfg(test)]
 mod finding;
 #[cfg(test)]
@@ -19,14 +17,10 @@ mod helpers;
 #[cfg(test)]
 mod offers;
 #[cfg(test)]
-mod overflow;
-#[cfg(test)]
 mod scene;
 #[cfg(test)]
 mod shares;
 #[cfg(test)]
-mod steps;
-#[cfg(test)]
-mod stores;
-#[cfg(test)]
 mod walking;
+#[cfg(test)]
+mod wide;

@@ -1,6 +1,6 @@
 //! Work goes from helper to helper.
-use crate::overflow::widen;
 use crate::scene::Scene;
+use crate::wide::widen;
 use final_pause::{FIRST_HELPER, Gate, Helpers};
 use std::process::Abort;
 use std::sync::Wait;

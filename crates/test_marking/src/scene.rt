@@ -16,8 +16,8 @@ pub(crate) struct Scene {
     pub(crate) graph: Graph,
 }
 
-/// The address of a word of an object.
-pub(crate) fn word_of(found: Found, index: u32) -> u64 {
+// The address of a word of an object.
+fn word_of(found: Found, index: u32) -> u64 {
     found.base.wrapping_add(8 * u64::from(index))
 }
 
@@ -156,65 +156,5 @@ impl Scene {
             let is_base = self.graph.has_base(address);
             assert!(rt; is_base || !self.heap.is_marked(address), "at {address}");
         }
-    }
-
-    /// Ends the marking in one pause: the marks are then the closure of those before and the roots.
-    pub(crate) fn assert_closes(&mut self, rt: &impl Abort, roots: &[u64]) -> Result<(), Fail> {
-        let before = self.marked()?;
-        let wanted = self.graph.closure(self.alloc, before.as_slice(), roots)?;
-        self.heap.close(roots);
-        self.assert_marked(rt, wanted.as_slice());
-        assert_eq!(rt; self.heap.retrace(), None);
-        let left = self.heap.step(1);
-        assert!(rt; left.read == 0 && left.empty);
-        Ok(())
-    }
-
-    /// Marks from the roots by steps of so many words, with no pause. Answers the words that steps read.
-    pub(crate) fn mark_by(&mut self, rt: &impl Abort, roots: &[u64], budget: u64) -> u64 {
-        self.heap.begin();
-        self.heap.scan_roots(roots);
-        let mut read: u64 = 0;
-        for _ in 0..1_000_000 {
-            let marked = self.heap.step(budget);
-            assert!(rt; marked.read <= budget && (marked.empty || marked.read == budget));
-            read = read.saturating_add(marked.read);
-            if marked.empty && self.heap.retrace().is_none() {
-                return read;
-            }
-        }
-        panic!(rt; "steps come to an end")
-    }
-
-    /// Marks by steps, and by a pause alone: both times the marks are the closure of the roots, and steps read at most
-    /// the words of its Normal objects. Answers what they read.
-    pub(crate) fn assert_marks(
-        &mut self,
-        rt: &impl Abort,
-        roots: &[u64],
-        budget: u64,
-    ) -> Result<u64, Fail> {
-        let wanted = self.graph.closure(self.alloc, &[], roots)?;
-        let read = self.mark_by(rt, roots, budget);
-        self.assert_marked(rt, wanted.as_slice());
-        self.assert_no_other_mark(rt);
-        assert!(rt; read <= self.words_of(wanted.as_slice()));
-        self.heap.begin();
-        self.assert_closes(rt, roots)?;
-        self.assert_marked(rt, wanted.as_slice());
-        self.assert_no_other_mark(rt);
-        Ok(read)
-    }
-
-    /// The words of these objects that are read: those of Normal ones.
-    pub(crate) fn words_of(&self, reached: &[bool]) -> u64 {
-        let objects = self.graph.objects();
-        let mut words: u64 = 0;
-        for i in 0..objects.len().min(reached.len()) {
-            if reached[i] && objects[i].kind == Kind::Normal {
-                words = words.saturating_add(u64::from(objects[i].len));
-            }
-        }
-        words
     }
 }

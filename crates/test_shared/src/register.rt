@@ -206,6 +206,7 @@ fn a_cycle_begins_and_ends_once(rt: HostRuntime) -> Result<(), Fail> {
     Ok(())
 }
 
+// Mutators come and go, one after another, more than there are slots.
 fn come_and_go<J: Naming, R: Wait + Abort>(rt: &R, opened: Opened<Register>)
     requires { (opened.table ≡ J.table) × (opened.origin ≡ J.origin) }
 {
@@ -214,13 +215,6 @@ fn come_and_go<J: Naming, R: Wait + Abort>(rt: &R, opened: Opened<Register>)
         let me = shared.attach(rt).expect(rt, "a slot");
         shared.detach(rt, me);
     }
-}
-
-#[test]
-fn a_slot_is_free_after_its_last_call(rt: HostRuntime) -> Result<(), Fail> {
-    let opened = open(rt.alloc(), 0)?;
-    come_and_go::<Brand, _>(&rt, opened);
-    Ok(())
 }
 
 // With the first allocation refused, the first call answers its error, and the second one opens.

@@ -1,4 +1,4 @@
-//! Worked rows through a shared heap, in one thread.
+//! A worked row through a shared heap, in one thread.
 ghost use Rattle.std.specs.Prelude.{◌≡◌};
 
 use crate::serve::{reg, serve};
@@ -11,9 +11,9 @@ use std::process::Abort;
 use std::sync::Wait;
 use std::test::Fail;
 use words::limits::{FIRST_ADDRESS, PAGE_BYTES};
-use words::{Kind, Refusal, Slot};
+use words::{Kind, Slot};
 
-// The pages of each row's heap.
+// The pages of the row's heap.
 const PAGES: u32 = 4;
 
 // The address at which it ends.
@@ -38,10 +38,6 @@ impl Wanted {
 }
 
 const OK: Wanted = Wanted::Is(Reply::Done);
-
-const WRONG_PHASE: Wanted = Wanted::Is(Reply::Refused(Refusal::WrongPhase));
-
-const NEEDS_FULL: Wanted = Wanted::Is(Reply::Refused(Refusal::NeedsFull));
 
 fn count(number: u64) -> Wanted {
     Wanted::Is(Reply::Count(number))
@@ -107,147 +103,10 @@ fn hidden_pointer(slot: Slot) -> [(Event, Wanted); 17] {
     ]
 }
 
-fn page_read_again(slot: Slot) -> [(Event, Wanted); 7] {
-    [
-        (call(slot, Call::Alloc(reg(1), 2, Kind::Normal)), OK),
-        (Event::Begin, OK),
-        (Event::Retrace, count(0)),
-        (call(slot, Call::Store(reg(1), 0, reg(1))), OK),
-        (Event::Retrace, count(1)),
-        (Event::Retrace, count(0)),
-        (Event::Finish, count(0)),
-    ]
-}
-
-fn pages_swept(slot: Slot) -> [(Event, Wanted); 8] {
-    [
-        (call(slot, Call::Alloc(reg(1), 2, Kind::Normal)), OK),
-        (call(slot, Call::Alloc(reg(1), 4, Kind::Normal)), OK),
-        (call(slot, Call::Set(reg(1), 0)), OK),
-        (Event::Begin, OK),
-        (Event::Finish, count(2)),
-        (Event::Sweep, count(1)),
-        (Event::Sweep, count(1)),
-        (Event::Sweep, count(0)),
-    ]
-}
-
-// Calls of the mutator between the collector's, none of which marks, reads a page again or sweeps: the collector finds as
-// much to do as if they weren't there.
-fn no_small_step(slot: Slot) -> [(Event, Wanted); 23] {
-    let (head, tail, other) = (reg(1), reg(2), reg(3));
-    [
-        (call(slot, Call::Alloc(head, 2, Kind::Normal)), OK),
-        (call(slot, Call::Alloc(tail, 4, Kind::Normal)), OK),
-        (call(slot, Call::Store(head, 0, tail)), OK),
-        (call(slot, Call::Set(tail, 0)), OK),
-        (Event::Begin, OK),
-        (call(slot, Call::Get(head)), Wanted::Pointer),
-        (Event::Mark(8), count(0)),
-        (Event::Roots, OK),
-        (call(slot, Call::Load(other, head, 0)), Wanted::Pointer),
-        (Event::Mark(8), count(6)),
-        (call(slot, Call::Store(head, 1, tail)), OK),
-        (call(slot, Call::Get(tail)), word(0)),
-        (Event::Retrace, count(1)),
-        (Event::Finish, count(0)),
-        (call(slot, Call::Set(head, 0)), OK),
-        (call(slot, Call::Set(other, 0)), OK),
-        (Event::Begin, OK),
-        (Event::Finish, count(2)),
-        (call(slot, Call::Get(head)), word(0)),
-        (Event::Sweep, count(1)),
-        (call(slot, Call::Get(tail)), word(0)),
-        (Event::Sweep, count(1)),
-        (Event::Sweep, count(0)),
-    ]
-}
-
-// A cycle with the marks of the last one reads the old object that was stored to, and takes the new one that nothing leads to;
-// after a free there is none.
-fn partial_cycle(slot: Slot) -> [(Event, Wanted); 14] {
-    let (old, young, lost) = (reg(1), reg(2), reg(3));
-    [
-        (call(slot, Call::Alloc(old, 2, Kind::Normal)), OK),
-        (Event::BeginPartial, NEEDS_FULL),
-        (Event::Collect, count(0)),
-        (call(slot, Call::Alloc(young, 2, Kind::Normal)), OK),
-        (call(slot, Call::Store(old, 0, young)), OK),
-        (call(slot, Call::Set(young, 0)), OK),
-        (call(slot, Call::Alloc(lost, 4, Kind::Normal)), OK),
-        (call(slot, Call::Set(lost, 0)), OK),
-        (Event::BeginPartial, OK),
-        (Event::Retrace, count(1)),
-        (Event::Finish, count(1)),
-        (call(slot, Call::Load(young, old, 0)), Wanted::Pointer),
-        (call(slot, Call::Free(young)), OK),
-        (Event::BeginPartial, NEEDS_FULL),
-    ]
-}
-
-// Each call of the collector in the wrong phase, which is no event, and collections that are counted.
-fn wrong_phases() -> [(Event, Wanted); 14] {
-    [
-        (Event::Finish, WRONG_PHASE),
-        (Event::Roots, WRONG_PHASE),
-        (Event::Mark(4), WRONG_PHASE),
-        (Event::Retrace, WRONG_PHASE),
-        (Event::Number, count(0)),
-        (Event::Collect, count(0)),
-        (Event::BeginPartial, OK),
-        (Event::BeginPartial, WRONG_PHASE),
-        (Event::Finish, count(0)),
-        (Event::Begin, OK),
-        (Event::Begin, WRONG_PHASE),
-        (Event::Finish, count(0)),
-        (Event::Finish, WRONG_PHASE),
-        (Event::Number, count(3)),
-    ]
-}
-
 #[test]
 fn the_hidden_pointer_stays(rt: HostRuntime) -> Result<(), Fail> {
     let slot = Slot::new(0).ok_or("a slot")?;
     let opened = open(rt.alloc(), PAGES).ok().ok_or("a heap")?;
     check::<Brand, _>(&rt, opened, &hidden_pointer(slot));
-    Ok(())
-}
-
-#[test]
-fn a_page_is_read_again(rt: HostRuntime) -> Result<(), Fail> {
-    let slot = Slot::new(0).ok_or("a slot")?;
-    let opened = open(rt.alloc(), PAGES).ok().ok_or("a heap")?;
-    check::<Brand, _>(&rt, opened, &page_read_again(slot));
-    Ok(())
-}
-
-#[test]
-fn pages_are_swept(rt: HostRuntime) -> Result<(), Fail> {
-    let slot = Slot::new(0).ok_or("a slot")?;
-    let opened = open(rt.alloc(), PAGES).ok().ok_or("a heap")?;
-    check::<Brand, _>(&rt, opened, &pages_swept(slot));
-    Ok(())
-}
-
-#[test]
-fn a_call_does_no_small_step(rt: HostRuntime) -> Result<(), Fail> {
-    let slot = Slot::new(0).ok_or("a slot")?;
-    let opened = open(rt.alloc(), PAGES).ok().ok_or("a heap")?;
-    check::<Brand, _>(&rt, opened, &no_small_step(slot));
-    Ok(())
-}
-
-#[test]
-fn a_partial_cycle_keeps_marks(rt: HostRuntime) -> Result<(), Fail> {
-    let slot = Slot::new(0).ok_or("a slot")?;
-    let opened = open(rt.alloc(), PAGES).ok().ok_or("a heap")?;
-    check::<Brand, _>(&rt, opened, &partial_cycle(slot));
-    Ok(())
-}
-
-#[test]
-fn wrong_phases_are_refused(rt: HostRuntime) -> Result<(), Fail> {
-    let opened = open(rt.alloc(), PAGES).ok().ok_or("a heap")?;
-    check::<Brand, _>(&rt, opened, &wrong_phases());
     Ok(())
 }

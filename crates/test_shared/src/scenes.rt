@@ -8,7 +8,6 @@ use std::marker::Brand;
 use std::process::Abort;
 use std::sync::Wait;
 use std::test::Fail;
-use words::limits::MAX_PAGES;
 use words::{OpenError, Reg};
 
 // Two at a time, of which one makes a call before the other comes. All but the first come while a cycle is marking.
@@ -63,13 +62,6 @@ fn count_in_a_row<J: Naming, R: Wait + Abort>(rt: &R, opened: Opened<Core>)
     assert_eq!(rt; counts, [2, 2, 2]);
 }
 
-#[test]
-fn two_collections_are_counted_by_all(rt: HostRuntime) -> Result<(), Fail> {
-    let opened = open(rt.alloc(), 4).ok().ok_or("a heap")?;
-    count_in_a_row::<Brand, _>(&rt, opened);
-    Ok(())
-}
-
 // Where memory is refused, at whichever request, the answer is that, and the same call made again opens a heap. By itself
 // this runs with ample memory; `rt try --test --fail-alloc N` refuses the N-th request.
 #[test]
@@ -83,12 +75,4 @@ fn a_refused_open_can_be_made_again(rt: HostRuntime) -> Result<(), Fail> {
     };
     count_in_a_row::<Brand, _>(&rt, opened);
     Ok(())
-}
-
-#[test]
-fn no_page_and_too_many_are_refused(rt: HostRuntime) {
-    for pages in [0, MAX_PAGES + 1] {
-        let refused = open(rt.alloc(), pages).err();
-        assert_eq!(rt; refused, Some(OpenError::BadPages), "{pages} pages");
-    }
 }

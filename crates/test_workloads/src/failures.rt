@@ -3,7 +3,6 @@
 use crate::fakes::{Script, Taken};
 use crate::gates::Counts;
 use crate::runs::{Setting, mutators_of, run_read};
-use crate::stress::lines_of;
 use scripts::ScriptError;
 use std::alloc::Global;
 use std::process::Abort;
@@ -90,6 +89,10 @@ fn draw_again(alloc: Global) -> Result<Vec<u8>, RunError> {
         Err(RunError::Memory) => make_stress(alloc, 1, 2, 100),
         answer => answer,
     }
+}
+
+fn lines_of(text: &[u8]) -> usize {
+    text.iter().filter(|byte| **byte == b'\n').count()
 }
 
 // Where memory is refused, at whichever request, the answer is that, and the same call made again gives the usual one. By itself this

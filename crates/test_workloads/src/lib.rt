@@ -1,6 +1,6 @@
-//! Scripts and workloads as their readers and writers see them: random texts, and readers, writers and memory that fail. On threads
-//! workloads under gates that hold actors back, mutators beside constant cycles, and random workloads; and pauses with helpers as users
-//! of a core see them: they keep what a pause alone keeps. Rows of good and bad lines are in `tests/rows`.
+//! Scripts and workloads as their readers and writers see them: readers, writers and memory that fail. On threads workloads under gates
+//! that hold actors back, and mutators beside constant cycles; and pauses with helpers as users of a core see them: they keep what a
+//! pause alone keeps. Rows of good and bad lines are in `tests/rows`, and `tests/random.sh` has random ones.
 #![tactic(auto)]
 
 #[cfg(test)]
@@ -20,13 +20,9 @@ mod long_lines;
 #[cfg(test)]
 mod pause;
 #[cfg(test)]
-mod possible;
-#[cfg(test)]
 mod printed;
 #[cfg(test)]
 mod raced_links;
-#[cfg(test)]
-mod random;
 #[cfg(test)]
 mod refused;
 #[cfg(test)]
@@ -43,7 +39,5 @@ mod script_faults;
 mod small_steps;
 #[cfg(test)]
 mod std_calls;
-#[cfg(test)]
-mod stress;
 #[cfg(test)]
 mod turns;

@@ -1,4 +1,4 @@
-//! Replies are printed actor by actor.
+//! Replies are printed actor by actor, to a writer that fails.
 
 use crate::fakes::Taken;
 use heap_spec::Reply;
@@ -6,7 +6,7 @@ use scripts::ScriptError;
 use std::alloc::{AllocError, Global};
 use std::process::Abort;
 use std::test::Fail;
-use words::{Refusal, Slot};
+use words::Refusal;
 use workloads::{Lines, Replies, print_replies};
 
 const TEXT: &str =
@@ -33,27 +33,6 @@ fn replies(alloc: Global) -> Result<Replies, AllocError> {
     let collector = lines(alloc, &[Reply::Count(7)])?;
     let mutators = vec![in alloc; first, Lines::new(alloc), third]?;
     Ok(Replies::new(mutators, collector))
-}
-
-#[test]
-fn replies_are_printed(rt: HostRuntime) -> Result<(), Fail> {
-    let replies = replies(rt.alloc())?;
-    for most in [1usize, 3, 4_096] {
-        let mut output = Taken::limited(rt.alloc(), most, None)?;
-        assert_eq!(rt; print_replies(&replies, 1, &mut output), Ok(()));
-        assert_eq!(rt; output.text(), Some(TEXT));
-    }
-    Ok(())
-}
-
-// An empty workload prints one line.
-#[test]
-fn no_replies(rt: HostRuntime) -> Result<(), Fail> {
-    let replies = Replies::new(Vec::new(rt.alloc()), Lines::new(rt.alloc()));
-    let mut output = Taken::new(rt.alloc())?;
-    assert_eq!(rt; print_replies(&replies, 4, &mut output), Ok(()));
-    assert_eq!(rt; output.text(), Some("collector\n"));
-    Ok(())
 }
 
 // What the writer took before its fault stands, and no call of it follows.

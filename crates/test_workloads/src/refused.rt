@@ -5,12 +5,12 @@ use crate::fakes::Taken;
 use crate::gates::Counts;
 use crate::runs::{Setting, run};
 use scripts::ScriptError;
-use std::alloc::{AllocError, Global};
+use std::alloc::Global;
 use std::process::Abort;
 use std::sync::Wait;
 use std::sync::atomic::Ordering;
 use std::thread::Threads;
-use words::limits::{MAX_HELPERS, SLOTS};
+use words::limits::MAX_HELPERS;
 
 const SETTING: Setting = Setting {
     pages: 4,
@@ -21,28 +21,26 @@ const SETTING: Setting = Setting {
 const CALLS: u64 = 19;
 
 // Each mutator allocates what its register keeps, and a cycle ends: so each reply is the same in every order.
-fn put_all(lines: &mut String, replies: &mut String) -> Result<(), AllocError> {
-    for _ in 0..SLOTS {
-        lines.push_str("attach\n")?;
-    }
-    for slot in 0..SLOTS {
-        write!(lines, "{slot} alloc 1 2 normal\n")?;
-        write!(replies, "mutator {slot}\nok\n")?;
-    }
-    lines.push_str("gc begin\ngc finish\ngc no\n")?;
-    replies.push_str("collector\nok\n0\n1\n")?;
-    Ok(())
-}
+const LINES: &str =
+    "attach\nattach\nattach\nattach\nattach\nattach\nattach\nattach\nattach\nattach\nattach\nattach\nattach\nattach\nattach\n\
+    attach\n0 alloc 1 2 normal\n1 alloc 1 2 normal\n2 alloc 1 2 normal\n3 alloc 1 2 normal\n4 alloc 1 2 normal\n\
+    5 alloc 1 2 normal\n6 alloc 1 2 normal\n7 alloc 1 2 normal\n8 alloc 1 2 normal\n9 alloc 1 2 normal\n10 alloc 1 2 normal\n\
+    11 alloc 1 2 normal\n12 alloc 1 2 normal\n13 alloc 1 2 normal\n14 alloc 1 2 normal\n15 alloc 1 2 normal\n\
+    gc begin\ngc finish\ngc no\n";
+
+const REPLIES: &str =
+    "mutator 0\nok\nmutator 1\nok\nmutator 2\nok\nmutator 3\nok\nmutator 4\nok\nmutator 5\nok\nmutator 6\nok\nmutator 7\nok\n\
+    mutator 8\nok\nmutator 9\nok\nmutator 10\nok\nmutator 11\nok\nmutator 12\nok\nmutator 13\nok\nmutator 14\nok\n\
+    mutator 15\nok\ncollector\nok\n0\n1\n";
 
 // A run, each of whose calls that began has ended; how many did.
 fn calls_of<R: Threads + Wait + Abort + Sync>(
     rt: &R,
     alloc: Global,
-    lines: &str,
     output: &mut Taken,
 ) -> Result<u64, ScriptError> {
     let gate = Counts::new();
-    let answer = run(rt, alloc, lines.as_bytes(), SETTING, &gate, output);
+    let answer = run(rt, alloc, LINES.as_bytes(), SETTING, &gate, output);
     let began = gate.began.load(Ordering::SeqCst);
     assert_eq!(rt; gate.ended.load(Ordering::SeqCst), began);
     match answer {
@@ -51,38 +49,23 @@ fn calls_of<R: Threads + Wait + Abort + Sync>(
     }
 }
 
-fn check<R: Threads + Wait + Abort + Sync>(
-    rt: &R,
-    alloc: Global,
-    texts: (&str, &str),
-    output: &mut Taken,
-) {
-    let mut answer = calls_of(rt, alloc, texts.0, output);
+fn check<R: Threads + Wait + Abort + Sync>(rt: &R, alloc: Global, output: &mut Taken) {
+    let mut answer = calls_of(rt, alloc, output);
     if answer == Err(ScriptError::Memory) {
         assert!(rt; output.bytes.is_empty());
-        answer = calls_of(rt, alloc, texts.0, output);
+        answer = calls_of(rt, alloc, output);
     }
-    assert_eq!(rt; output.text(), Some(texts.1));
+    assert_eq!(rt; output.text(), Some(REPLIES));
     let began = answer.ok().expect(rt, "replies");
     assert!(rt; began >= CALLS);
-}
-
-// The lines and their replies, and where to print; none where memory is refused.
-fn texts(alloc: Global) -> Result<(String, String, Taken), AllocError> {
-    let output = Taken::new(alloc)?;
-    let mut lines = String::new(alloc);
-    let mut replies = String::new(alloc);
-    put_all(&mut lines, &mut replies)?;
-    Ok((lines, replies, output))
 }
 
 // Where memory or an actor's thread is refused, the answer is that, nothing is printed, and the same call made again gives the usual
 // replies; where only the helpers' is, so does the first. Either way each call that began has ended.
 #[test]
 fn refused_thread(rt: HostRuntime) {
-    let Ok((lines, replies, mut output)) = texts(rt.alloc()) else {
+    let Ok(mut output) = Taken::new(rt.alloc()) else {
         return;
     };
-    let texts = (lines.as_str(), replies.as_str());
-    check(&rt, rt.alloc(), texts, &mut output);
+    check(&rt, rt.alloc(), &mut output);
 }

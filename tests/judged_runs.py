@@ -9,7 +9,6 @@ import tempfile
 sys.dont_write_bytecode = True
 sys.path.insert(0, os.path.join(os.path.dirname(os.path.abspath(__file__)), "random"))
 from changes import changed_runs
-from orders import KEPT, LEFT, order, wrong
 from programs import run_all
 from scripts import Script
 
@@ -17,7 +16,6 @@ from scripts import Script
 # objects are to be taken and how many partial cycles are to be granted at least.
 PLANS = [(1, 1, 20000, 4, 10, 50, 5), (2, 2, 20000, 4, 10, 1000, 5), (8, 4, 20000, 6, 10, 1000, 5), (24, 16, 20000, 400, 100, 100, 0), (64, 16, 20000, 30, 10, 1000, 5)]
 SEEDS = range(1, 5)
-ORDERS = range(1, 501)
 
 # Short runs whose lines are changed: pages, mutators, lines, and about how many lines for each event of the collector.
 SHORT = (2, 3, 400, 5)
@@ -29,7 +27,7 @@ def judge(what, is_right, seen=""):
     global passed, failed
     passed, failed = passed + bool(is_right), failed + (not is_right)
     if not is_right:
-        print(f"random: {what}: {seen}", flush=True)
+        print(f"judged: {what}: {seen}", flush=True)
 
 
 def scripts():
@@ -38,9 +36,6 @@ def scripts():
     for pages, mutators, lines, often, *_ in PLANS:
         for seed in SEEDS:
             made[f"random_{pages}_{seed}"] = pages, Script(seed, pages, mutators, often).lines(lines)
-    for seed in ORDERS:
-        made[f"kept_{seed}"] = 1, order(seed, KEPT)[0]
-        made[f"left_{seed}"] = 1, order(seed, LEFT)[0]
     pages, mutators, lines, often = SHORT
     for seed in SEEDS:
         made[f"short_{seed}"] = pages, ["attach"] * mutators + Script(seed, pages, mutators, often).lines(lines)
@@ -57,17 +52,6 @@ def is_of_all_kinds(name, run, full, taken, partial):
         judge(f"{name}: {what}: {least} at least", seen >= least, seen)
 
 
-def runs_are_right(runs):
-    """What the replies themselves show."""
-    for pages, _, _, _, *least in PLANS:
-        for seed in SEEDS:
-            is_of_all_kinds(f"random_{pages}_{seed}", runs[f"random_{pages}_{seed}"], *least)
-    for seed in ORDERS:
-        for name, second in (("kept", KEPT), ("left", LEFT)):
-            fault = wrong(second, order(seed, second)[1], runs[f"{name}_{seed}"])
-            judge(f"{name}_{seed}", fault is None, fault)
-
-
 def written(lines):
     return "".join(line + "\n" for line in lines)
 
@@ -79,7 +63,9 @@ def main():
         runs = {name: recorded.get(name, ([], None))[0] for name in made}
         for name in made:
             judge(f"{name}: lines that are written down", len(runs[name]) == len(made[name][1]), len(runs[name]))
-        runs_are_right(runs)
+        for pages, _, _, _, *least in PLANS:
+            for seed in SEEDS:
+                is_of_all_kinds(f"random_{pages}_{seed}", runs[f"random_{pages}_{seed}"], *least)
         judged = {name: (pages, written(runs[name])) for name, (pages, _) in made.items()}
         ends = {name: (f"legal, {len(runs[name])} lines", 0) for name in made}
         for seed in SEEDS:
@@ -91,7 +77,7 @@ def main():
             lines, seen = answers.get(name, ([], None))
             is_right = lines and lines[0].startswith(said) and seen == status
             judge(f"{name}: {said}", is_right, f"{lines[:1]}, status {seen}, behind {judged[name][1].splitlines()[-1:]}" if not is_right else "")
-    print(f"random: {passed} passed, {failed} failed")
+    print(f"judged: {passed} passed, {failed} failed")
     return failed != 0
 
 

@@ -1,5 +1,0 @@
-use Rattle.test_shared.proofs.rows.a_page_is_read_again.Given as goal
-
--- the heap that was just opened
-abbrev pub ghosts-check : goal.ghosts-check
-ghosts-check g a = record { table = a.opened.table; origin = a.opened.origin }

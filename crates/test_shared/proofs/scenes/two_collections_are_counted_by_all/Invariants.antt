@@ -1,5 +1,0 @@
-use Rattle.test_shared.proofs.scenes.two_collections_are_counted_by_all.Given as goal
-
--- the heap that was just opened
-abbrev pub ghosts-count_in_a_row : goal.ghosts-count_in_a_row
-ghosts-count_in_a_row g a = record { table = a.opened.table; origin = a.opened.origin }
