@@ -117,8 +117,9 @@ run_all() {
         case_is "long_$seed" run --pages 8 {}
         case_is "three_$seed" threads --pages 8 {}
     done
+    python3 "$top/tests/random/links.py" write "$room/link"
     for seed in $(seq 200); do
-        python3 "$top/tests/random/links.py" write "$cases/link_$seed"
+        cp "$room/link" "$cases/link_$seed"
         case_is "link_$seed" threads --pages 4 --helpers 2 {}
     done
     beside_cycles
@@ -133,7 +134,7 @@ record_all() {
     python3 "$top/tests/random/orders.py" write "$cases"
     cp "$room"/drawn/run_* "$cases"
     for script in "$cases"/*; do
-        name=$(basename "$script")
+        name=${script##*/}
         pages=1
         [[ $name == order_* ]] || pages=8
         case_is "$name" --pages $pages {}
@@ -186,11 +187,12 @@ links_and_loads_are_right() {
 }
 
 runs_are_legal() {
-    local run differ=0
+    local run name differ=0
     works "replies of 1,000 orders" python3 "$top/tests/random/orders.py" check "$room/recorded"
     for run in "$room"/said_of/*; do
-        [ "$(cat "$run")" = "legal, $(wc -l <"$room/record/$(basename "$run")") lines" ] ||
-            { differ=$((differ + 1)) && echo "random: $(basename "$run"): $(head -n 1 "$run")"; }
+        name=${run##*/}
+        [ "$(cat "$run")" = "legal, $(wc -l <"$room/record/$name") lines" ] ||
+            { differ=$((differ + 1)) && echo "random: $name: $(head -n 1 "$run")"; }
     done
     is "runs, and those that aren't legal" "1050 0" "$(find "$room/said_of" -type f | wc -l) $differ"
 }
