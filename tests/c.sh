@@ -201,7 +201,7 @@ rows_have_their_replies() {
         is "row $name through C" "$(cat "$room/rows/$name.stdout")" "$("$room/script" "$pages" <"$room/rows/$name" 2>&1)"
         count=$((count + 1))
     done < <("$top/tests/rows/split" -v "room=$room/rows" "$top"/tests/rows/*.rows)
-    is "rows enough" yes "$([ $count -ge 131 ] && echo yes)"
+    is "rows enough" yes "$([ $count -ge 133 ] && echo yes)"
 }
 
 # The proved program's replies to random scripts, which it writes too, and those through C. rt ci and mpheap build make it.

@@ -11,7 +11,8 @@ built=$top/crates/$program/out/$program
 mkdir -p "$folder"
 if [ -x "$built" ]; then
     for args in "$cases"/*.args; do
-        name=$(basename "$args" .args)
+        name=${args##*/}
+        name=${name%.args}
         mapfile -t words <"$args"
         "$built" "${words[@]/#\{\}/"$cases/$name"}" >"$folder/$name" </dev/null || { echo "$program, case $name: status $?" && exit 1; }
     done
@@ -26,6 +27,7 @@ wanted=$(find "$cases" -name '*.args' | wc -l)
 ended=$(grep -c '^case=.* run=ended status=0 ' "$said" || true)
 [ "$ended" = "$wanted" ] || { tail -n 3 "$said" && echo "$program: $ended of $wanted cases ended with status 0" && exit 1; }
 for args in "$cases"/*.args; do
-    name=$(basename "$args" .args)
+    name=${args##*/}
+    name=${name%.args}
     [ -e "$folder/$name" ] || : >"$folder/$name"
 done

@@ -1,10 +1,13 @@
 #!/usr/bin/env bash
-# Random scripts and workloads, which the program `mpheap` writes and runs, and runs of them for `record` and `replay`:
+# Random scripts and workloads, which the program `mpheap` writes and runs, and runs of them for `record` and `replay`; and workloads whose
+# calls come in whatever order:
 # - three texts are those of the published rule (tests/random/texts);
 # - 200 workloads of 1, 4 and 16 mutators on 1, 2, 8 and 64 pages: each reply is one that its call may have in some order of the calls,
 #   as tests/random/possible.py works it out;
 # - 200 mutators alone are answered in a thread of their own as by a script;
 # - of 20 scripts of 2,003 lines each line is answered, and each is a workload of three mutators;
+# - 200 runs of two mutators and the collector at one link (tests/random/links.py);
+# - four mutators beside a hundred cycles, ended by one helper and by four: each load answers what was stored;
 # - 50 scripts of 3,004 lines, and 1,000 orders of calls round one object (tests/random/orders.py), are legal as they are recorded.
 # It takes the proved programs that `rt ci` or `./mpheap build` left, in some seconds, or else unproved builds; and Python 3.
 set -uo pipefail
@@ -73,6 +76,30 @@ write_all() {
     works "scripts are written" "$top/tests/outputs.sh" mpheap "$cases" "$room/drawn"
 }
 
+# Each of four mutators stores and loads its own numbers.
+beside_cycles() {
+    local helpers
+    awk 'BEGIN {
+        for (slot = 0; slot < 4; slot++) print "attach"
+        for (slot = 0; slot < 4; slot++) {
+            print slot " alloc 1 2 normal"
+            for (n = 1; n <= 1000; n++) print slot " set 2 " n "\n" slot " store 1 0 2\n" slot " load 3 1 0"
+        }
+        for (n = 0; n < 100; n++) print "gc begin\ngc roots\ngc mark 8\ngc retrace\ngc finish"
+    }' >"$room/beside"
+    awk 'BEGIN {
+        for (slot = 0; slot < 4; slot++) {
+            print "mutator " slot "\nok"
+            for (n = 1; n <= 1000; n++) print "ok\nok\n" n
+        }
+        print "collector"
+    }' >"$room/loads"
+    for helpers in 1 4; do
+        cp "$room/beside" "$cases/beside_$helpers"
+        case_is "beside_$helpers" threads --pages 8 --helpers $helpers {}
+    done
+}
+
 run_all() {
     local seed pages helpers
     cases=$room/run
@@ -90,6 +117,12 @@ run_all() {
         case_is "long_$seed" run --pages 8 {}
         case_is "three_$seed" threads --pages 8 {}
     done
+    python3 "$top/tests/random/links.py" write "$room/link"
+    for seed in $(seq 200); do
+        cp "$room/link" "$cases/link_$seed"
+        case_is "link_$seed" threads --pages 4 --helpers 2 {}
+    done
+    beside_cycles
     works "they run" "$top/tests/outputs.sh" mpheap "$cases" "$room/printed"
 }
 
@@ -101,7 +134,7 @@ record_all() {
     python3 "$top/tests/random/orders.py" write "$cases"
     cp "$room"/drawn/run_* "$cases"
     for script in "$cases"/*; do
-        name=$(basename "$script")
+        name=${script##*/}
         pages=1
         [[ $name == order_* ]] || pages=8
         case_is "$name" --pages $pages {}
@@ -144,12 +177,22 @@ lines_are_answered() {
     done
 }
 
+links_and_loads_are_right() {
+    local helpers
+    works "replies of 200 runs at one link" python3 "$top/tests/random/links.py" check "$room"/printed/link_*
+    for helpers in 1 4; do
+        is "loads beside cycles that $helpers helpers end" "" \
+            "$(head -n "$(wc -l <"$room/loads")" "$room/printed/beside_$helpers" | cmp - "$room/loads" 2>&1)"
+    done
+}
+
 runs_are_legal() {
-    local run differ=0
+    local run name differ=0
     works "replies of 1,000 orders" python3 "$top/tests/random/orders.py" check "$room/recorded"
     for run in "$room"/said_of/*; do
-        [ "$(cat "$run")" = "legal, $(wc -l <"$room/record/$(basename "$run")") lines" ] ||
-            { differ=$((differ + 1)) && echo "random: $(basename "$run"): $(head -n 1 "$run")"; }
+        name=${run##*/}
+        [ "$(cat "$run")" = "legal, $(wc -l <"$room/record/$name") lines" ] ||
+            { differ=$((differ + 1)) && echo "random: $name: $(head -n 1 "$run")"; }
     done
     is "runs, and those that aren't legal" "1050 0" "$(find "$room/said_of" -type f | wc -l) $differ"
 }
@@ -161,6 +204,7 @@ texts_are_those_of_the_rule
 replies_are_possible
 one_mutator_is_answered_as_a_script
 lines_are_answered
+links_and_loads_are_right
 runs_are_legal
 echo "random: $passed passed, $failed failed"
 [ "$failed" = 0 ]

@@ -98,10 +98,10 @@ open_cases mpheap
 good_scripts
 bad_lines
 workloads
-run_cases 308
+run_cases 310
 open_cases replay
 written_runs
 run_texts
 recorded_runs
-run_cases 264
+run_cases 266
 close_cases

@@ -1,13 +1,10 @@
-//! Heaps that are laid out here and marked by helpers, and what words point into there, against plain loops over what was put there; and
-//! threads that claim marks.
+//! Heaps that are laid out here and marked by helpers, against plain loops over what was put there; and threads that claim marks.
 #![tactic(auto)]
 
 #[cfg(test)]
 mod claims;
 #[cfg(test)]
 mod coming;
-#[cfg(test)]
-mod finding;
 #[cfg(test)]
 mod graph;
 #[cfg(test)]
@@ -20,7 +17,5 @@ mod offers;
 mod scene;
 #[cfg(test)]
 mod shares;
-#[cfg(test)]
-mod walking;
 #[cfg(test)]
 mod wide;

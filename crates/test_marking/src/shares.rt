@@ -9,6 +9,7 @@ use std::test::Fail;
 use std::thread;
 use std::thread::Threads;
 use words::Kind;
+use words::limits::FIRST_ADDRESS;
 
 // How often the first helper looks for the claims of the second before it gives up.
 const TURNS: u64 = 10_000_000;
@@ -216,14 +217,14 @@ impl Gate for Held {
     }
 }
 
-// The entry that is being read, a waiting one and a page lead to three objects, and all are of the first helper's share.
+// The entry that is being read, that of the second object, the waiting one of the first, and a page lead to three objects, and all are of
+// the first helper's share.
 fn leave_work(rt: &impl Abort, scene: &mut Scene) -> Result<(), Fail> {
     let blocks = [(0, 4, Kind::Normal, 2), (1, 2, Kind::PointerFree, 5)];
     scene.lay(rt, &blocks)?;
     scene.link(rt, &[(0, 2, 2), (1, 2, 3)])?;
-    let (waiting, current) = (scene.object(0)?, scene.object(1)?);
     scene.heap.begin();
-    scene.heap.scan_roots(&[waiting.base, current.base]);
+    scene.heap.scan_roots(&[FIRST_ADDRESS, FIRST_ADDRESS + 32]);
     assert_eq!(rt; scene.heap.step(1).read, 1);
     scene.link(rt, &[(1, 0, 4)])
 }

@@ -1,10 +1,7 @@
 //! Scripts and workloads as their readers and writers see them: readers, writers and memory that fail. On threads workloads under gates
-//! that hold actors back, and mutators beside constant cycles; and pauses with helpers as users of a core see them: they keep what a
-//! pause alone keeps. Rows of good and bad lines are in `tests/rows`, and `tests/random.sh` has random ones.
+//! that hold actors back; and pauses with helpers as users of a core see them: they keep what a pause alone keeps. Rows of good and bad lines are in `tests/rows`, and `tests/random.sh` has random ones.
 #![tactic(auto)]
 
-#[cfg(test)]
-mod beside_cycles;
 #[cfg(test)]
 mod failures;
 #[cfg(test)]
