@@ -14,7 +14,7 @@ from scripts import Script
 
 # Pages, mutators, lines, about how many lines for each event of the collector, and how many requests are to find the heap full, how many
 # objects are to be taken and how many partial cycles are to be granted at least.
-PLANS = [(1, 1, 20000, 4, 10, 50, 5), (2, 2, 20000, 4, 10, 1000, 5), (8, 4, 20000, 6, 10, 1000, 5), (24, 16, 20000, 400, 100, 100, 0), (64, 16, 20000, 30, 10, 1000, 5)]
+PLANS = [(1, 1, 20000, 4, 10, 50, 5), (2, 2, 20000, 4, 10, 200, 5), (8, 4, 20000, 6, 10, 700, 5), (24, 16, 20000, 400, 100, 100, 0), (64, 16, 20000, 30, 10, 700, 5)]
 SEEDS = range(1, 5)
 
 # Short runs whose lines are changed: pages, mutators, lines, and about how many lines for each event of the collector.

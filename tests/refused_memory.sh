@@ -87,10 +87,9 @@ tests test_workloads script_faults::refused_memory
 tests test_workloads failures::refused_memory
 tests test_workloads pause::refused_memory
 tests test_workloads refused_helpers::refused_thread
-tests test_command_line runs::refused_memory
 program mpheap all_or_none "$top/examples/hidden_pointer.replies" run --pages 4 "$top/examples/hidden_pointer.script"
 program mpheap all_or_none "$top/examples/two_threads.replies" threads --pages 4 --helpers 2 "$top/examples/two_threads.workload"
-# What a random script is to be is told by test_workloads; here it is the one that is written where none is refused.
+# What a random script is to be is told by tests/random.sh; here it is the one that is written where none is refused.
 "$crates/mpheap/out/mpheap" stress --seed 1 --mutators 2 --steps 100 >"$room/stress"
 program mpheap all_or_none "$room/stress" stress --seed 1 --mutators 2 --steps 100
 program replay all_or_first "$crates/replay/stdout" --pages 1 "$crates/replay/data/first.replay"
