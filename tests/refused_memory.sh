@@ -94,10 +94,12 @@ program mpheap all_or_none "$top/examples/two_threads.replies" threads --pages 4
 program mpheap all_or_none "$room/stress" stress --seed 1 --mutators 2 --steps 100
 program replay all_or_first "$crates/replay/stdout" --pages 1 "$crates/replay/data/first.replay"
 program record all_or_first "$crates/record/stdout" --pages 1 "$crates/record/data/first.script"
+program draw all_or_first "$crates/draw/stdout" --pages 4 "$crates/draw/data/lazy_sweep.script"
 on_small_stack "$top/examples/hidden_pointer.replies" mpheap run --pages 4 "$top/examples/hidden_pointer.script"
 on_small_stack "$top/examples/two_threads.replies" mpheap threads --pages 4 --helpers 8 "$top/examples/two_threads.workload"
 on_small_stack "$room/stress" mpheap stress --seed 1 --mutators 2 --steps 100
 on_small_stack "$crates/replay/stdout" replay --pages 1 "$crates/replay/data/first.replay"
 on_small_stack "$crates/record/stdout" record --pages 1 "$crates/record/data/first.script"
+on_small_stack "$crates/draw/stdout" draw --pages 4 "$crates/draw/data/lazy_sweep.script"
 after_open
 close
