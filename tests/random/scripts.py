@@ -5,8 +5,8 @@ import random
 FIRST_ADDRESS, PAGE_BYTES, MOST_WORDS, WORD_END = 268435456, 4096, 65536, 1 << 64
 COLLECTOR = {"begin": 4, "partial": 3, "roots": 3, "mark": 5, "retrace": 3, "sweep": 3, "finish": 3, "collect": 1, "no": 1}
 CALLS = {
-    "alloc": 18, "free": 6, "set": 4, "copy": 2, "add": 2, "sub": 1, "get": 1, "store": 8, "load": 6, "base": 3, "size": 2,
-    "push": 3, "pop": 3, "gput": 2, "gget": 2, "link": 3, "unlink": 1, "detach": 0.3,
+    "alloc": 18, "set": 4, "copy": 2, "add": 2, "sub": 1, "get": 1, "store": 8, "load": 6, "base": 3, "size": 2,
+    "push": 3, "pop": 3, "gput": 2, "gget": 2, "link": 9, "unlink": 1, "detach": 0.3,
 }
 
 # Numbers from here on are set once in a script, so no register holds one before.
@@ -14,11 +14,13 @@ ONCE = 10**12
 
 
 class Script:
-    """A source of lines for a heap of so many pages, with so many mutators, and about one event of the collector in `often` lines."""
+    """A source of lines for a heap of so many pages, with so many mutators, about one event of the collector in `often` lines, and frees
+    of this weight among the calls."""
 
-    def __init__(self, seed, pages, mutators, often):
+    def __init__(self, seed, pages, mutators, often, frees):
         self.draw = random.Random(seed)
         self.pages, self.mutators, self.often = pages, mutators, often
+        self.calls = {**CALLS, "free": frees}
         self.once = ONCE
 
     def register(self):
@@ -71,7 +73,7 @@ class Script:
             return " ".join(["gc", name] + ([str(self.draw.randrange(60))] if name == "mark" else []))
         if self.draw.randrange(25) == 0:
             return "attach"
-        name = self.drawn(CALLS)
+        name = self.drawn(self.calls)
         return " ".join(map(str, [self.draw.randrange(self.mutators), name, *self.words_behind(name)]))
 
     def lines(self, count):
