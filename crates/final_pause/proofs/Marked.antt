@@ -19,7 +19,7 @@ use Rattle.marker.proofs.Closures.{same_object}
 use Rattle.marker.proofs.Rereading.{cut_begins, cut_kind}
 use Rattle.marker.proofs.Rescanning.{reads_own}
 use Rattle.final_pause.specs.declared.share.Pause.{Pause}
-use Rattle.final_pause.specs.Helping.{found, IsWordRead}
+use Rattle.final_pause.specs.Helping.{found, IsReadyPause, IsWordRead}
 use Rattle.final_pause.specs.Serving.{AreObjectsRead, IsPageRead}
 use Rattle.final_pause.proofs.Growing.{word_more}
 
@@ -30,6 +30,18 @@ bits_of_word row words j is fits k e =
     ∙ get_or-bits words (length row) k false (omega arith)
     ∙ bit_is words k
     ∙ ap (λ i. bit_at (get_or words i 0) (k % 64) == 1) e
+
+-- how many marks there are
+pub marks_len : (p : Pause) → IsReadyPause p → length p.marker.now.marks ≡ PAGE_GRANULES * length p.map.now
+marks_len p ready = ap length (sym ready.start) ∙ ready.granules
+
+-- the bits of a word of the marks from before
+pub bits_of_marks : (p : Pause) → IsReadyPause p → (row : List Bool) (words : List ℕ) (page j : ℕ) → row ≡ p.marker.now.marks → bits words (length row) ≡ row → page < length p.map.now
+    → 64 * (j + 1) ≤ PAGE_GRANULES * (page + 1) → (k : ℕ) → k / 64 ≡ j → get_or p.marker.now.marks k false ≡ (bit_at (get_or words j 0) (k % 64) == 1)
+bits_of_marks p ready row words page j same is inside on k e =
+    let size = marks_len p ready in
+    let len : length row ≡ length p.marker.now.marks = ap length same in
+    ap (λ m. get_or m k false) (sym same) ∙ bits_of_word row words j is (omega arith) k e
 
 module _ (p : Pause) (map : IsMap (length p.map.now) (found p)) where
   -- none of these granules was marked

@@ -23,7 +23,7 @@ returns-in_default-clause-read g c =
     objects_other p c.requires.serving.fits.ready.map (view h.claimer) h.carried c.args.granule (λ f e b. c.in_default.ensures.object f (sym here ∙ e) b)
 
 pub read_words-requires-clause-object : goal.read_words-requires-clause-object
-read_words-requires-clause-object g c =
+read_words-requires-clause-object g c κs within =
     let p = c.args.self.now in let on = c.requires.on in let low = on.0 in let high = on.1 in
     let here = found_cut p.map.now c.args.page (FIRST_ADDRESS + GRANULE_BYTES * c.args.granule) c.args.block.now c.requires.cut (omega arith) (omega arith) in
     record { word = FIRST_ADDRESS + GRANULE_BYTES * c.args.granule; points = here ∙ c.in-Some.ensures.object.0 }

@@ -20,7 +20,7 @@ loop-j-init g c =
     )
 
 pub read_marked-requires-clause-on : goal.read_marked-requires-clause-on
-read_marked-requires-clause-on g c = let from = c.loop-j.auto.j in let test = c.loop-j-test.true in (omega arith, omega arith)
+read_marked-requires-clause-on g c κs within = let from = c.loop-j.auto.j in let test = c.loop-j-test.true in (omega arith, omega arith)
 
 pub loop-j-preserved : goal.loop-j-preserved
 loop-j-preserved g c =
