@@ -1,4 +1,4 @@
-use Rattle.std.proofs.Common.{◌≡◌, ℕ, ◌+◌, ◌*◌, sym, subst, rules, arith}
+use Rattle.std.proofs.Common.{◌≡◌, ◌+◌, ◌*◌, subst, rules, arith}
 use Rattle.words.specs.declared.class.Kind.TheVariants.{PointerFree}
 use Rattle.words.specs.declared.limits.TheConstants.{PAGE_GRANULES}
 use Rattle.mark_bits.specs.Tables.{view}
@@ -16,7 +16,7 @@ pub loop-j-init : goal.loop-j-init
 loop-j-init g c =
     let h = c.args.helper.now in (
       serves_refl c.args.self.now h c.requires.serving,
-      objects_none c.args.self.now c.requires.serving.fits.ready.map (view h.claimer) h.carried _ _ (λ k from below. absurd (omega arith)),
+      objects_none c.args.self.now c.requires.serving.fits.ready.map (view h.claimer) h.carried (PAGE_GRANULES * c.args.page) (64 * (4 * c.args.page)) (λ k from below. absurd (omega arith)),
     )
 
 pub read_marked-requires-clause-on : goal.read_marked-requires-clause-on

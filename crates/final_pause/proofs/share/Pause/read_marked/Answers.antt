@@ -19,7 +19,7 @@ loop-rest-init g c =
       serves_refl p h c.requires.serving,
       0,
       rest_all _,
-      objects_none p c.requires.serving.fits.ready.map (view h.claimer) h.carried _ _ (λ k from below. absurd (omega arith)),
+      objects_none p c.requires.serving.fits.ready.map (view h.claimer) h.carried (64 * c.args.j) (64 * c.args.j + 0) (λ k from below. absurd (omega arith)),
     )
 
 pub read_at-requires-clause-on : goal.read_at-requires-clause-on
