@@ -9,6 +9,7 @@ use Rattle.words.specs.declared.limits.TheConstants.{FIRST_ADDRESS, GRANULE_BYTE
 use Rattle.words.proofs.Rows.{get_or-bits}
 use Rattle.blocks.specs.Cells.{Cells}
 use Rattle.block_map.specs.declared.found.Found.{Found}
+use Rattle.block_map.specs.FoundIn.{found_in_block}
 use Rattle.block_map.specs.Objects.{IsMap}
 use Rattle.block_map.specs.States.{cut, state_at}
 use Rattle.mark_bits.specs.declared.claimer_view.ClaimerView.{ClaimerView}
@@ -16,7 +17,7 @@ use Rattle.mark_bits.specs.Claims.{knows}
 use Rattle.mark_bits.proofs.Words.{bit_is}
 use Rattle.marker.specs.Marking.{word_address}
 use Rattle.marker.proofs.Closures.{same_object}
-use Rattle.marker.proofs.Rereading.{cut_begins, cut_kind}
+use Rattle.marker.proofs.Rereading.{cut_begins, cut_kind, found_cut}
 use Rattle.marker.proofs.Rescanning.{reads_own}
 use Rattle.final_pause.specs.declared.share.Pause.{Pause}
 use Rattle.final_pause.specs.Helping.{found, IsReadyPause, IsWordRead}
@@ -42,6 +43,11 @@ bits_of_marks p ready row words page j same is inside on k e =
     let size = marks_len p ready in
     let len : length row ≡ length p.marker.now.marks = ap length same in
     ap (λ m. get_or m k false) (sym same) ∙ bits_of_word row words j is (omega arith) k e
+
+-- what a granule of a page that is cut finds is told by the page's block
+pub granule_finds : (p : Pause) (page g : ℕ) (b : Cells) → state_at p.map.now page ≡ cut b → PAGE_GRANULES * page ≤ g → g < PAGE_GRANULES * (page + 1)
+    → found p (FIRST_ADDRESS + GRANULE_BYTES * g) ≡ found_in_block page b (FIRST_ADDRESS + GRANULE_BYTES * g)
+granule_finds p page g b is from below = found_cut p.map.now page (FIRST_ADDRESS + GRANULE_BYTES * g) b is (omega arith) (omega arith)
 
 module _ (p : Pause) (map : IsMap (length p.map.now) (found p)) where
   -- none of these granules was marked

@@ -100,7 +100,8 @@ impl<'a> Pause<'a> {
         let Some(found) = object_from(page, block, base) else {
             return;
         };
-        self.read_words(gate, helper, found, 0, u64::from(found.len));
+        // The block's objects end on its page, so that all their words are read as one run.
+        self.read_run(gate, helper, found, 0, u64::from(found.len));
     }
 
     // Reads the words of the objects of a block that begin at the 64 granules from 64 j on and were marked before the helpers

@@ -91,9 +91,16 @@ impl<'a> Pause<'a> {
         stray
     }
 
-    // Marks what words of an object point into: so many, from its word `first` on, which stand on one page. The page is
-    // carried if one of them is stray.
-    fn read_run<G: Gate>(&self, gate: &G, helper: &mut Helper, found: Found, first: u32, count: u64)
+    /// Marks what words of an object point into: so many, from its word `first` on, which stand on one page. The page is
+    /// carried if one of them is stray.
+    pub(crate) fn read_run<G: Gate>(
+        &self,
+        gate: &G,
+        helper: &mut Helper,
+        found: Found,
+        first: u32,
+        count: u64,
+    )
         requires fits { IsHelperOf self.now helper.old }
         requires object { IsObjectOf self.now found }
         requires inside { first + count ≤ found.len }
