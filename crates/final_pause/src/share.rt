@@ -1,8 +1,8 @@
 //! The share of one helper: root words and entries by their places, and what they lead to.
-ghost use Rattle.std.specs.Prelude.{◌≡◌, ℕ, ◌+◌, ◌*◌, ◌<◌, ◌≤◌, [], ◌∷◌, true, false, Some, length};
+ghost use Rattle.std.specs.Prelude.{◌≡◌, ℕ, ◌+◌, ◌<◌, ◌≤◌, [], ◌∷◌, true, false, Some, length};
 ghost use Rattle.mark_bits.specs.Tables.{view, start_of};
 ghost use Rattle.words.specs.Layout.{granule, page_of};
-ghost use Rattle.words.specs.declared.limits.TheConstants.{FIRST_ADDRESS, WORD_BYTES};
+ghost use Rattle.words.specs.declared.limits.TheConstants.{FIRST_ADDRESS};
 ghost use Rattle.block_map.specs.FoundIn.{found_in};
 ghost use Rattle.marker.specs.Marking.{IsOutside, bytes_of, word_address};
 ghost use Rattle.marker.specs.Growth.{TellsStray};
