@@ -3,7 +3,7 @@ use Rattle.words.specs.declared.limits.TheConstants.{WORD_BYTES}
 use Rattle.words.specs.Layout.{page_start}
 use Rattle.mark_bits.specs.Tables.{view}
 use Rattle.final_pause.specs.Serving.{GoesOnServing, AreWordsRead}
-use Rattle.final_pause.proofs.share.Pause.read_page.Given as goal
+use Rattle.final_pause.proofs.share.Pause.read_objects.Given as goal
 
 abbrev pub invariant-loop-found : goal.invariant-loop-found
 invariant-loop-found g l = record {

@@ -2,7 +2,7 @@ use Rattle.std.proofs.Common.{◌+◌, arith}
 use Rattle.words.specs.Layout.{page_start}
 use Rattle.mark_bits.specs.Tables.{view}
 use Rattle.final_pause.proofs.Serving.{serves_refl, serves_trans, words_more, words_append, words_end}
-use Rattle.final_pause.proofs.share.Pause.read_page.Goals as goal
+use Rattle.final_pause.proofs.share.Pause.read_objects.Goals as goal
 
 pub loop-found-init : goal.loop-found-init
 loop-found-init g c =
