@@ -132,6 +132,7 @@ impl BlockMap {
 
     /// Takes the lowest free cell of a page that is cut for a new object. `None` exactly if every cell is allocated, and
     /// then nothing changes.
+    #[inline(always)]
     #[tactic(auto, using(crate::proofs::Laid::laid, crate::proofs::Changing::changing))]
     pub fn take(&mut self, page: PageNo) -> Option<Taken>
         requires inside { page < length self.old }

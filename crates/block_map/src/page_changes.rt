@@ -69,6 +69,7 @@ pub(crate) fn fill_free(pages: &mut Vec<Page>, first: PageNo, count: u32)
 }
 
 // Takes the lowest free cell of a block.
+#[inline(always)]
 fn take_in(block: &mut Block, page: PageNo) -> Option<Taken>
     requires small { page < MAX_PAGES }
     ensures none { IfNone result (IsFullRow block.old.taken × (block.new ≡ block.old)) }
@@ -87,6 +88,7 @@ fn take_in(block: &mut Block, page: PageNo) -> Option<Taken>
 }
 
 // Takes the lowest free cell of what stands on a page, which is cut.
+#[inline(always)]
 fn take_on(what: &mut Page, page: PageNo) -> Option<Taken>
     requires cut { IsCut (shown what.old) }
     requires small { page < MAX_PAGES }
@@ -134,7 +136,7 @@ fn put_on(what: &mut Page, cell: u16) -> Put
 }
 
 // Takes the lowest free cell of a page that is cut.
-#[inline]
+#[inline(always)]
 #[tactic(auto, using(crate::proofs::Filling::put))]
 pub(crate) fn take_cell(pages: &mut Vec<Page>, page: PageNo) -> Option<Taken>
     requires page { page < vec_len pages.old }

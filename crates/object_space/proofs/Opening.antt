@@ -9,7 +9,7 @@ use Rattle.block_map.proofs.Laid.{laid_free}
 use Rattle.block_map.proofs.Lawful.{map_laws}
 use Rattle.object_space.specs.Store.{Store}
 use Rattle.std.specs.Prelude.{Bool}
-use Rattle.words.specs.declared.limits.TheConstants.{MAX_PAGES}
+use Rattle.words.specs.declared.limits.TheConstants.{MAX_PAGES, PAGE_WORDS}
 use Rattle.object_space.proofs.Kept.{kept_cases}
 use Rattle.object_space.specs.Stores.{Stores}
 
@@ -32,3 +32,7 @@ opens t pages all few keep = record {
   where
     nothing : (f : Found) → found_in t.states f.base ≡ Some f → ⊥
     nothing f is = subst (λ st. IsObjectOn st f) (all.each f.page) ((map_laws t.states (laid_free t.states pages all few)).object f.base f is).on
+
+-- the memory has the words of its pages
+pub long_free : (words : List ℕ) (states : List PageState) (pages : ℕ) → AreFreePages states pages → length words ≡ PAGE_WORDS * pages → length words ≡ PAGE_WORDS * length states
+long_free words states pages all size = size ∙ ap (λ n. PAGE_WORDS * n) (sym all.size)

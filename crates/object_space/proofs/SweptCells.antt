@@ -5,7 +5,7 @@ use Rattle.std.proofs.lemmas.Bool.{cases_eq, true≢false}
 use Rattle.std.proofs.lemmas.Option.{same_Some}
 use Rattle.words.specs.declared.class.Kind.{Kind}
 use Rattle.words.specs.Bits.{Has}
-use Rattle.pages.specs.Memory.{word_index}
+use Rattle.pages.specs.Memory.{word_at}
 use Rattle.pages.specs.Runs.{IsFilled}
 use Rattle.blocks.specs.Cells.{Cells}
 use Rattle.block_map.specs.declared.found.Found.{Found}
@@ -103,7 +103,7 @@ module _ (states mid : List PageState) (page : ℕ) (a b : Cells) (was : state_a
 pub sweeps_cells : (old new : Store) (marks : List Bool) (page : ℕ) (mid : List PageState) → SweepsObjects (found_in old.states) (found_in mid) marks page → IsSameMap (found_in mid) (found_in new.states)
     → new.words ≡ old.words → length new.states ≡ length old.states → new.pending ≡ set old.pending page false → SweepsPage old marks page new
 sweeps_cells old new marks page mid objects same words size pending = record {
-  words = λ f i there lt. ap (λ ws. get_or ws (word_index (word_address f i)) 0) words;
+  words = λ f i there lt. ap (λ ws. word_at ws (word_address f i)) words;
   pages = size;
   pending = pending;
   others = λ w f there ne. same.same w ∙ objects.others w f there ne;
