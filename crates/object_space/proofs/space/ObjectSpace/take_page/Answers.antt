@@ -24,6 +24,9 @@ take_cell-requires-clause-cell c =
     let cuts = c.in-Some.ensures.some in
     free_cell_offers _ _ _ _ 0 (first_cell _ c.self.invariant.sound c.laws.ensures.laid c.laws.ensures.lawful _ _ c.cut_page.ensures.class _ _ _ cuts)
 
+pub take_cell-requires-clause-long : goal.take_cell-requires-clause-long
+take_cell-requires-clause-long c = c.self.invariant.long ∙ ap (λ n. PAGE_WORDS * n) (sym (ap length c.in-Some.ensures.some.became ∙ length-set _ _ _))
+
 apart : (states : List PageState) (row : List Bool) (page p : ℕ) → state_at states page ≡ free → IsCut (state_at states p) → p ≢ page
 apart states row page p was is e = subst IsCut (ap (state_at states) e ∙ was) is
 
