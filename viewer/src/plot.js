@@ -6,8 +6,10 @@ let plot = null; // {x0, x1, width, step, columns, bands, height}
 function plotBands(isNarrow) {
   const also = run.everCarried ? 'carried' : null;
   const dirty = also && !isNarrow ? 'dirty, carried pages' : 'dirty pages';
+  const words = { h: 44, isArea: true, name: 'taken' };
+  if (!run.hasCollector) return [words];
   return [
-    { h: 44, isArea: true, name: 'taken' },
+    words,
     { h: 21, name: 'marked', text: 'marked objects' },
     { h: 17, name: 'entries', text: isNarrow ? 'entries' : 'mark stack entries' },
     { h: 17, name: 'dirty', text: dirty, look: 'serd', also },
@@ -121,7 +123,7 @@ function drawAreas(band) {
     path('wait', between(kept, taken)) +
     key('live', y + 30, plot.isNarrow ? 'live' : 'live (reached)') +
     key('garb', y + 15, plot.isNarrow ? 'floating' : 'allocated, not live') +
-    key('wait', y, plot.isNarrow ? 'to sweep' : 'forgotten, not swept');
+    (run.hasCollector ? key('wait', y, plot.isNarrow ? 'to sweep' : 'forgotten, not swept') : '');
 }
 
 function drawAxis() {
