@@ -58,7 +58,11 @@ is_number() {
 bad_words() {
     say "$*"
     (usage)
-    if has_one_order "$command"; then echo "$command --pages N FILE"; else echo "bad command"; fi >&2
+    case $command in
+        draw) echo "draw --pages N [--run] FILE" ;;
+        replay | record) echo "$command --pages N FILE" ;;
+        *) echo "bad command" ;;
+    esac >&2
     exit 2
 }
 

@@ -128,7 +128,8 @@ function drawAreas(band) {
 
 function drawAxis() {
   const y = plot.height + 9;
-  const middle = label((plot.x0 + plot.x1) / 2, y, 'soft mid', `lines of the ${run.hasCollector ? 'script' : 'run'}; shaded: a cycle is marking`);
+  const text = `lines of the ${run.hasCollector ? 'script' : 'run'}; shaded: a cycle is marking`;
+  const middle = label((plot.x0 + plot.x1) / 2, y, 'soft mid', text);
   return label(plot.x0, y, 'soft', 'line 0') +
     label(plot.x1, y, 'soft end', grouped(run.last)) +
     (plot.isNarrow ? '' : middle);

@@ -113,7 +113,7 @@ fn main(rt: HostRuntime) -> ExitCode {
     let status = match obey(&rt) {
         Ok(status) => status,
         Err(Fault::BadCommand) => {
-            let _ = eprintln!(rt; "draw --pages N FILE");
+            let _ = eprintln!(rt; "draw --pages N [--run] FILE");
             Fault::BadCommand.status()
         }
         Err(fault) => end(Err(fault), &mut Std::new(rt.stderr())),
