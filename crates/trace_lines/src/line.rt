@@ -1,6 +1,6 @@
 //! The lines of a trace.
 ghost use Rattle.std.specs.Prelude.{◌≡◌, ◌++◌, IfOk, OnOk, string_bytes};
-ghost use Rattle.trace_lines.specs.Records.{changes_text, cycle_text, head_text, objection_text, objects_text, record_text, refused_text, sets_text, words_text};
+ghost use Rattle.trace_lines.specs.Records.{changes_text, collector_text, cycle_text, head_text, objection_text, objects_text, record_text, refused_text, sets_text, words_text};
 
 use crate::keys::{put_any, put_key, put_some};
 use crate::record::{CycleChanges, ObjectChanges, Objection, Record, SetChanges, WordChanges};
@@ -118,6 +118,17 @@ pub fn refused_line(
     Ok(line)
 }
 
+// Puts behind a text that nothing is said of what a collector knows, where it is so.
+fn put_collector(behind: &mut String, alloc: Global, has_collector: bool) -> Result<(), AllocError>
+    ensures { OnOk result (string_bytes behind.new ≡ string_bytes behind.old ++ collector_text has_collector) }
+{
+    if has_collector {
+        return Ok(());
+    }
+    put_key(behind, "collector")?;
+    false.put(behind, alloc)
+}
+
 /// The first line of a trace, without a newline: what it is of, how many pages the heap has, how many records follow,
 /// and whether they say what a collector knows. The title may have no character that JSON would write otherwise.
 ///
@@ -137,10 +148,7 @@ pub fn head_line(
     u64::from(pages).put(&mut line, alloc)?;
     put_key(&mut line, "lines")?;
     lines.put(&mut line, alloc)?;
-    if !has_collector {
-        put_key(&mut line, "collector")?;
-        false.put(&mut line, alloc)?;
-    }
+    put_collector(&mut line, alloc, has_collector)?;
     line.push_str("}")?;
     Ok(line)
 }
