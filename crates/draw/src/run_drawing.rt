@@ -2,7 +2,7 @@
 ghost use Rattle.std.specs.Prelude.{◌≡◌, IfOk, string_bytes};
 ghost use Rattle.draw.specs.RunDrawn.{IsRefusalDrawn, IsRunDrawn};
 
-use crate::run_line::{open_part, reply_of, reply_part};
+use crate::run_line::{open_part, parted, reply_of, reply_part};
 use plain_core::Wrong;
 use programs::Fault;
 use scripts::command;
@@ -21,7 +21,7 @@ pub(crate) fn run_written(
 ) -> Result<String, Fault>
     ensures { IfOk result (λ text. IsRunDrawn tracer.old line.now tracer.new (string_bytes text)) }
 {
-    let Some((asked, answer)) = line.split_once(" => ") else {
+    let Some((asked, answer)) = parted(line) else {
         return Err(Fault::BadLine(number));
     };
     if asked.len() > LINE_BYTES {
@@ -101,7 +101,7 @@ pub(crate) fn refusal_written(
 ) -> Result<String, Fault>
     ensures { IfOk result (λ text. IsRefusalDrawn number line.now says.items judgement.now.wrong (string_bytes text)) }
 {
-    let Some((asked, answer)) = line.split_once(" => ") else {
+    let Some((asked, answer)) = parted(line) else {
         return Err(Fault::BadLine(number));
     };
     let objection = Objection {

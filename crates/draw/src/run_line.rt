@@ -1,6 +1,7 @@
 //! The parts of a line of a run that was written down. They are guessed from where ` => `, ` @ ` and ` -` stand: whether
 //! the line is what is written of them is looked at when they are told.
-ghost use Rattle.std.specs.Prelude.{◌≡◌, All, IfOk, IfSome};
+ghost use Rattle.std.specs.Prelude.{◌≡◌, ◌<◌, ◌++◌, All, IfOk, IfSome, codes};
+ghost use Rattle.words.specs.declared.limits.TheConstants.{SLOTS};
 ghost use Rattle.heap_spec.specs.Ranges.{IsWord};
 ghost use Rattle.written_runs.specs.Written.{IsAnswer, NamesWords, answers_word as is_answered_word};
 ghost use Rattle.draw.specs.RunDrawn.{HasWords};
@@ -35,6 +36,13 @@ impl Open {
             Open::Bases(bases) => Hint::Forgot(bases.as_slice()),
         }
     }
+}
+
+/// The command of a line, and its answer: what stands behind ` => `.
+pub(crate) fn parted(line: &str) -> Option<(&str, &str)>
+    ensures { IfSome result (λ parts. line.now ≡ parts.0.now ++ (codes " => " ++ parts.1.now)) }
+{
+    line.split_once(" => ")
 }
 
 /// The refusals.
@@ -77,7 +85,9 @@ fn refusal_named(name: &str) -> Option<Refusal> {
 }
 
 // The slot of this number.
-fn slot_numbered(text: &str) -> Option<Slot> {
+fn slot_numbered(text: &str) -> Option<Slot>
+    ensures { IfSome result (λ slot. slot < SLOTS) }
+{
     let n = number(text.as_bytes())?;
     if n > u64::from(u8::MAX) {
         return None;
