@@ -134,7 +134,7 @@ function ofLinks(record) {
 
 function ofEnd(record, i) {
   if (isRefused(record)) {
-    const swept = /6 Full/.test(record.r) ? ', but that all pending pages are swept' : '';
+    const swept = run.hasCollector && /6 Full/.test(record.r) ? ', but that all pending pages are swept' : '';
     return ['a refused line changes nothing' + swept];
   }
   const floating = run.series.kept[i] - run.series.reached[i];
