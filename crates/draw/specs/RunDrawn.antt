@@ -8,11 +8,13 @@ use Rattle.plain_core.specs.declared.wrongs.Wrong.{Wrong}
 use Rattle.plain_core.specs.declared.wrongs.Wrong.TheVariants.{IsMissing, StandsTwice, HasToStay, HasToGo}
 use Rattle.plain_core.specs.Standing.{word_index}
 use Rattle.replayer.specs.declared.hint.Hint.{Hint}
-use Rattle.written_runs.specs.Written.{IsWritten, answer_of}
+use Rattle.scripts.specs.Grammar.{IsLineOf}
+use Rattle.written_runs.specs.Written.{IsAnswer, IsWritten, answer_of}
 use Rattle.trace_lines.specs.declared.record.Objection.{Objection}
 use Rattle.trace_lines.specs.declared.record.Record.{Record}
 use Rattle.trace_lines.specs.Records.{record_text, refused_text}
 use Rattle.tracing.specs.Telling.{TracerContents, IsTold}
+use Rattle.draw.specs.declared.run_line.Guess.{Guess}
 use Rattle.draw.specs.declared.run_line.Open.{Open}
 use Rattle.draw.specs.declared.run_line.Open.TheVariants.{Nothing, Place, Bases}
 
@@ -21,6 +23,12 @@ abbrev pub HasWords : Open → Type 0
 HasWords Nothing = Unit {0}
 HasWords (Place base) = IsWord base
 HasWords (Bases bases) = All IsWord bases.items
+
+-- What is guessed of a line: the event of its command, a reply to that, and what the reply leaves open.
+pub record IsGuess (command : List ℕ) (g : Guess) : Type 0 where
+  pub is_command : IsLineOf command g.event
+  pub answers : IsAnswer g.event g.reply
+  pub words : HasWords g.left
 
 -- The line is written of an event, its reply and a hint. The tracer was told these, and no core; and the text is that of
 -- the line's command, its reply, and what the tracer says is different.

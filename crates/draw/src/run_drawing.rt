@@ -2,11 +2,9 @@
 ghost use Rattle.std.specs.Prelude.{◌≡◌, IfOk, string_bytes};
 ghost use Rattle.draw.specs.RunDrawn.{IsRefusalDrawn, IsRunDrawn};
 
-use crate::run_line::{open_part, parted, reply_of, reply_part};
+use crate::run_line::{guessed, parted};
 use plain_core::Wrong;
 use programs::Fault;
-use scripts::command;
-use scripts::limits::LINE_BYTES;
 use std::alloc::{AllocError, Global};
 use trace_lines::{Objection, record_line, refused_line};
 use tracing::{Tracer, place_of};
@@ -24,29 +22,24 @@ pub(crate) fn run_written(
     let Some((asked, answer)) = parted(line) else {
         return Err(Fault::BadLine(number));
     };
-    if asked.len() > LINE_BYTES {
-        return Err(Fault::BadLine(number));
-    }
-    let Some(event) = command(asked.as_bytes()) else {
-        return Err(Fault::BadLine(number));
-    };
-    let Some(reply) = reply_of(&event, reply_part(answer)) else {
-        return Err(Fault::BadLine(number));
-    };
-    let Ok(open) = open_part(alloc, answer) else {
+    let Ok(guess) = guessed(alloc, asked, answer) else {
         return Err(Fault::Memory);
     };
-    let Ok(written) = line_text(alloc, asked, &reply, open.hint()) else {
+    let Some(guess) = guess else {
+        return Err(Fault::BadLine(number));
+    };
+    let hint = guess.left.hint();
+    let Ok(written) = line_text(alloc, asked, &guess.reply, hint) else {
         return Err(Fault::Memory);
     };
     if written.as_str() != line {
         return Err(Fault::BadLine(number));
     }
     // The checker took this line already.
-    let Ok(Some(changes)) = tracer.tell(None, &event, &reply, open.hint()) else {
+    let Ok(Some(changes)) = tracer.tell(None, &guess.event, &guess.reply, hint) else {
         return Err(Fault::Memory);
     };
-    let Ok(said) = reply_text(alloc, &reply) else {
+    let Ok(said) = reply_text(alloc, &guess.reply) else {
         return Err(Fault::Memory);
     };
     match record_line(alloc, asked, said.as_str(), &changes) {

@@ -4,11 +4,12 @@ ghost use Rattle.std.specs.Prelude.{◌≡◌, ◌<◌, ◌++◌, All, IfOk, IfS
 ghost use Rattle.words.specs.declared.limits.TheConstants.{SLOTS};
 ghost use Rattle.heap_spec.specs.Ranges.{IsWord};
 ghost use Rattle.written_runs.specs.Written.{IsAnswer, NamesWords, answers_word as is_answered_word};
-ghost use Rattle.draw.specs.RunDrawn.{HasWords};
+ghost use Rattle.draw.specs.RunDrawn.{HasWords, IsGuess};
 
 use heap_spec::{Call, Event, Reply};
 use replayer::Hint;
-use scripts::number;
+use scripts::limits::LINE_BYTES;
+use scripts::{command, number};
 use std::alloc::{AllocError, Global};
 use words::{Refusal, Slot};
 
@@ -36,6 +37,14 @@ impl Open {
             Open::Bases(bases) => Hint::Forgot(bases.as_slice()),
         }
     }
+}
+
+/// What is guessed of a line.
+#[derive(Drop)]
+pub(crate) struct Guess {
+    pub(crate) event: Event,
+    pub(crate) reply: Reply,
+    pub(crate) left: Open,
 }
 
 /// The command of a line, and its answer: what stands behind ` => `.
@@ -109,8 +118,8 @@ fn long_reply(text: &str) -> Option<Reply>
     Some(Reply::Refused(refusal))
 }
 
-/// The reply to an event that has this text, if any has.
-pub(crate) fn reply_of(event: &Event, text: &str) -> Option<Reply>
+// The reply to an event that has this text, if any has.
+fn reply_of(event: &Event, text: &str) -> Option<Reply>
     ensures { IfSome result (λ reply. IsAnswer event.now reply) }
 {
     if text == "ok" {
@@ -125,8 +134,8 @@ pub(crate) fn reply_of(event: &Event, text: &str) -> Option<Reply>
     Some(Reply::Count(value))
 }
 
-/// The reply in an answer, without what it leaves open.
-pub(crate) fn reply_part(answer: &str) -> &str {
+// The reply in an answer, without what it leaves open.
+fn reply_part(answer: &str) -> &str {
     if let Some((reply, _)) = answer.split_once(" @ ") {
         return reply;
     }
@@ -149,8 +158,8 @@ fn numbers(alloc: Global, text: &str) -> Result<Vec<u64>, AllocError>
     Ok(numbers)
 }
 
-/// What the reply in an answer leaves open.
-pub(crate) fn open_part(alloc: Global, answer: &str) -> Result<Open, AllocError>
+// What the reply in an answer leaves open.
+fn open_part(alloc: Global, answer: &str) -> Result<Open, AllocError>
     ensures { IfOk result (λ left. HasWords left) }
 {
     if let Some((_, place)) = answer.split_once(" @ ") {
@@ -163,4 +172,21 @@ pub(crate) fn open_part(alloc: Global, answer: &str) -> Result<Open, AllocError>
         return Ok(Open::Nothing);
     };
     Ok(Open::Bases(numbers(alloc, bases)?))
+}
+
+/// What is guessed of a command and its answer, if the command is one.
+pub(crate) fn guessed(alloc: Global, asked: &str, answer: &str) -> Result<Option<Guess>, AllocError>
+    ensures { IfOk result (λ found. IfSome found (IsGuess asked.now)) }
+{
+    if asked.len() > LINE_BYTES {
+        return Ok(None);
+    }
+    let Some(event) = command(asked.as_bytes()) else {
+        return Ok(None);
+    };
+    let Some(reply) = reply_of(&event, reply_part(answer)) else {
+        return Ok(None);
+    };
+    let left = open_part(alloc, answer)?;
+    Ok(Some(Guess { event, reply, left }))
 }
