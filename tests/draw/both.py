@@ -20,12 +20,12 @@ def of_run(record, waiting):
     gone = set(forgotten) | (set(freed) - waiting)
     waiting |= set(forgotten)
     waiting -= set(freed)
-    return record | ({"free": sorted(gone)} if gone else {})
+    return {**record, **({"free": sorted(gone)} if gone else {})}
 
 
 def main(script_path, run_path):
     (script_head, *script), (run_head, *run) = records(script_path), records(run_path)
-    assert script_head | {"title": "a run", "collector": 0} == run_head, run_head
+    assert {**script_head, "title": "a run", "collector": 0} == run_head, run_head
     assert len(script) == len(run), len(run)
     waiting = set()
     for number, (of_script, said) in enumerate(zip(script, run), 1):

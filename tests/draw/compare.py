@@ -108,14 +108,16 @@ def compare(trace, run, record, has_collector):
         "reached": (trace.reached, run.reached()),
         "touched": (trace.touched, run.touched),
     }
-    pairs |= known(trace, record) if has_collector else {"known": (KNOWN & record.keys(), set())}
+    pairs.update(known(trace, record) if has_collector else {"known": (KNOWN & record.keys(), set())})
     pairs["forgotten"] = ({place // PAGE for place in trace.forgotten}, trace.pending)
     return [f"{what}: trace {left}, run {right}" for what, (left, right) in pairs.items() if left != right]
 
 
 def told_lines(run_path):
     """The lines of a run that are no comments, with their numbers. Newlines alone end lines."""
-    lines = open(run_path, newline="\n").read().removesuffix("\n").split("\n")
+    lines = open(run_path, newline="\n").read().split("\n")
+    if not lines[-1]:
+        lines.pop()
     return [(number, line) for number, line in enumerate(lines, 1) if not line.startswith("#")]
 
 

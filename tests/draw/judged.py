@@ -15,9 +15,9 @@ from run import FIRST, WORD
 
 def objection(said):
     """The number of a refused line, and what is said of it."""
-    parts = [line.removeprefix("line ").split(": ", 1) for line in said]
-    assert len({number for number, _ in parts}) == 1, said
-    return int(parts[0][0]), [sentence for _, sentence in parts]
+    parts = [line.split(": ", 1) for line in said]
+    assert len({front for front, _ in parts}) == 1, said
+    return int(parts[0][0].split()[1]), [sentence for _, sentence in parts]
 
 
 def about(sentence):
@@ -41,7 +41,7 @@ def look_at(run_path, said, trace_path, status):
 
 
 def main(runs, folder):
-    names = sorted(name.removesuffix(".stdout") for name in os.listdir(runs) if name.endswith(".stdout"))
+    names = sorted(os.path.splitext(name)[0] for name in os.listdir(runs) if name.endswith(".stdout"))
     assert len(names) > 130, len(names)
     for name in names:
         run, trace = os.path.join(runs, name), os.path.join(folder, name)
