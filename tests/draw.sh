@@ -57,16 +57,17 @@ runs_are_drawn() {
     for run in "$room"/scripts/*.args; do
         name=$(basename "$run" .args)
         case_is runs "$room/record/$name" "$name" --pages 4 --run {}
-        printf 'legal, %s lines\n' "$(grep -c . "$room/record/$name")" >"$room/runs/$name.stdout"
+        printf 'legal, %s lines\n' "$(grep -c . "$room/record/$name")" >"$room/runs/$name.said"
     done
     while read -r name pages _; do
+        mv "$room/runs/$name.stdout" "$room/runs/$name.said"
         case_is runs "$room/runs/$name" "$name" --pages "$pages" --run {}
     done < <("$top/tests/rows/split_runs" -v "room=$room/runs" "$top"/tests/rows/*.runs)
     number=0
     while IFS='|' read -r text said; do
         name=text_$((number += 1))
         printf '%b' "$text" >"$room/runs/$name"
-        printf '%b\n' "$said" >"$room/runs/$name.stdout"
+        printf '%b\n' "$said" >"$room/runs/$name.said"
         case_is runs "$room/runs/$name" "$name" --pages 1 --run {}
     done < <(sed -nE 's/^"(.*)" => "?([^"]*)"?$/\1|\2/p' "$top/tests/rows/run_texts")
     run_cases draw runs traces
@@ -75,8 +76,8 @@ runs_are_drawn() {
 # Standard error has what `replay` prints of a run that isn't legal, and else nothing.
 is_said() {
     local said name
-    for said in "$room"/runs/*.stdout; do
-        name=$(basename "$said" .stdout)
+    for said in "$room"/runs/*.said; do
+        name=$(basename "$said" .said)
         grep -v '^legal, ' "$said" | cmp - "$room/traces/$name.err" || return
     done
 }

@@ -1,6 +1,6 @@
 """Compares what `draw --run` prints with what `replay` says of the same runs: judged.py RUNS FOLDER.
 
-RUNS has each run as NAME and what `replay` prints of it as NAME.stdout; FOLDER has what `draw --run` prints as NAME, and its status
+RUNS has each run as NAME and what `replay` prints of it as NAME.said; FOLDER has what `draw --run` prints as NAME, and its status
 as NAME.status. Of a text that is no run there is no trace; of any other there is one, which agrees with the run up to the line that
 `replay` refuses, if it refuses one, and ends with that line and with what `replay` says of it.
 """
@@ -41,12 +41,12 @@ def look_at(run_path, said, trace_path, status):
 
 
 def main(runs, folder):
-    names = sorted(os.path.splitext(name)[0] for name in os.listdir(runs) if name.endswith(".stdout"))
+    names = sorted(os.path.splitext(name)[0] for name in os.listdir(runs) if name.endswith(".said"))
     assert len(names) > 130, len(names)
     for name in names:
         run, trace = os.path.join(runs, name), os.path.join(folder, name)
         try:
-            look_at(run, open(run + ".stdout").read().splitlines(), trace, int(open(trace + ".status").read()))
+            look_at(run, open(run + ".said").read().splitlines(), trace, int(open(trace + ".status").read()))
         except (AssertionError, SystemExit) as error:
             sys.exit(f"{name}: {error}")
 

@@ -67,7 +67,7 @@ refused_text command answer o = codes "{\"c\":\"" ++ (command ++ (codes "\",\"r\
 -- that nothing is said of what a collector knows, where it is so
 abbrev pub collector_text : Bool → List ℕ
 collector_text true = []
-collector_text false = key_text (codes "collector") ++ flag_text false
+collector_text false = codes ",\"collector\":0"
 
 -- The first line: a title, the pages of the heap, how many records follow, and whether they say what a collector knows.
 abbrev pub head_text : List ℕ → ℕ → ℕ → Bool → List ℕ

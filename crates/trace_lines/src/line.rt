@@ -119,14 +119,13 @@ pub fn refused_line(
 }
 
 // Puts behind a text that nothing is said of what a collector knows, where it is so.
-fn put_collector(behind: &mut String, alloc: Global, has_collector: bool) -> Result<(), AllocError>
+fn put_collector(behind: &mut String, has_collector: bool) -> Result<(), AllocError>
     ensures { OnOk result (string_bytes behind.new ≡ string_bytes behind.old ++ collector_text has_collector) }
 {
     if has_collector {
         return Ok(());
     }
-    put_key(behind, "collector")?;
-    false.put(behind, alloc)
+    behind.push_str(",\"collector\":0")
 }
 
 /// The first line of a trace, without a newline: what it is of, how many pages the heap has, how many records follow,
@@ -148,7 +147,7 @@ pub fn head_line(
     u64::from(pages).put(&mut line, alloc)?;
     put_key(&mut line, "lines")?;
     lines.put(&mut line, alloc)?;
-    put_collector(&mut line, alloc, has_collector)?;
+    put_collector(&mut line, has_collector)?;
     line.push_str("}")?;
     Ok(line)
 }
