@@ -51,23 +51,23 @@ scripts_are_drawn() {
     run_cases record scripts record
 }
 
-# The runs that `record` wrote, and those of tests/rows, each with what `replay` says of it beside it.
+# The runs that `record` wrote, and those of tests/rows; what `replay` says of each is in the folder `replied`.
 runs_are_drawn() {
-    local run name pages
+    local run name pages text said number=0
+    mkdir "$room/replied" "$room/runs"
     for run in "$room"/scripts/*.args; do
         name=$(basename "$run" .args)
         case_is runs "$room/record/$name" "$name" --pages 4 --run {}
-        printf 'legal, %s lines\n' "$(grep -c . "$room/record/$name")" >"$room/runs/$name.said"
+        printf 'legal, %s lines\n' "$(grep -c . "$room/record/$name")" >"$room/replied/$name"
     done
     while read -r name pages _; do
-        mv "$room/runs/$name.stdout" "$room/runs/$name.said"
+        mv "$room/runs/$name.stdout" "$room/replied/$name"
         case_is runs "$room/runs/$name" "$name" --pages "$pages" --run {}
     done < <("$top/tests/rows/split_runs" -v "room=$room/runs" "$top"/tests/rows/*.runs)
-    number=0
     while IFS='|' read -r text said; do
         name=text_$((number += 1))
         printf '%b' "$text" >"$room/runs/$name"
-        printf '%b\n' "$said" >"$room/runs/$name.said"
+        printf '%b\n' "$said" >"$room/replied/$name"
         case_is runs "$room/runs/$name" "$name" --pages 1 --run {}
     done < <(sed -nE 's/^"(.*)" => "?([^"]*)"?$/\1|\2/p' "$top/tests/rows/run_texts")
     run_cases draw runs traces
@@ -75,10 +75,9 @@ runs_are_drawn() {
 
 # Standard error has what `replay` prints of a run that isn't legal, and else nothing.
 is_said() {
-    local said name
-    for said in "$room"/runs/*.said; do
-        name=$(basename "$said" .said)
-        grep -v '^legal, ' "$said" | cmp - "$room/traces/$name.err" || return
+    local said
+    for said in "$room"/replied/*; do
+        sed '/^legal, /d' "$said" | cmp - "$room/traces/$(basename "$said").err" || return
     done
 }
 
@@ -90,7 +89,7 @@ for script in "$top"/examples/*.script; do
     agrees "$name: the replies" replies_are_those "$room/draw/$name" "${script%.script}.replies"
     agrees "$name: the traces of the script and of the run" python3 "$top/tests/draw/both.py" "$room/draw/$name" "$room/traces/$name"
 done
-agrees "the traces of runs" python3 "$top/tests/draw/judged.py" "$room/runs" "$room/traces"
+agrees "the traces of runs" python3 "$top/tests/draw/judged.py" "$room/runs" "$room/replied" "$room/traces"
 [ -z "$built" ] || agrees "what is said of runs" is_said
 echo "draw: $passed passed, $failed failed"
 [ "$failed" = 0 ] && [ "$passed" -gt 2 ]

@@ -1,8 +1,8 @@
-"""Compares what `draw --run` prints with what `replay` says of the same runs: judged.py RUNS FOLDER.
+"""Compares what `draw --run` prints with what `replay` says of the same runs: judged.py RUNS REPLIED TRACES.
 
-RUNS has each run as NAME and what `replay` prints of it as NAME.said; FOLDER has what `draw --run` prints as NAME, and its status
-as NAME.status. Of a text that is no run there is no trace; of any other there is one, which agrees with the run up to the line that
-`replay` refuses, if it refuses one, and ends with that line and with what `replay` says of it.
+RUNS has each run as NAME, REPLIED what `replay` prints of it, and TRACES what `draw --run` prints, with its status as NAME.status.
+Of a text that is no run there is no trace; of any other there is one, which agrees with the run up to the line that `replay`
+refuses, if it refuses one, and ends with that line and with what `replay` says of it.
 """
 import json
 import os
@@ -40,13 +40,13 @@ def look_at(run_path, said, trace_path, status):
     assert last.get("about") == about(last["says"][-1]), last
 
 
-def main(runs, folder):
-    names = sorted(os.path.splitext(name)[0] for name in os.listdir(runs) if name.endswith(".said"))
+def main(runs, replied, traces):
+    names = sorted(os.listdir(replied))
     assert len(names) > 130, len(names)
     for name in names:
-        run, trace = os.path.join(runs, name), os.path.join(folder, name)
+        run, said, trace = (os.path.join(folder, name) for folder in (runs, replied, traces))
         try:
-            look_at(run, open(run + ".said").read().splitlines(), trace, int(open(trace + ".status").read()))
+            look_at(run, open(said).read().splitlines(), trace, int(open(trace + ".status").read()))
         except (AssertionError, SystemExit) as error:
             sys.exit(f"{name}: {error}")
 

@@ -18,9 +18,6 @@ if [ "${4-}" = --built ]; then
     done
     exit
 fi
-(cd "$top/crates/$program" && rt try --seconds 300 --cases "$cases") >"$folder.out" || true
-awk -v folder="$folder/" '
-    /^== / { name = $2; printf "" >(folder name); next }
-    /^case=/ { name = ""; split($1, of, "="); split($3, status, "="); print status[2] >(folder of[2] ".status") }
-    name { print >(folder name) }
-' "$folder.out"
+(cd "$top/crates/$program" && rt try --seconds 300 --cases "$cases") >"$folder.out" 2>"$folder.ends" || true
+awk -v folder="$folder/" '/^== / { name = $2; printf "" >(folder name); next } { print >(folder name) }' "$folder.out"
+awk -v folder="$folder/" '/^case=/ { split($1, name, "="); split($3, of, "="); print of[2] >(folder name[2] ".status") }' "$folder.ends"
