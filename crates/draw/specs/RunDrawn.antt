@@ -1,6 +1,7 @@
 -- What is drawn of a line of a run that was written down.
 use Rattle.std.specs.Prelude.{◌≡◌, ℕ, Option, Some, None, List, ◌++◌, codes, All, String}
 use Rattle.std.specs.Option.{option_map}
+use Rattle.std.specs.declared.alloc.Global.{Global}
 use Rattle.heap_spec.specs.declared.event.Event.{Event}
 use Rattle.heap_spec.specs.declared.reply.Reply.{Reply}
 use Rattle.heap_spec.specs.Ranges.{IsWord}
@@ -50,7 +51,7 @@ base_of (HasToGo base) = base
 
 -- The text is that of the line, cut at ` => `, with its number, what is said of it, and the place of the object of which
 -- something is wrong.
-pub record IsRefusalDrawn (number : ℕ) (line : List ℕ) (says : List String) (wrong : Option Wrong) (text : List ℕ) : Type 0 where
+pub record IsRefusalDrawn (number : ℕ) (line : List ℕ) (says : List (String Global)) (wrong : Option Wrong) (text : List ℕ) : Type 0 where
   pub command : List ℕ
   pub answer : List ℕ
   pub is_line : line ≡ command ++ (codes " => " ++ answer)
