@@ -49,6 +49,10 @@ base_of (StandsTwice base) = base
 base_of (HasToStay base) = base
 base_of (HasToGo base) = base
 
+-- the place of that object
+abbrev pub place_about : Wrong → ℕ
+place_about w = word_index (base_of w)
+
 -- The text is that of the line, cut at ` => `, with its number, what is said of it, and the place of the object of which
 -- something is wrong.
 pub record IsRefusalDrawn (number : ℕ) (line : List ℕ) (says : List (String Global)) (wrong : Option Wrong) (text : List ℕ) : Type 0 where
@@ -58,5 +62,5 @@ pub record IsRefusalDrawn (number : ℕ) (line : List ℕ) (says : List (String 
   pub objection : Objection
   pub numbered : objection.line ≡ number
   pub said : objection.says.items ≡ says
-  pub about : objection.about ≡ option_map (λ w. word_index (base_of w)) wrong
+  pub about : objection.about ≡ option_map place_about wrong
   pub whole : text ≡ refused_text command answer objection

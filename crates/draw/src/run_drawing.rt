@@ -1,6 +1,7 @@
 //! A run that was written down: what is drawn of each of its lines, and of the first that the checker refuses.
 ghost use Rattle.std.specs.Prelude.{◌≡◌, IfOk, string_bytes};
-ghost use Rattle.draw.specs.RunDrawn.{IsRefusalDrawn, IsRunDrawn};
+ghost use Rattle.std.specs.Option.{option_map};
+ghost use Rattle.draw.specs.RunDrawn.{IsRefusalDrawn, IsRunDrawn, place_about};
 
 use crate::run_line::{guessed, parted};
 use plain_core::Wrong;
@@ -67,7 +68,9 @@ pub(crate) fn sentences(
 }
 
 // The place of the object that was forgotten or kept wrongly.
-fn place_of_wrong(wrong: Wrong) -> u64 {
+fn place_of_wrong(wrong: Wrong) -> u64
+    ensures { result ≡ place_about wrong }
+{
     match wrong {
         Wrong::IsMissing(base)
         | Wrong::StandsTwice(base)
@@ -77,7 +80,9 @@ fn place_of_wrong(wrong: Wrong) -> u64 {
 }
 
 // The place that a judgement speaks of.
-fn place_judged(judgement: &Judgement) -> Option<u64> {
+fn place_judged(judgement: &Judgement) -> Option<u64>
+    ensures { result ≡ option_map place_about judgement.now.wrong }
+{
     match judgement.wrong {
         Some(wrong) => Some(place_of_wrong(wrong)),
         None => None,
