@@ -3,6 +3,7 @@
 ghost use Rattle.std.specs.Prelude.{◌≡◌, ◌<◌, ◌++◌, All, IfOk, IfSome, codes};
 ghost use Rattle.words.specs.declared.limits.TheConstants.{SLOTS};
 ghost use Rattle.heap_spec.specs.Ranges.{IsWord};
+ghost use Rattle.heap_spec.specs.declared.event.Event.{Event as EventValue};
 ghost use Rattle.written_runs.specs.Written.{IsAnswer, NamesWords, answers_word as is_answered_word};
 ghost use Rattle.draw.specs.RunDrawn.{HasWords, IsGuess};
 
