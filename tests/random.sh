@@ -11,22 +11,9 @@
 # - 50 scripts of 3,004 lines, and 1,000 orders of calls round one object (tests/random/orders.py), are legal as they are recorded.
 # It takes the proved programs that `rt ci` or `./mpheap build` left, in some seconds, or else unproved builds; and Python 3.
 set -uo pipefail
-top=$(dirname "$(dirname "$(readlink -f "${BASH_SOURCE[0]}")")")
-room=$(mktemp -d)
-trap 'rm -rf "$room"' EXIT
-trap 'exit 143' INT TERM HUP
-passed=0
-failed=0
-
-# is WHAT WANTED SEEN
-is() {
-    if [ "$2" = "$3" ]; then
-        passed=$((passed + 1))
-    else
-        failed=$((failed + 1))
-        printf 'random: %s\n  wanted: %s\n  seen:   %s\n' "$1" "$2" "$3"
-    fi
-}
+kind=random
+# shellcheck source=tests/cases.sh
+. "$(dirname "$(readlink -f "${BASH_SOURCE[0]}")")/cases.sh"
 
 # works WHAT COMMAND..: the command ends with 0.
 works() {
@@ -35,14 +22,14 @@ works() {
     is "$1" "status 0" "status $status$([ $status = 0 ] || tail -n 5 "$room/said")"
 }
 
-# case_is NAME WORDS..: a case of the program, with the script or workload NAME of `cases`, if there is one.
-case_is() {
+# script_is NAME WORDS..: a case of the program, with the script or workload NAME of `cases`, if there is one.
+script_is() {
     [ -e "$cases/$1" ] || : >"$cases/$1"
     printf '%s\n' "${@:2}" >"$cases/$1.args"
 }
 
 # stress NAME SEED MUTATORS STEPS
-stress() { case_is "$1" stress --seed "$2" --mutators "$3" --steps "$4"; }
+stress() { script_is "$1" stress --seed "$2" --mutators "$3" --steps "$4"; }
 
 # The pages, mutators and helpers of a seed; twelve seeds on end have all pairs of the first two.
 numbers_of() {
@@ -96,7 +83,7 @@ beside_cycles() {
     }' >"$room/loads"
     for helpers in 1 4; do
         cp "$room/beside" "$cases/beside_$helpers"
-        case_is "beside_$helpers" threads --pages 8 --helpers $helpers {}
+        script_is "beside_$helpers" threads --pages 8 --helpers $helpers {}
     done
 }
 
@@ -107,20 +94,20 @@ run_all() {
     for seed in $(seq 200); do
         read -r pages _ helpers < <(numbers_of "$seed")
         awk '{ print } /^gc/ { print "gc no" }' "$room/drawn/workload_$seed" >"$cases/workload_$seed"
-        case_is "workload_$seed" threads --pages "$pages" --helpers "$helpers" {}
+        script_is "workload_$seed" threads --pages "$pages" --helpers "$helpers" {}
         grep -v '^gc' "$room/drawn/alone_$seed" | tee "$cases/alone_$seed" >"$cases/thread_$seed"
-        case_is "alone_$seed" run --pages "$pages" {}
-        case_is "thread_$seed" threads --pages "$pages" {}
+        script_is "alone_$seed" run --pages "$pages" {}
+        script_is "thread_$seed" threads --pages "$pages" {}
     done
     for seed in $(seq 20); do
         tee "$cases/long_$seed" <"$room/drawn/long_$seed" >"$cases/three_$seed"
-        case_is "long_$seed" run --pages 8 {}
-        case_is "three_$seed" threads --pages 8 {}
+        script_is "long_$seed" run --pages 8 {}
+        script_is "three_$seed" threads --pages 8 {}
     done
     python3 "$top/tests/random/links.py" write "$room/link"
     for seed in $(seq 200); do
         cp "$room/link" "$cases/link_$seed"
-        case_is "link_$seed" threads --pages 4 --helpers 2 {}
+        script_is "link_$seed" threads --pages 4 --helpers 2 {}
     done
     beside_cycles
     works "they run" "$top/tests/outputs.sh" mpheap "$cases" "$room/printed"
@@ -137,7 +124,7 @@ record_all() {
         name=${script##*/}
         pages=1
         [[ $name == order_* ]] || pages=8
-        case_is "$name" --pages $pages {}
+        script_is "$name" --pages $pages {}
     done
     works "scripts are recorded" "$top/tests/outputs.sh" record "$cases" "$room/recorded"
     for script in "$cases"/*.args; do cp "$script" "$room/recorded"; done
@@ -206,5 +193,4 @@ one_mutator_is_answered_as_a_script
 lines_are_answered
 links_and_loads_are_right
 runs_are_legal
-echo "random: $passed passed, $failed failed"
-[ "$failed" = 0 ]
+close_cases
