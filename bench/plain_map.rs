@@ -3,13 +3,10 @@
 #![allow(dead_code)]
 
 use crate::plain_class::Class;
-use crate::plain_row::is_set;
+use crate::plain_row::{clear, is_set, next, set};
 
 /// The address of the heap's first byte.
 pub const START: u64 = 268_435_456;
-
-/// What stands in place of a number at the end of a list of free cells.
-pub const LIST_END: u16 = 65_535;
 
 /// Whether the collector reads an object's words.
 #[derive(Clone, Copy, PartialEq)]
@@ -18,15 +15,13 @@ pub enum Kind {
     PointerFree,
 }
 
-/// A page cut into cells: which are allocated, and the first free one. The first word of a free cell has the number of
-/// the next one.
+/// A page cut into cells, and which of them are allocated.
 pub struct Block {
     pub class: Class,
     pub kind: Kind,
     reciprocal: u32,
     pub taken: [u64; 4],
     cells: u16,
-    pub first: u16,
 }
 
 /// What stands on a page: nothing, cells, a large object of so many pages, or a further page of one that begins there.
@@ -53,13 +48,71 @@ impl Block {
     /// A page cut into cells of a class, all free.
     #[inline]
     pub fn new(class: Class, kind: Kind) -> Block {
-        Block { class, kind, reciprocal: class.reciprocal(), taken: [0; 4], cells: class.cells(), first: 0 }
+        Block { class, kind, reciprocal: class.reciprocal(), taken: [0; 4], cells: class.cells() }
     }
 
     #[inline]
     fn cell_of(&self, w: u64) -> Option<u16> {
         let cell = (w % 4_096 / 16) as u32 * self.reciprocal / 65_536;
         (cell < u32::from(self.cells)).then_some(cell as u16)
+    }
+
+    // The lowest free cell.
+    #[inline]
+    fn first_free(&self) -> Option<u16> {
+        let cell = next(&self.taken, 0, false)? as u16;
+        (cell < self.cells).then_some(cell)
+    }
+
+    /// Allocates the lowest free cell.
+    #[inline]
+    pub fn take(&mut self) -> Option<u16> {
+        let cell = self.first_free()?;
+        set(&mut self.taken, usize::from(cell));
+        Some(cell)
+    }
+
+    /// Makes a cell free.
+    #[inline]
+    pub fn put(&mut self, cell: u16) {
+        clear(&mut self.taken, usize::from(cell));
+    }
+
+    /// Whether every cell is allocated.
+    #[inline]
+    pub fn is_full(&self) -> bool {
+        self.first_free().is_none()
+    }
+
+    /// Whether none is.
+    #[inline]
+    pub fn is_empty(&self) -> bool {
+        self.taken == [0; 4]
+    }
+
+    // Adds the marked cells that begin at the granules of a word of the page's marks.
+    #[inline]
+    fn add_marked(&self, live: &mut [u64; 4], word: usize, mut marks: u64) {
+        let granules = u32::from(self.class.words()) / 2;
+        while marks != 0 {
+            let granule = 64 * word as u32 + marks.trailing_zeros();
+            let cell = granule * self.reciprocal / 65_536;
+            if cell < u32::from(self.cells) && cell * granules == granule {
+                set(live, cell as usize);
+            }
+            marks &= marks - 1;
+        }
+    }
+
+    /// Makes each cell free that isn't marked.
+    pub fn sweep(&mut self, marks: &[u64]) {
+        let mut live = [0; 4];
+        for (word, marks) in marks.iter().enumerate() {
+            self.add_marked(&mut live, word, *marks);
+        }
+        for (taken, live) in self.taken.iter_mut().zip(live) {
+            *taken &= live;
+        }
     }
 
     #[inline]

@@ -1,15 +1,16 @@
 //! The objects of a heap in plain Rust, with the data and the steps of the proved ones: the words, the map, the free
-//! pages, for each class and kind a row of the pages with a free cell, and the pages that are still to be swept.
+//! pages, for each class and kind a row of the pages that are ready, since they have a free cell and need no sweep, and a
+//! row of those that wait for one, and all pages that are still to be swept.
 // A program uses a part of it.
 #![allow(dead_code)]
 
 mod sweep;
 
 use crate::plain_class::{CLASSES, Class, Placement};
-use crate::plain_map::{Block, Found, Kind, LIST_END, Page, START, find};
+use crate::plain_map::{Block, Found, Kind, Page, START, find};
 use crate::plain_marker::Marker;
 use crate::plain_pool::{give, take_run};
-use crate::plain_row::{LowestRow, clear, set};
+use crate::plain_row::LowestRow;
 
 const PAGE_WORDS: usize = 512;
 
@@ -18,13 +19,19 @@ pub struct Space {
     words: Vec<u64>,
     map: Vec<Page>,
     free: Vec<u64>,
-    available: Vec<LowestRow>,
+    ready: Vec<LowestRow>,
+    waiting: Vec<LowestRow>,
     pending: LowestRow,
 }
 
 #[inline]
 fn place(address: u64) -> usize {
     ((address - START) / 8) as usize
+}
+
+// A row of pages for each class and kind.
+fn rows(pages: usize) -> Vec<LowestRow> {
+    (0..2 * CLASSES).map(|_| LowestRow::new(pages)).collect()
 }
 
 #[inline]
@@ -60,7 +67,8 @@ impl Space {
             words: vec![0; PAGE_WORDS * pages],
             map: (0..pages).map(|_| Page::Free).collect(),
             free,
-            available: (0..2 * CLASSES).map(|_| LowestRow::new(pages)).collect(),
+            ready: rows(pages),
+            waiting: rows(pages),
             pending: LowestRow::new(pages),
         }
     }
@@ -84,61 +92,39 @@ impl Space {
         self.words[place(address)] = word;
     }
 
-    // The lowest page that is still to be swept and is cut for the class and the kind.
-    #[inline(never)]
-    fn pending_for(&self, class: Class, kind: Kind) -> Option<usize> {
-        let mut from = 0;
-        loop {
-            let page = self.pending.next(from)?;
-            if matches!(&self.map[page], Page::Cut(block) if block.class == class && block.kind == kind) {
-                return Some(page);
-            }
-            from = page + 1;
-        }
-    }
-
-    // A page with a free cell for the class and the kind.
-    #[inline(always)]
+    // The lowest page with a free cell for the class and the kind that needs no sweep, or else the lowest one for them that
+    // waits for a sweep.
+    #[inline]
     fn page_for(&self, class: Class, kind: Kind) -> Option<usize> {
-        self.available[row_of(class, kind)].first()
+        let row = row_of(class, kind);
+        self.ready[row].first().or_else(|| self.waiting[row].first())
     }
 
-    // Takes the first free cell of a page that has one. Its first word has the number of the next one.
+    // Takes the lowest free cell of a page that has one.
     #[inline(always)]
     fn take_cell(&mut self, page: usize, class: Class, kind: Kind) -> u64 {
         let Page::Cut(block) = &mut self.map[page] else {
             unreachable!();
         };
-        let cell = usize::from(block.first);
+        let Some(cell) = block.take() else {
+            unreachable!();
+        };
+        let was_last = block.is_full();
         let words = usize::from(class.words());
-        let start = PAGE_WORDS * page + cell * words;
-        let next = self.words[start] as u16;
-        block.first = next;
-        set(&mut block.taken, cell);
+        let start = PAGE_WORDS * page + usize::from(cell) * words;
         zero(&mut self.words[start..start + words]);
-        if next == LIST_END {
-            self.available[row_of(class, kind)].clear(page);
+        if was_last {
+            self.ready[row_of(class, kind)].clear(page);
         }
         START + 8 * start as u64
     }
 
-    // Makes all cells of a page a list in their order.
-    fn link_all(&mut self, page: usize, class: Class) {
-        let words = &mut self.words[PAGE_WORDS * page..PAGE_WORDS * (page + 1)];
-        let mut first = LIST_END;
-        for cell in (0..class.cells()).rev() {
-            words[usize::from(cell) * usize::from(class.words())] = u64::from(first);
-            first = cell;
-        }
-    }
-
-    // Cuts a free page, and takes its first cell.
+    // Cuts a free page, and takes its lowest cell.
     #[inline(never)]
     fn take_page(&mut self, class: Class, kind: Kind) -> Option<u64> {
         let page = take_run(&mut self.free, 1)?;
-        self.link_all(page, class);
         self.map[page] = Page::Cut(Block::new(class, kind));
-        self.available[row_of(class, kind)].set(page);
+        self.ready[row_of(class, kind)].set(page);
         Some(self.take_cell(page, class, kind))
     }
 
@@ -154,25 +140,24 @@ impl Space {
         Some(start_of(first))
     }
 
-    // A place for a small object where no page has one, or the page that was found is still to be swept. Pages for the
-    // class and the kind that are still to be swept are swept first, one by one.
-    #[inline(never)]
-    fn make_place(&mut self, marker: &Marker, class: Class, kind: Kind, mut found: Option<usize>) -> Option<u64> {
-        while let Some(page) = found.or_else(|| self.pending_for(class, kind)) {
+    // A page with a free cell for the class and the kind that needs no sweep. Pages for them that wait for one are swept
+    // first, one by one.
+    #[inline(always)]
+    fn swept_page(&mut self, marker: &Marker, class: Class, kind: Kind) -> Option<usize> {
+        while let Some(page) = self.page_for(class, kind) {
             if !self.pending.is_set(page) {
-                return Some(self.take_cell(page, class, kind));
+                return Some(page);
             }
             self.sweep_page(marker, page);
-            found = self.page_for(class, kind);
         }
-        self.take_page(class, kind)
+        None
     }
 
     #[inline(always)]
     fn place_small(&mut self, marker: &Marker, class: Class, kind: Kind) -> Option<u64> {
-        match self.page_for(class, kind) {
-            Some(page) if !self.pending.is_set(page) => Some(self.take_cell(page, class, kind)),
-            found => self.make_place(marker, class, kind, found),
+        match self.swept_page(marker, class, kind) {
+            Some(page) => Some(self.take_cell(page, class, kind)),
+            None => self.take_page(class, kind),
         }
     }
 
@@ -184,9 +169,19 @@ impl Space {
         }
     }
 
-    // Sweeps pages for any class, one by one, till there is a place.
-    #[cold]
-    fn sweep_and_place(&mut self, marker: &Marker, placement: Placement, kind: Kind) -> Option<u64> {
+    // The lowest free cell of the lowest page for the class and the kind that needs no sweep.
+    #[inline(always)]
+    fn take_ready(&mut self, class: Class, kind: Kind) -> Option<u64> {
+        let page = self.ready[row_of(class, kind)].first()?;
+        Some(self.take_cell(page, class, kind))
+    }
+
+    // A place for a new object where none is ready: it sweeps as it needs, and takes free pages.
+    #[inline(never)]
+    fn search(&mut self, marker: &Marker, placement: Placement, kind: Kind) -> Option<u64> {
+        if let Some(base) = self.place(marker, placement, kind) {
+            return Some(base);
+        }
         while self.sweep(marker) {
             if let Some(base) = self.place(marker, placement, kind) {
                 return Some(base);
@@ -198,7 +193,11 @@ impl Space {
     /// Takes a place for a new object, writes 0 into its words, and answers its base. It sweeps as it needs.
     #[inline]
     pub fn allocate(&mut self, marker: &Marker, placement: Placement, kind: Kind) -> Option<u64> {
-        self.place(marker, placement, kind).or_else(|| self.sweep_and_place(marker, placement, kind))
+        let ready = match placement {
+            Placement::Small(class) => self.take_ready(class, kind),
+            Placement::Large(_) => None,
+        };
+        ready.or_else(|| self.search(marker, placement, kind))
     }
 
     /// Frees an allocated object, and its page with the last one.
@@ -209,21 +208,22 @@ impl Space {
             return self.free_pages(page, found.len as usize / PAGE_WORDS);
         };
         let row = row_of(block.class, block.kind);
-        self.words[place(found.base)] = u64::from(block.first);
-        block.first = found.cell;
-        clear(&mut block.taken, usize::from(found.cell));
-        if block.taken != [0; 4] {
-            self.available[row].set(page);
-        } else {
+        let was_full = block.is_full();
+        block.put(found.cell);
+        if block.is_empty() {
             self.free_block(page, row);
+        } else if was_full && !self.pending.is_set(page) {
+            self.ready[row].set(page);
         }
     }
 
     // Frees the page of a block of a row.
+    #[inline(never)]
     fn free_block(&mut self, page: usize, row: usize) {
         self.map[page] = Page::Free;
         give(&mut self.free, page, 1);
-        self.available[row].clear(page);
+        self.ready[row].clear(page);
+        self.waiting[row].clear(page);
         self.pending.clear(page);
     }
 

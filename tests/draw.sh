@@ -1,6 +1,7 @@
 #!/usr/bin/env bash
 # Tests of the program `draw`: the trace of each worked example is compared, line by line, with the run that `record` writes of the
-# same script, from which tests/draw/run.py works out what is true, and its replies with those beside the script.
+# same script, from which tests/draw/run.py works out what is true, and its replies with those beside the script. The trace of that run,
+# by `draw --run`, is compared with both, and those of the written runs of tests/rows with what `replay` says of them.
 #     tests/draw.sh [--built]
 # --built takes the programs that `rt ci` left, which takes seconds; else unproved builds are made, in one to two minutes. It
 # needs rt and Python 3, and leaves nothing behind.
@@ -11,6 +12,7 @@ trap 'rm -rf "$room"' EXIT
 trap 'exit 143' INT TERM HUP
 passed=0
 failed=0
+built=${1-}
 
 # agrees WHAT COMMAND..: the command ends with 0, and otherwise what it said last is shown.
 agrees() {
@@ -30,13 +32,64 @@ replies_are_those() {
     replies "$1" | diff - "$2"
 }
 
-for program in draw record; do
-    agrees "$program runs" "$top/tests/draw/runs.sh" "$program" "$room/$program" "$@"
-done
+# case_is CASES FILE NAME WORDS..: the file with the words to call a program with.
+case_is() {
+    mkdir -p "$room/$1"
+    [ "$2" = "$room/$1/$3" ] || cp "$2" "$room/$1/$3"
+    printf '%s\n' "${@:4}" >"$room/$1/$3.args"
+}
+
+# run_cases PROGRAM CASES FOLDER: what the program prints of the cases is in the folder.
+run_cases() {
+    agrees "$1 runs over $2" "$top/tests/draw/runs.sh" "$1" "$room/$2" "$room/$3" ${built:+"$built"}
+}
+
+scripts_are_drawn() {
+    local script
+    for script in "$top"/examples/*.script; do case_is scripts "$script" "$(basename "$script" .script)" --pages 4 {}; done
+    run_cases draw scripts draw
+    run_cases record scripts record
+}
+
+# The runs that `record` wrote, and those of tests/rows; what `replay` says of each is in the folder `replied`.
+runs_are_drawn() {
+    local run name pages text said number=0
+    mkdir "$room/replied" "$room/runs"
+    for run in "$room"/scripts/*.args; do
+        name=$(basename "$run" .args)
+        case_is runs "$room/record/$name" "$name" --pages 4 --run {}
+        printf 'legal, %s lines\n' "$(grep -c . "$room/record/$name")" >"$room/replied/$name"
+    done
+    while read -r name pages _; do
+        mv "$room/runs/$name.stdout" "$room/replied/$name"
+        case_is runs "$room/runs/$name" "$name" --pages "$pages" --run {}
+    done < <("$top/tests/rows/split_runs" -v "room=$room/runs" "$top"/tests/rows/*.runs)
+    while IFS='|' read -r text said; do
+        name=text_$((number += 1))
+        printf '%b' "$text" >"$room/runs/$name"
+        printf '%b\n' "$said" >"$room/replied/$name"
+        case_is runs "$room/runs/$name" "$name" --pages 1 --run {}
+    done < <(sed -nE 's/^"(.*)" => "?([^"]*)"?$/\1|\2/p' "$top/tests/rows/run_texts")
+    run_cases draw runs traces
+}
+
+# Standard error has what `replay` prints of a run that isn't legal, and else nothing.
+is_said() {
+    local said
+    for said in "$room"/replied/*; do
+        sed '/^legal, /d' "$said" | cmp - "$room/traces/$(basename "$said").err" || return
+    done
+}
+
+scripts_are_drawn
+runs_are_drawn
 for script in "$top"/examples/*.script; do
     name=$(basename "$script" .script)
     agrees "$name: the trace and the run" python3 "$top/tests/draw/compare.py" "$room/draw/$name" "$room/record/$name"
     agrees "$name: the replies" replies_are_those "$room/draw/$name" "${script%.script}.replies"
+    agrees "$name: the traces of the script and of the run" python3 "$top/tests/draw/both.py" "$room/draw/$name" "$room/traces/$name"
 done
+agrees "the traces of runs" python3 "$top/tests/draw/judged.py" "$room/runs" "$room/replied" "$room/traces"
+[ -z "$built" ] || agrees "what is said of runs" is_said
 echo "draw: $passed passed, $failed failed"
 [ "$failed" = 0 ] && [ "$passed" -gt 2 ]

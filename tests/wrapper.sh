@@ -127,6 +127,7 @@ usage_comes_first() {
     has "no words: record" "mpheap record --pages N FILE" "$err"
     has "no words: replay" "mpheap replay --pages N FILE" "$err"
     has "no words: draw" "mpheap draw --pages N [FILE]" "$err"
+    has "no words: draw --run" "mpheap draw --pages N --run FILE" "$err"
     has "no words: build" "mpheap build" "$err"
     has "no words: install" "mpheap install PREFIX" "$err"
     has "no words: which page says more" "$tree/docs/SCRIPTS.md" "$err"
@@ -241,7 +242,22 @@ a_drawn_run_is_a_page() {
     echo "0 get 1" >"$room/script"
     call draw --pages 4 <"$room/script"
     is "draw: a script from standard input" "draw try -- --pages 4 /dev/stdin|0 get 1" "$(calls)|$(input)"
-    refused 2 "draw --pages N FILE" "'draw' takes a number of pages and one FILE" draw --pages 4 a b
+    try_ends 1 $'{"title":"a run"}\n{"c":"attach","r":"mutator 1","no":1}\n' "line 1: a mutator gets the lowest free slot"
+    mv first.script first.replay
+    call draw --pages 4 --run first.replay
+    mv first.replay first.script
+    is "draw --run: its crate and words" "draw try -- --pages 4 --run /dev/stdin" "$(calls)"
+    is "draw --run: the status of a line that is refused" 1 "$status"
+    has "draw --run: what is said of it" "line 1: a mutator gets the lowest free slot" "$err"
+    has "draw --run: the page" '{"c":"attach","r":"mutator 1","no":1}' "$out"
+    has "draw --run: its title is FILE's name" '{"title":"first"}' "$out"
+    try_ends 2 "" "no lines"
+    call draw --pages 4 --run first.script
+    is "draw --run: no run, no page" "2 " "$status $out"
+    refused 2 "draw --pages N [--run] FILE" "'draw' takes a number of pages and one FILE" draw --pages 4 a b
+    refused 2 "draw --pages N [--run] FILE" "'draw' takes a number of pages and one FILE" draw --pages 4 --runs a
+    refused 2 "record --pages N FILE" "'record' takes a number of pages and one FILE" record --pages 4 --run a
+    refused 1 "read fault" "there is no file 'not.there'" draw --pages 4 --run not.there
 }
 
 # The limits that the wrapper knows are those of the program.

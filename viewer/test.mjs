@@ -13,7 +13,7 @@ import assert from 'node:assert/strict';
 import { Chromium } from './test/chromium.mjs';
 import { Firefox } from './test/firefox.mjs';
 import { manyPages } from './test/many_pages.mjs';
-import { elsewhere, read, testsOf } from './test/page_tests.mjs';
+import { elsewhere, opensAtRefused, read, testsOf } from './test/page_tests.mjs';
 import { takeShots } from './test/shots.mjs';
 
 const here = dirname(fileURLToPath(import.meta.url));
@@ -58,6 +58,11 @@ async function tryPage(browser, name, text) {
   await check(`${name}, the line of its address`, async () => assert.equal(await page.run('viewer.at()'), 2));
   for (const [what, test] of Object.entries(testsOf(trace))) await check(`${name}, ${what}`, () => test(page, trace));
   await page.close();
+  if (trace.lines.at(-1)?.no) {
+    const opened = await browser.open(url);
+    await check(`${name}, the line that is refused`, () => opensAtRefused(opened, trace));
+    await opened.close();
+  }
 }
 
 // A trace of no line.

@@ -1,10 +1,11 @@
 # shellcheck shell=sh disable=SC2154 # (mpheap has the other names)
 # Part of the wrapper mpheap, read by it: the page of `draw`, which is its trace joined with the page in viewer/.
 
-# titled TRACE: the trace, which the program calls a script, by the name of FILE, of which no character needs JSON's escapes.
+# titled TRACE: the trace, which the program calls a script or a run, by the name of FILE, of which no character needs JSON's
+# escapes.
 titled() {
-    title=$(basename -- "${file:-a script}" .script | LC_ALL=C tr -cd 'A-Za-z0-9_. -')
-    sed "1s/\"title\":\"a script\"/\"title\":\"$title\"/" "$1"
+    title=$(basename -- "${file:-a script}" .script | sed 's/\.\(replay\|run\)$//' | LC_ALL=C tr -cd 'A-Za-z0-9_. -')
+    sed "1s/\"title\":\"a \(script\|run\)\"/\"title\":\"$title\"/" "$1"
 }
 
 # give FILE: what a program printed; of `draw` the page that shows it, if there is any line to show.

@@ -58,7 +58,11 @@ is_number() {
 bad_words() {
     say "$*"
     (usage)
-    if has_one_order "$command"; then echo "$command --pages N FILE"; else echo "bad command"; fi >&2
+    case $command in
+        draw) echo "draw --pages N [--run] FILE" ;;
+        replay | record) echo "$command --pages N FILE" ;;
+        *) echo "bad command" ;;
+    esac >&2
     exit 2
 }
 
@@ -95,10 +99,15 @@ has_one_order() {
     case $1 in replay | record | draw) true ;; *) false ;; esac
 }
 
+# names_run WORDS..: they are those of `draw --pages N --run FILE`.
+names_run() {
+    [ $# = 5 ] && [ "$1" = draw ] && [ "$4" = --run ]
+}
+
 look_at_order() {
     has_one_order "$1" || return 0
     [ "${2-}" = --pages ] || bad_words "'--pages' has to be the first word behind '$1'"
-    [ $# = 4 ] || { [ $# = 3 ] && reads_input "$1"; } || bad_words "'$1' takes a number of pages and one FILE"
+    [ $# = 4 ] || { [ $# = 3 ] && reads_input "$1"; } || names_run "$@" || bad_words "'$1' takes a number of pages and one FILE"
 }
 
 # Looks at all words of a command line. What is left in file_at is the place of FILE among them, 0 if there is none.
@@ -108,11 +117,11 @@ look_at_words() {
     look_at_order "$@"
     for word in "$@"; do
         at=$((at + 1))
-        if [ $at = 1 ]; then
+        if [ $at = 1 ] || { [ $at = 4 ] && names_run "$@"; }; then
             continue
         elif [ -n "$option" ]; then
             look_at_number "$option" "$word"
-        elif [ $are_options = no ] || { [ $at = 4 ] && has_one_order "$command"; }; then
+        elif [ $are_options = no ] || { [ $at -ge 4 ] && has_one_order "$command"; }; then
             look_at_place $at "$word"
         else
             case $word in

@@ -1,26 +1,30 @@
 //! Sweeping, and the end of a cycle: what isn't reached is forgotten, and goes when its page is swept.
 use super::{Space, row_of, start_of};
-use crate::plain_map::{Page, next_on_page};
+use crate::plain_map::Page;
 use crate::plain_marker::Marker;
 use crate::plain_row::ones;
 
 impl Space {
-    // Sweeps a page. One without a mark keeps no object, and is free at once.
+    // Sweeps a page. One that keeps no object is free at once, and none of its cells is looked at where it has no mark.
     pub(super) fn sweep_page(&mut self, marker: &Marker, page: usize) {
-        let Page::Cut(block) = &self.map[page] else {
+        let Page::Cut(block) = &mut self.map[page] else {
             unreachable!();
         };
-        if marker.marks_on(page) == [0; 4] {
-            return self.free_block(page, row_of(block.class, block.kind));
+        let row = row_of(block.class, block.kind);
+        let marks = marker.marks_on(page);
+        if marks == [0; 4] {
+            return self.free_block(page, row);
         }
-        let mut address = start_of(page);
-        while let Some(found) = next_on_page(&self.map, page as u32, address) {
-            address = found.base + 8 * u64::from(found.len);
-            if !marker.is_marked(found.base) {
-                self.release(found);
-            }
+        block.sweep(marks);
+        let is_full = block.is_full();
+        if block.is_empty() {
+            return self.free_block(page, row);
         }
         self.pending.clear(page);
+        self.waiting[row].clear(page);
+        if !is_full {
+            self.ready[row].set(page);
+        }
     }
 
     /// Sweeps one page, if one is still to be swept. Answers whether one was.
@@ -45,7 +49,10 @@ impl Space {
             Page::Cut(block) => {
                 let unmarked = ones(&block.taken) - ones(marker.marks_on(page));
                 if unmarked > 0 {
+                    let row = row_of(block.class, block.kind);
                     self.pending.set(page);
+                    self.ready[row].clear(page);
+                    self.waiting[row].set(page);
                 }
                 unmarked
             }

@@ -1,7 +1,9 @@
-"""Compares a trace (docs/TRACE.md) with the run of the same script that `record` wrote down: compare.py TRACE RUN.
+"""Compares a trace (docs/TRACE.md) with a run: compare.py TRACE RUN. The trace is that of the run itself, or of the script
+of which `record` wrote the run down.
 
 After each line both have to agree on objects, their words, roots, links, the phase, the count, and on what is reached and
-touched. Of what a collector knows: after each collection the objects that are left are those that are marked, no page is dirty
+touched; and a trace of a run ends with the line that the checker refuses, if it refuses one. Of what a collector knows, where
+the trace is of a script: after each collection the objects that are left are those that are marked, no page is dirty
 and no entry is left; a cycle that begins has no dirty or carried page and, if it is full, no mark; a store's page is dirty; and
 the pages of forgotten objects are the pending ones.
 """
@@ -11,6 +13,7 @@ import sys
 from run import PAGE, Run
 
 SETS = ["marked", "reached", "touched", "dirty", "carried", "pending"]
+KNOWN = {"marked", "dirty", "carried", "pending", "entries", "current", "forget"}
 
 
 class Trace:
@@ -93,7 +96,7 @@ def known(trace, record):
     return {"stored": (stored - trace.dirty, set()), "entries": (unmarked, [])}
 
 
-def compare(trace, run, record):
+def compare(trace, run, record, has_collector):
     pairs = {
         "objects": (trace.objects, run.objects),
         "words": (words_of(trace.objects, trace.words), words_of(run.objects, run.words)),
@@ -105,24 +108,41 @@ def compare(trace, run, record):
         "reached": (trace.reached, run.reached()),
         "touched": (trace.touched, run.touched),
     }
-    pairs |= known(trace, record)
+    pairs.update(known(trace, record) if has_collector else {"known": (KNOWN & record.keys(), set())})
     pairs["forgotten"] = ({place // PAGE for place in trace.forgotten}, trace.pending)
     return [f"{what}: trace {left}, run {right}" for what, (left, right) in pairs.items() if left != right]
 
 
+def told_lines(run_path):
+    """The lines of a run that are no comments, with their numbers. Newlines alone end lines."""
+    lines = open(run_path, newline="\n").read().split("\n")
+    if not lines[-1]:
+        lines.pop()
+    return [(number, line) for number, line in enumerate(lines, 1) if not line.startswith("#")]
+
+
 def main(trace_path, run_path):
     lines = open(trace_path).read().splitlines()
-    told = [line for line in open(run_path).read().splitlines() if not line.startswith("#")]
     head = json.loads(lines[0])
-    assert head["mpheap"] == "trace" and head["version"] == 1 and head["lines"] == len(lines) - 1 == len(told), head
+    has_collector = head.get("collector", 1) == 1
+    assert head["mpheap"] == "trace" and head["version"] == 1 and head["lines"] == len(lines) - 1, head
+    told = told_lines(run_path)
+    is_refused = '"no":' in lines[-1]
+    assert len(lines) - 1 == len(told) or is_refused and len(lines) - 1 <= len(told), len(told)
     trace, run = Trace(), Run()
-    for number, (line, said) in enumerate(zip(lines[1:], told), 1):
+    for line, (number, said) in zip(lines[1:], told):
         record = json.loads(line)
+        if "no" in record:
+            assert record["no"] == number and record["c"] + " => " + record["r"] == said and line == lines[-1], line
+            return
         command = run.step(said)
         trace.fold(record)
-        differs = compare(trace, run, record)
+        differs = compare(trace, run, record, has_collector)
+        if not has_collector and record["r"] != said.split(" => ")[1].partition(" @")[0].partition(" -")[0]:
+            differs.append(f"the reply {record['r']}")
         if record["c"] != command or differs:
             sys.exit(f"line {number}, {command}: " + "; ".join(differs))
 
 
-main(*sys.argv[1:])
+if __name__ == "__main__":
+    main(*sys.argv[1:])

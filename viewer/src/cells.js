@@ -4,7 +4,7 @@
 
 // The paths of one page, a path for each look.
 const CELL_LOOKS = [
-  ['cf', 'f'], ['cu', 'u'], ['cm', 'm'], ['cg', 'g'], ['hatch', 'g'], ['tn', 'n'], ['tr', 'r'], ['tt', 't'],
+  ['cf', 'f'], ['cu', 'u'], ['cm', 'm'], ['cg', 'g'], ['hatch', 'g'], ['co', 'o'], ['tn', 'n'], ['tr', 'r'], ['tt', 't'],
   ['wordsep', 'separators'], ['ptr', 'dots'], ['ptrm', 'dotsOnMarked'], ['entry', 'entries'],
 ];
 

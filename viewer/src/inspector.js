@@ -28,7 +28,8 @@ function pointsInto(word) {
 function infoOfHeap() {
   const objects = heap.objects.size - heap.awaiting;
   const { kept, reached } = heap.sum;
-  const seen = `${grouped(heap.reached.size)} reached, ${grouped(heap.marked.size)} marked`;
+  const marked = run.hasCollector ? `, ${grouped(heap.marked.size)} marked` : '';
+  const seen = `${grouped(heap.reached.size)} reached${marked}`;
   return infoTable(`After line ${grouped(run.at)}`, [
     ['phase', heap.phase ? 'a cycle is marking' : 'idle'],
     ['objects', `${grouped(objects)}, of which ${seen}`],
@@ -42,7 +43,7 @@ function infoOfObject(object) {
     ['base', addressOf(object.place)],
     ['place', `page ${pageOf(object.place)}, word ${wordInPage(object.place)}`],
     ['size', `${many(object.words, 'word')}, ${object.kind ? 'atomic' : 'normal'}`],
-    ['collector', saysKnown(object)],
+    ...(run.hasCollector ? [['collector', saysKnown(object)]] : []),
     ['truth', saysTruth(object)],
     ['from', saysFrom(object)],
     ['words', saysWords(object)],

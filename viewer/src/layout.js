@@ -67,7 +67,7 @@ function planGlobals(made, put) {
 
 // The mark stack stands below the roots; answers how high it is.
 function planEntries(made) {
-  made.hasEntries = run.series.phase.some((phase) => phase);
+  made.hasEntries = run.hasCollector && run.series.phase.some((phase) => phase);
   const most = run.series.entries.reduce((a, b) => Math.max(a, b), 0);
   made.entryRows = made.hasEntries ? Math.min(6, Math.max(1, most)) : 0;
   return made.hasEntries ? 34 + 15 * (made.entryRows + 1) : 0;

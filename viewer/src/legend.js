@@ -2,20 +2,21 @@
 // The legend: each look of a cell, a page, a word and a line, with its name.
 
 function legendGroups(isNarrow) {
-  const pages = [['dirty', 'dirty']];
+  const pages = run.hasCollector ? [['dirty', 'dirty']] : [];
   if (run.everCarried) pages.push(['carried', 'carried']);
   pages.push(['new', 'changed by this line']);
   if (run.everLooked) pages.push(['looked', 'read by this line']);
   pages.push(['ptr', 'points into'], ['stray', 'into nothing']);
   if (run.everLinks) pages.push(['link', 'link']);
+  const known = ['above: what the collector knows', [
+    ['cu', 'not marked'],
+    ['cm', 'marked'],
+    ['entry', 'on the mark stack'],
+    ['cg', isNarrow ? 'to be swept' : 'forgotten, to be swept'],
+    ['cf', 'free'],
+  ]];
   return [
-    ['above: what the collector knows', [
-      ['cu', 'not marked'],
-      ['cm', 'marked'],
-      ['entry', 'on the mark stack'],
-      ['cg', isNarrow ? 'to be swept' : 'forgotten, to be swept'],
-      ['cf', 'free'],
-    ]],
+    run.hasCollector ? known : ['cells', [['co', 'an object'], ['cf', 'free']]],
     ['below: what is true', [['tr', 'reached'], ['tt', 'touched, not reached'], ['tn', 'neither']]],
     ['pages, lines, words', pages],
   ];
@@ -25,7 +26,7 @@ function legendGroups(isNarrow) {
 function sample(look, x, y) {
   const cell = (name, top, h) => path(name, box(x + 0.5, y + top + 0.5, 19, h));
   switch (look) {
-    case 'cu': case 'cm': case 'cf': return cell(look, 1, 12);
+    case 'cu': case 'cm': case 'cf': case 'co': return cell(look, 1, 12);
     case 'cg': return cell('cg', 1, 12) + cell('hatch', 1, 12);
     case 'entry': return cell('cm', 1, 12) + path('entry', `M${x + 11} ${y + 1.5}h9v8z`);
     case 'tr': case 'tt': case 'tn': return cell(look, 4, 6);

@@ -29,6 +29,12 @@ function tally(p) {
 const MAP_TEXT = 'left: reached, kept, forgotten; right: marked';
 const MAP_TEXT_WIDE = 'left of a square: words reached, kept, forgotten; right: marked; border: dirty; ' +
   'cross: to be swept; a click opens it';
+const MAP_TEXT_OF_RUN = 'a square: words reached, kept; a click opens it';
+
+function mapText() {
+  if (!run.hasCollector) return MAP_TEXT_OF_RUN;
+  return plan.w > 660 ? MAP_TEXT_WIDE : MAP_TEXT;
+}
 
 // what changes seldom: the words beside the map and the squares themselves
 function drawMapFrame() {
@@ -41,7 +47,7 @@ function drawMapFrame() {
   const unused = `pages ${grouped(plan.shown)} to ${grouped(heap.pages - 1)}: free in the whole run`;
   return [
     label(plan.x, 11, 'b', many(heap.pages, 'page')),
-    label(plan.x + 84, 11, 'soft', plan.w > 660 ? MAP_TEXT_WIDE : MAP_TEXT),
+    label(plan.x + 84, 11, 'soft', mapText()),
     rowLabel(0),
     rowLabel((Math.ceil(plan.shown / plan.perRow) - 1) * plan.perRow),
     plan.shown < heap.pages ? label(plan.x, plan.mapY + plan.mapH - 2, 'soft', unused) : '',
@@ -80,7 +86,7 @@ function drawTally(drawing, p) {
   const sum = tally(p);
   const w = plan.side - 3;
   const high = (words) => (w * words) / PAGE;
-  const half = w * 0.62;
+  const half = run.hasCollector ? w * 0.62 : w;
   const bar = (low, top) => box(x + 1.5, y + 1.5 + w - high(top), half, high(top - low));
   if (sum.reached) drawing.reached += bar(0, sum.reached);
   if (sum.kept > sum.reached) drawing.kept += bar(sum.reached, sum.kept);

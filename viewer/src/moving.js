@@ -9,6 +9,7 @@ function go(line, isQuiet) {
   const was = run.at;
   run.go(line);
   dropLost();
+  pickAbout();
   view.hovered = null;
   showPosition();
   drawScene(false);
@@ -26,6 +27,12 @@ function dropLost() {
   if (heap.objects.get(view.picked.place)?.birth !== view.picked.birth) view.picked = null;
 }
 
+// The object that a refused line is about is picked.
+function pickAbout() {
+  const object = heap.objects.get(run.record.about);
+  if (object) view.picked = { place: object.place, birth: object.birth };
+}
+
 function showPosition() {
   $('slider').value = run.at;
   $('where').textContent = `line ${grouped(run.at)} of ${grouped(run.last)}`;
@@ -36,10 +43,16 @@ function facts() {
   return [
     many(heap.pages, 'page'),
     `<b>${heap.phase ? 'marking' : 'idle'}</b>`,
+    ...(run.hasCollector ? factsOfCollector() : ['a run that was written down, without what its collector knows']),
+    ...(run.about.source ? ['trace by ' + escaped(run.about.source)] : []),
+  ];
+}
+
+function factsOfCollector() {
+  return [
     many(heap.dirty.size, 'dirty page'),
     ...(run.everCarried ? [`${heap.carried.size} carried`] : []),
     `${heap.pending.size} to sweep`,
-    ...(run.about.source ? ['trace by ' + escaped(run.about.source)] : []),
   ];
 }
 

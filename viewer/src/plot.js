@@ -6,8 +6,10 @@ let plot = null; // {x0, x1, width, step, columns, bands, height}
 function plotBands(isNarrow) {
   const also = run.everCarried ? 'carried' : null;
   const dirty = also && !isNarrow ? 'dirty, carried pages' : 'dirty pages';
+  const words = { h: 44, isArea: true, name: 'taken' };
+  if (!run.hasCollector) return [words];
   return [
-    { h: 44, isArea: true, name: 'taken' },
+    words,
     { h: 21, name: 'marked', text: 'marked objects' },
     { h: 17, name: 'entries', text: isNarrow ? 'entries' : 'mark stack entries' },
     { h: 17, name: 'dirty', text: dirty, look: 'serd', also },
@@ -121,12 +123,13 @@ function drawAreas(band) {
     path('wait', between(kept, taken)) +
     key('live', y + 30, plot.isNarrow ? 'live' : 'live (reached)') +
     key('garb', y + 15, plot.isNarrow ? 'floating' : 'allocated, not live') +
-    key('wait', y, plot.isNarrow ? 'to sweep' : 'forgotten, not swept');
+    (run.hasCollector ? key('wait', y, plot.isNarrow ? 'to sweep' : 'forgotten, not swept') : '');
 }
 
 function drawAxis() {
   const y = plot.height + 9;
-  const middle = label((plot.x0 + plot.x1) / 2, y, 'soft mid', 'lines of the script; shaded: a cycle is marking');
+  const text = `lines of the ${run.hasCollector ? 'script' : 'run'}; shaded: a cycle is marking`;
+  const middle = label((plot.x0 + plot.x1) / 2, y, 'soft mid', text);
   return label(plot.x0, y, 'soft', 'line 0') +
     label(plot.x1, y, 'soft end', grouped(run.last)) +
     (plot.isNarrow ? '' : middle);

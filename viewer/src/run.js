@@ -14,6 +14,7 @@ class Run {
     if (!this.about || this.about.mpheap !== 'trace' || this.about.version !== 1) {
       throw new Error('not a trace of version 1');
     }
+    this.hasCollector = this.about.collector !== 0; // the trace says what the collector knows
     this.records = [{ c: '', r: '' }, ...lines];
     this.last = lines.length;
     this.heap = new Heap(this.about.pages);

@@ -11,6 +11,7 @@ function rowLooks(i, record) {
     i === run.at && 'at',
     /^gc /.test(record.c) && 'gc',
     /^refused/.test(record.r) && 'no',
+    record.no && 'refused',
     run.series.phase[i] && 'mk',
   ].filter(Boolean).join(' ');
 }

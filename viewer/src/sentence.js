@@ -7,12 +7,19 @@ function sentence() {
   const i = run.at;
   if (!i) return 'Before the first line. Click a line, or press the right arrow key.';
   const record = run.record;
+  if (record.no) return ofRefused(record);
   const parts = [
     ...ofPhase(record), ...ofNew(record), ...ofWords(record), ...ofRead(record), ...ofMarks(record),
     ...ofPages(record, i), ...ofSweep(record), ...ofReached(record, i), ...ofLinks(record), ...ofEnd(record, i),
   ];
   if (!parts.length) parts.push('nothing of the heap changes');
   return capital(parts.join('; ')) + '.';
+}
+
+// What the checker says of a line that it refuses. Objects that it names by their bases have their numbers added.
+function ofRefused({ no, says }) {
+  const numbered = (said, address) => (heap.find(+address) ? `${said} (${told(+address)})` : said);
+  return `Line ${no} of the run is not legal: ${says.join('; ').replace(/\bat (\d+)/g, numbered)}.`;
 }
 
 function ofPhase(record) {
@@ -127,7 +134,7 @@ function ofLinks(record) {
 
 function ofEnd(record, i) {
   if (isRefused(record)) {
-    const swept = /6 Full/.test(record.r) ? ', but that all pending pages are swept' : '';
+    const swept = run.hasCollector && /6 Full/.test(record.r) ? ', but that all pending pages are swept' : '';
     return ['a refused line changes nothing' + swept];
   }
   const floating = run.series.kept[i] - run.series.reached[i];
@@ -140,6 +147,7 @@ function drawSentence() {
   const text = sentence();
   const line = `<code>${escaped(c)}</code> &nbsp;<span class="what">answers</span> <code>${escaped(r)}</code>`;
   $('say').title = text;
+  $('say').classList.toggle('refused', !!run.record.no);
   $('say').innerHTML =
     (run.at ? line : '<code>The heap is empty</code>') + `<span class="what more">${escaped(text)}</span>`;
 }

@@ -74,7 +74,7 @@ function start() {
   $('rows').style.height = `${(run.last + 1) * ROW}px`;
   run.go(0);
   size();
-  go(lineOfAddress() ?? 0, true);
+  go(lineOfAddress() ?? (run.records[run.last].no ? run.last : 0), true);
   listenToControls();
   listenToPictures();
   listenToWindow();

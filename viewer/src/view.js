@@ -37,9 +37,10 @@ function named(place) {
   return object ? '#' + object.birth : 'page ' + pageOf(place);
 }
 
-// What the collector knows of an object: u not marked, m marked, g forgotten.
+// What the collector knows of an object: u not marked, m marked, g forgotten; o where the trace doesn't say it.
 function knownOf(object) {
   if (object.forgotten) return 'g';
+  if (!run.hasCollector) return 'o';
   return heap.marked.has(object.place) ? 'm' : 'u';
 }
 

@@ -82,7 +82,7 @@ const within = (some, all, what) => {
 };
 
 // A collection keeps what is reached, and answers how many went; what is reached or marked in a cycle is touched.
-function obeys(state, record, forgottenBefore) {
+function obeys(state, record, forgottenBefore, hasCollector) {
   if (state.phase) {
     within(state.reached, state.touched, 'reached is touched');
     within(state.marked, state.touched, 'marked is touched');
@@ -90,7 +90,7 @@ function obeys(state, record, forgottenBefore) {
   if (!/^gc (finish|collect)$/.test(record.c) || /^refused/.test(record.r)) return;
   const kept = new Set([...state.objects].filter(([, rest]) => !rest[3]).map(([place]) => place));
   within(state.reached, kept, 'a reached object is kept');
-  within(kept, state.marked, 'what a collection keeps is marked');
+  if (hasCollector) within(kept, state.marked, 'what a collection keeps is marked');
   if (record.c === 'gc collect') within(kept, state.reached, 'a full collection keeps what is reached alone');
   const gone = (record.forget || []).length + (record.free || []).filter((place) => !forgottenBefore.has(place)).length;
   assert.equal(String(gone), record.r, 'the number that the collection answers');
@@ -109,8 +109,8 @@ function readsMarked(state, record) {
   assert.equal(record.looked.reduce((sum, [, n]) => sum + n, 0), record.read[1], 'how many words were read');
 }
 
-// The states after these lines, by their numbers.
-export function fold(lines, wanted) {
+// The states after these lines, by their numbers. A line that is refused changes nothing.
+export function fold(lines, wanted, hasCollector = true) {
   const state = emptyState();
   const states = new Map();
   const keep = (i) => wanted.has(i) && states.set(i, written(state));
@@ -119,11 +119,11 @@ export function fold(lines, wanted) {
     const forgotten = new Set([...state.objects].filter(([, rest]) => rest[3]).map(([place]) => place));
     try {
       if (n === 0 && record.full) begin(state, record.full);
-      else {
+      else if (!record.no) {
         changeObjects(state, record);
         changeSets(state, record);
         changeRest(state, record);
-        obeys(state, record, forgotten);
+        obeys(state, record, forgotten, hasCollector);
         readsMarked(state, record);
       }
     } catch (error) {

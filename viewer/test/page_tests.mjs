@@ -10,7 +10,7 @@ export function read(text) {
   const parts = [0, 1, 17, n, n / 2, n / 3, n - 1, 2, (n * 3) / 4, n, 5, n / 5];
   const fulls = lines.flatMap((record, i) => (record.full ? [i + 1] : []));
   const walk = [...parts.map(Math.floor).filter((i) => i >= 0 && i <= n), ...fulls, ...fulls.toReversed()];
-  return { about, lines, n, walk, states: fold(lines, new Set(walk)) };
+  return { about, lines, n, walk, states: fold(lines, new Set(walk), about.collector !== 0) };
 }
 
 const at = (page) => page.run('viewer.at()');
@@ -143,7 +143,7 @@ function countPointers({ globals, mutators, words, objects }, place, n) {
   return roots.filter(isIn).length + words.filter(([i, word]) => isIn(word) && isRead(i)).length;
 }
 
-async function inspected(page, { n, states }) {
+async function inspected(page, { about, n, states }) {
   const i = Math.floor(n / 2);
   await page.run(`viewer.go(${i})`);
   const seen = await page.run(SEEN_OBJECT);
@@ -155,7 +155,8 @@ async function inspected(page, { n, states }) {
   const said = await page.run(`$('info').innerText`);
   const isMarked = state.marked.includes(place);
   const wanted = [`#${birth}`, 268435456 + 8 * place, `page ${place >> 9}, word ${place & 511}`];
-  for (const text of [...wanted, kind ? 'atomic' : 'normal', isMarked ? 'marked' : 'not marked']) {
+  const known = about.collector === 0 ? [] : [isMarked ? 'marked' : 'not marked'];
+  for (const text of [...wanted, kind ? 'atomic' : 'normal', ...known]) {
     assert.ok(said.includes(String(text)), `the inspector lacks ${text}: ${said}`);
   }
   assert.equal(countListed(said), countPointers(state, place, words), `who points to the object: ${said}`);
@@ -220,6 +221,29 @@ async function rootsStay(page, { n }) {
   }
 }
 
+// Of a run that was written down nothing is shown that only a collector knows, and of any other it is.
+async function bandsFit(page, { about, n }) {
+  await page.run(`viewer.go(${n})`);
+  const shown = await page.run(`$('legend').textContent + $('facts').textContent + $('plot').textContent`);
+  for (const text of ['what the collector knows', 'dirty page', 'mark stack', 'marked objects']) {
+    assert.equal(shown.includes(text), about.collector !== 0, `${text}: ${shown}`);
+  }
+}
+
+// A page whose address names no line opens at the line that is refused, says why, and picks what that is about.
+export async function opensAtRefused(page, { n, lines, states }) {
+  const { says, about } = lines[n - 1];
+  await is(page, n, 'the line that is refused');
+  const said = await page.run(`$('say').title`);
+  for (const sentence of says) {
+    const parts = sentence.split(/(?<=at \d+)/);
+    assert.ok(parts.every((part) => said.includes(part)), `it says '${sentence}': ${said}`);
+  }
+  const object = states.get(n).objects.find(([place]) => place === about);
+  const info = await page.run(`$('info').innerText`);
+  assert.ok(info.startsWith(object ? `Object #${object[1]}` : 'After line'), info);
+}
+
 export async function exported(page, { n }) {
   await page.run(`viewer.go(${Math.floor(n * 0.7)})`);
   const bad = await page.run(`(() => {
@@ -246,7 +270,7 @@ async function quiet(page) {
 
 // What is asked of each page, by the name under which it is told.
 export function testsOf({ about, lines }) {
-  const tests = { addresses, keys, controls, plays, states, rows, pointed, inspected, exported, narrow };
+  const tests = { addresses, keys, controls, plays, states, rows, pointed, inspected, bandsFit, exported, narrow };
   if (lines.some(({ c }) => c.startsWith('gc '))) tests.collectorKeys = collectorKeys;
   if (about.pages > 64) tests.mapOpens = mapOpens;
   if (about.pages === 40) tests.rootsStay = rootsStay;

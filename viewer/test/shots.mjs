@@ -13,6 +13,8 @@ const SHOTS = [
   { name: 'stress', line: 187, width: 800, height: 900 },
   { name: 'busy', line: 178 },
   { name: 'busy', line: 292, theme: 'dark' },
+  { name: 'refused', line: 43 },
+  { name: 'refused', line: 43, width: 800, height: 900, theme: 'dark' },
   { name: 'many_pages', line: 60, scroll: 0 },
   { name: 'many_pages', line: 123, scroll: 1500 },
 ];

@@ -68,7 +68,7 @@ impl Heap {
         self.space.cut(page, 2, Kind::Normal);
     }
 
-    /// Allocates the first free cell.
+    /// Allocates the lowest free cell.
     pub(crate) fn take(&mut self, page: PageNo) {
         let _object = self.space.take(page);
     }

@@ -5,11 +5,10 @@ use Rattle.std.proofs.lemmas.List.{map-set, get_or-map, get_or_past, length-map,
 use Rattle.block_map.specs.declared.page.Page.{Page}
 use Rattle.block_map.specs.declared.page.Page.TheVariants.{Free}
 use Rattle.block_map.specs.declared.found.Put.{Put}
-use Rattle.words.specs.Bits.{IsEmptyFrom, IsFirstFrom, IsFullRow}
+use Rattle.words.specs.Bits.{IsEmptyFrom, IsFirstClearFrom, IsFirstFrom, IsFullRow}
 use Rattle.words.specs.Classes.{IsSizeClass}
 use Rattle.blocks.specs.Cells.{Cells}
-use Rattle.blocks.specs.Lists.{IsFreeCellOf}
-use Rattle.block_map.specs.Listed.{HasFirst, TellsOf}
+use Rattle.block_map.specs.FreeCells.{TellsOf}
 use Rattle.block_map.specs.States.{free, cut, state_at, with_cell, AreFreePages}
 use Rattle.block_map.specs.Shown.{shown}
 use Rattle.block_map.proofs.Spans.{span_start, span_more, large_here, large_else}
@@ -41,12 +40,8 @@ one_more_free items n all = record {
 }
 
 -- a cell of a block becomes free
-first_cases : (full : Bool) (b : Cells) → MatchBool full (IsFullRow b.taken) (IsFreeCellOf b.taken b.first) → MatchBool full (IsFullRow b.taken) (HasFirst (cut b))
-first_cases true b h = h
-first_cases false b h = (h.inside, h.free)
-
-pub tells_of : (old : Cells) (cell : ℕ) (put : Put) → IsSizeClass put.class → old.class ≡ put.class → old.kind ≡ put.kind → MatchBool put.was_full (IsFullRow old.taken) (IsFreeCellOf old.taken old.first)
-    → MatchBool put.is_empty (IsEmptyFrom (set old.taken cell false) 0) ((i : ℕ) × IsFirstFrom (set old.taken cell false) 0 i) → TellsOf (cut old) (with_cell (cut old) cell false cell) put
-tells_of old cell put class of_class of_kind full empty = record { class = class; block = (of_class, of_kind); full = first_cases put.was_full old full; empty = empty }
+pub tells_of : (old : Cells) (cell : ℕ) (put : Put) → IsSizeClass put.class → old.class ≡ put.class → old.kind ≡ put.kind → MatchBool put.was_full (IsFullRow old.taken) ((i : ℕ) × IsFirstClearFrom old.taken 0 i)
+    → MatchBool put.is_empty (IsEmptyFrom (set old.taken cell false) 0) ((i : ℕ) × IsFirstFrom (set old.taken cell false) 0 i) → TellsOf (cut old) (with_cell (cut old) cell false) put
+tells_of old cell put class of_class of_kind full empty = record { class = class; block = (of_class, of_kind); full = full; empty = empty }
 
 pub ruleset filling = (span_start, span_more, large_here, large_else, no_pages, one_more_free)

@@ -4,10 +4,9 @@ pub mod Filling
 pub mod Finding
 pub mod Laid
 pub mod Lawful
-pub mod Listed
 pub mod Seen
 pub mod Spans
 pub mod Sweeping
-pub mod Unread
+pub mod Taking
 pub mod Walking
 pub mod Words

@@ -9,14 +9,9 @@ use Rattle.words.specs.Layout.{granule, page_start, IsOnPage}
 use Rattle.words.proofs.Classes.{class_even}
 use Rattle.blocks.specs.Cells.{Cells, IsCells}
 use Rattle.words.specs.Classes.{IsSizeClass}
-use Rattle.blocks.specs.Lists.{ChangesPage}
 use Rattle.blocks.specs.Sweeps.{mark_of, SweepsCells}
-use Rattle.blocks.proofs.Lists.{cell_fits, cell_place}
-use Rattle.blocks.proofs.Places.{class_bounds}
 use Rattle.block_map.specs.States.{PageState, cut, state_at, LaidAt, IsLaid}
-use Rattle.block_map.specs.Listed.{AreListed, IsListedOn}
 use Rattle.block_map.proofs.Laid.{set_one}
-use Rattle.block_map.proofs.Listed.{listed_set}
 use Rattle.block_map.specs.Objects.{cell_object, IsInside, IsObjectOn}
 use Rattle.block_map.specs.FoundIn.{cell_at, found_in, IsLawful}
 use Rattle.block_map.specs.Sweeps.{SweepsObjects, SweepsOn}
@@ -55,8 +50,8 @@ cell_granules i c even =
 pub cell_granule : (p i : ℕ) (b : Cells) → IsCells b → granule (cell_object p b i).base ≡ mark_of p b.class i
 cell_granule p i b cells = let e = cell_granules i b.class (class_even b.class cells.class) in omega (arith, e)
 
-module _ (s t : List PageState) (p : ℕ) (marks : List Bool) (b d : Cells) (words words' : List ℕ) (laid : IsLaid s) (lawful : IsLawful s) (cells : IsCells b)
-    (is : state_at s p ≡ cut b) (now : state_at t p ≡ cut d) (others : (k : ℕ) → Out p 1 k → state_at t k ≡ state_at s k) (x : SweepsCells words words' marks p b d) where
+module _ (s t : List PageState) (p : ℕ) (marks : List Bool) (b d : Cells) (laid : IsLaid s) (lawful : IsLawful s) (cells : IsCells b)
+    (is : state_at s p ≡ cut b) (now : state_at t p ≡ cut d) (others : (k : ℕ) → Out p 1 k → state_at t k ≡ state_at s k) (x : SweepsCells marks p b d) where
   on_old : (w : ℕ) → IsOnPage p w → found_in s w ≡ cond (get_or b.taken (cell_at b w) false) (Some (cell_object p b (cell_at b w))) None
   on_old w at = found_as s p w (cut b) at is
 
@@ -108,19 +103,8 @@ module _ (s t : List PageState) (p : ℕ) (marks : List Bool) (b d : Cells) (wor
           (was, λ same. subst (Has marks) (sym (ap (λ (y : Found). granule y.base) (object_on_page w f at was) ∙ cell_granule p (cell_at b w) b cells)) m)
       by w f at e false m = absurd (none_some f (sym (on_dead w at m) ∙ e))
 
--- the words of other pages stay
-pub swept_changes : (words words' : List ℕ) (marks : List Bool) (page : ℕ) (b d : Cells) → IsCells b → SweepsCells words words' marks page b d → ChangesPage words words' page
-swept_changes words words' marks page b d cells x = record {
-  size = x.size;
-  others = λ k out. x.others k (λ i dead e. outside k out i (let inside = dead.inside in let size = cells.size in omega arith) (e ∙ cell_place page b.class i));
-}
-  where
-    outside : (k : ℕ) → k < PAGE_WORDS * page ⊎ PAGE_WORDS * page + PAGE_WORDS ≤ k → (i : ℕ) → i < PAGE_WORDS / b.class → k ≡ PAGE_WORDS * page + i * b.class → ⊥
-    outside k out i lt e =
-        let f = cell_fits b.class i cells.class lt in let some = class_bounds b.class cells.class in
-        ⊎_elim (λ below. omega arith) (λ past. omega arith) out
-
-module _ (s t : List PageState) (p : ℕ) (marks : List Bool) (words words' : List ℕ) (laid : IsLaid s) (lt : p < length s) (became : t ≡ set s p (state_at t p)) (x : SweepsOn words words' marks p (state_at s p) (state_at t p)) where
+-- what the map is then
+module _ (s t : List PageState) (p : ℕ) (marks : List Bool) (laid : IsLaid s) (lt : p < length s) (became : t ≡ set s p (state_at t p)) (x : SweepsOn marks p (state_at s p) (state_at t p)) where
   cells_before : IsCells x.old
   cells_before = subst (LaidAt s p) x.was (laid.each p lt)
 
@@ -132,9 +116,5 @@ module _ (s t : List PageState) (p : ℕ) (marks : List Bool) (words words' : Li
       (set_one s p (state_at t p) laid lt (subst IsPlain (sym x.was) (cut_plain (cut x.old) tt)) (subst (LaidAt (set s p (state_at t p)) p) (sym x.is) cells_after))
 
   pub objects_swept : IsLawful s → SweepsObjects (found_in s) (found_in t) marks p
-  objects_swept lawful = sweeps_objects s t p marks x.old x.new words words' laid lawful cells_before x.was x.is
+  objects_swept lawful = sweeps_objects s t p marks x.old x.new laid lawful cells_before x.was x.is
       (λ k out. ap (λ y. state_at y k) became ∙ (span_one s p (state_at t p) lt).others k out) x.cells
-
-  pub listed_swept : AreListed words s → IsListedOn words' p (state_at t p) → AreListed words' t
-  listed_swept listed here = subst (AreListed words') (sym became)
-      (listed_set words words' s p (state_at t p) laid lt listed (swept_changes words words' marks p x.old x.new cells_before x.cells) here)

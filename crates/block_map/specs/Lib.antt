@@ -1,6 +1,6 @@
 pub mod Changes
 pub mod FoundIn
-pub mod Listed
+pub mod FreeCells
 pub mod Objects
 pub mod Shown
 pub mod States

@@ -49,16 +49,16 @@ HasCell (cut b) i taken = (i < length b.taken) × (slice_index_or b.taken i fals
 HasCell (head n kind) i taken = ⊥
 HasCell (body first) i taken = ⊥
 
--- the state with the cell i allocated, or free, and this first free cell
-abbrev pub with_cell : PageState → ℕ → Bool → ℕ → PageState
-with_cell free i taken begin = free
-with_cell (cut b) i taken begin = cut (record b { taken = slice_set b.taken i taken; first = begin })
-with_cell (head n kind) i taken begin = head n kind
-with_cell (body first) i taken begin = body first
+-- the state with the cell i allocated, or free
+abbrev pub with_cell : PageState → ℕ → Bool → PageState
+with_cell free i taken = free
+with_cell (cut b) i taken = cut (record b { taken = slice_set b.taken i taken })
+with_cell (head n kind) i taken = head n kind
+with_cell (body first) i taken = body first
 
--- a page that is cut for a class and a kind, with all its cells free, the first one first
+-- a page that is cut for a class and a kind, with all its cells free
 abbrev pub all_free : ℕ → Kind → PageState
-all_free class kind = cut (record { class = class; kind = kind; taken = replicate (PAGE_WORDS / class) false; first = 0 })
+all_free class kind = cut (record { class = class; kind = kind; taken = replicate (PAGE_WORDS / class) false })
 
 -- how many pages what begins on a page has, and 0 where nothing does
 abbrev pub span_of : PageState → ℕ

@@ -8,12 +8,12 @@ use Rattle.block_map.specs.States.{PageState, cut}
 use Rattle.block_map.specs.declared.found.Found.{Found}
 
 -- the cells of a page that is cut are swept
-pub record SweepsOn (words words' : List ℕ) (marks : List Bool) (page : ℕ) (st st' : PageState) : Type 0 where
+pub record SweepsOn (marks : List Bool) (page : ℕ) (st st' : PageState) : Type 0 where
   pub old : Cells
   pub new : Cells
   pub was : st ≡ cut old
   pub is : st' ≡ cut new
-  pub cells : SweepsCells words words' marks page old new
+  pub cells : SweepsCells marks page old new
 
 -- of the objects of the page exactly the marked ones are left, and all of other pages
 pub record SweepsObjects (found after : ℕ → Option Found) (marks : List Bool) (page : ℕ) : Type 0 where

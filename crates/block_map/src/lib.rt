@@ -1,14 +1,13 @@
 //! The map of the heap: what stands on each page, and the object that a word points into. This crate decides which words
-//! point into which object, exactly and for every word. Of the heap's words it touches the first ones of free cells alone,
-//! which make a list of each page's.
+//! point into which object, exactly and for every word. It touches none of the heap's words.
 //!
 //! # What is proved
 //!
 //! `find` answers for every `u64` the allocated object that the word points into, and `None` exactly where it points into
 //! none (`found_in`). The map is also offered as a function from words to objects with its laws (`IsLawful`), each change as a
-//! change of that function, and a walk over the objects of a page. Its calls keep the lists of free cells in the memory
-//! (`AreListed`). `put` answers what is left on the page: its class and kind, whether each cell was allocated before, and whether
-//! none is now (`TellsOf`).
+//! change of that function, and a walk over the objects of a page. `take` takes the lowest free cell of a page (`IsFirstFree`).
+//! `put` answers what is left on the page: its class and kind, whether each cell was allocated before, and whether none is now
+//! (`TellsOf`).
 #![tactic(auto)]
 
 mod found;

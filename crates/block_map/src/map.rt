@@ -4,10 +4,8 @@ ghost use Rattle.std.specs.Prelude.{◌≡◌, ℕ, ◌+◌, ◌*◌, ◌<◌, �
 ghost use Rattle.words.specs.declared.limits.TheConstants.{MAX_PAGES, PAGE_GRANULES};
 ghost use Rattle.pages.specs.Opening.{IsOpened};
 ghost use Rattle.words.specs.Layout.{page_start};
-ghost use Rattle.pages.specs.Memory.{with_word_at};
-ghost use Rattle.blocks.specs.Lists.{ChangesPage};
 ghost use Rattle.block_map.specs.States.{free, state_at, all_free, large_states, with_cell, span_of, HasCell, IsCut, AreFreePages, IsSpanSet};
-ghost use Rattle.block_map.specs.Listed.{first_object, first_on, with_taken, AreListed, HasFirst, IsFullOn, TellsOf};
+ghost use Rattle.block_map.specs.FreeCells.{HasFree, IsFirstFree, IsFullOn, TellsOf};
 ghost use Rattle.block_map.specs.Objects.{object_on, large_object};
 ghost use Rattle.block_map.specs.FoundIn.{found_in, IsLawful};
 ghost use Rattle.block_map.specs.Sweeps.{SweepsObjects, SweepsOn};
@@ -19,7 +17,7 @@ use crate::page_changes::{
     fill_free, fill_large, free_pages, put_cell, put_page, sweep_cells, take_cell,
 };
 use blocks::Block;
-use pages::{Memory, is_page_count};
+use pages::is_page_count;
 use std::alloc::Global;
 use std::marker::Model;
 use words::{BitRow, Class, Kind, OpenError, PageNo};
@@ -81,19 +79,15 @@ impl BlockMap {
         self.pages.len() as u32
     }
 
-    /// Cuts a free page into cells of a class, and makes them a list. No word points into another object than before.
+    /// Cuts a free page into cells of a class. No word points into another object than before.
     #[tactic(auto, using(crate::proofs::Laid::laid, crate::proofs::Changing::changing))]
-    pub fn cut(&mut self, memory: &mut Memory, page: PageNo, class: Class, kind: Kind)
+    pub fn cut(&mut self, page: PageNo, class: Class, kind: Kind)
         requires inside { page < length self.old }
         requires free { state_at self.old page ≡ free }
-        requires listed { AreListed memory.old self.old }
         ensures states { self.new ≡ slice_set self.old page (all_free class kind) }
         ensures same { IsSameMap (found_in self.old) (found_in self.new) }
-        ensures memory { ChangesPage memory.old memory.new page }
-        ensures listed { AreListed memory.new self.new }
     {
-        self.laws();
-        let block = Block::new(memory, page, class, kind);
+        let block = Block::new(class, kind);
         put_page(&mut self.pages, page as usize, Page::Cut(block));
     }
 
@@ -136,54 +130,47 @@ impl BlockMap {
         }
     }
 
-    /// Takes the first free cell of a page that is cut for a new object; the next one is then the first. `None` exactly if
-    /// every cell is allocated, and then nothing changes.
+    /// Takes the lowest free cell of a page that is cut for a new object. `None` exactly if every cell is allocated, and
+    /// then nothing changes.
+    #[inline(always)]
     #[tactic(auto, using(crate::proofs::Laid::laid, crate::proofs::Changing::changing))]
-    pub fn take(&mut self, memory: &Memory, page: PageNo) -> Option<Taken>
+    pub fn take(&mut self, page: PageNo) -> Option<Taken>
         requires inside { page < length self.old }
         requires cut { IsCut (state_at self.old page) }
-        requires listed { AreListed memory.now self.old }
         ensures none { IfNone result (IsFullOn (state_at self.old page)) }
         ensures same { IfNone result (self.new ≡ self.old) }
-        ensures object { IfSome result (λ t. t.object ≡ first_object page (state_at self.old page)) }
-        ensures free { IfSome result (λ _. HasFirst (state_at self.old page)) }
-        ensures states { IfSome result (λ _. self.new ≡ slice_set self.old page (with_taken memory.now page (state_at self.old page))) }
+        ensures object { IfSome result (λ t. t.object ≡ object_on page (state_at self.old page) t.object.cell) }
+        ensures first { IfSome result (λ t. IsFirstFree (state_at self.old page) t.object.cell) }
+        ensures states { IfSome result (λ t. self.new ≡ slice_set self.old page (with_cell (state_at self.old page) t.object.cell true)) }
         ensures added { IfSome result (λ t. IsAdded (found_in self.old) (found_in self.new) t.object) }
-        ensures last { IfSome result (λ t. MatchBool t.was_last (IsFullOn (state_at self.new page)) (HasFirst (state_at self.new page))) }
-        ensures listed { AreListed memory.now self.new }
+        ensures last { IfSome result (λ t. MatchBool t.was_last (IsFullOn (state_at self.new page)) (HasFree (state_at self.new page))) }
     {
-        take_cell(&mut self.pages, memory, page)
+        take_cell(&mut self.pages, page)
     }
 
-    /// Makes an allocated cell free, and the first free one of its page. Its first word gets the number of the one that was
-    /// first, and no other word changes. Answers what is left on the page.
+    /// Makes an allocated cell free. Answers what is left on the page.
     #[tactic(auto, using(crate::proofs::Laid::laid, crate::proofs::Changing::changing))]
-    pub fn put(&mut self, memory: &mut Memory, page: PageNo, cell: u16) -> Put
+    pub fn put(&mut self, page: PageNo, cell: u16) -> Put
         requires inside { page < length self.old }
         requires cell { HasCell (state_at self.old page) cell true }
-        requires listed { AreListed memory.old self.old }
-        ensures states { self.new ≡ slice_set self.old page (with_cell (state_at self.old page) cell false cell) }
+        ensures states { self.new ≡ slice_set self.old page (with_cell (state_at self.old page) cell false) }
         ensures removed { IsRemoved (found_in self.old) (found_in self.new) (object_on page (state_at self.old page) cell) }
-        ensures memory { memory.new ≡ with_word_at memory.old (object_on page (state_at self.old page) cell).base (first_on (state_at self.old page)) }
-        ensures listed { AreListed memory.new self.new }
-        ensures tells { TellsOf (state_at self.old page) (with_cell (state_at self.old page) cell false cell) result }
+        ensures tells { TellsOf (state_at self.old page) (with_cell (state_at self.old page) cell false) result }
     {
-        put_cell(&mut self.pages, memory, page, cell)
+        put_cell(&mut self.pages, page, cell)
     }
 
     /// Sweeps a page that is cut: its unmarked objects go. The marks are those of the heap's granules.
-    pub fn sweep(&mut self, memory: &mut Memory, page: PageNo, marks: &BitRow)
+    pub fn sweep(&mut self, page: PageNo, marks: &BitRow)
         requires inside { page < length self.old }
         requires cut { IsCut (state_at self.old page) }
-        requires listed { AreListed memory.old self.old }
         requires marks { PAGE_GRANULES * length self.old ≤ length marks.now }
         ensures states { self.new ≡ slice_set self.old page (state_at self.new page) }
-        ensures sweeps { SweepsOn memory.old memory.new marks.now page (state_at self.old page) (state_at self.new page) }
+        ensures sweeps { SweepsOn marks.now page (state_at self.old page) (state_at self.new page) }
         ensures objects { SweepsObjects (found_in self.old) (found_in self.new) marks.now page }
-        ensures listed { AreListed memory.new self.new }
     {
         self.laws();
-        sweep_cells(&mut self.pages, memory, page, marks)
+        sweep_cells(&mut self.pages, page, marks)
     }
 
     // What stands on a page.

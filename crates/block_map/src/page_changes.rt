@@ -1,11 +1,9 @@
 //! Pages that change their state, and cells that are taken and put back.
 ghost use Rattle.std.specs.Prelude.{◌≡◌, ◌+◌, ◌<◌, ◌≤◌, true, false, length, map, slice_set, vec_len, ◌*◌, IfNone, IfOk, IfSome, MatchBool};
 ghost use Rattle.words.specs.declared.limits.TheConstants.{MAX_PAGES, PAGE_GRANULES};
-ghost use Rattle.pages.specs.Memory.{with_word_at};
-ghost use Rattle.words.specs.Bits.{IsFullRow};
-ghost use Rattle.blocks.specs.Lists.{cell_start, link_of, ChangesPage, HasPage, IsFreeCellOf, IsListed, IsTakenCellOf};
+ghost use Rattle.words.specs.Bits.{IsFirstClearFrom, IsFullRow};
 ghost use Rattle.block_map.specs.States.{free, cut, state_at, large_states, with_cell, HasCell, IsCut, IsSpanSet, AreFreePages};
-ghost use Rattle.block_map.specs.Listed.{first_object, first_on, with_taken, HasFirst, IsFullOn, IsListedOn, TellsOf};
+ghost use Rattle.block_map.specs.FreeCells.{HasFree, IsFirstFree, IsFullOn, TellsOf};
 ghost use Rattle.block_map.specs.Objects.{cell_object, object_on};
 ghost use Rattle.block_map.specs.Shown.{shown};
 ghost use Rattle.block_map.specs.Sweeps.{SweepsOn};
@@ -14,7 +12,6 @@ use crate::found::{Put, Taken};
 use crate::look::cell_at;
 use crate::page::Page;
 use blocks::{Block, LargeHead};
-use pages::Memory;
 use std::alloc::{AllocError, Global};
 use words::{BitRow, Kind, PageNo};
 
@@ -71,19 +68,17 @@ pub(crate) fn fill_free(pages: &mut Vec<Page>, first: PageNo, count: u32)
     }
 }
 
-// Takes the first free cell of a block.
-fn take_in(block: &mut Block, memory: &Memory, page: PageNo) -> Option<Taken>
+// Takes the lowest free cell of a block.
+#[inline(always)]
+fn take_in(block: &mut Block, page: PageNo) -> Option<Taken>
     requires small { page < MAX_PAGES }
-    requires has { HasPage memory.now page }
-    requires listed { IsListed memory.now page block.old }
     ensures none { IfNone result (IsFullRow block.old.taken × (block.new ≡ block.old)) }
-    ensures object { IfSome result (λ t. t.object ≡ cell_object page block.old block.old.first) }
-    ensures free { IfSome result (λ _. IsFreeCellOf block.old.taken block.old.first) }
-    ensures block { IfSome result (λ _. block.new ≡ record block.old { taken = slice_set block.old.taken block.old.first true; first = link_of memory.now page block.old.class block.old.first }) }
-    ensures last { IfSome result (λ t. MatchBool t.was_last (IsFullRow block.new.taken) (IsFreeCellOf block.new.taken block.new.first)) }
-    ensures listed { IsListed memory.now page block.new }
+    ensures object { IfSome result (λ t. t.object ≡ cell_object page block.old t.object.cell) }
+    ensures first { IfSome result (λ t. IsFirstClearFrom block.old.taken 0 t.object.cell) }
+    ensures block { IfSome result (λ t. block.new ≡ record block.old { taken = slice_set block.old.taken t.object.cell true }) }
+    ensures last { IfSome result (λ t. MatchBool t.was_last (IsFullRow block.new.taken) (HasFree (cut block.new))) }
 {
-    let Some(cell) = block.take(memory, page) else {
+    let Some(cell) = block.take() else {
         return None;
     };
     Some(Taken {
@@ -92,39 +87,31 @@ fn take_in(block: &mut Block, memory: &Memory, page: PageNo) -> Option<Taken>
     })
 }
 
-// Takes the first free cell of what stands on a page, which is cut.
-fn take_on(what: &mut Page, memory: &Memory, page: PageNo) -> Option<Taken>
+// Takes the lowest free cell of what stands on a page, which is cut.
+#[inline(always)]
+fn take_on(what: &mut Page, page: PageNo) -> Option<Taken>
     requires cut { IsCut (shown what.old) }
     requires small { page < MAX_PAGES }
-    requires has { HasPage memory.now page }
-    requires listed { IsListedOn memory.now page (shown what.old) }
     ensures none { IfNone result (IsFullOn (shown what.old) × (shown what.new ≡ shown what.old)) }
-    ensures object { IfSome result (λ t. t.object ≡ first_object page (shown what.old)) }
-    ensures free { IfSome result (λ _. HasFirst (shown what.old)) }
-    ensures state { IfSome result (λ _. shown what.new ≡ with_taken memory.now page (shown what.old)) }
-    ensures last { IfSome result (λ t. MatchBool t.was_last (IsFullOn (shown what.new)) (HasFirst (shown what.new))) }
-    ensures listed { IsListedOn memory.now page (shown what.new) }
+    ensures object { IfSome result (λ t. t.object ≡ object_on page (shown what.old) t.object.cell) }
+    ensures first { IfSome result (λ t. IsFirstFree (shown what.old) t.object.cell) }
+    ensures state { IfSome result (λ t. shown what.new ≡ with_cell (shown what.old) t.object.cell true) }
+    ensures last { IfSome result (λ t. MatchBool t.was_last (IsFullOn (shown what.new)) (HasFree (shown what.new))) }
 {
     match what {
-        Page::Cut(block) => take_in(block, memory, page),
+        Page::Cut(block) => take_in(block, page),
         Page::Free | Page::Head(_) | Page::Body(_) => unreachable!(),
     }
 }
 
 // Makes an allocated cell of a block free.
-fn put_in(block: &mut Block, memory: &mut Memory, page: PageNo, cell: u16) -> Put
-    requires cell { IsTakenCellOf block.old.taken cell }
-    requires small { page < MAX_PAGES }
-    requires has { HasPage memory.old page }
-    requires listed { IsListed memory.old page block.old }
-    ensures block { block.new ≡ record block.old { taken = slice_set block.old.taken cell false; first = cell } }
-    ensures memory { memory.new ≡ with_word_at memory.old (cell_start page block.old.class cell) block.old.first }
-    ensures changes { ChangesPage memory.old memory.new page }
-    ensures listed { IsListed memory.new page block.new }
-    ensures tells { TellsOf (cut block.old) (with_cell (cut block.old) cell false cell) result }
+fn put_in(block: &mut Block, cell: u16) -> Put
+    requires { cell < length block.old.taken }
+    ensures block { block.new ≡ record block.old { taken = slice_set block.old.taken cell false } }
+    ensures tells { TellsOf (cut block.old) (with_cell (cut block.old) cell false) result }
 {
     let was_full = block.is_full();
-    block.put(memory, page, cell);
+    block.put(cell);
     let class = block.class();
     let kind = block.kind();
     let is_empty = block.is_empty();
@@ -137,92 +124,71 @@ fn put_in(block: &mut Block, memory: &mut Memory, page: PageNo, cell: u16) -> Pu
 }
 
 // Makes an allocated cell of what stands on a page free.
-fn put_on(what: &mut Page, memory: &mut Memory, page: PageNo, cell: u16) -> Put
-    requires cell { HasCell (shown what.old) cell true }
-    requires small { page < MAX_PAGES }
-    requires has { HasPage memory.old page }
-    requires listed { IsListedOn memory.old page (shown what.old) }
-    ensures state { shown what.new ≡ with_cell (shown what.old) cell false cell }
-    ensures memory { memory.new ≡ with_word_at memory.old (object_on page (shown what.old) cell).base (first_on (shown what.old)) }
-    ensures changes { ChangesPage memory.old memory.new page }
-    ensures listed { IsListedOn memory.new page (shown what.new) }
-    ensures tells { TellsOf (shown what.old) (with_cell (shown what.old) cell false cell) result }
+fn put_on(what: &mut Page, cell: u16) -> Put
+    requires { HasCell (shown what.old) cell true }
+    ensures state { shown what.new ≡ with_cell (shown what.old) cell false }
+    ensures tells { TellsOf (shown what.old) (with_cell (shown what.old) cell false) result }
 {
     match what {
-        Page::Cut(block) => put_in(block, memory, page, cell),
+        Page::Cut(block) => put_in(block, cell),
         Page::Free | Page::Head(_) | Page::Body(_) => unreachable!(),
     }
 }
 
-// Takes the first free cell of a page that is cut.
-#[inline]
+// Takes the lowest free cell of a page that is cut.
+#[inline(always)]
 #[tactic(auto, using(crate::proofs::Filling::put))]
-pub(crate) fn take_cell(pages: &mut Vec<Page>, memory: &Memory, page: PageNo) -> Option<Taken>
+pub(crate) fn take_cell(pages: &mut Vec<Page>, page: PageNo) -> Option<Taken>
     requires page { page < vec_len pages.old }
     requires small { page < MAX_PAGES }
     requires cut { IsCut (state_at (map shown pages.old.items) page) }
-    requires has { HasPage memory.now page }
-    requires listed { IsListedOn memory.now page (state_at (map shown pages.old.items) page) }
     ensures none { IfNone result (IsFullOn (state_at (map shown pages.old.items) page)) }
     ensures same { IfNone result (map shown pages.new.items ≡ map shown pages.old.items) }
-    ensures object { IfSome result (λ t. t.object ≡ first_object page (state_at (map shown pages.old.items) page)) }
-    ensures free { IfSome result (λ _. HasFirst (state_at (map shown pages.old.items) page)) }
-    ensures states { IfSome result (λ _. map shown pages.new.items ≡ slice_set (map shown pages.old.items) page (with_taken memory.now page (state_at (map shown pages.old.items) page))) }
-    ensures last { IfSome result (λ t. MatchBool t.was_last (IsFullOn (state_at (map shown pages.new.items) page)) (HasFirst (state_at (map shown pages.new.items) page))) }
-    ensures listed { IsListedOn memory.now page (state_at (map shown pages.new.items) page) }
+    ensures object { IfSome result (λ t. t.object ≡ object_on page (state_at (map shown pages.old.items) page) t.object.cell) }
+    ensures first { IfSome result (λ t. IsFirstFree (state_at (map shown pages.old.items) page) t.object.cell) }
+    ensures states { IfSome result (λ t. map shown pages.new.items ≡ slice_set (map shown pages.old.items) page (with_cell (state_at (map shown pages.old.items) page) t.object.cell true)) }
+    ensures last { IfSome result (λ t. MatchBool t.was_last (IsFullOn (state_at (map shown pages.new.items) page)) (HasFree (state_at (map shown pages.new.items) page))) }
     ensures len { vec_len pages.new ≡ vec_len pages.old }
 {
-    take_on(&mut pages[page as usize], memory, page)
+    take_on(&mut pages[page as usize], page)
 }
 
-// Makes an allocated cell free, and the first free one of its page.
+// Makes an allocated cell free.
 #[inline]
 #[tactic(auto, using(crate::proofs::Filling::put))]
-pub(crate) fn put_cell(pages: &mut Vec<Page>, memory: &mut Memory, page: PageNo, cell: u16) -> Put
+pub(crate) fn put_cell(pages: &mut Vec<Page>, page: PageNo, cell: u16) -> Put
     requires page { page < vec_len pages.old }
-    requires small { page < MAX_PAGES }
     requires cell { HasCell (state_at (map shown pages.old.items) page) cell true }
-    requires has { HasPage memory.old page }
-    requires listed { IsListedOn memory.old page (state_at (map shown pages.old.items) page) }
-    ensures states { map shown pages.new.items ≡ slice_set (map shown pages.old.items) page (with_cell (state_at (map shown pages.old.items) page) cell false cell) }
-    ensures memory { memory.new ≡ with_word_at memory.old (object_on page (state_at (map shown pages.old.items) page) cell).base (first_on (state_at (map shown pages.old.items) page)) }
-    ensures changes { ChangesPage memory.old memory.new page }
-    ensures listed { IsListedOn memory.new page (with_cell (state_at (map shown pages.old.items) page) cell false cell) }
-    ensures tells { TellsOf (state_at (map shown pages.old.items) page) (with_cell (state_at (map shown pages.old.items) page) cell false cell) result }
+    ensures states { map shown pages.new.items ≡ slice_set (map shown pages.old.items) page (with_cell (state_at (map shown pages.old.items) page) cell false) }
+    ensures tells { TellsOf (state_at (map shown pages.old.items) page) (with_cell (state_at (map shown pages.old.items) page) cell false) result }
     ensures len { vec_len pages.new ≡ vec_len pages.old }
 {
-    put_on(&mut pages[page as usize], memory, page, cell)
+    put_on(&mut pages[page as usize], cell)
 }
 
 // Sweeps what stands on a page, which is cut.
-fn sweep_on(what: &mut Page, memory: &mut Memory, page: PageNo, marks: &BitRow)
+fn sweep_on(what: &mut Page, page: PageNo, marks: &BitRow)
     requires cut { IsCut (shown what.old) }
     requires small { page < MAX_PAGES }
-    requires has { HasPage memory.old page }
-    requires listed { IsListedOn memory.old page (shown what.old) }
     requires marks { PAGE_GRANULES * page + PAGE_GRANULES ≤ length marks.now }
-    ensures sweeps { SweepsOn memory.old memory.new marks.now page (shown what.old) (shown what.new) }
-    ensures listed { IsListedOn memory.new page (shown what.new) }
+    ensures { SweepsOn marks.now page (shown what.old) (shown what.new) }
 {
     match what {
-        Page::Cut(block) => block.sweep(memory, page, marks),
+        Page::Cut(block) => block.sweep(page, marks),
         Page::Free | Page::Head(_) | Page::Body(_) => unreachable!(),
     }
 }
 
 // Sweeps a page that is cut.
 #[tactic(auto, using(crate::proofs::Filling::put))]
-pub(crate) fn sweep_cells(pages: &mut Vec<Page>, memory: &mut Memory, page: PageNo, marks: &BitRow)
+pub(crate) fn sweep_cells(pages: &mut Vec<Page>, page: PageNo, marks: &BitRow)
     requires page { page < vec_len pages.old }
     requires small { page < MAX_PAGES }
     requires cut { IsCut (state_at (map shown pages.old.items) page) }
-    requires has { HasPage memory.old page }
-    requires listed { IsListedOn memory.old page (state_at (map shown pages.old.items) page) }
     requires marks { PAGE_GRANULES * page + PAGE_GRANULES ≤ length marks.now }
     ensures states { map shown pages.new.items ≡ slice_set (map shown pages.old.items) page (state_at (map shown pages.new.items) page) }
-    ensures sweeps { SweepsOn memory.old memory.new marks.now page (state_at (map shown pages.old.items) page) (state_at (map shown pages.new.items) page) }
-    ensures listed { IsListedOn memory.new page (state_at (map shown pages.new.items) page) }
+    ensures sweeps { SweepsOn marks.now page (state_at (map shown pages.old.items) page) (state_at (map shown pages.new.items) page) }
     ensures len { vec_len pages.new ≡ vec_len pages.old }
 {
-    sweep_on(&mut pages[page as usize], memory, page, marks)
+    sweep_on(&mut pages[page as usize], page, marks)
 }

@@ -1,19 +1,14 @@
-//! A page that is cut into cells of one class. Contracts see the class, the kind, the row of its cells, in which true is
-//! an allocated cell, and the number of its first free cell.
-ghost use Rattle.std.specs.Prelude.{◌≡◌, ◌+◌, ◌≤◌, ◌*◌, ◌/◌, ◌%◌, ◌<◌, ◌==◌, ℕ, true, false};
-ghost use Rattle.std.specs.Prelude.{List, length, replicate, slice_index_or, slice_set, MatchOption, MatchBool, IfSome, IfNone};
+//! A page that is cut into cells of one class. Contracts see the class, the kind, and the row of its cells, in which true is
+//! an allocated cell.
+ghost use Rattle.std.specs.Prelude.{◌≡◌, ◌+◌, ◌≤◌, ◌*◌, ◌/◌, ◌%◌, ◌<◌, ℕ, true, false};
+ghost use Rattle.std.specs.Prelude.{length, replicate, slice_index_or, slice_set, MatchOption, MatchBool, IfSome, IfNone};
 ghost use Rattle.words.specs.declared.limits.TheConstants.{PAGE_WORDS, PAGE_BYTES, PAGE_GRANULES, MAX_PAGES};
-ghost use Rattle.words.specs.Bits.{members, IsFullRow, IsEmptyFrom, IsFirstFrom};
+ghost use Rattle.words.specs.Bits.{members, IsFullRow, IsEmptyFrom, IsFirstClearFrom, IsFirstFrom};
 ghost use Rattle.words.specs.Classes.{IsSizeClass};
-ghost use Rattle.pages.specs.Memory.{with_word_at};
 ghost use Rattle.blocks.specs.Cells.{IsCells, IsInCell, IsLeftOver};
-ghost use Rattle.blocks.specs.Lists.{cell_start, link_of, ChangesPage, HasPage, IsFreeCellOf, IsListed, IsTakenCellOf};
 ghost use Rattle.blocks.specs.Sweeps.{SweepsCells};
-ghost use Rattle.blocks.specs.declared.list.TheConstants.{LIST_END};
 
-use crate::list::{LIST_END, link_all, start_of};
 use crate::reciprocal::{WHOLE, reciprocal_of};
-use pages::Memory;
 use std::marker::Model;
 use words::limits::{GRANULE_BYTES, PAGE_BYTES};
 use words::{BitRow, CellRow, Class, Kind, PageNo};
@@ -25,7 +20,6 @@ pub struct Block {
     kind: Kind,
     pub(crate) reciprocal: u32,
     pub(crate) taken: CellRow,
-    first: u16,
 }
 
 impl Model for Block {
@@ -37,31 +31,25 @@ impl Model for Block {
 
     ghost Value = { Cells };
 
-    ghost view = { λ b. record { class = b.class; kind = b.kind; taken = b.taken; first = b.first } };
+    ghost view = { λ b. record { class = b.class; kind = b.kind; taken = b.taken } };
 
     ghost invariant = { λ b. IsSizeClass b.class × (length b.taken ≡ PAGE_WORDS / b.class) × IsReciprocal b.class b.reciprocal };
 }
 
 #[tactic(auto, using(crate::proofs::Places::places))]
 impl Block {
-    /// A page cut for a class and a kind, with all its cells free and in their order.
-    pub fn new(memory: &mut Memory, page: PageNo, class: Class, kind: Kind) -> Block
-        requires page { page < MAX_PAGES }
-        requires has { HasPage memory.old page }
-        ensures value { result ≡ record { class = class; kind = kind; taken = replicate (PAGE_WORDS / class) false; first = 0 } }
+    /// A page cut for a class and a kind, with all its cells free.
+    pub fn new(class: Class, kind: Kind) -> Block
+        ensures value { result ≡ record { class = class; kind = kind; taken = replicate (PAGE_WORDS / class) false } }
         ensures cells { IsCells result }
-        ensures listed { IsListed memory.new page result }
-        ensures memory { ChangesPage memory.old memory.new page }
     {
         // Its number of cells comes first, so that it is divided but once.
         let taken = CellRow::new(class.cells());
-        link_all(memory, class, page);
         Block {
             class,
             kind,
             reciprocal: reciprocal_of(class),
             taken,
-            first: 0,
         }
     }
 
@@ -118,10 +106,9 @@ impl Block {
     /// Whether every cell is allocated.
     #[inline]
     pub fn is_full(&self) -> bool
-        ensures first { result ≡ (self.now.first == LIST_END) }
-        ensures full { (words : List ℕ) (page : ℕ) → IsListed words page self.now → MatchBool result (IsFullRow self.now.taken) (IsFreeCellOf self.now.taken self.now.first) }
+        ensures { MatchBool result (IsFullRow self.now.taken) ((i : ℕ) × IsFirstClearFrom self.now.taken 0 i) }
     {
-        self.first == LIST_END
+        self.taken.is_full()
     }
 
     /// The lowest allocated cell from a cell on.
@@ -131,58 +118,37 @@ impl Block {
         self.taken.next(from)
     }
 
-    /// Allocates the first free cell; the next one is then the first. `None` exactly if every cell is allocated.
+    /// Allocates the lowest free cell. `None` exactly if every cell is allocated.
     #[inline]
-    pub fn take(&mut self, memory: &Memory, page: PageNo) -> Option<u16>
-        requires page { page < MAX_PAGES }
-        requires has { HasPage memory.now page }
-        requires listed { IsListed memory.now page self.old }
+    pub fn take(&mut self) -> Option<u16>
         ensures none { IfNone result (IsFullRow self.old.taken × (self.new ≡ self.old)) }
-        ensures first { IfSome result (λ i. i ≡ self.old.first) }
-        ensures free { IfSome result (λ i. IsFreeCellOf self.old.taken i) }
-        ensures block { IfSome result (λ i. self.new ≡ record self.old { taken = slice_set self.old.taken i true; first = link_of memory.now page self.old.class i }) }
-        ensures listed { IsListed memory.now page self.new }
+        ensures first { IfSome result (λ i. IsFirstClearFrom self.old.taken 0 i) }
+        ensures block { IfSome result (λ i. self.new ≡ record self.old { taken = slice_set self.old.taken i true }) }
     {
-        let cell = self.first;
-        if cell == LIST_END {
+        let Some(cell) = self.taken.first_clear() else {
             return None;
-        }
-        self.first = memory.read(start_of(self.class, page, cell)) as u16;
+        };
         self.taken.set(cell);
         Some(cell)
     }
 
-    /// Makes an allocated cell free, and the first of the free ones. Its first word gets the number of the one that was first.
+    /// Makes a cell free.
     #[inline]
-    pub fn put(&mut self, memory: &mut Memory, page: PageNo, cell: u16)
-        requires page { page < MAX_PAGES }
-        requires has { HasPage memory.old page }
-        requires listed { IsListed memory.old page self.old }
-        requires taken { IsTakenCellOf self.old.taken cell }
-        ensures block { self.new ≡ record self.old { taken = slice_set self.old.taken cell false; first = cell } }
-        ensures memory { memory.new ≡ with_word_at memory.old (cell_start page self.old.class cell) self.old.first }
-        ensures changes { ChangesPage memory.old memory.new page }
-        ensures listed { IsListed memory.new page self.new }
+    pub fn put(&mut self, cell: u16)
+        requires { cell < length self.old.taken }
+        ensures { self.new ≡ record self.old { taken = slice_set self.old.taken cell false } }
     {
-        memory.write(start_of(self.class, page, cell), u64::from(self.first));
         self.taken.clear(cell);
-        self.first = cell;
     }
 
-    /// Makes each allocated cell free that isn't marked, and links it into the list. The marks are those of the heap's
-    /// granules.
-    pub fn sweep(&mut self, memory: &mut Memory, page: PageNo, marks: &BitRow)
+    /// Makes each allocated cell free that isn't marked. The marks are those of the heap's granules.
+    pub fn sweep(&mut self, page: PageNo, marks: &BitRow)
         requires page { page < MAX_PAGES }
-        requires has { HasPage memory.old page }
-        requires listed { IsListed memory.old page self.old }
         requires marks { PAGE_GRANULES * page + PAGE_GRANULES ≤ length marks.now }
-        ensures sweeps { SweepsCells memory.old memory.new marks.now page self.old self.new }
-        ensures listed { IsListed memory.new page self.new }
+        ensures { SweepsCells marks.now page self.old self.new }
     {
         let live = self.marked_cells(page, marks);
-        for j in 0..4 {
-            self.sweep_word(memory, page, &live, j);
-        }
+        self.taken.keep(&live);
     }
 
     /// How many cells are allocated.

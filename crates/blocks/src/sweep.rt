@@ -1,14 +1,11 @@
-//! Which cells of a page are marked, and a sweep of those that aren't: both go from one bit that is set to the next, a word
-//! of bits at a time.
+//! Which cells of a page are marked: it goes from one mark to the next, a word of bits at a time.
 ghost use Rattle.std.specs.Prelude.{◌≡◌, ◌+◌, ◌*◌, ◌<◌, ◌≤◌, ℕ, length, MatchOption};
 ghost use Rattle.words.specs.declared.limits.TheConstants.{MAX_PAGES, PAGE_GRANULES};
 ghost use Rattle.blocks.specs.Cells.{IsCells};
-ghost use Rattle.blocks.specs.Lists.{HasPage, IsListed};
-ghost use Rattle.blocks.specs.Sweeps.{BeginsAt, HasMarked, SweepsRange};
+ghost use Rattle.blocks.specs.Sweeps.{BeginsAt, HasMarked};
 
 use crate::block::Block;
 use crate::reciprocal::WHOLE;
-use pages::Memory;
 use words::limits::GRANULE_WORDS;
 use words::{BitRow, CellRow, PageNo};
 
@@ -61,23 +58,5 @@ impl Block {
             self.add_marked(&mut live, page, marks, j);
         }
         live
-    }
-
-    // Makes the cells of a word of the row free that are allocated and not live.
-    #[inline]
-    pub(crate) fn sweep_word(&mut self, memory: &mut Memory, page: PageNo, live: &CellRow, j: u16)
-        requires page { page < MAX_PAGES }
-        requires has { HasPage memory.old page }
-        requires listed { IsListed memory.old page self.old }
-        requires word { j < 4 }
-        ensures sweeps { SweepsRange memory.old memory.new live.now page (64 * j) (64 * j + 64) self.old self.new }
-        ensures listed { IsListed memory.new page self.new }
-    {
-        let dead = self.taken.word(j) & !live.word(j);
-        let mut rest = dead;
-        while rest != 0 {
-            self.put(memory, page, 64 * j + rest.trailing_zeros() as u16);
-            rest &= rest - 1;
-        }
     }
 }

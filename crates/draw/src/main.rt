@@ -1,11 +1,16 @@
-//! A script is run on a heap, and its run is written as a trace, in the lines of docs/TRACE.md.
+//! A script is run on a heap, and its run is written as a trace, in the lines of docs/TRACE.md; or a run that some heap
+//! wrote down is, up to the first line that the checker refuses.
 //!
-//! `draw --pages N FILE` prints the trace; the wrapper `mpheap` joins it with the page that shows it.
+//! `draw --pages N FILE` prints the trace of the script in FILE, `draw --pages N --run FILE` that of the run in FILE; the
+//! wrapper `mpheap` joins it with the page that shows it.
 //!
 //! # What is proved
 //!
-//! What is written of a line is the text of its command, of the core's reply and of what the tracer says is different,
-//! which was told both and the core as it was then (`written`, `IsDrawn`).
+//! What is written of a line of a script is the text of its command, of the core's reply and of what the tracer says is
+//! different, which was told both and the core as it was then (`written`, `IsDrawn`). What is written of a line of a run
+//! is the same, of the line's command and reply, where the tracer was told these, what the line says beside them, and no
+//! core (`run_written`, `IsRunDrawn`); of the line that is refused it is the line itself and what is said of it
+//! (`refusal_written`, `IsRefusalDrawn`).
 #![tactic(auto)]
 
 ghost use Rattle.std.specs.Prelude.{◌≤◌};
@@ -13,8 +18,12 @@ ghost use Rattle.words.specs.declared.limits.TheConstants.{MAX_PAGES};
 
 mod drawing;
 mod reply;
+mod run_drawing;
+mod run_line;
+mod run_printing;
 
 use crate::drawing::{Run, written};
+use crate::run_printing::draw_run;
 use heap_core::Core;
 use programs::{Fault, end, own_words};
 use recording::Recorder;
@@ -25,9 +34,9 @@ use trace_lines::head_line;
 use tracing::Tracer;
 use written_runs::words_given;
 
-// Prints the first line of a trace of so many records.
+// Prints the first line of a trace of so many records of a script.
 fn print_head(rt: &HostRuntime, pages: u32, lines: u64) -> Result<(), Fault> {
-    let Ok(head) = head_line(rt.alloc(), "a script", pages, lines) else {
+    let Ok(head) = head_line(rt.alloc(), "a script", pages, lines, true) else {
         return Err(Fault::Memory);
     };
     let Ok(()) = println!(rt; "{head}") else {
@@ -50,14 +59,10 @@ fn print_run(rt: &HostRuntime, run: &mut Run, script: &str) -> Result<(), Fault>
     Ok(())
 }
 
-// Runs the script of a file on a new heap.
-fn draw(rt: &HostRuntime, pages: u32, file: &str) -> Result<(), Fault>
+// Runs a script on a new heap.
+fn draw_script(rt: &HostRuntime, pages: u32, script: &str) -> Result<(), Fault>
     requires { (1 ≤ pages) × (pages ≤ MAX_PAGES) }
 {
-    let script = match fs::read_to_string(rt, file) {
-        Ok(script) => script,
-        Err(error) => return Err(Fault::of_read(&error)),
-    };
     let Ok(core) = Core::new(rt.alloc(), pages) else {
         return Err(Fault::Memory);
     };
@@ -74,25 +79,44 @@ fn draw(rt: &HostRuntime, pages: u32, file: &str) -> Result<(), Fault>
         lines = lines.wrapping_add(1);
     }
     print_head(rt, pages, lines)?;
-    print_run(rt, &mut run, script.as_str())
+    print_run(rt, &mut run, script)
 }
 
-// Does what the words say.
-fn obey(rt: &HostRuntime) -> Result<(), Fault> {
-    let words = own_words(rt)?;
+// Whether `--run` stands before the file, and then it is taken away.
+fn takes_run(words: &mut Vec<String>) -> bool {
+    if words.len() != 4 || words[2].as_str() != "--run" {
+        return false;
+    }
+    let _ = words.remove(2);
+    true
+}
+
+// Draws what the words say, and gives the status that goes with it.
+fn obey(rt: &HostRuntime) -> Result<u8, Fault> {
+    let mut words = own_words(rt)?;
+    let is_run = takes_run(&mut words);
     let Some((pages, file)) = words_given(words.as_slice()) else {
         return Err(Fault::BadCommand);
     };
-    draw(rt, pages, file)
+    let text = match fs::read_to_string(rt, file) {
+        Ok(text) => text,
+        Err(error) => return Err(Fault::of_read(&error)),
+    };
+    if is_run {
+        return draw_run(rt, pages, text.as_str());
+    }
+    draw_script(rt, pages, text.as_str())?;
+    Ok(0)
 }
 
 fn main(rt: HostRuntime) -> ExitCode {
     let status = match obey(&rt) {
+        Ok(status) => status,
         Err(Fault::BadCommand) => {
-            let _ = eprintln!(rt; "draw --pages N FILE");
+            let _ = eprintln!(rt; "draw --pages N [--run] FILE");
             Fault::BadCommand.status()
         }
-        answer => end(answer, &mut Std::new(rt.stderr())),
+        Err(fault) => end(Err(fault), &mut Std::new(rt.stderr())),
     };
     ExitCode::from(status)
 }

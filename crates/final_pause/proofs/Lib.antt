@@ -4,3 +4,4 @@ pub mod Knowing
 pub mod Growing
 pub mod Serving
 pub mod Gathering
+pub mod Marked

@@ -78,6 +78,11 @@ AreWordsRead p v carried low high = (f : Found) → found p f.base ≡ Some f �
 abbrev pub IsPageRead : Pause → ClaimerView → List Bool → ℕ → Type 0
 IsPageRead p v carried page = AreWordsRead p v carried (page_start page) (page_start (page + 1))
 
+-- the words of the Normal objects that were marked before and begin at these granules were read
+abbrev pub AreObjectsRead : Pause → ClaimerView → List Bool → ℕ → ℕ → Type 0
+AreObjectsRead p v carried low past = (f : Found) → found p f.base ≡ Some f → f.kind ≡ Normal → IsMarked p.marker.now f.base
+    → low ≤ granule f.base → granule f.base < past → (i : ℕ) → i < f.len → IsWordRead p v carried f i
+
 -- the dirty pages of a share, among the first n, were read
 abbrev pub ArePagesRead : Pause → ClaimerView → List Bool → ℕ → ℕ → Type 0
 ArePagesRead p v carried share n = (page : ℕ) → page < n → page % p.helpers ≡ share → Has p.marker.now.dirty page → IsPageRead p v carried page

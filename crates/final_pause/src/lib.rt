@@ -21,6 +21,9 @@
 //! **Sharing.** Root words, entries and dirty pages are shared out by their places, root words first. No helper writes
 //! anything that another reads but the table, by claims, what is on offer, and the count of helpers that have work.
 //!
+//! **Dirty pages.** Of a dirty page a helper reads the objects that were marked before the helpers started: by the marker's
+//! marks, which no helper changes, and on a page that is cut by its block, with no look-up.
+//!
 //! **Claiming.** An object is read by the helper whose claim marked it, and perhaps by one that took it from the offer too.
 //! It waits on the winner's stack, or where that is full, its pages become dirty in the winner's row. So each word of an
 //! object that a helper won points into what that helper knows to be marked, or stands on a page of its row.
@@ -58,6 +61,7 @@ mod gate;
 mod helper;
 mod helpers;
 mod offer;
+mod page;
 mod parallel;
 mod share;
 

@@ -1,25 +1,23 @@
 //! The share of one helper: root words and entries by their places, and what they lead to.
-ghost use Rattle.std.specs.Prelude.{◌≡◌, ℕ, ◌+◌, ◌*◌, ◌%◌, ◌<◌, ◌≤◌, [], ◌∷◌, true, false, Some, length};
+ghost use Rattle.std.specs.Prelude.{◌≡◌, ℕ, ◌+◌, ◌<◌, ◌≤◌, [], ◌∷◌, true, false, Some, length};
 ghost use Rattle.mark_bits.specs.Tables.{view, start_of};
 ghost use Rattle.words.specs.Layout.{granule, page_of};
-ghost use Rattle.words.specs.declared.limits.TheConstants.{FIRST_ADDRESS, WORD_BYTES};
+ghost use Rattle.words.specs.declared.limits.TheConstants.{FIRST_ADDRESS};
 ghost use Rattle.block_map.specs.FoundIn.{found_in};
-ghost use Rattle.block_map.specs.Walks.{IsNextObject};
-ghost use Rattle.words.specs.Bits.{Has};
 ghost use Rattle.marker.specs.Marking.{IsOutside, bytes_of, word_address};
 ghost use Rattle.marker.specs.Growth.{TellsStray};
 ghost use Rattle.final_pause.specs.Helping.{IsReadyPause, IsObjectOf, IsHelperOf, Visits, VisitsAll, ReadsWords};
-ghost use Rattle.final_pause.specs.Serving.{IsServing, GoesOnServing, AreOffered, IsEntryRead, HasServed, AreRootsRead, AreEntriesRead, IsCurrentRead, AreWordsRead, IsPageRead, ArePagesRead};
+ghost use Rattle.final_pause.specs.Serving.{IsServing, GoesOnServing, AreOffered, IsEntryRead, HasServed, AreRootsRead, AreEntriesRead, IsCurrentRead};
 
 use crate::gate::Gate;
 use crate::helper::{Helper, carry, claim, queue};
 use crate::offer::{Offer, Offering};
 use block_map::{BlockMap, Found};
 use mark_bits::MarkTable;
-use marker::{Entry, Marker, part_between};
+use marker::{Entry, Marker};
 use pages::{Memory, Reader, Words};
 use words::limits::{FIRST_ADDRESS, PAGE_BYTES, WORD_BYTES};
-use words::{Kind, PageNo, granule_of, page_of, page_start};
+use words::{PageNo, granule_of, page_of};
 
 /// What the helpers of a pause share. No helper changes any of it but the table, by claims.
 #[derive(Clone, Copy)]
@@ -93,9 +91,16 @@ impl<'a> Pause<'a> {
         stray
     }
 
-    // Marks what words of an object point into: so many, from its word `first` on, which stand on one page. The page is
-    // carried if one of them is stray.
-    fn read_run<G: Gate>(&self, gate: &G, helper: &mut Helper, found: Found, first: u32, count: u64)
+    /// Marks what words of an object point into: so many, from its word `first` on, which stand on one page. The page is
+    /// carried if one of them is stray.
+    pub(crate) fn read_run<G: Gate>(
+        &self,
+        gate: &G,
+        helper: &mut Helper,
+        found: Found,
+        first: u32,
+        count: u64,
+    )
         requires fits { IsHelperOf self.now helper.old }
         requires object { IsObjectOf self.now found }
         requires inside { first + count ≤ found.len }
@@ -186,75 +191,6 @@ impl<'a> Pause<'a> {
         for i in 0..waiting.len() {
             if i % self.helpers == helper.share {
                 self.read_entry(gate, helper, waiting[i]);
-                self.read_stack(gate, offer, helper);
-            }
-        }
-    }
-
-    // Reads the words of the next object on a page that stand between two addresses, if it was a marked Normal one before
-    // the helpers started. Answers the first address past them.
-    fn read_part<G: Gate>(
-        &self,
-        gate: &G,
-        helper: &mut Helper,
-        found: Found,
-        low: u64,
-        high: u64,
-    ) -> u64
-        requires serving { IsServing self.now helper.old }
-        requires next { IsNextObject (found_in self.now.map.now) low high found }
-        requires low { low % WORD_BYTES ≡ 0 }
-        requires high { high % WORD_BYTES ≡ 0 }
-        ensures serves { GoesOnServing self.now helper.old helper.new }
-        ensures read { AreWordsRead self.now (view helper.new.claimer) helper.new.carried low result }
-        ensures further { low < result }
-        ensures within { result ≤ high }
-        ensures aligned { result % WORD_BYTES ≡ 0 }
-    {
-        let part = part_between(found, low, high);
-        if found.kind == Kind::PointerFree {
-            return part.stop;
-        }
-        if !self.marker.is_marked(found.base) {
-            return part.stop;
-        }
-        self.read_words(gate, helper, found, part.first, part.count);
-        part.stop
-    }
-
-    // Reads the words on a page of all objects that were marked Normal ones before the helpers started.
-    fn read_page<G: Gate>(&self, gate: &G, helper: &mut Helper, page: PageNo)
-        requires serving { IsServing self.now helper.old }
-        requires inside { page < length self.now.map.now }
-        ensures serves { GoesOnServing self.now helper.old helper.new }
-        ensures read { IsPageRead self.now (view helper.new.claimer) helper.new.carried page }
-    {
-        let mut address = page_start(page);
-        let end = address + PAGE_BYTES;
-        while let Some(found) = self.map.next_on_page(page, address) {
-            address = self.read_part(gate, helper, found, address, end);
-        }
-    }
-
-    // Whether the page is a dirty one of a share.
-    fn has_dirty(&self, share: usize, page: PageNo) -> bool
-        requires ready { IsReadyPause self.now }
-        requires inside { page < length self.now.map.now }
-        ensures { page % self.now.helpers ≡ share → Has self.now.marker.now.dirty page → result ≡ true }
-    {
-        page as usize % self.helpers == share && self.marker.dirty_pages().is_dirty(page)
-    }
-
-    // Reads the dirty pages of the helper's share, each with what it leads to.
-    fn read_pages<G: Gate, J: Offering>(&self, gate: &G, offer: &Offer<J>, helper: &mut Helper)
-        requires serving { IsServing self.now helper.old }
-        requires offered { AreOffered self.now J.offered }
-        ensures serves { GoesOnServing self.now helper.old helper.new }
-        ensures read { ArePagesRead self.now (view helper.new.claimer) helper.new.carried helper.old.share (length self.now.map.now) }
-    {
-        for page in 0..self.map.len() {
-            if self.has_dirty(helper.share, page) {
-                self.read_page(gate, helper, page);
                 self.read_stack(gate, offer, helper);
             }
         }

@@ -201,7 +201,7 @@ writes_line old new slot m whole at row writes =
   where
     on : (ws : List ℕ) (a : ℕ) (f : Found) → length ws ≡ length old.store.words → IsWordAddress old.store.words a → objects_of old a ≡ Some f → IsWord (word_at new.store.words a) → LinesTo old slot ws → LinesTo old slot (with_word_at ws a (word_at new.store.words a))
     on ws a f len there is word p =
-        let size = whole.space.whole.listed.size in let few = whole.core.laid.few in let pages = whole.core.traced.pages in let above = there.above in let below = there.below in
+        let size = whole.space.whole.long in let few = whole.core.laid.few in let pages = whole.core.traced.pages in let above = there.above in let below = there.below in
         one_word old.roots (record old.store { words = ws }) (record old.cycle { marker = with_dirty old.cycle.marker old.cycle.marker.dirty }) old.links slot a (word_at new.store.words a) m f whole.core.lawful (len ∙ size)
         at row.size there.aligned (omega arith) (omega arith) is old p.0 row.words word p.1 p.2
 
@@ -284,6 +284,6 @@ writes_visit old new slot whole next writes =
   where
     on : (ws : List ℕ) (a : ℕ) (f : Found) → length ws ≡ length old.store.words → IsWordAddress old.store.words a → objects_of old a ≡ Some f → IsWord (word_at new.store.words a) → VisitsTo old slot ws → VisitsTo old slot (with_word_at ws a (word_at new.store.words a))
     on ws a f len there is word p =
-        let size = whole.space.whole.listed.size in let few = whole.core.laid.few in let pages = whole.core.traced.pages in let above = there.above in let below = there.below in
+        let size = whole.space.whole.long in let few = whole.core.laid.few in let pages = whole.core.traced.pages in let above = there.above in let below = there.below in
         one_visit old.roots (record old.store { words = ws }) (record old.cycle { marker = with_dirty old.cycle.marker old.cycle.marker.dirty }) old.links slot a (word_at new.store.words a) f whole.core.lawful (len ∙ size)
         next there.aligned (omega arith) (omega arith) is old p.0 word p.1 p.2

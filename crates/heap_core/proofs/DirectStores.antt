@@ -181,5 +181,5 @@ writes_store old new whole writes s h =
   where
     on : (ws : List ℕ) (a : ℕ) (f : Found) → length ws ≡ length old.store.words → IsWordAddress old.store.words a → objects_of old a ≡ Some f → IsWord (word_at new.store.words a) → StandsAfter old s ws → StandsAfter old s (with_word_at ws a (word_at new.store.words a))
     on ws a f len at is word p =
-        let one = stores_one old old.cycle.marker.dirty ws a (word_at new.store.words a) f whole.core.lawful (len ∙ whole.space.whole.listed.size) at.aligned is word p.0 p.2 in
+        let one = stores_one old old.cycle.marker.dirty ws a (word_at new.store.words a) f whole.core.lawful (len ∙ whole.space.whole.long) at.aligned is word p.0 p.2 in
         (one.0, StoresWords.more p.1 one.1, one.2)

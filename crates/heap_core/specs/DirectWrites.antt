@@ -48,7 +48,7 @@ pub record WritesWords (old new : CoreContents) : Type 0 where
   pub stays_dirty : StaysDirty old.cycle.marker new.cycle.marker
 
 -- All that is true of a core: what its callers are told, that it stands for a sound heap, and what its parts keep to themselves,
--- the lists of free cells in the words, the rows of ready and of waiting pages, and what the marker knows of its entries.
+-- the rows of ready and of waiting pages, and what the marker knows of its entries.
 pub record IsWholeCore (c : CoreContents) : Type 0 where
   pub core : IsCore c
   pub sound : IsSoundCore c

@@ -9,7 +9,6 @@ pub mod Settling
 pub mod Reading
 pub mod Taking
 pub mod Mutating
-pub mod Keeping
 pub mod Rescanning
 pub mod Parts
 pub mod Rereading

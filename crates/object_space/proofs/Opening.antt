@@ -2,7 +2,6 @@
 use Rattle.std.proofs.Common.{◌≡◌, ℕ, ◌*◌, ◌≤◌, List, length, Some, None, sym, ap, ◌∙◌, subst}
 use Rattle.heap_spec.specs.Heap.{opening}
 use Rattle.block_map.specs.States.{PageState, AreFreePages}
-use Rattle.block_map.specs.Listed.{AreListed, IsListedOn}
 use Rattle.block_map.specs.Objects.{IsObjectOn}
 use Rattle.block_map.specs.FoundIn.{found_in}
 use Rattle.block_map.specs.declared.found.Found.{Found}
@@ -34,9 +33,6 @@ opens t pages all few keep = record {
     nothing : (f : Found) → found_in t.states f.base ≡ Some f → ⊥
     nothing f is = subst (λ st. IsObjectOn st f) (all.each f.page) ((map_laws t.states (laid_free t.states pages all few)).object f.base f is).on
 
--- no page is cut, so there is no list
-pub listed_free : (words : List ℕ) (states : List PageState) (pages : ℕ) → AreFreePages states pages → length words ≡ PAGE_WORDS * pages → AreListed words states
-listed_free words states pages all size = record {
-  size = size ∙ ap (λ n. PAGE_WORDS * n) (sym all.size);
-  each = λ page lt. subst (IsListedOn words page) (sym (all.each page)) tt;
-}
+-- the memory has the words of its pages
+pub long_free : (words : List ℕ) (states : List PageState) (pages : ℕ) → AreFreePages states pages → length words ≡ PAGE_WORDS * pages → length words ≡ PAGE_WORDS * length states
+long_free words states pages all size = size ∙ ap (λ n. PAGE_WORDS * n) (sym all.size)

@@ -5,20 +5,14 @@ use Rattle.std.proofs.lemmas.Bool.{cases_eq, true≢false}
 use Rattle.std.proofs.lemmas.Option.{same_Some}
 use Rattle.words.specs.declared.class.Kind.{Kind}
 use Rattle.words.specs.Bits.{Has}
-use Rattle.words.specs.Layout.{granule}
-use Rattle.pages.specs.Memory.{word_index}
+use Rattle.pages.specs.Memory.{word_at}
 use Rattle.pages.specs.Runs.{IsFilled}
-use Rattle.blocks.specs.Cells.{Cells, IsCells}
-use Rattle.blocks.specs.Lists.{cell_start}
-use Rattle.blocks.specs.Sweeps.{IsDeadCell}
-use Rattle.blocks.proofs.Places.{class_bounds}
+use Rattle.blocks.specs.Cells.{Cells}
 use Rattle.block_map.specs.declared.found.Found.{Found}
 use Rattle.block_map.specs.Changes.{IsSameMap}
-use Rattle.block_map.specs.FoundIn.{found_in, IsLawful}
-use Rattle.block_map.specs.Objects.{cell_object, IsInside, IsObject, IsObjectOn}
-use Rattle.block_map.specs.States.{PageState, free, cut, state_at, IsBlockFor, IsCut, IsLaid, IsSpanSet, LaidAt}
-use Rattle.block_map.specs.Sweeps.{SweepsObjects, SweepsOn}
-use Rattle.block_map.proofs.Sweeping.{cell_granule}
+use Rattle.block_map.specs.FoundIn.{found_in}
+use Rattle.block_map.specs.States.{PageState, free, cut, state_at, IsBlockFor, IsCut, IsSpanSet}
+use Rattle.block_map.specs.Sweeps.{SweepsObjects}
 use Rattle.marker.specs.Marking.{word_address}
 use Rattle.object_space.specs.AvailableRows.{IsAvailable, AreReady, AreWaiting}
 use Rattle.object_space.specs.Store.{Store, Agree, HasObjects}
@@ -106,46 +100,13 @@ module _ (states mid : List PageState) (page : ℕ) (a b : Cells) (was : state_a
     used_gone used = used_given row row' mid states' page 1 given span (λ p c out h. used p c (sym (other p (ne_of p out)) ∙ h))
 
 -- what it is to the store, whose map has the objects that are left and none more
-module _ (old new : Store) (marks : List Bool) (page : ℕ) (mid : List PageState) (laid : IsLaid old.states) (lawful : IsLawful old.states) (inside : page < length old.states)
-    (cells : SweepsOn old.words new.words marks page (state_at old.states page) (state_at mid page)) (objects : SweepsObjects (found_in old.states) (found_in mid) marks page) where
-  are_cells : IsCells cells.old
-  are_cells = subst (LaidAt old.states page) cells.was (laid.each page inside)
-
-  -- the object in a cell
-  there_was : (c : ℕ) → c < length cells.old.taken → get_or cells.old.taken c false ≡ true → IsObject old.states (cell_object page cells.old c)
-  there_was c lt taken = record { page = inside; on = subst (λ st. IsObjectOn st (cell_object page cells.old c)) (sym cells.was) (refl, lt, taken) }
-
-  -- an object that is left has no dead cell's first word
-  not_dead : (f : Found) (i : ℕ) → found_in mid f.base ≡ Some f → i < f.len → (c : ℕ) → IsDeadCell marks page cells.old c → word_index (word_address f i) ≢ word_index (cell_start page cells.old.class c)
-  not_dead f i there lt c dead same =
-      true≢false (sym (subst (Has marks) (ap (λ (x : Found). granule x.base) one ∙ cell_granule page c cells.old are_cells) (left.1 (ap (λ (x : Found). x.page) one))) ∙ dead.unmarked)
-    where
-      left : (found_in old.states f.base ≡ Some f) × (f.page ≡ page → Has marks (granule f.base))
-      left = objects.only f.base f there
-
-      at : word_address f i ≡ cell_start page cells.old.class c
-      at =
-          let p = lawful.map.placed f.base f left.0 in let aligned = p.aligned in let above = p.above in
-          let e : c * (8 * cells.old.class) ≡ 8 * (c * cells.old.class) = omega arith in
-          omega (arith, same, aligned, above, e)
-
-      in_cell : IsInside (word_address f i) (cell_object page cells.old c)
-      in_cell = let some = (class_bounds cells.old.class are_cells.class).0 in record { from = omega (arith, at); below = omega (arith, at, some) }
-
-      in_left : IsInside (word_address f i) f
-      in_left = record { from = omega arith; below = omega arith }
-
-      one : f ≡ cell_object page cells.old c
-      one = same_Some f (cell_object page cells.old c) (
-          sym (lawful.map.whole f.base (word_address f i) f left.0 in_left)
-          ∙ lawful.found (word_address f i) (cell_object page cells.old c) (there_was c dead.inside dead.taken) in_cell)
-
-  pub sweeps_cells : IsSameMap (found_in mid) (found_in new.states) → length new.states ≡ length old.states → new.pending ≡ set old.pending page false → SweepsPage old marks page new
-  sweeps_cells same size pending = record {
-    words = λ f i there lt. cells.cells.others (word_index (word_address f i)) (not_dead f i (sym (same.same f.base) ∙ there) lt);
-    pages = size;
-    pending = pending;
-    others = λ w f there ne. same.same w ∙ objects.others w f there ne;
-    marked = λ w f there on has. same.same w ∙ objects.marked w f there on has;
-    only = λ w f there. objects.only w f (sym (same.same w) ∙ there);
-  }
+pub sweeps_cells : (old new : Store) (marks : List Bool) (page : ℕ) (mid : List PageState) → SweepsObjects (found_in old.states) (found_in mid) marks page → IsSameMap (found_in mid) (found_in new.states)
+    → new.words ≡ old.words → length new.states ≡ length old.states → new.pending ≡ set old.pending page false → SweepsPage old marks page new
+sweeps_cells old new marks page mid objects same words size pending = record {
+  words = λ f i there lt. ap (λ ws. word_at ws (word_address f i)) words;
+  pages = size;
+  pending = pending;
+  others = λ w f there ne. same.same w ∙ objects.others w f there ne;
+  marked = λ w f there on has. same.same w ∙ objects.marked w f there on has;
+  only = λ w f there. objects.only w f (sym (same.same w) ∙ there);
+}

@@ -1,6 +1,6 @@
 //! The objects of a heap: their words, the pages that they lie on, and which pages are free. That the pool and the map
-//! agree on the free pages, and that the lists of free cells stand in the memory, is kept here, and no other module touches
-//! any of the three.
+//! agree on the free pages, and that the memory has the words of all pages, is kept here, and no other module touches any of
+//! the three.
 ghost use Rattle.std.specs.Prelude.{◌≡◌, ◌*◌, Bool, List, Some, length};
 ghost use Rattle.words.specs.declared.limits.TheConstants.{PAGE_WORDS};
 ghost use Rattle.words.specs.Bits.{members};
@@ -93,8 +93,8 @@ impl ObjectSpace {
         self.map.laws();
     }
 
-    /// All that is true of every store, with what no caller has to know: the lists of free cells, and the rows of the pages
-    /// that have one.
+    /// All that is true of every store, with what no caller has to know: the rows of the pages that have a free cell, and of
+    /// those that wait for a sweep.
     #[inline]
     pub fn whole(&self)
         ensures { IsWholeStore self.now }
@@ -150,14 +150,12 @@ impl ObjectSpace {
         self.memory.read(address)
     }
 
-    /// Writes a word at an address of an object.
+    /// Writes a word at an address.
     #[inline]
     pub fn write(&mut self, address: u64, word: u64)
-        requires address { IsWordAddress self.old.words address }
-        requires object { (f : Found) × (found_in self.old.states address ≡ Some f) }
+        requires { IsWordAddress self.old.words address }
         ensures { self.new ≡ record self.old { words = with_word_at self.old.words address word } }
     {
-        self.map.laws();
         self.memory.write(address, word);
     }
 }

@@ -40,7 +40,7 @@ impl Scene {
         Ok(Scene { alloc, heap, graph })
     }
 
-    /// Allocates the first free cell of a page that is cut.
+    /// Allocates the lowest free cell of a page that is cut.
     pub(crate) fn allocate(&mut self, page: PageNo) -> Result<Found, Fail> {
         let found = self.heap.allocate(page).ok_or("a free cell")?;
         self.graph.add(found)?;

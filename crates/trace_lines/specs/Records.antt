@@ -1,12 +1,13 @@
 -- The lines of a trace.
-use Rattle.std.specs.Prelude.{ℕ, Option, Some, None, List, [], ◌∷◌, ◌++◌, codes}
+use Rattle.std.specs.Prelude.{ℕ, Bool, true, false, Option, Some, None, List, [], ◌∷◌, ◌++◌, codes}
 use Rattle.trace_lines.specs.declared.record.ObjectChanges.{ObjectChanges}
 use Rattle.trace_lines.specs.declared.record.SetChanges.{SetChanges}
 use Rattle.trace_lines.specs.declared.record.WordChanges.{WordChanges}
 use Rattle.trace_lines.specs.declared.record.CycleChanges.{CycleChanges}
 use Rattle.trace_lines.specs.declared.record.Record.{Record}
+use Rattle.trace_lines.specs.declared.record.Objection.{Objection}
 use Rattle.trace_lines.specs.Texts.{number_text, list_text}
-use Rattle.trace_lines.specs.Rows.{flag_text, new_object_text, numbered_text, register_text, stack_text, link_text, entries_text, current_text, reads_text, set_text}
+use Rattle.trace_lines.specs.Rows.{flag_text, sentence_text, new_object_text, numbered_text, register_text, stack_text, link_text, entries_text, current_text, reads_text, set_text}
 
 -- a key behind others
 abbrev pub key_text : List ℕ → List ℕ
@@ -54,7 +55,22 @@ changes_text r = objects_text r.objects ++ (sets_text r.sets ++ (words_text r.wo
 abbrev pub record_text : List ℕ → List ℕ → Record → List ℕ
 record_text command reply r = codes "{\"c\":\"" ++ (command ++ (codes "\",\"r\":\"" ++ (reply ++ (codes "\"" ++ (changes_text r ++ codes "}")))))
 
--- The first line: a title, the pages of the heap, and how many records follow.
-abbrev pub head_text : List ℕ → ℕ → ℕ → List ℕ
-head_text title pages lines = codes "{\"mpheap\":\"trace\",\"version\":1,\"title\":\"" ++ (title ++ (codes "\"" ++ (key_text (codes "pages")
-    ++ (number_text pages ++ (key_text (codes "lines") ++ (number_text lines ++ codes "}"))))))
+-- the number of a line, and what is said against it
+abbrev pub objection_text : Objection → List ℕ
+objection_text o = key_text (codes "no") ++ (number_text o.line ++ (any_text sentence_text (codes "says") o.says.items
+    ++ some_text number_text (codes "about") o.about))
+
+-- The line of a command that is refused with its answer, and what is said against it.
+abbrev pub refused_text : List ℕ → List ℕ → Objection → List ℕ
+refused_text command answer o = codes "{\"c\":\"" ++ (command ++ (codes "\",\"r\":\"" ++ (answer ++ (codes "\"" ++ (objection_text o ++ codes "}")))))
+
+-- that nothing is said of what a collector knows, where it is so
+abbrev pub collector_text : Bool → List ℕ
+collector_text true = []
+collector_text false = codes ",\"collector\":0"
+
+-- The first line: a title, the pages of the heap, how many records follow, and whether they say what a collector knows.
+abbrev pub head_text : List ℕ → ℕ → ℕ → Bool → List ℕ
+head_text title pages lines has_collector = codes "{\"mpheap\":\"trace\",\"version\":1,\"title\":\"" ++ (title ++ (codes "\""
+    ++ (key_text (codes "pages") ++ (number_text pages ++ (key_text (codes "lines") ++ (number_text lines
+    ++ (collector_text has_collector ++ codes "}")))))))

@@ -1,5 +1,5 @@
 -- The texts of what a line of a run changed.
-use Rattle.std.specs.Prelude.{ℕ, Bool, true, false, Option, Some, None, List, [], ◌∷◌, ◌++◌, codes}
+use Rattle.std.specs.Prelude.{ℕ, Bool, true, false, Option, Some, None, List, [], ◌∷◌, ◌++◌, codes, String, string_bytes}
 use Rattle.trace_lines.specs.declared.record.NewObject.{NewObject}
 use Rattle.trace_lines.specs.declared.record.SetChange.{SetChange}
 use Rattle.trace_lines.specs.declared.record.SetChange.TheVariants.{Comes, Goes, Differs, Whole}
@@ -13,6 +13,10 @@ use Rattle.trace_lines.specs.declared.record.Current.{Current}
 use Rattle.trace_lines.specs.declared.record.Current.TheVariants.{Begun, Nothing}
 use Rattle.trace_lines.specs.declared.record.Reads.{Reads}
 use Rattle.trace_lines.specs.Texts.{number_text, more_text, list_text}
+
+-- a sentence in quotes
+abbrev pub sentence_text : {Z : Type 0} → String Z → List ℕ
+sentence_text sentence = codes "\"" ++ (string_bytes sentence ++ codes "\"")
 
 -- a list of numbers
 abbrev pub numbers_text : List ℕ → List ℕ

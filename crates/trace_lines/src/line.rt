@@ -1,9 +1,9 @@
 //! The lines of a trace.
 ghost use Rattle.std.specs.Prelude.{◌≡◌, ◌++◌, IfOk, OnOk, string_bytes};
-ghost use Rattle.trace_lines.specs.Records.{changes_text, cycle_text, head_text, objects_text, record_text, sets_text, words_text};
+ghost use Rattle.trace_lines.specs.Records.{changes_text, collector_text, cycle_text, head_text, objection_text, objects_text, record_text, refused_text, sets_text, words_text};
 
 use crate::keys::{put_any, put_key, put_some};
-use crate::record::{CycleChanges, ObjectChanges, Record, SetChanges, WordChanges};
+use crate::record::{CycleChanges, ObjectChanges, Objection, Record, SetChanges, WordChanges};
 use crate::shown::Shown;
 use std::alloc::{AllocError, Global};
 
@@ -85,19 +85,69 @@ pub fn record_line(
     Ok(line)
 }
 
-/// The first line of a trace, without a newline: what it is of, how many pages the heap has, and how many records
-/// follow. The title may have no character that JSON would write otherwise.
+// Puts behind a text what is said against a line.
+fn put_objection(
+    behind: &mut String,
+    alloc: Global,
+    objection: &Objection,
+) -> Result<(), AllocError>
+    ensures { OnOk result (string_bytes behind.new ≡ string_bytes behind.old ++ objection_text objection.now) }
+{
+    put_key(behind, "no")?;
+    objection.line.put(behind, alloc)?;
+    put_any(behind, alloc, "says", objection.says.as_slice())?;
+    put_some(behind, alloc, "about", &objection.about)
+}
+
+/// The line of a command that is refused with its answer, and of what is said against it, without a newline. No text
+/// may have a character that JSON would write otherwise.
 ///
 /// # Errors
 /// If memory is refused.
-pub fn head_line(alloc: Global, title: &str, pages: u32, lines: u64) -> Result<String, AllocError>
-    ensures { IfOk result (λ line. string_bytes line ≡ head_text title.now pages lines) }
+pub fn refused_line(
+    alloc: Global,
+    command: &str,
+    answer: &str,
+    objection: &Objection,
+) -> Result<String, AllocError>
+    ensures { IfOk result (λ line. string_bytes line ≡ refused_text command.now answer.now objection.now) }
+{
+    let mut line = format!(in alloc; "{{\"c\":\"{command}\",\"r\":\"{answer}\"")?;
+    put_objection(&mut line, alloc, objection)?;
+    line.push_str("}")?;
+    Ok(line)
+}
+
+// Puts behind a text that nothing is said of what a collector knows, where it is so.
+fn put_collector(behind: &mut String, has_collector: bool) -> Result<(), AllocError>
+    ensures { OnOk result (string_bytes behind.new ≡ string_bytes behind.old ++ collector_text has_collector) }
+{
+    if has_collector {
+        return Ok(());
+    }
+    behind.push_str(",\"collector\":0")
+}
+
+/// The first line of a trace, without a newline: what it is of, how many pages the heap has, how many records follow,
+/// and whether they say what a collector knows. The title may have no character that JSON would write otherwise.
+///
+/// # Errors
+/// If memory is refused.
+pub fn head_line(
+    alloc: Global,
+    title: &str,
+    pages: u32,
+    lines: u64,
+    has_collector: bool,
+) -> Result<String, AllocError>
+    ensures { IfOk result (λ line. string_bytes line ≡ head_text title.now pages lines has_collector) }
 {
     let mut line = format!(in alloc; "{{\"mpheap\":\"trace\",\"version\":1,\"title\":\"{title}\"")?;
     put_key(&mut line, "pages")?;
     u64::from(pages).put(&mut line, alloc)?;
     put_key(&mut line, "lines")?;
     lines.put(&mut line, alloc)?;
+    put_collector(&mut line, has_collector)?;
     line.push_str("}")?;
     Ok(line)
 }

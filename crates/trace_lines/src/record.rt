@@ -144,3 +144,16 @@ pub struct Record {
     pub words: WordChanges,
     pub cycle: CycleChanges,
 }
+
+/// What a checker has against a line of a run.
+#[derive(Drop)]
+pub struct Objection {
+    /// The number of the line in its file, from 1.
+    pub line: u64,
+
+    /// What it says: sentences without a character that JSON would write otherwise.
+    pub says: Vec<String>,
+
+    /// The place that it speaks of, if it speaks of one.
+    pub about: Option<u64>,
+}

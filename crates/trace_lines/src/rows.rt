@@ -20,6 +20,19 @@ impl Shown for bool {
     }
 }
 
+impl Shown for String {
+    ghost use Rattle.trace_lines.specs.Rows.{sentence_text};
+
+    ghost text = { sentence_text };
+
+    fn put(&self, behind: &mut String, alloc: Global) -> Result<(), AllocError> {
+        let _ = alloc;
+        behind.push_str("\"")?;
+        behind.push_str(self.as_str())?;
+        behind.push_str("\"")
+    }
+}
+
 impl Shown for NewObject {
     ghost use Rattle.trace_lines.specs.Rows.{new_object_text};
 

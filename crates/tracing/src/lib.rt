@@ -29,4 +29,5 @@ mod telling;
 mod tracer;
 mod truth;
 
+pub use places::place_of;
 pub use tracer::Tracer;

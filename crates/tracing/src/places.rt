@@ -7,7 +7,7 @@ use std::alloc::{AllocError, Global};
 use words::limits::{FIRST_ADDRESS, PAGE_WORDS, WORD_BYTES};
 
 /// The number of the word at an address.
-pub(crate) fn place_of(address: u64) -> u64
+pub fn place_of(address: u64) -> u64
     ensures { result ≡ word_index address }
 {
     address.saturating_sub(FIRST_ADDRESS) / WORD_BYTES

@@ -1,8 +1,7 @@
 //! A row of at most 256 bits that lies in the value itself, seen as the list of its bits.
-ghost use Rattle.std.specs.Prelude.{◌≡◌, ℕ, ◌/◌, ◌%◌, ◌==◌, ◌<◌, ◌≤◌, Bool, true, false, List, length, replicate, slice_index_or, slice_set, MatchOption, MatchBool};
-ghost use Rattle.std.specs.Int.{bit_at};
+ghost use Rattle.std.specs.Prelude.{◌≡◌, ℕ, ◌<◌, ◌≤◌, Bool, true, false, List, length, replicate, slice_index_or, slice_set, MatchOption, MatchBool};
 ghost use Rattle.words.specs.declared.limits.TheConstants.{PAGE_GRANULES};
-ghost use Rattle.words.specs.Bits.{bits, members, IsEmptyFrom, IsFirstFrom};
+ghost use Rattle.words.specs.Bits.{bits, members, Has, IsEmptyFrom, IsFirstClearFrom, IsFirstFrom, IsFullRow};
 
 use crate::count::ones_of;
 use crate::scan::first_from;
@@ -66,18 +65,20 @@ impl CellRow {
         self.words[i as usize / 64] = word & !(1 << (i as usize % 64));
     }
 
-    /// The 64 bits of the word j, the lowest bit first; those past the row are clear.
+    /// Keeps of its members those of another row.
     #[inline]
-    pub fn word(&self, j: u16) -> u64
-        requires { j < 4 }
-        ensures { (k : ℕ) → k / 64 ≡ j → slice_index_or self.now k false ≡ (bit_at result (k % 64) == 1) }
+    pub fn keep(&mut self, other: &CellRow)
+        requires { length other.now ≡ length self.old }
+        ensures size { length self.new ≡ length self.old }
+        ensures kept { (k : ℕ) → Has other.now k → slice_index_or self.new k false ≡ slice_index_or self.old k false }
+        ensures gone { (k : ℕ) → slice_index_or other.now k false ≡ false → slice_index_or self.new k false ≡ false }
     {
-        let word = self.words[j as usize];
-        let inside = self.len.saturating_sub(64 * j);
-        if inside >= 64 {
-            return word;
-        }
-        word & ((1 << inside) - 1)
+        self.words = [
+            self.words[0] & other.words[0],
+            self.words[1] & other.words[1],
+            self.words[2] & other.words[2],
+            self.words[3] & other.words[3],
+        ];
     }
 
     /// How many members it has.
@@ -93,6 +94,28 @@ impl CellRow {
         ensures { MatchBool result (IsEmptyFrom self.now 0) ((i : ℕ) × IsFirstFrom self.now 0 i) }
     {
         first_from(&self.words, true, 0) >= self.len as usize
+    }
+
+    /// The lowest place that isn't a member, and `None` exactly if each is.
+    #[inline]
+    #[tactic(auto, using(crate::proofs::Scans::of_row))]
+    pub fn first_clear(&self) -> Option<u16>
+        ensures { MatchOption result (IsFullRow self.now) (λ i. IsFirstClearFrom self.now 0 i) }
+    {
+        let clear = first_from(&self.words, false, 0);
+        if clear < self.len as usize {
+            Some(clear as u16)
+        } else {
+            None
+        }
+    }
+
+    /// Whether every bit is set.
+    #[inline]
+    pub fn is_full(&self) -> bool
+        ensures { MatchBool result (IsFullRow self.now) ((i : ℕ) × IsFirstClearFrom self.now 0 i) }
+    {
+        first_from(&self.words, false, 0) >= self.len as usize
     }
 
     /// The lowest member from `low` on.

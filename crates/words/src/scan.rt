@@ -4,6 +4,7 @@ ghost use Rattle.std.specs.Prelude.{◌^◌, ◌<◌, ◌*◌, length, MatchOpti
 ghost use Rattle.words.specs.Bits.{HasNoBit, IsFirstBit, IsFirstBitOf, IsTurned};
 
 // The word whose ones are the bits of `word` that have the value.
+#[inline]
 #[tactic(auto, using(crate::proofs::Scans::turns))]
 fn turned(word: u64, value: bool) -> u64
     ensures { IsTurned word value result }
@@ -26,6 +27,7 @@ pub fn first_in(word: u64, value: bool, low: u32) -> Option<u32>
 }
 
 // The place of the lowest bit from `low` on that has the value, or the number of all bits.
+#[inline]
 #[tactic(auto, using(crate::proofs::Scans::scans))]
 pub(crate) fn first_from(words: &[u64], value: bool, low: usize) -> usize
     requires few { length words.now < 2 ^ 32 }

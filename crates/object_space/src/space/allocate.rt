@@ -60,7 +60,7 @@ impl ObjectSpace {
         None
     }
 
-    // Takes the first free cell of a page that has one.
+    // Takes the lowest free cell of a page that has one.
     #[inline(always)]
     fn take_cell(&mut self, page: PageNo, class: Class, kind: Kind) -> u64
         requires cell { IsAvailable (state_at self.old.states page) class kind }
@@ -80,7 +80,7 @@ impl ObjectSpace {
         )
     }
 
-    // Cuts a free page, and takes its first cell.
+    // Cuts a free page, and takes its lowest cell.
     #[inline(never)]
     fn take_page(&mut self, class: Class, kind: Kind) -> Option<u64>
         requires { HasNoFreeCell self.old.states class kind }
@@ -90,7 +90,6 @@ impl ObjectSpace {
     {
         self.map.laws();
         let Some(page) = cut_page(
-            &mut self.memory,
             &mut self.pool,
             &mut self.map,
             &mut self.ready,
@@ -157,7 +156,7 @@ impl ObjectSpace {
         }
     }
 
-    // The first free cell of the lowest page for the class and the kind that needs no sweep.
+    // The lowest free cell of the lowest page for the class and the kind that needs no sweep.
     #[inline(always)]
     fn take_ready(&mut self, class: Class, kind: Kind) -> Option<u64>
         ensures room { IfSome result (λ base. HasRoomAt self.old (Placement.Small class) kind base) }

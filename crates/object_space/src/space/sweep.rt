@@ -40,7 +40,7 @@ impl ObjectSpace {
         ensures { SweepsPage self.old marks.now page self.new }
     {
         self.laws();
-        self.map.sweep(&mut self.memory, page, marks);
+        self.map.sweep(page, marks);
         let Some(block) = self.map.block(page) else {
             unreachable!();
         };

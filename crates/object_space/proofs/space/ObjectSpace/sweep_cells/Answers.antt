@@ -1,6 +1,6 @@
-use Rattle.std.proofs.Common.{◌<◌, false, length, set, refl, sym, ap, ◌∙◌, subst, arith}
+use Rattle.std.proofs.Common.{◌*◌, ◌<◌, false, length, set, refl, sym, ap, ◌∙◌, subst, arith}
+use Rattle.words.specs.declared.limits.TheConstants.{PAGE_WORDS}
 use Rattle.words.specs.Bits.{Has}
-use Rattle.block_map.proofs.Listed.{listed_span}
 use Rattle.block_map.specs.Changes.{IsSameMap, IsUncut}
 use Rattle.block_map.specs.FoundIn.{found_in}
 use Rattle.block_map.specs.States.{free, span_of, IsSpanSet}
@@ -25,10 +25,10 @@ invariant_of-self c =
         agree = agree_cells t.states c.sweep.new.self c.args.page x.old x.new x.was x.is c.sweep.ensures.states t.free c.self.invariant.sound.agree;
         used = used_cells t.states c.sweep.new.self c.args.page x.old c.in-Some.block.now x.was c.in-Some.ensures c.sweep.ensures.states c.self.invariant.sound.used first.0 first.1.member;
       };
-      listed = c.sweep.ensures.listed;
+      long = c.self.invariant.long ∙ ap (λ n. PAGE_WORDS * n) (sym (size_swept t.states c.sweep.new.self c.args.page x.old x.new x.was x.is c.sweep.ensures.states));
       exact = ready_cells t.states c.sweep.new.self c.args.page x.old x.new x.was x.is c.sweep.ensures.states _ t.pending was c.self.invariant.exact;
       awaited = waiting_cells t.states c.sweep.new.self c.args.page x.old x.new x.was x.is c.sweep.ensures.states _ t.pending x.cells.class x.cells.kind c.self.invariant.awaited;
-      pending = pending_cut t (store_of c.sweep.new.memory t.free c.sweep.new.self t.pending) c.self.invariant.pending refl
+      pending = pending_cut t (store_of t.words t.free c.sweep.new.self t.pending) c.self.invariant.pending refl
           (size_swept t.states c.sweep.new.self c.args.page x.old x.new x.was x.is c.sweep.ensures.states)
           (cut_cells t.states c.sweep.new.self c.args.page x.old x.new x.was x.is c.sweep.ensures.states);
     }
@@ -39,9 +39,9 @@ returns-then-not-is_empty c =
     let x = c.sweep.ensures.sweeps in
     rw (← c.self.view_is)
     (subst (SweepsPage t c.args.marks.now c.args.page) (sym c.settle.ensures)
-    (sweeps_cells t (store_of c.sweep.new.memory t.free c.sweep.new.self (set t.pending c.args.page false)) c.args.marks.now c.args.page c.sweep.new.self
-    (rw (← c.self.view_is) at c.laws.ensures.laid) (rw (← c.self.view_is) at c.laws.ensures.lawful) (rw (← c.self.view_is) at c.requires.inside) x c.sweep.ensures.objects
+    (sweeps_cells t (store_of t.words t.free c.sweep.new.self (set t.pending c.args.page false)) c.args.marks.now c.args.page c.sweep.new.self c.sweep.ensures.objects
     (record { same = λ w. refl })
+    refl
     (size_swept t.states c.sweep.new.self c.args.page x.old x.new x.was x.is c.sweep.ensures.states)
     refl))
 
@@ -55,14 +55,14 @@ invariant_of-self-2 c =
     let size = size_swept t.states c.sweep.new.self c.args.page x.old x.new x.was x.is c.sweep.ensures.states in
     let one : IsSpanSet c.sweep.new.self c.free_block.new.map c.args.page 1 (λ _. free) =
     subst (λ n. IsSpanSet c.sweep.new.self c.free_block.new.map c.args.page n (λ _. free)) (ap span_of c.in-Some.ensures) gone.states in
-    let mid : Store = store_of c.sweep.new.memory t.free c.sweep.new.self t.pending in
+    let mid : Store = store_of t.words t.free c.sweep.new.self t.pending in
     let waits : IsPendingRow mid = pending_cut t mid c.self.invariant.pending refl size (cut_cells t.states c.sweep.new.self c.args.page x.old x.new x.was x.is c.sweep.ensures.states) in
     record {
       sound = record {
         agree = agree_gone t.states c.sweep.new.self c.args.page x.old x.new x.was x.is c.sweep.ensures.states t.free c.free_block.new.pool c.free_block.new.map c.self.invariant.sound.agree gone.given one;
         used = used_gone t.states c.sweep.new.self c.args.page x.old x.new x.was x.is c.sweep.ensures.states t.free c.free_block.new.pool c.free_block.new.map c.self.invariant.sound.agree gone.given one c.self.invariant.sound.used;
       };
-      listed = listed_span _ c.sweep.new.self c.free_block.new.map c.args.page 1 (λ _. free) one (λ k. tt) c.sweep.ensures.listed;
+      long = c.self.invariant.long ∙ ap (λ n. PAGE_WORDS * n) (sym (one.size ∙ size));
       exact = subst (AreReady c.free_block.new.ready c.free_block.new.map) (sym gone.row)
           (exact_freed _ _ c.sweep.new.self c.free_block.new.map t.pending c.args.page c.in-Some.block.now c.in-Some.ensures _ _ c.class-class.ensures.class c.kind-kind.ensures one gone.left
           (ready_cells t.states c.sweep.new.self c.args.page x.old x.new x.was x.is c.sweep.ensures.states _ t.pending was c.self.invariant.exact));
@@ -84,8 +84,8 @@ returns c =
     let same : IsSameMap (found_in c.sweep.new.self) (found_in c.free_block.new.map) =
     subst (λ st. IsUncut c.args.page st (found_in c.sweep.new.self) (found_in c.free_block.new.map)) c.in-Some.ensures gone.uncut (no_object c.in-Some.block.now.taken (rw c.if-not-is_empty.false at c.is_empty.ensures)) in
     rw (← c.self.view_is)
-    (sweeps_cells t (store_of c.sweep.new.memory c.free_block.new.pool c.free_block.new.map c.free_block.new.pending) c.args.marks.now c.args.page c.sweep.new.self
-    (rw (← c.self.view_is) at c.laws.ensures.laid) (rw (← c.self.view_is) at c.laws.ensures.lawful) (rw (← c.self.view_is) at c.requires.inside) x c.sweep.ensures.objects
+    (sweeps_cells t (store_of t.words c.free_block.new.pool c.free_block.new.map c.free_block.new.pending) c.args.marks.now c.args.page c.sweep.new.self c.sweep.ensures.objects
     same
+    refl
     (one.size ∙ size_swept t.states c.sweep.new.self c.args.page x.old x.new x.was x.is c.sweep.ensures.states)
     gone.row)

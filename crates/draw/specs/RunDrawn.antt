@@ -1,0 +1,66 @@
+-- What is drawn of a line of a run that was written down.
+use Rattle.std.specs.Prelude.{◌≡◌, ℕ, Option, Some, None, List, ◌++◌, codes, All, String}
+use Rattle.std.specs.Option.{option_map}
+use Rattle.std.specs.declared.alloc.Global.{Global}
+use Rattle.heap_spec.specs.declared.event.Event.{Event}
+use Rattle.heap_spec.specs.declared.reply.Reply.{Reply}
+use Rattle.heap_spec.specs.Ranges.{IsWord}
+use Rattle.plain_core.specs.declared.wrongs.Wrong.{Wrong}
+use Rattle.plain_core.specs.declared.wrongs.Wrong.TheVariants.{IsMissing, StandsTwice, HasToStay, HasToGo}
+use Rattle.plain_core.specs.Standing.{word_index}
+use Rattle.replayer.specs.declared.hint.Hint.{Hint}
+use Rattle.scripts.specs.Grammar.{IsLineOf}
+use Rattle.written_runs.specs.Written.{IsAnswer, IsWritten, answer_of}
+use Rattle.trace_lines.specs.declared.record.Objection.{Objection}
+use Rattle.trace_lines.specs.declared.record.Record.{Record}
+use Rattle.trace_lines.specs.Records.{record_text, refused_text}
+use Rattle.tracing.specs.Telling.{TracerContents, IsTold}
+use Rattle.draw.specs.declared.run_line.Guess.{Guess}
+use Rattle.draw.specs.declared.run_line.Open.{Open}
+use Rattle.draw.specs.declared.run_line.Open.TheVariants.{Nothing, Place, Bases}
+
+-- what a reply leaves open has words for its numbers
+abbrev pub HasWords : Open → Type 0
+HasWords Nothing = Unit {0}
+HasWords (Place base) = IsWord base
+HasWords (Bases bases) = All IsWord bases.items
+
+-- What is guessed of a line: the event of its command, a reply to that, and what the reply leaves open.
+pub record IsGuess (command : List ℕ) (g : Guess) : Type 0 where
+  pub is_command : IsLineOf command g.event
+  pub answers : IsAnswer g.event g.reply
+  pub words : HasWords g.left
+
+-- The line is written of an event, its reply and a hint. The tracer was told these, and no core; and the text is that of
+-- the line's command, its reply, and what the tracer says is different.
+pub record IsRunDrawn (tracer : TracerContents) (line : List ℕ) (tracer' : TracerContents) (text : List ℕ) : Type 0 where
+  pub event : Event
+  pub reply : Reply
+  pub hint : Hint
+  pub is_written : IsWritten line event reply hint
+  pub changes : Record
+  pub told : IsTold tracer None event reply hint changes tracer'
+  pub whole : text ≡ record_text is_written.parts.command (answer_of reply) changes
+
+-- the base of the object of which something is wrong
+abbrev pub base_of : Wrong → ℕ
+base_of (IsMissing base) = base
+base_of (StandsTwice base) = base
+base_of (HasToStay base) = base
+base_of (HasToGo base) = base
+
+-- the place of that object
+abbrev pub place_about : Wrong → ℕ
+place_about w = word_index (base_of w)
+
+-- The text is that of the line, cut at ` => `, with its number, what is said of it, and the place of the object of which
+-- something is wrong.
+pub record IsRefusalDrawn (number : ℕ) (line : List ℕ) (says : List (String Global)) (wrong : Option Wrong) (text : List ℕ) : Type 0 where
+  pub command : List ℕ
+  pub answer : List ℕ
+  pub is_line : line ≡ command ++ (codes " => " ++ answer)
+  pub objection : Objection
+  pub numbered : objection.line ≡ number
+  pub said : objection.says.items ≡ says
+  pub about : objection.about ≡ option_map place_about wrong
+  pub whole : text ≡ refused_text command answer objection

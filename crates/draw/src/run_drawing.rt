@@ -1,0 +1,114 @@
+//! A run that was written down: what is drawn of each of its lines, and of the first that the checker refuses.
+ghost use Rattle.std.specs.Prelude.{◌≡◌, IfOk, string_bytes};
+ghost use Rattle.std.specs.Option.{option_map};
+ghost use Rattle.draw.specs.RunDrawn.{IsRefusalDrawn, IsRunDrawn, place_about};
+
+use crate::run_line::{guessed, parted};
+use plain_core::Wrong;
+use programs::Fault;
+use std::alloc::{AllocError, Global};
+use trace_lines::{Objection, record_line, refused_line};
+use tracing::{Tracer, place_of};
+use written_runs::{Judgement, Rule, line_text, reply_text, wrong_text};
+
+/// The record of a line that the checker takes, which has this number in its file.
+pub(crate) fn run_written(
+    alloc: Global,
+    tracer: &mut Tracer,
+    number: u64,
+    line: &str,
+) -> Result<String, Fault>
+    ensures { IfOk result (λ text. IsRunDrawn tracer.old line.now tracer.new (string_bytes text)) }
+{
+    let Some((asked, answer)) = parted(line) else {
+        return Err(Fault::BadLine(number));
+    };
+    let Ok(guess) = guessed(alloc, asked, answer) else {
+        return Err(Fault::Memory);
+    };
+    let Some(guess) = guess else {
+        return Err(Fault::BadLine(number));
+    };
+    let hint = guess.left.hint();
+    let Ok(written) = line_text(alloc, asked, &guess.reply, hint) else {
+        return Err(Fault::Memory);
+    };
+    if written.as_str() != line {
+        return Err(Fault::BadLine(number));
+    }
+    // The checker took this line already.
+    let Ok(Some(changes)) = tracer.tell(None, &guess.event, &guess.reply, hint) else {
+        return Err(Fault::Memory);
+    };
+    let Ok(said) = reply_text(alloc, &guess.reply) else {
+        return Err(Fault::Memory);
+    };
+    match record_line(alloc, asked, said.as_str(), &changes) {
+        Ok(record) => Ok(record),
+        Err(_) => Err(Fault::Memory),
+    }
+}
+
+/// What the checker says of a line that breaks this rule: the sentences that `replay` prints.
+pub(crate) fn sentences(
+    alloc: Global,
+    rule: Rule,
+    judgement: &Judgement,
+) -> Result<Vec<String>, AllocError> {
+    let mut said = Vec::new(alloc);
+    said.push(format!(in alloc; "{}", rule.text())?)?;
+    if let Some(reply) = judgement.expected {
+        let reply = reply_text(alloc, &reply)?;
+        said.push(format!(in alloc; "a sequential heap answers {reply}")?)?;
+    }
+    if let Some(wrong) = judgement.wrong {
+        said.push(wrong_text(alloc, &wrong, judgement.keeper)?)?;
+    }
+    Ok(said)
+}
+
+// The place of the object that was forgotten or kept wrongly.
+fn place_of_wrong(wrong: Wrong) -> u64
+    ensures { result ≡ place_about wrong }
+{
+    match wrong {
+        Wrong::IsMissing(base)
+        | Wrong::StandsTwice(base)
+        | Wrong::HasToStay(base)
+        | Wrong::HasToGo(base) => place_of(base),
+    }
+}
+
+// The place that a judgement speaks of.
+fn place_judged(judgement: &Judgement) -> Option<u64>
+    ensures { result ≡ option_map place_about judgement.now.wrong }
+{
+    match judgement.wrong {
+        Some(wrong) => Some(place_of_wrong(wrong)),
+        None => None,
+    }
+}
+
+/// The record of a line that the checker refuses with these sentences, which has this number in its file.
+pub(crate) fn refusal_written(
+    alloc: Global,
+    number: u64,
+    line: &str,
+    says: Vec<String>,
+    judgement: &Judgement,
+) -> Result<String, Fault>
+    ensures { IfOk result (λ text. IsRefusalDrawn number line.now says.items judgement.now.wrong (string_bytes text)) }
+{
+    let Some((asked, answer)) = parted(line) else {
+        return Err(Fault::BadLine(number));
+    };
+    let objection = Objection {
+        line: number,
+        says,
+        about: place_judged(judgement),
+    };
+    match refused_line(alloc, asked, answer, &objection) {
+        Ok(record) => Ok(record),
+        Err(_) => Err(Fault::Memory),
+    }
+}

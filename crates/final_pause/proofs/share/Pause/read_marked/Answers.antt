@@ -1,0 +1,64 @@
+use Rattle.std.proofs.Common.{◌≡◌, ℕ, ◌+◌, ◌*◌, ◌<◌, length, ap, arith}
+use Rattle.std.specs.Int.{trailing_zeros, w64}
+use Rattle.blocks.proofs.Rests.{rest_all, rest_first, rest_more, rest_none}
+use Rattle.mark_bits.specs.Tables.{view}
+use Rattle.marker.proofs.Rereading.{mark_at, no_mark}
+use Rattle.final_pause.proofs.Marked.{marks_len, bits_of_marks, objects_none, objects_append, objects_next}
+use Rattle.final_pause.proofs.Serving.{serves_refl, serves_trans}
+use Rattle.final_pause.proofs.share.Pause.read_marked.Goals as goal
+
+pub bounds-as_words-j : goal.bounds-as_words-j
+bounds-as_words-j g c =
+    let size = c.as_words.ensures.size in let same : length c.mark_row.result.now ≡ length c.args.self.now.marker.now.marks = ap length c.mark_row.ensures in
+    let marks = marks_len c.args.self.now c.requires.serving.fits.ready in let on = c.requires.on in let high = on.1 in let inside = c.requires.inside in
+    omega arith
+
+pub loop-rest-init : goal.loop-rest-init
+loop-rest-init g c =
+    let p = c.args.self.now in let h = c.args.helper.now in (
+      serves_refl p h c.requires.serving,
+      0,
+      rest_all _,
+      objects_none p c.requires.serving.fits.ready.map (view h.claimer) h.carried (64 * c.args.j) (64 * c.args.j + 0) (λ k from below. absurd (omega arith)),
+    )
+
+pub read_at-requires-clause-on : goal.read_at-requires-clause-on
+read_at-requires-clause-on g c κs within =
+    let i = c.loop-rest.invariant in let some : 0 < c.loop-rest.rest = (let ne = c.loop-rest-test.true in omega arith) in
+    let first = rest_first _ _ _ i.2 some (omega arith) in let inside = first.inside in let on = c.requires.on in let low = on.0 in let high = on.1 in
+    (omega arith, omega arith)
+
+pub read_at-requires-clause-marked : goal.read_at-requires-clause-marked
+read_at-requires-clause-marked g c κs within =
+    let p = c.args.self.now in let i = c.loop-rest.invariant in let some : 0 < c.loop-rest.rest = (let ne = c.loop-rest-test.true in omega arith) in
+    let first = rest_first _ _ _ i.2 some (omega arith) in
+    mark_at p.marker.now.marks _ c.args.j _
+    (bits_of_marks p c.requires.serving.fits.ready c.mark_row.result.now c.as_words.result.now c.args.page c.args.j c.mark_row.ensures c.as_words.ensures.bits c.requires.inside c.requires.on.1)
+    first.inside first.here
+
+pub loop-rest-preserved : goal.loop-rest-preserved
+loop-rest-preserved g c =
+    let p = c.args.self.now in let map = c.requires.serving.fits.ready.map in let i = c.loop-rest.invariant in let e = c.read_at.ensures in
+    let h = c.loop-rest.helper in let h' = c.read_at.new.helper in
+    let some : 0 < c.loop-rest.rest = (let ne = c.loop-rest-test.true in omega arith) in
+    let first = rest_first _ _ _ i.2 some (omega arith) in let inside = first.inside in
+    let t : ℕ = trailing_zeros w64 c.loop-rest.rest in (
+      serves_trans p c.args.helper.now h h' i.0 e.serves,
+      t + 1,
+      rest_more _ _ _ i.2 some (omega arith),
+      objects_next p map (view h.claimer) (view h'.claimer) h.carried h'.carried e.serves.learns.known e.serves.carried (64 * c.args.j) (64 * c.args.j + i.1) (64 * c.args.j + t) (64 * c.args.j + (t + 1)) (omega arith)
+          (no_mark p.marker.now.marks _ c.args.j i.1 t
+          (bits_of_marks p c.requires.serving.fits.ready c.mark_row.result.now c.as_words.result.now c.args.page c.args.j c.mark_row.ensures c.as_words.ensures.bits c.requires.inside c.requires.on.1)
+          (omega arith) first.least)
+          i.3 e.read,
+    )
+
+pub returns-clause-read : goal.returns-clause-read
+returns-clause-read g c =
+    let p = c.args.self.now in let map = c.requires.serving.fits.ready.map in let i = c.loop-rest.invariant in let h = c.loop-rest.helper in
+    let none = rest_none _ _ _ c.loop-rest-test.false i.2 in let few = i.2.few in
+    objects_append p map (view h.claimer) h.carried (64 * c.args.j) (64 * c.args.j + i.1) (64 * (c.args.j + 1)) i.3
+    (objects_none p map (view h.claimer) h.carried (64 * c.args.j + i.1) (64 * (c.args.j + 1))
+    (λ k from below. no_mark p.marker.now.marks _ c.args.j i.1 64
+    (bits_of_marks p c.requires.serving.fits.ready c.mark_row.result.now c.as_words.result.now c.args.page c.args.j c.mark_row.ensures c.as_words.ensures.bits c.requires.inside c.requires.on.1)
+    (omega arith) none.none k from (omega arith)))

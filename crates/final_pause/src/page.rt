@@ -1,0 +1,192 @@
+//! The dirty pages of a helper's share.
+//!
+//! A helper reads of a dirty page the objects that were marked before the helpers started: whoever wins an object after that
+//! sees to its words himself, wherever it lies. So the marks that are asked here are the marker's own, which nobody changes
+//! while helpers are at work, and not the table's.
+//!
+//! On a page that is cut, their bits tell where these objects begin and the page's block what they are, with no look-up and
+//! no look at any other object. On another page stands one object at most.
+ghost use Rattle.std.specs.Prelude.{◌≡◌, ◌+◌, ◌*◌, ◌%◌, ◌<◌, ◌≤◌, true, length};
+ghost use Rattle.words.specs.Bits.{Has};
+ghost use Rattle.words.specs.declared.class.Kind.TheVariants.{Normal};
+ghost use Rattle.words.specs.declared.limits.TheConstants.{PAGE_GRANULES, WORD_BYTES};
+ghost use Rattle.mark_bits.specs.Tables.{view};
+ghost use Rattle.block_map.specs.FoundIn.{found_in};
+ghost use Rattle.block_map.specs.States.{cut, state_at};
+ghost use Rattle.block_map.specs.Walks.{IsNextObject};
+ghost use Rattle.final_pause.specs.Helping.{IsReadyPause};
+ghost use Rattle.final_pause.specs.Serving.{IsServing, GoesOnServing, AreOffered, AreWordsRead, AreObjectsRead, IsPageRead, ArePagesRead};
+
+use crate::gate::Gate;
+use crate::helper::Helper;
+use crate::offer::{Offer, Offering};
+use crate::share::Pause;
+use block_map::{Found, object_from};
+use blocks::Block;
+use marker::part_between;
+use words::limits::{FIRST_ADDRESS, GRANULE_BYTES, PAGE_BYTES, PAGE_GRANULES};
+use words::{Kind, PageNo, page_start};
+
+// The words of 64 mark bits that a page has.
+const MARK_WORDS: usize = (PAGE_GRANULES / 64) as usize;
+
+impl<'a> Pause<'a> {
+    // Reads the words of the next object on a page that stand between two addresses, if it was a marked Normal one before
+    // the helpers started. Answers the first address past them.
+    fn read_part<G: Gate>(
+        &self,
+        gate: &G,
+        helper: &mut Helper,
+        found: Found,
+        low: u64,
+        high: u64,
+    ) -> u64
+        requires serving { IsServing self.now helper.old }
+        requires next { IsNextObject (found_in self.now.map.now) low high found }
+        requires low { low % WORD_BYTES ≡ 0 }
+        requires high { high % WORD_BYTES ≡ 0 }
+        ensures serves { GoesOnServing self.now helper.old helper.new }
+        ensures read { AreWordsRead self.now (view helper.new.claimer) helper.new.carried low result }
+        ensures further { low < result }
+        ensures within { result ≤ high }
+        ensures aligned { result % WORD_BYTES ≡ 0 }
+    {
+        let part = part_between(found, low, high);
+        if found.kind == Kind::PointerFree {
+            return part.stop;
+        }
+        if !self.marker.is_marked(found.base) {
+            return part.stop;
+        }
+        self.read_words(gate, helper, found, part.first, part.count);
+        part.stop
+    }
+
+    // Reads the words on a page of all objects that were marked Normal ones before the helpers started, object by object.
+    fn read_objects<G: Gate>(&self, gate: &G, helper: &mut Helper, page: PageNo)
+        requires serving { IsServing self.now helper.old }
+        requires inside { page < length self.now.map.now }
+        ensures serves { GoesOnServing self.now helper.old helper.new }
+        ensures read { IsPageRead self.now (view helper.new.claimer) helper.new.carried page }
+    {
+        let mut address = page_start(page);
+        let end = address + PAGE_BYTES;
+        while let Some(found) = self.map.next_on_page(page, address) {
+            address = self.read_part(gate, helper, found, address, end);
+        }
+    }
+
+    // Reads the words of the object of a block that begins at a granule that was marked before the helpers started, if one
+    // does.
+    #[inline]
+    fn read_at<G: Gate>(
+        &self,
+        gate: &G,
+        helper: &mut Helper,
+        page: PageNo,
+        block: &Block,
+        granule: usize,
+    )
+        requires serving { IsServing self.now helper.old }
+        requires inside { page < length self.now.map.now }
+        requires cut { state_at self.now.map.now page ≡ cut block.now }
+        requires normal { block.now.kind ≡ Normal }
+        requires on { (PAGE_GRANULES * page ≤ granule) × (granule < PAGE_GRANULES * (page + 1)) }
+        requires marked { Has self.now.marker.now.marks granule }
+        ensures serves { GoesOnServing self.now helper.old helper.new }
+        ensures read { AreObjectsRead self.now (view helper.new.claimer) helper.new.carried granule (granule + 1) }
+    {
+        let base = FIRST_ADDRESS + GRANULE_BYTES * granule as u64;
+        let Some(found) = object_from(page, block, base) else {
+            return;
+        };
+        // The block's objects end on its page, so that all their words are read as one run.
+        self.read_run(gate, helper, found, 0, u64::from(found.len));
+    }
+
+    // Reads the words of the objects of a block that begin at the 64 granules from 64 j on and were marked before the helpers
+    // started.
+    fn read_marked<G: Gate>(
+        &self,
+        gate: &G,
+        helper: &mut Helper,
+        page: PageNo,
+        block: &Block,
+        j: usize,
+    )
+        requires serving { IsServing self.now helper.old }
+        requires inside { page < length self.now.map.now }
+        requires cut { state_at self.now.map.now page ≡ cut block.now }
+        requires normal { block.now.kind ≡ Normal }
+        requires on { (PAGE_GRANULES * page ≤ 64 * j) × (64 * (j + 1) ≤ PAGE_GRANULES * (page + 1)) }
+        ensures serves { GoesOnServing self.now helper.old helper.new }
+        ensures read { AreObjectsRead self.now (view helper.new.claimer) helper.new.carried (64 * j) (64 * (j + 1)) }
+    {
+        let marks = self.marker.mark_row().as_words()[j];
+        let mut rest = marks;
+        while rest != 0 {
+            let granule = 64 * j + rest.trailing_zeros() as usize;
+            self.read_at(gate, helper, page, block, granule);
+            rest &= rest - 1;
+        }
+    }
+
+    // Reads the words on a page that is cut of all objects that were marked Normal ones before the helpers started.
+    fn read_cells<G: Gate>(&self, gate: &G, helper: &mut Helper, page: PageNo, block: &Block)
+        requires serving { IsServing self.now helper.old }
+        requires inside { page < length self.now.map.now }
+        requires cut { state_at self.now.map.now page ≡ cut block.now }
+        ensures serves { GoesOnServing self.now helper.old helper.new }
+        ensures read { IsPageRead self.now (view helper.new.claimer) helper.new.carried page }
+    {
+        if block.kind() == Kind::PointerFree {
+            return;
+        }
+        let first = MARK_WORDS * page as usize;
+        for j in first..first + MARK_WORDS {
+            self.read_marked(gate, helper, page, block, j);
+        }
+    }
+
+    // Reads the words on a page of all objects that were marked Normal ones before the helpers started.
+    fn read_page<G: Gate>(&self, gate: &G, helper: &mut Helper, page: PageNo)
+        requires serving { IsServing self.now helper.old }
+        requires inside { page < length self.now.map.now }
+        ensures serves { GoesOnServing self.now helper.old helper.new }
+        ensures read { IsPageRead self.now (view helper.new.claimer) helper.new.carried page }
+    {
+        match self.map.block(page) {
+            Some(block) => self.read_cells(gate, helper, page, block),
+            None => self.read_objects(gate, helper, page),
+        }
+    }
+
+    // Whether the page is a dirty one of a share.
+    fn has_dirty(&self, share: usize, page: PageNo) -> bool
+        requires ready { IsReadyPause self.now }
+        requires inside { page < length self.now.map.now }
+        ensures { page % self.now.helpers ≡ share → Has self.now.marker.now.dirty page → result ≡ true }
+    {
+        page as usize % self.helpers == share && self.marker.dirty_pages().is_dirty(page)
+    }
+
+    /// Reads the dirty pages of the helper's share, each with what it leads to.
+    pub(crate) fn read_pages<G: Gate, J: Offering>(
+        &self,
+        gate: &G,
+        offer: &Offer<J>,
+        helper: &mut Helper,
+    )
+        requires serving { IsServing self.now helper.old }
+        requires offered { AreOffered self.now J.offered }
+        ensures serves { GoesOnServing self.now helper.old helper.new }
+        ensures read { ArePagesRead self.now (view helper.new.claimer) helper.new.carried helper.old.share (length self.now.map.now) }
+    {
+        for page in 0..self.map.len() {
+            if self.has_dirty(helper.share, page) {
+                self.read_page(gate, helper, page);
+                self.read_stack(gate, offer, helper);
+            }
+        }
+    }
+}
