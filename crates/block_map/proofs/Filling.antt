@@ -1,5 +1,5 @@
 -- Loops over the pages of a map, seen as their states.
-use Rattle.std.proofs.Common.{◌≡◌, ℕ, ◌+◌, ◌<◌, Bool, true, false, List, [], ◌∷◌, ◌++◌, zero, suc, length, map, set, get_or, refl, sym, ap, ◌∙◌, arith, get_or-set_same}
+use Rattle.std.proofs.Common.{◌≡◌, ℕ, ◌+◌, ◌<◌, false, List, [], ◌∷◌, ◌++◌, zero, suc, length, map, set, get_or, refl, sym, ap, ◌∙◌, arith, get_or-set_same}
 use Rattle.std.specs.Prelude.{MatchBool}
 use Rattle.std.proofs.lemmas.List.{map-set, get_or-map, get_or_past, length-map, length-append}
 use Rattle.block_map.specs.declared.page.Page.{Page}

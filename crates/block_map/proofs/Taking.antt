@@ -1,5 +1,5 @@
 -- The lowest free cell of a page is taken.
-use Rattle.std.proofs.Common.{◌≡◌, ℕ, ◌<◌, Bool, true, false, List, length, set, Option, None, Some, sym, ap, ◌∙◌, subst}
+use Rattle.std.proofs.Common.{◌≡◌, ℕ, ◌<◌, true, false, List, length, set, Option, None, Some, sym, ap, ◌∙◌, subst}
 use Rattle.std.specs.Prelude.{IfNone, IfSome}
 use Rattle.words.specs.Bits.{IsFirstClearFrom}
 use Rattle.blocks.specs.Cells.{Cells}

@@ -1,5 +1,5 @@
 -- Which cells of a page are free.
-use Rattle.std.specs.Prelude.{◌≡◌, ℕ, MatchBool}
+use Rattle.std.specs.Prelude.{ℕ, MatchBool}
 use Rattle.words.specs.Bits.{IsEmptyFrom, IsFirstClearFrom, IsFirstFrom, IsFullRow}
 use Rattle.words.specs.Classes.{IsSizeClass}
 use Rattle.block_map.specs.States.{PageState, free, cut, head, body, IsBlockFor}

@@ -1,14 +1,13 @@
 -- Rows of links that change.
-use Rattle.std.proofs.Common.{◌≡◌, ◌≢◌, ℕ, suc, ◌+◌, ◌%◌, ◌<◌, ◌≤◌, ◌⊎◌, Bool, true, false, List, length, cond, [], ◌∷◌, ◌++◌, refl, sym, ap, ◌∙◌, subst, arith, inl, inr, ⊎_elim}
-use Rattle.std.specs.Prelude.{All, not, ◌==◌, ◌||◌, filter}
-use Rattle.std.specs.List.{list_any}
+use Rattle.std.proofs.Common.{◌≡◌, ℕ, ◌+◌, ◌%◌, ◌<◌, ◌≤◌, Bool, true, false, List, length, cond, [], ◌∷◌, sym, subst, arith, inl, inr}
+use Rattle.std.specs.Prelude.{not, ◌==◌, ◌||◌, filter}
 use Rattle.std.proofs.lemmas.Bool.{true≢false}
-use Rattle.std.proofs.lemmas.List.Elements.{All-filter, All-push, All-nil}
+use Rattle.std.proofs.lemmas.List.Elements.{All-filter, All-push}
 use Rattle.std.proofs.lemmas.List.{length_push}
 use Rattle.std.proofs.lemmas.List.Sums.{length-filter, count_by-le-length}
 use Rattle.words.specs.declared.limits.TheConstants.{MAX_LINKS}
 use Rattle.links.specs.declared.row.Link.{Link}
-use Rattle.links.specs.Rows.{has_at, but_at, with_link_at, IsAlignedRow, IsRow, HasRowRoom}
+use Rattle.links.specs.Rows.{has_at, but_at, with_link_at, IsRow, HasRowRoom}
 
 pub few_left : (p : Link → Bool) (ls : List Link) → length (filter p ls) ≤ length ls
 few_left p ls = subst (λ n. n ≤ length ls) (sym (length-filter p ls)) (count_by-le-length p ls)

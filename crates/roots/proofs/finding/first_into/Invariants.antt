@@ -1,4 +1,4 @@
-use Rattle.std.specs.Prelude.{All, take}
+use Rattle.std.specs.Prelude.{take}
 use Rattle.roots.specs.Finding.{AreNotInto}
 use Rattle.roots.proofs.finding.first_into.Given as goal
 
