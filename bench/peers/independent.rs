@@ -1,6 +1,9 @@
 //! A heap that shares nothing with the proved one but its limits: two bits a cell, allocated and marked. An allocation takes the lowest
 //! set bit of a word of free cells, a sweep of a page is one `and` a word of bits, a dirty page is read by its mark bits, and the mark
 //! stack grows. One thread; reading is conservative.
+#[cfg(lines)]
+pub mod calls;
+
 use crate::Heap;
 
 const PAGE: u64 = 4096;
