@@ -16,7 +16,7 @@ use std::sync::atomic::{AtomicU64, Ordering::SeqCst};
 use std::thread;
 use std::time::Instant;
 
-const PAGES: usize = 1_024;
+const PAGES: usize = 4_096;
 const ENTRIES: usize = 256;
 const LOOKS: u32 = 100_000;
 const LISTS: u64 = 64;
