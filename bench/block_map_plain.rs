@@ -16,8 +16,8 @@ use plain_row::set;
 use std::hint::black_box;
 use std::time::Instant;
 
-const PAGES: u32 = 1_024;
-const HALF: u32 = 512;
+const PAGES: u32 = 4_096;
+const HALF: u32 = 2_048;
 const WORDS: usize = 4_096;
 const ROUNDS: u32 = 200;
 

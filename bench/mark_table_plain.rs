@@ -5,7 +5,7 @@ use std::sync::atomic::{AtomicU64, Ordering::SeqCst};
 use std::thread;
 use std::time::Instant;
 
-const BITS: usize = 262_144;
+const BITS: usize = 1_048_576;
 const ROUNDS: usize = 10;
 
 fn claim_each(words: &[AtomicU64]) -> usize {

@@ -8,7 +8,7 @@ use crate::plain_map::Kind;
 use crate::plain_marker::Marker;
 use crate::plain_space::Space;
 
-const PAGES: usize = 1_024;
+const PAGES: usize = 4_096;
 const SLOTS: usize = 16;
 const REGISTERS: usize = 16;
 const STACK_WORDS: usize = 256;
