@@ -144,9 +144,10 @@ fn close_with(marker: &mut Marker, map: &[Page], memory: &[u64], roots: &[u64], 
     let (offer, busy) = (AtomicU64::new(0), AtomicU64::new(helpers as u64));
     let pause = &Pause { table: &table, map, memory, roots, helpers, offer: &offer, busy: &busy };
     thread::scope(|scope| {
-        let crew: Vec<_> = (0..helpers).map(|share| scope.spawn(move || pause.help(share))).collect();
-        for job in crew {
-            let helper = job.join().unwrap();
+        let crew: Vec<_> = (1..helpers).map(|share| scope.spawn(move || pause.help(share - 1))).collect();
+        // The last one works on this thread.
+        let last = pause.help(helpers - 1);
+        for helper in crew.into_iter().map(|job| job.join().unwrap()).chain([last]) {
             for (word, more) in marker.dirty.iter_mut().zip(helper.dirty) {
                 *word |= more;
             }
