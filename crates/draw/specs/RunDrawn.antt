@@ -53,7 +53,8 @@ abbrev pub SaysWrong : Option Wrong → List (String Global) → List (String Gl
 SaysWrong None before after = after ≡ before
 SaysWrong (Some wrong) before after = (sentence : String Global) × (after ≡ before ++ (sentence ∷ []))
 
--- What is said of a line: the rule, the reply that it had to have, and what is wrong with an object.
+-- What is said of a line: a sentence of the rule, then that of the reply which the line had to have, if it is told, and then
+-- one more, if something is wrong with an object.
 pub record AreSentences (reply : Option Reply) (wrong : Option Wrong) (says : List (String Global)) : Type 0 where
   pub rule : String Global
   pub before_wrong : List (String Global)
