@@ -99,7 +99,9 @@ class Run:
             self.links.pop(self.place((registers[at[0]] + WORD * at[1]) & MASK), None)
 
     def collect(self, behind):
-        self.leave([self.place(int(base)) for base in behind.split()[1:]])
+        """A full collection may leave out the bases of what it forgets: all that isn't reached."""
+        named = [self.place(int(base)) for base in behind.split()[1:]]
+        self.leave(named if behind else set(self.objects) - self.reached())
         self.marking, self.count, self.old = False, self.count + 1, self.births
 
     def step(self, line):

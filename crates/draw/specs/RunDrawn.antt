@@ -1,5 +1,5 @@
 -- What is drawn of a line of a run that was written down.
-use Rattle.std.specs.Prelude.{◌≡◌, ℕ, Option, Some, None, List, ◌++◌, codes, All, String}
+use Rattle.std.specs.Prelude.{◌≡◌, ℕ, Option, Some, None, List, [], ◌∷◌, ◌++◌, codes, All, String, string_bytes}
 use Rattle.std.specs.Option.{option_map}
 use Rattle.std.specs.declared.alloc.Global.{Global}
 use Rattle.heap_spec.specs.declared.event.Event.{Event}
@@ -41,6 +41,25 @@ pub record IsRunDrawn (tracer : TracerContents) (line : List ℕ) (tracer' : Tra
   pub changes : Record
   pub told : IsTold tracer None event reply hint changes tracer'
   pub whole : text ≡ record_text is_written.parts.command (answer_of reply) changes
+
+-- Behind the sentences stands that of the reply which the line had to have, if it is told.
+abbrev pub SaysReply : Option Reply → List (String Global) → List (String Global) → Type 0
+SaysReply None before after = after ≡ before
+SaysReply (Some reply) before after = (sentence : String Global)
+    × (after ≡ before ++ (sentence ∷ [])) × (string_bytes sentence ≡ codes "a sequential heap answers " ++ answer_of reply)
+
+-- Behind the sentences stands one more, if something is wrong with an object.
+abbrev pub SaysWrong : Option Wrong → List (String Global) → List (String Global) → Type 0
+SaysWrong None before after = after ≡ before
+SaysWrong (Some wrong) before after = (sentence : String Global) × (after ≡ before ++ (sentence ∷ []))
+
+-- What is said of a line: a sentence of the rule, then that of the reply which the line had to have, if it is told, and then
+-- one more, if something is wrong with an object.
+pub record AreSentences (reply : Option Reply) (wrong : Option Wrong) (says : List (String Global)) : Type 0 where
+  pub rule : String Global
+  pub before_wrong : List (String Global)
+  pub says_reply : SaysReply reply (rule ∷ []) before_wrong
+  pub says_wrong : SaysWrong wrong before_wrong says
 
 -- the base of the object of which something is wrong
 abbrev pub base_of : Wrong → ℕ

@@ -10,7 +10,9 @@
 //! different, which was told both and the core as it was then (`written`, `IsDrawn`). What is written of a line of a run
 //! is the same, of the line's command and reply, where the tracer was told these, what the line says beside them, and no
 //! core (`run_written`, `IsRunDrawn`); of the line that is refused it is the line itself and what is said of it
-//! (`refusal_written`, `IsRefusalDrawn`).
+//! (`refusal_written`, `IsRefusalDrawn`): a sentence, that of the reply which it had to have, if one is told, and one more
+//! if something is wrong with an object (`sentences`, `AreSentences`). The words of the first and of the last are only
+//! tested, and so is that the line which is refused is drawn, and none behind it.
 #![tactic(auto)]
 
 ghost use Rattle.std.specs.Prelude.{◌≤◌};

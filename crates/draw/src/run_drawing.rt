@@ -1,10 +1,11 @@
 //! A run that was written down: what is drawn of each of its lines, and of the first that the checker refuses.
-ghost use Rattle.std.specs.Prelude.{◌≡◌, IfOk, string_bytes};
+ghost use Rattle.std.specs.Prelude.{◌≡◌, IfOk, OnOk, string_bytes};
 ghost use Rattle.std.specs.Option.{option_map};
-ghost use Rattle.draw.specs.RunDrawn.{IsRefusalDrawn, IsRunDrawn, place_about};
+ghost use Rattle.draw.specs.RunDrawn.{AreSentences, IsRefusalDrawn, IsRunDrawn, SaysReply, SaysWrong, place_about};
 
 use crate::run_line::{guessed, parted};
-use plain_core::Wrong;
+use heap_spec::Reply;
+use plain_core::{Keeper, Wrong};
 use programs::Fault;
 use std::alloc::{AllocError, Global};
 use trace_lines::{Objection, record_line, refused_line};
@@ -49,21 +50,49 @@ pub(crate) fn run_written(
     }
 }
 
+// Says behind sentences which reply a line had to have, if it is told.
+fn say_reply(said: &mut Vec<String>, alloc: Global, reply: Option<Reply>) -> Result<(), AllocError>
+    ensures { OnOk result (SaysReply reply said.old.items said.new.items) }
+{
+    let Some(reply) = reply else {
+        return Ok(());
+    };
+    let text = reply_text(alloc, &reply)?;
+    let sentence = format!(in alloc; "a sequential heap answers {text}")?;
+    said.push(sentence)?;
+    Ok(())
+}
+
+// Says behind sentences what is wrong with an object, if something is.
+fn say_wrong(
+    said: &mut Vec<String>,
+    alloc: Global,
+    wrong: Option<Wrong>,
+    keeper: Option<Keeper>,
+) -> Result<(), AllocError>
+    ensures { OnOk result (SaysWrong wrong said.old.items said.new.items) }
+{
+    let Some(wrong) = wrong else {
+        return Ok(());
+    };
+    let sentence = wrong_text(alloc, &wrong, keeper)?;
+    said.push(sentence)?;
+    Ok(())
+}
+
 /// What the checker says of a line that breaks this rule: the sentences that `replay` prints.
 pub(crate) fn sentences(
     alloc: Global,
     rule: Rule,
     judgement: &Judgement,
-) -> Result<Vec<String>, AllocError> {
+) -> Result<Vec<String>, AllocError>
+    ensures { IfOk result (λ said. AreSentences judgement.now.expected judgement.now.wrong said.items) }
+{
     let mut said = Vec::new(alloc);
-    said.push(format!(in alloc; "{}", rule.text())?)?;
-    if let Some(reply) = judgement.expected {
-        let reply = reply_text(alloc, &reply)?;
-        said.push(format!(in alloc; "a sequential heap answers {reply}")?)?;
-    }
-    if let Some(wrong) = judgement.wrong {
-        said.push(wrong_text(alloc, &wrong, judgement.keeper)?)?;
-    }
+    let sentence = format!(in alloc; "{}", rule.text())?;
+    said.push(sentence)?;
+    say_reply(&mut said, alloc, judgement.expected)?;
+    say_wrong(&mut said, alloc, judgement.wrong, judgement.keeper)?;
     Ok(said)
 }
 

@@ -1,11 +1,17 @@
-use Rattle.std.proofs.Common.{◌≡◌, ◌∙◌, sym, ap, rules, List, ℕ}
+use Rattle.std.proofs.Common.{◌≡◌, ◌∙◌, refl, sym, ap, Bool, true, false, not, List, ℕ}
+use Rattle.std.proofs.lemmas.Bool.{false≢true}
+use Rattle.std.proofs.lemmas.Slice.Eq.{bytes_eq-Decides}
 use Rattle.trace_lines.specs.Records.{record_text}
 use Rattle.draw.proofs.run_drawing.run_written.Goals as goal
+
+true_from_not : (b : Bool) → false ≡ not b → b ≡ true
+true_from_not true e = refl
+true_from_not false e = absurd (false≢true e)
 
 pub returns-in-Ok-record_line : goal.returns-in-Ok-record_line
 returns-in-Ok-record_line c =
     let guess = rw c.in-Some-guess.is at c.in-Ok.ensures in
-    let same : c.as_str.result.now ≡ c.args.line.now = search rules in
+    let same : c.as_str.result.now ≡ c.args.line.now = (bytes_eq-Decides _ _).0 (true_from_not _ c.if-ne.ensures) in
     record {
       event = c.in-Some-guess.guess.event;
       reply = c.in-Some-guess.guess.reply;
