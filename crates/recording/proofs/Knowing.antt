@@ -19,9 +19,9 @@ use Rattle.heap_spec.proofs.Links.{stays_by}
 use Rattle.replayer.proofs.Nexts.{any_same, without_same}
 use Rattle.heap_core.specs.CoreContents.{CoreContents}
 use Rattle.heap_core.specs.Standing.{StandsFor, objects_of}
-use Rattle.recording.specs.Sorting.{IsBase, SortsOut}
+use Rattle.kept_bases.specs.Sorting.{IsBase, SortsOut}
 use Rattle.recording.specs.Noting.{Knows}
-use Rattle.recording.proofs.Sorts.{none_equal}
+use Rattle.kept_bases.proofs.Sorts.{none_equal}
 
 -- a base of the heap
 abbrev pub Has : Heap → ℕ → Type 0

@@ -1,4 +1,3 @@
-pub mod Sorts
 pub mod Knowing
 pub mod Placing
 pub mod Lines

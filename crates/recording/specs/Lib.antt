@@ -1,3 +1,2 @@
 pub mod RecorderContents
-pub mod Sorting
 pub mod Noting

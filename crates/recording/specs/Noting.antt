@@ -24,7 +24,7 @@ use Rattle.replayer.specs.declared.hint.Hint.{Hint}
 use Rattle.replayer.specs.declared.hint.Hint.TheVariants.{Nothing, Place, Forgot}
 use Rattle.replayer.specs.Replays.{IsReplay}
 use Rattle.recording.specs.RecorderContents.{RecorderContents, Note, names_nothing, names_place, names_gone}
-use Rattle.recording.specs.Sorting.{SortsOut}
+use Rattle.kept_bases.specs.Sorting.{SortsOut}
 
 -- The bases are those of the heap's objects, each once, and no other.
 pub record Knows (bases : List ℕ) (s : Heap) : Type 0 where

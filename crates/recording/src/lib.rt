@@ -12,6 +12,5 @@
 #![tactic(auto)]
 
 mod recorder;
-mod sorting;
 
 pub use recorder::Recorder;

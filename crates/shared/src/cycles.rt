@@ -24,12 +24,12 @@ impl<J: Naming> SharedHeap<J> {
         ensures { IsGrantedByOwnEvents false J.origin me.old Begin (λ _. Done) result me.new }
     {
         let mut guard = self.lock.lock(rt);
-        let logged = &mut *guard;
-        self.log.learn(logged, &mut me.pass);
-        if logged.object().is_marking() {
+        let held = &mut *guard;
+        held.learn(&self.log, &mut me.pass);
+        if held.object().is_marking() {
             return Err(Refusal::WrongPhase);
         }
-        self.log.act(logged, &mut me.pass, &Event::Begin);
+        held.act(&self.log, &mut me.pass, &Event::Begin);
         Ok(())
     }
 
@@ -43,16 +43,16 @@ impl<J: Naming> SharedHeap<J> {
         ensures { BeginsPartialByEvents J.origin me.old result me.new }
     {
         let mut guard = self.lock.lock(rt);
-        let logged = &mut *guard;
-        self.log.learn(logged, &mut me.pass);
-        let core = logged.object();
+        let held = &mut *guard;
+        held.learn(&self.log, &mut me.pass);
+        let core = held.object();
         if core.is_marking() {
             return Err(Refusal::WrongPhase);
         }
         if core.needs_full() {
             return Err(Refusal::NeedsFull);
         }
-        self.log.act(logged, &mut me.pass, &Event::BeginPartial);
+        held.act(&self.log, &mut me.pass, &Event::BeginPartial);
         Ok(())
     }
 
@@ -61,10 +61,10 @@ impl<J: Naming> SharedHeap<J> {
         ensures { Extends J.origin me.old Collect (Count result) me.new }
     {
         let mut guard = self.lock.lock(rt);
-        let logged = &mut *guard;
-        self.log.learn(logged, &mut me.pass);
-        let _object = logged.object();
-        match self.log.act(logged, &mut me.pass, &Event::Collect) {
+        let held = &mut *guard;
+        held.learn(&self.log, &mut me.pass);
+        let _object = held.object();
+        match held.act(&self.log, &mut me.pass, &Event::Collect) {
             Reply::Count(count) => count,
             _ => unreachable!(),
         }
@@ -84,11 +84,11 @@ impl<J: Naming> SharedHeap<J> {
         ensures looks { Looks J.origin me.old me.new }
     {
         let mut guard = self.lock.lock(rt);
-        let logged = &mut *guard;
-        self.log.learn(logged, &mut me.pass);
-        logged.object().laws();
-        let answer = logged.quiet(work);
-        logged.object().laws();
+        let held = &mut *guard;
+        held.learn(&self.log, &mut me.pass);
+        held.object().laws();
+        let answer = held.quiet(work);
+        held.object().laws();
         answer
     }
 }

@@ -64,12 +64,12 @@ impl<J: Naming> SharedHeap<J> {
         ensures { IsGrantedByOwnEvents true J.origin me.old Finish Count result me.new }
     {
         let mut guard = self.lock.lock(rt);
-        let logged = &mut *guard;
-        self.log.learn(logged, &mut me.pass);
-        if !logged.object().is_marking() {
+        let held = &mut *guard;
+        held.learn(&self.log, &mut me.pass);
+        if !held.object().is_marking() {
             return Err(Refusal::WrongPhase);
         }
-        let _answer = logged.quiet_by(work);
-        count_result(self.log.act(logged, &mut me.pass, &Event::Finish))
+        let _answer = held.quiet_by(work);
+        count_result(held.act(&self.log, &mut me.pass, &Event::Finish))
     }
 }

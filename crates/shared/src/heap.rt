@@ -4,12 +4,15 @@ ghost use Rattle.words.specs.declared.limits.TheConstants.{SLOTS};
 ghost use Rattle.words.specs.declared.refusal.Refusal.TheVariants.{NoSlot};
 ghost use Rattle.heap_history.specs.Headline.{Begun, Departs, Makes};
 ghost use Rattle.heap_history.specs.Replies.{IsReplyKind};
+ghost use Rattle.shared.specs.Journals.{IsOf};
 ghost use Rattle.shared.specs.WhileAttached.{IsNoDetach};
 
+use crate::held::Held;
+use crate::journal::Journal;
 use crate::tokens::{Collector, Departed, Mutator};
 use heap_core::Core;
 use heap_spec::{Call, Event, Reply};
-use history::{Log, Logged, Naming, Opened};
+use history::{Log, Naming, Opened};
 use std::sync::{Mutex, Wait};
 use words::Refusal;
 
@@ -17,7 +20,7 @@ use words::Refusal;
 #[derive(Drop)]
 pub struct SharedHeap<J: Naming> {
     pub(crate) log: Log<Core, J>,
-    pub(crate) lock: Mutex<Logged<Core, J>>,
+    pub(crate) lock: Mutex<Held<J>>,
 }
 
 impl<J: Naming> SharedHeap<J> {
@@ -27,8 +30,20 @@ impl<J: Naming> SharedHeap<J> {
         requires pages { opened.origin ≡ J.origin }
         ensures { result.1 ≡ record { slot = SLOTS; seen = []; mine = [] } }
     {
+        SharedHeap::with_journal(opened, Journal::Off)
+    }
+
+    /// As [`SharedHeap::named`], with a journal of an empty history: [`Journal::Off`], or a new one, in which each event is written down at
+    /// the hold of the lock that makes the event, until [`SharedHeap::take_journal`]. A call then takes memory for its entry; where
+    /// that is refused the journal is lost, and the call goes on.
+    pub fn with_journal(opened: Opened<Core>, journal: Journal) -> (SharedHeap<J>, Collector<J>)
+        requires table { opened.table ≡ J.table }
+        requires pages { opened.origin ≡ J.origin }
+        requires journal { IsOf journal [] }
+        ensures { result.1 ≡ record { slot = SLOTS; seen = []; mine = [] } }
+    {
         let (log, logged, pass) = opened.named::<J>();
-        let lock = Mutex::new(logged);
+        let lock = Mutex::new(Held::new(logged, journal));
         (SharedHeap { log, lock }, Collector { pass })
     }
 
@@ -40,11 +55,11 @@ impl<J: Naming> SharedHeap<J> {
         ensures { MatchResult result (λ m. Begun J.origin m) (λ refusal. refusal ≡ NoSlot) }
     {
         let mut guard = self.lock.lock(rt);
-        let logged = &mut *guard;
-        let Some(slot) = logged.object().vacant() else {
+        let held = &mut *guard;
+        let Some(slot) = held.object().vacant() else {
             return Err(Refusal::NoSlot);
         };
-        let (pass, _reply) = self.log.first(logged, slot.number(), &Event::Attach);
+        let (pass, _reply) = held.first(&self.log, slot.number(), &Event::Attach);
         Ok(Mutator { slot, pass })
     }
 
@@ -60,12 +75,12 @@ impl<J: Naming> SharedHeap<J> {
     {
         let Mutator { slot, mut pass } = me;
         let mut guard = self.lock.lock(rt);
-        let logged = &mut *guard;
+        let held = &mut *guard;
         // The history says that the slot is attached, and the core stands for where it leads.
-        self.log.learn(logged, &mut pass);
-        let _object = logged.object();
+        held.learn(&self.log, &mut pass);
+        let _object = held.object();
         let detach = Event::Mutator(slot, Call::Detach);
-        let (past, _reply) = self.log.last(logged, pass, &detach);
+        let (past, _reply) = held.last(&self.log, pass, &detach);
         Departed { slot, past }
     }
 
@@ -78,9 +93,9 @@ impl<J: Naming> SharedHeap<J> {
     {
         let event = Event::Mutator(me.slot, call);
         let mut guard = self.lock.lock(rt);
-        let logged = &mut *guard;
-        self.log.learn(logged, &mut me.pass);
-        let _object = logged.object();
-        self.log.act(logged, &mut me.pass, &event)
+        let held = &mut *guard;
+        held.learn(&self.log, &mut me.pass);
+        let _object = held.object();
+        held.act(&self.log, &mut me.pass, &event)
     }
 }

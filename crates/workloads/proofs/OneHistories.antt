@@ -18,7 +18,7 @@ use Rattle.history.proofs.Growing.{prefix_of}
 use Rattle.each_law.specs.Jobs.{HaveRun}
 use Rattle.workloads.specs.Workloads.{ActorLines}
 use Rattle.workloads.specs.Printing.{ActorReplies}
-use Rattle.workloads.specs.OneHistory.{events_of, left_by_all, AreAnswered, IsMutatorsPart, IsCollectorsPart, HaveOneHistory}
+use Rattle.workloads.specs.OneHistory.{events_of, left_by_all, AreAnswered, IsMutatorsPart, IsCollectorsPart, Explains}
 use Rattle.workloads.specs.Actors.{CommandedAll, Keeps, HasCalled, IsAttachedJob, AreAttached, AllSettled, Settled, AreReplies}
 use Rattle.workloads.specs.declared.mutator_job.MutatorJob.{MutatorJob}
 use Rattle.workloads.proofs.Collected.{answered_longer}
@@ -116,5 +116,5 @@ module _ {J R : Type 0} (pages : ℕ) (lists : ActorLines) (a b c : List (Mutato
         answers = answered_longer pages v.seen w.seen [] lists.collector replies.collector grows (answered_longer pages u.seen v.seen [] lists.collector replies.collector (prefix_of u.slot u.seen v.seen looks.seen) (subst (λ (l : List MadeEvent). AreAnswered pages u.seen l lists.collector replies.collector) none commanded.answered));
       }
 
-  pub one_history : HaveOneHistory pages lists replies
-  one_history = record { history = w.seen; legal = fine.legal; alone = All-weaker (λ (e : MadeEvent). Contains (upto (length lists.mutators)) e.who ⊎ (e.who ≡ 16)) (λ (e : MadeEvent). (e.who < length lists.mutators) ⊎ (e.who ≡ 16)) (λ e. ⊎_elim (λ c. inl (upto_below (length lists.mutators) e.who c)) (λ by. inr by)) w.seen nobody.members; size = are.size ∙ (size ∙ (ran.size ∙ attached.size)); mutators = one; collector = collectors }
+  pub explains : Explains pages w.seen lists replies
+  explains = record { legal = fine.legal; alone = All-weaker (λ (e : MadeEvent). Contains (upto (length lists.mutators)) e.who ⊎ (e.who ≡ 16)) (λ (e : MadeEvent). (e.who < length lists.mutators) ⊎ (e.who ≡ 16)) (λ e. ⊎_elim (λ c. inl (upto_below (length lists.mutators) e.who c)) (λ by. inr by)) w.seen nobody.members; size = are.size ∙ (size ∙ (ran.size ∙ attached.size)); mutators = one; collector = collectors }

@@ -7,5 +7,6 @@ pub mod Stress
 pub mod Writing
 pub mod Laws
 pub mod OneHistory
+pub mod Recorded
 pub mod Actors
 pub mod Serving

@@ -85,12 +85,16 @@ pub record IsCollectorsPart (pages : ℕ) (history : List MadeEvent) (commands :
   pub events : all_of COLLECTOR history ≡ left_by_all commands replies
   pub answers : AreAnswered pages history [] commands replies
 
--- There is one legal history of a heap of so many pages, of which each actor's lines with its replies are its part, and nobody else had a
--- part in it.
-pub record HaveOneHistory (pages : ℕ) (lists : ActorLines) (replies : ActorReplies) : Type 0 where
-  pub history : List MadeEvent
+-- This history explains the replies: it is a legal one of a heap of so many pages, of which each actor's lines with its replies are its
+-- part, and nobody else had a part in it.
+pub record Explains (pages : ℕ) (history : List MadeEvent) (lists : ActorLines) (replies : ActorReplies) : Type 0 where
   pub legal : Legal (Opens pages) StateStep history
   pub alone : All (λ (e : MadeEvent). (e.who < length lists.mutators) ⊎ (e.who ≡ COLLECTOR)) history
   pub size : length replies.mutators ≡ length lists.mutators
   pub mutators : (slot : ℕ) → slot < length lists.mutators → IsMutatorsPart history slot (slice_index_or lists.mutators slot []) (slice_index_or replies.mutators slot [])
   pub collector : IsCollectorsPart pages history lists.collector replies.collector
+
+-- There is one history that explains the replies.
+pub record HaveOneHistory (pages : ℕ) (lists : ActorLines) (replies : ActorReplies) : Type 0 where
+  pub history : List MadeEvent
+  pub explains : Explains pages history lists replies

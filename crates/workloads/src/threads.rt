@@ -1,11 +1,13 @@
 //! A workload on threads: each mutator in a thread of its own, and the collector in one more.
-ghost use Rattle.std.specs.Prelude.{◌≡◌, ◌≤◌, ◌<◌, [], All, IfSome, IfOk, length, vec_len};
+ghost use Rattle.std.specs.Prelude.{◌≡◌, ◌≤◌, ◌<◌, [], All, IfSome, IfOk, length, map, vec_len};
 ghost use Rattle.std.specs.Vec.{vec_capacity};
 ghost use Rattle.words.specs.declared.limits.TheConstants.{MAX_PAGES, SLOTS};
 ghost use Rattle.each_law.specs.Jobs.{HaveRun};
+ghost use Rattle.shared.specs.Journals.{made_of, IsOf};
 ghost use Rattle.shared.specs.WhileAttached.{IsNoDetach};
 ghost use Rattle.workloads.specs.Actors.{CanCall, HasCalled, IsAttachedJob, AreAttached, AreReplies, CanCommand, HasCommanded};
-ghost use Rattle.workloads.specs.OneHistory.{HaveOneHistory};
+ghost use Rattle.workloads.specs.OneHistory.{Explains, HaveOneHistory};
+ghost use Rattle.workloads.specs.Recorded.{IsRun};
 
 use crate::collector_job::{CollectorJob, GatedHeap, GivesCommands};
 use crate::lines::Lines;
@@ -18,7 +20,7 @@ use final_pause::{Gate, Helpers};
 use heap_core::Core;
 use heap_spec::{Call, Reply};
 use history::{Naming, Opened};
-use shared::{Collector, SharedHeap, open};
+use shared::{Collector, Entries, Journal, SharedHeap, open};
 use std::alloc::{AllocError, Global};
 use std::marker::Brand;
 use std::sync::Wait;
@@ -125,9 +127,9 @@ fn run_on<J: Naming + Send + Sync, R: Threads + Wait + Sync, G: Gate>(
     on: &GatedHeap<'_, J, R, G>,
     collector: Collector<J>,
     workload: &Workload,
-) -> Result<Replies, AllocError>
+) -> Result<(Replies, Journal), AllocError>
     requires { collector ≡ record { slot = SLOTS; seen = []; mine = [] } }
-    ensures { IfOk result (λ replies. HaveOneHistory J.origin workload.now replies) }
+    ensures { IfOk result (λ run. IsRun J.origin workload.now run.0 run.1) }
 {
     let commands = workload.commands();
     let answers = vec![in on.alloc; Reply::Done; commands.len()]?;
@@ -146,29 +148,31 @@ fn run_on<J: Naming + Send + Sync, R: Threads + Wait + Sync, G: Gate>(
     } = other;
     // A look, by which the collector's pass is known to agree with what it has seen, also where it gave no command.
     let _collections = on.heap.gc_no_of(&mut collector);
-    let came = settle(on.rt, on.heap, &mut collector, jobs.as_mut_slice());
+    let (came, journal) = settle(on.rt, on.heap, &mut collector, jobs.as_mut_slice());
     if came != workload.mutators() as u64 {
         // Another mutator came, and went or stayed: what was answered may be owed to it.
         return Err(AllocError);
     }
     take_replies(jobs, &mut replies);
-    Ok(Replies::new(replies, Lines::of(answers)))
+    Ok((Replies::new(replies, Lines::of(answers)), journal))
 }
 
-// Runs the workload on a heap that has a name.
+// Runs the workload on a heap that has a name, with this journal.
 fn run_named<J: Naming + Send + Sync, R: Threads + Wait + Sync, G: Gate>(
     rt: &R,
     alloc: Global,
     opened: Opened<Core>,
+    journal: Journal,
     workload: &Workload,
     helpers: Helpers,
     gate: &G,
-) -> Result<Replies, AllocError>
+) -> Result<(Replies, Journal), AllocError>
     requires table { opened.table ≡ J.table }
     requires pages { opened.origin ≡ J.origin }
-    ensures { IfOk result (λ replies. HaveOneHistory J.origin workload.now replies) }
+    requires journal { IsOf journal [] }
+    ensures { IfOk result (λ run. IsRun J.origin workload.now run.0 run.1) }
 {
-    let (heap, collector) = SharedHeap::<J>::named(opened);
+    let (heap, collector) = SharedHeap::<J>::with_journal(opened, journal);
     let on = GatedHeap {
         rt,
         alloc,
@@ -177,6 +181,27 @@ fn run_named<J: Naming + Send + Sync, R: Threads + Wait + Sync, G: Gate>(
         gate,
     };
     run_on(&on, collector, workload)
+}
+
+// Runs the workload on a heap of its own of so many pages, with this journal.
+fn run_with<R: Threads + Wait + Sync, G: Gate>(
+    rt: &R,
+    alloc: Global,
+    journal: Journal,
+    workload: &Workload,
+    pages: u32,
+    helpers: Helpers,
+    gate: &G,
+) -> Result<(Replies, Journal), RunError>
+    requires some { 1 ≤ pages }
+    requires most { pages ≤ MAX_PAGES }
+    requires journal { IsOf journal [] }
+    ensures { IfOk result (λ run. IsRun pages workload.now run.0 run.1) }
+{
+    let Ok(opened) = open(alloc, pages) else {
+        return Err(RunError::Memory);
+    };
+    Ok(run_named::<Brand, _, _>(rt, alloc, opened, journal, workload, helpers, gate)?)
 }
 
 /// Runs a workload on a heap of its own of so many pages: each mutator makes its calls in a thread of its own, and the collector gives
@@ -201,8 +226,31 @@ pub fn run_threads<R: Threads + Wait + Sync, G: Gate>(
     requires most { pages ≤ MAX_PAGES }
     ensures { IfOk result (λ replies. HaveOneHistory pages workload.now replies) }
 {
-    let Ok(opened) = open(alloc, pages) else {
+    let (replies, _journal) = run_with(rt, alloc, Journal::Off, workload, pages, helpers, gate)?;
+    Ok(replies)
+}
+
+/// Runs a workload as [`run_threads`] does, and answers besides the one history that explains all replies: each event as it joined the
+/// history, in its order. The mutators' last calls, after which nobody asks for anything, are not in it.
+///
+/// # Errors
+/// [`RunError::Memory`]: as there, and where memory for an entry was refused.
+pub fn run_recorded<R: Threads + Wait + Sync, G: Gate>(
+    rt: &R,
+    alloc: Global,
+    workload: &Workload,
+    pages: u32,
+    helpers: Helpers,
+    gate: &G,
+) -> Result<(Replies, Entries), RunError>
+    requires some { 1 ≤ pages }
+    requires most { pages ≤ MAX_PAGES }
+    ensures { IfOk result (λ run. Explains pages (map made_of run.1.list.items) workload.now run.0) }
+{
+    let journal = Journal::new(alloc);
+    let (replies, journal) = run_with(rt, alloc, journal, workload, pages, helpers, gate)?;
+    let Journal::On(entries) = journal else {
         return Err(RunError::Memory);
     };
-    Ok(run_named::<Brand, _, _>(rt, alloc, opened, workload, helpers, gate)?)
+    Ok((replies, entries))
 }

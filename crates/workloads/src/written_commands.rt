@@ -86,7 +86,7 @@ fn put_call(line: &mut ArrayString<LINE_BYTES>, call: Call)
 }
 
 /// Puts a command, as a line without its newline, in place of what was there.
-pub(crate) fn put_command(line: &mut ArrayString<LINE_BYTES>, command: Event)
+pub fn put_command(line: &mut ArrayString<LINE_BYTES>, command: Event)
     ensures { line.new.bytes ≡ line_of_command command }
 {
     line.clear();

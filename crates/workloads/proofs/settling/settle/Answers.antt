@@ -8,6 +8,7 @@ use Rattle.workloads.specs.declared.mutator_job.MutatorJob.{MutatorJob}
 use Rattle.history.specs.Histories.{counted_up}
 use Rattle.heap_history.specs.Alone.{attaches}
 use Rattle.heap_history.specs.Passes.{MadeEvent, IsLegalPass}
+use Rattle.shared.specs.Journals.{IsOf}
 use Rattle.workloads.specs.Actors.{Keeps}
 use Rattle.workloads.proofs.settling.settle.Goals as goal
 
@@ -75,6 +76,7 @@ loop-k-preserved g c =
           (λ ne. subst (λ (s : List MadeEvent). IsPrefix (get_or l n d).attached.seen s) (sym stays) (v.begins n d k))
           (ℕ_discrete n i);
       count = v.count ∙ ap (λ (s : List MadeEvent). counted_up (attaches s)) (sym stays);
+      kept = subst (λ (s : List MadeEvent). IsOf c.loop-k.journal s) (sym stays) v.kept;
       met = λ n d k. set_each (λ (j : MutatorJob g.row.J.Denot g.row.R.Denot). (j.attached.seen ≡ all) × IsLegalPass g.J.Naming.origin j.attached) l i x lt n d
           (λ _. (h.both, h.fine))
           (λ ne. let m = v.met n d (omega arith) in (m.0 ∙ sym stays, m.1))
@@ -85,14 +87,15 @@ loop-k-preserved g c =
 pub loop-k-init : goal.loop-k-init
 loop-k-init g c =
     let v = c.loop-i.invariant in
-    let looks = c.attaches_of-came.ensures.looks in
-    let more = prefix_of c.loop-i.collector.slot c.loop-i.collector.seen c.attaches_of-came.new.collector.seen looks.seen in record {
+    let looks = c.take_journal-came.ensures.looks in
+    let more = prefix_of c.loop-i.collector.slot c.loop-i.collector.seen c.take_journal-came.new.collector.seen looks.seen in record {
       keeps = record { slot = looks.slot ∙ v.keeps.slot; mine = looks.mine ∙ v.keeps.mine };
-      grows = prefix_trans c.args.collector.now.seen c.loop-i.collector.seen c.attaches_of-came.new.collector.seen v.grows more;
+      grows = prefix_trans c.args.collector.now.seen c.loop-i.collector.seen c.take_journal-came.new.collector.seen v.grows more;
       fine = looks.fine;
       len = v.len;
       same = v.same;
-      begins = λ n d k. prefix_trans (get_or c.loop-i.jobs n d).attached.seen c.loop-i.collector.seen c.attaches_of-came.new.collector.seen (v.seen n d (omega (arith, k, v.len))) more;
-      count = c.attaches_of-came.ensures.count;
+      begins = λ n d k. prefix_trans (get_or c.loop-i.jobs n d).attached.seen c.loop-i.collector.seen c.take_journal-came.new.collector.seen (v.seen n d (omega (arith, k, v.len))) more;
+      count = c.take_journal-came.ensures.count;
+      kept = c.take_journal-came.ensures.journal;
       met = λ n d k. absurd (omega (arith, k));
     }

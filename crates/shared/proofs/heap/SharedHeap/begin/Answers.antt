@@ -15,21 +15,21 @@ pub returns-then-is_marking : goal.returns-then-is_marking
 returns-then-is_marking g c =
     let st = c.object.ensures.stands in
     let l = c.learn.ensures in
-    let new = c.learn.new.logged in
-    let phase = phase_is new.object st.state c.me.inside.pass c.learn.new.pass c.deref_mut-logged.result.now.history new.history l.pass (ap (λ x. x.history) l.logged) c.me.invariant l.agrees.owned st.reached st.stood_for in
+    let new = c.learn.new.self in
+    let phase = phase_is new.object st.state c.me.inside.pass c.learn.new.pass c.deref_mut-held.result.now.history new.history l.pass (ap (λ x. x.history) l.same) c.me.invariant l.agrees.owned st.reached st.stood_for in
     let was = sym phase ∙ (ap (λ x. x.cycle.is_marking) (sym c.object.ensures.object) ∙ (sym c.is_marking.ensures.phase ∙ c.if-is_marking.true)) in
     subst (λ (p : HeapPass). (marks p.mine ≡ true) × (WrongPhase ≡ WrongPhase) × Looks g.J.Naming.origin p c.learn.new.pass) c.me.view_is
-    (was, refl, looked rank_of (Opens g.J.Naming.origin) StateStep c.me.inside.pass c.learn.new.pass c.deref_mut-logged.result.now.history l.before l.pass l.agrees)
+    (was, refl, looked rank_of (Opens g.J.Naming.origin) StateStep c.me.inside.pass c.learn.new.pass c.deref_mut-held.result.now.history l.before l.pass l.agrees)
 
 pub returns : goal.returns
 returns g c =
     let st = c.object.ensures.stands in
     let l = c.learn.ensures in
-    let new = c.learn.new.logged in
-    let phase = phase_is new.object st.state c.me.inside.pass c.learn.new.pass c.deref_mut-logged.result.now.history new.history l.pass (ap (λ x. x.history) l.logged) c.me.invariant l.agrees.owned st.reached st.stood_for in
+    let new = c.learn.new.self in
+    let phase = phase_is new.object st.state c.me.inside.pass c.learn.new.pass c.deref_mut-held.result.now.history new.history l.pass (ap (λ x. x.history) l.same) c.me.invariant l.agrees.owned st.reached st.stood_for in
     let was = sym phase ∙ (ap (λ x. x.cycle.is_marking) (sym c.object.ensures.object) ∙ (sym c.is_marking.ensures.phase ∙ c.if-is_marking.false)) in
     let said = (c.act.ensures.step st.state st.stood_for).1.happens.1.0 in
-    let asked = extended rank_of (Opens g.J.Naming.origin) StateStep c.me.inside.pass c.learn.new.pass c.act.new.pass c.deref_mut-logged.result.now.history c.learn.new.logged.history c.act.new.logged.history Begin c.act.result
-    l.before l.pass (ap (λ x. x.history) l.logged) c.act.ensures.history c.act.ensures.pass c.act.ensures.agrees in
+    let asked = extended rank_of (Opens g.J.Naming.origin) StateStep c.me.inside.pass c.learn.new.pass c.act.new.pass c.deref_mut-held.result.now.history c.learn.new.self.history c.act.new.self.history Begin c.act.result
+    l.before l.pass (ap (λ x. x.history) l.same) c.act.ensures.history c.act.ensures.pass c.act.ensures.agrees in
     subst (λ (p : HeapPass). (marks p.mine ≡ false) × Extends g.J.Naming.origin p Begin Done c.act.new.pass) c.me.view_is
     (was, subst (λ (r : Reply). Extends g.J.Naming.origin c.me.inside.pass Begin r c.act.new.pass) said asked)

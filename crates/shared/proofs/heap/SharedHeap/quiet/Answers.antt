@@ -11,10 +11,10 @@ pub returns-clause-gives : goal.returns-clause-gives
 returns-clause-gives g c =
     let st = c.object.ensures.stands in
     let l = c.learn.ensures in
-    let new = c.learn.new.logged in
-    let phase = phase_is new.object st.state c.me.inside.pass c.learn.new.pass c.deref_mut-logged.result.now.history new.history l.pass (ap (λ x. x.history) l.logged) c.me.invariant l.agrees.owned st.reached st.stood_for in
-    let seen = ap (λ x. x.history) l.logged ∙ sym (ap (λ (p : HeapPass). p.seen) l.pass) in
-    let lent : IsLent g.J.Naming.origin c.learn.new.pass.seen c.learn.new.logged.object c.quiet-answer.new.self.object = record {
+    let new = c.learn.new.self in
+    let phase = phase_is new.object st.state c.me.inside.pass c.learn.new.pass c.deref_mut-held.result.now.history new.history l.pass (ap (λ x. x.history) l.same) c.me.invariant l.agrees.owned st.reached st.stood_for in
+    let seen = ap (λ x. x.history) l.same ∙ sym (ap (λ (p : HeapPass). p.seen) l.pass) in
+    let lent : IsLent g.J.Naming.origin c.learn.new.pass.seen c.learn.new.self.object c.quiet-answer.new.self.object = record {
       state = st.state;
       reached = subst (λ h. Reaches (Opens g.J.Naming.origin) StateStep h st.state) seen st.reached;
       stood_for = st.stood_for;
@@ -22,4 +22,4 @@ returns-clause-gives g c =
       core = subst IsCore c.object.ensures.object c.laws.ensures;
       core_after = subst IsCore c.object-2.ensures.object c.laws-2.ensures;
     } in
-    (c.learn.new.logged.object, c.quiet-answer.new.self.object, c.quiet-answer.ensures.gives, phase ∙ ap (λ (p : HeapPass). marks p.mine) c.me.view_is, lent)
+    (c.learn.new.self.object, c.quiet-answer.new.self.object, c.quiet-answer.ensures.gives, phase ∙ ap (λ (p : HeapPass). marks p.mine) c.me.view_is, lent)

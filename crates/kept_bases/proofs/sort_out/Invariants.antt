@@ -1,6 +1,6 @@
 use Rattle.std.proofs.Common.{take}
-use Rattle.recording.specs.Sorting.{SortsOut}
-use Rattle.recording.proofs.sorting.sort_out.Given as goal
+use Rattle.kept_bases.specs.Sorting.{SortsOut}
+use Rattle.kept_bases.proofs.sort_out.Given as goal
 
 -- so far
 abbrev pub invariant-loop-base : goal.invariant-loop-base

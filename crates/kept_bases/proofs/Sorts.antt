@@ -10,7 +10,7 @@ use Rattle.std.proofs.lemmas.List.Folds.{list_any_none}
 use Rattle.std.proofs.lemmas.Map.Keys.{IsDistinct-head, IsDistinct-tail, IsDistinct-cons, IsDistinct-push}
 use Rattle.std.proofs.lemmas.Map.Made.{IsDistinct-from_count, Contains-tail}
 use Rattle.heap_core.specs.CoreContents.{CoreContents}
-use Rattle.recording.specs.Sorting.{IsBase, SortsOne, SortsOut}
+use Rattle.kept_bases.specs.Sorting.{IsBase, SortsOne, SortsOut}
 
 -- nothing is in an empty list
 pub nothing_in : {A : Type 0} (x : A) → Contains [] x → ⊥

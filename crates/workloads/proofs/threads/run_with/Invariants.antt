@@ -1,4 +1,4 @@
-use Rattle.workloads.proofs.threads.run_threads.Given as goal
+use Rattle.workloads.proofs.threads.run_with.Given as goal
 
 -- the table that was just opened
 abbrev pub ghosts-run_named : goal.ghosts-run_named

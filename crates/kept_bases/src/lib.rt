@@ -1,6 +1,12 @@
-//! Which of some objects a heap still keeps.
+//! Which of some objects a heap still keeps: who saw them born asks of each base after a collection, by calls that are no events.
+//!
+//! # What is proved
+//!
+//! `sort_out` leaves exactly the bases of those objects that the heap keeps, and the others are those that are gone (`SortsOut`).
+#![tactic(auto)]
+
 ghost use Rattle.std.specs.Prelude.{◌≡◌, IsTrue, IfOk, false, []};
-ghost use Rattle.recording.specs.Sorting.{IsBase, SortsOne, SortsOut};
+ghost use Rattle.kept_bases.specs.Sorting.{IsBase, SortsOne, SortsOut};
 
 use heap_core::Core;
 use std::alloc::{AllocError, Global};
@@ -33,7 +39,7 @@ fn sort(core: &Core, base: u64, stay: &mut Vec<u64>, gone: &mut Vec<u64>) -> Res
 ///
 /// # Errors
 /// If memory is refused; some bases may then be in neither.
-pub(crate) fn sort_out(
+pub fn sort_out(
     alloc: Global,
     core: &Core,
     bases: &mut Vec<u64>,

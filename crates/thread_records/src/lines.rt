@@ -1,0 +1,72 @@
+//! Lines of entries, to which a checker said yes.
+ghost use Rattle.std.specs.Prelude.{◌≤◌, IfOk, map, string_bytes};
+ghost use Rattle.words.specs.declared.limits.TheConstants.{MAX_PAGES};
+ghost use Rattle.heap_spec.specs.Runs.{Run, opening_start};
+ghost use Rattle.thread_records.specs.Records.{TellsNote, Writes, AreLines};
+
+use arrayvec::ArrayString;
+use replayer::{Hint, Replayer};
+use scripts::limits::LINE_BYTES;
+use shared::{Entry, Note};
+use std::alloc::Global;
+use workloads::put_command;
+use written_runs::line_text;
+
+/// Why a history can't be written down.
+#[derive(Clone, Copy, Debug, PartialEq, Eq)]
+pub enum RecordError {
+    /// The checker said no, which it never does of what threads were answered.
+    Refused,
+
+    /// Memory was refused.
+    Memory,
+}
+
+// What was noted, as a hint.
+fn hint_of(note: &Note) -> Hint<'_>
+    ensures { TellsNote note.now result }
+{
+    match note {
+        Note::Nothing => Hint::Nothing,
+        Note::Place(base) => Hint::Place(*base),
+        Note::Gone(bases) => Hint::Forgot(bases.as_slice()),
+    }
+}
+
+// The line of an entry, if the checker goes on by it.
+fn line_of(alloc: Global, replayer: &mut Replayer, entry: &Entry) -> Result<String, RecordError>
+    ensures { IfOk result (λ line. Writes replayer.old entry.now (string_bytes line) replayer.new) }
+{
+    let hint = hint_of(&entry.note);
+    if !replayer.step(&entry.call, &entry.reply, hint) {
+        return Err(RecordError::Refused);
+    }
+    let mut command = ArrayString::<LINE_BYTES>::new();
+    put_command(&mut command, entry.call);
+    let Ok(line) = line_text(alloc, command.as_str(), &entry.reply, hint) else {
+        return Err(RecordError::Memory);
+    };
+    Ok(line)
+}
+
+/// The lines of entries, of a heap of so many pages.
+///
+/// # Errors
+/// [`RecordError::Refused`] if the checker says no to an entry, and [`RecordError::Memory`] where memory is refused.
+pub fn lines_of(alloc: Global, pages: u32, entries: &[Entry]) -> Result<Vec<String>, RecordError>
+    requires some { 1 ≤ pages }
+    requires most { pages ≤ MAX_PAGES }
+    ensures { IfOk result (λ lines. (last : Run) × AreLines (opening_start pages) entries.now (map string_bytes lines.items) last) }
+{
+    let Ok(mut replayer) = Replayer::new(alloc, pages) else {
+        return Err(RecordError::Memory);
+    };
+    let mut lines = Vec::new(alloc);
+    for entry in entries {
+        let line = line_of(alloc, &mut replayer, entry)?;
+        let Ok(()) = lines.push(line) else {
+            return Err(RecordError::Memory);
+        };
+    }
+    Ok(lines)
+}
