@@ -122,7 +122,7 @@ usage_comes_first() {
     call
     is "no words: status" 2 "$status"
     has "no words: run" "mpheap run --pages N [FILE]" "$err"
-    has "no words: threads" "mpheap threads --pages N [--helpers H] FILE" "$err"
+    has "no words: threads" "mpheap threads --pages N [--helpers H] [--record RUN] FILE" "$err"
     has "no words: stress" "mpheap stress --seed S --mutators M --steps K" "$err"
     has "no words: record" "mpheap record --pages N FILE" "$err"
     has "no words: replay" "mpheap replay --pages N FILE" "$err"
@@ -215,6 +215,7 @@ wrong_words_are_told() {
     refused 2 "bad command" "'run' has no option '-p'" run -p 4
     refused 2 "bad command" "'threads' lacks its FILE" threads --pages 4
     refused 2 "bad command" "'9' is no number for '--helpers': 1 to 8, in decimal" threads --pages 4 --helpers 9 first.script
+    refused 2 "bad command" "'--record' lacks its file" threads --pages 4 first.script --record
     refused 2 "bad command" "'stress' lacks '--steps'" stress --seed 1 --mutators 2
     refused 2 "bad command" "'stress' takes no word 'x'" stress --seed 1 --mutators 2 --steps 4 x
     refused 2 "bad command" "'18446744073709551616' is no number for '--seed': 0 to 18446744073709551615, in decimal" \

@@ -9,17 +9,17 @@ most_mutators=16
 most_steps=100000
 most_seed=18446744073709551615
 
-# options_of COMMAND: its options, which all have a number.
+# options_of COMMAND: its options, which all have a number, but for --record, which has a file.
 options_of() {
     case $1 in
         run | replay | record | draw) echo pages ;;
-        threads) echo pages helpers ;;
+        threads) echo pages helpers record ;;
         stress) echo seed mutators steps ;;
     esac
 }
 
 may_lack() {
-    [ "$1" = helpers ]
+    is_in "$1" "helpers record"
 }
 
 # least_of OPTION, most_of OPTION: the range of its number.
@@ -75,7 +75,7 @@ look_at_option() {
 }
 
 look_at_number() {
-    is_number "$2" "$(least_of "$1")" "$(most_of "$1")" ||
+    [ "$1" = record ] || is_number "$2" "$(least_of "$1")" "$(most_of "$1")" ||
         bad_words "'$2' is no number for '--$1': $(least_of "$1") to $(most_of "$1"), in decimal"
     option=
 }
@@ -138,6 +138,7 @@ look_at_words() {
 
 # Says which word the command lacks, if it lacks one.
 look_for_missing() {
+    [ "$option" != record ] || bad_words "'--record' lacks its file"
     [ -z "$option" ] || bad_words "'--$option' lacks its number"
     for option in $(options_of "$command"); do
         is_in "$option" "$given" || may_lack "$option" || bad_words "'$command' lacks '--$option'"

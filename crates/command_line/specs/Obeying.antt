@@ -2,7 +2,7 @@
 use Rattle.std.specs.Prelude.{◌≡◌, ℕ, ◌+◌, ◌⊎◌, Option, List, Result, Ok, Err, ⊤}
 use Rattle.scripts.specs.declared.errors.ScriptError.{ScriptError}
 use Rattle.programs.specs.declared.fault.Fault.{Fault}
-use Rattle.programs.specs.declared.fault.Fault.TheVariants.{BadCommand, BadLine, Read, Write, Memory}
+use Rattle.programs.specs.declared.fault.Fault.TheVariants.{BadCommand, BadLine, Read, Write, WriteFile, NoRun, Memory}
 use Rattle.programs.specs.Faults.{fault_of, Ends}
 
 -- the answer of a script, or of a workload, as a command's
@@ -10,13 +10,15 @@ abbrev pub as_fault : Result ⊤ ScriptError → Result ⊤ Fault
 as_fault (Ok done) = Ok done
 as_fault (Err error) = Err (fault_of error)
 
--- how many writes failed: the one by which the command ends
+-- how many writes of the output failed: the one by which the command ends
 abbrev pub write_faults : Result ⊤ Fault → ℕ
 write_faults (Ok done) = 0
 write_faults (Err BadCommand) = 0
 write_faults (Err (BadLine n)) = 0
 write_faults (Err Read) = 0
 write_faults (Err Write) = 1
+write_faults (Err WriteFile) = 0
+write_faults (Err NoRun) = 0
 write_faults (Err Memory) = 0
 
 -- how many reads of the input had failed, and then have: at most one more, by which the command ends. A read fault may be a file's
@@ -26,6 +28,8 @@ AreReadFaults (Err BadCommand) old new = new ≡ old
 AreReadFaults (Err (BadLine n)) old new = new ≡ old
 AreReadFaults (Err Read) old new = (new ≡ old) ⊎ (new ≡ old + 1)
 AreReadFaults (Err Write) old new = new ≡ old
+AreReadFaults (Err WriteFile) old new = new ≡ old
+AreReadFaults (Err NoRun) old new = new ≡ old
 AreReadFaults (Err Memory) old new = new ≡ old
 
 module _ {A : Type 0} (faults : A → ℕ) (answer : Result ⊤ Fault) where

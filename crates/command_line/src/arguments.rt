@@ -25,12 +25,13 @@ fn run_words<'a>(alloc: Global) -> Result<Command<'a>, AllocError> {
         .arg(Arg::new(alloc, "file"))
 }
 
-// `threads --pages N [--helpers H] FILE`.
+// `threads --pages N [--helpers H] [--record FILE] FILE`.
 fn threads_words<'a>(alloc: Global) -> Result<Command<'a>, AllocError> {
     Command::new(alloc, "threads")
         .disable_help_flag(true)
         .arg(option(alloc, "pages").required(true))?
         .arg(option(alloc, "helpers"))?
+        .arg(option(alloc, "record"))?
         .arg(Arg::new(alloc, "file").required(true))
 }
 

@@ -1,7 +1,7 @@
 //! What each command does, with the numbers and the file that it is given.
-ghost use Rattle.std.specs.Prelude.{◌≡◌, ◌≤◌};
+ghost use Rattle.std.specs.Prelude.{◌≡◌, ◌≤◌, Err};
 ghost use Rattle.words.specs.declared.limits.TheConstants.{MAX_PAGES};
-ghost use Rattle.command_line.specs.Obeying.{as_fault, HasRead, HasWritten};
+ghost use Rattle.command_line.specs.Obeying.{as_fault, write_faults, HasRead, HasWritten};
 
 use crate::arguments::{helpers_given, number_given, pages_given};
 use clap::ArgMatches;
@@ -13,9 +13,10 @@ use std::fs;
 use std::rt::Files;
 use std::sync::Wait;
 use std::thread::Threads;
+use thread_records::{RecordError, run_written, text_of};
 use words::limits::SLOTS;
 use workloads::limits::MAX_STEPS;
-use workloads::{run_workload, write_stress};
+use workloads::{Workload, print_replies, run_workload, write_stress};
 
 // What ends a command, as the program's fault.
 fn faulted(answer: Result<(), ScriptError>) -> Result<(), Fault>
@@ -65,6 +66,62 @@ fn run_open<R: Threads + Wait + Sync, I: Source, O: Sink>(
     faulted(run_workload(rt, alloc, input, output, pages, helpers, &Open))
 }
 
+// Why a history isn't written down, as the program's fault.
+fn unrecorded(error: RecordError) -> Fault
+    ensures { write_faults (Err result) ≡ 0 }
+{
+    match error {
+        RecordError::Refused => Fault::NoRun,
+        RecordError::Memory => Fault::Memory,
+    }
+}
+
+// Writes lines to the file of this name, which is made anew.
+fn write_lines<F: Files>(
+    alloc: Global,
+    files: &F,
+    path: &str,
+    lines: &[String],
+) -> Result<(), Fault>
+    ensures { write_faults result ≡ 0 }
+{
+    let Ok(text) = text_of(alloc, lines) else {
+        return Err(Fault::Memory);
+    };
+    match fs::write(files, path, text.as_str()) {
+        Ok(()) => Ok(()),
+        Err(error) => Err(Fault::of_write(&error)),
+    }
+}
+
+// Runs a workload, with nobody held back, and then writes the history that its threads made to the file of this name.
+fn run_written_to<R: Files + Threads + Wait + Sync, I: Source, O: Sink>(
+    alloc: Global,
+    rt: &R,
+    input: &mut I,
+    output: &mut O,
+    pages: u32,
+    helpers: Helpers,
+    path: &str,
+) -> Result<(), Fault>
+    requires some { 1 ≤ pages }
+    requires most { pages ≤ MAX_PAGES }
+    ensures wrote { HasWritten O.faults result output.old output.new }
+{
+    let workload = match Workload::read(alloc, input) {
+        Ok(workload) => workload,
+        Err(error) => return Err(Fault::of(error)),
+    };
+    let (replies, lines) = match run_written(rt, alloc, &workload, pages, helpers, &Open) {
+        Ok(run) => run,
+        Err(error) => return Err(unrecorded(error)),
+    };
+    if let Err(error) = print_replies(&replies, pages, output) {
+        return Err(Fault::of(error));
+    }
+    write_lines(alloc, rt, path, lines.as_slice())
+}
+
 // `threads`: runs the workload in FILE.
 fn threads<R: Files + Threads + Wait + Sync, O: Sink>(
     alloc: Global,
@@ -83,7 +140,11 @@ fn threads<R: Files + Threads + Wait + Sync, O: Sink>(
         Ok(file) => file,
         Err(error) => return Err(Fault::of_read(&error)),
     };
-    run_open(alloc, rt, &mut Std::new(file), output, pages, helpers)
+    let mut input = Std::new(file);
+    let Some(record) = given.get_str("record") else {
+        return run_open(alloc, rt, &mut input, output, pages, helpers);
+    };
+    run_written_to(alloc, rt, &mut input, output, pages, helpers, record)
 }
 
 // `stress`: writes a random script.

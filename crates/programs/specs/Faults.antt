@@ -5,7 +5,7 @@ use Rattle.scripts.specs.declared.errors.ScriptError.{ScriptError}
 use Rattle.scripts.specs.declared.errors.ScriptError.TheVariants.{BadLine as LineIsBad, Read as ReadFailed, Write as WriteFailed, Memory as MemoryRefused}
 use Rattle.scripts.specs.Lines.{newline}
 use Rattle.programs.specs.declared.fault.Fault.{Fault}
-use Rattle.programs.specs.declared.fault.Fault.TheVariants.{BadCommand, BadLine, Read, Write, Memory}
+use Rattle.programs.specs.declared.fault.Fault.TheVariants.{BadCommand, BadLine, Read, Write, WriteFile, NoRun, Memory}
 
 -- what ends a script, or a workload, as the program's fault
 abbrev pub fault_of : ScriptError → Fault
@@ -20,6 +20,8 @@ status_of BadCommand = 2
 status_of (BadLine n) = 2
 status_of Read = 1
 status_of Write = 1
+status_of WriteFile = 1
+status_of NoRun = 1
 status_of Memory = 1
 
 -- the text on standard error, without its newline
@@ -28,6 +30,8 @@ fault_text BadCommand = codes "bad command"
 fault_text (BadLine n) = codes "bad line " ++ decimal n
 fault_text Read = codes "read fault"
 fault_text Write = codes "write fault"
+fault_text WriteFile = codes "write fault"
+fault_text NoRun = codes "no legal run"
 fault_text Memory = codes "no memory"
 
 -- the line on standard error

@@ -4,7 +4,7 @@ ghost use Rattle.std.specs.IoError.{error_kind};
 ghost use Rattle.std.specs.declared.io.ErrorKind.TheVariants.{OutOfMemory};
 ghost use Rattle.std.specs.Io.KnownBytes.{Appends};
 ghost use Rattle.scripts.specs.declared.limits.TheConstants.{REPLY_BYTES};
-ghost use Rattle.programs.specs.declared.fault.Fault.TheVariants.{Read, Memory};
+ghost use Rattle.programs.specs.declared.fault.Fault.TheVariants.{Read, WriteFile, Memory};
 ghost use Rattle.programs.specs.Faults.{fault_of, status_of, fault_text, fault_line};
 
 use arrayvec::ArrayString;
@@ -25,8 +25,14 @@ pub enum Fault {
     /// A read or an open failed.
     Read,
 
-    /// A write failed.
+    /// A write of the output failed.
     Write,
+
+    /// A write of a file that the words name failed.
+    WriteFile,
+
+    /// The checker says no to a history that was to be written down, which it never does of what threads were answered.
+    NoRun,
 
     /// Memory was refused.
     Memory,
@@ -57,13 +63,28 @@ impl Fault {
         }
     }
 
+    /// What a write of a file that failed is to the program: only where memory was refused it isn't a write fault.
+    pub fn of_write(error: &Error) -> Fault
+        ensures memory { error_kind error.now ≡ OutOfMemory → result ≡ Memory }
+        ensures write { (error_kind error.now ≡ OutOfMemory → ⊥) → result ≡ WriteFile }
+    {
+        if error.kind() != ErrorKind::OutOfMemory {
+            return Fault::WriteFile;
+        }
+        Fault::Memory
+    }
+
     /// The status with which the program ends.
     pub fn status(self) -> u8
         ensures { result ≡ status_of self }
     {
         match self {
             Fault::BadCommand | Fault::BadLine(_) => 2,
-            Fault::Read | Fault::Write | Fault::Memory => 1,
+            Fault::Read
+            | Fault::Write
+            | Fault::WriteFile
+            | Fault::NoRun
+            | Fault::Memory => 1,
         }
     }
 
@@ -81,7 +102,8 @@ impl Fault {
                 text.push_str(number.format(n));
             }
             Fault::Read => text.push_str("read fault"),
-            Fault::Write => text.push_str("write fault"),
+            Fault::Write | Fault::WriteFile => text.push_str("write fault"),
+            Fault::NoRun => text.push_str("no legal run"),
             Fault::Memory => text.push_str("no memory"),
         }
     }

@@ -3,7 +3,7 @@
 //! # What is proved
 //!
 //! `end` is the status of each fault, 2 for bad words and bad lines and 1 for any other, with its line told (`Ends`).
-//! `Fault::of_read` is `no memory` exactly where memory was refused, and else a read fault; `own_words` fails only with
+//! `Fault::of_read` is `no memory` exactly where memory was refused, and else a read fault, and `Fault::of_write` likewise a write fault; `own_words` fails only with
 //! refused memory or bad words.
 #![tactic(auto)]
 

@@ -1,7 +1,7 @@
 -- Lines of the entries of a journal.
-use Rattle.std.specs.Prelude.{◌≡◌, ℕ, List, [], ◌∷◌, ◌++◌, codes}
+use Rattle.std.specs.Prelude.{◌≡◌, ℕ, List, [], ◌∷◌, ◌++◌, codes, map}
 use Rattle.std.specs.Borrow.{Bor}
-use Rattle.heap_spec.specs.Runs.{Start, Run}
+use Rattle.heap_spec.specs.Runs.{Start, Run, opening_start}
 use Rattle.replayer.specs.declared.hint.Hint.{Hint}
 use Rattle.replayer.specs.declared.hint.Hint.TheVariants as hints
 use Rattle.replayer.specs.ReplayerContents.{ReplayerContents, Follows}
@@ -9,6 +9,10 @@ use Rattle.replayer.specs.Replays.{IsReplay}
 use Rattle.shared.specs.declared.journal.Entry.{Entry}
 use Rattle.shared.specs.declared.journal.Note.{Note}
 use Rattle.shared.specs.declared.journal.Note.TheVariants.{Nothing, Place, Gone}
+use Rattle.shared.specs.Journals.{made_of}
+use Rattle.workloads.specs.Workloads.{ActorLines}
+use Rattle.workloads.specs.Printing.{ActorReplies}
+use Rattle.workloads.specs.OneHistory.{Explains}
 use Rattle.workloads.specs.Stress.{line_of_command}
 use Rattle.written_runs.specs.Written.{answer_of, hint_text}
 
@@ -35,3 +39,10 @@ pub data AreLines (start : Start) : List Entry → List (List ℕ) → Run → T
   goes_on : (entries : List Entry) (lines : List (List ℕ)) (entry : Entry) (line : List ℕ) (run next : Run)
       → AreLines start entries lines run → IsLineOfEntry start run entry line next
       → AreLines start (entries ++ entry ∷ []) (lines ++ line ∷ []) next
+
+-- These are the lines of the one history that explains the replies: of a history of entries that does, there is a line of each.
+pub record AreWritten (pages : ℕ) (lists : ActorLines) (replies : ActorReplies) (lines : List (List ℕ)) : Type 0 where
+  pub entries : List Entry
+  pub explains : Explains pages (map made_of entries) lists replies
+  pub last : Run
+  pub written : AreLines (opening_start pages) entries lines last

@@ -7,4 +7,4 @@ use Rattle.thread_records.proofs.lines.lines_of.Given as goal
 
 -- so far
 abbrev pub invariant-loop-entry : goal.invariant-loop-entry
-invariant-loop-entry l = (run : Run) × AreLines (opening_start l.pages) (take l.entry-index l.entry-items) (map string_bytes l.lines.items) run × Follows l.replayer (opening_start l.pages) run
+invariant-loop-entry l = (run : Run) × AreLines (opening_start l.pages) (take l.entry-index l.entries) (map string_bytes l.lines.items) run × Follows l.replayer (opening_start l.pages) run

@@ -76,7 +76,7 @@ loop-k-preserved g c =
           (λ ne. subst (λ (s : List MadeEvent). IsPrefix (get_or l n d).attached.seen s) (sym stays) (v.begins n d k))
           (ℕ_discrete n i);
       count = v.count ∙ ap (λ (s : List MadeEvent). counted_up (attaches s)) (sym stays);
-      kept = subst (λ (s : List MadeEvent). IsOf c.loop-k.journal s) (sym stays) v.kept;
+      kept = subst (λ (s : List MadeEvent). IsOf c.take_journal-came.result.1 s) (sym stays) v.kept;
       met = λ n d k. set_each (λ (j : MutatorJob g.row.J.Denot g.row.R.Denot). (j.attached.seen ≡ all) × IsLegalPass g.J.Naming.origin j.attached) l i x lt n d
           (λ _. (h.both, h.fine))
           (λ ne. let m = v.met n d (omega arith) in (m.0 ∙ sym stays, m.1))

@@ -1,0 +1,107 @@
+#!/usr/bin/env python3
+"""Histories that threads made: random workloads are run by `threads --record`, each run is replayed, and it has to be legal, to have as
+many lines as the history must have, and to hold each actor's lines in their order with the replies that were printed. What is printed has
+to be laid out as without `--record`. It takes the proved programs that `rt ci` or `./mpheap build` left."""
+import os
+import subprocess
+import sys
+import tempfile
+
+TOP = os.path.dirname(os.path.dirname(os.path.abspath(__file__)))
+
+# Where the heap's addresses begin, and how many bytes a page has: a word that is an address is printed as `ptr`.
+BASE, PAGE = 268435456, 4096
+EVENTS = ("gc begin", "gc partial", "gc finish", "gc collect")
+SEEDS = range(1, 41)
+
+passed, failed = 0, 0
+
+
+def judge(what, is_right, seen=""):
+    global passed, failed
+    passed, failed = passed + bool(is_right), failed + (not is_right)
+    if not is_right:
+        print(f"record: {what}: {seen}", flush=True)
+
+
+def run(program, *words, status=0):
+    done = subprocess.run([os.path.join(TOP, "crates", program, "out", program), *words], stdin=subprocess.DEVNULL,
+                          capture_output=True, text=True, check=False, timeout=120)
+    judge(f"{program} {' '.join(words)}", done.returncode == status, f"status {done.returncode}, {done.stderr}")
+    return done
+
+
+def printed_replies(text):
+    """The replies of each actor, by the line that stands above them."""
+    actors = {}
+    for line in text.splitlines():
+        if line == "collector" or line.startswith("mutator "):
+            actor = actors.setdefault(line, [])
+        else:
+            actor.append(line)
+    return actors
+
+
+def wanted_lines(workload, actors):
+    """The lines that each actor has in the history, with the replies that were printed."""
+    wanted = {name: [("attach", name)] for name in actors if name != "collector"}
+    wanted["collector"] = []
+    left = {name: iter(replies) for name, replies in actors.items()}
+    for line in workload.splitlines():
+        if line == "attach":
+            continue
+        name = "collector" if line.startswith("gc") else "mutator " + line.split()[0]
+        reply = next(left[name])
+        if name != "collector" or line in EVENTS and not reply.startswith("refused"):
+            wanted[name].append((line, reply))
+    judge("each reply is a line's", all(next(rest, None) is None for rest in left.values()))
+    return wanted
+
+
+def recorded_lines(text, pages):
+    """The lines of each actor in a history, with their replies as `threads` prints them."""
+    seen = {"collector": []}
+    for line in text.splitlines():
+        command, _, answer = line.partition(" => ")
+        reply = answer.split(" @ ")[0].split(" -")[0]
+        if reply.isdigit() and BASE <= int(reply) < BASE + PAGE * pages:
+            reply = "ptr"
+        if command == "attach":
+            name = reply
+        else:
+            name = "collector" if command.startswith("gc") else "mutator " + command.split()[0]
+        seen.setdefault(name, []).append((command, reply))
+    return seen
+
+
+def one(folder, seed):
+    mutators, pages, helpers = (1, 4, 16)[seed % 3], (1, 2, 8, 64)[seed % 4], seed % 2 + 1
+    workload = run("mpheap", "stress", "--seed", str(seed), "--mutators", str(mutators), "--steps", "600").stdout
+    script, record = os.path.join(folder, "workload"), os.path.join(folder, "record")
+    with open(script, "w", encoding="ascii") as out:
+        out.write(workload)
+    words = ["threads", "--pages", str(pages), "--helpers", str(helpers)]
+    actors = printed_replies(run("mpheap", *words, "--record", record, script).stdout)
+    plain = printed_replies(run("mpheap", *words, script).stdout)
+    judge(f"seed {seed}: the same lines are answered", [(k, len(v)) for k, v in actors.items()] == [(k, len(v)) for k, v in plain.items()])
+    with open(record, encoding="ascii") as text:
+        history = text.read()
+    wanted = wanted_lines(workload, actors)
+    judge(f"seed {seed}: each actor's lines are its part", recorded_lines(history, pages) == wanted)
+    said = run("replay", "--pages", str(pages), record).stdout
+    judge(f"seed {seed}: the run is legal", said == f"legal, {sum(map(len, wanted.values()))} lines\n", said)
+    return script
+
+
+def main():
+    with tempfile.TemporaryDirectory() as folder:
+        for seed in SEEDS:
+            script = one(folder, seed)
+        for path in ("/dev/full", os.path.join(folder, "none", "record")):
+            done = run("mpheap", "threads", "--pages", "8", "--record", path, script, status=1)
+            judge(f"a history that can't be written to {path}", done.stderr == "write fault\n" and done.stdout, done.stderr)
+    print(f"record: {passed} passed, {failed} failed")
+    return failed != 0
+
+
+sys.exit(main())
