@@ -1,6 +1,7 @@
 //! What each command does, with the numbers and the file that it is given.
 ghost use Rattle.std.specs.Prelude.{◌≡◌, ◌≤◌, Err};
 ghost use Rattle.words.specs.declared.limits.TheConstants.{MAX_PAGES};
+ghost use Rattle.programs.specs.declared.fault.Fault.TheVariants.{BadCommand};
 ghost use Rattle.command_line.specs.Obeying.{as_fault, write_faults, HasRead, HasWritten};
 
 use crate::arguments::{helpers_given, number_given, pages_given};
@@ -83,7 +84,8 @@ fn write_lines<F: Files>(
     path: &str,
     lines: &[String],
 ) -> Result<(), Fault>
-    ensures { write_faults result ≡ 0 }
+    ensures none { write_faults result ≡ 0 }
+    ensures known { result ≡ Err BadCommand → ⊥ }
 {
     let Ok(text) = text_of(alloc, lines) else {
         return Err(Fault::Memory);
