@@ -80,11 +80,7 @@ impl Fault {
     {
         match self {
             Fault::BadCommand | Fault::BadLine(_) => 2,
-            Fault::Read
-            | Fault::Write
-            | Fault::WriteFile
-            | Fault::NoRun
-            | Fault::Memory => 1,
+            Fault::Read | Fault::Write | Fault::WriteFile | Fault::NoRun | Fault::Memory => 1,
         }
     }
 

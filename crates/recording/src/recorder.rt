@@ -5,9 +5,9 @@ ghost use Rattle.heap_core.specs.Following.{IsLine};
 ghost use Rattle.recording.specs.RecorderContents.{names_nothing};
 ghost use Rattle.recording.specs.Noting.{IsHint, IsNoted, KeepsSome, NotesGone, NotesWord, NotesCall, NotesEvent};
 
-use kept_bases::sort_out;
 use heap_core::Core;
 use heap_spec::{Call, Event, Reply};
+use kept_bases::sort_out;
 use replayer::Hint;
 use std::alloc::{AllocError, Global};
 use std::marker::Model;

@@ -10,6 +10,9 @@ loop-entry-init c = ([], no_lines string_bytes (opening_start c.args.pages) c.ne
 pub loop-entry-preserved : goal.loop-entry-preserved
 loop-entry-preserved c =
     let so = c.loop-entry.invariant in
-    let one = c.in_ok-line.ensures (opening_start c.args.pages) so.0 so.2 in
-    (one.0, one_more string_bytes (opening_start c.args.pages) c.args.entries.now c.loop-entry.entry-index c.entry-item.result c.loop-entry.lines.items c.push.new.self.items c.in_ok-line.line so.0 one.0
-        c.loop-entry-test.true c.entry-item.is c.in-Ok-push.ensures.items so.1 one.1, one.2)
+    let one = c.in_ok-line.ensures (opening_start c.args.pages) so.0 so.2 in (
+      one.0,
+      one_more string_bytes (opening_start c.args.pages) c.args.entries.now c.loop-entry.entry-index c.entry-item.result c.loop-entry.lines.items c.push.new.self.items c.in_ok-line.line so.0 one.0
+          c.loop-entry-test.true c.entry-item.is c.in-Ok-push.ensures.items so.1 one.1,
+      one.2,
+    )
