@@ -65,7 +65,7 @@ module _ (roots words : List ℕ) (row : List Extent) (order : List ℕ) (distin
       unled (by_earlier {before = before} {from = from} {w = w} {e = f} lt bat fat among p) =
           let unlinked = All-contains (HasNoLink words row own e) (take place order) from none (in_first place before from order lt bat) in
           All-contains (λ v. PointsInto v e.base e.length → ⊥) (links_of words f) w
-              (unlinked f fat (λ same. once_listed order distinct before place own lt (bat ∙ ap Some same) at)) among (into w p)
+          (unlinked f fat (λ same. once_listed order distinct before place own lt (bat ∙ ap Some same) at)) among (into w p)
 
 -- a word that keeps an object is a step
 word_step : (words : List ℕ) (row : List Extent) (position own : ℕ) (e : Extent) → slice_get row own ≡ Some e → (keeper : Keeper) → IsLinkAt words row own e position keeper → IsWordStep words row position own (record { keeper = keeper; base = e.base })
@@ -147,9 +147,11 @@ module _ (c : PlainContents) (sound : IsLaidOut c) (s : Heap) (h : StandsFor c s
       let kept = h.kept l.holder (in_row c.objects position l.holder l.there) in
       let read = read_at l.holder.kind (words_at c.words l.holder) is.index l.into.0 l.into.1 in
       subst (λ x. IsPath s (path ++ x ∷ []) e.base) (sym (step_is step (ByWord is.from is.index) e.base is.by (is.to ∙ ap (λ (x : Extent). x.base) same)))
-      (from_word path is.from is.index e.base (subst (IsPath s path) l.is_base before) (subst (λ b. s.objects b ≡ Some kept.0) l.is_base kept.1) (kept.2.kind ∙ read.0) o.1
-      (l.into.0, ap (λ ws. slice_get ws is.index) kept.2.words ∙ read.1,
-      subst (PointsInto l.into.0 e.base) (sym o.2) (subst (λ (x : Extent). PointsInto l.into.0 x.base x.length) same l.into.2)))
+      (from_word path is.from is.index e.base (subst (IsPath s path) l.is_base before) (subst (λ b. s.objects b ≡ Some kept.0) l.is_base kept.1) (kept.2.kind ∙ read.0) o.1 (
+        l.into.0,
+        ap (λ ws. slice_get ws is.index) kept.2.words ∙ read.1,
+        subst (PointsInto l.into.0 e.base) (sym o.2) (subst (λ (x : Extent). PointsInto l.into.0 x.base x.length) same l.into.2),
+      ))
 
   -- steps in the row are a path of the heap
   pub path_of : (path : List PathStep) (own : ℕ) (e : Extent) → slice_get c.objects own ≡ Some e → IsRowPath c.roots c.words c.objects path own → IsPath s path e.base
@@ -158,7 +160,7 @@ module _ (c : PlainContents) (sound : IsLaidOut c) (s : Heap) (h : StandsFor c s
       word_path front position own step e there is (path_of front position is.into.holder is.into.there before)
 
 module _ (c : PlainContents) (sound : IsLaidOut c) (own base : ℕ) (found : (f : Extent) × (slice_get c.objects own ≡ Some f) × (f.base ≡ base)) (order : List ℕ) (marks : List Bool) (listed : IsListOf (length c.objects) order marks)
-  (m : MarksReached (root_words_of c.roots) c.words c.objects marks) where
+    (m : MarksReached (root_words_of c.roots) c.words c.objects marks) where
   -- what isn't listed isn't reached
   pub unlisted : (Contains order own → ⊥) → (s : Heap) → StandsFor c s → Reached s base → ⊥
   unlisted none s h r =
