@@ -1,8 +1,7 @@
 -- Paths that are found by going back along the list of reached objects.
-use Rattle.std.proofs.Common.{◌≡◌, ℕ, ◌<◌, ◌≤◌, min, Bool, List, [], ◌∷◌, ◌++◌, length, get_or, take, reverse, refl, sym, ap, ◌∙◌, subst, arith, append_assoc, ⊎_elim}
-use Rattle.std.specs.Prelude.{Option, Some, None, All, Contains, slice_get}
+use Rattle.std.proofs.Common.{◌≡◌, ℕ, ◌<◌, min, Bool, List, [], ◌∷◌, ◌++◌, length, get_or, take, reverse, refl, sym, ap, ◌∙◌, subst, arith, append_assoc}
+use Rattle.std.specs.Prelude.{Some, All, Contains, slice_get}
 use Rattle.std.specs.List.{IsDistinct}
-use Rattle.std.specs.Cmp.{nat_eq_equiv}
 use Rattle.std.specs.Prelude.{nat_eq}
 use Rattle.std.proofs.lemmas.Bool.{eq-eqb, true≢false}
 use Rattle.std.proofs.lemmas.Option.{same_Some, slice_get_within, slice_get-get_or, get_or_from_slice_get}
@@ -10,9 +9,8 @@ use Rattle.std.proofs.lemmas.List.{append-nil, reverse-append, get_or-take, leng
 use Rattle.std.proofs.lemmas.List.Elements.{All-contains}
 use Rattle.std.proofs.lemmas.Map.Keys.{apart_from_distinct}
 use Rattle.heap_spec.specs.Layout.{PointsInto}
-use Rattle.heap_spec.specs.Heap.{Heap, Object}
+use Rattle.heap_spec.specs.Heap.{Heap}
 use Rattle.heap_spec.specs.Closure.{Reached}
-use Rattle.roots.specs.declared.finding.Root.{Root}
 use Rattle.roots.specs.Roots.{RootSet, root_words_of}
 use Rattle.roots.specs.Finding.{AreNotInto, RootsHave}
 use Rattle.plain_core.specs.declared.extent.Extent.{Extent}
@@ -25,7 +23,7 @@ use Rattle.plain_core.specs.Reached.{PointsIntoNth, MarksReached, links_of}
 use Rattle.plain_core.specs.Listing.{IsListOf}
 use Rattle.plain_core.specs.Discovery.{IsLedTo, by_root, by_earlier, IsDiscovered}
 use Rattle.plain_core.specs.Keepers.{roots_of, IsLinkAt, HasNoLink}
-use Rattle.plain_core.specs.Paths.{IsPath, from_root, from_word, IsRootStep, IsWordStep, IsRowPath, row_root, row_word, EndsAtRoot, GoesBack, StepsBack}
+use Rattle.plain_core.specs.Paths.{IsPath, from_root, from_word, IsRootStep, IsWordStep, IsRowPath, row_root, row_word, EndsAtRoot, GoesBack}
 use Rattle.plain_core.proofs.Objects.{object_of}
 use Rattle.plain_core.proofs.Collects.{in_row, reached_out, reached_in}
 use Rattle.plain_core.proofs.Forgets.{one_each}

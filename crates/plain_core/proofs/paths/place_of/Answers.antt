@@ -1,6 +1,6 @@
-use Rattle.std.proofs.Common.{◌≡◌, ℕ, take, refl, sym, ◌∙◌}
+use Rattle.std.proofs.Common.{◌≡◌, ℕ, take, refl, sym}
 use Rattle.std.proofs.lemmas.List.{take_all}
-use Rattle.std.proofs.lemmas.List.Elements.{All-more, All-same, All-contains}
+use Rattle.std.proofs.lemmas.List.Elements.{All-same, All-contains}
 use Rattle.plain_core.proofs.paths.place_of.Goals as goal
 
 pub returns-clause-none : goal.returns-clause-none

@@ -1,9 +1,5 @@
-use Rattle.std.proofs.Common.{◌≡◌, ◌<◌, List, length, refl, subst, sym, ◌∙◌, ap}
-use Rattle.std.specs.Prelude.{Some, Contains, slice_get}
+use Rattle.std.proofs.Common.{refl}
 use Rattle.std.proofs.lemmas.Option.{slice_get_within}
-use Rattle.plain_core.specs.declared.extent.Extent.{Extent}
-use Rattle.plain_core.specs.declared.paths.PathStep.{PathStep}
-use Rattle.plain_core.specs.Paths.{IsRowPath}
 use Rattle.plain_core.proofs.Collects.{sound_apart, all_lie, marks_are, room_for}
 use Rattle.plain_core.proofs.Pathing.{unlisted, told_path}
 use Rattle.plain_core.proofs.plain.Core.path_to.Goals as goal
