@@ -18,6 +18,7 @@ use Rattle.plain_core.specs.Flags.{IsFlagged, FlagsMarked}
 use Rattle.plain_core.specs.Listing.{IsListing}
 use Rattle.plain_core.specs.Reached.{PointsIntoNth, IsReachedNth, by_root, by_link, MarksReached}
 use Rattle.plain_core.specs.Aging.{TellOld, FlagsAll, FlagUnset, FlagsClosure, AreFlaggedBases, ListsFlagged, MarksClosure}
+use Rattle.plain_core.specs.Discovery.{IsDiscovered, DiscoversClosure}
 use Rattle.plain_core.proofs.Objects.{in_heap, extent_of, reads_base}
 use Rattle.plain_core.proofs.Lists.{nothing_in, the_one, lists_none, lists_more}
 use Rattle.plain_core.proofs.Collects.{roots_are, in_row, at_place, read_of, read_in, reads_at, points_at}
@@ -171,3 +172,6 @@ closure_are roots roots' words words' row row' aged marks marks' er ew eo em m =
 -- with no flags it is what the roots lead to
 pub closure_reached : (roots words : List ℕ) (row : List Extent) (marks : List Bool) → MarksClosure roots words row [] marks → MarksReached roots words row marks
 closure_reached roots words row marks m = subst (λ r. MarksReached r words row marks) (ap (λ b. roots ++ b) (no_flags row m.bases m.are) ∙ append-nil roots) m.marks_all
+
+pub discovered_reached : (roots words : List ℕ) (row : List Extent) (order : List ℕ) → DiscoversClosure roots words row [] order → IsDiscovered roots words row order
+discovered_reached roots words row order m = subst (λ r. IsDiscovered r words row order) (ap (λ b. roots ++ b) (no_flags row m.bases m.are) ∙ append-nil roots) m.discovered

@@ -25,7 +25,7 @@ use Rattle.plain_core.proofs.Collects.{in_row, reached_out, reached_in}
 use Rattle.plain_core.proofs.Forgets.{one_each}
 
 -- what is read of an object stands there
-read_at : (kind : Kind) (words : List ℕ) (i w : ℕ) → slice_get (read_words kind words) i ≡ Some w → (kind ≡ Normal) × (slice_get words i ≡ Some w)
+pub read_at : (kind : Kind) (words : List ℕ) (i w : ℕ) → slice_get (read_words kind words) i ≡ Some w → (kind ≡ Normal) × (slice_get words i ≡ Some w)
 read_at Normal words i w at = (refl, at)
 read_at PointerFree words i w at = absurd (none-some w at)
 

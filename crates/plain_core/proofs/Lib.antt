@@ -23,3 +23,4 @@ pub mod Flagging
 pub mod Aging
 pub mod Lowest
 pub mod Keeping
+pub mod Pathing

@@ -13,3 +13,5 @@ pub mod Flags
 pub mod Aging
 pub mod Wrongs
 pub mod Keepers
+pub mod Discovery
+pub mod Paths

@@ -1,5 +1,5 @@
 //! What keeps an object reached: a root, or a word of another object.
-ghost use Rattle.std.specs.Prelude.{◌≡◌, ◌<◌, ℕ, All, Contains, IfSome, IfNone, length, slice_get};
+ghost use Rattle.std.specs.Prelude.{◌≡◌, ◌<◌, ℕ, All, Contains, IfSome, IfNone, Some, length, slice_get};
 ghost use Rattle.plain_core.specs.Standing.{LiesIn};
 ghost use Rattle.plain_core.specs.Keepers.{IsLinkAt, HasNoLink};
 
@@ -40,22 +40,22 @@ fn link_at(
     Some(Keeper::ByWord(holder.base, index))
 }
 
-// The first word of the objects in this order that keeps the object at its own place.
+// The first word of the objects in this order that keeps the object at its own place, and the place of its object in the order.
 pub(crate) fn link_into(
     order: &[usize],
     words: &[u64],
     objects: &[Extent],
     own: usize,
     object: Extent,
-) -> Option<Keeper>
+) -> Option<(usize, Keeper)>
     requires below { (i : ℕ) → Contains order.now i → i < length objects.now }
     requires lie { All (LiesIn words.now) objects.now }
-    ensures some { IfSome result (λ keeper. (i : ℕ) × Contains order.now i × IsLinkAt words.now objects.now own object i keeper) }
+    ensures some { IfSome result (λ found. (i : ℕ) × (slice_get order.now found.0 ≡ Some i) × IsLinkAt words.now objects.now own object i found.1) }
     ensures none { IfNone result (All (HasNoLink words.now objects.now own object) order.now) }
 {
     for next in 0..order.len() {
         if let Some(keeper) = link_at(order[next], words, objects, own, object) {
-            return Some(keeper);
+            return Some((next, keeper));
         }
     }
     None

@@ -12,7 +12,7 @@
 //! root lead to; `flag_closure` those of what the roots or the old objects lead to, where `flag_all` and `unflag` keep the flags of
 //! the old ones. `wrong_collected` and `wrong_forgotten` tell the lowest of what is wrong where objects are said to be gone, if
 //! anything is (`TellsUncollected`, `TellsUnforgotten`), and change nothing. `keeper` tells of a reached object a root or a word of
-//! another reached object that points into it (`TellsKeeper`).
+//! another reached object that points into it (`TellsKeeper`), and `path_to` a path from a root to it (`TellsPath`).
 #![tactic(auto)]
 
 mod along;
@@ -24,11 +24,13 @@ mod keepers;
 mod listing;
 mod owners;
 mod parting;
+mod paths;
 mod places;
 mod plain;
 mod wrongs;
 
 pub use extent::Extent;
 pub use keepers::Keeper;
+pub use paths::PathStep;
 pub use plain::Core;
 pub use wrongs::Wrong;

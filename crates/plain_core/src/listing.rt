@@ -6,6 +6,7 @@ ghost use Rattle.plain_core.specs.Owners.{AreOwners};
 ghost use Rattle.plain_core.specs.Standing.{LiesIn};
 ghost use Rattle.plain_core.specs.Listing.{HasListRoom, IsListing, ListsAll, KeepsRoom};
 ghost use Rattle.plain_core.specs.Aging.{ListsFlagged, MarksClosure};
+ghost use Rattle.plain_core.specs.Discovery.{IsDiscovered, DiscoversClosure};
 
 use crate::extent::Extent;
 use crate::flags::is_flagged;
@@ -152,6 +153,7 @@ pub(crate) fn list_closure(
     requires within { All (LiesIn words.now) objects.now }
     ensures marks { MarksClosure roots.now words.now objects.now flags.now listing.new.marks.items }
     ensures listed { IsListing objects.now listing.new }
+    ensures discovered { DiscoversClosure roots.now words.now objects.now flags.now listing.new.order.items }
     ensures room { KeepsRoom listing.old listing.new }
 {
     clear(objects, listing);
@@ -179,6 +181,7 @@ pub(crate) fn list_reached(
     requires within { All (LiesIn words.now) objects.now }
     ensures marks { MarksReached roots.now words.now objects.now listing.new.marks.items }
     ensures listed { IsListing objects.now listing.new }
+    ensures discovered { IsDiscovered roots.now words.now objects.now listing.new.order.items }
     ensures room { KeepsRoom listing.old listing.new }
 {
     list_closure(roots, &[], words, objects, owners, listing);

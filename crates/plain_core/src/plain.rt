@@ -9,6 +9,7 @@ mod answers;
 mod collections;
 mod judging;
 mod keeping;
+mod leading;
 mod linked;
 mod looking;
 mod objects;

@@ -1,14 +1,19 @@
 -- What is wrong about the objects that a collection is said to have forgotten, from what the core tells.
 use Rattle.std.proofs.Common.{◌≡◌, ℕ, true, false, List, refl, sym, ◌∙◌}
-use Rattle.std.specs.Prelude.{Option, None}
+use Rattle.std.specs.Prelude.{Option, None, Result, Ok, Err, IfOk}
+use Rattle.std.specs.Global.{Vec}
 use Rattle.std.specs.Borrow.{Bor}
 use Rattle.std.proofs.lemmas.Bool.{true≢false}
+use Rattle.heap_spec.specs.Heap.{Heap}
 use Rattle.heap_spec.specs.Closure.{Reached}
 use Rattle.heap_spec.specs.Runs.{Start, Run, heap_after}
 use Rattle.heap_spec.specs.declared.event.Event.{Event}
 use Rattle.heap_spec.specs.declared.event.Event.TheVariants.{Attach, Mutator, Begin, BeginPartial, Roots, Mark, Retrace, Finish, Sweep, Collect, Number}
 use Rattle.plain_core.specs.declared.wrongs.Wrong.{Wrong}
 use Rattle.plain_core.specs.declared.wrongs.Wrong.TheVariants.{IsMissing, StandsTwice, HasToStay, HasToGo}
+use Rattle.plain_core.specs.declared.paths.PathStep.{PathStep}
+use Rattle.plain_core.specs.Standing.{StandsFor}
+use Rattle.plain_core.specs.Paths.{TellsPath}
 use Rattle.plain_core.specs.Flags.{IsFlagged}
 use Rattle.plain_core.specs.Wrongs.{IsWrong, TellsLowest, TellsUncollected, TellsUnforgotten}
 use Rattle.plain_core.proofs.Lowest.{alike}
@@ -65,3 +70,9 @@ silent_event start run Number hint none x h = h
 
 pub unnamed : (r : ReplayerContents) (event : Event) (hint : Hint) → ((bases : Bor (List ℕ)) → hint ≡ Forgot bases → ⊥) → TellsWrong r event hint None
 unnamed r event hint none = λ start run f x h. silent_event start run event hint (silent hint none) x h
+
+-- a path of each heap that the core stands for is one of each run
+pub path_after : {E : Type 0} (r : ReplayerContents) (base : ℕ) (result : Result (Option (Vec PathStep)) E) → IfOk result (λ path. (s : Heap) → StandsFor r.core s → TellsPath s base path)
+    → IfOk result (λ path. (start : Start) (run : Run) → Follows r start run → TellsPath (heap_after start run) base path)
+path_after r base (Ok path) told = λ start run f. told (heap_after start run) f.stands
+path_after r base (Err e) told = tt

@@ -1,7 +1,8 @@
 //! What is wrong about the objects that a collection is said to have forgotten, and what keeps one of them. The run stays where it was.
-ghost use Rattle.std.specs.Prelude.{◌≡◌};
+ghost use Rattle.std.specs.Prelude.{◌≡◌, IfOk};
 ghost use Rattle.heap_spec.specs.Runs.{Start, Run, heap_after};
 ghost use Rattle.plain_core.specs.Keepers.{TellsKeeper};
+ghost use Rattle.plain_core.specs.Paths.{TellsPath};
 ghost use Rattle.plain_core.specs.Wrongs.{TellsLowest};
 ghost use Rattle.replayer.specs.ReplayerContents.{Follows};
 ghost use Rattle.replayer.specs.Wrongs.{IsWrongFinish, IsWrongCollect, TellsWrong};
@@ -10,7 +11,8 @@ use crate::flags::wrong_forgotten;
 use crate::hint::Hint;
 use crate::replayer::Replayer;
 use heap_spec::Event;
-use plain_core::{Keeper, Wrong};
+use plain_core::{Keeper, PathStep, Wrong};
+use std::alloc::{AllocError, Global};
 
 impl Replayer {
     // What is wrong about the bases that the end of a cycle is said to have forgotten.
@@ -71,5 +73,13 @@ impl Replayer {
         ensures same { self.new ≡ self.old }
     {
         self.core.keeper(base)
+    }
+
+    /// A path from a root to the object with this base, its first step first. `None` exactly if the object isn't reached.
+    pub fn path_to(&mut self, alloc: Global, base: u64) -> Result<Option<Vec<PathStep>>, AllocError>
+        ensures path { IfOk result (λ path. (start : Start) (run : Run) → Follows self.old start run → TellsPath (heap_after start run) base path) }
+        ensures same { self.new ≡ self.old }
+    {
+        self.core.path_to(alloc, base)
     }
 }

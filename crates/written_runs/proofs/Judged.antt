@@ -1,15 +1,17 @@
 -- Runs that lines lead to.
 use Rattle.std.proofs.Common.{◌≡◌, ℕ, ◌+◌, ◌<◌, ◌≤◌, List, [], ◌∷◌, ◌++◌, length, refl, sym, ap, ◌∙◌, subst, arith, append_assoc, length-append, Bool, true, false}
 use Rattle.std.specs.Prelude.{Option, Some, None, cond, not}
+use Rattle.std.specs.Global.{Vec}
 use Rattle.std.proofs.lemmas.List.{append-nil}
 use Rattle.std.proofs.lemmas.List.Elements.{filter-append}
 use Rattle.heap_spec.specs.declared.event.Event.{Event}
 use Rattle.heap_spec.specs.declared.reply.Reply.{Reply}
-use Rattle.heap_spec.specs.Runs.{Start, Run, opening_start}
+use Rattle.heap_spec.specs.Runs.{Start, Run, opening_start, heap_after}
 use Rattle.replayer.specs.declared.hint.Hint.{Hint}
 use Rattle.replayer.specs.ReplayerContents.{ReplayerContents, Follows}
 use Rattle.replayer.specs.Replays.{IsReplay}
 use Rattle.plain_core.specs.declared.keepers.Keeper.{Keeper}
+use Rattle.plain_core.specs.declared.paths.PathStep.{PathStep}
 use Rattle.plain_core.specs.declared.wrongs.Wrong.{Wrong}
 use Rattle.scripts.specs.Lines.{newline, lines_of}
 use Rattle.scripts.proofs.Texts.{lines_of-line, lines_of-last}
@@ -17,7 +19,7 @@ use Rattle.written_runs.specs.declared.verdict.Verdict.TheVariants.{Legal, NoLin
 use Rattle.written_runs.specs.declared.verdict.Verdict.{Verdict}
 use Rattle.written_runs.specs.Cuts.{IsEmptyOrFrom, IsTextCut}
 use Rattle.written_runs.specs.Written.{IsWritten}
-use Rattle.written_runs.specs.Judging.{Leads, ends, on, IsUnwritten, IsBroken, HasFault, IsJudged, HadToAnswer, IsExplained, IsWrongLine, IsBlamed, Takes, IsToldAt, IsLineVerdict, IsLineExplained, IsLineBlamed}
+use Rattle.written_runs.specs.Judging.{Leads, ends, on, IsUnwritten, IsBroken, HasFault, IsJudged, HadToAnswer, IsExplained, IsWrongLine, IsBlamed, Takes, IsToldAt, IsLineVerdict, IsLineExplained, IsLineBlamed, IsWayTo, IsTracedBack, IsLineTraced}
 use Rattle.written_runs.specs.Told.{is_comment, told_lines}
 
 -- one line more
@@ -160,6 +162,12 @@ module _ (pages : ℕ) (text rest behind line : List ℕ) (number told : ℕ) (o
     tells = has.tells (opening_start pages) u.run u.follows;
     why = has.why (opening_start pages) u.run u.follows;
   })
+
+  pub traced : (why : Bool) (verdict : Verdict) (wrong : Option Wrong) (path : Option (Vec PathStep)) → IsLineVerdict old (number + 1) line verdict → IsLineTraced old why verdict wrong path → IsTracedBack pages (lines_of text) why verdict wrong path
+  traced why (Legal count) wrong path is has = has
+  traced why NoLines wrong path is has = has
+  traced why (Bad n) wrong path is has = has
+  traced why (Breaks n rule) wrong path is has = fault (λ run l. IsWayTo (heap_after (opening_start pages) run) why wrong path) n is.0 (has (opening_start pages) u.run u.follows)
 
 -- the first line of a text that was cut at its first newline
 pub line_with_newline : (text line rest behind : List ℕ) (b : ℕ) → IsTextCut newline text line rest → rest ≡ b ∷ behind → lines_of text ≡ line ∷ lines_of behind

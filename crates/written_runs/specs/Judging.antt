@@ -1,5 +1,6 @@
 -- What is said of a written run.
 use Rattle.std.specs.Prelude.{◌≡◌, ℕ, ◌+◌, ◌≤◌, Bool, true, false, Option, Some, None, List, [], ◌∷◌, ◌++◌, length}
+use Rattle.std.specs.Global.{Vec}
 use Rattle.heap_spec.specs.declared.event.Event.{Event}
 use Rattle.heap_spec.specs.declared.reply.Reply.{Reply}
 use Rattle.heap_spec.specs.Heap.{Heap}
@@ -13,9 +14,11 @@ use Rattle.plain_core.specs.declared.keepers.Keeper.{Keeper}
 use Rattle.plain_core.specs.declared.wrongs.Wrong.{Wrong}
 use Rattle.plain_core.specs.declared.wrongs.Wrong.TheVariants.{IsMissing, StandsTwice, HasToStay, HasToGo}
 use Rattle.plain_core.specs.Keepers.{TellsKeeper}
+use Rattle.plain_core.specs.declared.paths.PathStep.{PathStep}
+use Rattle.plain_core.specs.Paths.{TellsPath}
 use Rattle.plain_core.specs.Wrongs.{TellsLowest}
 use Rattle.written_runs.specs.declared.rules.Rule.{Rule}
-use Rattle.written_runs.specs.declared.verdict.Judgement.{Judgement}
+use Rattle.written_runs.specs.declared.verdict.Explained.{Explained}
 use Rattle.written_runs.specs.declared.verdict.Verdict.{Verdict}
 use Rattle.written_runs.specs.declared.verdict.Verdict.TheVariants.{Legal, NoLines, Bad, Breaks}
 use Rattle.written_runs.specs.Written.{IsWritten}
@@ -115,6 +118,22 @@ IsBlamed pages lines NoLines wrong keeper = (wrong ≡ None) × (keeper ≡ None
 IsBlamed pages lines (Bad number) wrong keeper = (wrong ≡ None) × (keeper ≡ None)
 IsBlamed pages lines (Breaks number rule) wrong keeper = HasFault (IsWrongLine (opening_start pages) wrong keeper) (opening_start pages) lines number
 
+-- where an object has to stay this path leads to it, if it is asked for, and else none is told
+abbrev pub IsWayTo : Heap → Bool → Option Wrong → Option (Vec PathStep) → Type 0
+IsWayTo s false wrong path = path ≡ None
+IsWayTo s true None path = path ≡ None
+IsWayTo s true (Some (IsMissing base)) path = path ≡ None
+IsWayTo s true (Some (StandsTwice base)) path = path ≡ None
+IsWayTo s true (Some (HasToStay base)) path = TellsPath s base path
+IsWayTo s true (Some (HasToGo base)) path = path ≡ None
+
+-- which path leads to an object that the line which breaks a run says was forgotten, if it has to stay
+abbrev pub IsTracedBack : ℕ → List (List ℕ) → Bool → Verdict → Option Wrong → Option (Vec PathStep) → Type 0
+IsTracedBack pages lines why (Legal count) wrong path = path ≡ None
+IsTracedBack pages lines why NoLines wrong path = path ≡ None
+IsTracedBack pages lines why (Bad number) wrong path = path ≡ None
+IsTracedBack pages lines why (Breaks number rule) wrong path = HasFault (λ run line. IsWayTo (heap_after (opening_start pages) run) why wrong path) (opening_start pages) lines number
+
 -- A line leads a replayer on: it is written of an event, its reply and a hint that replay.
 pub record LeadsOn (old : ReplayerContents) (line : List ℕ) (new : ReplayerContents) : Type 0 where
   pub event : Event
@@ -187,13 +206,25 @@ IsLineBlamed old line NoLines wrong keeper = (wrong ≡ None) × (keeper ≡ Non
 IsLineBlamed old line (Bad n) wrong keeper = (wrong ≡ None) × (keeper ≡ None)
 IsLineBlamed old line (Breaks n rule) wrong keeper = HasWrong old wrong keeper line
 
+-- which path leads to the object in each run that a replayer follows, where it has to stay
+abbrev pub TellsWay : ReplayerContents → Bool → Option Wrong → Option (Vec PathStep) → Type 0
+TellsWay r why wrong path = (start : Start) (run : Run) → Follows r start run → IsWayTo (heap_after start run) why wrong path
+
+-- and the same of what is said of a line
+abbrev pub IsLineTraced : ReplayerContents → Bool → Verdict → Option Wrong → Option (Vec PathStep) → Type 0
+IsLineTraced old why (Legal count) wrong path = path ≡ None
+IsLineTraced old why NoLines wrong path = path ≡ None
+IsLineTraced old why (Bad n) wrong path = path ≡ None
+IsLineTraced old why (Breaks n rule) wrong path = TellsWay old why wrong path
+
 -- What is said of a line.
-pub record IsSaid (old : ReplayerContents) (number : ℕ) (line : List ℕ) (judgement : Judgement) : Type 0 where
-  pub verdict : IsLineVerdict old number line judgement.verdict
-  pub expected : IsLineExplained old line judgement.verdict judgement.expected
-  pub wrong : IsLineBlamed old line judgement.verdict judgement.wrong judgement.keeper
+pub record IsSaid (old : ReplayerContents) (why : Bool) (number : ℕ) (line : List ℕ) (said : Explained) : Type 0 where
+  pub verdict : IsLineVerdict old number line said.judgement.verdict
+  pub expected : IsLineExplained old line said.judgement.verdict said.judgement.expected
+  pub wrong : IsLineBlamed old line said.judgement.verdict said.judgement.wrong said.judgement.keeper
+  pub path : IsLineTraced old why said.judgement.verdict said.judgement.wrong said.path
 
 -- whether a line takes a replayer on, or else what is said of it
-abbrev pub IsLineJudged : ReplayerContents → ℕ → List ℕ → Option Judgement → ReplayerContents → Type 0
-IsLineJudged old number line None new = Takes (is_comment line) old line new
-IsLineJudged old number line (Some judgement) new = IsSaid old number line judgement
+abbrev pub IsLineJudged : ReplayerContents → Bool → ℕ → List ℕ → Option Explained → ReplayerContents → Type 0
+IsLineJudged old why number line None new = Takes (is_comment line) old line new
+IsLineJudged old why number line (Some said) new = IsSaid old why number line said

@@ -29,5 +29,5 @@ mod writing;
 
 pub use command::words_given;
 pub use rules::Rule;
-pub use verdict::{Judgement, Verdict, judge};
+pub use verdict::{Explained, Judgement, Verdict, explain, judge};
 pub use writing::{line_text, reply_text, wrong_text};

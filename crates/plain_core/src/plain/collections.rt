@@ -4,6 +4,7 @@ ghost use Rattle.roots.specs.Roots.{root_words_of};
 ghost use Rattle.plain_core.specs.Standing.{LiesIn};
 ghost use Rattle.plain_core.specs.Owners.{AreOwners};
 ghost use Rattle.plain_core.specs.Reached.{AreApart, MarksReached};
+ghost use Rattle.plain_core.specs.Discovery.{IsDiscovered};
 ghost use Rattle.plain_core.specs.Listing.{HasListRoom, IsListing, KeepsRoom};
 ghost use Rattle.plain_core.specs.Collections.{IsCollected, HasGarbage, CantCollect, TakesBases, CantTake};
 
@@ -31,6 +32,7 @@ pub(super) fn list_from_roots(
     requires room { HasListRoom (length objects.now) listing.old }
     ensures marks { MarksReached (root_words_of roots.now) words.now objects.now listing.new.marks.items }
     ensures listed { IsListing objects.now listing.new }
+    ensures discovered { IsDiscovered (root_words_of roots.now) words.now objects.now listing.new.order.items }
     ensures room { KeepsRoom listing.old listing.new }
 {
     roots.write_words(root_words);

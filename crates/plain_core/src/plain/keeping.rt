@@ -29,7 +29,16 @@ impl Core {
             &self.owners,
             &mut self.listing,
         );
-        link_into(&self.listing.order, &self.words, &self.objects, own, object)
+        let Some((_, keeper)) = link_into(
+            &self.listing.order,
+            &self.words,
+            &self.objects,
+            own,
+            object,
+        ) else {
+            return None;
+        };
+        Some(keeper)
     }
 
     /// What keeps the object with this base reached: a root that points into it, or else a word of another reached object.

@@ -2,7 +2,7 @@ use Rattle.std.proofs.Common.{◌<◌, ◌≤◌, ◌++◌, length, subst, arith
 use Rattle.std.proofs.lemmas.Option.{slice_get_within, get_or_from_slice_get}
 use Rattle.plain_core.specs.Standing.{LiesIn}
 use Rattle.plain_core.proofs.Lists.{listed_below, lists_more}
-use Rattle.plain_core.proofs.Reaching.{traced_roots, traced_then, traced_else, traced_all}
+use Rattle.plain_core.proofs.Reaching.{traced_roots, traced_then, traced_else, traced_order, traced_all}
 use Rattle.plain_core.proofs.listing.list_closure.Goals as goal
 use Rattle.plain_core.proofs.listing.list_closure.Goals.{then-next-len, else-next-len}
 
@@ -40,6 +40,13 @@ returns-clause-marks c = record {
   bases = c.loop-next.invariant.0;
   are = c.loop-next.invariant.1;
   marks_all = traced_all _ _ _ _ _ _ c.loop-next-test.false c.loop-next.invariant.2;
+}
+
+pub returns-clause-discovered : goal.returns-clause-discovered
+returns-clause-discovered c = record {
+  bases = c.loop-next.invariant.0;
+  are = c.loop-next.invariant.1;
+  discovered = traced_order _ _ _ _ _ _ c.loop-next.invariant.2;
 }
 
 pub returns-clause-listed : goal.returns-clause-listed

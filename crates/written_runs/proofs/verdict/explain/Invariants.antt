@@ -1,6 +1,6 @@
 use Rattle.std.proofs.Common.{length}
 use Rattle.written_runs.proofs.Judged.{IsUpTo}
-use Rattle.written_runs.proofs.verdict.judge.Given as goal
+use Rattle.written_runs.proofs.verdict.explain.Given as goal
 
 -- the lines before the rest led the replayer to a run
 abbrev pub invariant-loop-rest : goal.invariant-loop-rest
