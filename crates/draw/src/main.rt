@@ -27,7 +27,7 @@ mod run_printing;
 use crate::drawing::{Run, written};
 use crate::run_printing::draw_run;
 use heap_core::Core;
-use programs::{Fault, end, own_words};
+use programs::{Fault, end, own_words, takes_option};
 use recording::Recorder;
 use scripts::Std;
 use std::fs;
@@ -84,19 +84,10 @@ fn draw_script(rt: &HostRuntime, pages: u32, script: &str) -> Result<(), Fault>
     print_run(rt, &mut run, script)
 }
 
-// Whether `--run` stands before the file, and then it is taken away.
-fn takes_run(words: &mut Vec<String>) -> bool {
-    if words.len() != 4 || words[2].as_str() != "--run" {
-        return false;
-    }
-    let _ = words.remove(2);
-    true
-}
-
 // Draws what the words say, and gives the status that goes with it.
 fn obey(rt: &HostRuntime) -> Result<u8, Fault> {
     let mut words = own_words(rt)?;
-    let is_run = takes_run(&mut words);
+    let is_run = takes_option(&mut words, "--run");
     let Some((pages, file)) = words_given(words.as_slice()) else {
         return Err(Fault::BadCommand);
     };

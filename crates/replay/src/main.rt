@@ -1,4 +1,5 @@
-//! The program that checks a written run: `replay --pages N FILE` says `legal, N lines`, or which line isn't and what rule it breaks.
+//! The program that checks a written run: `replay --pages N FILE` says `legal, N lines`, or which line isn't and what rule it breaks;
+//! `replay --pages N --why FILE` also shows a path from a root to an object that has to stay.
 //!
 //! The lines of FILE are those of docs/REPLAY.md.
 #![tactic(auto)]
@@ -6,11 +7,14 @@
 ghost use Rattle.std.specs.Prelude.{◌≤◌};
 ghost use Rattle.words.specs.declared.limits.TheConstants.{MAX_PAGES};
 
-use programs::{Fault, end, own_words};
+use plain_core::PathStep;
+use programs::{Fault, end, own_words, takes_option};
 use scripts::Std;
 use std::fs;
 use std::process::ExitCode;
-use written_runs::{Judgement, Verdict, judge, reply_text, words_given, wrong_text};
+use written_runs::{
+    Explained, Judgement, Verdict, explain, reply_text, step_text, words_given, wrong_text,
+};
 
 // Prints what is said of a run, and gives the status that goes with it.
 fn print_verdict(rt: &HostRuntime, verdict: Verdict) -> Result<u8, Fault> {
@@ -26,11 +30,16 @@ fn print_verdict(rt: &HostRuntime, verdict: Verdict) -> Result<u8, Fault> {
     }
 }
 
+// Prints what is said of a line beside the rule that it breaks.
+fn print_about(rt: &HostRuntime, line: u64, text: &str) -> Result<(), Fault> {
+    match println!(rt; "line {line}: {text}") {
+        Ok(()) => Ok(()),
+        Err(_) => Err(Fault::Write),
+    }
+}
+
 // Prints which reply a line had to have, if one is told.
-fn print_expected(rt: &HostRuntime, judgement: &Judgement) -> Result<(), Fault> {
-    let Verdict::Breaks(line, _) = judgement.verdict else {
-        return Ok(());
-    };
+fn print_expected(rt: &HostRuntime, line: u64, judgement: &Judgement) -> Result<(), Fault> {
     let Some(reply) = judgement.expected else {
         return Ok(());
     };
@@ -44,58 +53,71 @@ fn print_expected(rt: &HostRuntime, judgement: &Judgement) -> Result<(), Fault> 
 }
 
 // Prints what is wrong about the objects that a line says were forgotten, if anything is.
-fn print_wrong(rt: &HostRuntime, judgement: &Judgement) -> Result<(), Fault> {
-    let Verdict::Breaks(line, _) = judgement.verdict else {
-        return Ok(());
-    };
+fn print_wrong(rt: &HostRuntime, line: u64, judgement: &Judgement) -> Result<(), Fault> {
     let Some(wrong) = judgement.wrong else {
         return Ok(());
     };
     let Ok(text) = wrong_text(rt.alloc(), &wrong, judgement.keeper) else {
         return Err(Fault::Memory);
     };
-    match println!(rt; "line {line}: {text}") {
-        Ok(()) => Ok(()),
-        Err(_) => Err(Fault::Write),
+    print_about(rt, line, text.as_str())
+}
+
+// Prints a path from a root to the object that has to stay, a line for each step.
+fn print_path(rt: &HostRuntime, line: u64, path: &[PathStep]) -> Result<(), Fault> {
+    for step in path {
+        let Ok(text) = step_text(rt.alloc(), step) else {
+            return Err(Fault::Memory);
+        };
+        print_about(rt, line, text.as_str())?;
     }
+    Ok(())
 }
 
 // Prints all that is said of a run, and gives the status that goes with it.
-fn print_judgement(rt: &HostRuntime, judgement: &Judgement) -> Result<u8, Fault> {
-    let status = print_verdict(rt, judgement.verdict)?;
-    print_expected(rt, judgement)?;
-    print_wrong(rt, judgement)?;
+fn print_explained(rt: &HostRuntime, said: &Explained) -> Result<u8, Fault> {
+    let verdict = said.judgement.verdict;
+    let status = print_verdict(rt, verdict)?;
+    let Verdict::Breaks(line, _) = verdict else {
+        return Ok(status);
+    };
+    print_expected(rt, line, &said.judgement)?;
+    print_wrong(rt, line, &said.judgement)?;
+    if let Some(path) = &said.path {
+        print_path(rt, line, path.as_slice())?;
+    }
     Ok(status)
 }
 
 // Checks the run in a file, and gives the status that goes with what is said of it.
-fn check(rt: &HostRuntime, pages: u32, file: &str) -> Result<u8, Fault>
+fn check(rt: &HostRuntime, pages: u32, file: &str, why: bool) -> Result<u8, Fault>
     requires { (1 ≤ pages) × (pages ≤ MAX_PAGES) }
 {
     let text = match fs::read_to_string(rt, file) {
         Ok(text) => text,
         Err(error) => return Err(Fault::of_read(&error)),
     };
-    match judge(rt.alloc(), pages, text.as_str()) {
-        Ok(judgement) => print_judgement(rt, &judgement),
+    match explain(rt.alloc(), pages, text.as_str(), why) {
+        Ok(said) => print_explained(rt, &said),
         Err(_) => Err(Fault::Memory),
     }
 }
 
 // Does what the words say.
 fn obey(rt: &HostRuntime) -> Result<u8, Fault> {
-    let words = own_words(rt)?;
+    let mut words = own_words(rt)?;
+    let why = takes_option(&mut words, "--why");
     let Some((pages, file)) = words_given(words.as_slice()) else {
         return Err(Fault::BadCommand);
     };
-    check(rt, pages, file)
+    check(rt, pages, file, why)
 }
 
 fn main(rt: HostRuntime) -> ExitCode {
     let status = match obey(&rt) {
         Ok(status) => status,
         Err(Fault::BadCommand) => {
-            let _ = eprintln!(rt; "replay --pages N FILE");
+            let _ = eprintln!(rt; "replay --pages N [--why] FILE");
             Fault::BadCommand.status()
         }
         Err(fault) => end(Err(fault), &mut Std::new(rt.stderr())),

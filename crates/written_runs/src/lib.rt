@@ -11,8 +11,8 @@
 //! doesn't go on, and the rule is that of a line of this kind (`rule_of`); its words are only tested. Of a broken line it may
 //! also name the reply that its run goes on by, alone of all (`IsExplained`, `IsTheReply`), and it names the lowest of what is
 //! wrong about the objects that the line says were forgotten, if anything is, and what keeps an object that has to stay
-//! (`IsBlamed`, `IsWrongOf`, `TellsKeeper`). Two laws: a line is
-//! written of at most one event, reply and hint (`lines_have_one_reading`), and of the lines of a run at most one verdict is true
+//! (`IsBlamed`, `IsWrongOf`, `TellsKeeper`). `explain` is `judge`, with a path from a root to that object, if it is asked for
+//! (`IsTracedBack`, `IsPath`). Two laws: a line is written of at most one event, reply and hint (`lines_have_one_reading`), and of the lines of a run at most one verdict is true
 //! (`runs_have_one_verdict`). `line_text` writes such a line, and `words_given` reads the words of both programs
 //! (`AreGiven`).
 #![tactic(auto)]
@@ -30,4 +30,4 @@ mod writing;
 pub use command::words_given;
 pub use rules::Rule;
 pub use verdict::{Explained, Judgement, Verdict, explain, judge};
-pub use writing::{line_text, reply_text, wrong_text};
+pub use writing::{line_text, reply_text, step_text, wrong_text};

@@ -5,7 +5,7 @@ ghost use Rattle.scripts.specs.Grammar.{IsLineOf};
 ghost use Rattle.written_runs.specs.Written.{answer_of, bases_text, hint_text, IsAnswer, NamesWords, IsWritten};
 
 use heap_spec::Reply;
-use plain_core::{Keeper, Wrong};
+use plain_core::{Keeper, PathStep, Wrong};
 use replayer::Hint;
 use roots::Root;
 use std::alloc::{AllocError, Global};
@@ -63,6 +63,13 @@ pub fn wrong_text(
     };
     let kept = keeper_text(alloc, &keeper)?;
     format!(in alloc; "{said}: {kept} points into it")
+}
+
+/// A step of a path from a root to an object, in words.
+pub fn step_text(alloc: Global, step: &PathStep) -> Result<String, AllocError> {
+    let keeper = keeper_text(alloc, &step.keeper)?;
+    let base = step.base;
+    format!(in alloc; "{keeper} points into the object at {base}")
 }
 
 // Puts bases behind a text, each behind a space.
