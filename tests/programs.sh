@@ -33,7 +33,7 @@ examples_print_their_replies() {
 
 # Words that neither of `replay` and `record` takes, and files that neither can read.
 faults_are_told() {
-    local usage="$program --pages N FILE"
+    local usage="$program --pages N $([ "$program" != replay ] || echo '[--why] ')FILE"
     printf 'attach\n\377\n' | file_is no_text 1 "read fault" "" --pages 1 {}
     file_is no_file 1 "read fault" "" --pages 1 not.there </dev/null
     file_is no_page 2 "$usage" "" --pages 0 {} </dev/null
@@ -55,6 +55,17 @@ written_runs_are_judged() {
     lines "# a recorder that died" | file_is comments_alone 2 "" "no lines" --pages 1 {}
     example_block 1 | sed '7s/=>.*/=> 0 -/' | file_is breaks 1 "" "$(example_block 2)" --pages 1 {}
     example_block 1 | sed '7s/=>.*//' | file_is broken 2 "" "line 7: not a line of a run" --pages 1 {}
+    file_is no_flag 2 "replay --pages N [--why] FILE" "" --pages 1 --what {} </dev/null
+}
+
+# With `--why` a path from a root leads to an object that has to stay: through two objects, and straight from a register. Nothing more
+# is said of other lines.
+paths_are_shown() {
+    example_block 1 | file_is why_legal 0 "" "legal, 9 lines" --pages 1 --why {}
+    example_block 1 | sed '7s/=>.*/=> 0 -/' | file_is why_to_go 1 "" "$(example_block 2)" --pages 1 --why {}
+    example_block 3 | file_is why_by_words 1 "" "$(example_block 4)" --pages 1 --why {}
+    example_block 3 | sed '8d' | file_is why_by_root 1 "" "$(example_block 4 | sed 's/^line 9/line 8/; 4,5d
+        3s/: word.*/: register 3 of mutator 0 points into it/; 6s/word 1 of the object at 268435472/register 3 of mutator 0/')" --pages 1 --why {}
 }
 
 # Runs of the hobby collector in examples/c, as it stands and with each of its bugs: its .expected has what is said of each,
@@ -81,9 +92,10 @@ examples_print_their_replies
 run_cases 12
 open_cases replay
 written_runs_are_judged
+paths_are_shown
 foreign_runs_are_judged
 faults_are_told
-run_cases 22
+run_cases 27
 open_cases record
 runs_are_written
 faults_are_told

@@ -125,7 +125,7 @@ usage_comes_first() {
     has "no words: threads" "mpheap threads --pages N [--helpers H] [--record RUN] FILE" "$err"
     has "no words: stress" "mpheap stress --seed S --mutators M --steps K" "$err"
     has "no words: record" "mpheap record --pages N FILE" "$err"
-    has "no words: replay" "mpheap replay --pages N FILE" "$err"
+    has "no words: replay" "mpheap replay --pages N [--why] FILE" "$err"
     has "no words: draw" "mpheap draw --pages N [FILE]" "$err"
     has "no words: draw --run" "mpheap draw --pages N --run FILE" "$err"
     has "no words: build" "mpheap build" "$err"
@@ -220,9 +220,12 @@ wrong_words_are_told() {
     refused 2 "bad command" "'stress' takes no word 'x'" stress --seed 1 --mutators 2 --steps 4 x
     refused 2 "bad command" "'18446744073709551616' is no number for '--seed': 0 to 18446744073709551615, in decimal" \
         stress --seed 18446744073709551616 --mutators 1 --steps 0
-    refused 2 "replay --pages N FILE" "'--pages' has to be the first word behind 'replay'" replay first.script --pages 4
+    refused 2 "replay --pages N [--why] FILE" "'--pages' has to be the first word behind 'replay'" replay first.script --pages 4
     refused 2 "record --pages N FILE" "'record' takes a number of pages and one FILE" record --pages 4
-    refused 2 "replay --pages N FILE" "'0' is no number for '--pages': 1 to 4096, in decimal" replay --pages 0 first.script
+    refused 2 "replay --pages N [--why] FILE" "'0' is no number for '--pages': 1 to 4096, in decimal" replay --pages 0 first.script
+    refused 2 "replay --pages N [--why] FILE" "'replay' takes a number of pages and one FILE" replay --pages 4 --run first.script
+    refused 2 "record --pages N FILE" "'record' takes a number of pages and one FILE" record --pages 4 --why first.script
+    refused 1 "read fault" "there is no file 'not.there'" replay --pages 4 --why not.there
 }
 
 # A drawn run is the page with the trace that the program printed: joined wherever there is any line, with its status.

@@ -60,7 +60,8 @@ bad_words() {
     (usage)
     case $command in
         draw) echo "draw --pages N [--run] FILE" ;;
-        replay | record) echo "$command --pages N FILE" ;;
+        replay) echo "replay --pages N [--why] FILE" ;;
+        record) echo "record --pages N FILE" ;;
         *) echo "bad command" ;;
     esac >&2
     exit 2
@@ -99,15 +100,15 @@ has_one_order() {
     case $1 in replay | record | draw) true ;; *) false ;; esac
 }
 
-# names_run WORDS..: they are those of `draw --pages N --run FILE`.
-names_run() {
-    [ $# = 5 ] && [ "$1" = draw ] && [ "$4" = --run ]
+# has_flag WORDS..: they are those of `draw --pages N --run FILE` or of `replay --pages N --why FILE`.
+has_flag() {
+    [ $# = 5 ] && is_in "$1 $4" "draw --run replay --why"
 }
 
 look_at_order() {
     has_one_order "$1" || return 0
     [ "${2-}" = --pages ] || bad_words "'--pages' has to be the first word behind '$1'"
-    [ $# = 4 ] || { [ $# = 3 ] && reads_input "$1"; } || names_run "$@" || bad_words "'$1' takes a number of pages and one FILE"
+    [ $# = 4 ] || { [ $# = 3 ] && reads_input "$1"; } || has_flag "$@" || bad_words "'$1' takes a number of pages and one FILE"
 }
 
 # Looks at all words of a command line. What is left in file_at is the place of FILE among them, 0 if there is none.
@@ -117,7 +118,7 @@ look_at_words() {
     look_at_order "$@"
     for word in "$@"; do
         at=$((at + 1))
-        if [ $at = 1 ] || { [ $at = 4 ] && names_run "$@"; }; then
+        if [ $at = 1 ] || { [ $at = 4 ] && has_flag "$@"; }; then
             continue
         elif [ -n "$option" ]; then
             look_at_number "$option" "$word"
