@@ -1,8 +1,10 @@
 #!/usr/bin/env python3
-"""Histories that threads made: random workloads are run by `threads --record`, each run is replayed, and it has to be legal, to have as
-many lines as the history must have, and to hold each actor's lines in their order with the replies that were printed. What is printed has
-to be laid out as without `--record`. It takes the proved programs that `rt ci` or `./mpheap build` left."""
+"""Histories that threads made: the workloads of tests/rows and random ones are run by `threads --record`, each run is replayed, and it has
+to be legal, to have as many lines as the history must have, and to hold each actor's lines in their order with the replies that were
+printed. What is printed has to be what stands in the rows, or laid out as without `--record`. It takes the proved programs that `rt ci`
+or `./mpheap build` left."""
 import os
+import re
 import subprocess
 import sys
 import tempfile
@@ -74,27 +76,52 @@ def recorded_lines(text, pages):
     return seen
 
 
-def one(folder, seed):
-    mutators, pages, helpers = (1, 4, 16)[seed % 3], (1, 2, 8, 64)[seed % 4], seed % 2 + 1
-    workload = run("mpheap", "stress", "--seed", str(seed), "--mutators", str(mutators), "--steps", "600").stdout
+def recorded(folder, what, workload, pages, *words):
+    """What is printed of a workload that is written down, after its history was judged."""
     script, record = os.path.join(folder, "workload"), os.path.join(folder, "record")
     with open(script, "w", encoding="ascii") as out:
         out.write(workload)
-    words = ["threads", "--pages", str(pages), "--helpers", str(helpers)]
-    actors = printed_replies(run("mpheap", *words, "--record", record, script).stdout)
-    plain = printed_replies(run("mpheap", *words, script).stdout)
-    judge(f"seed {seed}: the same lines are answered", [(k, len(v)) for k, v in actors.items()] == [(k, len(v)) for k, v in plain.items()])
+    printed = run("mpheap", "threads", "--pages", str(pages), *words, "--record", record, script).stdout
     with open(record, encoding="ascii") as text:
         history = text.read()
-    wanted = wanted_lines(workload, actors)
-    judge(f"seed {seed}: each actor's lines are its part", recorded_lines(history, pages) == wanted)
-    said = run("replay", "--pages", str(pages), record).stdout
-    judge(f"seed {seed}: the run is legal", said == f"legal, {sum(map(len, wanted.values()))} lines\n", said)
+    wanted = wanted_lines(workload, printed_replies(printed))
+    count = sum(map(len, wanted.values()))
+    judge(f"{what}: each actor's lines are its part", recorded_lines(history, pages) == wanted)
+    # A history with no events is no run.
+    said = run("replay", "--pages", str(pages), record, status=0 if count else 2).stdout
+    judge(f"{what}: the run is legal", said == (f"legal, {count} lines\n" if count else "no lines\n"), said)
+    return printed, script
+
+
+def row(folder, text, wanted):
+    """A workload of tests/rows, and what stands beside it: all have one reply whatever the order."""
+    text, wanted = (part.replace("\\n", "\n") for part in (text, wanted))
+    printed, _ = recorded(folder, repr(text), text, 4)
+    judge(f"{text!r}: what is printed", printed == wanted, printed)
+
+
+def rows(folder):
+    with open(os.path.join(TOP, "tests", "rows", "workloads"), encoding="ascii") as file:
+        found = re.findall(r'^"(.*)" => "(.*)"$', file.read(), re.M)
+    judge("workloads of tests/rows", len(found) >= 14, len(found))
+    for text, wanted in found:
+        row(folder, text, wanted)
+
+
+def one(folder, seed):
+    mutators, pages, helpers = (1, 4, 16)[seed % 3], (1, 2, 8, 64)[seed % 4], seed % 2 + 1
+    workload = run("mpheap", "stress", "--seed", str(seed), "--mutators", str(mutators), "--steps", "600").stdout
+    words = ["--helpers", str(helpers)]
+    printed, script = recorded(folder, f"seed {seed}", workload, pages, *words)
+    plain = printed_replies(run("mpheap", "threads", "--pages", str(pages), *words, script).stdout)
+    actors = printed_replies(printed)
+    judge(f"seed {seed}: the same lines are answered", [(k, len(v)) for k, v in actors.items()] == [(k, len(v)) for k, v in plain.items()])
     return script
 
 
 def main():
     with tempfile.TemporaryDirectory() as folder:
+        rows(folder)
         for seed in SEEDS:
             script = one(folder, seed)
         for path in ("/dev/full", os.path.join(folder, "none", "record")):
