@@ -9,7 +9,7 @@ use Rattle.std.proofs.lemmas.Bool.{cases_lt, cases_eq}
 use Rattle.words.specs.declared.class.Kind.{Kind}
 use Rattle.words.specs.declared.class.Placement.{Placement}
 use Rattle.words.specs.declared.class.Placement.TheVariants.{Small, Large}
-use Rattle.words.specs.declared.limits.TheConstants.{WORD_BYTES, PAGE_WORDS, PAGE_GRANULES, FIRST_ADDRESS, MAX_PAGES}
+use Rattle.words.specs.declared.limits.TheConstants.{WORD_BYTES, PAGE_WORDS, FIRST_ADDRESS, MAX_PAGES}
 use Rattle.words.specs.Placing.{placement_of}
 use Rattle.heap_spec.specs.declared.call.Call.TheVariants.{Alloc}
 use Rattle.heap_spec.specs.declared.reply.Reply.TheVariants.{Done}
@@ -169,10 +169,10 @@ sound_after c roots e row sound new placed fresh long = record {
 }
 
 -- there is room for one more
-pub has_room : (c : PlainContents) (e : Extent) → IsLaidOut c → IsInHeap c.pages e → IsFresh c.objects e → length c.objects < PAGE_GRANULES * c.pages
+pub has_room : (c : PlainContents) (e : Extent) → IsLaidOut c → IsInHeap c.pages e → IsFresh c.objects e → length c.objects < PAGE_WORDS * c.pages
 has_room c e sound new fresh =
-    let l : length (c.objects ++ e ∷ []) ≤ PAGE_GRANULES * c.pages = few_objects c.pages (c.objects ++ e ∷ []) (All-push (IsInHeap c.pages) c.objects e sound.in_heap new) (distinct_push c.pages c.objects e sound.in_heap new fresh sound.distinct) in
-    let m : length c.objects + 1 ≤ PAGE_GRANULES * c.pages = rw length_push at l in
+    let l : length (c.objects ++ e ∷ []) ≤ PAGE_WORDS * c.pages = few_objects c.pages (c.objects ++ e ∷ []) (All-push (IsInHeap c.pages) c.objects e sound.in_heap new) (distinct_push c.pages c.objects e sound.in_heap new fresh sound.distinct) in
+    let m : length c.objects + 1 ≤ PAGE_WORDS * c.pages = rw length_push at l in
     omega arith
 
 -- what a push that succeeds leaves
@@ -187,7 +187,7 @@ module _ (c : PlainContents) (placement : Placement) (kind : Kind) (e : Extent) 
   fresh : IsFresh c.objects e
   fresh = new_fresh c.pages c.objects placement kind e sound.placed sized long room
 
-  pub room_left : length c.objects < PAGE_GRANULES * c.pages
+  pub room_left : length c.objects < PAGE_WORDS * c.pages
   room_left = has_room c e sound new fresh
 
   pub fits_row : word_index e.base + e.length ≤ length c.words

@@ -3,7 +3,7 @@ use Rattle.std.specs.Prelude.{◌≡◌, ℕ, ◌+◌, ◌*◌, ◌%◌, ◌<◌
 use Rattle.words.specs.declared.class.Kind.{Kind}
 use Rattle.words.specs.declared.class.Placement.{Placement}
 use Rattle.words.specs.declared.class.Placement.TheVariants.{Small, Large}
-use Rattle.words.specs.declared.limits.TheConstants.{WORD_BYTES, GRANULE_WORDS, GRANULE_BYTES, PAGE_WORDS, MAX_SMALL_WORDS}
+use Rattle.words.specs.declared.limits.TheConstants.{WORD_BYTES, GRANULE_WORDS, PAGE_WORDS, MAX_SMALL_WORDS}
 use Rattle.words.specs.Layout.{page_start}
 use Rattle.heap_spec.specs.Layout.{LiesOn}
 use Rattle.plain_core.specs.declared.extent.Extent.{Extent}
@@ -20,9 +20,9 @@ IsCutPage row page length kind = All (λ e. LiesOn e.base e.length page → (e.l
 abbrev pub IsNoBase : List Extent → ℕ → Type 0
 IsNoBase row a = All (λ e. e.base ≡ a → ⊥) row
 
--- the address of a granule of the page
-abbrev pub granule_start : ℕ → ℕ → ℕ
-granule_start page g = page_start page + GRANULE_BYTES * g
+-- the address of a word of the page
+abbrev pub word_start : ℕ → ℕ → ℕ
+word_start page g = page_start page + WORD_BYTES * g
 
 -- the address of a cell of the page, for so many words
 pub record IsCellAt (page length a : ℕ) : Type 0 where
