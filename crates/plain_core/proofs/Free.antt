@@ -21,7 +21,7 @@ use Rattle.links.specs.Leaving.{TellObjects, ClearsWords, clears_with, stays_wit
 use Rattle.links.proofs.Leaving.{PointsIntoOne, named_along, word_same}
 use Rattle.roots.specs.Roots.{HasMutator}
 use Rattle.plain_core.specs.declared.extent.Extent.{Extent}
-use Rattle.plain_core.specs.PlainContents.{PlainContents, IsLaidOut, IsInHeap, IsPlacedExtent, first_word}
+use Rattle.plain_core.specs.PlainContents.{PlainContents, IsLaidOut, IsInHeap, first_word}
 use Rattle.plain_core.specs.Standing.{StandsFor, IsShown, word_index, words_at}
 use Rattle.plain_core.specs.Along.{holds_word, has_base}
 use Rattle.plain_core.proofs.Stands.{StepsCall, mutator_at, keeps_all}
@@ -101,7 +101,6 @@ module _ (c : PlainContents) (sound : IsLaidOut c) (gone rest : List Extent) (pe
     pages = sound.pages;
     words = size ∙ sound.words;
     in_heap = λ k d lt. All-contains (IsInHeap c.pages) c.objects (get_or rest k d) sound.in_heap (was_in (get_or rest k d) (Contains-get_or rest k d lt));
-    placed = λ k d lt. All-contains IsPlacedExtent c.objects (get_or rest k d) sound.placed (was_in (get_or rest k d) (Contains-get_or rest k d lt));
     distinct = rest_distinct gone rest distinct_all;
     apart = λ f g w hf hg rf rg. sound.apart f g w (was_in f hf) (was_in g hg) rf rg;
   }

@@ -13,10 +13,10 @@ use Rattle.std.specs.Cmp.{nat_eq_equiv}
 use Rattle.words.specs.declared.class.Kind.{Kind}
 use Rattle.words.specs.declared.limits.TheConstants.{WORD_BYTES, PAGE_BYTES, PAGE_WORDS, FIRST_ADDRESS, MAX_SMALL_WORDS}
 use Rattle.words.specs.Layout.{page_start}
-use Rattle.heap_spec.specs.Layout.{PointsInto, LiesOn}
+use Rattle.heap_spec.specs.Layout.{LiesOn}
 use Rattle.plain_core.specs.declared.extent.Extent.{Extent}
 use Rattle.plain_core.specs.PlainContents.{IsInHeap, IsCellExtent, HasPages, IsPlacedExtent, first_word}
-use Rattle.plain_core.specs.Places.{IsPlaceOn, IsLargePlace, IsCutPage, IsNoBase}
+use Rattle.plain_core.specs.Places.{IsPlaceOn, IsLargePlace, IsCutPage, IsNoBase, IsFresh}
 
 -- two cells of one length that have a word in common are one
 pub same_cell : (length i j x : ℕ) → length * i ≤ x → x < length * (i + 1) → length * j ≤ x → x < length * (j + 1) → i ≡ j
@@ -30,10 +30,6 @@ same_cell length i j x a b c d =
 
     after : j < i → j + 1 ≤ i
     after less = omega arith
-
--- no object shares a word with a new one
-abbrev pub IsFresh : List Extent → Extent → Type 0
-IsFresh row e = (f : Extent) (w : ℕ) → Contains row f → PointsInto w e.base e.length → PointsInto w f.base f.length → ⊥
 
 pub fresh_small : (page : ℕ) (kind : Kind) (row : List Extent) (e : Extent) → All (IsPlacedExtent) row → e.length ≤ MAX_SMALL_WORDS → IsPlaceOn row page e.length kind e.base → IsFresh row e
 fresh_small page kind row e placed few p f w has re rf =

@@ -8,6 +8,8 @@ pub mod Placing
 pub mod Freshness
 pub mod Rooms
 pub mod Alloc
+pub mod Anywhere
+pub mod Bare
 pub mod PageWords
 pub mod Free
 pub mod Lists

@@ -1,11 +1,11 @@
 -- Where a row of objects leaves room.
-use Rattle.std.specs.Prelude.{◌≡◌, ℕ, ◌+◌, ◌*◌, ◌%◌, ◌<◌, ◌≤◌, ◌⊎◌, List, All, length}
+use Rattle.std.specs.Prelude.{◌≡◌, ℕ, ◌+◌, ◌*◌, ◌%◌, ◌<◌, ◌≤◌, ◌⊎◌, List, All, Contains, length}
 use Rattle.words.specs.declared.class.Kind.{Kind}
 use Rattle.words.specs.declared.class.Placement.{Placement}
 use Rattle.words.specs.declared.class.Placement.TheVariants.{Small, Large}
 use Rattle.words.specs.declared.limits.TheConstants.{WORD_BYTES, GRANULE_WORDS, PAGE_WORDS, MAX_SMALL_WORDS}
 use Rattle.words.specs.Layout.{page_start}
-use Rattle.heap_spec.specs.Layout.{LiesOn}
+use Rattle.heap_spec.specs.Layout.{PointsInto, LiesOn}
 use Rattle.plain_core.specs.declared.extent.Extent.{Extent}
 
 -- no object lies on the page
@@ -59,3 +59,7 @@ IsPlace row pages (Large count) kind a = IsLargePlace row pages count a
 abbrev pub IsSized : Placement → Type 0
 IsSized (Small class) = (0 < class) × (class ≤ MAX_SMALL_WORDS) × (class % GRANULE_WORDS ≡ 0)
 IsSized (Large count) = 1 ≤ count
+
+-- no object shares a byte with a new one
+abbrev pub IsFresh : List Extent → Extent → Type 0
+IsFresh row e = (f : Extent) (w : ℕ) → Contains row f → PointsInto w e.base e.length → PointsInto w f.base f.length → ⊥

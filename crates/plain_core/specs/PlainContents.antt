@@ -48,12 +48,15 @@ IsPlacedExtent e = IsCellExtent e ⊎ HasPages e
 abbrev pub first_word : Extent → ℕ
 first_word e = (e.base - FIRST_ADDRESS) / WORD_BYTES
 
--- What is true of every plain core. No address points into two objects, and no two begin at one first_word, so that there are
+-- What is true of every plain core, wherever its objects were placed. No address points into two objects, and no two begin at one first_word, so that there are
 -- never more objects than words.
 pub record IsLaidOut (c : PlainContents) : Type 0 where
   pub pages : c.pages ≤ MAX_PAGES
   pub words : length c.words ≡ PAGE_WORDS * c.pages
   pub in_heap : All (IsInHeap c.pages) c.objects
-  pub placed : All IsPlacedExtent c.objects
   pub distinct : IsDistinct nat_eq (map first_word c.objects)
   pub apart : (e f : Extent) (w : ℕ) → Contains c.objects e → Contains c.objects f → PointsInto w e.base e.length → PointsInto w f.base f.length → e ≡ f
+
+-- each object lies where size classes place it
+abbrev pub ArePlaced : PlainContents → Type 0
+ArePlaced c = All IsPlacedExtent c.objects

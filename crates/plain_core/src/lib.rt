@@ -19,6 +19,7 @@ mod along;
 mod claims;
 mod extent;
 mod flags;
+mod fresh;
 mod given_place;
 mod keepers;
 mod listing;

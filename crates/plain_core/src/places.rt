@@ -21,7 +21,7 @@ fn word_start(page: PageNo, word: u64) -> u64
 }
 
 // Whether no object has the byte at the address.
-fn is_bare(objects: &[Extent], owners: &[u64], address: u64) -> bool
+pub(crate) fn is_bare(objects: &[Extent], owners: &[u64], address: u64) -> bool
     requires { AreOwners objects.now owners.now }
     ensures yes { IsTrue result → All (λ e. PointsInto address e.base e.length → ⊥) objects.now }
     ensures no { result ≡ false → All (λ e. PointsInto address e.base e.length → ⊥) objects.now → ⊥ }

@@ -3,7 +3,7 @@ ghost use Rattle.std.specs.Prelude.{◌≡◌, IsTrue, false};
 ghost use Rattle.heap_spec.specs.declared.reply.Reply.{Reply as ReplyValue};
 ghost use Rattle.heap_spec.specs.Replies.{IsStep};
 ghost use Rattle.plain_core.specs.Standing.{StandsFor};
-ghost use Rattle.plain_core.specs.Answering.{CanAnswer, CanAttach, IsNoStep, MakesCall};
+ghost use Rattle.plain_core.specs.Answering.{CanAnswer, CanAttach, IsNoStep, MakesCall, HasPlaces, GrantHasPlaces};
 
 use super::Core;
 use heap_spec::{Call, Event, Reply};
@@ -40,7 +40,7 @@ impl Core {
 
     // Makes a call, whatever its reply.
     fn make(&mut self, slot: Slot, call: Call)
-        ensures { MakesCall self.old slot call self.new }
+        ensures { HasPlaces self.old call → MakesCall self.old slot call self.new }
     {
         match call {
             Call::Detach => ignore(self.detach(slot)),
@@ -77,9 +77,10 @@ impl Core {
         true
     }
 
-    /// Makes a call, if this is its reply. Else nothing changes. Where a request is granted the core picks the place.
+    /// Makes a call, if this is its reply. Else nothing changes. Where a request is granted the core picks the place, which is a
+    /// step where all objects lie where size classes place them.
     pub fn call_as(&mut self, slot: Slot, call: &Call, reply: &Reply) -> bool
-        ensures yes { IsTrue result → IsStep (StandsFor self.old) (Event.Mutator slot call.now) reply.now (StandsFor self.new) }
+        ensures yes { IsTrue result → GrantHasPlaces self.old call.now reply.now → IsStep (StandsFor self.old) (Event.Mutator slot call.now) reply.now (StandsFor self.new) }
         ensures no { result ≡ false → IsNoStep self.old (Event.Mutator slot call.now) reply.now }
         ensures same { result ≡ false → self.new ≡ self.old }
     {
