@@ -72,7 +72,7 @@ module _ (c : CoreContents) (slot into words : ℕ) (kind : Kind) (old new : Rec
           there = with_at-same s.objects a _ a refl;
           newest = omega arith;
           alone = λ other w o has reads others.
-              one_read _ (acts_kept s slot m sound (attached_is s slot m sound at) (Acts.allocated {placement = p} a e room) tt) w other a o _ (has, others) (with_at-same s.objects a _ a refl, reads);
+              one_read _ (acts_kept s slot m sound (attached_is s slot m sound at) (Acts.allocated {d = into} {n = words} {kind = kind} {placement = p} a e room) tt) w other a o _ (has, others) (with_at-same s.objects a _ a refl, reads);
         };
         free = room_none s sound p kind a (placed words p e) room;
         object = _;
