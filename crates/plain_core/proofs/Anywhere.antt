@@ -4,13 +4,17 @@ use Rattle.std.specs.Prelude.{Some, None, slice_get}
 use Rattle.std.proofs.lemmas.List.{length-replicate}
 use Rattle.std.proofs.lemmas.Option.{same_Some, none-some}
 use Rattle.words.specs.declared.class.Kind.{Kind}
+use Rattle.words.specs.declared.refusal.Refusal.TheVariants.{NoSlot, BadSize, Full}
+use Rattle.words.specs.Placing.{placement_of}
+use Rattle.heap_spec.specs.declared.reply.Reply.{Reply}
+use Rattle.heap_spec.specs.declared.reply.Reply.TheVariants.{Refused}
 use Rattle.heap_spec.specs.Heap.{Heap, Object, Mutator}
 use Rattle.heap_spec.proofs.Objects.{with_at-same}
 use Rattle.roots.specs.Roots.{HasMutator, HasNoMutator}
 use Rattle.plain_core.specs.declared.extent.Extent.{Extent}
 use Rattle.plain_core.specs.PlainContents.{PlainContents, IsLaidOut}
-use Rattle.plain_core.specs.Answering.{MayBePut, IsPut, IsAllocatedAnywhere, CantAllocateAnywhere, heap_with}
-use Rattle.plain_core.specs.Anywhere.{HasRoomAnywhere, Grants, by}
+use Rattle.plain_core.specs.Answering.{MayBePut, IsPut, IsAllocatedAnywhere, CantAllocateAnywhere, MayRefuse, CantRefuse, heap_with}
+use Rattle.plain_core.specs.Anywhere.{HasRoomAnywhere, Grants, Requests, by, vacant}
 use Rattle.plain_core.specs.Standing.{StandsFor}
 use Rattle.plain_core.proofs.Stands.{mutator_at}
 use Rattle.plain_core.proofs.Objects.{object_of, extent_of}
@@ -55,3 +59,33 @@ module _ (c : PlainContents) (sound : IsLaidOut c) (k d words base n : ℕ) (kin
 
   pub cant_attached : HasNoMutator c.roots k → CantAllocateAnywhere c k d words kind base n
   cant_attached none s h s' (by {m = m} at act) born = absurd (none-some m (same_Some None (Some m) (sym (ap (λ ms. slice_get ms k) h.mutators ∙ none) ∙ at)))
+
+-- a request that isn't granted
+module _ (c : PlainContents) (k words : ℕ) (reply : Reply) where
+  pub refuse_vacant : HasNoMutator c.roots k → reply ≡ Refused NoSlot → MayRefuse c k words reply
+  refuse_vacant none is into kind s h = subst (λ r. Requests s k into words kind r s) (sym is) (vacant (ap (λ ms. slice_get ms k) h.mutators ∙ none))
+
+  pub refuse_full : (m : Mutator) → HasMutator c.roots k m → reply ≡ Refused Full → MayRefuse c k words reply
+  refuse_full m at is into kind s h = subst (λ r. Requests s k into words kind r s) (sym is) (by (mutator_at c s h k m at) Grants.full)
+
+  pub refuse_size : (m : Mutator) → HasMutator c.roots k m → placement_of words ≡ None → reply ≡ Refused BadSize → MayRefuse c k words reply
+  refuse_size m at none is into kind s h = subst (λ r. Requests s k into words kind r s) (sym is) (by (mutator_at c s h k m at) (Grants.bad_size none))
+
+  pub not_vacant : HasNoMutator c.roots k → (reply ≡ Refused NoSlot → ⊥) → CantRefuse c k words reply
+  not_vacant none other into kind s s' h fair asks = go reply refl asks
+    where
+      go : (r : Reply) → r ≡ reply → Requests s k into words kind r s' → ⊥
+      go r is (by {m = m} at act) = none-some m (same_Some None (Some m) (sym (ap (λ ms. slice_get ms k) h.mutators ∙ none) ∙ at))
+      go r is (vacant free) = other (sym is)
+
+  pub not_refused : (m : Mutator) → HasMutator c.roots k m → (reply ≡ Refused Full → ⊥) → (placement_of words ≡ None → reply ≡ Refused BadSize → ⊥) → CantRefuse c k words reply
+  not_refused m here other size into kind s s' h fair asks = go reply refl asks
+    where
+      grants : (n : Mutator) (r : Reply) → r ≡ reply → Grants s k n into words kind r s' → ⊥
+      grants n r is (Grants.bad_size none) = size none (sym is)
+      grants n r is Grants.full = other (sym is)
+      grants n r is (Grants.granted a l few room) = fair (sym is)
+
+      go : (r : Reply) → r ≡ reply → Requests s k into words kind r s' → ⊥
+      go r is (by {m = n} at act) = grants n r is act
+      go r is (vacant free) = none-some m (same_Some None (Some m) (sym free ∙ mutator_at c s h k m here))

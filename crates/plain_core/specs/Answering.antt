@@ -95,3 +95,11 @@ IsAllocatedAnywhere old slot into words kind base n new = (s : Heap) → StandsF
 -- no heap that the core stands for grants the request so, wherever objects may lie
 abbrev pub CantAllocateAnywhere : PlainContents → ℕ → ℕ → ℕ → Kind → ℕ → ℕ → Type 0
 CantAllocateAnywhere c slot into words kind base n = (s : Heap) → StandsFor c s → (s' : Heap) → Requests s slot into words kind Done s' → IsBornOf s base n s' → ⊥
+
+-- a request may be refused so, wherever objects may lie
+abbrev pub MayRefuse : PlainContents → ℕ → ℕ → Reply → Type 0
+MayRefuse c slot words reply = (into : ℕ) (kind : Kind) (s : Heap) → StandsFor c s → Requests s slot into words kind reply s
+
+-- no heap that the core stands for refuses the request so
+abbrev pub CantRefuse : PlainContents → ℕ → ℕ → Reply → Type 0
+CantRefuse c slot words reply = (into : ℕ) (kind : Kind) (s s' : Heap) → StandsFor c s → (reply ≡ Done → ⊥) → Requests s slot into words kind reply s' → ⊥

@@ -20,6 +20,7 @@
 //! whose heap is sound (`replays_have_one_next`).
 #![tactic(auto)]
 
+mod anywhere;
 mod blaming;
 mod collector;
 mod expecting;

@@ -3,11 +3,11 @@ ghost use Rattle.std.specs.Prelude.{◌≡◌, IsTrue, false};
 ghost use Rattle.heap_spec.specs.declared.reply.Reply.{Reply as ReplyValue};
 ghost use Rattle.heap_spec.specs.Replies.{IsStep};
 ghost use Rattle.plain_core.specs.Standing.{StandsFor};
-ghost use Rattle.plain_core.specs.Answering.{CanAnswer, CanAttach, IsNoStep, MakesCall, HasPlaces, GrantHasPlaces};
+ghost use Rattle.plain_core.specs.Answering.{CanAnswer, CanAttach, IsNoStep, MakesCall, HasPlaces, GrantHasPlaces, MayRefuse, CantRefuse};
 
 use super::Core;
 use heap_spec::{Call, Event, Reply};
-use words::{Refusal, Slot};
+use words::{Refusal, Slot, class_of};
 
 // Whether two replies are the same.
 fn is_same(a: &Reply, b: &Reply) -> bool
@@ -94,5 +94,22 @@ impl Core {
             return true;
         };
         true
+    }
+
+    /// Whether a request may be answered so without being granted, where objects may lie anywhere.
+    pub fn may_refuse(&self, slot: Slot, words: u64, reply: &Reply) -> bool
+        ensures yes { IsTrue result → MayRefuse self.now slot words reply.now }
+        ensures no { result ≡ false → CantRefuse self.now slot words reply.now }
+    {
+        let Some(_) = self.mutator(slot) else {
+            return is_same(reply, &Reply::Refused(Refusal::NoSlot));
+        };
+        if is_same(reply, &Reply::Refused(Refusal::Full)) {
+            return true;
+        }
+        let None = class_of(words) else {
+            return false;
+        };
+        is_same(reply, &Reply::Refused(Refusal::BadSize))
     }
 }
