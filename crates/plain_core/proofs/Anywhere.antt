@@ -74,18 +74,18 @@ module _ (c : PlainContents) (k words : ℕ) (reply : Reply) where
   pub not_vacant : HasNoMutator c.roots k → (reply ≡ Refused NoSlot → ⊥) → CantRefuse c k words reply
   not_vacant none other into kind s s' h fair asks = go reply refl asks
     where
-      go : (r : Reply) → r ≡ reply → Requests s k into words kind r s' → ⊥
+      go : (r : Reply) {t : Heap} → r ≡ reply → Requests s k into words kind r t → ⊥
       go r is (by {m = m} at act) = none-some m (same_Some None (Some m) (sym (ap (λ ms. slice_get ms k) h.mutators ∙ none) ∙ at))
       go r is (vacant free) = other (sym is)
 
   pub not_refused : (m : Mutator) → HasMutator c.roots k m → (reply ≡ Refused Full → ⊥) → (placement_of words ≡ None → reply ≡ Refused BadSize → ⊥) → CantRefuse c k words reply
   not_refused m here other size into kind s s' h fair asks = go reply refl asks
     where
-      grants : (n : Mutator) (r : Reply) → r ≡ reply → Grants s k n into words kind r s' → ⊥
+      grants : (n : Mutator) (r : Reply) {t : Heap} → r ≡ reply → Grants s k n into words kind r t → ⊥
       grants n r is (Grants.bad_size none) = size none (sym is)
       grants n r is Grants.full = other (sym is)
-      grants n r is (Grants.granted a l few room) = fair (sym is)
+      grants n r is (Grants.granted a l few has) = fair (sym is)
 
-      go : (r : Reply) → r ≡ reply → Requests s k into words kind r s' → ⊥
+      go : (r : Reply) {t : Heap} → r ≡ reply → Requests s k into words kind r t → ⊥
       go r is (by {m = n} at act) = grants n r is act
       go r is (vacant free) = none-some m (same_Some None (Some m) (sym free ∙ mutator_at c s h k m here))

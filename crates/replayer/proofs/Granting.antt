@@ -118,30 +118,31 @@ stays s = record {
   held = λ w none. absurd none;
 }
 
-module _ (old : ReplayerContents) (small : old.number < word_end) (few : old.births < word_end) where
+module _ (old : ReplayerContents) where
   -- an event that is no request
   pub as_ever : (event : Event) (reply : Reply) (hint : Hint) (n : ℕ) (new : ReplayerContents) → IsNoRequest event → IsReplayed old event reply hint new → IsReplayedAnywhere old event reply hint n new
-  as_ever event reply hint n new no replayed start run f =
+  as_ever event reply hint n new free replayed start run f =
       let x = replayed start run f in (
         x.0,
-        record { line = LineAnywhere.other no x.1.line; place = λ slot into words kind is done. absurd (no slot into words kind is); finished = x.1.finished; collected = x.1.collected; births = x.1.births },
+        record { line = LineAnywhere.other free x.1.line; place = λ slot into words kind is done. absurd (free slot into words kind is); finished = x.1.finished; collected = x.1.collected; births = x.1.births },
         x.2,
       )
 
   pub never : (event : Event) (reply : Reply) (hint : Hint) (n : ℕ) → IsNoRequest event → IsNoReplay old event reply hint → IsNoReplayAnywhere old event reply hint n
-  never event reply hint n no none start run next f r = stuck event refl r.line
+  never event reply hint n free none start run next f r = stuck event refl refl r.line
     where
-      stuck : (e : Event) → e ≡ event → LineAnywhere start run e reply next → ⊥
-      stuck e is (LineAnywhere.requested {slot = slot} {into = into} {words = words} {kind = kind} asks) = no slot into words kind (sym is)
-      stuck e is (LineAnywhere.other other line) =
+      stuck : (e : Event) → e ≡ event → {to : Run} → to ≡ next → LineAnywhere start run e reply to → ⊥
+      stuck e is ends (LineAnywhere.requested {slot = slot} {into = into} {words = words} {kind = kind} asks) = free slot into words kind (sym is)
+      stuck e is {to} ends (LineAnywhere.other other line) =
           none start run next f (record {
-            line = subst (λ x. LineOf start run x reply next) is line;
-            place = λ slot into words kind asks done. absurd (no slot into words kind asks);
+            line = subst (λ to. LineOf start run event reply to) ends (subst (λ x. LineOf start run x reply to) is line);
+            place = λ slot into words kind asks done. absurd (free slot into words kind asks);
             finished = r.finished;
             collected = r.collected;
             births = r.births;
           })
 
+module _ (old : ReplayerContents) (small : old.number < word_end) (few : old.births < word_end) where
   module _ (slot into words : ℕ) (kind : Kind) where
     -- a granted request
     pub grants_anywhere : (base n : ℕ) (new : PlainContents) (flags aged : List Bool) → AreApartIn old.core → AreApartIn new → IsAllocatedAnywhere old.core slot into words kind base n new → old.births + 1 < word_end
@@ -151,9 +152,9 @@ module _ (old : ReplayerContents) (small : old.number < word_end) (few : old.bir
         let x = steps (heap_after start run) f.stands in
         granted x.0 x.1 x.2 x.3
       where
-        granted : (s' : Heap) → Requests (heap_after start run) slot into words kind Done s' → IsBornOf (heap_after start run) base n s' → StandsFor new s'
+        by_act : (m : HeapMutator) (s' : Heap) → IsAttached (heap_after start run) slot m → Grants (heap_after start run) slot m into words kind Done s' → IsBornOf (heap_after start run) base n s' → StandsFor new s'
             → (next : Run) × IsReplayAnywhere (Place base) n start run (Mutator slot (Alloc into words kind)) Done next × Follows (record old { core = new; births = old.births + 1; touched = flags; aged = aged }) start next
-        granted s' (by {m = m} at (Grants.granted a l many has)) born stands =
+        by_act m s' at (Grants.granted a l many has) born stands =
             let known = f.births in
             let d = apart (heap_after start run) f.stands in
             let d' = apart' s' stands in (
@@ -169,12 +170,16 @@ module _ (old : ReplayerContents) (small : old.number < word_end) (few : old.bir
                   (old_or_new (heap_after start run) slot m at into a l kind d d') (gains (heap_after start run) slot m at into a l kind d d') (one_newborn (heap_after start run) slot m at into a l kind d d') born.0,
             )
 
+        granted : (s' : Heap) → Requests (heap_after start run) slot into words kind Done s' → IsBornOf (heap_after start run) base n s' → StandsFor new s'
+            → (next : Run) × IsReplayAnywhere (Place base) n start run (Mutator slot (Alloc into words kind)) Done next × Follows (record old { core = new; births = old.births + 1; touched = flags; aged = aged }) start next
+        granted s' (by {m = m} at act) born stands = by_act m s' at act born stands
+
     pub no_grant_anywhere : (base n : ℕ) → CantAllocateAnywhere old.core slot into words kind base n → IsNoReplayAnywhere old (Mutator slot (Alloc into words kind)) Done (Place base) n
     no_grant_anywhere base n none start run next f r = stuck r.line (r.place slot into words kind refl refl)
       where
         stuck : {to : Run} → LineAnywhere start run (Mutator slot (Alloc into words kind)) Done to → IsBornOf (heap_after start run) base n (heap_after start to) → ⊥
         stuck (LineAnywhere.requested {s' = s'} asks) born = none (heap_after start run) f.stands s' asks born
-        stuck (LineAnywhere.other no line) born = no slot into words kind refl
+        stuck (LineAnywhere.other free line) born = free slot into words kind refl
 
     no_name : (n : ℕ) (hint : Hint) → ((base : ℕ) → hint ≡ Place base → ⊥) → (s s' : Heap) → NamesObject hint n s s' → ⊥
     no_name n Nothing ne s s' names = names
@@ -187,14 +192,17 @@ module _ (old : ReplayerContents) (small : old.number < word_end) (few : old.bir
     pub no_birth_anywhere : (hint : Hint) (n : ℕ) → word_end ≤ old.births + 1 → IsNoReplayAnywhere old (Mutator slot (Alloc into words kind)) Done hint n
     no_birth_anywhere hint n most start run next f r = stuck r.line r.births
       where
+        act_birth : (m : HeapMutator) (s' : Heap) → Grants (heap_after start run) slot m into words kind Done s' → s'.births ≡ (heap_after start run).births + 1
+        act_birth m s' (Grants.granted a l many has) = refl
+
         birth : {s' : Heap} → Requests (heap_after start run) slot into words kind Done s' → s'.births ≡ (heap_after start run).births + 1
-        birth (by at (Grants.granted a l many has)) = refl
+        birth {s'} (by {m = m} at act) = act_birth m s' act
 
         stuck : {to : Run} → LineAnywhere start run (Mutator slot (Alloc into words kind)) Done to → (heap_after start to).births < word_end → ⊥
         stuck (LineAnywhere.requested {s' = s'} asks) less =
             let births : s'.births ≡ (heap_after start run).births + 1 = birth asks in
             let known = f.births in omega arith
-        stuck (LineAnywhere.other no line) less = no slot into words kind refl
+        stuck (LineAnywhere.other free line) less = free slot into words kind refl
 
     -- a request that isn't granted
     pub refuses_anywhere : (reply : Reply) (hint : Hint) (n : ℕ) → AreApartIn old.core → (reply ≡ Done → ⊥) → MayRefuse old.core slot words reply → IsReplayedAnywhere old (Mutator slot (Alloc into words kind)) reply hint n old
@@ -231,4 +239,4 @@ module _ (old : ReplayerContents) (small : old.number < word_end) (few : old.bir
       where
         stuck : (q : Reply) → q ≡ reply → {to : Run} → LineAnywhere start run (Mutator slot (Alloc into words kind)) q to → ⊥
         stuck q is (LineAnywhere.requested {s' = s'} asks) = cant into kind (heap_after start run) s' f.stands fair (subst (λ x. Requests (heap_after start run) slot into words kind x s') is asks)
-        stuck q is (LineAnywhere.other no line) = no slot into words kind refl
+        stuck q is (LineAnywhere.other free line) = free slot into words kind refl
