@@ -1,6 +1,6 @@
 -- How a run goes on, as a replayer follows it, where objects may lie anywhere.
 use Rattle.std.proofs.Common.{◌≡◌, ◌⊎◌, ℕ, ◌+◌, ◌%◌, ◌<◌, ◌≤◌, true, List, Bool, [], length, get_or, replicate, refl, sym, ap, ◌∙◌, subst, arith, inl, inr, ⊎_elim}
-use Rattle.std.specs.Prelude.{Option, Some, None, Contains, slice_get, slice_set, slice_index}
+use Rattle.std.specs.Prelude.{IfSome, Option, Some, None, Contains, slice_get, slice_set, slice_index}
 use Rattle.std.proofs.lemmas.Bool.{cases_lt}
 use Rattle.std.proofs.lemmas.Option.{same_Some, slice_get_within, slice_get-get_or}
 use Rattle.std.proofs.lemmas.List.{length-set, length-replicate, get_or-set_same, get_or-replicate, get_or_past}
@@ -29,7 +29,8 @@ use Rattle.replayer.specs.declared.hint.Hint.{Hint}
 use Rattle.replayer.specs.declared.hint.Hint.TheVariants.{Nothing, Place, Forgot}
 use Rattle.replayer.specs.ReplayerContents.{ReplayerContents, Follows, TellTouched}
 use Rattle.replayer.specs.Replays.{IsReplayed, IsNoReplay}
-use Rattle.replayer.specs.Anywhere.{IsNoRequest, LineAnywhere, NamesObject, IsReplayAnywhere, IsReplayedAnywhere, IsNoReplayAnywhere}
+use Rattle.replayer.specs.Anywhere.{IsNoRequest, LineAnywhere, NamesObject, IsReplayAnywhere, IsReplayedAnywhere, IsNoReplayAnywhere, ExpectsAnywhere}
+use Rattle.replayer.specs.Expecting.{Expects}
 use Rattle.heap_spec.specs.Transcripts.{LineOf}
 use Rattle.replayer.proofs.Steps.{AreApartIn, same_number, follows_grant}
 
@@ -141,6 +142,21 @@ module _ (old : ReplayerContents) where
             collected = r.collected;
             births = r.births;
           })
+
+-- the one reply to an event that is no request
+expects_ever : (r : ReplayerContents) (event : Event) (reply : Reply) → IsNoRequest event → Expects r event reply → ExpectsAnywhere r event reply
+expects_ever r event reply free expects start run f = record {
+  may = let x = (expects start run f).may in (x.0, LineAnywhere.other free x.1);
+  only = λ q next ne line. stuck event refl q ne line;
+}
+  where
+    stuck : (e : Event) → e ≡ event → {to : Run} (q : Reply) → (reply ≡ q → ⊥) → LineAnywhere start run e q to → ⊥
+    stuck e is q ne (LineAnywhere.requested {slot = slot} {into = into} {words = words} {kind = kind} asks) = free slot into words kind (sym is)
+    stuck e is {to} q ne (LineAnywhere.other other line) = (expects start run f).only q to ne (subst (λ x. LineOf start run x q to) is line)
+
+pub expects_if : (r : ReplayerContents) (event : Event) (found : Option Reply) → IsNoRequest event → IfSome found (λ reply. Expects r event reply) → IfSome found (λ reply. ExpectsAnywhere r event reply)
+expects_if r event None free expects = tt
+expects_if r event (Some reply) free expects = expects_ever r event reply free expects
 
 module _ (old : ReplayerContents) (small : old.number < word_end) (few : old.births < word_end) where
   module _ (slot into words : ℕ) (kind : Kind) where

@@ -50,3 +50,12 @@ IsReplayedAnywhere old event reply hint n new = (start : Start) (run : Run) → 
 -- From no run that the replayer follows it is a replay.
 abbrev pub IsNoReplayAnywhere : ReplayerContents → Event → Reply → Hint → ℕ → Type 0
 IsNoReplayAnywhere r event reply hint n = (start : Start) (run next : Run) → Follows r start run → IsReplayAnywhere hint n start run event reply next → ⊥
+
+-- The run goes on by the event with this reply, and with no other, where objects may lie anywhere.
+pub record IsTheReplyAnywhere (start : Start) (run : Run) (event : Event) (reply : Reply) : Type 0 where
+  pub may : (next : Run) × LineAnywhere start run event reply next
+  pub only : (other : Reply) (next : Run) → (reply ≡ other → ⊥) → LineAnywhere start run event other next → ⊥
+
+-- Each run that the replayer follows goes on by the event with this reply, and with no other.
+abbrev pub ExpectsAnywhere : ReplayerContents → Event → Reply → Type 0
+ExpectsAnywhere r event reply = (start : Start) (run : Run) → Follows r start run → IsTheReplyAnywhere start run event reply

@@ -1,7 +1,7 @@
 //! Runs of heaps that place objects anywhere. Only requests answer otherwise there.
-ghost use Rattle.std.specs.Prelude.{◌≡◌, ℕ, IsTrue, false};
+ghost use Rattle.std.specs.Prelude.{◌≡◌, ℕ, IfSome, IsTrue, false};
 ghost use Rattle.replayer.specs.declared.hint.Hint.{Hint as HintValue};
-ghost use Rattle.replayer.specs.Anywhere.{IsReplayedAnywhere, IsNoReplayAnywhere};
+ghost use Rattle.replayer.specs.Anywhere.{IsReplayedAnywhere, IsNoReplayAnywhere, ExpectsAnywhere};
 
 use crate::flags::{flag_place, renew};
 use crate::hint::Hint;
@@ -98,5 +98,20 @@ impl Replayer {
             return self.step(event, reply, hint);
         };
         self.request_anywhere(slot, (into, words, kind), reply, hint, length)
+    }
+
+    /// The reply that the event has here where objects may lie anywhere, if this is known to be the only one. Of a request none is
+    /// told, since it may be refused with Full at any time.
+    pub fn reply_anywhere_to(&mut self, event: &Event) -> Option<Reply>
+        ensures reply { IfSome result (λ reply. ExpectsAnywhere self.old event.now reply) }
+        ensures same { self.new ≡ self.old }
+    {
+        let Event::Mutator(_, call) = *event else {
+            return self.reply_to(event);
+        };
+        let Call::Alloc(_, _, _) = call else {
+            return self.reply_to(event);
+        };
+        None
     }
 }

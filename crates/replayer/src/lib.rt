@@ -22,7 +22,7 @@
 //! `Replayer::step_anywhere` is the same of a run of a heap that places objects anywhere: an object may lie wherever it lies in
 //! the heap at a multiple of 8 and shares no byte with another, it has the words that are told beside the hint, at least as many as
 //! were asked for, and a request may be refused with Full at any time (`LineAnywhere`, `IsReplayAnywhere`). All other events are
-//! those of any run.
+//! those of any run. `reply_anywhere_to` is the one reply of an event there (`ExpectsAnywhere`).
 #![tactic(auto)]
 
 mod anywhere;
