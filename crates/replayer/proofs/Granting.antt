@@ -1,5 +1,5 @@
 -- How a run goes on, as a replayer follows it, where objects may lie anywhere.
-use Rattle.std.proofs.Common.{◌≡◌, ◌⊎◌, ℕ, ◌+◌, ◌%◌, ◌<◌, ◌≤◌, true, List, Bool, [], length, get_or, replicate, refl, sym, ap, ◌∙◌, subst, arith, inl, inr, ⊎_elim}
+use Rattle.std.proofs.Common.{◌≡◌, ◌⊎◌, ℕ, ◌+◌, ◌%◌, ◌<◌, ◌≤◌, true, List, Bool, length, replicate, refl, sym, ap, ◌∙◌, subst, arith, inl, inr, ⊎_elim}
 use Rattle.std.specs.Prelude.{IfSome, Option, Some, None, Contains, slice_get, slice_set, slice_index}
 use Rattle.std.proofs.lemmas.Bool.{cases_lt}
 use Rattle.std.proofs.lemmas.Option.{same_Some, slice_get_within, slice_get-get_or}
@@ -7,17 +7,17 @@ use Rattle.std.proofs.lemmas.List.{length-set, length-replicate, get_or-set_same
 use Rattle.words.specs.declared.class.Kind.{Kind}
 use Rattle.heap_spec.specs.declared.call.Call.TheVariants.{Set, Alloc}
 use Rattle.heap_spec.specs.declared.event.Event.{Event}
-use Rattle.heap_spec.specs.declared.event.Event.TheVariants.{Mutator, Finish, Collect}
+use Rattle.heap_spec.specs.declared.event.Event.TheVariants.{Mutator}
 use Rattle.heap_spec.specs.declared.reply.Reply.{Reply}
 use Rattle.heap_spec.specs.declared.reply.Reply.TheVariants.{Done}
 use Rattle.heap_spec.specs.Layout.{word_end, PointsInto}
-use Rattle.heap_spec.specs.Heap.{Heap, Object, Mutator as HeapMutator, HasObject, IsAttached, PointsIntoObject, PointsIntoNothing, root_words}
+use Rattle.heap_spec.specs.Heap.{Heap, Object, Mutator as HeapMutator, HasObject, IsAttached, PointsIntoNothing}
 use Rattle.heap_spec.specs.Laws.{IsOldOrNew}
-use Rattle.heap_spec.specs.Runs.{Start, Run, IsBornSince, Touched, heap_after, is_marking, old_births, goes_on}
+use Rattle.heap_spec.specs.Runs.{Run, IsBornSince, Touched, heap_after, goes_on}
 use Rattle.heap_spec.specs.Steps.{Acts, acts, with_register}
 use Rattle.heap_spec.specs.Touching.{HasApartObjects, HasNewborn, StandsIn}
 use Rattle.heap_spec.proofs.Objects.{at_cases, with_at-same, same_object}
-use Rattle.heap_spec.proofs.Gaining.{Gains, IsOld, IsNew, calls_gain}
+use Rattle.heap_spec.proofs.Gaining.{Gains, calls_gain}
 use Rattle.heap_spec.proofs.Touching.{flags_tell, marking_closed, stands_one}
 use Rattle.plain_core.specs.PlainContents.{PlainContents}
 use Rattle.plain_core.specs.Standing.{StandsFor}
@@ -27,7 +27,7 @@ use Rattle.plain_core.specs.Flags.{IsFlagged, FlagsLed}
 use Rattle.plain_core.specs.Aging.{FlagUnset}
 use Rattle.replayer.specs.declared.hint.Hint.{Hint}
 use Rattle.replayer.specs.declared.hint.Hint.TheVariants.{Nothing, Place, Forgot}
-use Rattle.replayer.specs.ReplayerContents.{ReplayerContents, Follows, TellTouched}
+use Rattle.replayer.specs.ReplayerContents.{ReplayerContents, Follows}
 use Rattle.replayer.specs.Replays.{IsReplayed, IsNoReplay}
 use Rattle.replayer.specs.Anywhere.{IsNoRequest, LineAnywhere, NamesObject, IsReplayAnywhere, IsReplayedAnywhere, IsNoReplayAnywhere, ExpectsAnywhere}
 use Rattle.replayer.specs.Expecting.{Expects}
