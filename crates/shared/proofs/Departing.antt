@@ -11,7 +11,7 @@ use Rattle.heap_spec.specs.Heap.{Heap, Mutator as HeapMutator, IsAttached}
 use Rattle.heap_spec.specs.Steps.{Acts}
 use Rattle.heap_spec.specs.SequentialObject.{HeapState, heap_of, Opens, StateStep}
 use Rattle.heap_history.specs.Headline.{Departs}
-use Rattle.heap_history.specs.Passes.{MadeEvent, HeapPass, IsLegalPass, IsLegalPast, begins_with_attach}
+use Rattle.heap_history.specs.Passes.{MadeEvent, HeapPass, IsLegalPass, begins_with_attach}
 use Rattle.heap_history.specs.Ranks.{rank_of}
 use Rattle.heap_history.proofs.Chains.{mine_begins}
 use Rattle.heap_history.proofs.OwnObjects.{calls_acts}

@@ -116,14 +116,16 @@ impl Journal {
     }
 }
 
-// Takes an event down in a journal that is kept.
-fn take_down(journal: &mut Journal, core: &Core, who: u8, call: &Event, reply: &Reply)
-    ensures { TakesDown journal.old (event who call.now reply.now) journal.new }
+// Takes an event down in a journal that is kept. It has the event and the reply as values of its own, so that those of a call need
+// no place in memory where no journal is kept.
+#[inline(never)]
+fn take_down(journal: &mut Journal, core: &Core, who: u8, call: Event, reply: Reply)
+    ensures { TakesDown journal.old (event who call reply) journal.new }
 {
     let Journal::On(entries) = replace(journal, Journal::Lost) else {
         return;
     };
-    let Ok(more) = entries.with(core, who, call, reply) else {
+    let Ok(more) = entries.with(core, who, &call, &reply) else {
         return;
     };
     *journal = Journal::On(more);
@@ -135,6 +137,6 @@ pub(crate) fn write_down(journal: &mut Journal, core: &Core, who: u8, call: &Eve
     ensures { TakesDown journal.old (event who call.now reply.now) journal.new }
 {
     if journal.is_on() {
-        take_down(journal, core, who, call, reply);
+        take_down(journal, core, who, *call, *reply);
     }
 }

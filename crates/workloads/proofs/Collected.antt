@@ -13,7 +13,7 @@ use Rattle.heap_spec.specs.declared.event.Event.TheVariants.{Begin, BeginPartial
 use Rattle.heap_spec.specs.declared.reply.Reply.{Reply}
 use Rattle.heap_spec.specs.declared.reply.Reply.TheVariants.{Done, Count, Refused}
 use Rattle.heap_spec.specs.Replies.{done_reply, count_reply}
-use Rattle.heap_spec.specs.Runs.{Touched, opening_start, is_marking, count as collections}
+use Rattle.heap_spec.specs.Runs.{opening_start, is_marking, count as collections}
 use Rattle.heap_spec.specs.Transcripts.{LineOf, IsWrongPhase}
 use Rattle.heap_spec.specs.SequentialObject.{HeapState}
 use Rattle.heap_history.specs.Ranks.{rank_of}

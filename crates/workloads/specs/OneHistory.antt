@@ -8,7 +8,7 @@ use Rattle.heap_spec.specs.declared.event.Event.{Event}
 use Rattle.heap_spec.specs.declared.event.Event.TheVariants.{Attach, Mutator, Begin, BeginPartial, Roots, Mark, Retrace, Finish, Sweep, Collect, Number}
 use Rattle.heap_spec.specs.declared.reply.Reply.{Reply}
 use Rattle.heap_spec.specs.declared.reply.Reply.TheVariants.{Slot, Done, Word, Count, Refused}
-use Rattle.heap_spec.specs.Runs.{Touched, opening_start}
+use Rattle.heap_spec.specs.Runs.{opening_start}
 use Rattle.heap_spec.specs.Transcripts.{LineOf}
 use Rattle.heap_spec.specs.SequentialObject.{HeapState, Opens, StateStep}
 use Rattle.heap_history.specs.Ranks.{rank_of}
