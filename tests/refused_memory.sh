@@ -37,6 +37,14 @@ all_or_none() {
     fi
 }
 
+# The same, but all lines may be there where a file that is written behind them has no memory.
+all_or_file() {
+    if [ "$status" = 1 ] && cmp -s "$room/out" "$lines"; then
+        : >"$room/out"
+    fi
+    all_or_none
+}
+
 # The same, but for whole lines that are there before `no memory` is said.
 all_or_first() {
     if [ "$status" = 1 ] && head -n "$(wc -l <"$room/out")" "$lines" | cmp -s - "$room/out"; then
@@ -89,6 +97,8 @@ tests test_workloads pause::refused_memory
 tests test_workloads refused_helpers::refused_thread
 program mpheap all_or_none "$top/examples/hidden_pointer.replies" run --pages 4 "$top/examples/hidden_pointer.script"
 program mpheap all_or_none "$top/examples/two_threads.replies" threads --pages 4 --helpers 2 "$top/examples/two_threads.workload"
+program mpheap all_or_file "$top/examples/two_threads.replies" threads --pages 4 --helpers 2 --record "$room/record" \
+    "$top/examples/two_threads.workload"
 # What a random script is to be is told by tests/random.sh; here it is the one that is written where none is refused.
 "$crates/mpheap/out/mpheap" stress --seed 1 --mutators 2 --steps 100 >"$room/stress"
 program mpheap all_or_none "$room/stress" stress --seed 1 --mutators 2 --steps 100
@@ -97,6 +107,7 @@ program record all_or_first "$crates/record/stdout" --pages 1 "$crates/record/da
 program draw all_or_first "$crates/draw/stdout" --pages 4 "$crates/draw/data/lazy_sweep.script"
 on_small_stack "$top/examples/hidden_pointer.replies" mpheap run --pages 4 "$top/examples/hidden_pointer.script"
 on_small_stack "$top/examples/two_threads.replies" mpheap threads --pages 4 --helpers 8 "$top/examples/two_threads.workload"
+on_small_stack "$top/examples/two_threads.replies" mpheap threads --pages 4 --record "$room/record" "$top/examples/two_threads.workload"
 on_small_stack "$room/stress" mpheap stress --seed 1 --mutators 2 --steps 100
 on_small_stack "$crates/replay/stdout" replay --pages 1 "$crates/replay/data/first.replay"
 on_small_stack "$crates/record/stdout" record --pages 1 "$crates/record/data/first.script"

@@ -53,6 +53,8 @@ fn line_of(alloc: Global, replayer: &mut Replayer, entry: &Entry) -> Result<Stri
 ///
 /// # Errors
 /// [`RecordError::Refused`] if the checker says no to an entry, and [`RecordError::Memory`] where memory is refused.
+// The checker lies in this frame, and not in that of who runs the threads.
+#[inline(never)]
 pub fn lines_of(alloc: Global, pages: u32, entries: &[Entry]) -> Result<Vec<String>, RecordError>
     requires some { 1 ≤ pages }
     requires most { pages ≤ MAX_PAGES }
