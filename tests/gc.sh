@@ -149,7 +149,21 @@ counted "signals" "$room/signals"
 is "an object to be loaded is built" "" "$(cat "$room/said")"
 counted "process" "$room/process" "$room/loaded.so"
 "${c[@]}" -no-pie "$top/tests/gc/process.c" "-L$room" -lmpgc "-Wl,-rpath,$room" -o "$room/fixed" 2>"$room/said"
-counted "process, at fixed addresses" "$room/fixed" "$room/loaded.so"
+# The kernel puts what such a program gets by brk within a GiB behind it: in one start of some sixty where the heap has to be, of which
+# libmpgc says that it isn't free. Then it is started anew.
+cat >"$room/started" <<'START'
+#!/bin/sh
+for start in 1 2 3 4 5; do
+    "$@" >"$0.out" 2>"$0.err"
+    status=$?
+    grep -q 'there is no memory at 0x10000000' "$0.err" || break
+done
+cat "$0.out"
+cat "$0.err" >&2
+exit "$status"
+START
+chmod +x "$room/started"
+counted "process, at fixed addresses" "$room/started" "$room/fixed" "$room/loaded.so"
 for test in barrier kernel signals; do
     if "${c[@]}" -DWITHOUT_SYSCALLS "$top/tests/gc/$test.c" "$room/libmpgc.a" -pthread -o "$room/archived" 2>"$room/said"; then
         counted "$test, of the archive" "$room/archived"
