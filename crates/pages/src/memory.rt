@@ -8,7 +8,7 @@ use crate::opening::is_page_count;
 use std::alloc::Global;
 use std::marker::Model;
 use words::OpenError;
-use words::limits::{FIRST_ADDRESS, GRANULE_WORDS, PAGE_WORDS, WORD_BYTES};
+use words::limits::{FIRST_ADDRESS, PAGE_WORDS, WORD_BYTES};
 
 /// The memory of a heap: its words, which no call but these reads or writes.
 #[derive(Drop)]
@@ -41,6 +41,46 @@ fn clear(words: &mut [u64])
     for word in words.iter_mut() {
         *word = 0;
     }
+}
+
+// Makes two words 0.
+#[inline(always)]
+fn clear_two(words: &mut [u64], first: usize)
+    requires { first + 2 ≤ length words.old }
+    ensures { IsZeroed words.old words.new first 2 }
+{
+    words[first] = 0;
+    words[first + 1] = 0;
+}
+
+// Makes four words 0.
+#[inline(always)]
+fn clear_four(words: &mut [u64], first: usize)
+    requires { first + 4 ≤ length words.old }
+    ensures { IsZeroed words.old words.new first 4 }
+{
+    clear_two(words, first);
+    clear_two(words, first + 2);
+}
+
+// Makes six words 0.
+#[inline(always)]
+fn clear_six(words: &mut [u64], first: usize)
+    requires { first + 6 ≤ length words.old }
+    ensures { IsZeroed words.old words.new first 6 }
+{
+    clear_four(words, first);
+    clear_two(words, first + 4);
+}
+
+// Makes eight words 0.
+#[inline(always)]
+fn clear_eight(words: &mut [u64], first: usize)
+    requires { first + 8 ≤ length words.old }
+    ensures { IsZeroed words.old words.new first 8 }
+{
+    clear_four(words, first);
+    clear_four(words, first + 4);
 }
 
 impl Memory {
@@ -84,7 +124,7 @@ impl Memory {
         self.words[word_index(address)] = word;
     }
 
-    /// Writes 0 into so many words from an address on. Those of the least objects are written without a loop.
+    /// Writes 0 into so many words from an address on. Those of the four least classes are written without a loop.
     #[inline]
     pub fn zero(&mut self, address: u64, count: u32)
         requires address { IsWordAddress self.old address }
@@ -92,11 +132,12 @@ impl Memory {
         ensures { IsZeroed self.old self.new (word_index address) count }
     {
         let first = word_index(address);
-        if u64::from(count) == GRANULE_WORDS {
-            self.words[first] = 0;
-            self.words[first + 1] = 0;
-            return;
+        match count {
+            2 => clear_two(&mut self.words, first),
+            4 => clear_four(&mut self.words, first),
+            6 => clear_six(&mut self.words, first),
+            8 => clear_eight(&mut self.words, first),
+            _ => clear(&mut self.words[first..first + count as usize]),
         }
-        clear(&mut self.words[first..first + count as usize]);
     }
 }

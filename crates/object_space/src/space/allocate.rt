@@ -192,6 +192,7 @@ impl ObjectSpace {
     /// Takes a place for a new object, writes 0 into its words, and answers its base. It sweeps as it needs: first pages
     /// for the class and the kind, and where there is no free page either, the others until there is a place. `None`
     /// exactly if no address has room, and then no page is pending.
+    #[inline(always)]
     pub fn allocate(&mut self, marker: &Marker, placement: Placement, kind: Kind) -> Option<u64>
         requires request { IsRequest placement }
         requires pages { length marker.now.dirty ≡ length self.old.states }
