@@ -8,7 +8,7 @@ mod plain_row;
 
 use plain_class::Class;
 use plain_figures::report;
-use plain_map::{Block, Found, Kind, Page, START, find};
+use plain_map::{Block, Found, Kind, Page, START, find, object_at};
 use plain_marker::{Marker, granule};
 use plain_row::set;
 use std::hint::black_box;
@@ -21,6 +21,9 @@ const ENTRIES: usize = 256;
 const LOOKS: u32 = 100_000;
 const LISTS: u64 = 64;
 const ROUNDS: u32 = 30;
+const LEAST_WORDS: u64 = 65_536;
+const SLICE: u64 = 1_024;
+const DIRTY_PAGES: usize = 16;
 
 struct Helper {
     stack: [u64; ENTRIES],
@@ -31,6 +34,7 @@ struct Helper {
 
 struct Pause<'a> {
     table: &'a [AtomicU64],
+    marker: &'a Marker,
     map: &'a [Page],
     memory: &'a [u64],
     roots: &'a [u64],
@@ -72,9 +76,11 @@ impl Pause<'_> {
         false
     }
 
-    // Reads the words of an object page by page, and carries those with a word that lies in the heap and points into nothing.
-    fn read_words(&self, helper: &mut Helper, found: Found) {
-        let (mut at, end) = (((found.base - START) / 8) as usize, ((found.base - START) / 8) as usize + found.len as usize);
+    // Reads the words of an object from one on, page by page, and carries those with a word that lies in the heap and points into
+    // nothing.
+    fn read_words(&self, helper: &mut Helper, found: Found, first: u32) {
+        let start = ((found.base - START) / 8) as usize;
+        let (mut at, end) = (start + first as usize, start + found.len as usize);
         while at < end {
             let stop = end.min((at / 512 + 1) * 512);
             let mut stray = false;
@@ -103,8 +109,8 @@ impl Pause<'_> {
         let mut offered = 0;
         while helper.len > 0 {
             helper.len -= 1;
-            let found = find(self.map, helper.stack[helper.len]).unwrap();
-            self.read_words(helper, found);
+            let found = object_at(self.map, helper.stack[helper.len]);
+            self.read_words(helper, found, 0);
             offered = self.offer_lowest(helper, offered);
         }
     }
@@ -122,12 +128,30 @@ impl Pause<'_> {
         self.busy.fetch_sub(1, SeqCst);
     }
 
+    fn read_entry(&self, helper: &mut Helper, (base, next): (u64, u32)) {
+        if let Some(found) = find(self.map, base) {
+            self.read_words(helper, found, next);
+        }
+    }
+
+    // The entries of the helper's share. No page is dirty here when helpers start.
+    fn read_entries(&self, helper: &mut Helper, share: usize) {
+        for entry in self.marker.waiting().iter().skip(share).step_by(self.helpers) {
+            self.read_entry(helper, *entry);
+            self.read_stack(helper);
+        }
+    }
+
     fn help(&self, share: usize) -> Helper {
         let mut helper = Helper { stack: [0; ENTRIES], len: 0, dirty: vec![0; PAGES / 64], carried: vec![0; PAGES / 64] };
         for word in self.roots.iter().skip(share).step_by(self.helpers) {
             self.visit(&mut helper, *word);
         }
+        if let (0, Some(entry)) = (share, self.marker.current()) {
+            self.read_entry(&mut helper, entry);
+        }
         self.read_stack(&mut helper);
+        self.read_entries(&mut helper, share);
         self.busy.fetch_sub(1, SeqCst);
         for _ in 0..LOOKS {
             if self.busy.load(SeqCst) == 0 {
@@ -139,26 +163,68 @@ impl Pause<'_> {
     }
 }
 
-fn close_with(marker: &mut Marker, map: &[Page], memory: &[u64], roots: &[u64], helpers: usize) {
+fn has_words(map: &[Page], least: u64) -> bool {
+    let mut words = 0;
+    for page in map {
+        if words >= least {
+            return true;
+        }
+        if !matches!(page, Page::Free) {
+            words += 512;
+        }
+    }
+    words >= least
+}
+
+fn is_shareable(marker: &Marker, helpers: usize) -> bool {
+    helpers > 1 && marker.waiting().len() + marker.count_dirty() / DIRTY_PAGES >= helpers
+}
+
+// Marks on alone until nothing is left, or enough waits to be shared over a large enough heap. Answers whether nothing is left.
+fn mark_before_helpers(marker: &mut Marker, map: &[Page], memory: &[u64], roots: &[u64], helpers: usize) -> bool {
+    let (mut read, mut wanted) = (0, LEAST_WORDS / 4);
+    marker.scan_roots(map, roots);
+    while let Some(more) = marker.mark_on(map, memory, SLICE) {
+        read += more;
+        if read >= wanted && is_shareable(marker, helpers) {
+            if has_words(map, LEAST_WORDS) {
+                return false;
+            }
+            wanted = u64::MAX;
+        }
+    }
+    true
+}
+
+fn mark_with_helpers(marker: &mut Marker, map: &[Page], memory: &[u64], roots: &[u64], helpers: usize) {
     let table: Vec<AtomicU64> = marker.marks.iter().map(|word| AtomicU64::new(*word)).collect();
     let (offer, busy) = (AtomicU64::new(0), AtomicU64::new(helpers as u64));
-    let pause = &Pause { table: &table, map, memory, roots, helpers, offer: &offer, busy: &busy };
-    thread::scope(|scope| {
+    let pause = &Pause { table: &table, marker, map, memory, roots, helpers, offer: &offer, busy: &busy };
+    let crew: Vec<Helper> = thread::scope(|scope| {
         let crew: Vec<_> = (1..helpers).map(|share| scope.spawn(move || pause.help(share - 1))).collect();
         // The last one works on this thread.
         let last = pause.help(helpers - 1);
-        for helper in crew.into_iter().map(|job| job.join().unwrap()).chain([last]) {
-            for (word, more) in marker.dirty.iter_mut().zip(helper.dirty) {
-                *word |= more;
-            }
-            for (word, more) in marker.carried.iter_mut().zip(helper.carried) {
-                *word |= more;
-            }
-        }
+        crew.into_iter().map(|job| job.join().unwrap()).chain([last]).collect()
     });
+    marker.forget_work();
+    for helper in crew {
+        for (word, more) in marker.dirty.iter_mut().zip(helper.dirty) {
+            *word |= more;
+        }
+        for (word, more) in marker.carried.iter_mut().zip(helper.carried) {
+            *word |= more;
+        }
+    }
     for (word, bits) in marker.marks.iter_mut().zip(&table) {
         *word = bits.load(SeqCst);
     }
+}
+
+fn close_with(marker: &mut Marker, map: &[Page], memory: &[u64], roots: &[u64], helpers: usize) {
+    if mark_before_helpers(marker, map, memory, roots, helpers) {
+        return;
+    }
+    mark_with_helpers(marker, map, memory, roots, helpers);
     marker.mark(map, memory, roots);
 }
 

@@ -260,12 +260,44 @@ impl Marker {
         Some(page)
     }
 
+    /// The object that is being read, with the number of its next word.
+    pub fn current(&self) -> Option<(u64, u32)> {
+        self.current
+    }
+
+    /// Those that wait, the next one last.
+    pub fn waiting(&self) -> &[(u64, u32)] {
+        &self.stack[..self.len]
+    }
+
+    /// How many pages are dirty.
+    pub fn count_dirty(&self) -> usize {
+        self.dirty.iter().map(|word| word.count_ones() as usize).sum()
+    }
+
+    /// No entry is left and no page is dirty.
+    pub fn forget_work(&mut self) {
+        self.current = None;
+        self.len = 0;
+        self.dirty.fill(0);
+    }
+
     /// Marks the objects that root words point into.
     pub fn scan_roots(&mut self, map: &[Page], roots: &[u64]) {
         let heap_bytes = 4_096 * map.len() as u64;
         for word in roots {
             self.mark_word(map, heap_bytes, *word);
         }
+    }
+
+    /// Reads so many words of entries, or all that they have and then the lowest dirty page. Answers how many words these
+    /// were at most, and `None` where nothing was left.
+    pub fn mark_on(&mut self, map: &[Page], memory: &[u64], most: u64) -> Option<u64> {
+        let read = self.step(map, memory, most);
+        if self.current.is_some() {
+            return Some(read);
+        }
+        self.retrace(map, memory).map(|_| read + 512)
     }
 
     /// Marks all that roots reach, and answers the words that were read off entries.

@@ -26,13 +26,16 @@ none_in w h = let l = h.1 in omega arith
 at : (i : ℕ) → granule (FIRST_ADDRESS + GRANULE_BYTES * i) ≡ i
 at i = omega arith
 
-pub closes_step : (found : ℕ → Option Found) (words roots : List ℕ) (reads : ℕ) (old : Marking) (mid_reads : ℕ) (mid : Marking) (now_reads : ℕ) (now : Marking)
-    → Closes found words roots reads old mid_reads mid → Traces found words [] mid now → now_reads + cost found now ≤ mid_reads + cost found mid → Closes found words roots reads old now_reads now
-closes_step found words roots reads old mid_reads mid now_reads now c t less = record {
-  traces = traces_trans found words roots old mid now c.traces (traces_more found words [] roots mid now (λ w h. absurd (none_in w h)) t);
-  scanned = λ w h g e. t.marks g.base (c.scanned w h g e);
-  less = (let a = c.less in omega arith);
-}
+-- a reader's words, which are the memory's, are read on
+pub closes_step : (found : ℕ → Option Found) (words read roots : List ℕ) (reads : ℕ) (old : Marking) (mid_reads : ℕ) (mid : Marking) (now_reads : ℕ) (now : Marking)
+    → read ≡ words → Closes found words roots reads old mid_reads mid → Traces found read [] mid now → now_reads + cost found now ≤ mid_reads + cost found mid → Closes found words roots reads old now_reads now
+closes_step found words read roots reads old mid_reads mid now_reads now same c t less =
+    let here = subst (λ (w : List ℕ). Traces found w [] mid now) same t in
+    record {
+      traces = traces_trans found words roots old mid now c.traces (traces_more found words [] roots mid now (λ w h. absurd (none_in w h)) here);
+      scanned = λ w h g e. here.marks g.base (c.scanned w h g e);
+      less = (let a = c.less in omega arith);
+    }
 
 pub closed : (pages : ℕ) (found : ℕ → Option Found) (words roots : List ℕ) (reads : ℕ) (old : Marking) (now_reads : ℕ) (now : Marking) → IsMap pages found → DirtyPageInvariant found words old
     → Closes found words roots reads old now_reads now → IsDone now

@@ -1,5 +1,5 @@
 //! Closing the marks by one thread.
-ghost use Rattle.std.specs.Prelude.{◌≡◌, ◌+◌, ◌*◌, ◌<◌, ◌≤◌, [], true, false, length};
+ghost use Rattle.std.specs.Prelude.{◌≡◌, ◌+◌, ◌*◌, ◌<◌, ◌≤◌, [], IfNone, IfSome, length};
 ghost use Rattle.words.specs.declared.limits.TheConstants.{PAGE_WORDS};
 ghost use Rattle.block_map.specs.FoundIn.{found_in};
 ghost use Rattle.marker.specs.Marking.{IsDone};
@@ -11,6 +11,7 @@ ghost use Rattle.marker.specs.Growth.{Traces};
 use block_map::BlockMap;
 use marker::Marker;
 use pages::Reader;
+use words::limits::PAGE_WORDS;
 
 /// Marks on until nothing is left to read: the marks become the closure of the marks before and the roots.
 pub fn close_marks(marker: &mut Marker, map: &BlockMap, reader: &mut Reader, roots: &[u64])
@@ -24,25 +25,32 @@ pub fn close_marks(marker: &mut Marker, map: &BlockMap, reader: &mut Reader, roo
     ensures reads { reader.new.reads ≤ reader.old.reads + (PAGE_WORDS * (dirty_pages marker.old + newly_pages (found_in map.now) marker.old marker.new) + entry_words (found_in map.now) marker.old) }
 {
     marker.scan_roots(map, roots);
-    while !mark_on(marker, map, reader) {}
+    while let Some(_) = mark_on(marker, map, reader, u64::MAX) {}
 }
 
-// Reads all entries and then the lowest dirty page. Answers whether nothing was left to read.
-fn mark_on(marker: &mut Marker, map: &BlockMap, reader: &mut Reader) -> bool
+/// Reads so many words of entries, or all that they have and then the lowest dirty page. Answers how many words these were at
+/// most, and `None` where nothing was left to read.
+pub(crate) fn mark_on(
+    marker: &mut Marker,
+    map: &BlockMap,
+    reader: &mut Reader,
+    most: u64,
+) -> Option<u64>
     requires pages { length marker.old.dirty ≡ length map.now }
     requires memory { length reader.old.words ≡ PAGE_WORDS * length map.now }
+    requires some { 0 < most }
     ensures traces { Traces (found_in map.now) reader.old.words [] marker.old marker.new }
-    ensures done { result ≡ true → IsDone marker.new }
-    ensures less { result ≡ false → cost (found_in map.now) marker.new < cost (found_in map.now) marker.old }
+    ensures done { IfNone result (IsDone marker.new) }
+    ensures less { IfSome result (λ _. cost (found_in map.now) marker.new < cost (found_in map.now) marker.old) }
     ensures words { reader.new.words ≡ reader.old.words }
     ensures reads { reader.new.reads + cost (found_in map.now) marker.new ≤ reader.old.reads + cost (found_in map.now) marker.old }
 {
-    let marked = marker.step(map, reader, u64::MAX);
+    let marked = marker.step(map, reader, most);
     if !marked.empty {
-        return false;
+        return Some(marked.read);
     }
     match marker.retrace(map, reader) {
-        Some(_) => false,
-        None => true,
+        Some(_) => Some(marked.read.saturating_add(PAGE_WORDS)),
+        None => None,
     }
 }

@@ -53,9 +53,7 @@ impl<'a> Pause<'a> {
     {
         let mut offered = 0;
         while let Some(base) = helper.stack.pop() {
-            let Some(found) = self.map.find(base) else {
-                unreachable!();
-            };
+            let found = self.map.object_at(base);
             self.read_words(gate, helper, found, 0, u64::from(found.len));
             offered = offer_lowest(offer, &helper.stack, offered);
         }

@@ -14,6 +14,10 @@
 //! [`close_marks_with`] first marks with helpers, the last on the calling thread and each other in a thread of its own, and then ends
 //! as [`close_marks`].
 //!
+//! **Before they start.** The gate says how many words the pages in use have at least where helpers start. The calling thread
+//! marks as [`close_marks`] does until it has read a quarter as many and enough waits to be shared, so that over a small heap or
+//! one long list it does all of it, and no helper starts.
+//!
 //! **Starting.** The marks are copied into a table of bits. Each helper gets a claimer of it, a stack, a row of dirty pages
 //! and one of carried pages. All memory is taken before the first helper starts. Where memory or a thread is refused, those that run are
 //! joined, the table is dropped, and the calling thread marks alone.
@@ -55,6 +59,7 @@
 
 mod alone;
 mod balance;
+mod before;
 mod busy;
 mod crew;
 mod gate;
@@ -66,6 +71,6 @@ mod parallel;
 mod share;
 
 pub use alone::close_marks;
-pub use gate::{COLLECTOR_ACTOR, FIRST_HELPER, Gate, Open};
+pub use gate::{AtOnce, COLLECTOR_ACTOR, FIRST_HELPER, Gate, Open};
 pub use helpers::Helpers;
 pub use parallel::close_marks_with;

@@ -10,6 +10,7 @@ ghost use Rattle.each_law.specs.Jobs.{HaveRun};
 ghost use Rattle.final_pause.specs.Serving.{IsServing, AreOffered, HasServed};
 
 use crate::alone::close_marks;
+use crate::before::mark_before_helpers;
 use crate::busy::Busy;
 use crate::crew::{gather, hire};
 use crate::gate::Gate;
@@ -114,8 +115,8 @@ fn mark_with_helpers<R: Threads + Wait + Sync, G: Gate>(
 }
 
 /// Marks on until nothing is left to read, with helpers at the same time, the last of them on the calling thread: the marks become
-/// the closure of the marks before and the roots, as [`close_marks`] leaves them. Where memory or a thread is refused, the calling
-/// thread does it alone.
+/// the closure of the marks before and the roots, as [`close_marks`] leaves them. Where there is less to do than
+/// the gate says, or too little waits to be shared, and where memory or a thread is refused, the calling thread does it alone.
 pub fn close_marks_with<R: Threads + Wait + Sync, G: Gate>(
     rt: &R,
     alloc: Global,
@@ -133,6 +134,9 @@ pub fn close_marks_with<R: Threads + Wait + Sync, G: Gate>(
     ensures done { IsDone marker.new }
     ensures traces { Traces (found_in map.now) memory.now roots.now marker.old marker.new }
 {
+    if mark_before_helpers(marker, map, memory, roots, helpers, gate.least_words()) {
+        return;
+    }
     mark_with_helpers(rt, alloc, marker, map, memory, roots, helpers, gate);
     let mut reader = Reader::new(memory);
     close_marks(marker, map, &mut reader, roots);

@@ -1,7 +1,7 @@
 //! Pauses with helpers: they are at work at the same time, and leave the marks that a pause without them leaves.
 use crate::scene::Scene;
 use crate::wide::widen;
-use final_pause::{FIRST_HELPER, Gate, Helpers, Open};
+use final_pause::{AtOnce, FIRST_HELPER, Gate, Helpers};
 use std::process::Abort;
 use std::sync::Wait;
 use std::sync::atomic::{AtomicU64, Ordering};
@@ -58,6 +58,10 @@ impl Gate for Meeting {
 
     fn after(&self, _actor: u8, _call: u32) {
         self.claims.fetch_add(1, Ordering::SeqCst);
+    }
+
+    fn least_words(&self) -> u64 {
+        0
     }
 }
 
@@ -122,7 +126,7 @@ fn closes(
     let helpers = Helpers::new(number).ok_or("a number of helpers")?;
     scene
         .heap
-        .close_with(rt, scene.alloc, roots, helpers, &Open);
+        .close_with(rt, scene.alloc, roots, helpers, &AtOnce);
     scene.assert_marked(rt, wanted.as_slice());
     scene.assert_no_other_mark(rt);
     assert_eq!(rt; scene.heap.retrace(), None);

@@ -53,6 +53,10 @@ impl Gate for Waiting {
             self.others.fetch_add(1, Ordering::SeqCst);
         }
     }
+
+    fn least_words(&self) -> u64 {
+        0
+    }
 }
 
 // All hangs from one root word, so that another helper has only what the first one offers.

@@ -3,7 +3,7 @@
 ghost use Rattle.std.specs.Prelude.{◌≡◌};
 
 use crate::serve::{reg, serve, serve_call};
-use final_pause::{Helpers, Open};
+use final_pause::{AtOnce, Helpers};
 use heap_core::Core;
 use heap_spec::answers::count;
 use heap_spec::{Call, Event, Reply};
@@ -44,7 +44,7 @@ fn make<J: Naming, R: Threads + Wait + Sync>(
     match asked {
         Asked::Alone(event) => serve(rt, heap, me, collector, event),
         Asked::WithHelpers(helpers) => {
-            count(heap.finish_with(rt, alloc, collector, helpers, &Open))
+            count(heap.finish_with(rt, alloc, collector, helpers, &AtOnce))
         }
     }
 }

@@ -2,7 +2,7 @@
 ghost use Rattle.std.specs.Prelude.{◌≡◌};
 
 use crate::serve::{reg, serve_call};
-use final_pause::{Helpers, Open};
+use final_pause::{AtOnce, Helpers};
 use heap_core::Core;
 use heap_core::quiet::{Mark, Roots};
 use heap_spec::{Call, Reply};
@@ -44,7 +44,7 @@ fn end<J: Naming, R: Threads + Wait + Sync>(
     helpers: &Option<Helpers>,
 ) -> Result<u64, Refusal> {
     match helpers {
-        Some(helpers) => heap.finish_with(rt, alloc, collector, *helpers, &Open),
+        Some(helpers) => heap.finish_with(rt, alloc, collector, *helpers, &AtOnce),
         None => heap.finish(rt, collector),
     }
 }

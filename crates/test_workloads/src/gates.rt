@@ -47,6 +47,10 @@ impl Gate for Counts {
     fn after(&self, _actor: u8, _call: u32) {
         self.ended.fetch_add(1, Ordering::SeqCst);
     }
+
+    fn least_words(&self) -> u64 {
+        0
+    }
 }
 
 /// All actors meet before their first call: nobody alone gets past it.
@@ -76,6 +80,10 @@ impl Gate for Meeting {
     }
 
     fn after(&self, _actor: u8, _call: u32) {}
+
+    fn least_words(&self) -> u64 {
+        0
+    }
 }
 
 /// Mutators 0 and 1 meet before their first calls, and mutator 1 makes its second one after that of mutator 0.
@@ -112,6 +120,10 @@ impl Gate for TwoThreads {
         if (actor, call) == (0, 1) {
             self.put.fetch_add(1, Ordering::SeqCst);
         }
+    }
+
+    fn least_words(&self) -> u64 {
+        0
     }
 }
 
@@ -164,6 +176,10 @@ impl Gate for HeldPause {
             _ => {}
         }
     }
+
+    fn least_words(&self) -> u64 {
+        0
+    }
 }
 
 /// Mutators and the collector make their calls one at a time, in this order. Helpers aren't held back.
@@ -204,5 +220,9 @@ impl Gate for InTurn<'_> {
         if actor <= COLLECTOR_ACTOR {
             self.made.fetch_add(1, Ordering::SeqCst);
         }
+    }
+
+    fn least_words(&self) -> u64 {
+        0
     }
 }

@@ -1,5 +1,5 @@
 //! Cores that are marking: by each number of helpers the pause marks what the pause alone marks, and leaves nothing to read.
-use final_pause::{Helpers, Open};
+use final_pause::{AtOnce, Helpers};
 use heap_core::Core;
 use heap_spec::{Call, Event, Reply};
 use scripts::command;
@@ -46,7 +46,7 @@ pub(crate) fn close_with(
     core: &mut Core,
     helpers: Helpers,
 ) -> Result<(), Refusal> {
-    core.close_with(rt, alloc, helpers, &Open)
+    core.close_with(rt, alloc, helpers, &AtOnce)
 }
 
 // No global points into an object any more.

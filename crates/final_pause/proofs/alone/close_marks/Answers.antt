@@ -1,6 +1,5 @@
-use Rattle.std.proofs.Common.{length, ◌∙◌, refl, rules, subst, List, [], ℕ, arith}
+use Rattle.std.proofs.Common.{length, ◌∙◌, refl, arith}
 use Rattle.block_map.specs.FoundIn.{found_in}
-use Rattle.marker.specs.Growth.{Traces}
 use Rattle.final_pause.proofs.Closing.{Closes, closes_step, closed, closed_reads}
 use Rattle.final_pause.proofs.alone.close_marks.Goals as goal
 use Rattle.final_pause.proofs.alone.close_marks.Goals.{After-mark_on}
@@ -13,11 +12,8 @@ loop-init c =
       words = refl;
     }
 
-next_traces : (c : After-mark_on) → Traces (found_in c.args.map.now) c.args.reader.now.words [] c.loop.marker c.mark_on.new.marker
-next_traces c = subst (λ (w : List ℕ). Traces (found_in c.args.map.now) w [] c.loop.marker c.mark_on.new.marker) c.loop.invariant.words c.mark_on.ensures.traces
-
 closes : (c : After-mark_on) → Closes (found_in c.args.map.now) c.args.reader.now.words c.args.roots.now c.args.reader.now.reads c.args.marker.now c.mark_on.new.reader.reads c.mark_on.new.marker
-closes c = closes_step (found_in c.args.map.now) c.args.reader.now.words c.args.roots.now _ _ _ _ _ _ c.loop.invariant.closes (next_traces c) c.mark_on.ensures.reads
+closes c = closes_step (found_in c.args.map.now) c.args.reader.now.words _ c.args.roots.now _ _ _ _ _ _ c.loop.invariant.words c.loop.invariant.closes c.mark_on.ensures.traces c.mark_on.ensures.reads
 
 pub mark_on-requires-clause-pages : goal.mark_on-requires-clause-pages
 mark_on-requires-clause-pages c = c.loop.invariant.closes.traces.dirty_len ∙ c.requires.pages
@@ -25,7 +21,6 @@ mark_on-requires-clause-pages c = c.loop.invariant.closes.traces.dirty_len ∙ c
 pub loop-preserved : goal.loop-preserved
 loop-preserved c =
     let a = (goal.at.loop-preserved c).After-mark_on in
-    let t = next_traces a in
     let i = c.loop.invariant in
     record {
       closes = closes a;
@@ -41,4 +36,4 @@ returns-clause-reads c = closed_reads (found_in c.args.map.now) c.args.reader.no
 pub returns-clause-closure : goal.returns-clause-closure
 returns-clause-closure c =
     closed (length c.args.map.now) (found_in c.args.map.now) c.args.reader.now.words c.args.roots.now _ _ _ _ c.scan_roots.ensures.lawful.map c.requires.invariant (closes (goal.at.returns-clause-closure c).After-mark_on)
-    (c.mark_on.ensures.done (search rules))
+    c.in_default.ensures.done

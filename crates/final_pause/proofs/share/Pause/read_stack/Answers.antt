@@ -1,4 +1,4 @@
-use Rattle.std.proofs.Common.{◌≡◌, ◌∙◌, ◌∷◌, [], ℕ, List, Some, refl, sym, ap, subst, arith}
+use Rattle.std.proofs.Common.{◌∙◌, ◌∷◌, [], ℕ, List, refl, sym, ap, subst, arith}
 use Rattle.std.specs.Prelude.{Contains}
 use Rattle.std.proofs.lemmas.List.Elements.{Contains-append_right}
 use Rattle.final_pause.specs.Helping.{found, ReadsWords}
@@ -6,25 +6,24 @@ use Rattle.final_pause.specs.Serving.{GoesOnServing}
 use Rattle.final_pause.proofs.Serving.{serves_pop, serves_trans}
 use Rattle.final_pause.proofs.share.Pause.read_stack.Goals as goal
 
-pub unreachable-requires : goal.unreachable-requires
-unreachable-requires g c =
+pub object_at-found-requires : goal.object_at-found-requires
+object_at-found-requires g c =
     let p = c.args.self.now in let base = c.in-Some.base in
     let q = c.loop-base.invariant.serving.queued base (subst (λ (l : List ℕ). Contains l base) (sym c.in-Some.ensures.items) (Contains-append_right _ (base ∷ []) base (0, omega arith, refl))) in
-    let e : found p base ≡ Some q.object = ap (found p) (sym q.base_is) ∙ q.is in
-    c.in_default-find.not-Some q.object (c.find.ensures.found ∙ e)
+    record { base = (q.object, ap (found p) (sym q.base_is) ∙ q.is, q.base_is) }
 
 pub loop-base-preserved : goal.loop-base-preserved
 loop-base-preserved g c =
-    let p = c.args.self.now in let h = c.loop-base.helper in let f = c.in-Some-find.found in let inv = c.loop-base.invariant in
+    let p = c.args.self.now in let h = c.loop-base.helper in let f = c.object_at-found.result in let inv = c.loop-base.invariant in
     let m = record h { stack = c.pop.new.self } in let b = c.read_words.new.helper in
     serves_trans p c.args.helper.now h b inv
-    (serves_pop p inv.serving.fits.ready.map h m b c.in-Some.base f refl refl refl refl c.in-Some.ensures.items (sym c.find.ensures.found ∙ c.in-Some-find.is) inv.serving
+    (serves_pop p inv.serving.fits.ready.map h m b c.in-Some.base f refl refl refl refl c.in-Some.ensures.items c.object_at-found.ensures inv.serving
     (subst (λ (n : ℕ). ReadsWords p f 0 n m b) c.from.ensures c.read_words.ensures))
 
 pub offer_lowest-offered-requires : goal.offer_lowest-offered-requires
 offer_lowest-offered-requires g c =
-    let p = c.args.self.now in let h = c.loop-base.helper in let f = c.in-Some-find.found in let inv = c.loop-base.invariant in
+    let p = c.args.self.now in let h = c.loop-base.helper in let f = c.object_at-found.result in let inv = c.loop-base.invariant in
     let m = record h { stack = c.pop.new.self } in let b = c.read_words.new.helper in
-    let s : GoesOnServing p h b = serves_pop p inv.serving.fits.ready.map h m b c.in-Some.base f refl refl refl refl c.in-Some.ensures.items (sym c.find.ensures.found ∙ c.in-Some-find.is) inv.serving
+    let s : GoesOnServing p h b = serves_pop p inv.serving.fits.ready.map h m b c.in-Some.base f refl refl refl refl c.in-Some.ensures.items c.object_at-found.ensures inv.serving
     (subst (λ (n : ℕ). ReadsWords p f 0 n m b) c.from.ensures c.read_words.ensures) in
     λ k r. c.requires.offered.queued k (s.serving.queued k r)
