@@ -134,7 +134,10 @@ impl Core {
             .ok_or(Refusal::Full)?;
         note_object(&mut self.marker, self.is_marking, base);
         self.roots.set_word(slot, into, base);
-        Ok(base)
+        let Some(mutator) = self.roots.mutator(slot) else {
+            unreachable!();
+        };
+        Ok(mutator.word(into))
     }
 
     /// Frees the object whose base a register has.
