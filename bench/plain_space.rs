@@ -44,11 +44,14 @@ fn row_of(class: Class, kind: Kind) -> usize {
     2 * class.number() + usize::from(kind == Kind::PointerFree)
 }
 
-// The words of the least cells are written at once. If `fill` stood here, the two were made one again.
+// The words of the four least cells are written at once. If `fill` stood here, all were made one again.
 #[inline]
 fn zero(cell: &mut [u64]) {
     match cell {
-        [first, second] => (*first, *second) = (0, 0),
+        [a, b] => (*a, *b) = (0, 0),
+        [a, b, c, d] => (*a, *b, *c, *d) = (0, 0, 0, 0),
+        [a, b, c, d, e, f] => (*a, *b, *c, *d, *e, *f) = (0, 0, 0, 0, 0, 0),
+        [a, b, c, d, e, f, g, h] => (*a, *b, *c, *d, *e, *f, *g, *h) = (0, 0, 0, 0, 0, 0, 0, 0),
         _ => zero_all(cell),
     }
 }
