@@ -7,7 +7,8 @@
 # - 200 mutators alone are answered in a thread of their own as by a script;
 # - of 20 scripts of 2,003 lines each line is answered, and each is a workload of three mutators;
 # - 200 runs of two mutators and the collector at one link (tests/random/links.py);
-# - four mutators beside a hundred cycles, ended by one helper and by four: each load answers what was stored;
+# - four mutators beside a hundred cycles, ended by one helper and by four, over enough words for these to start once mutator 0 has
+#   made its objects: each load answers what was stored;
 # - 50 scripts of 3,004 lines, and 1,000 orders of calls round one object (tests/random/orders.py), are legal as they are recorded.
 # It takes the proved programs that `rt ci` or `./mpheap build` left, in some seconds, or else unproved builds; and Python 3.
 set -uo pipefail
@@ -63,11 +64,13 @@ write_all() {
     works "scripts are written" "$top/tests/outputs.sh" mpheap "$cases" "$room/drawn"
 }
 
-# Each of four mutators stores and loads its own numbers.
+# Each of four mutators stores and loads its own numbers. Mutator 0 first makes an object that points to 160 others, each of a page.
 beside_cycles() {
     local helpers
     awk 'BEGIN {
         for (slot = 0; slot < 4; slot++) print "attach"
+        print "0 alloc 4 512 normal"
+        for (n = 0; n < 160; n++) print "0 alloc 5 512 normal\n0 store 4 " n " 5"
         for (slot = 0; slot < 4; slot++) {
             print slot " alloc 1 2 normal"
             for (n = 1; n <= 1000; n++) print slot " set 2 " n "\n" slot " store 1 0 2\n" slot " load 3 1 0"
@@ -76,14 +79,15 @@ beside_cycles() {
     }' >"$room/beside"
     awk 'BEGIN {
         for (slot = 0; slot < 4; slot++) {
-            print "mutator " slot "\nok"
+            print "mutator " slot
+            for (n = 0; n < (slot ? 1 : 322); n++) print "ok"
             for (n = 1; n <= 1000; n++) print "ok\nok\n" n
         }
         print "collector"
     }' >"$room/loads"
     for helpers in 1 4; do
         cp "$room/beside" "$cases/beside_$helpers"
-        script_is "beside_$helpers" threads --pages 8 --helpers $helpers {}
+        script_is "beside_$helpers" threads --pages 256 --helpers $helpers {}
     done
 }
 

@@ -18,4 +18,6 @@ mod scene;
 #[cfg(test)]
 mod shares;
 #[cfg(test)]
+mod starts;
+#[cfg(test)]
 mod wide;
