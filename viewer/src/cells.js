@@ -138,17 +138,17 @@ function drawNumber(piece, object, ink) {
 
 function drawWord(drawing, x, y, word, object, isMarked) {
   const ink = isMarked ? 'onmark ' : '';
-  const middle = plan.isWide ? x + (plan.u - 14) / 2 : x + plan.u / 2;
-  const write = (look, text) => {
-    drawing.text += label(middle, y + 34, look + 'mono mid', text);
+  const besideDot = plan.isWide ? plan.u - 14 : plan.u;
+  const write = (look, text, room) => {
+    drawing.text += label(x + room / 2, y + 34, look + 'mono mid', text);
   };
   if (word === 0) {
-    if (plan.isWide) write((ink || 'soft ') + 'faded ', '0');
+    if (plan.isWide) write((ink || 'soft ') + 'faded ', '0', besideDot);
   } else if (isInHeap(word) && !object.kind) {
-    if (plan.isWide) write(ink, told(word));
+    if (plan.isWide) write(ink, told(word), besideDot);
     drawing[isMarked ? 'dotsOnMarked' : 'dots'] += wordDot(x, y);
   } else if (plan.isBig) {
-    write(ink, shortNumber(String(word)));
+    write(ink, shortNumber(String(word)), plan.u);
   }
 }
 
