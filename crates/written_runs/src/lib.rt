@@ -20,14 +20,19 @@
 mod behind;
 mod command;
 mod cut;
+mod finding;
 pub mod laws;
 mod line;
+mod places;
 mod reply;
 mod rules;
+mod step;
+mod told;
 mod verdict;
 mod writing;
 
 pub use command::words_given;
+pub use places::Places;
 pub use rules::Rule;
 pub use verdict::{Explained, Judgement, Verdict, explain, judge};
 pub use writing::{line_text, reply_text, step_text, wrong_text};
