@@ -1,6 +1,6 @@
 -- An allocation, and that the core stays sound.
 use Rattle.std.proofs.Common.{◌≡◌, ℕ, ◌+◌, ◌*◌, ◌/◌, ◌%◌, ◌<◌, ◌≤◌, ◌⊎◌, List, [], ◌∷◌, ◌++◌, length, get_or, drop, replicate, refl, sym, ap, ◌∙◌, subst, arith, inl, inr, ⊎_elim, cond}
-use Rattle.std.specs.Prelude.{Result, Ok, Err, IsOk, is_ok, ◌≢◌, Some, None, All, slice_get}
+use Rattle.std.specs.Prelude.{Result, Ok, Err, IsOk, is_ok, ◌≢◌, Some, None, All, Contains, slice_get}
 use Rattle.std.proofs.Math.Nat.{mul_assoc, mul-mod_right}
 use Rattle.std.proofs.lemmas.List.{ext_get_or, get_or-take, get_or-drop, get_or-replicate, length-replicate, length_push}
 use Rattle.std.proofs.lemmas.List.Elements.{All-nil, All-contains, All-push, Contains-push_cases, Contains-push, Contains-append_left}
@@ -9,11 +9,11 @@ use Rattle.std.proofs.lemmas.Bool.{cases_lt, cases_eq}
 use Rattle.words.specs.declared.class.Kind.{Kind}
 use Rattle.words.specs.declared.class.Placement.{Placement}
 use Rattle.words.specs.declared.class.Placement.TheVariants.{Small, Large}
-use Rattle.words.specs.declared.limits.TheConstants.{WORD_BYTES, PAGE_WORDS, PAGE_GRANULES, FIRST_ADDRESS, MAX_PAGES}
+use Rattle.words.specs.declared.limits.TheConstants.{WORD_BYTES, PAGE_WORDS, MAX_PAGES}
 use Rattle.words.specs.Placing.{placement_of}
 use Rattle.heap_spec.specs.declared.call.Call.TheVariants.{Alloc}
 use Rattle.heap_spec.specs.declared.reply.Reply.TheVariants.{Done}
-use Rattle.heap_spec.specs.Layout.{PointsInto}
+use Rattle.heap_spec.specs.Layout.{PointsInto, LiesOn}
 use Rattle.heap_spec.specs.Heap.{Heap, Object, Mutator, HasObject}
 use Rattle.heap_spec.specs.Room.{HasRoom, length_of}
 use Rattle.heap_spec.specs.Steps.{Acts, Calls, acts, with_register, with_object, with_new}
@@ -22,14 +22,15 @@ use Rattle.links.specs.declared.row.Link.{Link}
 use Rattle.links.proofs.Named.{named_kept}
 use Rattle.roots.specs.Roots.{RootSet, HasMutator, HasNoMutator, SetsWord}
 use Rattle.plain_core.specs.declared.extent.Extent.{Extent}
-use Rattle.plain_core.specs.PlainContents.{PlainContents, IsLaidOut, IsInHeap, IsPlacedExtent}
-use Rattle.plain_core.specs.Answering.{MayBePut, IsPut, IsBornAt, IsAllocatedAt, CantAllocateAt}
-use Rattle.plain_core.specs.Places.{IsPlace, IsSized}
+use Rattle.plain_core.specs.PlainContents.{PlainContents, IsLaidOut, IsInHeap, IsPlacedExtent, ArePlaced}
+use Rattle.plain_core.specs.Answering.{MayBePut, IsPut, IsBornAt, IsAllocatedAt, CantAllocateAt, heap_with}
+use Rattle.plain_core.specs.Anywhere.{with_words}
+use Rattle.plain_core.specs.Places.{IsPlace, IsSized, IsFresh}
 use Rattle.plain_core.specs.Standing.{StandsFor, IsShown, word_index, words_at}
 use Rattle.plain_core.proofs.Stands.{StepsCall, mutator_at, set_is}
 use Rattle.plain_core.proofs.Memory.{length_words}
-use Rattle.plain_core.proofs.Objects.{in_heap}
-use Rattle.plain_core.proofs.Freshness.{IsFresh, fresh_small, fresh_large, distinct_push, distinct_none, few_objects}
+use Rattle.plain_core.proofs.Objects.{in_heap, object_of, extent_of}
+use Rattle.plain_core.proofs.Freshness.{fresh_small, fresh_large, distinct_push, distinct_none, few_objects}
 use Rattle.plain_core.proofs.Placing.{sized}
 use Rattle.plain_core.proofs.Rooms.{room_of, place_of}
 
@@ -40,7 +41,6 @@ new_sound pages words objects roots links p w o = record {
   pages = p;
   words = w;
   in_heap = rw o (All-nil (IsInHeap pages));
-  placed = rw o (All-nil IsPlacedExtent);
   distinct = distinct_none objects o;
   apart = λ e f x he hf re rf. absurd (All-contains (λ (g : Extent). ⊥) objects e (rw o (All-nil (λ (g : Extent). ⊥))) he);
 }
@@ -60,16 +60,12 @@ new_in_heap pages row (Large count) kind e sized l p =
     let i = p.is_start in let q = p.in_heap in
     record { start = omega arith; aligned = omega arith; some = omega arith; ends = omega arith }
 
-pub new_placed : (pages : ℕ) (row : List Extent) (placement : Placement) (kind : Kind) (e : Extent) → IsSized placement → e.length ≡ length_of placement → IsPlace row pages placement kind e.base → IsPlacedExtent e
-new_placed pages row (Small class) kind e sized l p = inl (record { page = p.page; cell = p.on.cell; few = omega arith; in_page = rw l p.on.in_page; is_cell = rw l p.on.is_cell })
-new_placed pages row (Large count) kind e sized l p = inr (record { first = p.first; count = count; some = sized; whole = l; is_start = p.is_start })
-
 pub new_fresh : (pages : ℕ) (row : List Extent) (placement : Placement) (kind : Kind) (e : Extent) → All IsPlacedExtent row → IsSized placement → e.length ≡ length_of placement → IsPlace row pages placement kind e.base → IsFresh row e
 new_fresh pages row (Small class) kind e placed sized l p = fresh_small p.page kind row e placed (omega arith) (rw l p.on)
 new_fresh pages row (Large count) kind e placed sized l p = fresh_large pages count row e l p
 
 -- an object put at a base is there, and the others are as they were
-after_cases : (s : Heap) (base : ℕ) (o' : Object) (b : ℕ) (p : Object) → HasObject (with_object s base (Some o')) b p → ((b ≡ base) × (o' ≡ p)) ⊎ ((b ≢ base) × HasObject s b p)
+pub after_cases : (s : Heap) (base : ℕ) (o' : Object) (b : ℕ) (p : Object) → HasObject (with_object s base (Some o')) b p → ((b ≡ base) × (o' ≡ p)) ⊎ ((b ≢ base) × HasObject s b p)
 after_cases s base o' b p is =
     ⊎_elim
     (λ same. inl (same, same_Some _ _ (sym (with_at-same s.objects base (Some o') b same) ∙ is)))
@@ -100,13 +96,15 @@ other_words old new pages e g l ie ig z apart =
     outside : (k : ℕ) → k < g.length → (word_index g.base + k < word_index e.base) ⊎ (word_index e.base + e.length ≤ word_index g.base + k)
     outside k h = ⊎_elim (λ before. inl before) (λ from. ⊎_elim (λ inside. absurd (apart (g.base + WORD_BYTES * k) (omega arith, omega arith) (omega arith, omega arith))) (λ past. inr past) (cases_lt (word_index g.base + k) (word_index e.base + e.length))) (cases_lt (word_index g.base + k) (word_index e.base))
 
-pub allocates : (c : PlainContents) (roots : RootSet) (k d n : ℕ) (kind : Kind) (m : Mutator) (placement : Placement) (e : Extent) (row : List ℕ) → IsLaidOut c → HasMutator c.roots k m → placement_of n ≡ Some placement → IsPlace c.objects c.pages placement kind e.base → e.kind ≡ kind → e.length ≡ length_of placement
-    → IsInHeap c.pages e → IsFresh c.objects e → IsZeroed c.words row e → SetsWord c.roots k d e.base roots
-    → IsAllocatedAt c k d n kind e.base (record c { words = row; objects = c.objects ++ e ∷ []; roots = roots })
-allocates c roots k d n kind m placement e row sound at is room same_kind same_length new fresh zeroed sets s h = (
-  after,
-  acts (mutator_at c s h k m at) (Acts.allocated e.base is (room_of c sound s h placement kind e.base room)),
-  record { object = o; there = with_at-same s.objects e.base (Some o) e.base refl; newest = omega arith },
+pub puts_at : (c : PlainContents) (roots : RootSet) (k d : ℕ) (e : Extent) (row : List ℕ) → IsLaidOut c → MayBePut c e → IsZeroed c.words row e → SetsWord c.roots k d e.base roots
+    → IsPut c k d e (record c { words = row; objects = c.objects ++ e ∷ []; roots = roots })
+puts_at c roots k d e row sound fits zeroed sets m at s h = (
+  record {
+    object = o;
+    there = with_at-same s.objects e.base (Some o) e.base refl;
+    newest = omega arith;
+    alone = λ b w p has re rp. ⊎_elim (λ q. q.0) (λ q. let g = extent_of c sound s h b p q.1 in absurd (fresh g.0 w g.1 (rw length-replicate at re) (rw (g.2, g.3) rp))) (after_cases s e.base o b p has);
+  },
   record {
     pages = h.pages;
     mutators = (set_is c s h roots k d e.base m at sets).0;
@@ -118,7 +116,7 @@ allocates c roots k d n kind m placement e row sound at is room same_kind same_l
           record { kind = kept.2.kind; words = kept.2.words ∙ other_words c.words row c.pages e g sound.words new (in_heap c sound g old) zeroed (λ w re rg. fresh g w old re rg) },
         ))
         (λ same. subst (λ (x : Extent). (p : Object) × HasObject after x.base p × IsShown row x p) same
-        (o, with_at-same s.objects e.base (Some o) e.base refl, record { kind = sym same_kind; words = ap (λ x. replicate x 0) (sym same_length) ∙ zero_words c.words row c.pages e sound.words new zeroed }))
+        (o, with_at-same s.objects e.base (Some o) e.base refl, record { kind = refl; words = zero_words c.words row c.pages e sound.words new zeroed }))
         (Contains-push_cases c.objects e g hg);
     only = λ b p has. ⊎_elim
         (λ q. (e, Contains-push c.objects e, sym q.0))
@@ -136,11 +134,17 @@ allocates c roots k d n kind m placement e row sound at is room same_kind same_l
   },
 )
   where
+    new : IsInHeap c.pages e
+    new = fits.in_heap
+
+    fresh : IsFresh c.objects e
+    fresh = fits.fresh
+
     o : Object
-    o = record { birth = s.births + 1; kind = kind; words = replicate (length_of placement) 0 }
+    o = record { birth = s.births + 1; kind = e.kind; words = replicate e.length 0 }
 
     after : Heap
-    after = with_register (with_new s e.base kind placement) k m d e.base
+    after = heap_with s k m d e
 
     base_in : (g : Extent) → IsInHeap c.pages g → (w : ℕ) → w ≡ g.base → PointsInto w g.base g.length
     base_in g i w same = (omega arith, omega arith)
@@ -154,13 +158,12 @@ allocates c roots k d n kind m placement e row sound at is room same_kind same_l
     too_late b q x has is same = let r = h.born b q has in let l = r.1 in omega arith
 
 -- the core stays sound
-pub sound_after : (c : PlainContents) (roots : RootSet) (e : Extent) (row : List ℕ) → IsLaidOut c → IsInHeap c.pages e → IsPlacedExtent e → IsFresh c.objects e → length row ≡ length c.words
+pub sound_after : (c : PlainContents) (roots : RootSet) (e : Extent) (row : List ℕ) → IsLaidOut c → IsInHeap c.pages e → IsFresh c.objects e → length row ≡ length c.words
     → IsLaidOut (record c { words = row; objects = c.objects ++ e ∷ []; roots = roots })
-sound_after c roots e row sound new placed fresh long = record {
+sound_after c roots e row sound new fresh long = record {
   pages = sound.pages;
   words = long ∙ sound.words;
   in_heap = All-push (IsInHeap c.pages) c.objects e sound.in_heap new;
-  placed = All-push IsPlacedExtent c.objects e sound.placed placed;
   distinct = distinct_push c.pages c.objects e sound.in_heap new fresh sound.distinct;
   apart = λ f g w hf hg rf rg. ⊎_elim
       (λ x. ⊎_elim (λ y. sound.apart f g w x y rf rg) (λ y. absurd (fresh f w x (subst (λ (z : Extent). PointsInto w z.base z.length) (sym y) rg) rf)) (Contains-push_cases c.objects e g hg))
@@ -169,10 +172,10 @@ sound_after c roots e row sound new placed fresh long = record {
 }
 
 -- there is room for one more
-pub has_room : (c : PlainContents) (e : Extent) → IsLaidOut c → IsInHeap c.pages e → IsFresh c.objects e → length c.objects < PAGE_GRANULES * c.pages
+pub has_room : (c : PlainContents) (e : Extent) → IsLaidOut c → IsInHeap c.pages e → IsFresh c.objects e → length c.objects < PAGE_WORDS * c.pages
 has_room c e sound new fresh =
-    let l : length (c.objects ++ e ∷ []) ≤ PAGE_GRANULES * c.pages = few_objects c.pages (c.objects ++ e ∷ []) (All-push (IsInHeap c.pages) c.objects e sound.in_heap new) (distinct_push c.pages c.objects e sound.in_heap new fresh sound.distinct) in
-    let m : length c.objects + 1 ≤ PAGE_GRANULES * c.pages = rw length_push at l in
+    let l : length (c.objects ++ e ∷ []) ≤ PAGE_WORDS * c.pages = few_objects c.pages (c.objects ++ e ∷ []) (All-push (IsInHeap c.pages) c.objects e sound.in_heap new) (distinct_push c.pages c.objects e sound.in_heap new fresh sound.distinct) in
+    let m : length c.objects + 1 ≤ PAGE_WORDS * c.pages = rw length_push at l in
     omega arith
 
 -- what a push that succeeds leaves
@@ -180,25 +183,19 @@ pub pushed_items : {A T E : Type 0} (r : Result T E) (xs ys zs : List A) → IsO
 pushed_items (Ok v) xs ys zs ok is = is
 pushed_items (Err e) xs ys zs ok is = absurd (cc)
 
-module _ (c : PlainContents) (placement : Placement) (kind : Kind) (e : Extent) (sound : IsLaidOut c) (sized : IsSized placement) (long : e.length ≡ length_of placement) (room : IsPlace c.objects c.pages placement kind e.base) where
-  new : IsInHeap c.pages e
-  new = new_in_heap c.pages c.objects placement kind e sized long room
-
-  fresh : IsFresh c.objects e
-  fresh = new_fresh c.pages c.objects placement kind e sound.placed sized long room
-
-  pub room_left : length c.objects < PAGE_GRANULES * c.pages
-  room_left = has_room c e sound new fresh
+module _ (c : PlainContents) (e : Extent) (sound : IsLaidOut c) (fits : MayBePut c e) where
+  pub room_left : length c.objects < PAGE_WORDS * c.pages
+  room_left = has_room c e sound fits.in_heap fits.fresh
 
   pub fits_row : word_index e.base + e.length ≤ length c.words
-  fits_row = let i = new in let w = sound.words in omega (arith, i.start, i.aligned, i.ends)
+  fits_row = let i = fits.in_heap in let w = sound.words in omega (arith, i.start, i.aligned, i.ends)
 
-  pub puts : (roots : RootSet) (k d : ℕ) (m : Mutator) (row : List ℕ) (objects : List Extent) → HasMutator c.roots k m → e.kind ≡ kind → IsZeroed c.words row e → objects ≡ c.objects ++ e ∷ []
-      → SetsWord c.roots k d e.base roots → (n : ℕ) → placement_of n ≡ Some placement → IsAllocatedAt c k d n kind e.base (record c { words = row; objects = objects; roots = roots })
-  puts roots k d m row objects at same zeroed pushed sets n is = rw pushed (allocates c roots k d n kind m placement e row sound at is room same long new fresh zeroed sets)
+  pub puts : (roots : RootSet) (k d : ℕ) (row : List ℕ) (objects : List Extent) → IsZeroed c.words row e → objects ≡ c.objects ++ e ∷ [] → SetsWord c.roots k d e.base roots
+      → IsPut c k d e (record c { words = row; objects = objects; roots = roots })
+  puts roots k d row objects zeroed pushed sets = rw pushed (puts_at c roots k d e row sound fits zeroed sets)
 
   pub alloc_sound : (roots : RootSet) (row : List ℕ) (objects : List Extent) → length row ≡ length c.words → objects ≡ c.objects ++ e ∷ [] → IsLaidOut (record c { words = row; objects = objects; roots = roots })
-  alloc_sound roots row objects l pushed = rw pushed (sound_after c roots e row sound new (new_placed c.pages c.objects placement kind e sized long room) fresh l)
+  alloc_sound roots row objects l pushed = rw pushed (sound_after c roots e row sound fits.in_heap fits.fresh l)
 
 -- where an object was born there was room for it
 pub born_where : (c : PlainContents) → IsLaidOut c → (s : Heap) → StandsFor c s → (k d n base : ℕ) (kind : Kind) (placement : Placement) → placement_of n ≡ Some placement → {s' : Heap} → Calls s k (Alloc d n kind) Done s' → IsBornAt s base s'
@@ -221,25 +218,76 @@ pub cant_call : (c : PlainContents) (k d n base : ℕ) (kind : Kind) → HasNoMu
 cant_call c k d n base kind none s h s' (acts {m = m} at act) born =
     absurd (none-some m (same_Some None (Some m) (sym (ap (λ ms. slice_get ms k) h.mutators ∙ none) ∙ at)))
 
--- a place is in the heap
-pub place_from : (row : List Extent) (pages : ℕ) (placement : Placement) (kind : Kind) (a : ℕ) → IsPlace row pages placement kind a → FIRST_ADDRESS ≤ a
-place_from row pages (Small class) kind a p = let is = p.on.is_cell in omega arith
-place_from row pages (Large count) kind a p = let is = p.is_start in omega arith
+-- where size classes place objects, a place for a new one may have it
+pub may_have : (c : PlainContents) → IsLaidOut c → (n : ℕ) (kind : Kind) (placement : Placement) (e : Extent) → ArePlaced c → placement_of n ≡ Some placement → e.length ≡ length_of placement → IsPlace c.objects c.pages placement kind e.base → MayBePut c e
+may_have c sound n kind placement e placed is long room = record {
+  in_heap = new_in_heap c.pages c.objects placement kind e (sized n placement is) long room;
+  fresh = new_fresh c.pages c.objects placement kind e placed (sized n placement is) long room;
+}
 
--- what was found for a request fits
-pub found_fits : (c now : PlainContents) → c ≡ now → (row : List Extent) → row ≡ c.objects → (n : ℕ) (kind : Kind) (placement : Placement) (e : Extent) → placement_of n ≡ Some placement → e.kind ≡ kind → e.length ≡ length_of placement
-    → IsPlace row c.pages placement kind e.base → MayBePut now placement e
-found_fits c now view row rows n kind placement e is same long room = subst (λ (x : PlainContents). MayBePut x placement e) view (record {
-  sized = sized n placement is;
-  size = long;
-  place = subst (λ k. IsPlace c.objects c.pages placement k e.base) (sym same) (subst (λ r. IsPlace r c.pages placement kind e.base) rows room);
-})
+-- no object begins at a place for a new one
+no_base : (pages : ℕ) (row : List Extent) (placement : Placement) (kind : Kind) (a : ℕ) → IsSized placement → IsPlace row pages placement kind a → All (IsInHeap pages) row → (f : Extent) → Contains row f → f.base ≡ a → ⊥
+no_base pages row (Small class) kind a sized p inside f has same =
+    let i : IsInHeap pages f = All-contains (IsInHeap pages) row f inside has in
+    let is = p.on.is_cell in let in_page = p.on.in_page in let some = sized.0 in let more = i.some in
+    ⊎_elim
+    (λ free. All-contains (λ (g : Extent). LiesOn g.base g.length p.page → ⊥) row f free has (omega arith, omega arith))
+    (λ cut. All-contains (λ (g : Extent). g.base ≡ a → ⊥) row f cut.1 has same)
+    p.on.cut
+no_base pages row (Large count) kind a sized p inside f has same =
+    let i : IsInHeap pages f = All-contains (IsInHeap pages) row f inside has in
+    let is = p.is_start in let more = i.some in
+    All-contains (λ (g : Extent). LiesOn g.base g.length p.first → ⊥) row f (p.free p.first (omega arith) (omega arith)) has (omega arith, omega arith)
+
+-- an object that was born alone at a place shares no byte with those that were there
+shares : (c : PlainContents) → IsLaidOut c → (s : Heap) → StandsFor c s → (k d a : ℕ) (m : Mutator) (kind : Kind) (placement other : Placement) (e : Extent) → other ≡ placement → e.length ≡ length_of placement → IsSized placement
+    → IsPlace c.objects c.pages placement kind e.base → IsBornAt s e.base (with_register (with_new s a kind other) k m d a) → IsFresh c.objects e
+shares c sound s h k d a m kind placement other e same long sized room born f w has re rf = ⊎_elim
+    (λ new.
+    let kept = object_of c sound s h f has in
+    none (born.alone f.base w kept.0 (with_at-other s.objects a (Some o) f.base (λ x. none (x ∙ sym new.0)) ∙ kept.1) (subst (PointsInto w e.base) (size new.1) re) (rw kept.2 rf)))
+    (λ old. let b = h.born e.base born.object old.1 in let newest = born.newest in absurd (omega (arith, b.1)))
+    (after_cases s a o e.base born.object born.there)
+  where
+    o : Object
+    o = record { birth = s.births + 1; kind = kind; words = replicate (length_of other) 0 }
+
+    none : f.base ≡ e.base → ⊥
+    none = no_base c.pages c.objects placement kind e.base sized room sound.in_heap f has
+
+    size : o ≡ born.object → e.length ≡ length born.object.words
+    size is = long ∙ ap length_of (sym same) ∙ sym (length-replicate (length_of other) 0) ∙ ap (λ (x : Object). length x.words) is
+
+pub cant_share : (c : PlainContents) → IsLaidOut c → (k d n base : ℕ) (kind : Kind) (placement : Placement) (e : Extent) → placement_of n ≡ Some placement → e.length ≡ length_of placement → e.base ≡ base
+    → IsPlace c.objects c.pages placement kind base → (MayBePut c e → ⊥) → CantAllocateAt c k d n kind base
+cant_share c sound k d n base kind placement e is long bases room none s h s' (acts {m = m} at (Acts.allocated {placement = other} a is' has)) born =
+    let here : IsPlace c.objects c.pages placement kind e.base = subst (IsPlace c.objects c.pages placement kind) (sym bases) room in
+    none (record {
+      in_heap = new_in_heap c.pages c.objects placement kind e (sized n placement is) long here;
+      fresh = shares c sound s h k d a m kind placement other e (same_Some other placement (sym is' ∙ is)) long (sized n placement is) here
+          (subst (λ b. IsBornAt s b (with_register (with_new s a kind other) k m d a)) (sym bases) born);
+    })
+
+-- what may be put may be put into the core as it is seen
+pub fits_by : (c now : PlainContents) → c ≡ now → (row : List Extent) → row ≡ c.objects → (e : Extent) → IsInHeap c.pages e → IsFresh row e → MayBePut now e
+fits_by c now view row rows e inside fresh = subst (λ (x : PlainContents). MayBePut x e) view (record { in_heap = inside; fresh = subst (λ r. IsFresh r e) rows fresh })
 
 -- a request that was granted by an object
-pub put_at : (old new : PlainContents) (k d n base : ℕ) (kind : Kind) (placement : Placement) (e : Extent) → placement_of n ≡ Some placement → e.kind ≡ kind → e.base ≡ base → IsPut old k d placement e new → IsAllocatedAt old k d n kind base new
-put_at old later k d n base kind placement e is same at put s h =
-    let x = put s h n is in
-    (x.0, subst (λ q. Calls s k (Alloc d n q) Done x.0) same x.1, subst (λ b. IsBornAt s b x.0) at x.2, x.3)
+pub put_at : (c later : PlainContents) → IsLaidOut c → (k d n base : ℕ) (kind : Kind) (placement : Placement) (e : Extent) (m : Mutator) → HasMutator c.roots k m → placement_of n ≡ Some placement → e.kind ≡ kind → e.length ≡ length_of placement
+    → e.base ≡ base → IsPlace c.objects c.pages placement kind base → IsPut c k d e later → IsAllocatedAt c k d n kind base later
+put_at c later sound k d n base kind placement e m at is kinds long bases room put s h =
+    let x = put m at s h in
+    let here : IsPlace c.objects c.pages placement kind e.base = subst (IsPlace c.objects c.pages placement kind) (sym bases) room in (
+      heap_with s k m d e,
+      acts (mutator_at c s h k m at)
+          (subst (λ (q : Kind). Acts s k m (Alloc d n kind) Done (with_register (with_words s e.base q e.length) k m d e.base)) (sym kinds)
+          (subst (λ (l : ℕ). Acts s k m (Alloc d n kind) Done (with_register (with_words s e.base kind l) k m d e.base)) (sym long)
+          (Acts.allocated e.base is (room_of c sound s h placement kind e.base here)))),
+      subst (λ b. IsBornAt s b (heap_with s k m d e)) bases x.0,
+      x.1,
+    )
 
-pub put_steps : (old new : PlainContents) (k d n : ℕ) (kind : Kind) (placement : Placement) (e : Extent) → placement_of n ≡ Some placement → e.kind ≡ kind → IsPut old k d placement e new → StepsCall old k (Alloc d n kind) Done new
-put_steps old later k d n kind placement e is same put s h = let x = put_at old later k d n e.base kind placement e is same refl put s h in (x.0, x.1, x.3)
+pub put_steps : (c later : PlainContents) → IsLaidOut c → (k d n : ℕ) (kind : Kind) (placement : Placement) (e : Extent) (m : Mutator) → HasMutator c.roots k m → placement_of n ≡ Some placement → e.kind ≡ kind → e.length ≡ length_of placement
+    → IsPlace c.objects c.pages placement kind e.base → IsPut c k d e later → StepsCall c k (Alloc d n kind) Done later
+put_steps c later sound k d n kind placement e m at is kinds long room put s h =
+    let x = put_at c later sound k d n e.base kind placement e m at is kinds long refl room put s h in (x.0, x.1, x.3)

@@ -5,9 +5,10 @@ use Rattle.std.proofs.lemmas.Bool.{cases_lt}
 use Rattle.std.proofs.lemmas.List.{get_or_read}
 use Rattle.words.specs.declared.limits.TheConstants.{WORD_BYTES}
 use Rattle.words.specs.declared.refusal.Refusal.{Refusal}
-use Rattle.words.specs.declared.refusal.Refusal.TheVariants.{NoSlot}
+use Rattle.words.specs.declared.refusal.Refusal.TheVariants.{NoSlot, BadSize, Full}
+use Rattle.words.specs.declared.class.Kind.{Kind}
 use Rattle.heap_spec.specs.declared.call.Call.{Call}
-use Rattle.heap_spec.specs.declared.call.Call.TheVariants.{Load, Free, Size, GlobalGet}
+use Rattle.heap_spec.specs.declared.call.Call.TheVariants.{Load, Alloc, Free, Size, GlobalGet}
 use Rattle.heap_spec.specs.declared.event.Event.TheVariants.{Attach, Mutator}
 use Rattle.heap_spec.specs.declared.reply.Reply.{Reply}
 use Rattle.heap_spec.specs.declared.reply.Reply.TheVariants.{Slot, Done, Word, Count, Refused}
@@ -21,7 +22,7 @@ use Rattle.roots.specs.Roots.{HasMutator, HasNoMutator, HasNoSlot, IsNextSlot}
 use Rattle.plain_core.specs.declared.extent.Extent.{Extent}
 use Rattle.plain_core.specs.PlainContents.{PlainContents, IsLaidOut, IsInHeap}
 use Rattle.plain_core.specs.Standing.{StandsFor, word_index}
-use Rattle.plain_core.specs.Answering.{FindsExtent, HoldsWord, MayAnswer, CanAnswer, CanAttach, IsNoStep, MakesCall}
+use Rattle.plain_core.specs.Answering.{FindsExtent, HoldsWord, MayAnswer, CanAnswer, CanAttach, IsNoStep, MakesCall, HasPlaces, GrantHasPlaces}
 use Rattle.plain_core.proofs.Stands.{StepsCall, mutator_at}
 use Rattle.plain_core.proofs.Memory.{word_in}
 use Rattle.plain_core.proofs.Objects.{in_heap, in_row, extent_of, length_shown}
@@ -72,11 +73,23 @@ pub one_answer : (c : PlainContents) → IsLaidOut c → (k : ℕ) (call : Call)
 one_answer c sound k call reply other can ne s h s' step =
     let x = can s h in ne (calls_same s (legible c sound s h) k call reply other x.0 s' x.1 step).0
 
+-- a request that isn't refused is granted
+act_done : (s : Heap) (k : ℕ) (m : HeapMutator) {d n : ℕ} {kind : Kind} {reply : Reply} {s' : Heap} → Acts s k m (Alloc d n kind) reply s' → ((why : Refusal) → reply ≡ Refused why → ⊥) → reply ≡ Done
+act_done s k m (Acts.bad_size e) not = absurd (not BadSize refl)
+act_done s k m (Acts.full e none) not = absurd (not Full refl)
+act_done s k m (Acts.allocated a e room) not = refl
+
+call_done : (s : Heap) (k d n : ℕ) (kind : Kind) {reply : Reply} {s' : Heap} → Calls s k (Alloc d n kind) reply s' → ((why : Refusal) → reply ≡ Refused why → ⊥) → reply ≡ Done
+call_done s k d n kind (acts {m = m} at act) not = act_done s k m act not
+call_done s k d n kind (vacant none) not = absurd (not NoSlot refl)
+
 -- a call that was made has the answer that it may be given
-pub makes_step : (old new : PlainContents) → IsLaidOut old → (k : ℕ) (call : Call) (answer reply : Reply) → CanAnswer old k call answer → answer ≡ reply → MakesCall old k call new → StepsCall old k call reply new
-makes_step old new sound k call answer reply can is makes s h =
+pub makes_step : (old new : PlainContents) → IsLaidOut old → (k : ℕ) (call : Call) (answer reply : Reply) → CanAnswer old k call answer → answer ≡ reply → ((why : Refusal) → reply ≡ Refused why → ⊥) → GrantHasPlaces old call reply
+    → (HasPlaces old call → MakesCall old k call new) → StepsCall old k call reply new
+makes_step old new sound k call answer reply can is not places makes s h =
     let x = can s h in
-    let y = makes s h in
+    let step : Calls s k call reply x.0 = subst (λ r. Calls s k call r x.0) is x.1 in
+    let y = makes (λ into words kind asks. places into words kind asks (call_done s k into words kind (subst (λ q. Calls s k q reply x.0) asks step) not)) s h in
     let same : y.0 ≡ reply = sym (calls_same s (legible old sound s h) k call answer y.0 x.0 y.1 x.1 y.2).0 ∙ is in
     (y.1, subst (λ r. Calls s k call r y.1) same y.2, y.3)
 

@@ -10,7 +10,7 @@ use Rattle.std.proofs.lemmas.Bool.{true≢false, ne_eqb}
 use Rattle.std.proofs.lemmas.List.{length-map}
 use Rattle.std.proofs.lemmas.List.Elements.{All-contains, All-map, Contains-get_or}
 use Rattle.std.proofs.lemmas.Option.{same_Some, none-some, slice_get_within, slice_get-get_or, slice_get-map, get_or_from_slice_get}
-use Rattle.words.specs.declared.limits.TheConstants.{FIRST_ADDRESS, GRANULE_BYTES, PAGE_GRANULES, PAGE_WORDS}
+use Rattle.words.specs.declared.limits.TheConstants.{FIRST_ADDRESS, WORD_BYTES, PAGE_WORDS}
 use Rattle.words.specs.declared.class.Kind.{Kind}
 use Rattle.words.specs.declared.class.Kind.TheVariants.{Normal, PointerFree}
 use Rattle.heap_spec.specs.declared.reply.Reply.TheVariants.{Count}
@@ -21,7 +21,7 @@ use Rattle.heap_spec.specs.Cycles.{TakesOut, CollectsFully}
 use Rattle.links.specs.declared.row.Link.{Link}
 use Rattle.roots.specs.Roots.{root_words_of}
 use Rattle.plain_core.specs.declared.extent.Extent.{Extent}
-use Rattle.plain_core.specs.PlainContents.{PlainContents, IsLaidOut, IsInHeap, granule}
+use Rattle.plain_core.specs.PlainContents.{PlainContents, IsLaidOut, IsInHeap, first_word}
 use Rattle.plain_core.specs.Collections.{IsCollected, HasGarbage}
 use Rattle.plain_core.specs.Standing.{StandsFor, LiesIn, words_at}
 use Rattle.plain_core.specs.Reached.{PointsIntoNth, AreApart, IsReachedNth, by_root, by_link, MarksReached, read_words}
@@ -49,12 +49,12 @@ read_in Normal words w is has = has
 read_in PointerFree words w is has = let z : PointerFree ≡ Normal = is in cc
 
 -- an object stands at one place
-once : (row : List Extent) → IsDistinct nat_eq (map granule row) → (i j : ℕ) (e : Extent) → slice_get row i ≡ Some e → slice_get row j ≡ Some e → i ≡ j
+once : (row : List Extent) → IsDistinct nat_eq (map first_word row) → (i j : ℕ) (e : Extent) → slice_get row i ≡ Some e → slice_get row j ≡ Some e → i ≡ j
 once [] d i j e at at' = absurd (none-some e at)
 once (g ∷ row) d zero zero e at at' = refl
 once (g ∷ row) d zero (suc j) e at at' = absurd (first_apart row g d j e at' (same_Some g e at))
 once (g ∷ row) d (suc i) zero e at at' = absurd (first_apart row g d i e at (same_Some g e at'))
-once (g ∷ row) d (suc i) (suc j) e at at' = ap suc (once row (IsDistinct-tail nat_eq (granule g) (map granule row) d) i j e at at')
+once (g ∷ row) d (suc i) (suc j) e at at' = ap suc (once row (IsDistinct-tail nat_eq (first_word g) (map first_word row) d) i j e at at')
 
 -- no word points into two objects of a sound core
 pub sound_apart : (c : PlainContents) → IsLaidOut c → AreApart c.objects
@@ -65,14 +65,14 @@ sound_apart c sound = record {
 }
 
 -- the bases of distinct objects are distinct
-heads_apart : (q : Extent) (gone rest : List Extent) → AllByRecursion (λ y. eqb (granule q) y ≡ false) (map granule (gone ++ rest)) → AllByRecursion (λ y. eqb q.base y ≡ false) (map (λ (e : Extent). e.base) gone)
+heads_apart : (q : Extent) (gone rest : List Extent) → AllByRecursion (λ y. eqb (first_word q) y ≡ false) (map first_word (gone ++ rest)) → AllByRecursion (λ y. eqb q.base y ≡ false) (map (λ (e : Extent). e.base) gone)
 heads_apart q [] rest all = tt
-heads_apart q (f ∷ gone) rest all = (ne_eqb q.base f.base (λ same. differ (granule q) (granule f) all.0 (ap (λ (b : ℕ). (b - FIRST_ADDRESS) / GRANULE_BYTES) same)), heads_apart q gone rest all.1)
+heads_apart q (f ∷ gone) rest all = (ne_eqb q.base f.base (λ same. differ (first_word q) (first_word f) all.0 (ap (λ (b : ℕ). (b - FIRST_ADDRESS) / WORD_BYTES) same)), heads_apart q gone rest all.1)
 
-bases_distinct : (gone rest : List Extent) → IsDistinct nat_eq (map granule (gone ++ rest)) → IsDistinct nat_eq (map (λ (e : Extent). e.base) gone)
+bases_distinct : (gone rest : List Extent) → IsDistinct nat_eq (map first_word (gone ++ rest)) → IsDistinct nat_eq (map (λ (e : Extent). e.base) gone)
 bases_distinct [] rest d = IsDistinct-from_count nat_eq_equiv [] refl
 bases_distinct (g ∷ gone) rest d = IsDistinct-cons nat_eq g.base (map (λ (e : Extent). e.base) gone)
-    (heads_apart g gone rest (IsDistinct-head nat_eq (granule g) (map granule (gone ++ rest)) d)) (bases_distinct gone rest (IsDistinct-tail nat_eq (granule g) (map granule (gone ++ rest)) d))
+    (heads_apart g gone rest (IsDistinct-head nat_eq (first_word g) (map first_word (gone ++ rest)) d)) (bases_distinct gone rest (IsDistinct-tail nat_eq (first_word g) (map first_word (gone ++ rest)) d))
 
 mapped : (gone : List Extent) (e : Extent) → Contains gone e → Contains (map (λ (x : Extent). x.base) gone) e.base
 mapped gone e has = let at : slice_get (map (λ (x : Extent). x.base) gone) has.0 ≡ Some e.base = slice_get-map (λ (x : Extent). x.base) gone has.0 ∙ ap (option_map (λ (x : Extent). x.base)) (slice_get-get_or gone has.0 e has.1 ∙ ap Some has.2) in in_row _ has.0 e.base at
@@ -188,9 +188,9 @@ marks_are roots roots' words words' row row' marks marks' er ew eo em m =
     subst (MarksReached roots' words' row') (sym em) (subst (λ o. MarksReached roots' words' o marks) eo (subst (λ w. MarksReached roots' w row marks) ew (subst (λ r. MarksReached r words row marks) er m)))
 
 -- there is room for all objects, before and after
-pub room_for : (c : PlainContents) → IsLaidOut c → (l : Listing) → HasListRoom (PAGE_GRANULES * c.pages) l → HasListRoom (length c.objects) l
+pub room_for : (c : PlainContents) → IsLaidOut c → (l : Listing) → HasListRoom (PAGE_WORDS * c.pages) l → HasListRoom (length c.objects) l
 room_for c sound l room =
-    let few : length c.objects ≤ PAGE_GRANULES * c.pages = few_objects c.pages c.objects sound.in_heap sound.distinct in
+    let few : length c.objects ≤ PAGE_WORDS * c.pages = few_objects c.pages c.objects sound.in_heap sound.distinct in
     let marks = room.marks in let order = room.order in record { marks = omega arith; order = omega arith }
 
 pub room_kept : (n : ℕ) (l l' : Listing) → HasListRoom n l → KeepsRoom l l' → HasListRoom n l'

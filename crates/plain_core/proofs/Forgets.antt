@@ -10,7 +10,7 @@ use Rattle.std.proofs.lemmas.Map.Made.{length-le_from_is_member}
 use Rattle.std.proofs.lemmas.Map.Views.{Contains-from_any}
 use Rattle.std.proofs.lemmas.Option.{slice_get_within, slice_get-get_or}
 use Rattle.words.specs.declared.class.Kind.TheVariants.{Normal}
-use Rattle.words.specs.declared.limits.TheConstants.{PAGE_GRANULES}
+use Rattle.words.specs.declared.limits.TheConstants.{PAGE_WORDS}
 use Rattle.heap_spec.specs.Layout.{PointsInto}
 use Rattle.heap_spec.specs.Heap.{Heap, Object, HasObject, without}
 use Rattle.heap_spec.specs.declared.reply.Reply.{Reply}
@@ -56,10 +56,10 @@ all_set_of row flags n is room = record {
     set i lt flag = true≢false (sym (ap (λ l. get_or l i false) is ∙ get_or-replicate n i true false (omega arith)) ∙ flag)
 
 -- the flags of a core have room for its objects
-pub room_of_flags : (c : PlainContents) → IsLaidOut c → (n : ℕ) → PAGE_GRANULES * c.pages ≤ n → length c.objects ≤ n
-room_of_flags c sound n room = let few : length c.objects ≤ PAGE_GRANULES * c.pages = few_objects c.pages c.objects sound.in_heap sound.distinct in omega arith
+pub room_of_flags : (c : PlainContents) → IsLaidOut c → (n : ℕ) → PAGE_WORDS * c.pages ≤ n → length c.objects ≤ n
+room_of_flags c sound n room = let few : length c.objects ≤ PAGE_WORDS * c.pages = few_objects c.pages c.objects sound.in_heap sound.distinct in omega arith
 
-pub all_set : (c : PlainContents) → IsLaidOut c → (flags : List Bool) (n : ℕ) → flags ≡ replicate n true → PAGE_GRANULES * c.pages ≤ n → AreUnset c.objects [] flags
+pub all_set : (c : PlainContents) → IsLaidOut c → (flags : List Bool) (n : ℕ) → flags ≡ replicate n true → PAGE_WORDS * c.pages ≤ n → AreUnset c.objects [] flags
 all_set c sound flags n is room = all_set_of c.objects flags n is (room_of_flags c sound n room)
 
 -- there is an object at each place

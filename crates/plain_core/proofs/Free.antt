@@ -7,7 +7,7 @@ use Rattle.std.proofs.lemmas.List.Sorted.{Contains-permutation, IsPermutation-ma
 use Rattle.std.proofs.lemmas.Map.Keys.{IsDistinct-IsPermutation, IsDistinct-head, IsDistinct-tail}
 use Rattle.std.proofs.lemmas.Option.{slice_get_within, get_or_from_slice_get}
 use Rattle.words.specs.declared.refusal.Refusal.TheVariants.{NotBase}
-use Rattle.words.specs.declared.limits.TheConstants.{FIRST_ADDRESS, GRANULE_BYTES, WORD_BYTES}
+use Rattle.words.specs.declared.limits.TheConstants.{FIRST_ADDRESS, WORD_BYTES}
 use Rattle.heap_spec.specs.declared.call.Call.TheVariants.{Free}
 use Rattle.heap_spec.specs.declared.reply.Reply.TheVariants.{Done, Refused}
 use Rattle.heap_spec.specs.Layout.{PointsInto}
@@ -21,7 +21,7 @@ use Rattle.links.specs.Leaving.{TellObjects, ClearsWords, clears_with, stays_wit
 use Rattle.links.proofs.Leaving.{PointsIntoOne, named_along, word_same}
 use Rattle.roots.specs.Roots.{HasMutator}
 use Rattle.plain_core.specs.declared.extent.Extent.{Extent}
-use Rattle.plain_core.specs.PlainContents.{PlainContents, IsLaidOut, IsInHeap, IsPlacedExtent, granule}
+use Rattle.plain_core.specs.PlainContents.{PlainContents, IsLaidOut, IsInHeap, first_word}
 use Rattle.plain_core.specs.Standing.{StandsFor, IsShown, word_index, words_at}
 use Rattle.plain_core.specs.Along.{holds_word, has_base}
 use Rattle.plain_core.proofs.Stands.{StepsCall, mutator_at, keeps_all}
@@ -36,28 +36,28 @@ flips x y = grind arith
 pub differ : (a b : ℕ) → eqb a b ≡ false → a ≢ b
 differ a b e = grind arith
 
--- no object of the row has a granule that none of their granules is equal to
-granule_apart : (q : ℕ) (row : List Extent) → AllByRecursion (λ y. eqb q y ≡ false) (map granule row) → (f : Extent) (k : ℕ) → k < length row → get_or row k f ≡ f → eqb q (granule f) ≡ false
-granule_apart q [] all f k lt is = absurd (omega arith)
-granule_apart q (g ∷ row) all f zero lt is = subst (λ (x : Extent). eqb q (granule x) ≡ false) is all.0
-granule_apart q (g ∷ row) all f (suc k) lt is = granule_apart q row all.1 f k (omega arith) is
+-- no object of the row has a first word that none of their first words is equal to
+first_words_apart : (q : ℕ) (row : List Extent) → AllByRecursion (λ y. eqb q y ≡ false) (map first_word row) → (f : Extent) (k : ℕ) → k < length row → get_or row k f ≡ f → eqb q (first_word f) ≡ false
+first_words_apart q [] all f k lt is = absurd (omega arith)
+first_words_apart q (g ∷ row) all f zero lt is = subst (λ (x : Extent). eqb q (first_word x) ≡ false) is all.0
+first_words_apart q (g ∷ row) all f (suc k) lt is = first_words_apart q row all.1 f k (omega arith) is
 
--- the first of a row whose granules are distinct stands nowhere else
-pub first_apart : (row : List Extent) (g : Extent) → IsDistinct nat_eq (granule g ∷ map granule row) → (j : ℕ) (e : Extent) → slice_get row j ≡ Some e → g ≡ e → ⊥
+-- the first of a row whose first words are distinct stands nowhere else
+pub first_apart : (row : List Extent) (g : Extent) → IsDistinct nat_eq (first_word g ∷ map first_word row) → (j : ℕ) (e : Extent) → slice_get row j ≡ Some e → g ≡ e → ⊥
 first_apart row g d j e at same =
-    differ (granule g) (granule e) (granule_apart (granule g) row (IsDistinct-head nat_eq (granule g) (map granule row) d) e j (slice_get_within row j e at) (get_or_from_slice_get row j e e at)) (ap granule same)
+    differ (first_word g) (first_word e) (first_words_apart (first_word g) row (IsDistinct-head nat_eq (first_word g) (map first_word row) d) e j (slice_get_within row j e at) (get_or_from_slice_get row j e e at)) (ap first_word same)
 
 -- what is behind distinct ones is distinct, and none of it is among them
-rest_distinct : (gone rest : List Extent) → IsDistinct nat_eq (map granule (gone ++ rest)) → IsDistinct nat_eq (map granule rest)
+rest_distinct : (gone rest : List Extent) → IsDistinct nat_eq (map first_word (gone ++ rest)) → IsDistinct nat_eq (map first_word rest)
 rest_distinct [] rest d = d
-rest_distinct (g ∷ gone) rest d = rest_distinct gone rest (IsDistinct-tail nat_eq (granule g) (map granule (gone ++ rest)) d)
+rest_distinct (g ∷ gone) rest d = rest_distinct gone rest (IsDistinct-tail nat_eq (first_word g) (map first_word (gone ++ rest)) d)
 
-rest_apart : (gone rest : List Extent) → IsDistinct nat_eq (map granule (gone ++ rest)) → (e f : Extent) → Contains gone e → Contains rest f → granule e ≢ granule f
+rest_apart : (gone rest : List Extent) → IsDistinct nat_eq (map first_word (gone ++ rest)) → (e f : Extent) → Contains gone e → Contains rest f → first_word e ≢ first_word f
 rest_apart [] rest d e f there has = absurd (let lt = there.1 in omega arith)
 rest_apart (g ∷ gone) rest d e f there has = ⊎_elim
     (λ first. let here = Contains-append_right gone rest f has in
-    differ _ _ (subst (λ (x : Extent). eqb (granule x) (granule f) ≡ false) (the_one g e first) (granule_apart (granule g) (gone ++ rest) (IsDistinct-head nat_eq (granule g) (map granule (gone ++ rest)) d) f here.0 here.1 here.2)))
-    (λ later. rest_apart gone rest (IsDistinct-tail nat_eq (granule g) (map granule (gone ++ rest)) d) e f later has)
+    differ _ _ (subst (λ (x : Extent). eqb (first_word x) (first_word f) ≡ false) (the_one g e first) (first_words_apart (first_word g) (gone ++ rest) (IsDistinct-head nat_eq (first_word g) (map first_word (gone ++ rest)) d) f here.0 here.1 here.2)))
+    (λ later. rest_apart gone rest (IsDistinct-tail nat_eq (first_word g) (map first_word (gone ++ rest)) d) e f later has)
     (Contains-append_cases (g ∷ []) gone e there)
 
 -- The links went along with the objects that are gone: these are the objects that stay.
@@ -90,18 +90,17 @@ module _ (c : PlainContents) (sound : IsLaidOut c) (gone rest : List Extent) (pe
   pub stays_in : (f : Extent) → Contains c.objects f → Contains gone f ⊎ Contains rest f
   stays_in f has = Contains-append_cases gone rest f (Contains-permutation c.objects (gone ++ rest) f perm has)
 
-  pub distinct_all : IsDistinct nat_eq (map granule (gone ++ rest))
-  distinct_all = IsDistinct-IsPermutation nat_eq flips (map granule c.objects) (map granule (gone ++ rest)) (IsPermutation-map granule c.objects (gone ++ rest) perm) sound.distinct
+  pub distinct_all : IsDistinct nat_eq (map first_word (gone ++ rest))
+  distinct_all = IsDistinct-IsPermutation nat_eq flips (map first_word c.objects) (map first_word (gone ++ rest)) (IsPermutation-map first_word c.objects (gone ++ rest) perm) sound.distinct
 
   other_base : (e f : Extent) → Contains gone e → Contains rest f → e.base ≢ f.base
-  other_base e f there has same = rest_apart gone rest distinct_all e f there has (ap (λ (b : ℕ). (b - FIRST_ADDRESS) / GRANULE_BYTES) same)
+  other_base e f there has same = rest_apart gone rest distinct_all e f there has (ap (λ (b : ℕ). (b - FIRST_ADDRESS) / WORD_BYTES) same)
 
   pub rest_sound : (words : List ℕ) (links : List Link) → length words ≡ length c.words → IsLaidOut (record c { words = words; objects = rest; links = links })
   rest_sound words links size = record {
     pages = sound.pages;
     words = size ∙ sound.words;
     in_heap = λ k d lt. All-contains (IsInHeap c.pages) c.objects (get_or rest k d) sound.in_heap (was_in (get_or rest k d) (Contains-get_or rest k d lt));
-    placed = λ k d lt. All-contains IsPlacedExtent c.objects (get_or rest k d) sound.placed (was_in (get_or rest k d) (Contains-get_or rest k d lt));
     distinct = rest_distinct gone rest distinct_all;
     apart = λ f g w hf hg rf rg. sound.apart f g w (was_in f hf) (was_in g hg) rf rg;
   }

@@ -1,4 +1,4 @@
--- A new object shares no word with those that are there, and there are no more objects than granules.
+-- A new object shares no word with those that are there, and there are no more objects than words.
 use Rattle.std.proofs.Common.{◌≡◌, ℕ, ◌+◌, ◌-◌, ◌*◌, ◌/◌, ◌<◌, ◌≤◌, true, false, List, [], ◌∷◌, ◌++◌, length, get_or, map, eqb, sym, ap, ◌∙◌, arith, ⊎_elim}
 use Rattle.std.specs.Prelude.{All, Contains}
 use Rattle.std.specs.List.{list_any, IsDistinct}
@@ -11,12 +11,12 @@ use Rattle.std.proofs.lemmas.Map.Steps.{length-le_from_distinct_below}
 use Rattle.std.proofs.lemmas.Bool.{cases_lt, eqb-true, ne_eqb}
 use Rattle.std.specs.Cmp.{nat_eq_equiv}
 use Rattle.words.specs.declared.class.Kind.{Kind}
-use Rattle.words.specs.declared.limits.TheConstants.{WORD_BYTES, PAGE_BYTES, PAGE_WORDS, PAGE_GRANULES, FIRST_ADDRESS, MAX_SMALL_WORDS}
+use Rattle.words.specs.declared.limits.TheConstants.{WORD_BYTES, PAGE_BYTES, PAGE_WORDS, FIRST_ADDRESS, MAX_SMALL_WORDS}
 use Rattle.words.specs.Layout.{page_start}
-use Rattle.heap_spec.specs.Layout.{PointsInto, LiesOn}
+use Rattle.heap_spec.specs.Layout.{LiesOn}
 use Rattle.plain_core.specs.declared.extent.Extent.{Extent}
-use Rattle.plain_core.specs.PlainContents.{IsInHeap, IsCellExtent, HasPages, IsPlacedExtent, granule}
-use Rattle.plain_core.specs.Places.{IsPlaceOn, IsLargePlace, IsCutPage, IsNoBase}
+use Rattle.plain_core.specs.PlainContents.{IsInHeap, IsCellExtent, HasPages, IsPlacedExtent, first_word}
+use Rattle.plain_core.specs.Places.{IsPlaceOn, IsLargePlace, IsCutPage, IsNoBase, IsFresh}
 
 -- two cells of one length that have a word in common are one
 pub same_cell : (length i j x : ℕ) → length * i ≤ x → x < length * (i + 1) → length * j ≤ x → x < length * (j + 1) → i ≡ j
@@ -30,10 +30,6 @@ same_cell length i j x a b c d =
 
     after : j < i → j + 1 ≤ i
     after less = omega arith
-
--- no object shares a word with a new one
-abbrev pub IsFresh : List Extent → Extent → Type 0
-IsFresh row e = (f : Extent) (w : ℕ) → Contains row f → PointsInto w e.base e.length → PointsInto w f.base f.length → ⊥
 
 pub fresh_small : (page : ℕ) (kind : Kind) (row : List Extent) (e : Extent) → All (IsPlacedExtent) row → e.length ≤ MAX_SMALL_WORDS → IsPlaceOn row page e.length kind e.base → IsFresh row e
 fresh_small page kind row e placed few p f w has re rf =
@@ -75,25 +71,25 @@ fresh_large pages count row e whole p f w has re rf =
     let page : ℕ = (w - FIRST_ADDRESS) / PAGE_BYTES in
     All-contains (λ (g : Extent). LiesOn g.base g.length page → ⊥) row f (p.free page (omega arith) (omega arith)) has (omega arith, omega arith)
 
--- the granules of the objects are below their number in the heap
-below_all : (pages : ℕ) (row : List Extent) → All (IsInHeap pages) row → (q : ℕ) → list_any (eqb q) (map granule row) ≡ true → q < PAGE_GRANULES * pages
+-- the first words of the objects are below their number in the heap
+below_all : (pages : ℕ) (row : List Extent) → All (IsInHeap pages) row → (q : ℕ) → list_any (eqb q) (map first_word row) ≡ true → q < PAGE_WORDS * pages
 below_all pages row h q is =
-    let a = Any-from_list_any (eqb q) (map granule row) is in
-    let b : All (λ g. g < PAGE_GRANULES * pages) (map granule row) = All-map (λ g. g < PAGE_GRANULES * pages) granule row (All-weaker (IsInHeap pages) (λ e. granule e < PAGE_GRANULES * pages) (λ e i. omega arith) row h) in
+    let a = Any-from_list_any (eqb q) (map first_word row) is in
+    let b : All (λ g. g < PAGE_WORDS * pages) (map first_word row) = All-map (λ g. g < PAGE_WORDS * pages) first_word row (All-weaker (IsInHeap pages) (λ e. first_word e < PAGE_WORDS * pages) (λ e i. omega arith) row h) in
     rw (eqb-true q a.1 a.4) (rw a.3 at (b a.0 a.1 a.2))
 
--- there are no more objects than granules
-pub few_objects : (pages : ℕ) (row : List Extent) → All (IsInHeap pages) row → IsDistinct eqb (map granule row) → length row ≤ PAGE_GRANULES * pages
-few_objects pages row h d = let l : length (map granule row) ≤ PAGE_GRANULES * pages = length-le_from_distinct_below (map granule row) (PAGE_GRANULES * pages) d (below_all pages row h) in rw length-map at l
+-- there are no more objects than words
+pub few_objects : (pages : ℕ) (row : List Extent) → All (IsInHeap pages) row → IsDistinct eqb (map first_word row) → length row ≤ PAGE_WORDS * pages
+few_objects pages row h d = let l : length (map first_word row) ≤ PAGE_WORDS * pages = length-le_from_distinct_below (map first_word row) (PAGE_WORDS * pages) d (below_all pages row h) in rw length-map at l
 
--- with a new object the granules stay distinct
-pub distinct_push : (pages : ℕ) (row : List Extent) (e : Extent) → All (IsInHeap pages) row → IsInHeap pages e → IsFresh row e → IsDistinct eqb (map granule row) → IsDistinct eqb (map granule (row ++ e ∷ []))
-distinct_push pages row e h new fresh d = rw map_push (IsDistinct-push nat_eq_equiv (map granule row) (granule e) d
-    (list_any_none (eqb (granule e)) (map granule row) (All-map (λ g. eqb (granule e) g ≡ false) granule row (λ k g lt. apart (get_or row k g) (Contains-get_or row k g lt)))))
+-- with a new object the first words stay distinct
+pub distinct_push : (pages : ℕ) (row : List Extent) (e : Extent) → All (IsInHeap pages) row → IsInHeap pages e → IsFresh row e → IsDistinct eqb (map first_word row) → IsDistinct eqb (map first_word (row ++ e ∷ []))
+distinct_push pages row e h new fresh d = rw map_push (IsDistinct-push nat_eq_equiv (map first_word row) (first_word e) d
+    (list_any_none (eqb (first_word e)) (map first_word row) (All-map (λ g. eqb (first_word e) g ≡ false) first_word row (λ k g lt. apart (get_or row k g) (Contains-get_or row k g lt)))))
   where
-    apart : (f : Extent) → Contains row f → eqb (granule e) (granule f) ≡ false
+    apart : (f : Extent) → Contains row f → eqb (first_word e) (first_word f) ≡ false
     apart f has = ne_eqb _ _ (λ same. let i : IsInHeap pages f = All-contains (IsInHeap pages) row f h has in fresh f e.base has (omega arith, omega arith) (omega arith, omega arith))
 
-pub distinct_none : (row : List Extent) → row ≡ [] → IsDistinct eqb (map granule row)
+pub distinct_none : (row : List Extent) → row ≡ [] → IsDistinct eqb (map first_word row)
 unfolding IsDistinct
 distinct_none row e = rw e tt

@@ -8,7 +8,9 @@ pub mod Placing
 pub mod Freshness
 pub mod Rooms
 pub mod Alloc
-pub mod Granules
+pub mod Anywhere
+pub mod Bare
+pub mod PageWords
 pub mod Free
 pub mod Lists
 pub mod Reaching

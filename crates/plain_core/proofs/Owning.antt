@@ -6,7 +6,7 @@ use Rattle.std.proofs.lemmas.Bool.{cases_eq, cases_lt}
 use Rattle.std.proofs.lemmas.List.{get_or_append_left, get_or-take, length-take, length_push}
 use Rattle.std.proofs.lemmas.List.Elements.{All-nil, All-weaker}
 use Rattle.std.proofs.lemmas.Option.{same_Some, none-some, slice_get_within, get_or_from_slice_get, slice_get-get_or}
-use Rattle.words.specs.declared.limits.TheConstants.{FIRST_ADDRESS, GRANULE_BYTES}
+use Rattle.words.specs.declared.limits.TheConstants.{FIRST_ADDRESS, WORD_BYTES}
 use Rattle.heap_spec.specs.Layout.{PointsInto}
 use Rattle.plain_core.specs.declared.extent.Extent.{Extent}
 use Rattle.plain_core.specs.Standing.{LiesIn, word_index}
@@ -171,6 +171,6 @@ own_removed row index e owners own = record {
       own.owned w i (p.0, slice_get-get_or row i p.0 all ∙ ap Some is, p.2);
 }
 
--- objects of a core are found by granules too
+-- objects of a core are found by the first bytes of words too
 pub found_by : (c : PlainContents) → IsLaidOut c → (owners : List ℕ) → AreOwners c.objects owners → AreFound c.objects owners
-found_by c sound owners own = record { owned = own; aligned = All-weaker (IsInHeap c.pages) (λ (e : Extent). e.base % GRANULE_BYTES ≡ 0) (λ e i. i.aligned) c.objects sound.in_heap }
+found_by c sound owners own = record { owned = own; aligned = All-weaker (IsInHeap c.pages) (λ (e : Extent). e.base % WORD_BYTES ≡ 0) (λ e i. i.aligned) c.objects sound.in_heap }

@@ -1,20 +1,19 @@
 -- What calls of mutators may be answered, before they are made.
-use Rattle.std.specs.Prelude.{◌≡◌, ◌<◌, ℕ, Some, length, slice_index}
+use Rattle.std.specs.Prelude.{◌≡◌, ◌<◌, ℕ, length, slice_index}
 use Rattle.words.specs.declared.class.Kind.{Kind}
-use Rattle.words.specs.declared.class.Placement.{Placement}
-use Rattle.words.specs.Placing.{placement_of}
 use Rattle.heap_spec.specs.declared.call.Call.{Call}
 use Rattle.heap_spec.specs.declared.call.Call.TheVariants.{Alloc}
 use Rattle.heap_spec.specs.declared.event.Event.{Event}
 use Rattle.heap_spec.specs.declared.reply.Reply.{Reply}
 use Rattle.heap_spec.specs.declared.reply.Reply.TheVariants.{Done}
-use Rattle.heap_spec.specs.Layout.{index_in}
+use Rattle.heap_spec.specs.Layout.{PointsInto, index_in}
 use Rattle.heap_spec.specs.Heap.{Heap, Object, Mutator, HasObject, PointsIntoObject, PointsIntoNothing}
-use Rattle.heap_spec.specs.Room.{length_of}
-use Rattle.heap_spec.specs.Steps.{Acts, Attaches, Calls, Step}
+use Rattle.heap_spec.specs.Steps.{Acts, Attaches, Calls, Step, with_register}
+use Rattle.roots.specs.Roots.{HasMutator}
 use Rattle.plain_core.specs.declared.extent.Extent.{Extent}
-use Rattle.plain_core.specs.PlainContents.{PlainContents}
-use Rattle.plain_core.specs.Places.{IsPlace, IsSized}
+use Rattle.plain_core.specs.PlainContents.{PlainContents, IsInHeap, ArePlaced}
+use Rattle.plain_core.specs.Places.{IsFresh}
+use Rattle.plain_core.specs.Anywhere.{with_words, Requests}
 use Rattle.plain_core.specs.Standing.{StandsFor}
 
 -- the address points into this object of each heap that the core stands for, of the same length and kind
@@ -49,22 +48,33 @@ IsNoStep c event reply = (s : Heap) → StandsFor c s → (s' : Heap) → Step s
 abbrev pub MakesCall : PlainContents → ℕ → Call → PlainContents → Type 0
 MakesCall old slot call new = (s : Heap) → StandsFor old s → (reply : Reply) × (s' : Heap) × Calls s slot call reply s' × StandsFor new s'
 
--- An object was born at the base.
+-- An object was born at the base, and no other has a byte of it.
 pub record IsBornAt (s : Heap) (base : ℕ) (s' : Heap) : Type 0 where
   pub object : Object
   pub there : HasObject s' base object
   pub newest : s.births < object.birth
+  pub alone : (other w : ℕ) (o : Object) → HasObject s' other o → PointsInto w base (length object.words) → PointsInto w other (length o.words) → other ≡ base
 
--- There is room for an object of this placement.
-pub record MayBePut (c : PlainContents) (placement : Placement) (e : Extent) : Type 0 where
-  pub sized : IsSized placement
-  pub size : e.length ≡ length_of placement
-  pub place : IsPlace c.objects c.pages placement e.kind e.base
+-- The object lies in the heap, and shares no byte with those that are there.
+pub record MayBePut (c : PlainContents) (e : Extent) : Type 0 where
+  pub in_heap : IsInHeap c.pages e
+  pub fresh : IsFresh c.objects e
 
--- Each request of this placement was granted by this object.
-abbrev pub IsPut : PlainContents → ℕ → ℕ → Placement → Extent → PlainContents → Type 0
-IsPut old slot into placement e new = (s : Heap) → StandsFor old s → (words : ℕ) → placement_of words ≡ Some placement
-    → (s' : Heap) × Calls s slot (Alloc into words e.kind) Done s' × IsBornAt s e.base s' × StandsFor new s'
+-- the heap with this object more, whose words are 0, and with its base in a register
+abbrev pub heap_with : Heap → ℕ → Mutator → ℕ → Extent → Heap
+heap_with s slot m into e = with_register (with_words s e.base e.kind e.length) slot m into e.base
+
+-- The object was put there, and its base into a register of the slot.
+abbrev pub IsPut : PlainContents → ℕ → ℕ → Extent → PlainContents → Type 0
+IsPut old slot into e new = (m : Mutator) → HasMutator old.roots slot m → (s : Heap) → StandsFor old s → IsBornAt s e.base (heap_with s slot m into e) × StandsFor new (heap_with s slot m into e)
+
+-- if the call is a request, objects lie where size classes place them
+abbrev pub HasPlaces : PlainContents → Call → Type 0
+HasPlaces c call = (into words : ℕ) (kind : Kind) → call ≡ Alloc into words kind → ArePlaced c
+
+-- the same, if it is granted
+abbrev pub GrantHasPlaces : PlainContents → Call → Reply → Type 0
+GrantHasPlaces c call reply = (into words : ℕ) (kind : Kind) → call ≡ Alloc into words kind → reply ≡ Done → ArePlaced c
 
 -- A request was granted at the base.
 abbrev pub IsAllocatedAt : PlainContents → ℕ → ℕ → ℕ → Kind → ℕ → PlainContents → Type 0
@@ -73,3 +83,23 @@ IsAllocatedAt old slot into words kind base new = (s : Heap) → StandsFor old s
 -- no heap that the core stands for grants the request at the base
 abbrev pub CantAllocateAt : PlainContents → ℕ → ℕ → ℕ → Kind → ℕ → Type 0
 CantAllocateAt c slot into words kind base = (s : Heap) → StandsFor c s → (s' : Heap) → Calls s slot (Alloc into words kind) Done s' → IsBornAt s base s' → ⊥
+
+-- an object of so many words was born at the base
+abbrev pub IsBornOf : Heap → ℕ → ℕ → Heap → Type 0
+IsBornOf s base n s' = (born : IsBornAt s base s') × (length born.object.words ≡ n)
+
+-- a request was granted by an object of so many words at the base, which may lie anywhere
+abbrev pub IsAllocatedAnywhere : PlainContents → ℕ → ℕ → ℕ → Kind → ℕ → ℕ → PlainContents → Type 0
+IsAllocatedAnywhere old slot into words kind base n new = (s : Heap) → StandsFor old s → (s' : Heap) × Requests s slot into words kind Done s' × IsBornOf s base n s' × StandsFor new s'
+
+-- no heap that the core stands for grants the request so, wherever objects may lie
+abbrev pub CantAllocateAnywhere : PlainContents → ℕ → ℕ → ℕ → Kind → ℕ → ℕ → Type 0
+CantAllocateAnywhere c slot into words kind base n = (s : Heap) → StandsFor c s → (s' : Heap) → Requests s slot into words kind Done s' → IsBornOf s base n s' → ⊥
+
+-- a request may be refused so, wherever objects may lie
+abbrev pub MayRefuse : PlainContents → ℕ → ℕ → Reply → Type 0
+MayRefuse c slot words reply = (into : ℕ) (kind : Kind) (s : Heap) → StandsFor c s → Requests s slot into words kind reply s
+
+-- no heap that the core stands for refuses the request so
+abbrev pub CantRefuse : PlainContents → ℕ → ℕ → Reply → Type 0
+CantRefuse c slot words reply = (into : ℕ) (kind : Kind) (s s' : Heap) → StandsFor c s → (reply ≡ Done → ⊥) → Requests s slot into words kind reply s' → ⊥

@@ -8,6 +8,7 @@ pub mod Listing
 pub mod Parting
 pub mod Claims
 pub mod Collections
+pub mod Anywhere
 pub mod Answering
 pub mod Flags
 pub mod Aging

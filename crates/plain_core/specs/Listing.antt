@@ -2,7 +2,7 @@
 use Rattle.std.specs.Prelude.{◌≡◌, ℕ, ◌*◌, ◌≤◌, ◌<◌, Bool, true, false, List, ◌++◌, length, Contains, slice_index_or, nat_eq}
 use Rattle.std.specs.List.{IsDistinct}
 use Rattle.std.specs.Vec.{vec_capacity}
-use Rattle.words.specs.declared.limits.TheConstants.{PAGE_GRANULES, PAGE_WORDS}
+use Rattle.words.specs.declared.limits.TheConstants.{PAGE_WORDS}
 use Rattle.plain_core.specs.declared.extent.Extent.{Extent}
 use Rattle.plain_core.specs.declared.listing.Listing.{Listing}
 use Rattle.plain_core.specs.Reached.{PointsIntoNth, AreApart}
@@ -12,12 +12,12 @@ pub record HasListRoom (count : ℕ) (l : Listing) : Type 0 where
   pub marks : count ≤ length l.marks.items
   pub order : count ≤ vec_capacity l.order
 
--- What is taken for so many pages beside their words: room for an object at each of their granules, in the row of objects,
--- on the list and among the flags, and a place for the owner of each of their words.
+-- What is taken for so many pages beside their words: room for an object at each of them, in the row of objects,
+-- on the list and among the flags, and a place for the owner of each.
 pub record HasMemory (pages row : ℕ) (listing : Listing) (stays owners : ℕ) : Type 0 where
-  pub objects : PAGE_GRANULES * pages ≤ row
-  pub lists : HasListRoom (PAGE_GRANULES * pages) listing
-  pub flags : PAGE_GRANULES * pages ≤ stays
+  pub objects : PAGE_WORDS * pages ≤ row
+  pub lists : HasListRoom (PAGE_WORDS * pages) listing
+  pub flags : PAGE_WORDS * pages ≤ stays
   pub words : owners ≡ PAGE_WORDS * pages
 
 -- Some of so many objects are on the list, each once, and the row marks these.

@@ -1,6 +1,6 @@
 -- Which object each word of the heap belongs to.
 use Rattle.std.specs.Prelude.{◌≡◌, ℕ, ◌%◌, ◌≤◌, ◌<◌, List, All, length, slice_index}
-use Rattle.words.specs.declared.limits.TheConstants.{FIRST_ADDRESS, GRANULE_BYTES}
+use Rattle.words.specs.declared.limits.TheConstants.{FIRST_ADDRESS, WORD_BYTES}
 use Rattle.plain_core.specs.declared.extent.Extent.{Extent}
 use Rattle.plain_core.specs.Standing.{word_index}
 use Rattle.plain_core.specs.Reached.{PointsIntoNth}
@@ -17,7 +17,7 @@ pub record AreOwners (row : List Extent) (owners : List ℕ) : Type 0 where
 pub record AreOwnersBut (index : ℕ) (row : List Extent) (owners : List ℕ) : Type 0 where
   pub owned : (w i : ℕ) → (i ≡ index → ⊥) → PointsIntoNth row w i → slice_index owners (word_index w) ≡ i
 
--- Objects are found by what is written down of their words, also by the first words of granules, since each begins at one.
+-- Objects are found by what is written down of their words, also by the first bytes of words, since each begins at one.
 pub record AreFound (row : List Extent) (owners : List ℕ) : Type 0 where
   pub owned : AreOwners row owners
-  pub aligned : All (λ e. e.base % GRANULE_BYTES ≡ 0) row
+  pub aligned : All (λ e. e.base % WORD_BYTES ≡ 0) row

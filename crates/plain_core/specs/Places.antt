@@ -1,11 +1,11 @@
 -- Where a row of objects leaves room.
-use Rattle.std.specs.Prelude.{◌≡◌, ℕ, ◌+◌, ◌*◌, ◌%◌, ◌<◌, ◌≤◌, ◌⊎◌, List, All, length}
+use Rattle.std.specs.Prelude.{◌≡◌, ℕ, ◌+◌, ◌*◌, ◌%◌, ◌<◌, ◌≤◌, ◌⊎◌, List, All, Contains, length}
 use Rattle.words.specs.declared.class.Kind.{Kind}
 use Rattle.words.specs.declared.class.Placement.{Placement}
 use Rattle.words.specs.declared.class.Placement.TheVariants.{Small, Large}
-use Rattle.words.specs.declared.limits.TheConstants.{WORD_BYTES, GRANULE_WORDS, GRANULE_BYTES, PAGE_WORDS, MAX_SMALL_WORDS}
+use Rattle.words.specs.declared.limits.TheConstants.{WORD_BYTES, GRANULE_WORDS, PAGE_WORDS, MAX_SMALL_WORDS}
 use Rattle.words.specs.Layout.{page_start}
-use Rattle.heap_spec.specs.Layout.{LiesOn}
+use Rattle.heap_spec.specs.Layout.{PointsInto, LiesOn}
 use Rattle.plain_core.specs.declared.extent.Extent.{Extent}
 
 -- no object lies on the page
@@ -20,9 +20,9 @@ IsCutPage row page length kind = All (λ e. LiesOn e.base e.length page → (e.l
 abbrev pub IsNoBase : List Extent → ℕ → Type 0
 IsNoBase row a = All (λ e. e.base ≡ a → ⊥) row
 
--- the address of a granule of the page
-abbrev pub granule_start : ℕ → ℕ → ℕ
-granule_start page g = page_start page + GRANULE_BYTES * g
+-- the address of a word of the page
+abbrev pub word_start : ℕ → ℕ → ℕ
+word_start page g = page_start page + WORD_BYTES * g
 
 -- the address of a cell of the page, for so many words
 pub record IsCellAt (page length a : ℕ) : Type 0 where
@@ -59,3 +59,7 @@ IsPlace row pages (Large count) kind a = IsLargePlace row pages count a
 abbrev pub IsSized : Placement → Type 0
 IsSized (Small class) = (0 < class) × (class ≤ MAX_SMALL_WORDS) × (class % GRANULE_WORDS ≡ 0)
 IsSized (Large count) = 1 ≤ count
+
+-- no object shares a byte with a new one
+abbrev pub IsFresh : List Extent → Extent → Type 0
+IsFresh row e = (f : Extent) (w : ℕ) → Contains row f → PointsInto w e.base e.length → PointsInto w f.base f.length → ⊥

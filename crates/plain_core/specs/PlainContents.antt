@@ -1,7 +1,7 @@
 -- What a plain core contains.
 use Rattle.std.specs.Prelude.{◌≡◌, ℕ, ◌+◌, ◌-◌, ◌*◌, ◌/◌, ◌%◌, ◌<◌, ◌≤◌, ◌⊎◌, nat_eq, List, length, map, All, Contains}
 use Rattle.std.specs.List.{IsDistinct}
-use Rattle.words.specs.declared.limits.TheConstants.{WORD_BYTES, GRANULE_BYTES, PAGE_WORDS, FIRST_ADDRESS, MAX_PAGES, MAX_SMALL_WORDS}
+use Rattle.words.specs.declared.limits.TheConstants.{WORD_BYTES, PAGE_WORDS, FIRST_ADDRESS, MAX_PAGES, MAX_SMALL_WORDS}
 use Rattle.words.specs.Layout.{page_start}
 use Rattle.heap_spec.specs.Layout.{heap_end, PointsInto}
 use Rattle.roots.specs.Roots.{RootSet}
@@ -17,10 +17,10 @@ pub record PlainContents : Type 0 where
   pub roots : RootSet
   pub links : List Link
 
--- the object lies in the heap, at a granule
+-- the object lies in the heap, at a first_word
 pub record IsInHeap (pages : ℕ) (e : Extent) : Type 0 where
   pub start : FIRST_ADDRESS ≤ e.base
-  pub aligned : e.base % GRANULE_BYTES ≡ 0
+  pub aligned : e.base % WORD_BYTES ≡ 0
   pub some : 0 < e.length
   pub ends : e.base + WORD_BYTES * e.length ≤ heap_end pages
 
@@ -44,16 +44,19 @@ pub record HasPages (e : Extent) : Type 0 where
 abbrev pub IsPlacedExtent : Extent → Type 0
 IsPlacedExtent e = IsCellExtent e ⊎ HasPages e
 
--- the number of the granule at which an object begins
-abbrev pub granule : Extent → ℕ
-granule e = (e.base - FIRST_ADDRESS) / GRANULE_BYTES
+-- the number of the first_word at which an object begins
+abbrev pub first_word : Extent → ℕ
+first_word e = (e.base - FIRST_ADDRESS) / WORD_BYTES
 
--- What is true of every plain core. No address points into two objects, and no two begin at one granule, so that there are
--- never more objects than granules.
+-- What is true of every plain core, wherever its objects were placed. No address points into two objects, and no two begin at one first_word, so that there are
+-- never more objects than words.
 pub record IsLaidOut (c : PlainContents) : Type 0 where
   pub pages : c.pages ≤ MAX_PAGES
   pub words : length c.words ≡ PAGE_WORDS * c.pages
   pub in_heap : All (IsInHeap c.pages) c.objects
-  pub placed : All IsPlacedExtent c.objects
-  pub distinct : IsDistinct nat_eq (map granule c.objects)
+  pub distinct : IsDistinct nat_eq (map first_word c.objects)
   pub apart : (e f : Extent) (w : ℕ) → Contains c.objects e → Contains c.objects f → PointsInto w e.base e.length → PointsInto w f.base f.length → e ≡ f
+
+-- each object lies where size classes place it
+abbrev pub ArePlaced : PlainContents → Type 0
+ArePlaced c = All IsPlacedExtent c.objects

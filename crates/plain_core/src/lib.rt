@@ -13,12 +13,19 @@
 //! the old ones. `wrong_collected` and `wrong_forgotten` tell the lowest of what is wrong where objects are said to be gone, if
 //! anything is (`TellsUncollected`, `TellsUnforgotten`), and change nothing. `keeper` tells of a reached object a root or a word of
 //! another reached object that points into it (`TellsKeeper`), and `path_to` a path from a root to it (`TellsPath`).
+//!
+//! The objects of a core may lie at any words. `alloc_anywhere` grants a request by an object of a given length at a given base,
+//! if it lies in the heap there and shares no byte with another (`Requests`, `IsAllocatedAnywhere`, `CantAllocateAnywhere`), and
+//! `may_refuse` tells whether a request may be answered so without being granted (`MayRefuse`, `CantRefuse`). `alloc` and a granted
+//! request of `call_as`, for which the core picks the place, are steps where all objects lie where size classes place them
+//! (`ArePlaced`).
 #![tactic(auto)]
 
 mod along;
 mod claims;
 mod extent;
 mod flags;
+mod fresh;
 mod given_place;
 mod keepers;
 mod listing;

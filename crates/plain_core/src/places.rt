@@ -1,27 +1,27 @@
 //! Where a new object may go, found page by page.
 ghost use Rattle.std.specs.Prelude.{◌≡◌, ℕ, ◌<◌, ◌≤◌, ◌*◌, ◌%◌, ◌+◌, ◌^◌, All, IfSome, IfNone, false, IsTrue};
-ghost use Rattle.words.specs.declared.limits.TheConstants.{WORD_BYTES, GRANULE_WORDS, PAGE_GRANULES, PAGE_WORDS, MAX_PAGES, MAX_SMALL_WORDS};
+ghost use Rattle.words.specs.declared.limits.TheConstants.{WORD_BYTES, GRANULE_WORDS, PAGE_WORDS, MAX_PAGES, MAX_SMALL_WORDS};
 ghost use Rattle.words.specs.Layout.{page_start};
 ghost use Rattle.heap_spec.specs.Layout.{PointsInto};
 ghost use Rattle.heap_spec.specs.Room.{length_of};
 ghost use Rattle.plain_core.specs.Owners.{AreOwners, AreFound};
-ghost use Rattle.plain_core.specs.Places.{IsPlace, IsPlaceOn, IsSmallPlace, IsLargePlace, IsFreePage, IsCutPage, IsNoBase, IsSized, granule_start};
+ghost use Rattle.plain_core.specs.Places.{IsPlace, IsPlaceOn, IsSmallPlace, IsLargePlace, IsFreePage, IsCutPage, IsNoBase, IsSized, word_start};
 
 use crate::extent::Extent;
 use crate::owners::{owner_at, owner_of};
-use words::limits::{GRANULE_BYTES, PAGE_GRANULES, PAGE_WORDS, WORD_BYTES};
+use words::limits::{PAGE_WORDS, WORD_BYTES};
 use words::{Kind, PageNo, Placement, page_start};
 
-// The address of a granule of the page.
-fn granule_start(page: PageNo, granule: u64) -> u64
-    requires { granule < PAGE_GRANULES }
-    ensures { result ≡ granule_start page granule }
+// The address of a word of the page.
+fn word_start(page: PageNo, word: u64) -> u64
+    requires { word < PAGE_WORDS }
+    ensures { result ≡ word_start page word }
 {
-    page_start(page) + GRANULE_BYTES * granule
+    page_start(page) + WORD_BYTES * word
 }
 
 // Whether no object has the byte at the address.
-fn is_bare(objects: &[Extent], owners: &[u64], address: u64) -> bool
+pub(crate) fn is_bare(objects: &[Extent], owners: &[u64], address: u64) -> bool
     requires { AreOwners objects.now owners.now }
     ensures yes { IsTrue result → All (λ e. PointsInto address e.base e.length → ⊥) objects.now }
     ensures no { result ≡ false → All (λ e. PointsInto address e.base e.length → ⊥) objects.now → ⊥ }
@@ -38,8 +38,8 @@ pub(crate) fn is_free(objects: &[Extent], owners: &[u64], page: PageNo) -> bool
     ensures yes { IsTrue result → IsFreePage objects.now page }
     ensures no { result ≡ false → IsFreePage objects.now page → ⊥ }
 {
-    for granule in 0..PAGE_GRANULES {
-        if !is_bare(objects, owners, granule_start(page, granule)) {
+    for word in 0..PAGE_WORDS {
+        if !is_bare(objects, owners, word_start(page, word)) {
             return false;
         }
     }
@@ -78,8 +78,8 @@ pub(crate) fn is_cut_for(
     ensures yes { IsTrue result → IsCutPage objects.now page length kind }
     ensures no { result ≡ false → IsCutPage objects.now page length kind → ⊥ }
 {
-    for granule in 0..PAGE_GRANULES {
-        if !agrees_at(objects, owners, granule_start(page, granule), length, kind) {
+    for word in 0..PAGE_WORDS {
+        if !agrees_at(objects, owners, word_start(page, word), length, kind) {
             return false;
         }
     }

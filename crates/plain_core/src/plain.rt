@@ -24,7 +24,7 @@ use roots::{RootWords, Roots};
 use std::alloc::Global;
 use std::marker::Model;
 use words::OpenError;
-use words::limits::{MAX_PAGES, PAGE_GRANULES, PAGE_WORDS};
+use words::limits::{MAX_PAGES, PAGE_WORDS};
 
 /// A heap core.
 #[derive(Drop)]
@@ -67,12 +67,12 @@ impl Core {
             return Err(OpenError::BadPages);
         }
         let words = vec![in alloc; 0u64; PAGE_WORDS as usize * pages as usize]?;
-        let objects = Vec::with_capacity(alloc, PAGE_GRANULES as usize * pages as usize)?;
+        let objects = Vec::with_capacity(alloc, PAGE_WORDS as usize * pages as usize)?;
         let owners = vec![in alloc; 0u64; PAGE_WORDS as usize * pages as usize]?;
         let roots = Roots::new(alloc)?;
         let root_words = RootWords::new(alloc)?;
-        let listing = Listing::new(alloc, PAGE_GRANULES as usize * pages as usize)?;
-        let stays = vec![in alloc; true; PAGE_GRANULES as usize * pages as usize]?;
+        let listing = Listing::new(alloc, PAGE_WORDS as usize * pages as usize)?;
+        let stays = vec![in alloc; true; PAGE_WORDS as usize * pages as usize]?;
         Ok(Core {
             pages,
             words,

@@ -11,9 +11,9 @@ use Rattle.heap_spec.specs.Heap.{Heap, Object, Mutator as HeapMutator, HasObject
 use Rattle.heap_spec.specs.Replies.{word_reply}
 use Rattle.heap_spec.specs.Sound.{IsSound}
 use Rattle.heap_spec.specs.Steps.{Acts, Calls, acts, vacant, register}
-use Rattle.heap_spec.proofs.Calls.{attached_is}
+use Rattle.heap_spec.proofs.Calls.{attached_is, acts_kept}
 use Rattle.heap_spec.proofs.Layouts.{placed}
-use Rattle.heap_spec.proofs.Objects.{with_at-same}
+use Rattle.heap_spec.proofs.Objects.{with_at-same, one_read}
 use Rattle.heap_history.proofs.Held.{room_none}
 use Rattle.heap_core.specs.CoreContents.{CoreContents}
 use Rattle.heap_core.specs.Standing.{StandsFor}
@@ -67,7 +67,13 @@ module _ (c : CoreContents) (slot into words : ℕ) (kind : Kind) (old new : Rec
         base = a;
         note = is.place a word;
         bases = is.bases a word;
-        born = record { object = _; there = with_at-same s.objects a _ a refl; newest = omega arith };
+        born = record {
+          object = _;
+          there = with_at-same s.objects a _ a refl;
+          newest = omega arith;
+          alone = λ other w o has reads others.
+              one_read _ (acts_kept s slot m sound (attached_is s slot m sound at) (Acts.allocated {d = into} {n = words} {kind = kind} {placement = p} a e room) tt) w other a o _ (has, others) (with_at-same s.objects a _ a refl, reads);
+        };
         free = room_none s sound p kind a (placed words p e) room;
         object = _;
         after = refl;

@@ -8,7 +8,8 @@ use Rattle.heap_spec.specs.declared.event.Event.{Event}
 use Rattle.heap_spec.specs.declared.event.Event.TheVariants.{Mutator, BeginPartial}
 use Rattle.heap_spec.specs.declared.reply.Reply.{Reply}
 use Rattle.heap_spec.specs.declared.reply.Reply.TheVariants.{Done}
-use Rattle.heap_spec.specs.Heap.{Heap, Object}
+use Rattle.heap_spec.specs.Heap.{Heap, Object, HasObject}
+use Rattle.heap_spec.specs.Laws.{IsOldOrNew}
 use Rattle.heap_spec.specs.Closure.{Closure}
 use Rattle.heap_spec.specs.Runs.{Start, Run, heap_after, needs_full_after, old_births, goes_on}
 use Rattle.heap_spec.specs.Steps.{Step}
@@ -42,9 +43,9 @@ module _ (s s' : Heap) (d' : HasApartObjects s') where
       (step_births s event reply s' step base p has)
 
   -- what is born is not old
-  pub new_tell : (event : Event) (reply : Reply) → Step s event reply s' → s'.births ≡ s.births + 1 → (base : ℕ) (born : IsBornAt s base s') (c : PlainContents) → StandsFor c s' → (old new : List Bool) → FlagUnset c base old new
+  pub new_tell : ((q : ℕ) (p : Object) → HasObject s' q p → IsOldOrNew s q p) → s'.births ≡ s.births + 1 → (base : ℕ) (born : IsBornAt s base s') (c : PlainContents) → StandsFor c s' → (old new : List Bool) → FlagUnset c base old new
       → (last : ℕ) → last ≤ s.births → TellOld s old last → TellOld s' new last
-  new_tell event reply step births base born c h old new f last past tell at p has = ⊎_elim here away (cases_eq at base)
+  new_tell split births base born c h old new f last past tell at p has = ⊎_elim here away (cases_eq at base)
     where
       newest : s.births < born.object.birth
       newest = born.newest
@@ -67,7 +68,7 @@ module _ (s s' : Heap) (d' : HasApartObjects s') where
           let top = d'.born at p has in
           let top' = d'.born base born.object born.there in
           absurd (ne (d'.births at base p born.object has born.there (omega (arith, top, top', too, newest, births)))))
-          (step_births s event reply s' step at p has)
+          (split at p has)
 
 -- after a collection all objects are old
 pub all_tell : (s : Heap) (c : PlainContents) → StandsFor c s → (flags : List Bool) → HasFlags c.pages flags → FlagsAll c flags → TellOld s flags s.births

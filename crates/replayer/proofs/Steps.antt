@@ -9,7 +9,7 @@ use Rattle.heap_spec.specs.declared.event.Event.TheVariants.{Attach, Mutator, Be
 use Rattle.heap_spec.specs.declared.reply.Reply.{Reply}
 use Rattle.heap_spec.specs.declared.reply.Reply.TheVariants.{Done, Count, Refused}
 use Rattle.heap_spec.specs.Layout.{word_end}
-use Rattle.heap_spec.specs.Heap.{Heap, Mutator as HeapMutator, without}
+use Rattle.heap_spec.specs.Heap.{Heap, Object, Mutator as HeapMutator, HasObject, without}
 use Rattle.heap_spec.specs.Cycles.{CollectsFully}
 use Rattle.heap_spec.specs.Replies.{IsStep}
 use Rattle.heap_spec.specs.Runs.{Start, Run, heap_after, needs_full_after, old_births, goes_on}
@@ -20,8 +20,11 @@ use Rattle.plain_core.specs.Standing.{StandsFor}
 use Rattle.plain_core.specs.Answering.{IsNoStep, IsBornAt, IsAllocatedAt, CantAllocateAt}
 use Rattle.plain_core.specs.Flags.{HasFlags, FlagsReached, FlagsLed, FlagsBrought, NamesUnflagged}
 use Rattle.plain_core.specs.Aging.{FlagUnset, FlagsClosure}
-use Rattle.heap_spec.specs.Touching.{HasApartObjects}
-use Rattle.heap_spec.proofs.Touching.{calls_pages, attach_pages}
+use Rattle.heap_spec.specs.Touching.{HasApartObjects, HasNewborn}
+use Rattle.heap_spec.specs.Laws.{IsOldOrNew}
+use Rattle.heap_spec.proofs.Births.{step_births}
+use Rattle.heap_spec.proofs.Gaining.{Gains, calls_gain}
+use Rattle.heap_spec.proofs.Touching.{calls_newborn, calls_pages, attach_pages}
 use Rattle.replayer.specs.declared.hint.Hint.{Hint}
 use Rattle.replayer.specs.declared.hint.Hint.TheVariants.{Nothing, Place, Forgot}
 use Rattle.replayer.specs.ReplayerContents.{ReplayerContents, Follows}
@@ -83,7 +86,7 @@ attach_births s (Attaches.attached low) = refl
 attach_births s (Attaches.no_slot none) = refl
 
 -- an event that is no collection leaves the count of these
-same_number : (n : ℕ) → n < word_end → (n + 0) % word_end ≡ n
+pub same_number : (n : ℕ) → n < word_end → (n + 0) % word_end ≡ n
 same_number n small = omega arith
 
 -- what is true of the objects of the heaps that a core stands for
@@ -171,34 +174,45 @@ module _ (old : ReplayerContents) (small : old.number < word_end) (few : old.bir
 
   -- a granted request
   module _ (slot into words base : ℕ) (kind : Kind) where
+    -- the heap after one is followed, by what came to it
+    pub follows_grant : (new : PlainContents) (flags aged : List Bool) → old.births + 1 < word_end → length flags ≡ length old.touched → (old.marking ≡ true → FlagsLed new base old.touched flags) → FlagUnset new base old.aged aged
+        → (start : Start) (run : Run) → Follows old start run → (s' : Heap) → StandsFor new s' → HasApartObjects (heap_after start run) → HasApartObjects s' → s'.births ≡ (heap_after start run).births + 1 → s'.pages ≡ (heap_after start run).pages
+        → ((q : ℕ) (p : Object) → HasObject s' q p → IsOldOrNew (heap_after start run) q p) → Gains (heap_after start run) s' (HasNewborn (heap_after start run) s')
+        → ((v w : ℕ) → HasNewborn (heap_after start run) s' v → HasNewborn (heap_after start run) s' w → v ≡ w) → IsBornAt (heap_after start run) base s'
+        → Follows (record old { core = new; births = old.births + 1; touched = flags; aged = aged }) start (goes_on run (Mutator slot (Alloc into words kind)) Done s')
+    follows_grant new flags aged room size led unset start run f s' stands d d' births pages split gain one born = record {
+      stands = stands;
+      phase = f.phase;
+      needs = f.needs;
+      number = sym (ap (λ k. (k + 0) % word_end) (sym f.number) ∙ same_number old.number small);
+      births = ap (λ k. k + 1) f.births ∙ sym births;
+      aged_room = room_as _ _ _ _ f.aged_room pages unset.size;
+      past = subst (λ n. old_births start run ≤ n) (sym births) (let past = f.past in omega arith);
+      aged = new_tell (heap_after start run) s' d' split births base born new stands old.aged aged unset (old_births start run) f.past f.aged;
+      room = room_as _ _ _ _ f.room pages size;
+      touched = λ marks. grant_tell start run s' (sym f.phase ∙ marks) d d' new stands old.touched flags (room_as _ _ _ _ f.room (sym stands.pages ∙ pages) refl) (f.touched marks) slot into words base kind gain one born (led marks);
+    }
+
     pub grants : (new : PlainContents) (flags aged : List Bool) → AreApartIn old.core → AreApartIn new → IsAllocatedAt old.core slot into words kind base new → old.births + 1 < word_end
         → length flags ≡ length old.touched → (old.marking ≡ true → FlagsLed new base old.touched flags) → FlagUnset new base old.aged aged
         → IsReplayed old (Mutator slot (Alloc into words kind)) Done (Place base) (record old { core = new; births = old.births + 1; touched = flags; aged = aged })
     grants new flags aged apart apart' steps room size led unset start run f =
         let x = steps (heap_after start run) f.stands in
         let births : x.0.births ≡ (heap_after start run).births + 1 = call_birth (heap_after start run) slot into words kind x.1 in
+        let d = apart (heap_after start run) f.stands in
+        let d' = apart' x.0 x.3 in
         let known = f.births in (
           goes_on run (Mutator slot (Alloc into words kind)) Done x.0,
           record {
             line = LineOf.happens x.1;
-            place = λ at d n q is done. x.2;
+            place = λ at k n q is done. x.2;
             finished = λ n which is. absurd (cc);
             collected = λ n which is. absurd (cc);
             births = omega arith;
           },
-          record {
-            stands = x.3;
-            phase = f.phase;
-            needs = f.needs;
-            number = sym (ap (λ k. (k + 0) % word_end) (sym f.number) ∙ same_number old.number small);
-            births = ap (λ k. k + 1) f.births ∙ sym births;
-            aged_room = room_as _ _ _ _ f.aged_room (calls_pages (heap_after start run) slot (Alloc into words kind) x.1) unset.size;
-            past = subst (λ n. old_births start run ≤ n) (sym births) (let past = f.past in omega arith);
-            aged = new_tell (heap_after start run) x.0 (apart' x.0 x.3) (Mutator slot (Alloc into words kind)) Done x.1 births base x.2 new x.3 old.aged aged unset (old_births start run) f.past f.aged;
-            room = room_as _ _ _ _ f.room (calls_pages (heap_after start run) slot (Alloc into words kind) x.1) size;
-            touched = λ marks. grant_tell start run x.0 (sym f.phase ∙ marks) (apart (heap_after start run) f.stands) (apart' x.0 x.3) new x.3 old.touched flags
-                (room_as _ _ _ _ f.room (sym x.3.pages ∙ calls_pages (heap_after start run) slot (Alloc into words kind) x.1) refl) (f.touched marks) slot into words base kind x.1 x.2 (led marks);
-          },
+          follows_grant new flags aged room size led unset start run f x.0 x.3 d d' births (calls_pages (heap_after start run) slot (Alloc into words kind) x.1)
+              (step_births (heap_after start run) (Mutator slot (Alloc into words kind)) Done x.0 x.1) (calls_gain (heap_after start run) slot (Alloc into words kind) Done x.0 d' x.1)
+              (calls_newborn (heap_after start run) d slot into words kind x.1) x.2,
         )
 
     pub no_grant : CantAllocateAt old.core slot into words kind base → IsNoReplay old (Mutator slot (Alloc into words kind)) Done (Place base)

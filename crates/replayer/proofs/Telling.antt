@@ -12,8 +12,8 @@ use Rattle.heap_spec.specs.Laws.{IsNoAlloc}
 use Rattle.heap_spec.specs.Runs.{Start, Run, Touched, heap_after, is_marking, goes_on}
 use Rattle.heap_spec.specs.Steps.{Attaches, Calls}
 use Rattle.heap_spec.specs.Touching.{LedTo, HasNewborn, IsBrought, HasApartObjects}
-use Rattle.heap_spec.proofs.Gaining.{calls_gain, attach_gain}
-use Rattle.heap_spec.proofs.Touching.{flags_tell, marking_closed, brought_one, calls_newborn, calls_refuse}
+use Rattle.heap_spec.proofs.Gaining.{Gains, calls_gain, attach_gain}
+use Rattle.heap_spec.proofs.Touching.{flags_tell, marking_closed, brought_one, calls_refuse}
 use Rattle.plain_core.specs.PlainContents.{PlainContents}
 use Rattle.plain_core.specs.Standing.{StandsFor}
 use Rattle.plain_core.specs.Answering.{IsBornAt}
@@ -46,19 +46,16 @@ module _ (start : Start) (run : Run) (s' : Heap) (marks : is_marking start run �
             calls_refuse (heap_after start run) d slot is.0 is.1 is.2 (subst (λ k. Calls (heap_after start run) slot k reply s') is.3 step) (λ done. none (is.0, is.1, is.2, is.3, done)) w
             (subst (λ k. IsBrought (heap_after start run) slot k s' w) is.3 x)
 
-    pub grant_tell : (slot into words base : ℕ) (kind : Kind) → Calls (heap_after start run) slot (Alloc into words kind) Done s' → IsBornAt (heap_after start run) base s' → FlagsLed c base old new
-        → TellTouched new start (goes_on run (Mutator slot (Alloc into words kind)) Done s')
-    grant_tell slot into words base kind step born f =
-        flags_tell (heap_after start run) s' (Touched start run) (HasNewborn (heap_after start run) s') d d' (calls_gain (heap_after start run) slot (Alloc into words kind) Done s' d' step) (marking_closed start run marks d)
+    pub grant_tell : (slot into words base : ℕ) (kind : Kind) → Gains (heap_after start run) s' (HasNewborn (heap_after start run) s') → ((v w : ℕ) → HasNewborn (heap_after start run) s' v → HasNewborn (heap_after start run) s' w → v ≡ w)
+        → IsBornAt (heap_after start run) base s' → FlagsLed c base old new → TellTouched new start (goes_on run (Mutator slot (Alloc into words kind)) Done s')
+    grant_tell slot into words base kind gain one born f =
+        flags_tell (heap_after start run) s' (Touched start run) (HasNewborn (heap_after start run) s') d d' gain (marking_closed start run marks d)
         (IsFlagged old) (IsFlagged new) tell (λ b o has is. ⊎_elim (λ before. inl before) (λ led. inr (base, newborn, led)) (f.only s' h b o has is)) f.keeps
         (λ w x lead b led. let same : w ≡ base = one w base x newborn in f.adds room s' h (subst (LeadsToFlagged s' old) same lead) b (subst (λ k. LedTo s' k b) same led))
         one
       where
         newborn : HasNewborn (heap_after start run) s' base
         newborn = (born.object, born.there, born.newest)
-
-        one : (v w : ℕ) → HasNewborn (heap_after start run) s' v → HasNewborn (heap_after start run) s' w → v ≡ w
-        one = calls_newborn (heap_after start run) d slot into words kind step
 
 pub begin_tell : (start : Start) (run : Run) (c : PlainContents) → StandsFor c (heap_after start run) → HasApartObjects (heap_after start run) → (flags : List Bool) → HasFlags c.pages flags → FlagsReached c flags
     → TellTouched flags start (goes_on run Begin Done (heap_after start run))

@@ -1,5 +1,6 @@
 pub mod ReplayerContents
 pub mod Replays
+pub mod Anywhere
 pub mod Laws
 pub mod Expecting
 pub mod Wrongs

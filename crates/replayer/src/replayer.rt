@@ -79,7 +79,7 @@ impl Replayer {
     }
 
     // Whether no birth more can be counted.
-    fn is_full(&self) -> bool
+    pub(crate) fn is_full(&self) -> bool
         ensures yes { IsTrue result → word_end ≤ self.now.births + 1 }
         ensures no { result ≡ false → self.now.births + 1 < word_end }
     {

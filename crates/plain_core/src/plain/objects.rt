@@ -1,14 +1,15 @@
 //! The calls that touch objects.
 ghost use Rattle.std.specs.Prelude.{◌≡◌, IsTrue, false};
-ghost use Rattle.words.specs.declared.class.Placement.{Placement};
 ghost use Rattle.heap_spec.specs.Heap.{Mutator as HeapMutator};
 ghost use Rattle.heap_spec.specs.Replies.{IsStep, done_reply, word_reply, count_reply};
 ghost use Rattle.roots.specs.Roots.{HasMutator};
-ghost use Rattle.plain_core.specs.Answering.{MayBePut, IsPut, IsAllocatedAt, CantAllocateAt};
+ghost use Rattle.plain_core.specs.PlainContents.{ArePlaced};
+ghost use Rattle.plain_core.specs.Answering.{MayBePut, IsPut, IsAllocatedAt, CantAllocateAt, IsAllocatedAnywhere, CantAllocateAnywhere};
 
 use super::Core;
 use crate::along::take_along;
 use crate::extent::Extent;
+use crate::fresh::may_be_put;
 use crate::given_place::place_at;
 use crate::owners::{fill, find_in, owner_at, word_index, write_owner};
 use crate::places::place_for;
@@ -51,11 +52,11 @@ impl Core {
         Ok(())
     }
 
-    // Puts a zeroed object where there is room for it, and its base into a register.
+    // Puts a zeroed object where it may be put, and its base into a register.
     fn put(&mut self, slot: Slot, into: Reg, object: Extent)
         requires mutator { (m : HeapMutator) × HasMutator self.old.roots slot m }
-        requires fits { (placement : Placement) × MayBePut self.old placement object }
-        ensures { (placement : Placement) → MayBePut self.old placement object → IsPut self.old slot into placement object self.new }
+        requires fits { MayBePut self.old object }
+        ensures { IsPut self.old slot into object self.new }
     {
         let start = word_index(object.base);
         fill(&mut self.words, start, object.length as usize, 0);
@@ -65,15 +66,20 @@ impl Core {
         self.roots.set_word(slot, into, object.base);
     }
 
-    /// Allocates a zeroed object of at least so many words, and puts its base into a register.
+    /// Allocates a zeroed object of at least so many words where its size class has a place, and puts its base into a register.
+    /// This is a step where all objects lie where size classes place them.
     pub fn alloc(&mut self, slot: Slot, into: Reg, words: u64, kind: Kind) -> Result<(), Refusal>
-        ensures { IsStep (StandsFor self.old) (Event.Mutator slot (Call.Alloc into words kind)) (done_reply result) (StandsFor self.new) }
+        ensures { ArePlaced self.old → IsStep (StandsFor self.old) (Event.Mutator slot (Call.Alloc into words kind)) (done_reply result) (StandsFor self.new) }
     {
         self.mutator(slot).ok_or(Refusal::NoSlot)?;
         let placement = class_of(words).ok_or(Refusal::BadSize)?;
         let object = place_for(&self.objects, &self.owners, self.pages, placement, kind).ok_or(
             Refusal::Full,
         )?;
+        // Only an object that lies elsewhere than its class places it can be in the way.
+        if !may_be_put(&self.objects, &self.owners, self.pages, &object) {
+            return Err(Refusal::Full);
+        }
         self.put(slot, into, object);
         Ok(())
     }
@@ -100,6 +106,38 @@ impl Core {
         ) else {
             return false;
         };
+        if !may_be_put(&self.objects, &self.owners, self.pages, &object) {
+            return false;
+        }
+        self.put(slot, into, object);
+        true
+    }
+
+    /// Allocates a zeroed object of `length` words at this base, if the request is granted so where objects may lie anywhere.
+    /// Else nothing changes.
+    pub fn alloc_anywhere(
+        &mut self,
+        slot: Slot,
+        into: Reg,
+        words: u64,
+        kind: Kind,
+        base: u64,
+        length: u64,
+    ) -> bool
+        ensures yes { IsTrue result → IsAllocatedAnywhere self.old slot into words kind base length self.new }
+        ensures no { result ≡ false → CantAllocateAnywhere self.old slot into words kind base length }
+        ensures same { result ≡ false → self.new ≡ self.old }
+    {
+        let Some(_) = self.mutator(slot) else {
+            return false;
+        };
+        if length < words {
+            return false;
+        }
+        let object = Extent { base, kind, length };
+        if !may_be_put(&self.objects, &self.owners, self.pages, &object) {
+            return false;
+        }
         self.put(slot, into, object);
         true
     }

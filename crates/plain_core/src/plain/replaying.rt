@@ -3,11 +3,11 @@ ghost use Rattle.std.specs.Prelude.{◌≡◌, IsTrue, false};
 ghost use Rattle.heap_spec.specs.declared.reply.Reply.{Reply as ReplyValue};
 ghost use Rattle.heap_spec.specs.Replies.{IsStep};
 ghost use Rattle.plain_core.specs.Standing.{StandsFor};
-ghost use Rattle.plain_core.specs.Answering.{CanAnswer, CanAttach, IsNoStep, MakesCall};
+ghost use Rattle.plain_core.specs.Answering.{CanAnswer, CanAttach, IsNoStep, MakesCall, HasPlaces, GrantHasPlaces, MayRefuse, CantRefuse};
 
 use super::Core;
 use heap_spec::{Call, Event, Reply};
-use words::{Refusal, Slot};
+use words::{Refusal, Slot, class_of};
 
 // Whether two replies are the same.
 fn is_same(a: &Reply, b: &Reply) -> bool
@@ -40,7 +40,7 @@ impl Core {
 
     // Makes a call, whatever its reply.
     fn make(&mut self, slot: Slot, call: Call)
-        ensures { MakesCall self.old slot call self.new }
+        ensures { HasPlaces self.old call → MakesCall self.old slot call self.new }
     {
         match call {
             Call::Detach => ignore(self.detach(slot)),
@@ -77,9 +77,10 @@ impl Core {
         true
     }
 
-    /// Makes a call, if this is its reply. Else nothing changes. Where a request is granted the core picks the place.
+    /// Makes a call, if this is its reply. Else nothing changes. Where a request is granted the core picks the place, which is a
+    /// step where all objects lie where size classes place them.
     pub fn call_as(&mut self, slot: Slot, call: &Call, reply: &Reply) -> bool
-        ensures yes { IsTrue result → IsStep (StandsFor self.old) (Event.Mutator slot call.now) reply.now (StandsFor self.new) }
+        ensures yes { IsTrue result → GrantHasPlaces self.old call.now reply.now → IsStep (StandsFor self.old) (Event.Mutator slot call.now) reply.now (StandsFor self.new) }
         ensures no { result ≡ false → IsNoStep self.old (Event.Mutator slot call.now) reply.now }
         ensures same { result ≡ false → self.new ≡ self.old }
     {
@@ -93,5 +94,22 @@ impl Core {
             return true;
         };
         true
+    }
+
+    /// Whether a request may be answered so without being granted, where objects may lie anywhere.
+    pub fn may_refuse(&self, slot: Slot, words: u64, reply: &Reply) -> bool
+        ensures yes { IsTrue result → MayRefuse self.now slot words reply.now }
+        ensures no { result ≡ false → CantRefuse self.now slot words reply.now }
+    {
+        let Some(_) = self.mutator(slot) else {
+            return is_same(reply, &Reply::Refused(Refusal::NoSlot));
+        };
+        if is_same(reply, &Reply::Refused(Refusal::Full)) {
+            return true;
+        }
+        let None = class_of(words) else {
+            return false;
+        };
+        is_same(reply, &Reply::Refused(Refusal::BadSize))
     }
 }

@@ -2,16 +2,16 @@ use Rattle.std.proofs.Common.{ℕ, below_more}
 use Rattle.std.specs.Prelude.{All}
 use Rattle.heap_spec.specs.Layout.{PointsInto}
 use Rattle.plain_core.specs.declared.extent.Extent.{Extent}
-use Rattle.plain_core.specs.Places.{granule_start}
-use Rattle.plain_core.proofs.Granules.{all_on, not_on}
+use Rattle.plain_core.specs.Places.{word_start}
+use Rattle.plain_core.proofs.PageWords.{all_on, not_on}
 use Rattle.plain_core.proofs.places.is_free.Goals as goal
 
-pub loop-granule-preserved : goal.loop-granule-preserved
-loop-granule-preserved c = below_more (λ (g : ℕ). All (λ (e : Extent). PointsInto (granule_start c.args.page g) e.base e.length → ⊥) c.args.objects.now) _ c.loop-granule.invariant
-    (rw c.granule_start.ensures at c.is_bare.ensures.yes c.if-not-is_bare.false)
+pub loop-word-preserved : goal.loop-word-preserved
+loop-word-preserved c = below_more (λ (g : ℕ). All (λ (e : Extent). PointsInto (word_start c.args.page g) e.base e.length → ⊥) c.args.objects.now) _ c.loop-word.invariant
+    (rw c.word_start.ensures at c.is_bare.ensures.yes c.if-not-is_bare.false)
 
 pub returns-then-not-is_bare-clause-no : goal.returns-then-not-is_bare-clause-no
-returns-then-not-is_bare-clause-no c _ free = not_on _ _ c.requires (λ e. ⊥) c.args.page c.loop-granule.granule c.loop-granule-test.true (rw c.granule_start.ensures at c.is_bare.ensures.no c.if-not-is_bare.true) free
+returns-then-not-is_bare-clause-no c _ free = not_on _ _ c.requires (λ e. ⊥) c.args.page c.loop-word.word c.loop-word-test.true (rw c.word_start.ensures at c.is_bare.ensures.no c.if-not-is_bare.true) free
 
 pub returns-clause-yes : goal.returns-clause-yes
-returns-clause-yes c _ = all_on _ _ c.requires (λ e. ⊥) c.args.page _ c.loop-granule-test.false c.loop-granule.invariant
+returns-clause-yes c _ = all_on _ _ c.requires (λ e. ⊥) c.args.page _ c.loop-word-test.false c.loop-word.invariant

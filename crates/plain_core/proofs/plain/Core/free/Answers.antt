@@ -2,7 +2,7 @@ use Rattle.std.proofs.Common.{refl, ◌≡◌, ◌<◌, ◌≤◌, ◌*◌, leng
 use Rattle.std.specs.Vec.{vec_capacity}
 use Rattle.std.proofs.lemmas.List.{with_items_is}
 use Rattle.std.proofs.lemmas.Option.{slice_get_within, get_or_from_slice_get}
-use Rattle.words.specs.declared.limits.TheConstants.{PAGE_GRANULES}
+use Rattle.words.specs.declared.limits.TheConstants.{PAGE_WORDS}
 use Rattle.heap_spec.specs.Steps.{Acts}
 use Rattle.plain_core.specs.declared.extent.Extent.{Extent}
 use Rattle.roots.proofs.Refusals.{handed_on, handed_on_none}
@@ -73,7 +73,7 @@ invariant_of-self c =
     let found = rw (c.in_ok-index.ensures.ok_part, c.deref.ensures.value, c.word-address.ensures) at c.owner_at.ensures.some in
     let there = found.1 in
     let long : length c.take_along.new.words ≡ length c.self.inside.words.items = c.take_along.auto.words ∙ ap length c.deref_mut-2.ensures.value in
-    let spare : PAGE_GRANULES * c.self.inside.pages ≤ vec_capacity c.self.inside.objects = c.self.invariant.1.objects in (
+    let spare : PAGE_WORDS * c.self.inside.pages ≤ vec_capacity c.self.inside.objects = c.self.invariant.1.objects in (
       remove_sound _ c.self.invariant.0 _ _ _ (slice_get_within _ _ _ there) c.swap_remove-freed.ensures.value c.swap_remove-freed.ensures.items _ _
           (ap length (with_items_is c.self.inside.words c.take_along.new.words (long ∙ sym c.self.inside.words.ok.0)) ∙ long),
       record { objects = omega (arith, c.swap_remove-freed.ensures.capacity); lists = c.self.invariant.1.lists; flags = c.self.invariant.1.flags; words = c.self.invariant.1.words },

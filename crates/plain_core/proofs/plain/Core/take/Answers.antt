@@ -1,7 +1,7 @@
 use Rattle.std.proofs.Common.{◌≡◌, ◌*◌, ◌≤◌, length, refl, subst, sym, ap, ◌∙◌, arith}
 use Rattle.std.specs.Vec.{vec_len}
 use Rattle.std.proofs.lemmas.List.{with_items_is}
-use Rattle.words.specs.declared.limits.TheConstants.{PAGE_GRANULES}
+use Rattle.words.specs.declared.limits.TheConstants.{PAGE_WORDS}
 use Rattle.plain_core.specs.Claims.{AreFreeToGo, AreUnset}
 use Rattle.plain_core.specs.Parting.{Parts}
 use Rattle.plain_core.proofs.Collects.{sound_apart, lie_in, all_lie, marks_are, room_for, room_kept}
@@ -62,7 +62,7 @@ take_along-requires-clause-lie c = rw (c.deref_mut-2.ensures.value, c.deref-11.e
 
 pub invariant_of-self-2 : goal.invariant_of-self-2
 invariant_of-self-2 c =
-    let spare : PAGE_GRANULES * c.self.inside.pages ≤ vec_len c.self.inside.stays = c.self.invariant.1.flags in
+    let spare : PAGE_WORDS * c.self.inside.pages ≤ vec_len c.self.inside.stays = c.self.invariant.1.flags in
     let size = c.unset_flags.ensures.size in
     let long = c.fill.ensures.len in
     let kept : length c.take_along.new.words ≡ length c.self.inside.words.items = c.take_along.auto.words ∙ ap length c.deref_mut-2.ensures.value in (

@@ -1,0 +1,33 @@
+-- What lies on a page has the first byte of one of its words.
+use Rattle.std.proofs.Common.{◌≡◌, ℕ, ◌-◌, ◌/◌, ◌%◌, ◌<◌, ◌≤◌, List, get_or, arith, ⊎_elim}
+use Rattle.std.specs.Prelude.{All}
+use Rattle.std.proofs.lemmas.Bool.{cases_lt}
+use Rattle.std.proofs.lemmas.Option.{slice_get-get_or}
+use Rattle.words.specs.declared.limits.TheConstants.{FIRST_ADDRESS, WORD_BYTES, PAGE_WORDS}
+use Rattle.words.specs.Layout.{page_start}
+use Rattle.heap_spec.specs.Layout.{PointsInto, LiesOn}
+use Rattle.plain_core.specs.declared.extent.Extent.{Extent}
+use Rattle.plain_core.specs.Owners.{AreFound}
+use Rattle.plain_core.specs.Places.{word_start}
+
+word_on : (page : ℕ) (e : Extent) → FIRST_ADDRESS ≤ e.base → e.base % WORD_BYTES ≡ 0 → 0 < e.length → LiesOn e.base e.length page → (g : ℕ) × (g < PAGE_WORDS) × PointsInto (word_start page g) e.base e.length
+word_on page e low even some lies = ⊎_elim
+    (λ before. (0, omega arith, (omega (arith, before), omega (arith, lies.1))))
+    (λ from. ((e.base - page_start page) / WORD_BYTES, omega (arith, from, lies.0), (omega (arith, from, even), omega (arith, from, even, some))))
+    (cases_lt e.base (page_start page))
+
+on_word : (page g : ℕ) (e : Extent) → g < PAGE_WORDS → PointsInto (word_start page g) e.base e.length → LiesOn e.base e.length page
+on_word page g e lt reads = (omega (arith, lt, reads.0), omega (arith, reads.1))
+
+module _ (row : List Extent) (owners : List ℕ) (found : AreFound row owners) (P : Extent → Type 0) (page : ℕ) where
+  -- what is so of each object that has such a byte is so of each that lies on the page
+  pub all_on : (n : ℕ) → PAGE_WORDS ≤ n → ((g : ℕ) → g < n → All (λ e. PointsInto (word_start page g) e.base e.length → P e) row) → All (λ e. LiesOn e.base e.length page → P e) row
+  all_on n all so k d lt lies =
+      let e : Extent = get_or row k d in
+      let more : 0 < e.length = found.owned.some k d lt in
+      let low : FIRST_ADDRESS ≤ e.base = found.owned.start e.base k (e, slice_get-get_or row k d lt, (omega arith, omega (arith, more))) in
+      let g = word_on page e low (found.aligned k d lt) more lies in
+      so g.0 (omega (arith, g.1, all)) k d lt g.2
+
+  pub not_on : (g : ℕ) → g < PAGE_WORDS → (All (λ e. PointsInto (word_start page g) e.base e.length → P e) row → ⊥) → All (λ e. LiesOn e.base e.length page → P e) row → ⊥
+  not_on g small not so = not (λ k d lt reads. so k d lt (on_word page g (get_or row k d) small reads))

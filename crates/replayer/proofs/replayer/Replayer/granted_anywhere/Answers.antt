@@ -1,0 +1,24 @@
+use Rattle.std.proofs.Common.{◌<◌, ◌+◌, subst, sym}
+use Rattle.heap_spec.specs.Layout.{word_end}
+use Rattle.replayer.specs.ReplayerContents.{ReplayerContents}
+use Rattle.replayer.proofs.Granting.{grants_anywhere, no_grant_anywhere, no_place_anywhere, no_birth_anywhere}
+use Rattle.replayer.proofs.replayer.Replayer.granted_anywhere.Goals as goal
+
+pub returns-in_default-clause-no : goal.returns-in_default-clause-no
+returns-in_default-clause-no c refused = no_place_anywhere _ c.limits.ensures.number c.limits.ensures.births _ _ _ _ _ _ c.in_default.not-Place
+
+pub returns-then-is_full-clause-no : goal.returns-then-is_full-clause-no
+returns-then-is_full-clause-no c refused = no_birth_anywhere _ c.limits.ensures.number c.limits.ensures.births _ _ _ _ _ _ (c.is_full.ensures.yes c.if-is_full.true)
+
+pub returns-then-not-alloc_anywhere-clause-no : goal.returns-then-not-alloc_anywhere-clause-no
+returns-then-not-alloc_anywhere-clause-no c refused =
+    let small = subst (λ (r : ReplayerContents). r.number < word_end) (sym c.self.view_is) c.limits.ensures.number in
+    let few = subst (λ (r : ReplayerContents). r.births < word_end) (sym c.self.view_is) c.limits.ensures.births in
+    rw (← c.self.view_is, c.in-Place.is) (no_grant_anywhere _ small few _ _ _ _ _ _ (c.alloc_anywhere.ensures.no c.if-not-alloc_anywhere.true))
+
+pub returns-clause-yes : goal.returns-clause-yes
+returns-clause-yes c done =
+    let small = subst (λ (r : ReplayerContents). r.number < word_end) (sym c.self.view_is) c.limits.ensures.number in
+    let few = subst (λ (r : ReplayerContents). r.births < word_end) (sym c.self.view_is) c.limits.ensures.births in
+    let room = subst (λ (r : ReplayerContents). r.births + 1 < word_end) (sym c.self.view_is) (c.is_full.ensures.no c.if-is_full.false) in
+    rw (← c.self.view_is, c.in-Place.is, c.flag_place.ensures.same) (grants_anywhere _ small few _ _ _ _ _ _ _ _ _ c.objects_are_apart.ensures c.objects_are_apart-2.ensures (c.alloc_anywhere.ensures.yes c.if-not-alloc_anywhere.false) room c.flag_place.ensures.size c.flag_place.ensures.flags (rw c.flag_place.ensures.same at c.renew.ensures))
