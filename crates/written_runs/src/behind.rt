@@ -84,7 +84,7 @@ fn object_of(text: &[u8]) -> Option<(u64, u64)>
 
 // What a text is that stands behind ` @`: an address, and where objects lie anywhere a number of words behind it.
 fn place_of(places: Places, text: &[u8]) -> Option<Behind>
-    ensures { MatchOption result ((base n : ℕ) → IsHintText places (codes " @" ++ text.now) (HintValue.Place base) n → ⊥)
+    ensures { MatchOption result ((base n : ℕ) → IsHintText places (codes " @" ++ text.now) (Hint.Place base) n → ⊥)
         (λ behind. IsBehind places (codes " @" ++ text.now) behind) }
 {
     match places {
@@ -116,7 +116,10 @@ pub(crate) fn behind_of(
         return Ok(Some(Behind::Nothing));
     }
     if let Some(place) = past(text, " @") {
-        return Ok(place_of(places, place));
+        let Some(behind) = place_of(places, place) else {
+            return Ok(None);
+        };
+        return Ok(Some(behind));
     }
     let Some(text) = past(text, " -") else {
         return Ok(None);
