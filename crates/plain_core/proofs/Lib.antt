@@ -11,6 +11,7 @@ pub mod Alloc
 pub mod Anywhere
 pub mod Bare
 pub mod PageWords
+pub mod Placed
 pub mod Free
 pub mod Lists
 pub mod Reaching

@@ -8,6 +8,7 @@ use Rattle.heap_spec.specs.declared.reply.Reply.{Reply}
 use Rattle.heap_spec.specs.declared.reply.Reply.TheVariants.{Done}
 use Rattle.heap_spec.specs.Layout.{PointsInto, index_in}
 use Rattle.heap_spec.specs.Heap.{Heap, Object, Mutator, HasObject, PointsIntoObject, PointsIntoNothing}
+use Rattle.heap_spec.specs.Sound.{IsSound}
 use Rattle.heap_spec.specs.Steps.{Acts, Attaches, Calls, Step, with_register}
 use Rattle.roots.specs.Roots.{HasMutator}
 use Rattle.plain_core.specs.declared.extent.Extent.{Extent}
@@ -54,6 +55,10 @@ pub record IsBornAt (s : Heap) (base : ℕ) (s' : Heap) : Type 0 where
   pub there : HasObject s' base object
   pub newest : s.births < object.birth
   pub alone : (other w : ℕ) (o : Object) → HasObject s' other o → PointsInto w base (length object.words) → PointsInto w other (length o.words) → other ≡ base
+
+-- what a granted request brings into a sound heap is born alone
+abbrev pub BirthsAreAlone : Type 0
+BirthsAreAlone = (s s' : Heap) (slot into words base : ℕ) (kind : Kind) (o : Object) → IsSound s → Calls s slot (Alloc into words kind) Done s' → HasObject s' base o → s.births < o.birth → IsBornAt s base s'
 
 -- The object lies in the heap, and shares no byte with those that are there.
 pub record MayBePut (c : PlainContents) (e : Extent) : Type 0 where

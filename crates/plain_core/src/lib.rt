@@ -40,4 +40,5 @@ pub use extent::Extent;
 pub use keepers::Keeper;
 pub use paths::PathStep;
 pub use plain::Core;
+pub use plain::laws::births_are_alone;
 pub use wrongs::Wrong;

@@ -9,6 +9,7 @@ mod answers;
 mod collections;
 mod judging;
 mod keeping;
+pub(crate) mod laws;
 mod leading;
 mod linked;
 mod looking;

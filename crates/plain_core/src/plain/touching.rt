@@ -3,7 +3,7 @@
 ghost use Rattle.std.specs.Prelude.{◌≡◌, ◌↔◌, ◌∷◌, [], ℕ, IsTrue, IfSome, IfNone, All, false, length};
 ghost use Rattle.heap_spec.specs.Heap.{Heap};
 ghost use Rattle.heap_spec.specs.Laws.{IsNoAlloc};
-ghost use Rattle.heap_spec.specs.Touching.{HasApartObjects, IsBrought, StandsIn};
+ghost use Rattle.heap_spec.specs.Touching.{IsBrought, StandsIn};
 ghost use Rattle.plain_core.specs.Standing.{StandsFor, LiesIn};
 ghost use Rattle.plain_core.specs.Reached.{AreApart, MarksReached};
 ghost use Rattle.plain_core.specs.Listing.{HasListRoom, KeepsRoom};
@@ -46,13 +46,6 @@ fn moved(call: &Call) -> Option<Reg>
 }
 
 impl Core {
-    /// What is true of the objects of every core.
-    pub fn objects_are_apart(&self)
-        ensures { (s : Heap) → StandsFor self.now s → HasApartObjects s }
-    {
-        self.laws();
-    }
-
     /// Sets the flags of all objects that are reached, and of no other.
     pub fn flag_reached(&mut self, flags: &mut [bool])
         ensures flags { FlagsReached self.old flags.new }
