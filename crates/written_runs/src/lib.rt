@@ -31,7 +31,7 @@ mod told;
 mod verdict;
 mod writing;
 
-pub use command::words_given;
+pub use command::{pages_given, places_given, words_given};
 pub use places::Places;
 pub use rules::Rule;
 pub use verdict::{Explained, Judgement, Verdict, explain, judge};
