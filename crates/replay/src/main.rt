@@ -9,7 +9,7 @@ ghost use Rattle.words.specs.declared.limits.TheConstants.{MAX_PAGES};
 
 mod options;
 
-use crate::options::{Asked, asked};
+use crate::options::{Asked, read_words};
 use plain_core::PathStep;
 use programs::{Fault, end, own_words};
 use scripts::Std;
@@ -113,7 +113,7 @@ fn check(rt: &HostRuntime, asked: Asked, file: &str) -> Result<u8, Fault>
 // Does what the words say.
 fn obey(rt: &HostRuntime) -> Result<u8, Fault> {
     let words = own_words(rt)?;
-    let Some((asked, file)) = asked(words.as_slice()) else {
+    let Some((asked, file)) = read_words(words.as_slice()) else {
         return Err(Fault::BadCommand);
     };
     check(rt, asked, file)

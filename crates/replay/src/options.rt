@@ -63,7 +63,7 @@ impl<'a> Options<'a> {
     }
 
     // What they ask, if they have a number of pages and nothing bad.
-    fn asked(&self) -> Option<Asked>
+    fn read(&self) -> Option<Asked>
         ensures { IfSome result (λ asked. (1 ≤ asked.pages) × (asked.pages ≤ MAX_PAGES)) }
     {
         let Some(pages) = self.pages else {
@@ -88,7 +88,7 @@ impl<'a> Options<'a> {
 
 /// What the words ask, and the file, which is the last of them whatever it looks like; before it stand options, in any order and each at
 /// most once. `None` if the words are others.
-pub(crate) fn asked(words: &[String]) -> Option<(Asked, &str)>
+pub(crate) fn read_words(words: &[String]) -> Option<(Asked, &str)>
     ensures { IfSome result (λ asked. (1 ≤ asked.0.pages) × (asked.0.pages ≤ MAX_PAGES)) }
 {
     let (file, mut rest) = words.split_last()?;
@@ -100,6 +100,6 @@ pub(crate) fn asked(words: &[String]) -> Option<(Asked, &str)>
     while let Some((option, behind)) = rest.split_first() {
         rest = options.take(option, behind)?;
     }
-    let asked = options.asked()?;
+    let asked = options.read()?;
     Some((asked, file.as_str()))
 }
