@@ -81,11 +81,8 @@ static void add(int to, int from, uintptr_t number) {
 /* Keeps a link to an object that bdwgc clears when the object is gone. */
 static void know(uintptr_t base) {
     int i;
-    for (i = 0; i < OBJECTS && objects[i].link != NULL; i++) {}
-    if (i == OBJECTS) {
-        fprintf(stderr, "record_bdwgc: too many objects\n");
-        exit(1);
-    }
+    for (i = 0; i < OBJECTS && objects[i].address != 0; i++) {}
+    if (i == OBJECTS) exit(1);
     objects[i].link = (void *)GC_HIDE_POINTER((void *)base);
     objects[i].address = word_of(base);
     if (GC_general_register_disappearing_link(&objects[i].link, (void *)base) != GC_SUCCESS) exit(1);
@@ -263,7 +260,7 @@ static void forget_all(void) {
     for (r = 0; r < REGISTERS; r++) set(r, 0);
 }
 
-static void make_and_cut_list(void) {
+static void use_list(void) {
     make_list(8);
     cut_list();
 }
@@ -288,7 +285,7 @@ int main(void) {
     GC_disable();
     find_heap();
     printf("attach => mutator 0\n");
-    run(make_and_cut_list);
+    run(use_list);
     run_cycle();
     run(look_at_list);
     for (step = 0; step < STEPS; step++) {

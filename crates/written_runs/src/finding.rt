@@ -17,9 +17,7 @@ pub(crate) fn goes_on(replayer: &mut Replayer, places: Places, step: &Step) -> b
 {
     match places {
         Places::Classes => replayer.step(&step.event, &step.reply, step.hint),
-        Places::Any => {
-            replayer.step_anywhere(&step.event, &step.reply, step.hint, step.words)
-        }
+        Places::Any => { replayer.step_anywhere(&step.event, &step.reply, step.hint, step.words) }
     }
 }
 
