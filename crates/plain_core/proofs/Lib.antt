@@ -10,7 +10,6 @@ pub mod Rooms
 pub mod Alloc
 pub mod Anywhere
 pub mod Bare
-pub mod PageWords
 pub mod Placed
 pub mod Free
 pub mod Lists
@@ -18,6 +17,7 @@ pub mod Reaching
 pub mod Stays
 pub mod Collects
 pub mod Owning
+pub mod PageWords
 pub mod Claiming
 pub mod Forgets
 pub mod Answering

@@ -1,14 +1,16 @@
--- What lies on a page has the first byte of one of its words.
-use Rattle.std.proofs.Common.{◌≡◌, ℕ, ◌-◌, ◌/◌, ◌%◌, ◌<◌, ◌≤◌, List, get_or, arith, ⊎_elim}
-use Rattle.std.specs.Prelude.{All}
+-- What lies on a page has the first byte of one of its words, and these are gone over from object to object.
+use Rattle.std.proofs.Common.{◌≡◌, ℕ, ◌+◌, ◌-◌, ◌*◌, ◌/◌, ◌%◌, ◌<◌, ◌≤◌, List, get_or, ◌∙◌, subst, arith, ⊎_elim}
+use Rattle.std.specs.Prelude.{All, Some, slice_get}
 use Rattle.std.proofs.lemmas.Bool.{cases_lt}
 use Rattle.std.proofs.lemmas.Option.{slice_get-get_or}
+use Rattle.words.specs.declared.class.Kind.{Kind}
 use Rattle.words.specs.declared.limits.TheConstants.{FIRST_ADDRESS, WORD_BYTES, PAGE_WORDS}
 use Rattle.words.specs.Layout.{page_start}
 use Rattle.heap_spec.specs.Layout.{PointsInto, LiesOn}
 use Rattle.plain_core.specs.declared.extent.Extent.{Extent}
-use Rattle.plain_core.specs.Owners.{AreFound}
-use Rattle.plain_core.specs.Places.{word_start}
+use Rattle.plain_core.specs.Owners.{AreOwners, AreFound}
+use Rattle.plain_core.specs.Places.{word_start, AreCutWords}
+use Rattle.plain_core.proofs.Owning.{one_there}
 
 word_on : (page : ℕ) (e : Extent) → FIRST_ADDRESS ≤ e.base → e.base % WORD_BYTES ≡ 0 → 0 < e.length → LiesOn e.base e.length page → (g : ℕ) × (g < PAGE_WORDS) × PointsInto (word_start page g) e.base e.length
 word_on page e low even some lies = ⊎_elim
@@ -31,3 +33,25 @@ module _ (row : List Extent) (owners : List ℕ) (found : AreFound row owners) (
 
   pub not_on : (g : ℕ) → g < PAGE_WORDS → (All (λ e. PointsInto (word_start page g) e.base e.length → P e) row → ⊥) → All (λ e. LiesOn e.base e.length page → P e) row → ⊥
   not_on g small not so = not (λ k d lt reads. so k d lt (on_word page g (get_or row k d) small reads))
+
+-- the words of one object from one of them on
+pub cut_more : (row : List Extent) (owners : List ℕ) → AreOwners row owners → (page word length more : ℕ) (kind : Kind) (i : ℕ) (e f : Extent) → slice_get row i ≡ Some e → PointsInto (word_start page word) e.base e.length → f ≡ e
+    → (f.length ≡ length) × (f.kind ≡ kind) → more ≡ f.length - (word_start page word - f.base) / WORD_BYTES → (word < word + more) × AreCutWords row page length kind word (word + more)
+cut_more row owners own page word length more kind i e f at reads same agrees is = (omega (arith, size, reads.0, reads.1), each)
+  where
+    size : more ≡ e.length - (word_start page word - e.base) / WORD_BYTES
+    size = subst (λ (x : Extent). more ≡ x.length - (word_start page word - x.base) / WORD_BYTES) same is
+
+    each : AreCutWords row page length kind word (word + more)
+    each g from until k d lt there =
+        let mine : PointsInto (word_start page g) e.base e.length = (omega (arith, from, reads.0), omega (arith, size, from, until, reads.0, reads.1)) in
+        subst (λ (x : Extent). (x.length ≡ length) × (x.kind ≡ kind)) (same ∙ one_there row owners own (word_start page g) i e at mine k d lt there) agrees
+
+-- a word of no object
+pub cut_one : (row : List Extent) (page word length next : ℕ) (kind : Kind) → All (λ e. PointsInto (word_start page word) e.base e.length → ⊥) row → next ≡ word + 1 → AreCutWords row page length kind word next
+cut_one row page word length next kind bare is g from until k d lt there =
+    let same : g ≡ word = omega arith in
+    absurd (bare k d lt (subst (λ x. PointsInto (word_start page x) (get_or row k d).base (get_or row k d).length) same there))
+
+pub cut_goes : (row : List Extent) (page length word next : ℕ) (kind : Kind) → AreCutWords row page length kind 0 word → AreCutWords row page length kind word next → AreCutWords row page length kind 0 next
+cut_goes row page length word next kind before more g from until = ⊎_elim (λ under. before g from under) (λ over. more g over until) (cases_lt g word)

@@ -12,8 +12,8 @@ pub record HasListRoom (count : ℕ) (l : Listing) : Type 0 where
   pub marks : count ≤ length l.marks.items
   pub order : count ≤ vec_capacity l.order
 
--- What is taken for so many pages beside their words: room for an object at each of them, in the row of objects,
--- on the list and among the flags, and a place for the owner of each.
+-- What is taken for so many pages beside their words: for each word room for an object, in the row of objects, on the list and
+-- among the flags, and a place for its owner.
 pub record HasMemory (pages row : ℕ) (listing : Listing) (stays owners : ℕ) : Type 0 where
   pub objects : PAGE_WORDS * pages ≤ row
   pub lists : HasListRoom (PAGE_WORDS * pages) listing

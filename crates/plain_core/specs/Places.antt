@@ -8,6 +8,10 @@ use Rattle.words.specs.Layout.{page_start}
 use Rattle.heap_spec.specs.Layout.{PointsInto, LiesOn}
 use Rattle.plain_core.specs.declared.extent.Extent.{Extent}
 
+-- the address of a word of the page
+abbrev pub word_start : ℕ → ℕ → ℕ
+word_start page g = page_start page + WORD_BYTES * g
+
 -- no object lies on the page
 abbrev pub IsFreePage : List Extent → ℕ → Type 0
 IsFreePage row page = All (λ e. LiesOn e.base e.length page → ⊥) row
@@ -16,13 +20,13 @@ IsFreePage row page = All (λ e. LiesOn e.base e.length page → ⊥) row
 abbrev pub IsCutPage : List Extent → ℕ → ℕ → Kind → Type 0
 IsCutPage row page length kind = All (λ e. LiesOn e.base e.length page → (e.length ≡ length) × (e.kind ≡ kind)) row
 
+-- from one word of the page up to another, each object that has one has this length and this kind
+abbrev pub AreCutWords : List Extent → ℕ → ℕ → Kind → ℕ → ℕ → Type 0
+AreCutWords row page length kind from to = (g : ℕ) → from ≤ g → g < to → All (λ e. PointsInto (word_start page g) e.base e.length → (e.length ≡ length) × (e.kind ≡ kind)) row
+
 -- no object has this base
 abbrev pub IsNoBase : List Extent → ℕ → Type 0
 IsNoBase row a = All (λ e. e.base ≡ a → ⊥) row
-
--- the address of a word of the page
-abbrev pub word_start : ℕ → ℕ → ℕ
-word_start page g = page_start page + WORD_BYTES * g
 
 -- the address of a cell of the page, for so many words
 pub record IsCellAt (page length a : ℕ) : Type 0 where

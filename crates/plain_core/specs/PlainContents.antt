@@ -17,7 +17,7 @@ pub record PlainContents : Type 0 where
   pub roots : RootSet
   pub links : List Link
 
--- the object lies in the heap, at a first_word
+-- the object lies in the heap, and begins at a word
 pub record IsInHeap (pages : ℕ) (e : Extent) : Type 0 where
   pub start : FIRST_ADDRESS ≤ e.base
   pub aligned : e.base % WORD_BYTES ≡ 0
@@ -44,12 +44,12 @@ pub record HasPages (e : Extent) : Type 0 where
 abbrev pub IsPlacedExtent : Extent → Type 0
 IsPlacedExtent e = IsCellExtent e ⊎ HasPages e
 
--- the number of the first_word at which an object begins
+-- the number of the word at which an object begins
 abbrev pub first_word : Extent → ℕ
 first_word e = (e.base - FIRST_ADDRESS) / WORD_BYTES
 
--- What is true of every plain core, wherever its objects were placed. No address points into two objects, and no two begin at one first_word, so that there are
--- never more objects than words.
+-- What is true of every plain core, wherever its objects were placed. No address points into two objects, and no two begin at
+-- one word, so that there are never more objects than words.
 pub record IsLaidOut (c : PlainContents) : Type 0 where
   pub pages : c.pages ≤ MAX_PAGES
   pub words : length c.words ≡ PAGE_WORDS * c.pages

@@ -1,5 +1,6 @@
 //! Where an object lies.
-ghost use Rattle.std.specs.Prelude.{◌≡◌, IsTrue, false};
+ghost use Rattle.std.specs.Prelude.{◌≡◌, ◌-◌, ◌/◌, IsTrue, false};
+ghost use Rattle.words.specs.declared.limits.TheConstants.{WORD_BYTES};
 ghost use Rattle.heap_spec.specs.Layout.{PointsInto, LiesOn};
 
 use words::Kind;
@@ -20,6 +21,14 @@ impl Extent {
         ensures no { result ≡ false → PointsInto address self.now.base self.now.length → ⊥ }
     {
         self.base <= address && (address - self.base) / WORD_BYTES < self.length
+    }
+
+    // How many of its words are left from the one that has an address.
+    pub(crate) fn words_from(&self, address: u64) -> u64
+        requires { PointsInto address self.now.base self.now.length }
+        ensures { result ≡ self.now.length - (address - self.now.base) / WORD_BYTES }
+    {
+        self.length - (address - self.base) / WORD_BYTES
     }
 
     // Whether one of its bytes lies on the page.

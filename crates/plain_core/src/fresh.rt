@@ -7,7 +7,7 @@ ghost use Rattle.plain_core.specs.Owners.{AreFound};
 ghost use Rattle.plain_core.specs.Places.{IsFresh};
 
 use crate::extent::Extent;
-use crate::places::is_bare;
+use crate::page_scan::is_bare;
 use words::limits::{FIRST_ADDRESS, WORD_BYTES};
 use words::page_start;
 

@@ -7,7 +7,8 @@ ghost use Rattle.plain_core.specs.Owners.{AreFound};
 ghost use Rattle.plain_core.specs.Places.{IsCellAt, IsPlace, IsPlaceOn, IsSmallPlace, IsLargePlace, IsSized};
 
 use crate::extent::Extent;
-use crate::places::{is_base, is_cut_for, is_free, is_free_run};
+use crate::page_scan::is_cut_for;
+use crate::places::{is_base, is_free_run};
 use words::limits::{FIRST_ADDRESS, PAGE_BYTES, PAGE_WORDS, WORD_BYTES};
 use words::{Kind, PageNo, Placement, page_of, page_start};
 
@@ -57,13 +58,10 @@ fn is_place_on(
     if !is_cell(page, length, address) {
         return false;
     }
-    if is_free(objects, owners, page) {
-        return true;
-    }
-    if !is_cut_for(objects, owners, page, length, kind) {
+    if is_base(objects, owners, address) {
         return false;
     }
-    !is_base(objects, owners, address)
+    is_cut_for(objects, owners, page, length, kind)
 }
 
 // Whether an object of a class may go to the address.

@@ -18,7 +18,8 @@
 //! if it lies in the heap there and shares no byte with another (`Requests`, `IsAllocatedAnywhere`, `CantAllocateAnywhere`), and
 //! `may_refuse` tells whether a request may be answered so without being granted (`MayRefuse`, `CantRefuse`). `alloc` and a granted
 //! request of `call_as`, for which the core picks the place, are steps where all objects lie where size classes place them
-//! (`ArePlaced`).
+//! (`ArePlaced`). By two laws they do where the core stands for a sound heap (`objects_are_placed`), and what a request brings into
+//! a sound heap shares no byte with another object (`births_are_alone`).
 #![tactic(auto)]
 
 mod along;
@@ -30,6 +31,7 @@ mod given_place;
 mod keepers;
 mod listing;
 mod owners;
+mod page_scan;
 mod parting;
 mod paths;
 mod places;

@@ -2,89 +2,15 @@
 ghost use Rattle.std.specs.Prelude.{◌≡◌, ℕ, ◌<◌, ◌≤◌, ◌*◌, ◌%◌, ◌+◌, ◌^◌, All, IfSome, IfNone, false, IsTrue};
 ghost use Rattle.words.specs.declared.limits.TheConstants.{WORD_BYTES, GRANULE_WORDS, PAGE_WORDS, MAX_PAGES, MAX_SMALL_WORDS};
 ghost use Rattle.words.specs.Layout.{page_start};
-ghost use Rattle.heap_spec.specs.Layout.{PointsInto};
 ghost use Rattle.heap_spec.specs.Room.{length_of};
 ghost use Rattle.plain_core.specs.Owners.{AreOwners, AreFound};
-ghost use Rattle.plain_core.specs.Places.{IsPlace, IsPlaceOn, IsSmallPlace, IsLargePlace, IsFreePage, IsCutPage, IsNoBase, IsSized, word_start};
+ghost use Rattle.plain_core.specs.Places.{IsPlace, IsPlaceOn, IsSmallPlace, IsLargePlace, IsFreePage, IsNoBase, IsSized};
 
 use crate::extent::Extent;
-use crate::owners::{owner_at, owner_of};
+use crate::owners::owner_of;
+use crate::page_scan::{is_cut_for, is_free};
 use words::limits::{PAGE_WORDS, WORD_BYTES};
 use words::{Kind, PageNo, Placement, page_start};
-
-// The address of a word of the page.
-fn word_start(page: PageNo, word: u64) -> u64
-    requires { word < PAGE_WORDS }
-    ensures { result ≡ word_start page word }
-{
-    page_start(page) + WORD_BYTES * word
-}
-
-// Whether no object has the byte at the address.
-pub(crate) fn is_bare(objects: &[Extent], owners: &[u64], address: u64) -> bool
-    requires { AreOwners objects.now owners.now }
-    ensures yes { IsTrue result → All (λ e. PointsInto address e.base e.length → ⊥) objects.now }
-    ensures no { result ≡ false → All (λ e. PointsInto address e.base e.length → ⊥) objects.now → ⊥ }
-{
-    let Some(_) = owner_at(objects, owners, address) else {
-        return true;
-    };
-    false
-}
-
-// Whether no object lies on the page.
-pub(crate) fn is_free(objects: &[Extent], owners: &[u64], page: PageNo) -> bool
-    requires { AreFound objects.now owners.now }
-    ensures yes { IsTrue result → IsFreePage objects.now page }
-    ensures no { result ≡ false → IsFreePage objects.now page → ⊥ }
-{
-    for word in 0..PAGE_WORDS {
-        if !is_bare(objects, owners, word_start(page, word)) {
-            return false;
-        }
-    }
-    true
-}
-
-// Whether the object has this length and this kind.
-fn agrees(object: &Extent, length: u64, kind: Kind) -> bool
-    ensures yes { IsTrue result → (object.now.length ≡ length) × (object.now.kind ≡ kind) }
-    ensures no { result ≡ false → (object.now.length ≡ length) × (object.now.kind ≡ kind) → ⊥ }
-{
-    object.length == length && object.kind == kind
-}
-
-// The same of the object that has the byte at the address, if there is one.
-fn agrees_at(objects: &[Extent], owners: &[u64], address: u64, length: u64, kind: Kind) -> bool
-    requires { AreOwners objects.now owners.now }
-    ensures yes { IsTrue result → All (λ e. PointsInto address e.base e.length → (e.length ≡ length) × (e.kind ≡ kind)) objects.now }
-    ensures no { result ≡ false → All (λ e. PointsInto address e.base e.length → (e.length ≡ length) × (e.kind ≡ kind)) objects.now → ⊥ }
-{
-    let Some(index) = owner_at(objects, owners, address) else {
-        return true;
-    };
-    agrees(&objects[index], length, kind)
-}
-
-// Whether each object on the page has this length and this kind.
-pub(crate) fn is_cut_for(
-    objects: &[Extent],
-    owners: &[u64],
-    page: PageNo,
-    length: u64,
-    kind: Kind,
-) -> bool
-    requires { AreFound objects.now owners.now }
-    ensures yes { IsTrue result → IsCutPage objects.now page length kind }
-    ensures no { result ≡ false → IsCutPage objects.now page length kind → ⊥ }
-{
-    for word in 0..PAGE_WORDS {
-        if !agrees_at(objects, owners, word_start(page, word), length, kind) {
-            return false;
-        }
-    }
-    true
-}
 
 // Whether an object has this base.
 pub(crate) fn is_base(objects: &[Extent], owners: &[u64], address: u64) -> bool
@@ -127,9 +53,6 @@ fn place_on(
     ensures some { IfSome result (IsPlaceOn objects.now page length kind) }
     ensures none { IfNone result ((a : ℕ) → IsPlaceOn objects.now page length kind a → ⊥) }
 {
-    if is_free(objects, owners, page) {
-        return Some(page_start(page));
-    }
     if !is_cut_for(objects, owners, page, length, kind) {
         return None;
     }

@@ -76,6 +76,7 @@ impl Replayer {
     }
 
     /// A path from a root to the object with this base, its first step first. `None` exactly if the object isn't reached.
+    #[tactic(auto, using(crate::proofs::Blamed::path_after))]
     pub fn path_to(&mut self, alloc: Global, base: u64) -> Result<Option<Vec<PathStep>>, AllocError>
         ensures path { IfOk result (λ path. (start : Start) (run : Run) → Follows self.old start run → TellsPath (heap_after start run) base path) }
         ensures same { self.new ≡ self.old }

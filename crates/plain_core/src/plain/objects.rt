@@ -67,7 +67,7 @@ impl Core {
     }
 
     /// Allocates a zeroed object of at least so many words where its size class has a place, and puts its base into a register.
-    /// This is a step where all objects lie where size classes place them.
+    /// This is a step where all objects lie where size classes place them, as in every sound heap (`objects_are_placed`).
     pub fn alloc(&mut self, slot: Slot, into: Reg, words: u64, kind: Kind) -> Result<(), Refusal>
         ensures { ArePlaced self.old → IsStep (StandsFor self.old) (Event.Mutator slot (Call.Alloc into words kind)) (done_reply result) (StandsFor self.new) }
     {

@@ -2,7 +2,7 @@ use Rattle.std.proofs.Common.{ℕ, ◌<◌}
 use Rattle.std.specs.Prelude.{All}
 use Rattle.heap_spec.specs.Layout.{PointsInto}
 use Rattle.plain_core.specs.Places.{word_start}
-use Rattle.plain_core.proofs.places.is_free.Given as goal
+use Rattle.plain_core.proofs.page_scan.is_free.Given as goal
 
 -- so far
 abbrev pub invariant-loop-word : goal.invariant-loop-word

@@ -4,7 +4,7 @@ use Rattle.heap_spec.specs.Layout.{PointsInto}
 use Rattle.plain_core.specs.declared.extent.Extent.{Extent}
 use Rattle.plain_core.specs.Places.{word_start}
 use Rattle.plain_core.proofs.PageWords.{all_on, not_on}
-use Rattle.plain_core.proofs.places.is_free.Goals as goal
+use Rattle.plain_core.proofs.page_scan.is_free.Goals as goal
 
 pub loop-word-preserved : goal.loop-word-preserved
 loop-word-preserved c = below_more (λ (g : ℕ). All (λ (e : Extent). PointsInto (word_start c.args.page g) e.base e.length → ⊥) c.args.objects.now) _ c.loop-word.invariant
