@@ -6,7 +6,7 @@ use Rattle.heap_spec.specs.declared.reply.Reply.{Reply}
 use Rattle.replayer.specs.declared.hint.Hint.{Hint}
 use Rattle.replayer.specs.Laws.{SayTheSame}
 use Rattle.written_runs.specs.declared.verdict.Verdict.{Verdict}
-use Rattle.written_runs.specs.declared.places.Places.TheVariants.{Classes}
+use Rattle.written_runs.specs.declared.places.Places.{Places}
 use Rattle.written_runs.specs.Written.{IsWritten, IsWrittenSized}
 use Rattle.written_runs.specs.Judging.{IsJudged}
 
@@ -31,7 +31,7 @@ abbrev pub SizedLinesHaveOneReading : Type 0
 SizedLinesHaveOneReading = (line : List ℕ) (event event' : Event) (reply reply' : Reply) (hint hint' : Hint) (n n' : ℕ)
     → IsWrittenSized line event reply hint n → IsWrittenSized line event' reply' hint' n' → AreOneSizedReading event event' reply reply' hint hint' n n'
 
--- of the lines of a run whose objects lie in classes one verdict is true
+-- of the lines of a run one verdict is true, wherever its objects may lie
 abbrev pub RunsHaveOneVerdict : Type 0
-RunsHaveOneVerdict = (pages : ℕ) → 1 ≤ pages → pages ≤ MAX_PAGES → (lines : List (List ℕ)) (verdict verdict' : Verdict)
-    → IsJudged Classes pages lines verdict → IsJudged Classes pages lines verdict' → verdict ≡ verdict'
+RunsHaveOneVerdict = (places : Places) (pages : ℕ) → 1 ≤ pages → pages ≤ MAX_PAGES → (lines : List (List ℕ)) (verdict verdict' : Verdict)
+    → IsJudged places pages lines verdict → IsJudged places pages lines verdict' → verdict ≡ verdict'
