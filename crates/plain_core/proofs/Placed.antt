@@ -1,6 +1,6 @@
 -- Where the objects of sound heaps lie.
-use Rattle.std.proofs.Common.{◌≡◌, ℕ, ◌⊎◌, length, sym, ap, subst, inl, inr, ⊎_elim}
-use Rattle.std.specs.Prelude.{All, Contains}
+use Rattle.std.proofs.Common.{ℕ, ◌⊎◌, subst, inl, inr, ⊎_elim}
+use Rattle.std.specs.Prelude.{Contains}
 use Rattle.std.proofs.lemmas.List.Elements.{All-contains_itself, All-weaker}
 use Rattle.words.proofs.Classes.{class_few}
 use Rattle.heap_spec.specs.Heap.{Heap}

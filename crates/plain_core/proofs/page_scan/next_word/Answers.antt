@@ -1,4 +1,4 @@
-use Rattle.std.proofs.Common.{refl, sym, arith}
+use Rattle.std.proofs.Common.{refl, arith}
 use Rattle.std.proofs.lemmas.Option.{get_or_from_slice_get}
 use Rattle.plain_core.proofs.PageWords.{cut_one, cut_more}
 use Rattle.plain_core.proofs.page_scan.next_word.Goals as goal
