@@ -104,5 +104,5 @@ open_cases replay
 written_runs
 run_texts
 recorded_runs
-run_cases 266
+run_cases 325
 close_cases
