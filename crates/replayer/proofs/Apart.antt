@@ -1,5 +1,5 @@
 -- A replay has one next run, where objects may lie anywhere: none of its heaps has objects that share a byte.
-use Rattle.std.proofs.Common.{◌≡◌, ℕ, ◌+◌, ◌<◌, ◌≤◌, List, [], ◌∷◌, length, replicate, refl, sym, ap, ◌∙◌, subst, arith, ⊎_elim}
+use Rattle.std.proofs.Common.{◌≡◌, ℕ, ◌+◌, List, [], ◌∷◌, length, replicate, refl, sym, ap, ◌∙◌, subst, arith, ⊎_elim}
 use Rattle.std.specs.Prelude.{Some}
 use Rattle.std.proofs.lemmas.List.{length-set, length-replicate}
 use Rattle.std.proofs.lemmas.Option.{same_Some}
@@ -9,9 +9,9 @@ use Rattle.heap_spec.specs.declared.call.Call.TheVariants.{Alloc}
 use Rattle.heap_spec.specs.declared.event.Event.{Event}
 use Rattle.heap_spec.specs.declared.event.Event.TheVariants.{Attach, Mutator, Begin, BeginPartial, Roots, Mark, Retrace, Finish, Sweep, Collect, Number}
 use Rattle.heap_spec.specs.declared.reply.Reply.{Reply}
-use Rattle.heap_spec.specs.declared.reply.Reply.TheVariants.{Done, Count, Refused}
+use Rattle.heap_spec.specs.declared.reply.Reply.TheVariants.{Done, Count}
 use Rattle.heap_spec.specs.Cycles.{TakesOut}
-use Rattle.heap_spec.specs.Heap.{Heap, Object, Mutator as HeapMutator, IsSameObject, HasObject, IsAttached, without}
+use Rattle.heap_spec.specs.Heap.{Heap, Object, Mutator as HeapMutator, IsSameObject, HasObject, without}
 use Rattle.heap_spec.specs.Histories.{Happens}
 use Rattle.heap_spec.specs.Laws.{IsNoAlloc}
 use Rattle.heap_spec.specs.Layout.{PointsInto}
@@ -22,7 +22,7 @@ use Rattle.heap_spec.specs.Transcripts.{LineOf}
 use Rattle.heap_spec.proofs.Links.{left_by, same_left}
 use Rattle.heap_spec.proofs.Loads.{same_mutator}
 use Rattle.heap_spec.proofs.Objects.{at_cases, same_object}
-use Rattle.plain_core.specs.Anywhere.{Grants, HasRoomAnywhere, Requests, by, with_words}
+use Rattle.plain_core.specs.Anywhere.{Grants, HasRoomAnywhere, Requests, with_words}
 use Rattle.plain_core.specs.Answering.{IsBornOf}
 use Rattle.replayer.specs.Anywhere.{IsNoRequest, IsReplayAnywhere, LineAnywhere, NamesObject}
 use Rattle.replayer.specs.Laws.{SayTheSame}

@@ -1,12 +1,10 @@
 -- What is said of a written run.
 use Rattle.std.specs.Prelude.{◌≡◌, ℕ, ◌+◌, ◌≤◌, Bool, true, false, Option, Some, None, List, [], ◌∷◌, ◌++◌, length}
 use Rattle.std.specs.Global.{Vec}
-use Rattle.heap_spec.specs.declared.event.Event.{Event}
 use Rattle.heap_spec.specs.declared.reply.Reply.{Reply}
 use Rattle.heap_spec.specs.Heap.{Heap}
 use Rattle.heap_spec.specs.Runs.{Start, Run, opening_start, heap_after}
-use Rattle.replayer.specs.ReplayerContents.{ReplayerContents, Follows}
-use Rattle.replayer.specs.Wrongs.{IsWrongOf, TellsWrong}
+use Rattle.replayer.specs.Wrongs.{IsWrongOf}
 use Rattle.plain_core.specs.declared.keepers.Keeper.{Keeper}
 use Rattle.plain_core.specs.declared.wrongs.Wrong.{Wrong}
 use Rattle.plain_core.specs.declared.wrongs.Wrong.TheVariants.{IsMissing, StandsTwice, HasToStay, HasToGo}
@@ -17,7 +15,6 @@ use Rattle.plain_core.specs.Wrongs.{TellsLowest}
 use Rattle.written_runs.specs.declared.places.Places.{Places}
 use Rattle.written_runs.specs.declared.rules.Rule.{Rule}
 use Rattle.written_runs.specs.declared.step.Step.{Step}
-use Rattle.written_runs.specs.declared.verdict.Explained.{Explained}
 use Rattle.written_runs.specs.declared.verdict.Verdict.{Verdict}
 use Rattle.written_runs.specs.declared.verdict.Verdict.TheVariants.{Legal, NoLines, Bad, Breaks}
 use Rattle.written_runs.specs.Steps.{GoesBy, IsOnlyReply, IsStepLine, IsUnwritten, TakesOn}

@@ -15,9 +15,9 @@
 //! (`IsTracedBack`, `IsPath`), and it is told where objects may lie (`Places`): in size classes, as `judge` has it, or anywhere,
 //! where the line of a granted request also has the number of words of its object (`IsWrittenSized`, `IsReplayAnywhere`). Laws: a
 //! line is written of at most one event, reply and hint (`lines_have_one_reading`), with at most one number of words
-//! (`sized_lines_have_one_reading`), and of the lines of a run whose objects lie in classes at most one verdict is true
-//! (`runs_have_one_verdict`). `line_text` writes a line of such a run. `words_given` reads the words of `record` and `draw`
-//! (`AreGiven`), and `pages_given` and `places_given` words behind options of `replay`.
+//! (`sized_lines_have_one_reading`), and of the lines of a run at most one verdict is true, wherever its objects lie
+//! (`runs_have_one_verdict`). `line_text` writes a line of a run whose objects lie in classes. `words_given` reads the words of
+//! `record` and `draw` (`AreGiven`), and `pages_given` and `places_given` words behind options of `replay`.
 #![tactic(auto)]
 
 mod behind;

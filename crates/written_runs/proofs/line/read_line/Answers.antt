@@ -1,4 +1,4 @@
-use Rattle.written_runs.proofs.Unwritten.{not_parted, no_command, too_long, no_answer, no_hint, line_read}
+use Rattle.written_runs.proofs.Unwritten.{not_parted, no_command, too_long, no_answer, no_hint}
 use Rattle.written_runs.proofs.line.read_line.Goals as goal
 
 pub returns-in_default : goal.returns-in_default
