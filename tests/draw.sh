@@ -51,16 +51,18 @@ scripts_are_drawn() {
     run_cases record scripts record
 }
 
-# The runs that `record` wrote, and those of tests/rows; what `replay` says of each is in the folder `replied`.
+# The runs that `record` wrote, and those of tests/rows that need no option of `replay`; what `replay` says of each is in the folder
+# `replied`.
 runs_are_drawn() {
-    local run name pages text said number=0
+    local run name pages options text said number=0
     mkdir "$room/replied" "$room/runs"
     for run in "$room"/scripts/*.args; do
         name=$(basename "$run" .args)
         case_is runs "$room/record/$name" "$name" --pages 4 --run {}
         printf 'legal, %s lines\n' "$(grep -c . "$room/record/$name")" >"$room/replied/$name"
     done
-    while read -r name pages _; do
+    while read -r name pages _ options; do
+        [ -z "$options" ] || continue
         mv "$room/runs/$name.stdout" "$room/replied/$name"
         case_is runs "$room/runs/$name" "$name" --pages "$pages" --run {}
     done < <("$top/tests/rows/split_runs" -v "room=$room/runs" "$top"/tests/rows/*.runs)

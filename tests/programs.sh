@@ -33,7 +33,7 @@ examples_print_their_replies() {
 
 # Words that neither of `replay` and `record` takes, and files that neither can read.
 faults_are_told() {
-    local usage="$program --pages N $([ "$program" != replay ] || echo '[--why] ')FILE"
+    local usage="$program --pages N $([ "$program" != replay ] || echo '[--places any] [--why] ')FILE"
     printf 'attach\n\377\n' | file_is no_text 1 "read fault" "" --pages 1 {}
     file_is no_file 1 "read fault" "" --pages 1 not.there </dev/null
     file_is no_page 2 "$usage" "" --pages 0 {} </dev/null
@@ -55,7 +55,24 @@ written_runs_are_judged() {
     lines "# a recorder that died" | file_is comments_alone 2 "" "no lines" --pages 1 {}
     example_block 1 | sed '7s/=>.*/=> 0 -/' | file_is breaks 1 "" "$(example_block 2)" --pages 1 {}
     example_block 1 | sed '7s/=>.*//' | file_is broken 2 "" "line 7: not a line of a run" --pages 1 {}
-    file_is no_flag 2 "replay --pages N [--why] FILE" "" --pages 1 --what {} </dev/null
+}
+
+# Options of `replay` in any order, each at most once, with a word that they take; and what it doesn't take.
+options_are_read() {
+    local usage="replay --pages N [--places any] [--why] FILE"
+    lines "attach => mutator 0" "0 alloc 1 2 normal => ok @ 268435464 2" | tee "$room/sized" |
+        file_is sized 0 "" "legal, 2 lines" --places any --pages 1 {}
+    file_is sized_why 0 "" "legal, 2 lines" --why --pages 1 --places any {} <"$room/sized"
+    file_is sized_in_classes 2 "" "line 2: not a line of a run" --pages 1 --places classes {} <"$room/sized"
+    example_block 1 | file_is classes 0 "" "legal, 9 lines" --places classes --why --pages 1 {}
+    file_is no_flag 2 "$usage" "" --pages 1 --what {} </dev/null
+    file_is no_places 2 "$usage" "" --pages 1 --places none {} </dev/null
+    file_is places_twice 2 "$usage" "" --places any --pages 1 --places any {} </dev/null
+    file_is pages_twice 2 "$usage" "" --pages 1 --pages 1 {} </dev/null
+    file_is why_twice 2 "$usage" "" --pages 1 --why --why {} </dev/null
+    file_is no_pages 2 "$usage" "" --places any {} </dev/null
+    file_is no_value 2 "$usage" "" --pages 1 --places {} </dev/null
+    file_is no_words 2 "$usage" "" </dev/null
 }
 
 # With `--why` a path from a root leads to an object that has to stay: through two objects, and straight from a register. Nothing more
@@ -81,6 +98,29 @@ foreign_runs_are_judged() {
     done
 }
 
+# Runs of bdwgc, as it stands and with each fault of the recorder: its .expected has what is said of each, where {N} is the address of
+# the Nth alloc, which depends on bdwgc's release. Where libgc isn't installed they are left out.
+bdwgc_runs_are_judged() {
+    local bug said source=$top/examples/c/record_bdwgc
+    if ! echo "int main(void) { return 0; }" | cc -include gc.h -x c - -lgc -o "$room/has_libgc" 2>/dev/null; then
+        echo "$kind: no libgc here: examples/c/record_bdwgc.c isn't compiled, and no run of it is judged"
+        return
+    fi
+    for bug in 0 1 2 3 4 5; do
+        cc -std=c99 -Wall -Wextra -Werror -pedantic "-DBUG=$bug" "$source.c" -lgc -o "$room/record_bdwgc"
+        is "record_bdwgc with -DBUG=$bug compiles" 0 $?
+        "$room/record_bdwgc" >"$room/bdwgc_$bug"
+        said=$(sed -n "s/^$bug: //p" "$source.expected" | named_places "$room/bdwgc_$bug")
+        file_is "bdwgc_$bug" "$((bug > 0))" "" "$said" --pages 4096 --places any {} <"$room/bdwgc_$bug"
+    done
+}
+
+# named_places RUN: standard input, with the address of the Nth alloc of the run in the place of each {N}.
+named_places() {
+    awk 'NR == FNR { if (/ alloc .* => ok @ /) place[++count] = $8; next }
+        { for (at = 1; at <= count; at++) gsub("[{]" at "[}]", place[at]); print }' "$1" -
+}
+
 runs_are_written() {
     lines attach "0 alloc 1 2 normal" | file_is written 0 "" "$(lines "attach => mutator 0" "0 alloc 1 2 normal => ok @ 268435456")" --pages 1 {}
     lines attach "0 get 16" attach | file_is bad_line 2 "bad line 2" "attach => mutator 0" --pages 1 {}
@@ -93,9 +133,11 @@ run_cases 12
 open_cases replay
 written_runs_are_judged
 paths_are_shown
+options_are_read
 foreign_runs_are_judged
+bdwgc_runs_are_judged
 faults_are_told
-run_cases 27
+run_cases 38
 open_cases record
 runs_are_written
 faults_are_told

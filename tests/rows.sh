@@ -54,9 +54,10 @@ workloads() {
 }
 
 written_runs() {
-    local name pages status
-    while read -r name pages status; do
-        case_is "$name" "$status" "" --pages "$pages" {}
+    local name pages status options
+    while read -r name pages status options; do
+        # shellcheck disable=SC2086 # (the options are words of their own)
+        case_is "$name" "$status" "" --pages "$pages" $options {}
     done < <("$rows/split_runs" -v "room=$cases" "$rows"/*.runs)
 }
 
@@ -103,5 +104,5 @@ open_cases replay
 written_runs
 run_texts
 recorded_runs
-run_cases 266
+run_cases 325
 close_cases

@@ -125,7 +125,7 @@ usage_comes_first() {
     has "no words: threads" "mpheap threads --pages N [--helpers H] [--record RUN] FILE" "$err"
     has "no words: stress" "mpheap stress --seed S --mutators M --steps K" "$err"
     has "no words: record" "mpheap record --pages N FILE" "$err"
-    has "no words: replay" "mpheap replay --pages N [--why] FILE" "$err"
+    has "no words: replay" "mpheap replay --pages N [--places any] [--why] FILE" "$err"
     has "no words: draw" "mpheap draw --pages N [FILE]" "$err"
     has "no words: draw --run" "mpheap draw --pages N --run FILE" "$err"
     has "no words: build" "mpheap build" "$err"
@@ -220,11 +220,33 @@ wrong_words_are_told() {
     refused 2 "bad command" "'stress' takes no word 'x'" stress --seed 1 --mutators 2 --steps 4 x
     refused 2 "bad command" "'18446744073709551616' is no number for '--seed': 0 to 18446744073709551615, in decimal" \
         stress --seed 18446744073709551616 --mutators 1 --steps 0
-    refused 2 "replay --pages N [--why] FILE" "'--pages' has to be the first word behind 'replay'" replay first.script --pages 4
+    refused 2 "record --pages N FILE" "'--pages' has to be the first word behind 'record'" record first.script --pages 4
     refused 2 "record --pages N FILE" "'record' takes a number of pages and one FILE" record --pages 4
-    refused 2 "replay --pages N [--why] FILE" "'0' is no number for '--pages': 1 to 4096, in decimal" replay --pages 0 first.script
-    refused 2 "replay --pages N [--why] FILE" "'replay' takes a number of pages and one FILE" replay --pages 4 --run first.script
+    refused 2 "record --pages N FILE" "'0' is no number for '--pages': 1 to 4096, in decimal" record --pages 0 first.script
     refused 2 "record --pages N FILE" "'record' takes a number of pages and one FILE" record --pages 4 --why first.script
+}
+
+# Options stand before FILE in any order, each at most once, and FILE is the last word whatever it looks like.
+replay_takes_options_in_any_order() {
+    local usage="replay --pages N [--places any] [--why] FILE"
+    try_ends 0 $'legal\n'
+    call replay --why --places any --pages 4 first.script
+    is "replay: options in another order" "replay try -- --why --places any --pages 4 /dev/stdin" "$(calls)"
+    call replay --places classes --pages 4 first.script
+    is "replay: no path" "replay try -- --places classes --pages 4 /dev/stdin" "$(calls)"
+    cp first.script ./--why
+    call replay --pages 4 --why
+    is "replay: a FILE that looks like a flag" attach "$(input)"
+    rm ./--why
+    refused 2 "$usage" "'replay' lacks '--pages'" replay
+    refused 2 "$usage" "'replay' lacks '--pages'" replay --why first.script
+    refused 2 "$usage" "'--pages' lacks its number" replay --pages 4
+    refused 2 "$usage" "'--places' lacks 'classes' or 'any'" replay --pages 4 --places any
+    refused 2 "$usage" "'first.script' is no option of 'replay', and FILE has to be its last word" replay first.script --pages 4
+    refused 2 "$usage" "'0' is no number for '--pages': 1 to 4096, in decimal" replay --pages 0 first.script
+    refused 2 "$usage" "'all' is no word for '--places': 'classes' or 'any'" replay --places all --pages 4 first.script
+    refused 2 "$usage" "'--why' is given twice" replay --why --pages 4 --why first.script
+    refused 2 "$usage" "'replay' has no option '--run'" replay --pages 4 --run first.script
     refused 1 "read fault" "there is no file 'not.there'" replay --pages 4 --why not.there
 }
 
@@ -592,6 +614,7 @@ words_stay_as_they_are
 each_program_is_called_by_its_name
 a_drawn_run_is_a_page
 wrong_words_are_told
+replay_takes_options_in_any_order
 limits_are_the_programs
 file_is_the_callers
 input_is_read_to_its_end

@@ -9,17 +9,18 @@ most_mutators=16
 most_steps=100000
 most_seed=18446744073709551615
 
-# options_of COMMAND: its options, which all have a number, but for --record, which has a file.
+# options_of COMMAND: its options, which all have a number, but for --record, which has a file, --places, which has a word, and --why.
 options_of() {
     case $1 in
-        run | replay | record | draw) echo pages ;;
+        run | record | draw) echo pages ;;
+        replay) echo pages places why ;;
         threads) echo pages helpers record ;;
         stress) echo seed mutators steps ;;
     esac
 }
 
 may_lack() {
-    is_in "$1" "helpers record"
+    is_in "$1" "helpers record places why"
 }
 
 # least_of OPTION, most_of OPTION: the range of its number.
@@ -60,7 +61,7 @@ bad_words() {
     (usage)
     case $command in
         draw) echo "draw --pages N [--run] FILE" ;;
-        replay) echo "replay --pages N [--why] FILE" ;;
+        replay) echo "replay --pages N [--places any] [--why] FILE" ;;
         record) echo "record --pages N FILE" ;;
         *) echo "bad command" ;;
     esac >&2
@@ -75,9 +76,16 @@ look_at_option() {
     option=$1
 }
 
+# look_at_number OPTION WORD: the number, file or word behind an option.
 look_at_number() {
-    [ "$1" = record ] || is_number "$2" "$(least_of "$1")" "$(most_of "$1")" ||
-        bad_words "'$2' is no number for '--$1': $(least_of "$1") to $(most_of "$1"), in decimal"
+    case $1 in
+        record) ;;
+        places) is_in "$2" "classes any" || bad_words "'$2' is no word for '--places': 'classes' or 'any'" ;;
+        *)
+            is_number "$2" "$(least_of "$1")" "$(most_of "$1")" ||
+                bad_words "'$2' is no number for '--$1': $(least_of "$1") to $(most_of "$1"), in decimal"
+            ;;
+    esac
     option=
 }
 
@@ -97,12 +105,12 @@ look_at_place() {
 
 # has_one_order COMMAND: its words are --pages, a number and FILE, whatever FILE looks like.
 has_one_order() {
-    case $1 in replay | record | draw) true ;; *) false ;; esac
+    case $1 in record | draw) true ;; *) false ;; esac
 }
 
-# has_flag WORDS..: they are those of `draw --pages N --run FILE` or of `replay --pages N --why FILE`.
+# has_flag WORDS..: they are those of `draw --pages N --run FILE`.
 has_flag() {
-    [ $# = 5 ] && is_in "$1 $4" "draw --run replay --why"
+    [ $# = 5 ] && [ "$1 $4" = "draw --run" ]
 }
 
 look_at_order() {
@@ -111,10 +119,33 @@ look_at_order() {
     [ $# = 4 ] || { [ $# = 3 ] && reads_input "$1"; } || has_flag "$@" || bad_words "'$1' takes a number of pages and one FILE"
 }
 
+# look_at_replay WORDS..: options in any order, and then FILE, the last word whatever it looks like.
+look_at_replay() {
+    [ $# = 1 ] || file_at=$#
+    while [ $# -gt 2 ]; do
+        shift
+        if [ -n "$option" ]; then
+            look_at_number "$option" "$1"
+        else
+            case $1 in
+                --?*) look_at_option "${1#--}" ;;
+                *) bad_words "'$1' is no option of '$command', and FILE has to be its last word" ;;
+            esac
+            [ "$option" != why ] || option=
+        fi
+    done
+    eval "file=\${$#}"
+}
+
 # Looks at all words of a command line. What is left in file_at is the place of FILE among them, 0 if there is none.
 look_at_words() {
     command=$1 file_at=0 file='' at=0 option='' given='' are_options=yes
     is_in "$command" "run threads stress replay record draw" || bad_words "'$1' is no command"
+    if [ "$command" = replay ]; then
+        look_at_replay "$@"
+        look_for_missing
+        return
+    fi
     look_at_order "$@"
     for word in "$@"; do
         at=$((at + 1))
@@ -139,8 +170,12 @@ look_at_words() {
 
 # Says which word the command lacks, if it lacks one.
 look_for_missing() {
-    [ "$option" != record ] || bad_words "'--record' lacks its file"
-    [ -z "$option" ] || bad_words "'--$option' lacks its number"
+    case $option in
+        "") ;;
+        record) bad_words "'--record' lacks its file" ;;
+        places) bad_words "'--places' lacks 'classes' or 'any'" ;;
+        *) bad_words "'--$option' lacks its number" ;;
+    esac
     for option in $(options_of "$command"); do
         is_in "$option" "$given" || may_lack "$option" || bad_words "'$command' lacks '--$option'"
     done

@@ -1,5 +1,5 @@
-//! The program that checks a written run: `replay --pages N FILE` says `legal, N lines`, or which line isn't and what rule it breaks;
-//! `replay --pages N --why FILE` also shows a path from a root to an object that has to stay.
+//! The program that checks a written run: `replay --pages N FILE` says `legal, N lines`, or which line isn't and what rule it breaks.
+//! With `--places any` objects may lie anywhere, and with `--why` it also shows a path from a root to an object that has to stay.
 //!
 //! The lines of FILE are those of docs/REPLAY.md.
 #![tactic(auto)]
@@ -7,14 +7,15 @@
 ghost use Rattle.std.specs.Prelude.{◌≤◌};
 ghost use Rattle.words.specs.declared.limits.TheConstants.{MAX_PAGES};
 
+mod options;
+
+use crate::options::{Asked, read_words};
 use plain_core::PathStep;
-use programs::{Fault, end, own_words, takes_option};
+use programs::{Fault, end, own_words};
 use scripts::Std;
 use std::fs;
 use std::process::ExitCode;
-use written_runs::{
-    Explained, Judgement, Verdict, explain, reply_text, step_text, words_given, wrong_text,
-};
+use written_runs::{Explained, Judgement, Verdict, explain, reply_text, step_text, wrong_text};
 
 // Prints what is said of a run, and gives the status that goes with it.
 fn print_verdict(rt: &HostRuntime, verdict: Verdict) -> Result<u8, Fault> {
@@ -90,14 +91,20 @@ fn print_explained(rt: &HostRuntime, said: &Explained) -> Result<u8, Fault> {
 }
 
 // Checks the run in a file, and gives the status that goes with what is said of it.
-fn check(rt: &HostRuntime, pages: u32, file: &str, why: bool) -> Result<u8, Fault>
-    requires { (1 ≤ pages) × (pages ≤ MAX_PAGES) }
+fn check(rt: &HostRuntime, asked: Asked, file: &str) -> Result<u8, Fault>
+    requires { (1 ≤ asked.pages) × (asked.pages ≤ MAX_PAGES) }
 {
     let text = match fs::read_to_string(rt, file) {
         Ok(text) => text,
         Err(error) => return Err(Fault::of_read(&error)),
     };
-    match explain(rt.alloc(), pages, text.as_str(), why) {
+    match explain(
+        rt.alloc(),
+        asked.pages,
+        asked.places,
+        text.as_str(),
+        asked.why,
+    ) {
         Ok(said) => print_explained(rt, &said),
         Err(_) => Err(Fault::Memory),
     }
@@ -105,19 +112,18 @@ fn check(rt: &HostRuntime, pages: u32, file: &str, why: bool) -> Result<u8, Faul
 
 // Does what the words say.
 fn obey(rt: &HostRuntime) -> Result<u8, Fault> {
-    let mut words = own_words(rt)?;
-    let why = takes_option(&mut words, "--why");
-    let Some((pages, file)) = words_given(words.as_slice()) else {
+    let words = own_words(rt)?;
+    let Some((asked, file)) = read_words(words.as_slice()) else {
         return Err(Fault::BadCommand);
     };
-    check(rt, pages, file, why)
+    check(rt, asked, file)
 }
 
 fn main(rt: HostRuntime) -> ExitCode {
     let status = match obey(&rt) {
         Ok(status) => status,
         Err(Fault::BadCommand) => {
-            let _ = eprintln!(rt; "replay --pages N [--why] FILE");
+            let _ = eprintln!(rt; "replay --pages N [--places any] [--why] FILE");
             Fault::BadCommand.status()
         }
         Err(fault) => end(Err(fault), &mut Std::new(rt.stderr())),

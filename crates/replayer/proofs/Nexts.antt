@@ -28,7 +28,9 @@ use Rattle.heap_spec.specs.Steps.{Acts, Calls, acts, vacant, Attaches, with_new,
 use Rattle.heap_spec.specs.Transcripts.{LineOf, IsWrongPhase}
 use Rattle.heap_spec.proofs.Loads.{same_mutator}
 use Rattle.heap_spec.proofs.Outcomes.{calls_refused, calls_same}
-use Rattle.heap_spec.proofs.Objects.{at_cases, one_read, object_lies}
+use Rattle.heap_spec.specs.Touching.{HasApartObjects}
+use Rattle.heap_spec.proofs.Objects.{at_cases}
+use Rattle.heap_spec.proofs.Touching.{sound_apart}
 use Rattle.heap_spec.proofs.Calls.{calls_kept, attaches_kept, takes_out_kept}
 use Rattle.plain_core.specs.Answering.{IsBornAt}
 use Rattle.replayer.specs.declared.hint.Hint.{Hint}
@@ -36,13 +38,13 @@ use Rattle.replayer.specs.declared.hint.Hint.TheVariants.{Nothing, Place, Forgot
 use Rattle.replayer.specs.Replays.{NamesPlace, NamesBases, IsReplay}
 use Rattle.replayer.specs.Laws.{SayTheSame, AreOneNext}
 
-legible : (s : Heap) → IsSound s → IsLegible s
-legible s h = record { one = one_read s h; some = λ base o has. (object_lies s h base o has).some }
+legible : (s : Heap) → HasApartObjects s → IsLegible s
+legible s h = record { one = h.one; some = h.some }
 
 -- an object that was born is where the request was granted
-born_here : (s : Heap) → IsSound s → (slot d a base : ℕ) (m : HeapMutator) (kind : Kind) (placement : Placement) → IsBornAt s base (with_register (with_new s a kind placement) slot m d a) → base ≡ a
+born_here : (s : Heap) → HasApartObjects s → (slot d a base : ℕ) (m : HeapMutator) (kind : Kind) (placement : Placement) → IsBornAt s base (with_register (with_new s a kind placement) slot m d a) → base ≡ a
 born_here s h slot d a base m kind placement born =
-    ⊎_elim (λ same. same.0) (λ other. let old = h.objects.born base born.object other.1 in let new = born.newest in absurd (omega (arith, old, new)))
+    ⊎_elim (λ same. same.0) (λ other. let old = h.born base born.object other.1 in let new = born.newest in absurd (omega (arith, old, new)))
     (at_cases s.objects a (Some (record { birth = s.births + 1; kind = kind; words = replicate (length_of placement) 0 })) base (Some born.object) born.there)
 
 -- An object is born at one base in both heaps.
@@ -57,7 +59,7 @@ both_born Nothing hint e s t t' x y = absurd x
 both_born (Forgot a) hint e s t t' x y = absurd x
 
 -- a request that is granted at one base
-module _ (s : Heap) (h : IsSound s) (slot d n : ℕ) (kind : Kind) where
+module _ (s : Heap) (h : HasApartObjects s) (slot d n : ℕ) (kind : Kind) where
   granted : (m : HeapMutator) {t t' : Heap} → Acts s slot m (Alloc d n kind) Done t → Acts s slot m (Alloc d n kind) Done t' → BothBorn s t t' → t ≡ t'
   granted m (Acts.allocated {placement = p} a e room) (Acts.allocated {placement = q} b e' room') born =
       let at : born.0 ≡ a = born_here s h slot d a born.0 m kind p born.1 in
@@ -75,7 +77,7 @@ module _ (s : Heap) (h : IsSound s) (slot d n : ℕ) (kind : Kind) where
   request_next t' (vacant none) other born = sym (calls_refused s slot (Alloc d n kind) other)
 
 -- a call of a mutator, by whether it is a request
-call_next : (s : Heap) → IsSound s → (slot : ℕ) (call : Call) (reply : Reply) (t t' : Heap) → Calls s slot call reply t → Calls s slot call reply t'
+call_next : (s : Heap) → HasApartObjects s → (slot : ℕ) (call : Call) (reply : Reply) (t t' : Heap) → Calls s slot call reply t → Calls s slot call reply t'
     → ((into words : ℕ) (kind : Kind) → call ≡ Alloc into words kind → reply ≡ Done → BothBorn s t t') → t ≡ t'
 call_next s h slot (Alloc d n kind) reply t t' one other born = request_next s h slot d n kind t' one other (λ done. born d n kind refl done)
 call_next s h slot Detach reply t t' one other born = (calls_same s (legible s h) slot Detach reply reply t t' one other).1 tt
@@ -101,7 +103,7 @@ attach_next s (Attaches.attached low) (Attaches.attached low') = refl
 attach_next s (Attaches.no_slot none) (Attaches.no_slot none') = refl
 
 -- what two lists of bases take out, which name the same
-named_next : (hint hint' : Hint) → SayTheSame hint hint' → (n : ℕ) (s t t' : Heap) → NamesBases hint n s t → NamesBases hint' n s t' → t ≡ t'
+pub named_next : (hint hint' : Hint) → SayTheSame hint hint' → (n : ℕ) (s t t' : Heap) → NamesBases hint n s t → NamesBases hint' n s t' → t ≡ t'
 named_next (Forgot a) (Forgot b) e n s t t' x y = x.after ∙ ap (without s) e ∙ sym y.after
 named_next (Forgot a) Nothing e n s t t' x y = absurd e
 named_next (Forgot a) (Place b) e n s t t' x y = absurd e
@@ -156,11 +158,11 @@ refused_count : (n : ℕ) → Refused WrongPhase ≡ Count n → ⊥
 refused_count n e = cc
 
 -- what happens next
-module _ (start : Start) (run : Run) (h : IsSound (heap_after start run)) where
+module _ (start : Start) (run : Run) (h : HasApartObjects (heap_after start run)) where
   -- What the hints say of two heaps after an event.
-  record SaidOf (event : Event) (reply : Reply) (t t' : Heap) : Type 0 where
-    born : (slot into words : ℕ) (kind : Kind) → event ≡ Mutator slot (Alloc into words kind) → reply ≡ Done → BothBorn (heap_after start run) t t'
-    ended : (n : ℕ) → event ≡ Finish → reply ≡ Count n → t ≡ t'
+  pub record SaidOf (event : Event) (reply : Reply) (t t' : Heap) : Type 0 where
+    pub born : (slot into words : ℕ) (kind : Kind) → event ≡ Mutator slot (Alloc into words kind) → reply ≡ Done → BothBorn (heap_after start run) t t'
+    pub ended : (n : ℕ) → event ≡ Finish → reply ≡ Count n → t ≡ t'
 
   happens_next : (event : Event) (reply : Reply) (t t' : Heap) → Happens start run event reply t → Happens start run event reply t' → SaidOf event reply t t' → t ≡ t'
   happens_next Attach reply t t' one other said = attach_next (heap_after start run) one other
@@ -189,6 +191,36 @@ module _ (start : Start) (run : Run) (h : IsSound (heap_after start run)) where
   not_refused Sweep t one wrong = one
   not_refused Number t one wrong = one
 
+  number_stays : {reply : Reply} {next : Run} → LineOf start run Number reply next → next ≡ run
+  number_stays (LineOf.happens one) = absurd one
+  number_stays (LineOf.refused wrong) = absurd wrong
+  number_stays LineOf.number = refl
+
+  pub line_next : {event : Event} {reply : Reply} {next next' : Run} → LineOf start run event reply next → LineOf start run event reply next' → SaidOf event reply (heap_after start next) (heap_after start next') → next ≡ next'
+  line_next (LineOf.happens {event = event} {reply = reply} {s' = t} one) (LineOf.happens {s' = t'} other) said = ap (goes_on run event reply) (happens_next event reply t t' one other said)
+  line_next (LineOf.happens {event = event} {s' = t} one) (LineOf.refused wrong) said = absurd (not_refused event t one wrong)
+  line_next (LineOf.happens one) (LineOf.needs m need) said = absurd (needed_done one.2.0)
+  line_next (LineOf.happens one) (LineOf.roots m) said = absurd one
+  line_next (LineOf.happens one) (LineOf.mark m few) said = absurd one
+  line_next (LineOf.happens one) (LineOf.retrace m few) said = absurd one
+  line_next (LineOf.happens one) (LineOf.sweep few) said = absurd one
+  line_next (LineOf.happens one) LineOf.number said = absurd one
+  line_next (LineOf.refused {event = event} wrong) (LineOf.happens {s' = t} one) said = absurd (not_refused event t one wrong)
+  line_next (LineOf.refused wrong) (LineOf.refused wrong') said = refl
+  line_next (LineOf.needs m need) (LineOf.happens other) said = absurd (needed_done other.2.0)
+  line_next (LineOf.needs m need) (LineOf.needs m' need') said = refl
+  line_next (LineOf.roots m) (LineOf.happens other) said = absurd other
+  line_next (LineOf.roots m) (LineOf.roots m') said = refl
+  line_next (LineOf.mark m few) (LineOf.happens other) said = absurd other
+  line_next (LineOf.mark m few) (LineOf.mark m' few') said = refl
+  line_next (LineOf.retrace m few) (LineOf.happens other) said = absurd other
+  line_next (LineOf.retrace m few) (LineOf.retrace m' few') said = refl
+  line_next (LineOf.sweep few) (LineOf.happens other) said = absurd other
+  line_next (LineOf.sweep few) (LineOf.sweep few') said = refl
+  line_next LineOf.number other said = sym (number_stays other)
+
+-- what is kept by what happens
+module _ (start : Start) (run : Run) (h : IsSound (heap_after start run)) where
   happens_kept : (event : Event) → InRange event → (reply : Reply) (t : Heap) → Happens start run event reply t → IsSound t
   happens_kept Attach range reply t step = attaches_kept (heap_after start run) h step
   happens_kept (Mutator slot call) range reply t step = calls_kept (heap_after start run) slot call h range.1 step
@@ -212,38 +244,10 @@ module _ (start : Start) (run : Run) (h : IsSound (heap_after start run)) where
   line_kept event range (LineOf.sweep one) = h
   line_kept event range LineOf.number = h
 
-  number_stays : {reply : Reply} {next : Run} → LineOf start run Number reply next → next ≡ run
-  number_stays (LineOf.happens one) = absurd one
-  number_stays (LineOf.refused wrong) = absurd wrong
-  number_stays LineOf.number = refl
-
-  line_next : {event : Event} {reply : Reply} {next next' : Run} → LineOf start run event reply next → LineOf start run event reply next' → SaidOf event reply (heap_after start next) (heap_after start next') → next ≡ next'
-  line_next (LineOf.happens {event = event} {reply = reply} {s' = t} one) (LineOf.happens {s' = t'} other) said = ap (goes_on run event reply) (happens_next event reply t t' one other said)
-  line_next (LineOf.happens {event = event} {s' = t} one) (LineOf.refused wrong) said = absurd (not_refused event t one wrong)
-  line_next (LineOf.happens one) (LineOf.needs m need) said = absurd (needed_done one.2.0)
-  line_next (LineOf.happens one) (LineOf.roots m) said = absurd one
-  line_next (LineOf.happens one) (LineOf.mark m few) said = absurd one
-  line_next (LineOf.happens one) (LineOf.retrace m few) said = absurd one
-  line_next (LineOf.happens one) (LineOf.sweep few) said = absurd one
-  line_next (LineOf.happens one) LineOf.number said = absurd one
-  line_next (LineOf.refused {event = event} wrong) (LineOf.happens {s' = t} one) said = absurd (not_refused event t one wrong)
-  line_next (LineOf.refused wrong) (LineOf.refused wrong') said = refl
-  line_next (LineOf.needs m need) (LineOf.happens other) said = absurd (needed_done other.2.0)
-  line_next (LineOf.needs m need) (LineOf.needs m' need') said = refl
-  line_next (LineOf.roots m) (LineOf.happens other) said = absurd other
-  line_next (LineOf.roots m) (LineOf.roots m') said = refl
-  line_next (LineOf.mark m few) (LineOf.happens other) said = absurd other
-  line_next (LineOf.mark m few) (LineOf.mark m' few') said = refl
-  line_next (LineOf.retrace m few) (LineOf.happens other) said = absurd other
-  line_next (LineOf.retrace m few) (LineOf.retrace m' few') said = refl
-  line_next (LineOf.sweep few) (LineOf.happens other) said = absurd other
-  line_next (LineOf.sweep few) (LineOf.sweep few') said = refl
-  line_next LineOf.number other said = sym (number_stays other)
-
 pub one_next : (start : Start) (run : Run) → IsSound (heap_after start run) → (event : Event) → InRange event → (reply : Reply) (hint hint' : Hint) → SayTheSame hint hint' → (next next' : Run)
     → IsReplay hint start run event reply next → IsReplay hint' start run event reply next' → AreOneNext start next next'
 one_next start run h event range reply hint hint' same next next' one other = record {
-  same = line_next start run h one.line other.line (record {
+  same = line_next start run (sound_apart (heap_after start run) h) one.line other.line (record {
     born = λ slot into words kind is done. both_born hint hint' same (heap_after start run) (heap_after start next) (heap_after start next') (one.place slot into words kind is done) (other.place slot into words kind is done);
     ended = λ n is counts. named_next hint hint' same n (heap_after start run) (heap_after start next) (heap_after start next') (one.finished n is counts) (other.finished n is counts);
   });

@@ -1,16 +1,20 @@
 -- What stands behind a reply, read base by base.
-use Rattle.std.proofs.Common.{◌≡◌, ℕ, ◌<◌, List, [], ◌∷◌, ◌++◌, length, refl, sym, ap, ◌∙◌, arith, append_assoc}
+use Rattle.std.proofs.Common.{◌≡◌, ℕ, ◌<◌, List, [], ◌∷◌, ◌++◌, length, Bor, refl, sym, ap, ◌∙◌, subst, arith, append_assoc}
+use Rattle.std.specs.Global.{Vec}
 use Rattle.std.specs.Prelude.{All, codes, decimal}
 use Rattle.std.proofs.lemmas.List.{append-nil, append_cancel_left}
 use Rattle.std.proofs.lemmas.List.Concat.{flat_map-append}
-use Rattle.std.proofs.lemmas.List.Elements.{All-nil, All-head, All-tail, All-push}
+use Rattle.std.proofs.lemmas.List.Elements.{All-nil, All-cons, All-head, All-tail, All-push}
 use Rattle.heap_spec.specs.Ranges.{IsWord}
 use Rattle.replayer.specs.declared.hint.Hint.{Hint}
 use Rattle.replayer.specs.declared.hint.Hint.TheVariants.{Nothing, Place, Forgot}
 use Rattle.written_runs.specs.Written.{bases_text}
-use Rattle.written_runs.specs.Reading.{IsNumberAt, AreBases, IsHintText}
+use Rattle.written_runs.specs.declared.behind.Behind.TheVariants.{Nothing as NothingBehind, Place as PlaceBehind, Object, Bases}
+use Rattle.written_runs.specs.declared.places.Places.{Places}
+use Rattle.written_runs.specs.declared.places.Places.TheVariants.{Classes, Any}
+use Rattle.written_runs.specs.Reading.{IsNumberAt, IsOnlyNumber, AreBases, IsBehind, IsHintText}
 use Rattle.written_runs.proofs.Digits.{bases_from, same_number}
-use Rattle.written_runs.proofs.Cutting.{lead, second}
+use Rattle.written_runs.proofs.Cutting.{second}
 
 -- Some bases were read of a text, and what the text is besides is what the rest is.
 pub record IsReadTo (text bases rest : List ℕ) : Type 0 where
@@ -55,8 +59,96 @@ pub read_all : (text bases rest : List ℕ) → IsReadTo text bases rest → len
 read_all text bases [] read none = record { whole = read.whole ∙ append-nil (bases_text bases); words = read.words }
 read_all text bases (b ∷ rest) read none = absurd (omega arith)
 
--- where a text that isn't empty is the text of a hint
-pub no_place : (text place : List ℕ) → text ≡ codes " @ " ++ place → ((n : ℕ) → IsWord n → place ≡ decimal n → ⊥) → (hint : Hint) → IsHintText text hint → ⊥
-no_place text place e none Nothing is = let h : 32 ≡ 0 = ap lead (sym e ∙ is.whole) in omega (arith, h)
-no_place text place e none (Place base) is = none base is.words (append_cancel_left (codes " @ ") place (decimal base) (sym e ∙ is.whole))
-no_place text place e none (Forgot bases) is = let h : 64 ≡ 45 = ap second (sym e ∙ is.whole) in omega (arith, h)
+-- a number that a text is behind a space, and no text where this is none
+pub no_only_space : (text : List ℕ) → ((rest : List ℕ) → text ≡ codes " " ++ rest → ⊥) → (n : ℕ) → IsOnlyNumber text n → ⊥
+no_only_space text none n is = none (decimal n) is.whole
+
+pub no_only_number : (text word : List ℕ) → text ≡ codes " " ++ word → ((n : ℕ) → IsWord n → word ≡ decimal n → ⊥) → (n : ℕ) → IsOnlyNumber text n → ⊥
+no_only_number text word e none n is = none n is.word (append_cancel_left (codes " ") word (decimal n) (sym e ∙ is.whole))
+
+-- two numbers, each behind a space
+pub two_numbers : (text rest : List ℕ) (base n : ℕ) → IsNumberAt text base rest → IsOnlyNumber rest n → AreBases text (base ∷ n ∷ [])
+two_numbers text rest base n at is = record {
+  whole = at.whole ∙ ap (λ r. codes " " ++ (decimal base ++ r)) (is.whole ∙ sym (append-nil (codes " " ++ decimal n))) ∙ sym (append_assoc (codes " ") (decimal base) (bases_text (n ∷ [])));
+  words = All-cons IsWord base (n ∷ []) at.word (All-cons IsWord n [] is.word (All-nil IsWord));
+}
+
+first_of_two : (text : List ℕ) (base n : ℕ) → AreBases text (base ∷ n ∷ []) → IsNumberAt text base (bases_text (n ∷ []))
+first_of_two text base n are = record { whole = are.whole ∙ append_assoc (codes " ") (decimal base) (bases_text (n ∷ [])); word = All-head IsWord base (n ∷ []) are.words; from = refl }
+
+pub no_first : (text : List ℕ) → ((n : ℕ) (rest : List ℕ) → IsNumberAt text n rest → ⊥) → (base n : ℕ) → AreBases text (base ∷ n ∷ []) → ⊥
+no_first text none base n are = none base (bases_text (n ∷ [])) (first_of_two text base n are)
+
+pub no_second : (text rest : List ℕ) (a : ℕ) → IsNumberAt text a rest → ((n : ℕ) → IsOnlyNumber rest n → ⊥) → (base n : ℕ) → AreBases text (base ∷ n ∷ []) → ⊥
+no_second text rest a at none base n are =
+    let same = (same_number text a base rest (bases_text (n ∷ [])) at (first_of_two text base n are)).rest in
+    none n (record { whole = same ∙ append-nil (codes " " ++ decimal n); word = All-head IsWord n [] (All-tail IsWord base (n ∷ []) are.words) })
+
+-- a place where objects lie in classes, and where they may lie anywhere
+pub place_here : (text : List ℕ) (base : ℕ) → IsOnlyNumber text base → IsBehind Classes (codes " @" ++ text) (PlaceBehind base)
+place_here text base is = record { whole = ap (λ t. codes " @" ++ t) is.whole; words = is.word; suits = refl }
+
+pub object_here : (text : List ℕ) (base n : ℕ) → AreBases text (base ∷ n ∷ []) → IsBehind Any (codes " @" ++ text) (Object base n)
+object_here text base n are = record {
+  whole = ap (λ t. codes " @" ++ t) are.whole;
+  words = (All-head IsWord base (n ∷ []) are.words, All-head IsWord n [] (All-tail IsWord base (n ∷ []) are.words));
+  suits = refl;
+}
+
+pub no_place_here : (text : List ℕ) → ((n : ℕ) → IsOnlyNumber text n → ⊥) → (base n : ℕ) → IsHintText Classes (codes " @" ++ text) (Place base) n → ⊥
+no_place_here text none base n is = none base (record { whole = append_cancel_left (codes " @") text (codes " " ++ decimal base) is.whole; word = is.words })
+
+pub no_object_here : (text : List ℕ) → ((base n : ℕ) → AreBases text (base ∷ n ∷ []) → ⊥) → (base n : ℕ) → IsHintText Any (codes " @" ++ text) (Place base) n → ⊥
+no_object_here text none base n is = none base n (record {
+  whole = append_cancel_left (codes " @") text (bases_text (base ∷ n ∷ [])) is.whole;
+  words = All-cons IsWord base (n ∷ []) is.words (All-cons IsWord n [] is.size (All-nil IsWord));
+})
+
+-- A text that is that of no hint, by what hints there are.
+module _ (text : List ℕ) (some : text ≡ [] → ⊥) where
+  no_hint_text : (places : Places) → ((base n : ℕ) → IsHintText places text (Place base) n → ⊥) → ((bases : List ℕ) → text ≡ codes " -" ++ bases_text bases → All IsWord bases → ⊥) → (hint : Hint) (n : ℕ) → IsHintText places text hint n → ⊥
+  no_hint_text Classes place forgot Nothing n is = some is.whole
+  no_hint_text Classes place forgot (Place base) n is = place base n is
+  no_hint_text Classes place forgot (Forgot bases) n is = forgot bases.now is.whole is.words
+  no_hint_text Any place forgot Nothing n is = some is.whole
+  no_hint_text Any place forgot (Place base) n is = place base n is
+  no_hint_text Any place forgot (Forgot bases) n is = forgot bases.now is.whole is.words
+
+  -- a text that begins as a place, with none behind it
+  pub no_place : (places : Places) (place : List ℕ) → text ≡ codes " @" ++ place → ((base n : ℕ) → IsHintText places (codes " @" ++ place) (Place base) n → ⊥) → (hint : Hint) (n : ℕ) → IsHintText places text hint n → ⊥
+  no_place places place e none hint n is =
+      no_hint_text places (λ base m of. none base m (subst (λ t. IsHintText places t (Place base) m) e of))
+      (λ bases whole words. let h : 64 ≡ 45 = ap second (sym e ∙ whole) in omega (arith, h)) hint n is
+
+  -- how a text of a place begins
+  place_begins : (places : Places) (base n : ℕ) → IsHintText places text (Place base) n → (rest : List ℕ) × (text ≡ codes " @" ++ rest)
+  place_begins Classes base n is = (codes " " ++ decimal base, is.whole)
+  place_begins Any base n is = (bases_text (base ∷ n ∷ []), is.whole)
+
+  -- a text that begins as neither a place nor bases
+  pub no_beginning : (places : Places) → ((rest : List ℕ) → text ≡ codes " @" ++ rest → ⊥) → ((rest : List ℕ) → text ≡ codes " -" ++ rest → ⊥) → (hint : Hint) (n : ℕ) → IsHintText places text hint n → ⊥
+  no_beginning places no_at no_dash hint n is =
+      no_hint_text places (λ base m of. let begins = place_begins places base m of in no_at begins.0 begins.1) (λ bases whole words. no_dash (bases_text bases) whole) hint n is
+
+  -- a text that begins as bases, with none behind it
+  pub no_bases : (places : Places) (rest : List ℕ) → ((rest : List ℕ) → text ≡ codes " @" ++ rest → ⊥) → text ≡ codes " -" ++ rest → ((bases : List ℕ) → AreBases rest bases → ⊥) → (hint : Hint) (n : ℕ) → IsHintText places text hint n → ⊥
+  no_bases places rest no_at e none hint n is =
+      no_hint_text places (λ base m of. let begins = place_begins places base m of in no_at begins.0 begins.1)
+      (λ bases whole words. none bases (record { whole = append_cancel_left (codes " -") rest (bases_text bases) (sym e ∙ whole); words = words })) hint n is
+
+-- what a hint is of what stands behind a reply
+pub hint_of : (places : Places) (text : List ℕ) → IsBehind places text NothingBehind → IsHintText places text Nothing 0
+hint_of Classes text is = record { whole = is.whole; words = tt; size = tt }
+hint_of Any text is = record { whole = is.whole; words = tt; size = refl }
+
+pub hint_of_place : (places : Places) (text : List ℕ) (base : ℕ) → IsBehind places text (PlaceBehind base) → IsHintText places text (Place base) 0
+hint_of_place Classes text base is = record { whole = is.whole; words = is.words; size = tt }
+hint_of_place Any text base is = let no : ⊥ = cc in absurd no
+
+pub hint_of_object : (places : Places) (text : List ℕ) (base n : ℕ) → IsBehind places text (Object base n) → IsHintText places text (Place base) n
+hint_of_object Any text base n is = record { whole = is.whole; words = is.words.0; size = is.words.1 }
+hint_of_object Classes text base n is = let no : ⊥ = cc in absurd no
+
+pub hint_of_bases : (places : Places) (text : List ℕ) (bases : Vec ℕ) (named : Bor (List ℕ)) → named.now ≡ bases.items → IsBehind places text (Bases bases) → IsHintText places text (Forgot named) 0
+hint_of_bases Classes text bases named e is = record { whole = is.whole ∙ ap (λ bs. codes " -" ++ bases_text bs) (sym e); words = subst (All IsWord) (sym e) is.words; size = tt }
+hint_of_bases Any text bases named e is = record { whole = is.whole ∙ ap (λ bs. codes " -" ++ bases_text bs) (sym e); words = subst (All IsWord) (sym e) is.words; size = refl }

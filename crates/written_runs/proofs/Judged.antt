@@ -4,29 +4,28 @@ use Rattle.std.specs.Prelude.{Option, Some, None, cond, not}
 use Rattle.std.specs.Global.{Vec}
 use Rattle.std.proofs.lemmas.List.{append-nil}
 use Rattle.std.proofs.lemmas.List.Elements.{filter-append}
-use Rattle.heap_spec.specs.declared.event.Event.{Event}
 use Rattle.heap_spec.specs.declared.reply.Reply.{Reply}
 use Rattle.heap_spec.specs.Runs.{Start, Run, opening_start, heap_after}
-use Rattle.replayer.specs.declared.hint.Hint.{Hint}
 use Rattle.replayer.specs.ReplayerContents.{ReplayerContents, Follows}
-use Rattle.replayer.specs.Replays.{IsReplay}
 use Rattle.plain_core.specs.declared.keepers.Keeper.{Keeper}
 use Rattle.plain_core.specs.declared.paths.PathStep.{PathStep}
 use Rattle.plain_core.specs.declared.wrongs.Wrong.{Wrong}
 use Rattle.scripts.specs.Lines.{newline, lines_of}
 use Rattle.scripts.proofs.Texts.{lines_of-line, lines_of-last}
+use Rattle.written_runs.specs.declared.places.Places.{Places}
 use Rattle.written_runs.specs.declared.verdict.Verdict.TheVariants.{Legal, NoLines, Bad, Breaks}
 use Rattle.written_runs.specs.declared.verdict.Verdict.{Verdict}
 use Rattle.written_runs.specs.Cuts.{IsEmptyOrFrom, IsTextCut}
-use Rattle.written_runs.specs.Written.{IsWritten}
-use Rattle.written_runs.specs.Judging.{Leads, ends, on, IsUnwritten, IsBroken, HasFault, IsJudged, HadToAnswer, IsExplained, IsWrongLine, IsBlamed, Takes, IsToldAt, IsLineVerdict, IsLineExplained, IsLineBlamed, IsWayTo, IsTracedBack, IsLineTraced}
+use Rattle.written_runs.specs.Finding.{Takes, IsToldAt, IsLineVerdict, IsLineExplained, IsLineBlamed, IsLineTraced}
+use Rattle.written_runs.specs.Judging.{Leads, ends, on, IsBroken, HasFault, IsJudged, HadToAnswer, IsExplained, IsWrongLine, IsBlamed, IsWayTo, IsTracedBack}
+use Rattle.written_runs.specs.Steps.{IsUnwritten, TakesOn}
 use Rattle.written_runs.specs.Told.{is_comment, told_lines}
 
 -- one line more
-leads_more : (start : Start) {run mid last : Run} {lines : List (List ℕ)} → Leads start run lines mid → (line : List ℕ) (event : Event) (reply : Reply) (hint : Hint)
-    → IsWritten line event reply hint → IsReplay hint start mid event reply last → Leads start run (lines ++ line ∷ []) last
-leads_more start ends line event reply hint written replay = on written replay ends
-leads_more start (on first going rest) line event reply hint written replay = on first going (leads_more start rest line event reply hint written replay)
+leads_more : (places : Places) (start : Start) {run mid last : Run} {lines : List (List ℕ)} → Leads places start run lines mid → (line : List ℕ) → TakesOn places start mid line last
+    → Leads places start run (lines ++ line ∷ []) last
+leads_more places start ends line takes = on takes ends
+leads_more places start (on first rest) line takes = on first (leads_more places start rest line takes)
 
 -- what a line tells
 abbrev pub told_of : List ℕ → List (List ℕ)
@@ -36,7 +35,7 @@ pub told_more : (lines : List (List ℕ)) (line : List ℕ) → told_lines (line
 told_more lines line = filter-append (λ l. not (is_comment l)) lines (line ∷ [])
 
 -- The lines that were read led the replayer from the opening to a run, and the rest is still to be read.
-pub record IsUpTo (pages : ℕ) (text rest : List ℕ) (number told : ℕ) (replayer : ReplayerContents) : Type 0 where
+pub record IsUpTo (places : Places) (pages : ℕ) (text rest : List ℕ) (number told : ℕ) (replayer : ReplayerContents) : Type 0 where
   pub lines : List (List ℕ)
   pub run : Run
   pub are : lines_of text ≡ lines ++ lines_of rest
@@ -44,57 +43,57 @@ pub record IsUpTo (pages : ℕ) (text rest : List ℕ) (number told : ℕ) (repl
   pub told_are : told ≡ length (told_lines lines)
   pub fewer : told ≤ number
   pub few : number + length rest ≤ length text
-  pub leads : Leads (opening_start pages) [] (told_lines lines) run
+  pub leads : Leads places (opening_start pages) [] (told_lines lines) run
   pub follows : Follows replayer (opening_start pages) run
 
-pub starts : (pages : ℕ) (text : List ℕ) (replayer : ReplayerContents) → Follows replayer (opening_start pages) [] → IsUpTo pages text text 0 0 replayer
-starts pages text replayer follows = record { lines = []; run = []; are = refl; counted = refl; told_are = refl; fewer = omega arith; few = omega arith; leads = ends; follows = follows }
+pub starts : (places : Places) (pages : ℕ) (text : List ℕ) (replayer : ReplayerContents) → Follows replayer (opening_start pages) [] → IsUpTo places pages text text 0 0 replayer
+starts places pages text replayer follows = record { lines = []; run = []; are = refl; counted = refl; told_are = refl; fewer = omega arith; few = omega arith; leads = ends; follows = follows }
 
-regroup : (pages : ℕ) (text rest behind line : List ℕ) (number told : ℕ) (old : ReplayerContents) (u : IsUpTo pages text rest number told old) → lines_of rest ≡ line ∷ lines_of behind → lines_of text ≡ (u.lines ++ line ∷ []) ++ lines_of behind
-regroup pages text rest behind line number told old u e = u.are ∙ ap (λ ls. u.lines ++ ls) e ∙ sym (append_assoc u.lines (line ∷ []) (lines_of behind))
+regroup : (places : Places) (pages : ℕ) (text rest behind line : List ℕ) (number told : ℕ) (old : ReplayerContents) (u : IsUpTo places pages text rest number told old) → lines_of rest ≡ line ∷ lines_of behind → lines_of text ≡ (u.lines ++ line ∷ []) ++ lines_of behind
+regroup places pages text rest behind line number told old u e = u.are ∙ ap (λ ls. u.lines ++ ls) e ∙ sym (append_assoc u.lines (line ∷ []) (lines_of behind))
 
 -- Where a line takes a run: what it tells leads there.
-record IsTaken (start : Start) (run : Run) (tells : List (List ℕ)) (new : ReplayerContents) : Type 0 where
+record IsTaken (places : Places) (start : Start) (run : Run) (tells : List (List ℕ)) (new : ReplayerContents) : Type 0 where
   next : Run
-  leads : (before : List (List ℕ)) → Leads start [] before run → Leads start [] (before ++ tells) next
+  leads : (before : List (List ℕ)) → Leads places start [] before run → Leads places start [] (before ++ tells) next
   follows : Follows new start next
 
-taken : (start : Start) (run : Run) (old new : ReplayerContents) (line : List ℕ) (comment : Bool) → Follows old start run → Takes comment old line new → IsTaken start run (cond (not comment) (line ∷ []) []) new
-taken start run old new line true follows same = record { next = run; leads = λ before leads. subst (λ ls. Leads start [] ls run) (sym (append-nil before)) leads; follows = subst (λ c. Follows c start run) (sym same) follows }
-taken start run old new line false follows led =
-    let next = led.replayed start run follows in
-    record { next = next.0; leads = λ before leads. leads_more start leads line led.event led.reply led.hint led.is_written next.1; follows = next.2 }
+taken : (places : Places) (start : Start) (run : Run) (old new : ReplayerContents) (line : List ℕ) (comment : Bool) → Follows old start run → Takes places comment old line new → IsTaken places start run (cond (not comment) (line ∷ []) []) new
+taken places start run old new line true follows same = record { next = run; leads = λ before leads. subst (λ ls. Leads places start [] ls run) (sym (append-nil before)) leads; follows = subst (λ c. Follows c start run) (sym same) follows }
+taken places start run old new line false follows led =
+    let next = led.stepped start run follows in
+    record { next = next.0; leads = λ before leads. leads_more places start leads line (record { step = led.step; is_written = led.is_written; goes = next.1 }); follows = next.2 }
 
 one_at_most : (line : List ℕ) (comment : Bool) → length (cond (not comment) (line ∷ []) []) ≤ 1
 one_at_most line true = omega arith
 one_at_most line false = omega arith
 
-pub goes_on : (pages : ℕ) (text rest behind line : List ℕ) (number told : ℕ) (old new : ReplayerContents) → IsUpTo pages text rest number told old → lines_of rest ≡ line ∷ lines_of behind → length behind < length rest → Takes (is_comment line) old line new → (more : ℕ) → more ≡ length (told_lines (line ∷ [])) → IsUpTo pages text behind (number + 1) (told + more) new
-goes_on pages text rest behind line number told old new u e shorter takes more is =
-    let next = taken (opening_start pages) u.run old new line (is_comment line) u.follows takes in
+pub goes_on : (places : Places) (pages : ℕ) (text rest behind line : List ℕ) (number told : ℕ) (old new : ReplayerContents) → IsUpTo places pages text rest number told old → lines_of rest ≡ line ∷ lines_of behind → length behind < length rest → Takes places (is_comment line) old line new → (more : ℕ) → more ≡ length (told_lines (line ∷ [])) → IsUpTo places pages text behind (number + 1) (told + more) new
+goes_on places pages text rest behind line number told old new u e shorter takes more is =
+    let next = taken places (opening_start pages) u.run old new line (is_comment line) u.follows takes in
     record {
       lines = u.lines ++ line ∷ [];
       run = next.next;
-      are = regroup pages text rest behind line number told old u e;
+      are = regroup places pages text rest behind line number told old u e;
       counted = let h = u.counted in omega (arith, h, length-append u.lines (line ∷ []));
       told_are = let h = u.told_are in let all = ap length (told_more u.lines line) in omega (arith, h, is, all, length-append (told_lines u.lines) (told_of line));
       fewer = let h = u.fewer in omega (arith, h, is, one_at_most line (is_comment line));
       few = let h = u.few in omega arith;
-      leads = subst (λ ls. Leads (opening_start pages) [] ls next.next) (sym (told_more u.lines line)) (next.leads (told_lines u.lines) u.leads);
+      leads = subst (λ ls. Leads places (opening_start pages) [] ls next.next) (sym (told_more u.lines line)) (next.leads (told_lines u.lines) u.leads);
       follows = next.follows;
     }
 
-all_read : (pages : ℕ) (text rest : List ℕ) (number told : ℕ) (replayer : ReplayerContents) (u : IsUpTo pages text rest number told replayer) → length rest ≡ 0 → u.lines ≡ lines_of text
-all_read pages text [] number told replayer u none = sym (u.are ∙ append-nil u.lines)
-all_read pages text (b ∷ rest) number told replayer u none = absurd (omega arith)
+all_read : (places : Places) (pages : ℕ) (text rest : List ℕ) (number told : ℕ) (replayer : ReplayerContents) (u : IsUpTo places pages text rest number told replayer) → length rest ≡ 0 → u.lines ≡ lines_of text
+all_read places pages text [] number told replayer u none = sym (u.are ∙ append-nil u.lines)
+all_read places pages text (b ∷ rest) number told replayer u none = absurd (omega arith)
 
 -- all lines were read
-pub ended : (pages : ℕ) (text rest : List ℕ) (number told : ℕ) (replayer : ReplayerContents) → IsUpTo pages text rest number told replayer → length rest ≡ 0 → 1 ≤ told → IsJudged pages (lines_of text) (Legal told)
-ended pages text rest number told replayer u none some =
-    let all = all_read pages text rest number told replayer u none in
+pub ended : (places : Places) (pages : ℕ) (text rest : List ℕ) (number told : ℕ) (replayer : ReplayerContents) → IsUpTo places pages text rest number told replayer → length rest ≡ 0 → 1 ≤ told → IsJudged places pages (lines_of text) (Legal told)
+ended places pages text rest number told replayer u none some =
+    let all = all_read places pages text rest number told replayer u none in
     record {
       last = u.run;
-      leads = subst (λ ls. Leads (opening_start pages) [] (told_lines ls) u.run) all u.leads;
+      leads = subst (λ ls. Leads places (opening_start pages) [] (told_lines ls) u.run) all u.leads;
       counted = u.told_are ∙ ap (λ ls. length (told_lines ls)) all;
       some = some;
     }
@@ -104,13 +103,13 @@ no_item [] none = refl
 no_item (l ∷ lines) none = absurd (omega arith)
 
 -- and none was told
-pub ended_empty : (pages : ℕ) (text rest : List ℕ) (number told : ℕ) (replayer : ReplayerContents) → IsUpTo pages text rest number told replayer → length rest ≡ 0 → told ≡ 0 → IsJudged pages (lines_of text) NoLines
-ended_empty pages text rest number told replayer u none zero =
-    ap told_lines (sym (all_read pages text rest number told replayer u none)) ∙ no_item (told_lines u.lines) (sym u.told_are ∙ zero)
+pub ended_empty : (places : Places) (pages : ℕ) (text rest : List ℕ) (number told : ℕ) (replayer : ReplayerContents) → IsUpTo places pages text rest number told replayer → length rest ≡ 0 → told ≡ 0 → IsJudged places pages (lines_of text) NoLines
+ended_empty places pages text rest number told replayer u none zero =
+    ap told_lines (sym (all_read places pages text rest number told replayer u none)) ∙ no_item (told_lines u.lines) (sym u.told_are ∙ zero)
 
 -- A line was reached that the replayer doesn't go on by.
-module _ (pages : ℕ) (text rest behind line : List ℕ) (number told : ℕ) (old : ReplayerContents) (u : IsUpTo pages text rest number told old) (parted : lines_of rest ≡ line ∷ lines_of behind) where
-  fault : (Fault : Run → List ℕ → Type 0) (n : ℕ) → IsToldAt n (number + 1) line → Fault u.run line → HasFault Fault (opening_start pages) (lines_of text) n
+module _ (places : Places) (pages : ℕ) (text rest behind line : List ℕ) (number told : ℕ) (old : ReplayerContents) (u : IsUpTo places pages text rest number told old) (parted : lines_of rest ≡ line ∷ lines_of behind) where
+  fault : (Fault : Run → List ℕ → Type 0) (n : ℕ) → IsToldAt n (number + 1) line → Fault u.run line → HasFault places Fault (opening_start pages) (lines_of text) n
   fault Fault n at has = record {
     before = u.lines;
     line = line;
@@ -123,47 +122,41 @@ module _ (pages : ℕ) (text rest behind line : List ℕ) (number told : ℕ) (o
     fault = has;
   }
 
-  pub stopped : (verdict : Verdict) → IsLineVerdict old (number + 1) line verdict → IsJudged pages (lines_of text) verdict
+  pub stopped : (verdict : Verdict) → IsLineVerdict places old (number + 1) line verdict → IsJudged places pages (lines_of text) verdict
   stopped (Legal count) is = absurd is
   stopped NoLines is = absurd is
-  stopped (Bad n) is = fault (λ run l. IsUnwritten l) n is.0 is.1
-  stopped (Breaks n rule) is = let s = is.1 in fault (IsBroken (opening_start pages) rule) n is.0 (record {
-    event = s.event;
-    reply = s.reply;
-    hint = s.hint;
+  stopped (Bad n) is = fault (λ run l. IsUnwritten places l) n is.0 is.1
+  stopped (Breaks n rule) is = let s = is.1 in fault (IsBroken places (opening_start pages) rule) n is.0 (record {
+    step = s.step;
     is_written = s.is_written;
-    no_replay = λ next replay. s.no_replay (opening_start pages) u.run next u.follows replay;
+    no_next = λ next goes. s.no_step (opening_start pages) u.run next u.follows goes;
     named = s.named;
   })
 
-  pub explained : (verdict : Verdict) (expected : Option Reply) → IsLineVerdict old (number + 1) line verdict → IsLineExplained old line verdict expected → IsExplained pages (lines_of text) verdict expected
+  pub explained : (verdict : Verdict) (expected : Option Reply) → IsLineVerdict places old (number + 1) line verdict → IsLineExplained places old line verdict expected → IsExplained places pages (lines_of text) verdict expected
   explained verdict None is why = tt
   explained (Legal count) (Some reply) is why = absurd why
   explained NoLines (Some reply) is why = absurd why
   explained (Bad n) (Some reply) is why = absurd why
-  explained (Breaks n rule) (Some reply) is why = fault (HadToAnswer (opening_start pages) reply) n is.0 (record {
-    event = why.event;
-    given = why.given;
-    hint = why.hint;
+  explained (Breaks n rule) (Some reply) is why = fault (HadToAnswer places (opening_start pages) reply) n is.0 (record {
+    step = why.step;
     is_written = why.is_written;
     other = why.other;
     expected = why.expected (opening_start pages) u.run u.follows;
   })
 
-  pub blamed : (verdict : Verdict) (wrong : Option Wrong) (keeper : Option Keeper) → IsLineVerdict old (number + 1) line verdict → IsLineBlamed old line verdict wrong keeper → IsBlamed pages (lines_of text) verdict wrong keeper
+  pub blamed : (verdict : Verdict) (wrong : Option Wrong) (keeper : Option Keeper) → IsLineVerdict places old (number + 1) line verdict → IsLineBlamed places old line verdict wrong keeper → IsBlamed places pages (lines_of text) verdict wrong keeper
   blamed (Legal count) wrong keeper is has = has
   blamed NoLines wrong keeper is has = has
   blamed (Bad n) wrong keeper is has = has
-  blamed (Breaks n rule) wrong keeper is has = fault (IsWrongLine (opening_start pages) wrong keeper) n is.0 (record {
-    event = has.event;
-    given = has.given;
-    hint = has.hint;
+  blamed (Breaks n rule) wrong keeper is has = fault (IsWrongLine places (opening_start pages) wrong keeper) n is.0 (record {
+    step = has.step;
     is_written = has.is_written;
     tells = has.tells (opening_start pages) u.run u.follows;
     why = has.why (opening_start pages) u.run u.follows;
   })
 
-  pub traced : (why : Bool) (verdict : Verdict) (wrong : Option Wrong) (path : Option (Vec PathStep)) → IsLineVerdict old (number + 1) line verdict → IsLineTraced old why verdict wrong path → IsTracedBack pages (lines_of text) why verdict wrong path
+  pub traced : (why : Bool) (verdict : Verdict) (wrong : Option Wrong) (path : Option (Vec PathStep)) → IsLineVerdict places old (number + 1) line verdict → IsLineTraced old why verdict wrong path → IsTracedBack places pages (lines_of text) why verdict wrong path
   traced why (Legal count) wrong path is has = has
   traced why NoLines wrong path is has = has
   traced why (Bad n) wrong path is has = has

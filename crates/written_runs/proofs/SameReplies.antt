@@ -87,7 +87,7 @@ one_reply text event reply reply' r s a b =
     by_words event r s a.from b.from reply reply' a.answers b.answers c (sym (sort_is event reply a.answers) ∙ ap sort_of c.front ∙ sort_is event reply' b.answers)
 
 -- bases that are written alike
-one_bases : (bases others : List ℕ) → All IsWord bases → All IsWord others → bases_text bases ≡ bases_text others → bases ≡ others
+pub one_bases : (bases others : List ℕ) → All IsWord bases → All IsWord others → bases_text bases ≡ bases_text others → bases ≡ others
 one_bases [] [] x y e = refl
 one_bases [] (b ∷ others) x y e = let f : ⊥ = cc in absurd f
 one_bases (a ∷ bases) [] x y e = let f : ⊥ = cc in absurd f

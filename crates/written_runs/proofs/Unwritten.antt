@@ -7,50 +7,93 @@ use Rattle.replayer.specs.declared.hint.Hint.{Hint}
 use Rattle.replayer.specs.declared.hint.Hint.TheVariants.{Nothing, Place, Forgot}
 use Rattle.scripts.specs.declared.limits.TheConstants.{LINE_BYTES}
 use Rattle.scripts.specs.Grammar.{IsLineOf, IsBad}
+use Rattle.written_runs.specs.declared.behind.Behind.{Behind}
+use Rattle.written_runs.specs.declared.line.Line.{Line}
+use Rattle.written_runs.specs.declared.places.Places.{Places}
+use Rattle.written_runs.specs.declared.places.Places.TheVariants.{Classes, Any}
+use Rattle.written_runs.specs.declared.step.Step.{Step}
 use Rattle.written_runs.specs.Cuts.{IsEmptyOrFrom}
-use Rattle.written_runs.specs.Written.{answer_of, hint_text, IsLineWith, IsWritten}
-use Rattle.written_runs.specs.Reading.{IsParted, IsReplyAt, IsHintText}
-use Rattle.written_runs.specs.Judging.{IsUnwritten}
+use Rattle.written_runs.specs.Written.{answer_of, hint_text, sized_text, IsLineWith}
+use Rattle.written_runs.specs.Reading.{IsParted, IsReplyAt, IsBehind, IsHintText, IsRead, told_text}
+use Rattle.written_runs.specs.Steps.{IsStepLine, IsUnwritten}
 use Rattle.written_runs.proofs.Parting.{same_parts}
 use Rattle.written_runs.proofs.Rests.{same_rest}
 use Rattle.written_runs.proofs.Commands.{line_lacks}
 
-hint_from : (hint : Hint) → IsEmptyOrFrom 32 (hint_text hint)
+pub hint_from : (hint : Hint) → IsEmptyOrFrom 32 (hint_text hint)
 hint_from Nothing = tt
 hint_from (Place base) = refl
 hint_from (Forgot bases) = refl
 
-pub parts_of : (line : List ℕ) (event : Event) (reply : Reply) (hint : Hint) (w : IsWritten line event reply hint) → IsParted line w.parts.command (answer_of reply ++ hint_text hint)
-parts_of line event reply hint w = record { whole = w.parts.is_line; lacks = line_lacks w.parts.command event w.parts.is_command }
+pub sized_from : (hint : Hint) (n : ℕ) → IsEmptyOrFrom 32 (sized_text hint n)
+sized_from Nothing n = tt
+sized_from (Place base) n = refl
+sized_from (Forgot bases) n = refl
 
--- it has no ` => ` behind a command
-pub not_parted : (line : List ℕ) → ((text answer : List ℕ) → IsParted line text answer → ⊥) → IsUnwritten line
-not_parted line none event reply hint w = none w.parts.command (answer_of reply ++ hint_text hint) (parts_of line event reply hint w)
+told_from : (places : Places) (hint : Hint) (n : ℕ) → IsEmptyOrFrom 32 (told_text places hint n)
+told_from Classes hint n = hint_from hint
+told_from Any hint n = sized_from hint n
 
--- what stands before it is no command
-pub no_command : (line text answer : List ℕ) → IsParted line text answer → IsBad text → IsUnwritten line
-no_command line text answer parted bad event reply hint w =
-    let same = same_parts line text answer _ _ parted (parts_of line event reply hint w) in
-    bad event (subst (λ t. IsLineOf t event) (sym same.front) w.parts.is_command)
+-- the parts of a line that is written of a step
+step_with : (places : Places) (line : List ℕ) (step : Step) → IsStepLine places line step → IsLineWith line step.event step.reply (told_text places step.hint step.words)
+step_with Classes line step w = w.parts
+step_with Any line step w = w.parts
 
-pub too_long : (line text answer : List ℕ) → IsParted line text answer → LINE_BYTES < length text → IsUnwritten line
-too_long line text answer parted long = no_command line text answer parted (λ event is. let h = is.short in absurd (omega arith))
+step_hint : (places : Places) (line rest : List ℕ) (step : Step) → IsStepLine places line step → rest ≡ told_text places step.hint step.words → IsHintText places rest step.hint step.words
+step_hint Classes line rest step w e = record { whole = e; words = w.words; size = tt }
+step_hint Any line rest step w e = record { whole = e; words = w.words; size = w.size }
 
--- what stands behind it begins with no reply
-pub answer_at : (line text answer : List ℕ) → IsParted line text answer → (event : Event) (reply : Reply) (hint : Hint) → IsWritten line event reply hint → IsReplyAt event answer reply (hint_text hint)
-answer_at line text answer parted event reply hint w =
-    let same = same_parts line text answer _ _ parted (parts_of line event reply hint w) in
-    record { whole = same.rest; answers = w.parts.answers; from = hint_from hint }
+pub parts_of : (line : List ℕ) (event : Event) (reply : Reply) (behind : List ℕ) (w : IsLineWith line event reply behind) → IsParted line w.command (answer_of reply ++ behind)
+parts_of line event reply behind w = record { whole = w.is_line; lacks = line_lacks w.command event w.is_command }
 
-pub no_answer : (line text answer : List ℕ) → IsParted line text answer → ((event : Event) (reply : Reply) (rest : List ℕ) → IsReplyAt event answer reply rest → ⊥) → IsUnwritten line
-no_answer line text answer parted none event reply hint w = none event reply (hint_text hint) (answer_at line text answer parted event reply hint w)
+-- what stands behind ` => ` begins with the reply
+pub answer_at : (line text answer : List ℕ) → IsParted line text answer → (event : Event) (reply : Reply) (behind : List ℕ) → IsEmptyOrFrom 32 behind → IsLineWith line event reply behind → IsReplyAt event answer reply behind
+answer_at line text answer parted event reply behind from w =
+    let same = same_parts line text answer _ _ parted (parts_of line event reply behind w) in
+    record { whole = same.rest; answers = w.answers; from = from }
 
--- what stands behind the reply is no hint
-pub no_hint : (line text answer rest : List ℕ) (event : Event) (reply : Reply) → IsParted line text answer → IsReplyAt event answer reply rest → ((hint : Hint) → IsHintText rest hint → ⊥) → IsUnwritten line
-no_hint line text answer rest event reply parted at none other reply' hint w =
-    none hint (record { whole = same_rest answer event other reply reply' rest (hint_text hint) at (answer_at line text answer parted other reply' hint w); words = w.words })
+module _ (places : Places) (line : List ℕ) where
+  -- it has no ` => ` behind a command
+  pub not_parted : ((text answer : List ℕ) → IsParted line text answer → ⊥) → IsUnwritten places line
+  not_parted none step w =
+      let parts = step_with places line step w in
+      none parts.command (answer_of step.reply ++ told_text places step.hint step.words) (parts_of line step.event step.reply (told_text places step.hint step.words) parts)
 
--- the line that was read
-pub line_with : (line text answer rest behind : List ℕ) (event : Event) (reply : Reply) → IsParted line text answer → IsLineOf text event → IsReplyAt event answer reply rest → rest ≡ behind → IsLineWith line event reply behind
-line_with line text answer rest behind event reply parted is at e =
-    record { command = text; is_command = is; is_line = parted.whole ∙ ap (λ a. text ++ (codes " => " ++ a)) (at.whole ∙ ap (λ r. answer_of reply ++ r) e); answers = at.answers }
+  -- what stands before it is no command
+  pub no_command : (text answer : List ℕ) → IsParted line text answer → IsBad text → IsUnwritten places line
+  no_command text answer parted bad step w =
+      let parts = step_with places line step w in
+      let same = same_parts line text answer _ _ parted (parts_of line step.event step.reply (told_text places step.hint step.words) parts) in
+      bad step.event (subst (λ t. IsLineOf t step.event) (sym same.front) parts.is_command)
+
+  pub too_long : (text answer : List ℕ) → IsParted line text answer → LINE_BYTES < length text → IsUnwritten places line
+  too_long text answer parted long = no_command text answer parted (λ event is. let h = is.short in absurd (omega arith))
+
+  -- the reply of a step, as it is read
+  step_answer : (text answer : List ℕ) → IsParted line text answer → (step : Step) → IsStepLine places line step → IsReplyAt step.event answer step.reply (told_text places step.hint step.words)
+  step_answer text answer parted step w =
+      answer_at line text answer parted step.event step.reply (told_text places step.hint step.words) (told_from places step.hint step.words) (step_with places line step w)
+
+  -- what stands behind it begins with no reply
+  pub no_answer : (text answer : List ℕ) → IsParted line text answer → ((event : Event) (reply : Reply) (rest : List ℕ) → IsReplyAt event answer reply rest → ⊥) → IsUnwritten places line
+  no_answer text answer parted none step w = none step.event step.reply (told_text places step.hint step.words) (step_answer text answer parted step w)
+
+  -- what stands behind the reply is no hint
+  pub no_hint : (text answer rest : List ℕ) (event : Event) (reply : Reply) → IsParted line text answer → IsReplyAt event answer reply rest → ((hint : Hint) (n : ℕ) → IsHintText places rest hint n → ⊥) → IsUnwritten places line
+  no_hint text answer rest event reply parted at none step w =
+      none step.hint step.words (step_hint places line rest step w
+      (same_rest answer event step.event reply step.reply rest (told_text places step.hint step.words) at (step_answer text answer parted step w)))
+
+  -- the line that was read
+  pub line_read : (text answer rest : List ℕ) (event : Event) (reply : Reply) (behind : Behind) → IsParted line text answer → IsLineOf text event → IsReplyAt event answer reply rest → IsBehind places rest behind → IsRead places line (record { event = event; reply = reply; behind = behind })
+  line_read text answer rest event reply behind parted is at of = record {
+    text = rest;
+    parts = record { command = text; is_command = is; is_line = parted.whole ∙ ap (λ a. text ++ (codes " => " ++ a)) at.whole; answers = at.answers };
+    behind = of;
+  }
+
+-- the step that a line was read as
+pub read_step : (places : Places) (line : List ℕ) (l : Line) (hint : Hint) (n : ℕ) → ((text : List ℕ) → IsBehind places text l.behind → IsHintText places text hint n) → IsRead places line l
+    → IsStepLine places line (record { event = l.event; reply = l.reply; hint = hint; words = n })
+read_step Classes line l hint n of read = let told = of read.text read.behind in record { parts = subst (IsLineWith line l.event l.reply) told.whole read.parts; words = told.words }
+read_step Any line l hint n of read = let told = of read.text read.behind in record { parts = subst (IsLineWith line l.event l.reply) told.whole read.parts; words = told.words; size = told.size }

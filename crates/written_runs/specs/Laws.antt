@@ -6,7 +6,8 @@ use Rattle.heap_spec.specs.declared.reply.Reply.{Reply}
 use Rattle.replayer.specs.declared.hint.Hint.{Hint}
 use Rattle.replayer.specs.Laws.{SayTheSame}
 use Rattle.written_runs.specs.declared.verdict.Verdict.{Verdict}
-use Rattle.written_runs.specs.Written.{IsWritten}
+use Rattle.written_runs.specs.declared.places.Places.{Places}
+use Rattle.written_runs.specs.Written.{IsWritten, IsWrittenSized}
 use Rattle.written_runs.specs.Judging.{IsJudged}
 
 -- Two readings of a line are the same.
@@ -20,7 +21,17 @@ abbrev pub LinesHaveOneReading : Type 0
 LinesHaveOneReading = (line : List ℕ) (event event' : Event) (reply reply' : Reply) (hint hint' : Hint)
     → IsWritten line event reply hint → IsWritten line event' reply' hint' → AreOneReading event event' reply reply' hint hint'
 
--- of the lines of a run one verdict is true
+-- Two readings of a line with numbers of words are the same.
+pub record AreOneSizedReading (event event' : Event) (reply reply' : Reply) (hint hint' : Hint) (n n' : ℕ) : Type 0 where
+  pub reading : AreOneReading event event' reply reply' hint hint'
+  pub sizes : n ≡ n'
+
+-- a line of a heap whose objects may lie anywhere is written of one event, its reply, a hint and a number of words
+abbrev pub SizedLinesHaveOneReading : Type 0
+SizedLinesHaveOneReading = (line : List ℕ) (event event' : Event) (reply reply' : Reply) (hint hint' : Hint) (n n' : ℕ)
+    → IsWrittenSized line event reply hint n → IsWrittenSized line event' reply' hint' n' → AreOneSizedReading event event' reply reply' hint hint' n n'
+
+-- of the lines of a run one verdict is true, wherever its objects may lie
 abbrev pub RunsHaveOneVerdict : Type 0
-RunsHaveOneVerdict = (pages : ℕ) → 1 ≤ pages → pages ≤ MAX_PAGES → (lines : List (List ℕ)) (verdict verdict' : Verdict)
-    → IsJudged pages lines verdict → IsJudged pages lines verdict' → verdict ≡ verdict'
+RunsHaveOneVerdict = (places : Places) (pages : ℕ) → 1 ≤ pages → pages ≤ MAX_PAGES → (lines : List (List ℕ)) (verdict verdict' : Verdict)
+    → IsJudged places pages lines verdict → IsJudged places pages lines verdict' → verdict ≡ verdict'

@@ -3,6 +3,8 @@ pub mod Written
 pub mod Reading
 pub mod Rules
 pub mod Told
+pub mod Steps
 pub mod Judging
+pub mod Finding
 pub mod Arguments
 pub mod Laws

@@ -1,5 +1,5 @@
 -- The lines of written runs.
-use Rattle.std.specs.Prelude.{◌≡◌, ℕ, ◌<◌, Bool, true, false, List, [], ◌++◌, codes, decimal, flat_map, All}
+use Rattle.std.specs.Prelude.{◌≡◌, ℕ, ◌<◌, Bool, true, false, List, [], ◌∷◌, ◌++◌, codes, decimal, flat_map, All}
 use Rattle.words.specs.declared.limits.TheConstants.{SLOTS}
 use Rattle.heap_spec.specs.declared.call.Call.TheVariants.{Size, Unlink}
 use Rattle.heap_spec.specs.declared.event.Event.{Event}
@@ -67,3 +67,21 @@ pub record IsLineWith (line : List ℕ) (event : Event) (reply : Reply) (behind 
 pub record IsWritten (line : List ℕ) (event : Event) (reply : Reply) (hint : Hint) : Type 0 where
   pub parts : IsLineWith line event reply (hint_text hint)
   pub words : NamesWords hint
+
+-- What stands behind a reply where objects may lie anywhere: behind the place of the new object its number of words, too.
+abbrev pub sized_text : Hint → ℕ → List ℕ
+sized_text Nothing n = []
+sized_text (Place base) n = codes " @" ++ bases_text (base ∷ n ∷ [])
+sized_text (Forgot bases) n = codes " -" ++ bases_text bases.now
+
+-- the number of words is a word, and 0 where no object is placed
+abbrev pub IsSize : Hint → ℕ → Type 0
+IsSize Nothing n = n ≡ 0
+IsSize (Place base) n = IsWord n
+IsSize (Forgot bases) n = n ≡ 0
+
+-- A line is written of an event, its reply, a hint and the number of words of the object that this places.
+pub record IsWrittenSized (line : List ℕ) (event : Event) (reply : Reply) (hint : Hint) (n : ℕ) : Type 0 where
+  pub parts : IsLineWith line event reply (sized_text hint n)
+  pub words : NamesWords hint
+  pub size : IsSize hint n

@@ -1,17 +1,33 @@
 //! The words that the programs on written runs are given.
-ghost use Rattle.std.specs.Prelude.{ℕ, List, ◌≤◌, IfSome, MatchOption, map, string_bytes};
+ghost use Rattle.std.specs.Prelude.{◌≡◌, ℕ, List, ◌≤◌, IfSome, MatchOption, map, string_bytes};
 ghost use Rattle.words.specs.declared.limits.TheConstants.{MAX_PAGES};
-ghost use Rattle.written_runs.specs.Arguments.{IsPageCountText, AreGiven};
+ghost use Rattle.written_runs.specs.declared.places.Places.{Places as PlacesValue};
+ghost use Rattle.written_runs.specs.Arguments.{IsPageCountText, AreGiven, text_of};
 
+use crate::places::Places;
 use scripts::{is_text, number_in};
 use words::limits::MAX_PAGES;
 
-// The pages of a heap, as they are written.
-fn pages_given(text: &str) -> Option<u32>
-    ensures { MatchOption result ((pages : ℕ) → IsPageCountText text.now pages → ⊥) (λ pages. IsPageCountText text.now pages) }
+/// The pages of a heap, as they are written, and `None` exactly if the text is no number of them.
+pub fn pages_given(text: &str) -> Option<u32>
+    ensures given { MatchOption result ((pages : ℕ) → IsPageCountText text.now pages → ⊥) (λ pages. IsPageCountText text.now pages) }
+    ensures range { IfSome result (λ pages. (1 ≤ pages) × (pages ≤ MAX_PAGES)) }
 {
     let pages = number_in(text.as_bytes(), 1, u64::from(MAX_PAGES))?;
     Some(pages as u32)
+}
+
+/// Where objects may lie, as it is written, and `None` exactly if the text says neither.
+pub fn places_given(text: &str) -> Option<Places>
+    ensures { MatchOption result ((places : PlacesValue) → text.now ≡ text_of places → ⊥) (λ places. text.now ≡ text_of places) }
+{
+    if is_text(text.as_bytes(), "classes") {
+        return Some(Places::Classes);
+    }
+    if is_text(text.as_bytes(), "any") {
+        return Some(Places::Any);
+    }
+    None
 }
 
 /// The pages and the file of `--pages N FILE`, and `None` exactly if the words are others.

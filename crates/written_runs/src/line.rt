@@ -1,12 +1,14 @@
 //! A line of a written run: a command, ` => `, its reply, and where the reply leaves something open a hint.
 ghost use Rattle.std.specs.Prelude.{ℕ, List, IfOk, MatchOption};
-ghost use Rattle.written_runs.specs.Reading.{IsParted, HasWords, behind_text};
-ghost use Rattle.written_runs.specs.Written.{IsLineWith};
-ghost use Rattle.written_runs.specs.Judging.{IsUnwritten};
+ghost use Rattle.written_runs.specs.declared.places.Places.{Places as PlacesValue};
+ghost use Rattle.written_runs.specs.Reading.{IsParted, IsRead};
+ghost use Rattle.written_runs.specs.Steps.{IsStepLine, IsUnwritten};
 
 use crate::behind::{Behind, behind_of};
 use crate::cut::{cut, past};
+use crate::places::Places;
 use crate::reply::reply_at;
+use crate::step::Step;
 use heap_spec::{Event, Reply};
 use scripts::command;
 use scripts::limits::LINE_BYTES;
@@ -25,6 +27,21 @@ pub(crate) struct Line {
     pub(crate) behind: Behind,
 }
 
+impl Line {
+    /// The step that it is written of.
+    pub(crate) fn step(&self) -> Step<'_>
+        ensures { (places : PlacesValue) (line : List ℕ) → IsRead places line self.now → IsStepLine places line result }
+    {
+        let (hint, words) = self.behind.hint();
+        Step {
+            event: self.event,
+            reply: self.reply,
+            hint,
+            words,
+        }
+    }
+}
+
 // The command of a line, and what stands behind ` => `. No command has a `=`.
 fn parted(line: &[u8]) -> Option<(&[u8], &[u8])>
     ensures { MatchOption result ((text answer : List ℕ) → IsParted line.now text answer → ⊥)
@@ -40,9 +57,12 @@ fn parted(line: &[u8]) -> Option<(&[u8], &[u8])>
 }
 
 /// Reads a line, and gives `None` exactly if it is written of nothing.
-pub(crate) fn read_line(alloc: Global, line: &[u8]) -> Result<Option<Line>, AllocError>
-    ensures { IfOk result (λ found. MatchOption found (IsUnwritten line.now)
-        (λ l. IsLineWith line.now l.event l.reply (behind_text l.behind) × HasWords l.behind)) }
+pub(crate) fn read_line(
+    alloc: Global,
+    places: Places,
+    line: &[u8],
+) -> Result<Option<Line>, AllocError>
+    ensures { IfOk result (λ found. MatchOption found (IsUnwritten places line.now) (λ l. IsRead places line.now l)) }
 {
     let Some((text, answer)) = parted(line) else {
         return Ok(None);
@@ -56,7 +76,7 @@ pub(crate) fn read_line(alloc: Global, line: &[u8]) -> Result<Option<Line>, Allo
     let Some((reply, rest)) = reply_at(&event, answer) else {
         return Ok(None);
     };
-    let Some(behind) = behind_of(alloc, rest)? else {
+    let Some(behind) = behind_of(alloc, places, rest)? else {
         return Ok(None);
     };
     Ok(Some(Line {

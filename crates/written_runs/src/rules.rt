@@ -1,7 +1,8 @@
 //! What a line that isn't legal breaks, in words.
 ghost use Rattle.std.specs.Prelude.{◌≡◌};
-ghost use Rattle.written_runs.specs.Rules.{call_rule, alloc_rule, finish_rule, rule_of};
+ghost use Rattle.written_runs.specs.Rules.{call_rule, alloc_rule, finish_rule, place_rule, rule_of};
 
+use crate::places::Places;
 use heap_spec::{Call, Event, Reply};
 use replayer::Hint;
 
@@ -19,6 +20,12 @@ pub enum Rule {
 
     /// A request wasn't granted.
     Refusal,
+
+    /// A request was granted at a place, where objects may lie anywhere.
+    GivenObject,
+
+    /// A request wasn't granted, where objects may lie anywhere.
+    RefusalAnywhere,
 
     /// A word is loaded.
     Load,
@@ -76,6 +83,10 @@ impl Rule {
             Rule::NoPlace => "a granted request needs the place of its object",
             Rule::Refusal =>
                 "a request is refused exactly for its slot, its size, or if no place has room",
+            Rule::GivenObject =>
+                "no object of so many words may be placed there, it has fewer words than were asked for, or the slot has no mutator",
+            Rule::RefusalAnywhere =>
+                "a request is refused for its slot or its size, or at any time with Full",
             Rule::Load => "a load answers the word that was stored last, or why there is none",
             Rule::Store => "a store is refused exactly if its address is no word of an object",
             Rule::Free => "only the base of an object can be freed",
@@ -105,25 +116,38 @@ impl Rule {
     }
 }
 
-// The rule of a request for an object.
-fn of_alloc(reply: &Reply, hint: Hint) -> Rule
-    ensures { result ≡ alloc_rule reply.now hint.entry }
+// The rule of a request that was granted.
+fn of_place(places: Places, hint: Hint) -> Rule
+    ensures { result ≡ place_rule places hint.entry }
 {
-    let Reply::Done = reply else {
-        return Rule::Refusal;
-    };
     let Hint::Place(_) = hint else {
         return Rule::NoPlace;
     };
-    Rule::GivenPlace
+    match places {
+        Places::Classes => Rule::GivenPlace,
+        Places::Any => Rule::GivenObject,
+    }
+}
+
+// The rule of a request for an object.
+fn of_alloc(places: Places, reply: &Reply, hint: Hint) -> Rule
+    ensures { result ≡ alloc_rule places reply.now hint.entry }
+{
+    if *reply == Reply::Done {
+        return of_place(places, hint);
+    }
+    match places {
+        Places::Classes => Rule::Refusal,
+        Places::Any => Rule::RefusalAnywhere,
+    }
 }
 
 // The rule of a mutator's call.
-fn of_call(call: &Call, reply: &Reply, hint: Hint) -> Rule
-    ensures { result ≡ call_rule call.now reply.now hint.entry }
+fn of_call(places: Places, call: &Call, reply: &Reply, hint: Hint) -> Rule
+    ensures { result ≡ call_rule places call.now reply.now hint.entry }
 {
     match call {
-        Call::Alloc(_, _, _) => of_alloc(reply, hint),
+        Call::Alloc(_, _, _) => of_alloc(places, reply, hint),
         Call::Load(_, _, _) => Rule::Load,
         Call::Store(_, _, _) => Rule::Store,
         Call::Free(_) => Rule::Free,
@@ -155,12 +179,12 @@ fn of_finish(hint: Hint) -> Rule
 }
 
 /// The rule that a line breaks which the checker has said no to.
-pub(crate) fn rule_of(event: &Event, reply: &Reply, hint: Hint) -> Rule
-    ensures { result ≡ rule_of event.now reply.now hint.entry }
+pub(crate) fn rule_of(places: Places, event: &Event, reply: &Reply, hint: Hint) -> Rule
+    ensures { result ≡ rule_of places event.now reply.now hint.entry }
 {
     match event {
         Event::Attach => Rule::Attach,
-        Event::Mutator(_, call) => of_call(call, reply, hint),
+        Event::Mutator(_, call) => of_call(places, call, reply, hint),
         Event::Begin => Rule::Begin,
         Event::BeginPartial => Rule::BeginPartial,
         Event::Roots | Event::Mark(_) | Event::Retrace => Rule::SmallStep,

@@ -1,5 +1,5 @@
 use Rattle.written_runs.proofs.Judged.{line_with_newline, line_without}
-use Rattle.written_runs.proofs.verdict.first_line.Goals as goal
+use Rattle.written_runs.proofs.told.first_line.Goals as goal
 
 pub returns-in_default-clause-lines : goal.returns-in_default-clause-lines
 returns-in_default-clause-lines c = line_without _ _ _ c.cut.ensures c.requires c.in_default.ensures.cases
