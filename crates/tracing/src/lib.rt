@@ -28,6 +28,7 @@ mod stacks;
 mod telling;
 mod tracer;
 mod truth;
+mod words_read;
 
 pub use places::place_of;
 pub use tracer::Tracer;
