@@ -1,7 +1,8 @@
 #!/usr/bin/env bash
 # Tests of the program `draw`: the trace of each worked example is compared, line by line, with the run that `record` writes of the
 # same script, from which tests/draw/run.py works out what is true, and its replies with those beside the script. The trace of that run,
-# by `draw --run`, is compared with both, and those of the written runs of tests/rows with what `replay` says of them.
+# by `draw --run`, is compared with both, and those of the written runs of tests/rows with what `replay` says of them. Of the examples
+# and of random scripts it is looked at which words each `gc mark` is said to have read (tests/draw/looked.py).
 #     tests/draw.sh [--built]
 # --built takes the programs that `rt ci` left, which takes seconds; else unproved builds are made, in one to two minutes. It
 # needs rt and Python 3, and leaves nothing behind.
@@ -75,6 +76,15 @@ runs_are_drawn() {
     run_cases draw runs traces
 }
 
+# Random scripts, and one whose objects find no room on the mark stack.
+random_scripts_are_drawn() {
+    local script
+    mkdir "$room/random"
+    python3 "$top/tests/draw/looked.py" write "$room/random"
+    for script in "$room"/random/*; do case_is random "$script" "$(basename "$script")" --pages 4 {}; done
+    run_cases draw random told
+}
+
 # Standard error has what `replay` prints of a run that isn't legal, and else nothing.
 is_said() {
     local said
@@ -85,12 +95,14 @@ is_said() {
 
 scripts_are_drawn
 runs_are_drawn
+random_scripts_are_drawn
 for script in "$top"/examples/*.script; do
     name=$(basename "$script" .script)
     agrees "$name: the trace and the run" python3 "$top/tests/draw/compare.py" "$room/draw/$name" "$room/record/$name"
     agrees "$name: the replies" replies_are_those "$room/draw/$name" "${script%.script}.replies"
     agrees "$name: the traces of the script and of the run" python3 "$top/tests/draw/both.py" "$room/draw/$name" "$room/traces/$name"
 done
+agrees "the words that steps of marking read" python3 "$top/tests/draw/looked.py" check "$room/draw" "$room/told"
 agrees "the traces of runs" python3 "$top/tests/draw/judged.py" "$room/runs" "$room/replied" "$room/traces"
 [ -z "$built" ] || agrees "what is said of runs" is_said
 echo "draw: $passed passed, $failed failed"

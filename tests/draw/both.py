@@ -6,7 +6,7 @@ goes is free at once.
 import json
 import sys
 
-KNOWN = ["marked", "dirty", "carried", "pending", "entries", "current"]
+KNOWN = ["marked", "dirty", "carried", "pending", "entries", "current", "looked"]
 
 
 def records(path):

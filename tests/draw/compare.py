@@ -13,7 +13,7 @@ import sys
 from run import PAGE, Run
 
 SETS = ["marked", "reached", "touched", "dirty", "carried", "pending"]
-KNOWN = {"marked", "dirty", "carried", "pending", "entries", "current", "forget"}
+KNOWN = {"marked", "dirty", "carried", "pending", "entries", "current", "forget", "looked"}
 
 
 class Trace:

@@ -7,7 +7,7 @@ use Rattle.trace_lines.specs.declared.record.CycleChanges.{CycleChanges}
 use Rattle.trace_lines.specs.declared.record.Record.{Record}
 use Rattle.trace_lines.specs.declared.record.Objection.{Objection}
 use Rattle.trace_lines.specs.Texts.{number_text, list_text}
-use Rattle.trace_lines.specs.Rows.{flag_text, sentence_text, new_object_text, numbered_text, register_text, stack_text, link_text, entries_text, current_text, reads_text, set_text}
+use Rattle.trace_lines.specs.Rows.{flag_text, sentence_text, new_object_text, numbered_text, register_text, stack_text, link_text, entries_text, current_text, reads_text, run_text, set_text}
 
 -- a key behind others
 abbrev pub key_text : List ℕ → List ℕ
@@ -45,7 +45,7 @@ words_text r = any_text numbered_text (codes "wrote") r.wrote.items ++ (any_text
 abbrev pub cycle_text : CycleChanges → List ℕ
 cycle_text r = some_text entries_text (codes "entries") r.entries ++ (some_text current_text (codes "current") r.current
     ++ (some_text flag_text (codes "phase") r.is_marking ++ (some_text number_text (codes "count") r.count
-    ++ some_text reads_text (codes "read") r.read)))
+    ++ (some_text reads_text (codes "read") r.read ++ any_text run_text (codes "looked") r.looked.items))))
 
 -- all that changes
 abbrev pub changes_text : Record → List ℕ

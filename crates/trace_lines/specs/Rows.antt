@@ -12,6 +12,7 @@ use Rattle.trace_lines.specs.declared.record.EntriesChange.{EntriesChange}
 use Rattle.trace_lines.specs.declared.record.Current.{Current}
 use Rattle.trace_lines.specs.declared.record.Current.TheVariants.{Begun, Nothing}
 use Rattle.trace_lines.specs.declared.record.Reads.{Reads}
+use Rattle.trace_lines.specs.declared.record.WordRun.{WordRun}
 use Rattle.trace_lines.specs.Texts.{number_text, more_text, list_text}
 
 -- a sentence in quotes
@@ -66,6 +67,10 @@ current_text Nothing = codes "null"
 
 abbrev pub reads_text : Reads → List ℕ
 reads_text r = numbers_text (r.roots ∷ r.words ∷ r.pages ∷ [])
+
+-- the first place, and how many words
+abbrev pub run_text : WordRun → List ℕ
+run_text r = numbers_text (r.place ∷ r.words ∷ [])
 
 -- the last change of a set, behind what names it
 abbrev pub change_text : List ℕ → List ℕ → List ℕ

@@ -53,7 +53,8 @@ fn put_cycle(behind: &mut String, alloc: Global, changes: &CycleChanges) -> Resu
     put_some(behind, alloc, "current", &changes.current)?;
     put_some(behind, alloc, "phase", &changes.is_marking)?;
     put_some(behind, alloc, "count", &changes.count)?;
-    put_some(behind, alloc, "read", &changes.read)
+    put_some(behind, alloc, "read", &changes.read)?;
+    put_any(behind, alloc, "looked", changes.looked.as_slice())
 }
 
 // Puts behind a text what is different.

@@ -91,6 +91,13 @@ pub struct Reads {
     pub pages: u64,
 }
 
+/// So many words of the heap from a place on.
+#[derive(Clone, Copy)]
+pub struct WordRun {
+    pub place: u64,
+    pub words: u64,
+}
+
 /// Which mutators and objects come and go: slots, and objects by their places.
 #[derive(Drop)]
 pub struct ObjectChanges {
@@ -134,6 +141,9 @@ pub struct CycleChanges {
     pub is_marking: Option<bool>,
     pub count: Option<u64>,
     pub read: Option<Reads>,
+
+    /// Which words of marked objects it looked at.
+    pub looked: Vec<WordRun>,
 }
 
 /// What is different after a line from before it. What is empty or `None` stayed.

@@ -5,7 +5,7 @@ ghost use Rattle.trace_lines.specs.Rows.{change_text};
 
 use crate::record::{
     Current, EntriesChange, EntryAt, LinkChange, NewObject, Numbered, Reads, RegisterWord,
-    SetChange, StackChange,
+    SetChange, StackChange, WordRun,
 };
 use crate::shown::{Shown, put_list, put_more};
 use std::alloc::{AllocError, Global};
@@ -137,6 +137,16 @@ impl Shown for Reads {
 
     fn put(&self, behind: &mut String, alloc: Global) -> Result<(), AllocError> {
         put_list(behind, alloc, &[self.roots, self.words, self.pages])
+    }
+}
+
+impl Shown for WordRun {
+    ghost use Rattle.trace_lines.specs.Rows.{run_text};
+
+    ghost text = { run_text };
+
+    fn put(&self, behind: &mut String, alloc: Global) -> Result<(), AllocError> {
+        put_list(behind, alloc, &[self.place, self.words])
     }
 }
 

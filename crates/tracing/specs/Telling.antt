@@ -14,7 +14,6 @@ use Rattle.plain_core.specs.Standing.{word_index}
 use Rattle.replayer.specs.declared.hint.Hint.{Hint}
 use Rattle.replayer.specs.ReplayerContents.{ReplayerContents, Follows}
 use Rattle.replayer.specs.Replays.{IsReplayed, IsNoReplay}
-use Rattle.trace_lines.specs.declared.record.Reads.{Reads}
 use Rattle.trace_lines.specs.declared.record.ObjectChanges.{ObjectChanges}
 use Rattle.trace_lines.specs.declared.record.SetChanges.{SetChanges}
 use Rattle.trace_lines.specs.declared.record.WordChanges.{WordChanges}
@@ -30,7 +29,7 @@ use Rattle.tracing.specs.Links.{link_changes, links_gone}
 use Rattle.tracing.specs.HeapWords.{words_told, written_to}
 use Rattle.tracing.specs.RootWords.{words_put, changed_global, changed_register, global_of, register_of}
 use Rattle.tracing.specs.Stacks.{SaysStack, stack_step}
-use Rattle.tracing.specs.Looked.{reads_of}
+use Rattle.tracing.specs.Looked.{looked_by, reads_of}
 use Rattle.tracing.specs.Entries.{SaysEntries, SaysCurrent}
 use Rattle.tracing.specs.Values.{SaysValue}
 use Rattle.tracing.specs.declared.seen.Seen.{Seen}
@@ -69,20 +68,22 @@ pub record SaysWords (c : PlainContents) (event : Event) (reply : Reply) (old : 
   pub stacks : SaysStacks c.roots event reply r.stacks.items
   pub links : r.links.items ≡ link_changes before now
 
--- How far the collector is.
-pub record SaysCycle (old new : Truth) (known now : Knowledge) (looked : Option Reads) (r : CycleChanges) : Type 0 where
-  pub entries : SaysEntries known.entries.items now.entries.items r.entries
-  pub current : SaysCurrent known.current now.current r.current
-  pub marking : SaysValue old.is_marking new.is_marking r.is_marking
-  pub count : SaysValue old.count new.count r.count
-  pub read : r.read ≡ looked
+-- How far the collector is, and what the line looked at.
+pub record SaysCycle (core : Option (Bor CoreContents)) (roots : RootSet) (event : Event) (reply : Reply) (old new : Seen) (r : CycleChanges) : Type 0 where
+  pub entries : SaysEntries old.knowledge.entries.items new.knowledge.entries.items r.entries
+  pub current : SaysCurrent old.knowledge.current new.knowledge.current r.current
+  pub marking : SaysValue old.truth.is_marking new.truth.is_marking r.is_marking
+  pub count : SaysValue old.truth.count new.truth.count r.count
+  pub read : r.read ≡ reads_of roots event reply
+  pub looked : r.looked.items ≡ looked_by core event reply old.knowledge new.knowledge
 
--- What is said of an event after which the checker is this: how what was seen before became what is seen now.
-pub record SaysLine (event : Event) (reply : Reply) (c : ReplayerContents) (put : PutWords) (old new : Seen) (l : Leaving) (r : Record) : Type 0 where
+-- What is said of an event after which the core, if there is one, and the checker are these: how what was seen before became what is
+-- seen now.
+pub record SaysLine (core : Option (Bor CoreContents)) (event : Event) (reply : Reply) (c : ReplayerContents) (put : PutWords) (old new : Seen) (l : Leaving) (r : Record) : Type 0 where
   pub objects : SaysObjects event reply old.truth new.truth l c.births r.objects
   pub sets : SaysSets old.truth new.truth old.knowledge new.knowledge r.sets
   pub words : SaysWords c.core event reply put old.truth.links.items new.truth.links.items r.words
-  pub cycle : SaysCycle old.truth new.truth old.knowledge new.knowledge (reads_of c.core.roots event reply) r.cycle
+  pub cycle : SaysCycle core c.core.roots event reply old new r.cycle
 
 -- A tracer: the checker, how many flags of words there is room for, the numbers of the pages, what was seen after the
 -- last line, and the bases of the cells that wait to be swept.
@@ -109,7 +110,7 @@ pub record IsTold (old : TracerContents) (core : Option (Bor CoreContents)) (eve
   pub seen : IsSeen core new.replayer old.room old.pages new.seen
   pub leaving : Leaving
   pub parted : IsParted core event old.waiting (bases_of (objects_without old.seen.truth.objects.items new.seen.truth.objects.items)) leaving
-  pub says : SaysLine event reply new.replayer (words_put old.replayer.core.roots event) old.seen new.seen leaving r
+  pub says : SaysLine core event reply new.replayer (words_put old.replayer.core.roots event) old.seen new.seen leaving r
   pub waiting : new.waiting ≡ leaving.waiting.items
   pub room : new.room ≡ old.room
   pub pages : new.pages ≡ old.pages

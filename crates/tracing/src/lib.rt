@@ -9,9 +9,11 @@
 //!
 //! `Tracer::tell` goes on by an event where the checker says yes, and says how what was seen before became what is seen
 //! now (`IsTold`); where it says no, nothing changes. What is seen is what the core and the checker have (`IsSeen`),
-//! and what is said of objects, sets, links, entries, the phase and the count leads from the one to the other. Of
-//! registers, stacks, globals and the heap those words are said that such an event writes, as they are now; that it
-//! writes no others is what the sequential heap says of it (`Steps`), and no clause here.
+//! and what is said of objects, sets, links, entries, the phase and the count leads from the one to the other. Of a step
+//! of marking those words of marked objects are said to be read by which the entries went on, if they are as many as the
+//! reply counts, and else none (`looked_by`). Of registers, stacks, globals and the heap those words are said that such
+//! an event writes, as they are now; that it writes no others is what the sequential heap says of it (`Steps`), and no
+//! clause here.
 #![tactic(auto)]
 
 mod changes;
@@ -28,6 +30,7 @@ mod stacks;
 mod telling;
 mod tracer;
 mod truth;
+mod words_read;
 
 pub use places::place_of;
 pub use tracer::Tracer;

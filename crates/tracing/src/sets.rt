@@ -120,3 +120,23 @@ pub(crate) fn set_change(
     }
     Ok(Some(SetChange::Differs(came, went)))
 }
+
+/// The members that came into a set, which became another one so.
+pub(crate) fn came(
+    alloc: Global,
+    old: &[u64],
+    new: &[u64],
+    change: &Option<SetChange>,
+) -> Result<Vec<u64>, AllocError>
+    requires { SaysChange old.now new.now change.now }
+    ensures { IfOk result (λ came. came.items ≡ without new.now old.now) }
+{
+    let Some(change) = change else {
+        return Ok(Vec::new(alloc));
+    };
+    match change {
+        SetChange::Comes(came) | SetChange::Differs(came, _) => copied(alloc, came.as_slice()),
+        SetChange::Goes(_) => Ok(Vec::new(alloc)),
+        SetChange::Whole(_) => without(alloc, new, old),
+    }
+}

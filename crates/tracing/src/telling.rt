@@ -1,5 +1,6 @@
 //! What is said of a line: how what was asked before it became what was asked after it.
 ghost use Rattle.std.specs.Prelude.{IfOk};
+ghost use Rattle.tracing.specs.Sets.{SaysChange};
 ghost use Rattle.tracing.specs.Telling.{SaysCycle, SaysLine, SaysObjects, SaysSets, SaysWords};
 
 use crate::changes::{
@@ -16,12 +17,14 @@ use crate::seen::Seen;
 use crate::sets::{listed, set_change};
 use crate::stacks::{stack_change, stack_step};
 use crate::truth::Truth;
+use crate::words_read::words_read;
+use heap_core::Core as HeapCore;
 use heap_spec::{Event, Reply};
 use links::Link;
 use plain_core::Core;
 use replayer::Replayer;
 use std::alloc::{AllocError, Global};
-use trace_lines::{CycleChanges, ObjectChanges, Reads, Record, SetChanges, WordChanges};
+use trace_lines::{CycleChanges, ObjectChanges, Record, SetChange, SetChanges, WordChanges};
 
 // Which mutators and objects come and go, where so many objects were born.
 fn object_changes(
@@ -96,27 +99,33 @@ fn word_changes(
 // How far the collector is, and what the line looked at.
 fn cycle_changes(
     alloc: Global,
-    old: &Truth,
-    new: &Truth,
-    known: &Knowledge,
-    now: &Knowledge,
-    read: Option<Reads>,
+    collector: Option<&HeapCore>,
+    core: &Core,
+    event: &Event,
+    reply: &Reply,
+    old: &Seen,
+    new: &Seen,
+    marked: &Option<SetChange>,
 ) -> Result<CycleChanges, AllocError>
-    ensures { IfOk result (SaysCycle old.now new.now known.now now.now read) }
+    requires { SaysChange old.now.knowledge.marked.items new.now.knowledge.marked.items marked.now }
+    ensures { IfOk result (SaysCycle collector.entry core.now.roots event.now reply.now old.now new.now) }
 {
+    let (known, now) = (&old.knowledge, &new.knowledge);
     Ok(CycleChanges {
         entries: entries_change(alloc, known.entries.as_slice(), now.entries.as_slice())?,
         current: current_change(known.current, now.current),
-        is_marking: flag_change(old.is_marking, new.is_marking),
-        count: number_change(old.count, new.count),
-        read,
+        is_marking: flag_change(old.truth.is_marking, new.truth.is_marking),
+        count: number_change(old.truth.count, new.truth.count),
+        read: reads_of(alloc, core, event, reply)?,
+        looked: words_read(alloc, collector, event, reply, known, now, marked)?,
     })
 }
 
-/// What is said of an event after which the checker is this: how the words that it put, and what was seen, became
-/// others, where objects left so.
+/// What is said of an event after which the core, if there is one, and the checker are these: how the words that it
+/// put, and what was seen, became others, where objects left so.
 pub(crate) fn changes(
     alloc: Global,
+    collector: Option<&HeapCore>,
     event: &Event,
     reply: &Reply,
     replayer: &Replayer,
@@ -125,7 +134,7 @@ pub(crate) fn changes(
     new: &Seen,
     leaving: &Leaving,
 ) -> Result<Record, AllocError>
-    ensures { IfOk result (SaysLine event.now reply.now replayer.now put.now old.now new.now leaving.now) }
+    ensures { IfOk result (SaysLine collector.entry event.now reply.now replayer.now put.now old.now new.now leaving.now) }
 {
     let core = replayer.core();
     let births = replayer.births();
@@ -147,15 +156,7 @@ pub(crate) fn changes(
         links,
         new.truth.links.as_slice(),
     )?;
-    let read = reads_of(alloc, core, event, reply)?;
-    let cycle = cycle_changes(
-        alloc,
-        &old.truth,
-        &new.truth,
-        &old.knowledge,
-        &new.knowledge,
-        read,
-    )?;
+    let cycle = cycle_changes(alloc, collector, core, event, reply, old, new, &sets.marked)?;
     Ok(Record {
         objects,
         sets,

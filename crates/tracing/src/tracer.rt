@@ -121,6 +121,7 @@ impl Tracer {
         let mut left = leaving_from(alloc, core, event, waited, &self.seen, &seen)?;
         let record = changes(
             alloc,
+            core,
             event,
             reply,
             &self.replayer,
