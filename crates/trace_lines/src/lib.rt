@@ -18,5 +18,6 @@ mod shown;
 pub use line::{head_line, record_line, refused_line};
 pub use record::{
     Current, CycleChanges, EntriesChange, EntryAt, LinkChange, NewObject, Numbered, ObjectChanges,
-    Objection, Reads, Record, RegisterWord, SetChange, SetChanges, StackChange, WordChanges, WordRun,
+    Objection, Reads, Record, RegisterWord, SetChange, SetChanges, StackChange, WordChanges,
+    WordRun,
 };
