@@ -111,7 +111,7 @@ bdwgc_runs_are_judged() {
         is "record_bdwgc with -DBUG=$bug compiles" 0 $?
         "$room/record_bdwgc" >"$room/bdwgc_$bug"
         said=$(sed -n "s/^$bug: //p" "$source.expected" | named_places "$room/bdwgc_$bug")
-        file_is "bdwgc_$bug" "$((bug > 0))" "" "$said" --pages 4096 --places any {} <"$room/bdwgc_$bug"
+        file_is "bdwgc_$bug" "$((bug > 0))" "" "$said" --pages 512 --places any {} <"$room/bdwgc_$bug"
     done
 }
 

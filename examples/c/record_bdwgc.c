@@ -1,7 +1,7 @@
 /* A recorder for bdwgc, the Boehm-Demers-Weiser collector: a program runs on its heap, and each call is printed as a line that
  * ./mpheap replay --places any judges (docs/REPLAY.md). Nothing here is proved, and of bdwgc only what this run shows is judged.
  *
- *     cc -std=c99 record_bdwgc.c -lgc -o record_bdwgc && ./record_bdwgc >run && ./mpheap replay --pages 4096 --places any run
+ *     cc -std=c99 record_bdwgc.c -lgc -o record_bdwgc && ./record_bdwgc >run && ./mpheap replay --pages 512 --places any run
  *
  * What is recorded. The 16 registers are an array that bdwgc scans as a part of the program's data; pointers stand in them and in
  * objects as they are, interior ones too, and are printed as an offset from MIDDLE pages below a first object. An alloc has the
@@ -25,7 +25,7 @@
 #define BUG 0
 #endif
 
-enum { PAGES = 4096, PAGE_BYTES = 4096, MIDDLE = PAGES / 2, REGISTERS = 16, OBJECTS = 4096, STEPS = 2000, STEPS_TO_A_CYCLE = 40 };
+enum { PAGES = 512, PAGE_BYTES = 4096, MIDDLE = PAGES / 2, REGISTERS = 16, OBJECTS = 4096, STEPS = 2000, STEPS_TO_A_CYCLE = 40 };
 
 static const uint64_t FIRST = 268435456; /* where the heap begins in lines */
 
