@@ -12,7 +12,9 @@
 //! core (`run_written`, `IsRunDrawn`); of the line that is refused it is the line itself and what is said of it
 //! (`refusal_written`, `IsRefusalDrawn`): a sentence, that of the reply which it had to have, if one is told, and one more
 //! if something is wrong with an object (`sentences`, `AreSentences`). The words of the first and of the last are only
-//! tested, and so is that the line which is refused is drawn, and none behind it.
+//! tested. What is written of a run is what it is judged to be (`draw_run`, `DrawsRun`): of a legal one the first line and a
+//! record of each line that is told, in their order; of any other run that has lines the same up to the line that is
+//! refused, that line, and nothing behind it.
 #![tactic(auto)]
 
 ghost use Rattle.std.specs.Prelude.{◌≤◌};
@@ -22,7 +24,9 @@ mod drawing;
 mod reply;
 mod run_drawing;
 mod run_line;
+mod run_lines;
 mod run_printing;
+mod run_records;
 
 use crate::drawing::{Run, written};
 use crate::run_printing::draw_run;
@@ -96,7 +100,7 @@ fn obey(rt: &HostRuntime) -> Result<u8, Fault> {
         Err(error) => return Err(Fault::of_read(&error)),
     };
     if is_run {
-        return draw_run(rt, pages, text.as_str());
+        return draw_run(rt, &mut Std::new(rt.stdout()), pages, text.as_str());
     }
     draw_script(rt, pages, text.as_str())?;
     Ok(0)
