@@ -117,7 +117,7 @@ bdwgc_runs_are_judged() {
 
 # named_places RUN: standard input, with the address of the Nth alloc of the run in the place of each {N}.
 named_places() {
-    awk 'NR == FNR { if (/ alloc .* => ok @ /) place[++count] = $8; next }
+    awk 'NR == FNR { if (/ alloc .* => ok @ /) place[++count] = $9; next }
         { for (at = 1; at <= count; at++) gsub("[{]" at "[}]", place[at]); print }' "$1" -
 }
 
