@@ -1,5 +1,5 @@
 -- How the mark stack changes.
-use Rattle.std.specs.Prelude.{◌≡◌, ℕ, Option, Some, None, List, ◌++◌, take}
+use Rattle.std.specs.Prelude.{◌≡◌, Option, Some, None, List, ◌++◌, take}
 use Rattle.marker.specs.declared.entry.Entry.{Entry}
 use Rattle.plain_core.specs.Standing.{word_index}
 use Rattle.trace_lines.specs.declared.record.EntryAt.{EntryAt}

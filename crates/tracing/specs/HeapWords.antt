@@ -1,5 +1,5 @@
 -- Which words of the heap an event wrote.
-use Rattle.std.specs.Prelude.{ℕ, Bool, true, Option, Some, None, List, [], ◌++◌, flat_map, map, if◌then◌else◌}
+use Rattle.std.specs.Prelude.{ℕ, Bool, true, Option, None, List, [], ◌++◌, flat_map, map, if◌then◌else◌}
 use Rattle.std.specs.Option.{option_map}
 use Rattle.heap_spec.specs.declared.call.Call.TheVariants.{Free, Store}
 use Rattle.heap_spec.specs.declared.event.Event.{Event}

@@ -1,5 +1,5 @@
 -- What is seen after a line.
-use Rattle.std.specs.Prelude.{◌≡◌, ℕ, Option, List}
+use Rattle.std.specs.Prelude.{ℕ, Option, List}
 use Rattle.std.specs.Borrow.{Bor}
 use Rattle.heap_core.specs.CoreContents.{CoreContents}
 use Rattle.replayer.specs.ReplayerContents.{ReplayerContents}

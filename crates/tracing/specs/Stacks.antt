@@ -1,5 +1,5 @@
 -- How stacks change.
-use Rattle.std.specs.Prelude.{◌≡◌, ◌-◌, ℕ, Option, Some, None, List, drop, length}
+use Rattle.std.specs.Prelude.{◌≡◌, ◌-◌, Option, Some, None, drop, length}
 use Rattle.heap_spec.specs.declared.call.Call.TheVariants.{Push, Pop}
 use Rattle.heap_spec.specs.declared.event.Event.{Event}
 use Rattle.heap_spec.specs.declared.event.Event.TheVariants.{Mutator}

@@ -1,5 +1,5 @@
 -- What is true of a heap, as a trace shows it.
-use Rattle.std.specs.Prelude.{◌≡◌, ℕ, Bool, false, List, [], ◌∷◌, if◌then◌else◌, length, slice_index_or}
+use Rattle.std.specs.Prelude.{◌≡◌, ℕ, Bool, false, List, [], if◌then◌else◌, length, slice_index_or}
 use Rattle.plain_core.specs.declared.extent.Extent.{Extent}
 use Rattle.plain_core.specs.Standing.{word_index}
 use Rattle.plain_core.specs.Flags.{FlagsReached}

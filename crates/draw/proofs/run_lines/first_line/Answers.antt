@@ -1,4 +1,3 @@
-use Rattle.std.proofs.Common.{◌≡◌, ◌∙◌, ℕ, ◌<◌, List, [], ◌∷◌, ◌++◌, length, get_or, ap, arith}
 use Rattle.draw.proofs.Traces.{cut_line, last_line}
 use Rattle.draw.proofs.run_lines.first_line.Goals as goal
 
