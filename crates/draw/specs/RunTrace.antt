@@ -56,10 +56,11 @@ pub record IsCutTrace (pages : ℕ) (lines : List (List ℕ)) (number : ℕ) (sa
   pub refused : IsRefusalDrawn number line says wrong refusal
   pub whole : trace ≡ text_of (first_text pages (length records + 1) ∷ (records ++ refusal ∷ []))
 
--- such a trace is written
+-- the trace of legal lines is written
 abbrev pub PutsWholeTrace : ℕ → List (List ℕ) → ℕ → Option (List ℕ) → Option (List ℕ) → Type 0
 PutsWholeTrace pages lines count wrote writes = (trace : List ℕ) × IsWholeTrace pages lines count trace × Appends wrote writes trace
 
+-- that of lines of which one isn't legal is
 abbrev pub PutsCutTrace : ℕ → List (List ℕ) → ℕ → List (String Global) → Option Wrong → Option (List ℕ) → Option (List ℕ) → Type 0
 PutsCutTrace pages lines number says wrong wrote writes = (trace : List ℕ) × IsCutTrace pages lines number says wrong trace × Appends wrote writes trace
 
