@@ -5,6 +5,7 @@ use Rattle.std.specs.Io.KnownBytes.{Appends}
 use Rattle.scripts.specs.Lines.{lines_of}
 use Rattle.scripts.specs.Turns.{text_of}
 use Rattle.trace_lines.specs.Records.{head_text}
+use Rattle.written_runs.specs.declared.places.Places.TheVariants.{Classes}
 use Rattle.written_runs.specs.declared.verdict.Judgement.{Judgement}
 use Rattle.written_runs.specs.declared.verdict.Verdict.{Verdict}
 use Rattle.written_runs.specs.declared.verdict.Verdict.TheVariants.{Legal, NoLines, Bad, Breaks}
@@ -80,7 +81,7 @@ PutsTrace pages lines j (Breaks number rule) status wrote writes = PutsBrokenTra
 -- Lines are judged, and the trace of what they are judged is written.
 pub record DrawsRun (pages : ℕ) (lines : List (List ℕ)) (status : ℕ) (wrote writes : Option (List ℕ)) : Type 0 where
   pub judgement : Judgement
-  pub judged : IsJudged pages lines judgement.verdict
-  pub expected : IsExplained pages lines judgement.verdict judgement.expected
-  pub blamed : IsBlamed pages lines judgement.verdict judgement.wrong judgement.keeper
+  pub judged : IsJudged Classes pages lines judgement.verdict
+  pub expected : IsExplained Classes pages lines judgement.verdict judgement.expected
+  pub blamed : IsBlamed Classes pages lines judgement.verdict judgement.wrong judgement.keeper
   pub puts : PutsTrace pages lines judgement judgement.verdict status wrote writes
