@@ -5,9 +5,10 @@
  *
  * What is recorded. The 16 registers are an array that bdwgc scans as a part of the program's data; pointers stand in them and in
  * objects as they are, interior ones too, and are printed as an offset from MIDDLE pages below a first object. An alloc has the
- * number of words that GC_size tells, but for the last one (below), and a full cycle (GC_gcollect) the bases of the objects whose disappearing links it cleared: these
- * stand disguised in a table, and bdwgc clears them as soon as it finds an object inaccessible. Collections of bdwgc's own accord
- * are off, since they would take objects away between two lines. GC_malloc_atomic doesn't clear what it gives, so alloc does.
+ * number of words that GC_size tells, but for the last one (below), and a full cycle (GC_gcollect) the bases of the objects whose
+ * disappearing links it cleared: these stand disguised in a table, and bdwgc clears them as soon as it finds an object
+ * inaccessible. Collections of bdwgc's own accord are off, since they would take objects away between two lines.
+ * GC_malloc_atomic doesn't clear what it gives, so alloc does.
  *
  * bdwgc is conservative: a word that is left on the C stack may keep an object that nothing recorded leads to, and the line of the
  * cycle then isn't legal, since that object has to go. So the mutator runs in frames of its own, and the stack below them is wiped.
