@@ -7,6 +7,9 @@ use crate::plain_row::{clear, is_set, next, set};
 
 const ENTRIES: usize = 256;
 
+// A row of fewer words is read one by one.
+const FEW: usize = 16;
+
 /// The granule of an address, counted from the heap's first one.
 #[inline]
 pub fn granule(address: u64) -> usize {
@@ -146,7 +149,7 @@ impl Marker {
     fn mark_words(&mut self, map: &[Page], heap_bytes: u64, memory: &[u64], base: u64, first: u32, count: u64) {
         let start = ((base - START) / 8) as usize + first as usize;
         let words = &memory[start..start + count as usize];
-        let stray = if words.len() < 4 { self.mark_each(map, heap_bytes, words) } else { self.mark_many(map, heap_bytes, words) };
+        let stray = if words.len() < FEW { self.mark_each(map, heap_bytes, words) } else { self.mark_many(map, heap_bytes, words) };
         if stray {
             set(&mut self.carried, start / 512);
         }
@@ -197,18 +200,48 @@ impl Marker {
                 return read;
             }
             known = known.min(self.len);
-            let Some((base, next)) = self.current else {
-                unreachable!();
-            };
-            let left = u64::from(found.len - next);
-            let on_page = 512 - ((base - START) / 8 + u64::from(next)) % 512;
-            let count = left.min(budget - read).min(on_page);
-            self.mark_words(map, heap_bytes, memory, base, next, count);
-            self.current = Some((base, next + count as u32));
-            if count == left {
-                self.take_entry();
+            read += self.read_off(map, heap_bytes, memory, found, known, budget - read);
+        }
+        read
+    }
+
+    fn read_off(&mut self, map: &[Page], heap_bytes: u64, memory: &[u64], found: Found, known: usize, most: u64) -> u64 {
+        let Some((base, next)) = self.current else {
+            unreachable!();
+        };
+        let left = u64::from(found.len - next);
+        let on_page = 512 - ((base - START) / 8 + u64::from(next)) % 512;
+        let count = left.min(most).min(on_page);
+        self.mark_words(map, heap_bytes, memory, base, next, count);
+        self.current = Some((base, next + count as u32));
+        if count < left {
+            return count;
+        }
+        let more = self.read_wholes(map, heap_bytes, memory, known, most - count);
+        self.take_entry();
+        count + more
+    }
+
+    // The object of the entry on top of the stack, unless that entry's number is below `known`.
+    #[inline]
+    fn top(&self, map: &[Page], known: usize) -> Option<Found> {
+        (known < self.len).then(|| object_at(map, self.stack[self.len - 1].0))
+    }
+
+    // Objects that are read whole, one after the other.
+    #[inline(never)]
+    fn read_wholes(&mut self, map: &[Page], heap_bytes: u64, memory: &[u64], known: usize, most: u64) -> u64 {
+        let mut read = 0;
+        while let Some(found) = self.top(map, known) {
+            let len = u64::from(found.len);
+            let on_page = 512 - (found.base - START) / 8 % 512;
+            if len > on_page.min(most - read) {
+                return read;
             }
-            read += count;
+            self.len -= 1;
+            self.mark_words(map, heap_bytes, memory, found.base, 0, len);
+            self.current = Some((found.base, found.len));
+            read += len;
         }
         read
     }

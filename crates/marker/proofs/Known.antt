@@ -1,18 +1,20 @@
 -- Entries that are known to have a word left to read.
-use Rattle.std.proofs.Common.{◌≡◌, ℕ, ◌+◌, ◌*◌, ◌<◌, ◌≤◌, List, [], ◌∷◌, ◌++◌, length, Option, Some, None, refl, sym, ap, ◌∙◌, subst, ⊎_elim, append-nil, length-append, arith}
+use Rattle.std.proofs.Common.{◌≡◌, ℕ, ◌+◌, ◌-◌, ◌*◌, ◌<◌, ◌≤◌, List, [], ◌∷◌, ◌++◌, length, get_or, take, suc, Option, Some, None, refl, sym, ap, ◌∙◌, subst, ⊎_elim, append-nil, length-append, arith}
 use Rattle.std.specs.Prelude.{option_to_list}
 use Rattle.std.proofs.lemmas.Option.{same_Some}
 use Rattle.std.proofs.lemmas.Bool.{cases_lt}
-use Rattle.std.proofs.lemmas.List.{length_push, get_or_push, get_or_append_left}
+use Rattle.std.proofs.lemmas.List.{length_push, get_or_default, get_or_push, get_or_append_left}
+use Rattle.std.proofs.lemmas.List.Elements.{Contains-get_or}
+use Rattle.std.proofs.Math.Seq.{take-length, take-suc}
 use Rattle.words.specs.declared.limits.TheConstants.{PAGE_GRANULES}
 use Rattle.words.specs.Layout.{granule}
 use Rattle.words.specs.Bits.{Has}
 use Rattle.block_map.specs.declared.found.Found.{Found}
 use Rattle.block_map.specs.Objects.{IsMap}
 use Rattle.marker.specs.declared.entry.Entry.{Entry}
-use Rattle.marker.specs.Marking.{Marking, IsMarked, entries, with_current, with_carried}
+use Rattle.marker.specs.Marking.{Marking, IsConsistent, IsMarked, entries, with_current, with_carried}
 use Rattle.marker.specs.Growth.{MarksObject, MarksWord, MarksWords, Awaits, entry_of, nothing, object, begun, and_word, pointer_free, pushed, dirtied}
-use Rattle.marker.specs.Entries.{IsUnread, IsLive, AreUnreadFrom, Settles, ReadsOn, read_on}
+use Rattle.marker.specs.Entries.{IsUnread, IsLive, IsOnTop, AreUnreadFrom, Settles, ReadsOn, read_on}
 use Rattle.marker.proofs.Closures.{at_base}
 use Rattle.marker.proofs.MarkWord.{object_extends, object_marked}
 use Rattle.marker.proofs.Words.{words_extends}
@@ -63,6 +65,28 @@ module _ (found : ℕ → Option Found) where
       let k = subst (AreUnreadFrom found m n) es known in
       let l = length_push m.stack e in
       k.each (length m.stack) e low (omega arith) (get_or_push m.stack e e (length m.stack) refl)
+
+  -- the one on top of the stack
+  pub known_top : (m : Marking) (n : ℕ) (d : Entry) (g : Found) → IsConsistent m → AreUnreadFrom found m n m.stack → n < length m.stack → found (get_or m.stack (length m.stack - 1) d).base ≡ Some g → IsOnTop found m g
+  known_top m n d g consistent known low at =
+      let k : ℕ = length m.stack - 1 in
+      let e : Entry = get_or m.stack k d in
+      let u = known.each k e (omega arith) (omega arith) (get_or_default m.stack k e d (omega arith)) in
+      let same : u.0 ≡ g = same_Some u.0 g (sym u.1.object ∙ ap found u.1.base ∙ at) in
+      let base : g.base ≡ e.base = subst (λ (f : Found). f.base ≡ e.base) same u.1.base in
+      let first : e.next ≡ 0 = consistent.unread e (Contains-get_or m.stack k d (omega arith)) in
+      let is : e ≡ entry_of g = λ i. record { base = sym base i; next = first i } in
+      record {
+        below = take k m.stack;
+        stack = sym (take-length m.stack) ∙ ap (λ j. take j m.stack) (let l : length m.stack ≡ suc k = omega arith in l) ∙ take-suc m.stack k d (omega arith) ∙ ap (λ x. take k m.stack ++ x ∷ []) is;
+        unread = subst (λ x. IsUnread found m x g) is (subst (IsUnread found m e) same u.1);
+      }
+
+  -- it is taken off
+  pub top_taken : (m : Marking) (n : ℕ) (g : Found) (top : IsOnTop found m g) (new : Marking) → new.marks ≡ m.marks → new.stack ≡ top.below → AreUnreadFrom found m n m.stack → AreUnreadFrom found new n new.stack
+  top_taken m n g top new marks stack known =
+      subst (AreUnreadFrom found new n) (sym stack)
+      (from_more m new n top.below (λ j h. subst (λ r. Has r (granule j)) (sym marks) h) (from_first m n top.below (entry_of g ∷ []) (subst (AreUnreadFrom found m n) top.stack known)))
 
   -- none are known before
   pub known_none : (m : Marking) (n : ℕ) → length m.stack < n → AreUnreadFrom found m n (entries m)

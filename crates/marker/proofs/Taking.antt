@@ -37,6 +37,13 @@ taken_trans found words a b c ab bc x y e one =
     (λ (o : IsReadOut found words a b e). inr (λ f is s n k i le lt g r. bc g.base (o f is s n k i le lt g r)))
     (x e one)
 
+-- words are taken off, and then more
+pub takes_trans : (found : ℕ → Option Found) (words : List ℕ) (old mid : Marking) {n k : ℕ} {new : Marking} → Takes found words old n mid → Takes found words mid k new → Takes found words old (n + k) new
+takes_trans found words old mid {n = n} t nothing = subst (λ j. Takes found words old j mid) (let same : n ≡ n + 0 = omega arith in same) t
+takes_trans found words old mid t (settled u x) = settled (takes_trans found words old mid t u) x
+takes_trans found words old mid {n = n} t (read {n = m} {k = j} {b = b} u x) =
+    subst (λ i. Takes found words old i b) (let same : n + m + j ≡ n + (m + j) = omega arith in same) (read (takes_trans found words old mid t u) x)
+
 module _ (pages : ℕ) (found : ℕ → Option Found) (map : IsMap pages found) (words : List ℕ) (old : Marking) (size : length old.marks ≡ PAGE_GRANULES * pages) where
   pub takes_traces : {n : ℕ} {new : Marking} → Takes found words old n new → Traces found words [] old new
   takes_traces nothing = traces_refl found words [] old

@@ -14,7 +14,8 @@ use Rattle.words.specs.Layout.{granule, page_of}
 use Rattle.pages.specs.Memory.{word_index, word_at}
 use Rattle.block_map.specs.declared.found.Found.{Found}
 use Rattle.block_map.specs.Objects.{IsMap, IsPlaced}
-use Rattle.marker.specs.Marking.{Marking, IsConsistent, IsMarked, IsOutside, StaysDirty, with_carried, word_address}
+use Rattle.marker.specs.declared.entry.Entry.{Entry}
+use Rattle.marker.specs.Marking.{Marking, IsConsistent, IsMarked, IsOutside, StaysDirty, with_carried, with_current, word_address}
 use Rattle.marker.specs.Work.{cost}
 use Rattle.marker.specs.Closure.{Closure, held, root, word}
 use Rattle.marker.specs.Invariant.{IsTargetMarked, AreRootsMarked}
@@ -51,6 +52,20 @@ word_carried found w a b r (object f is x) = object f is (record { unmarked = x.
 pub words_carried : (found : ℕ → Option Found) (a : Marking) (r : List Bool) {ws : List ℕ} {b : Marking} → MarksWords found a ws b → MarksWords found (with_carried a r) ws (with_carried b r)
 words_carried found a r begun = begun
 words_carried found a r (and_word {w = w} {m = m} {new = b} x y) = and_word (words_carried found a r x) (word_carried found w m b r y)
+
+-- and neither does it look at the entry that is being read
+awaits_current : (f : Found) (a b : Marking) (e : Entry) → Awaits f a b → Awaits f (with_current a e) (with_current b e)
+awaits_current f a b e (pointer_free k s d) = pointer_free k s d
+awaits_current f a b e (pushed k l s d) = pushed k l s d
+awaits_current f a b e (dirtied k l s d) = dirtied k l s d
+
+word_current : (found : ℕ → Option Found) (w : ℕ) (a b : Marking) (e : Entry) → MarksWord found w a b → MarksWord found w (with_current a e) (with_current b e)
+word_current found w a b e (nothing t same) = nothing t (ap (λ m. with_current m e) same)
+word_current found w a b e (object f is x) = object f is (record { unmarked = x.unmarked; marks = x.marks; carried = x.carried; current = refl; awaits = awaits_current f a b e x.awaits })
+
+pub words_current : (found : ℕ → Option Found) (a : Marking) (e : Entry) {ws : List ℕ} {b : Marking} → MarksWords found a ws b → MarksWords found (with_current a e) ws (with_current b e)
+words_current found a e begun = begun
+words_current found a e (and_word {w = w} {m = m} {new = b} x y) = and_word (words_current found a e x) (word_current found w m b e y)
 
 -- whether one of more words is stray
 or_true : (a b : Bool) → (a || b) ≡ true → (a ≡ true) ⊎ (b ≡ true)

@@ -1,5 +1,5 @@
 -- What becomes of the entries.
-use Rattle.std.specs.Prelude.{◌≡◌, ℕ, ◌+◌, ◌<◌, ◌≤◌, Bool, List, [], ◌++◌, length, slice_index_or, Contains, Option, Some, None, ◌⊎◌}
+use Rattle.std.specs.Prelude.{◌≡◌, ℕ, ◌+◌, ◌<◌, ◌≤◌, Bool, List, [], ◌∷◌, ◌++◌, length, slice_index_or, Contains, Option, Some, None, ◌⊎◌}
 use Rattle.words.specs.declared.class.Kind.TheVariants.{Normal}
 use Rattle.words.specs.Layout.{page_of}
 use Rattle.pages.specs.Memory.{word_at}
@@ -7,7 +7,7 @@ use Rattle.block_map.specs.declared.found.Found.{Found}
 use Rattle.marker.specs.declared.entry.Entry.{Entry}
 use Rattle.marker.specs.Marking.{Marking, IsMarked, IsEntry, entries, with_current, with_carried, bytes_of, word_address}
 use Rattle.marker.specs.Invariant.{IsTargetMarked}
-use Rattle.marker.specs.Growth.{MarksWords, CarriesPage, words_from}
+use Rattle.marker.specs.Growth.{MarksWords, CarriesPage, words_from, entry_of}
 
 -- no object reads on at the entry: none with its base is Normal and marked and has the word
 abbrev pub IsSpent : (ℕ → Option Found) → Marking → Entry → Type 0
@@ -26,6 +26,12 @@ pub record IsLive (found : ℕ → Option Found) (m : Marking) (f : Found) : Typ
   pub entry : Entry
   pub current : m.current ≡ Some entry
   pub unread : IsUnread found m entry f
+
+-- The entry of this object is on top of the stack, and has all its words left to read.
+pub record IsOnTop (found : ℕ → Option Found) (m : Marking) (f : Found) : Type 0 where
+  pub below : List Entry
+  pub stack : m.stack ≡ below ++ entry_of f ∷ []
+  pub unread : IsUnread found m (entry_of f) f
 
 -- each of these entries from number `known` on has a word left to read
 pub record AreUnreadFrom (found : ℕ → Option Found) (m : Marking) (known : ℕ) (es : List Entry) : Type 0 where
@@ -59,11 +65,11 @@ pub record ReadsOn (found : ℕ → Option Found) (words : List ℕ) (n : ℕ) (
   pub carries : CarriesPage found (bytes_of old) (words_from words object live.entry.next n) page old.carried carried
   pub new_is : new ≡ with_current (with_carried mid carried) (read_on live.entry n)
 
--- The next n words of the entry that is being read are done with, and it goes on by n, or is dropped where none is left.
-pub record ReadsOff (found : ℕ → Option Found) (words : List ℕ) (n : ℕ) (old new : Marking) : Type 0 where
-  pub on : Marking
-  pub reads : ReadsOn found words n old on
-  pub settles : Settles found on new
+-- The entry that is being read is dropped, and n words of the next one, which then is being read, are done with.
+pub record ReadsNext (found : ℕ → Option Found) (words : List ℕ) (n : ℕ) (old new : Marking) : Type 0 where
+  pub next : Marking
+  pub settles : Settles found old next
+  pub reads : ReadsOn found words n next new
 
 -- So many words are taken off the entries, each from the one that is being read; entries that have no word to read are
 -- dropped.

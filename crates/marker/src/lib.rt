@@ -74,6 +74,7 @@ mod sharing;
 mod spread;
 mod step;
 mod target;
+mod whole;
 
 pub use entry::Entry;
 pub use marker::Marker;

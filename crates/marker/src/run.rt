@@ -16,6 +16,9 @@ use pages::{Reader, Words};
 use words::limits::{FIRST_ADDRESS, WORD_BYTES};
 use words::{PageNo, page_of};
 
+// A row of fewer words is read one by one: what four at a time save, these calls would cost again.
+const FEW: usize = 16;
+
 // Whether none of four words lies in the heap's range. The least distance from its start tells, by one test.
 #[inline]
 fn are_outside(heap_bytes: u64, first: u64, second: u64, third: u64, fourth: u64) -> bool
@@ -110,7 +113,7 @@ impl Marker {
         ensures marks { MarksWords (found_in map.now) self.old words.entry self.new }
         ensures stray { TellsStray (found_in map.now) (PAGE_BYTES * length map.now) words.entry result }
     {
-        if words.len() < 4 {
+        if words.len() < FEW {
             self.mark_each(map, heap_bytes, words)
         } else {
             self.mark_many(map, heap_bytes, words)

@@ -8,7 +8,7 @@ ghost use Rattle.marker.specs.declared.entry.Entry.{Entry};
 ghost use Rattle.marker.specs.Marking.{IsEmpty, StaysDirty, entries};
 ghost use Rattle.marker.specs.Work.{cost};
 ghost use Rattle.marker.specs.Growth.{Traces};
-ghost use Rattle.marker.specs.Entries.{IsSpent, IsUnread, IsLive, AreUnreadFrom, Settles, ReadsOn, ReadsOff, Takes, TakesOff};
+ghost use Rattle.marker.specs.Entries.{IsSpent, IsUnread, IsLive, AreUnreadFrom, Settles, ReadsOn, Takes, TakesOff};
 
 use crate::entry::Entry;
 use crate::marker::{Marker, heap_bytes};
@@ -54,7 +54,7 @@ impl Marker {
                 return Marked { read, empty: false };
             }
             known = known.min(self.depth());
-            read += self.read_off(map, heap_bytes, reader, found, budget - read);
+            read += self.read_off(map, heap_bytes, reader, found, known, budget - read);
         }
         Marked { read, empty: true }
     }
@@ -172,14 +172,15 @@ impl Marker {
         u64::from(found.len - entry.next)
     }
 
-    // Reads words of the entry that is being read, at most so many, and answers how many. Where none is left the entry
-    // is dropped, with no look at its object.
+    // Reads words of the entry that is being read, at most so many, and where it has none left those of whole objects
+    // behind it. Answers how many. An entry that has none left is dropped, with no look at its object.
     fn read_off(
         &mut self,
         map: &BlockMap,
         heap_bytes: u64,
         reader: &mut Reader,
         found: Found,
+        known: usize,
         most: u64,
     ) -> u64
         requires pages { length self.old.dirty ≡ length map.now }
@@ -187,10 +188,11 @@ impl Marker {
         requires bytes { heap_bytes ≡ PAGE_BYTES * length map.now }
         requires live { IsLive (found_in map.now) self.old found }
         requires placed { IsPlaced (length map.now) found × (length map.now ≤ MAX_PAGES) }
+        requires known { AreUnreadFrom (found_in map.now) self.old known self.old.stack }
         requires memory { length reader.old.words ≡ PAGE_WORDS * length map.now }
         requires some { 0 < most }
-        ensures read { ReadsOff (found_in map.now) reader.old.words result self.old self.new }
-        ensures known { (known : ℕ) → AreUnreadFrom (found_in map.now) self.old known self.old.stack → AreUnreadFrom (found_in map.now) self.new known (entries self.new) }
+        ensures takes { Takes (found_in map.now) reader.old.words self.old result self.new }
+        ensures known { AreUnreadFrom (found_in map.now) self.new known (entries self.new) }
         ensures some { 0 < result }
         ensures most { result ≤ most }
         ensures words { reader.new.words ≡ reader.old.words }
@@ -198,8 +200,9 @@ impl Marker {
     {
         self.laws();
         let left = self.left_in(found);
-        let count = self.read_on(map, heap_bytes, reader, found, most);
+        let mut count = self.read_on(map, heap_bytes, reader, found, most);
         if count == left {
+            count += self.read_wholes(map, heap_bytes, reader, known, most - count);
             self.take_entry();
         }
         count

@@ -4,12 +4,11 @@ use Rattle.block_map.specs.FoundIn.{found_in}
 use Rattle.marker.specs.Marking.{Marking, StaysDirty}
 use Rattle.marker.specs.Work.{cost}
 use Rattle.marker.specs.Growth.{Traces}
-use Rattle.marker.specs.Entries.{ReadsOff, Takes, TakesOff, nothing, settled, read}
+use Rattle.marker.specs.Entries.{Takes, TakesOff, nothing, settled}
 use Rattle.marker.proofs.Closures.{marks_of}
 use Rattle.marker.proofs.Known.{known_none, known_settles, known_waiting}
 use Rattle.marker.proofs.Settling.{settled_cost}
-use Rattle.marker.proofs.Reading.{read_cost}
-use Rattle.marker.proofs.Taking.{takes_traces, takes_cost, takes_taken, takes_dirty}
+use Rattle.marker.proofs.Taking.{takes_traces, takes_trans, takes_cost, takes_taken, takes_dirty}
 use Rattle.marker.proofs.marker.Marker.step.Goals as goal
 use Rattle.marker.proofs.marker.Marker.step.Goals.{After-next, After-read_off-read}
 
@@ -32,8 +31,8 @@ next-requires-clause-known c = c.loop-found.invariant.known
 takes : (c : After-next) → Takes (found_in c.args.map.now) c.args.reader.now.words c.args.self.now c.loop-found.read c.next.new.self
 takes c = settled c.loop-found.invariant.takes c.next.ensures.settles
 
-reads : (c : After-read_off-read) → ReadsOff (found_in c.args.map.now) c.args.reader.now.words c.read_off-read.result c.next.new.self c.read_off-read.new.self
-reads c = subst (λ (w : List ℕ). ReadsOff (found_in c.args.map.now) w c.read_off-read.result c.next.new.self c.read_off-read.new.self) c.loop-found.invariant.words c.read_off-read.ensures.read
+reads : (c : After-read_off-read) → Takes (found_in c.args.map.now) c.args.reader.now.words c.next.new.self c.read_off-read.result c.read_off-read.new.self
+reads c = subst (λ (w : List ℕ). Takes (found_in c.args.map.now) w c.next.new.self c.read_off-read.result c.read_off-read.new.self) c.loop-found.invariant.words c.read_off-read.ensures.takes
 
 pub read_off-read-requires-clause-pages : goal.read_off-read-requires-clause-pages
 read_off-read-requires-clause-pages c =
@@ -87,25 +86,26 @@ returns-then-read-budget-clause-cost c = less (goal.at.returns-then-read-budget-
 pub returns-clause-cost : goal.returns-clause-cost
 returns-clause-cost c = less (goal.at.returns-clause-cost c).After-next
 
+pub read_off-read-requires-clause-known : goal.read_off-read-requires-clause-known
+read_off-read-requires-clause-known c =
+    known_waiting (found_in c.args.map.now) c.next.new.self c.loop-found.known c.min-known.result (λ k from lt. (let m = c.min-known.ensures in let d = c.depth.ensures in omega arith))
+    (known_settles (found_in c.args.map.now) _ _ _ c.next.ensures.settles c.loop-found.invariant.known)
+
 pub loop-found-smaller : goal.loop-found-smaller
 loop-found-smaller c =
     let s = (goal.at.loop-found-smaller c).After-next in
     let a = settled_cost (found_in c.args.map.now) _ _ c.next.ensures.settles in
-    let b = read_cost (length c.args.map.now) (found_in c.args.map.now) c.heap_bytes-heap_bytes.ensures.lawful.map c.args.reader.now.words _ _ _ ((traces s (takes s)).marks_len ∙ marks_of _ _ c.laws.ensures c.requires.pages) (reads c).reads in
-    let d = settled_cost (found_in c.args.map.now) _ _ (reads c).settles in
+    let b = takes_cost (length c.args.map.now) (found_in c.args.map.now) c.heap_bytes-heap_bytes.ensures.lawful.map c.args.reader.now.words _ ((traces s (takes s)).marks_len ∙ marks_of _ _ c.laws.ensures c.requires.pages) (reads (goal.at.loop-found-smaller c).After-read_off-read) in
     let some = c.read_off-read.ensures.some in
     omega arith
 
 pub loop-found-preserved : goal.loop-found-preserved
 loop-found-preserved c =
-    let a = (goal.at.loop-found-preserved c).After-read_off-read in
     let i = c.loop-found.invariant in
     let w = i.within in let n = c.read_off-read.ensures.most in let b = c.if-read-budget.false in
     record {
-      takes = settled (read (takes (goal.at.loop-found-preserved c).After-next) (reads a).reads) (reads a).settles;
-      known = c.read_off-read.ensures.known c.min-known.result
-          (known_waiting (found_in c.args.map.now) c.next.new.self c.loop-found.known c.min-known.result (λ k from lt. (let m = c.min-known.ensures in let d = c.depth.ensures in omega arith))
-          (known_settles (found_in c.args.map.now) _ _ _ c.next.ensures.settles i.known));
+      takes = takes_trans (found_in c.args.map.now) c.args.reader.now.words c.args.self.now c.next.new.self (takes (goal.at.loop-found-preserved c).After-next) (reads (goal.at.loop-found-preserved c).After-read_off-read);
+      known = c.read_off-read.ensures.known;
       within = omega arith;
       words = c.read_off-read.ensures.words ∙ i.words;
       reads = (let a = c.read_off-read.ensures.reads in let b = i.reads in omega arith);

@@ -1,0 +1,19 @@
+use Rattle.std.proofs.Common.{◌≡◌, ◌+◌, ◌≤◌, Some}
+use Rattle.block_map.specs.FoundIn.{found_in}
+use Rattle.marker.specs.declared.entry.Entry.{Entry}
+use Rattle.marker.specs.Work.{cost}
+use Rattle.marker.specs.Entries.{AreUnreadFrom, IsSpent, Takes}
+use Rattle.marker.proofs.marker.Marker.read_wholes.Given as goal
+
+abbrev pub invariant-loop-found : goal.invariant-loop-found
+invariant-loop-found l = record {
+  takes : Takes (found_in l.map) l.initial.reader.words l.initial.self l.read l.self;
+  known : AreUnreadFrom (found_in l.map) l.self l.known l.self.stack;
+  done : (e : Entry) → l.self.current ≡ Some e → IsSpent (found_in l.map) l.self e;
+  within : l.read ≤ l.most;
+  words : l.reader.words ≡ l.initial.reader.words;
+  reads : l.reader.reads ≡ l.initial.reader.reads + l.read;
+}
+
+abbrev pub decreases-loop-found : goal.decreases-loop-found
+decreases-loop-found l = cost (found_in l.map) l.self

@@ -1,0 +1,13 @@
+use Rattle.std.proofs.Common.{◌<◌, length, subst}
+use Rattle.block_map.specs.FoundIn.{found_in}
+use Rattle.marker.proofs.Known.{known_top}
+use Rattle.marker.proofs.marker.Marker.top.Goals as goal
+
+pub returns-clause-top : goal.returns-clause-top
+returns-clause-top c =
+    let is = c.waiting-waiting.ensures in
+    known_top (found_in c.args.map.now) c.args.self.now c.args.known _ c.object_at.result c.laws.ensures c.requires
+    (subst (λ row. c.args.known < length row) is c.if-known-count.false) (rw is at c.object_at.ensures)
+
+pub returns-clause-placed : goal.returns-clause-placed
+returns-clause-placed c = c.laws-2.ensures.lawful.map.placed _ c.object_at.result c.object_at.ensures

@@ -1,0 +1,129 @@
+//! Objects that are read whole, one after the other. Most are small and their entries were pushed in the same step, so that
+//! a step spends its time here.
+ghost use Rattle.std.specs.Prelude.{◌≡◌, ℕ, ◌+◌, ◌*◌, ◌<◌, ◌≤◌, ◌++◌, ◌∷◌, [], List, length, true, IfSome, Some};
+ghost use Rattle.words.specs.declared.limits.TheConstants.{MAX_PAGES, PAGE_BYTES, PAGE_WORDS};
+ghost use Rattle.words.specs.Layout.{page_of};
+ghost use Rattle.block_map.specs.Objects.{IsPlaced};
+ghost use Rattle.block_map.specs.FoundIn.{found_in, IsLawful};
+ghost use Rattle.marker.specs.Marking.{with_current, word_address};
+ghost use Rattle.marker.specs.Entries.{IsSpent, IsOnTop, AreUnreadFrom, ReadsNext, Takes};
+
+use crate::entry::Entry;
+use crate::marker::Marker;
+use block_map::{BlockMap, Found};
+use pages::Reader;
+use words::limits::{PAGE_BYTES, WORD_BYTES};
+
+// Whether the words of an object are at most so many, and stand on one page.
+#[inline]
+fn is_whole(found: Found, most: u64) -> bool
+    ensures most { result ≡ true → found.len ≤ most }
+    ensures one_page { result ≡ true → (i : ℕ) → 0 ≤ i → i < 0 + found.len → page_of (word_address found i) ≡ page_of (word_address found 0) }
+{
+    let on_page = (PAGE_BYTES - found.base % PAGE_BYTES) / WORD_BYTES;
+    u64::from(found.len) <= most.min(on_page)
+}
+
+impl Marker {
+    // The object of the entry on top of the stack, unless that entry's number is below `known`.
+    #[inline]
+    fn top(&self, map: &BlockMap, known: usize) -> Option<Found>
+        requires { AreUnreadFrom (found_in map.now) self.now known self.now.stack }
+        ensures top { IfSome result (λ f. IsOnTop (found_in map.now) self.now f) }
+        ensures placed { IfSome result (λ f. IsPlaced (length map.now) f) }
+        ensures known { IfSome result (λ f. known < length self.now.stack) }
+    {
+        let waiting = self.waiting();
+        let count = waiting.len();
+        if known >= count {
+            return None;
+        }
+        self.laws();
+        map.laws();
+        Some(map.object_at(waiting[count - 1].base))
+    }
+
+    // Takes the entry on top off the stack.
+    #[inline]
+    fn drop_top(&mut self)
+        ensures marks { self.new.marks ≡ self.old.marks }
+        ensures dirty { self.new.dirty ≡ self.old.dirty }
+        ensures carried { self.new.carried ≡ self.old.carried }
+        ensures current { self.new.current ≡ self.old.current }
+        ensures stack { (below : List Entry) (e : Entry) → self.old.stack ≡ below ++ e ∷ [] → self.new.stack ≡ below }
+    {
+        self.stack.pop();
+    }
+
+    // Makes the entry that is being read another one.
+    #[inline]
+    fn set_current(&mut self, entry: Entry)
+        ensures { self.new ≡ with_current self.old entry }
+    {
+        self.current = Some(entry);
+    }
+
+    // Reads all words of the object of the entry on top of the stack, where the entry that is being read has none left. It
+    // is the one that is being read then, and has none left either.
+    #[inline]
+    fn read_whole(&mut self, map: &BlockMap, heap_bytes: u64, reader: &mut Reader, found: Found)
+        requires pages { length self.old.dirty ≡ length map.now }
+        requires lawful { IsLawful map.now }
+        requires bytes { heap_bytes ≡ PAGE_BYTES * length map.now }
+        requires top { IsOnTop (found_in map.now) self.old found }
+        requires done { (e : Entry) → self.old.current ≡ Some e → IsSpent (found_in map.now) self.old e }
+        requires placed { IsPlaced (length map.now) found × (length map.now ≤ MAX_PAGES) }
+        requires one_page { (i : ℕ) → 0 ≤ i → i < 0 + found.len → page_of (word_address found i) ≡ page_of (word_address found 0) }
+        requires memory { length reader.old.words ≡ PAGE_WORDS * length map.now }
+        ensures read { ReadsNext (found_in map.now) reader.old.words found.len self.old self.new }
+        ensures done { (e : Entry) → self.new.current ≡ Some e → IsSpent (found_in map.now) self.new e }
+        ensures known { (n : ℕ) → AreUnreadFrom (found_in map.now) self.old n self.old.stack → AreUnreadFrom (found_in map.now) self.new n self.new.stack }
+        ensures words { reader.new.words ≡ reader.old.words }
+        ensures reads { reader.new.reads ≡ reader.old.reads + found.len }
+    {
+        self.laws();
+        self.drop_top();
+        self.mark_words(map, heap_bytes, reader, found, 0, u64::from(found.len));
+        self.set_current(Entry {
+            base: found.base,
+            next: found.len,
+        });
+    }
+
+    // Reads objects whole, at most so many words: those of the entries on top of the stack, while these are known to have
+    // words and the next one's can be read at once. The entry that is being read has no word left, before and after. It is
+    // no part of its caller, so that the machine's registers are for this loop alone.
+    #[inline(never)]
+    pub(crate) fn read_wholes(
+        &mut self,
+        map: &BlockMap,
+        heap_bytes: u64,
+        reader: &mut Reader,
+        known: usize,
+        most: u64,
+    ) -> u64
+        requires pages { length self.old.dirty ≡ length map.now }
+        requires bytes { heap_bytes ≡ PAGE_BYTES * length map.now }
+        requires memory { length reader.old.words ≡ PAGE_WORDS * length map.now }
+        requires known { AreUnreadFrom (found_in map.now) self.old known self.old.stack }
+        requires done { (e : Entry) → self.old.current ≡ Some e → IsSpent (found_in map.now) self.old e }
+        ensures takes { Takes (found_in map.now) reader.old.words self.old result self.new }
+        ensures known { AreUnreadFrom (found_in map.now) self.new known self.new.stack }
+        ensures done { (e : Entry) → self.new.current ≡ Some e → IsSpent (found_in map.now) self.new e }
+        ensures most { result ≤ most }
+        ensures words { reader.new.words ≡ reader.old.words }
+        ensures reads { reader.new.reads ≡ reader.old.reads + result }
+    {
+        self.laws();
+        map.laws();
+        let mut read = 0;
+        while let Some(found) = self.top(map, known) {
+            if !is_whole(found, most - read) {
+                return read;
+            }
+            self.read_whole(map, heap_bytes, reader, found);
+            read += u64::from(found.len);
+        }
+        read
+    }
+}
