@@ -152,13 +152,20 @@ fn head(map: &[Page], first: u32) -> Option<Found> {
 #[inline(always)]
 pub fn find(map: &[Page], w: u64) -> Option<Found> {
     let page = w.checked_sub(START)? / 4_096;
-    match map.get(page as usize)? {
-        Page::Free => None,
-        Page::Cut(block) => {
-            let cell = block.cell_of(w)?;
-            is_set(&block.taken, usize::from(cell)).then(|| block.at(page as u32, cell))
-        }
-        Page::Head(pages, kind) => Some(large(page as u32, *pages, *kind)),
+    let state = map.get(page as usize)?;
+    if let Page::Cut(block) = state {
+        let cell = block.cell_of(w)?;
+        return is_set(&block.taken, usize::from(cell)).then(|| block.at(page as u32, cell));
+    }
+    find_large(map, state, page as u32)
+}
+
+// Most words point into cells.
+#[inline(never)]
+fn find_large(map: &[Page], state: &Page, page: u32) -> Option<Found> {
+    match state {
+        Page::Free | Page::Cut(_) => None,
+        Page::Head(pages, kind) => Some(large(page, *pages, *kind)),
         Page::Body(first) => head(map, *first),
     }
 }

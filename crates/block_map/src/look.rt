@@ -45,7 +45,8 @@ impl BlockMap {
         }
     }
 
-    // What `find` answers; large objects lie on consecutive pages, and blocks have the cells of their class.
+    // What `find` answers; large objects lie on consecutive pages, and blocks have the cells of their class. Most words
+    // point into cells, so that a cut page is asked for first.
     #[inline]
     #[tactic(auto, using(crate::proofs::Finding::finding))]
     fn look_up(&self, w: u64) -> Option<Found>
@@ -55,6 +56,20 @@ impl BlockMap {
         let Some(page) = self.page_at(w) else {
             return None;
         };
+        if let Page::Cut(block) = self.page(page) {
+            return find_in_block(page, block, w);
+        }
+        self.look_on(page, w)
+    }
+
+    // The object that a word of a page points into, whatever stands on the page.
+    #[inline(never)]
+    #[tactic(auto, using(crate::proofs::Finding::finding))]
+    fn look_on(&self, page: PageNo, w: u64) -> Option<Found>
+        requires inside { page < length self.now }
+        requires on { IsOnPage page w }
+        ensures { result ≡ found_in self.now w }
+    {
         match self.page(page) {
             Page::Free => None,
             Page::Cut(block) => find_in_block(page, block, w),
