@@ -67,6 +67,7 @@ static void end_with_roots(void)
 static void collect(void)
 {
     if (core_is_marking()) end_with_roots();
+    mpgc_drop_runs();
     GRANTED(mpheap_begin(&mpgc.heap));
     end_with_roots();
 }

@@ -33,6 +33,7 @@ void mpgc_drop_cycle(void) { stage = AT_REST; }
 
 static void begin(void)
 {
+    mpgc_drop_runs();
     GRANTED(mpheap_begin(&mpgc.heap));
     mpgc.is_marking = true;
     mpgc.marked = 0;

@@ -4,7 +4,8 @@
 // bdwgc's gc.h, and may do what it likes. The proofs hold for the program as far as the layer keeps what mpheap.h asks of a caller; the
 // head of each file says which of those sentences it owes, and by which lines it pays. An object could be lost, or memory be broken, by
 //
-//   start.c requests.c pages.c      one heap, its own thread; what is given out is an object, and freed once; what each page holds
+//   start.c requests.c runs.c       one heap, its own thread; what is given out is an object that a collection hasn't seen, once, and
+//   pages.c                         freed once; what each page holds
 //   roots.c                         every word by which the program may still reach an object is a root
 //   protection.c                    told first, then written: the rule of closed pages, which is the heart of the layer
 //   signals.c handlers.c masks.c    a write to a closed page reaches that rule, whatever the program does with its signals
@@ -12,7 +13,7 @@
 //   collect.c cycle.c spare.c       the core's calls in an order that it grants, and nothing owed between two cycles
 //   links.c                         words of the program are cleared in kept objects alone
 //
-// and by nothing in pacing.c, settings.c, debug.c, dump.c and unsupported.c, whose faults are wrong figures, pace or answers.
+// and by nothing in pacing.c, texts.c, settings.c, debug.c, dump.c and unsupported.c, whose faults are wrong figures, pace or answers.
 #ifndef MPGC_LAYER_H
 #define MPGC_LAYER_H
 #define _GNU_SOURCE
@@ -39,6 +40,10 @@
 // What a page was last given to. A fresh one holds no object yet.
 enum page_kind { FRESH, ORDINARY, POINTER_FREE };
 
+// Small objects that one call asked for, and the next of them to be given out.
+enum { RUN_GRANULES = 16, RUN_WORDS = 256, RUN_OBJECTS = 32 };
+struct run { uint64_t next, count, bases[RUN_OBJECTS]; };
+
 // All that the layer knows, in one piece, so that the collector can leave it out of the roots.
 struct layer {
     mpheap heap;
@@ -61,6 +66,7 @@ struct layer {
     volatile uint8_t is_noted[MAX_PAGES];
     _Atomic uint64_t uncollectable[MAX_PAGES * PAGE / GRANULE / 64];  // a bit a granule, at the bases of such objects
     atomic_size_t reserved;            // how many such bits there are, or more
+    struct run runs[2][RUN_GRANULES + 1];  // of each kind, and of each number of granules
     unsigned long cycles, full, faults;
     double longest_cycle_end, longest_full, full_time;  // microseconds
 };
@@ -173,7 +179,14 @@ HIDDEN bool mpgc_collect_a_little(void *unused);
 // settings.c. Where the function lies that may break off a collection, or NULL.
 HIDDEN void *mpgc_stop_func(void);
 
+// runs.c
+HIDDEN bool mpgc_fill_run(struct run *run, size_t granules, enum page_kind kind);
+HIDDEN void mpgc_drop_runs(void);
+
+static inline struct run *mpgc_run_of(size_t granules, enum page_kind kind) { return &mpgc.runs[kind == POINTER_FREE][granules]; }
+
 // requests.c
+HIDDEN void mpgc_free_in(uint64_t base);
 HIDDEN bool mpgc_find(uintptr_t address, uintptr_t *base, size_t *words);
 
 #endif

@@ -5,12 +5,11 @@
 //   "each out parameter points to one number of its own, apart from `heap`"   locals, in each call below
 //   "only words of kept objects may be written"    a program is given bases of objects that a request has just made (clause
 //                                                  IsBaseCall), and keeps them reachable; what it frees it doesn't write again
-//   kinds are as the page's                        mpgc_learn, after each request
+//   kinds are as the page's                        mpgc_learn, after each request that is no run's
 #include "layer.h"
 #include <errno.h>
 #include <stdlib.h>
 #include <string.h>
-#include <wchar.h>
 
 enum { INTO = 0, FREED = 1 };  // registers
 
@@ -28,7 +27,7 @@ static inline uint32_t ask(size_t words, enum page_kind kind, uint64_t *base)
     return status;
 }
 
-static void free_in(uint64_t base)
+void mpgc_free_in(uint64_t base)
 {
     mpgc_call_begins();
     mpheap_set(&mpgc.heap, mpgc.slot, FREED, base);
@@ -44,7 +43,7 @@ static inline uint32_t ask_within(size_t words, enum page_kind kind, uint64_t *b
     if (status != MPHEAP_OK) return status;
     if (LIKELY(mpgc.kind[mpgc_page_of(*base)] == kind && words <= PAGE / WORD)) return MPHEAP_OK;
     if (mpgc_learn(*base, words, kind)) return MPHEAP_OK;
-    free_in(*base);
+    mpgc_free_in(*base);
     return MPHEAP_FULL;
 }
 
@@ -54,12 +53,45 @@ static void *out_of_memory(size_t bytes)
     return GC_oom_fn ? GC_oom_fn(bytes) : NULL;
 }
 
+// The next object of a run, if it has one.
+static inline uint64_t next_of(struct run *run)
+{
+    mpgc_call_begins();
+    uint64_t base = LIKELY(run->next < run->count) ? run->bases[run->next++] : 0;
+    mpgc_call_ends();
+    return base;
+}
+
+static bool is_small(size_t words) { return words <= RUN_GRANULES * GRANULE / WORD; }
+
+static size_t granules_of(size_t words) { return (words + GRANULE / WORD - 1) / (GRANULE / WORD); }
+
+// One object, of a run where it is small; 0 where there is no room.
+static uint64_t take(size_t words, enum page_kind kind)
+{
+    uint64_t base = 0;
+    if (!is_small(words)) return ask_within(words, kind, &base) == MPHEAP_OK ? base : 0;
+    struct run *run = mpgc_run_of(granules_of(words), kind);
+    base = next_of(run);
+    return base == 0 && mpgc_fill_run(run, granules_of(words), kind) ? next_of(run) : base;
+}
+
 __attribute__((noinline)) static void *ask_again(size_t bytes, size_t words, enum page_kind kind)
 {
-    uint64_t base;
     if (mpgc_is_off() || words > MAX_REQUEST_WORDS) return out_of_memory(bytes);
     (void)mpgc_from_here(mpgc_collect_fully, NULL);
-    if (ask_within(words, kind, &base) != MPHEAP_OK) return out_of_memory(bytes);
+    uint64_t base = take(words, kind);
+    if (base == 0) return out_of_memory(bytes);
+    mpgc.since += words;
+    return (void *)base;
+}
+
+// A request that no run answers, or before which there is something to do.
+__attribute__((noinline)) static void *allocate_anew(size_t bytes, size_t words, enum page_kind kind)
+{
+    if (mpgc.since + words >= mpgc.next) (void)mpgc_from_here(mpgc_pace, NULL);
+    uint64_t base = take(words, kind);
+    if (!LIKELY(base != 0)) return ask_again(bytes, words, kind);
     mpgc.since += words;
     return (void *)base;
 }
@@ -67,12 +99,12 @@ __attribute__((noinline)) static void *ask_again(size_t bytes, size_t words, enu
 // Part of the two requests below, each with its kind.
 __attribute__((always_inline)) static inline void *allocate(size_t bytes, enum page_kind kind)
 {
-    uint64_t base;
     mpgc_enter();
     size_t words = bytes > MAX_REQUEST_WORDS * WORD ? MAX_REQUEST_WORDS + 1 : (bytes + extra() + WORD - 1) / WORD;
     if (words == 0) words = 1;
-    if (!LIKELY(mpgc.since + words < mpgc.next)) (void)mpgc_from_here(mpgc_pace, NULL);
-    if (!LIKELY(ask_within(words, kind, &base) == MPHEAP_OK)) return ask_again(bytes, words, kind);
+    if (!LIKELY(is_small(words) && mpgc.since + words < mpgc.next)) return allocate_anew(bytes, words, kind);
+    uint64_t base = next_of(mpgc_run_of(granules_of(words), kind));
+    if (!LIKELY(base != 0)) return allocate_anew(bytes, words, kind);
     mpgc.since += words;
     return (void *)base;
 }
@@ -170,7 +202,7 @@ void GC_free(void *object)
     uintptr_t base = (uintptr_t)object;
     size_t bytes = GC_size(object);
     mpgc_enter();
-    free_in(base);
+    mpgc_free_in(base);
     mpgc.freed += bytes / WORD;
     if (mpgc_is_uncollectable(base)) {
         mpgc_set_uncollectable(base, false);
@@ -205,33 +237,6 @@ void *GC_realloc(void *old, size_t bytes)
     if (bytes > room - extra() || bytes < room / 2) return move(old, room, bytes);
     if (sort_of(base).kind == ORDINARY) memset((char *)old + bytes, 0, room - bytes);
     return old;
-}
-
-static char *copy_text(const char *text, size_t bytes)
-{
-    char *copy = GC_malloc_atomic(bytes + 1);
-    if (!copy) {
-        errno = ENOMEM;
-        return NULL;
-    }
-    memcpy(copy, text, bytes);
-    copy[bytes] = 0;
-    return copy;
-}
-
-char *GC_strdup(const char *text) { return text ? copy_text(text, strlen(text)) : NULL; }
-
-char *GC_strndup(const char *text, size_t most) { return copy_text(text, strnlen(text, most)); }
-
-__attribute__((visibility("default"))) wchar_t *GC_wcsdup(const wchar_t *text)
-{
-    size_t bytes = (wcslen(text) + 1) * sizeof *text;
-    wchar_t *copy = GC_malloc_atomic(bytes);
-    if (copy)
-        memcpy(copy, text, bytes);
-    else
-        errno = ENOMEM;
-    return copy;
 }
 
 size_t GC_get_size_map_at(int bytes)

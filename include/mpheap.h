@@ -9,8 +9,9 @@
  * STATUSES. Each function that answers a uint32_t and is not a figure answers a status (enum mpheap_status). 0 is done. 1 to 99
  * is a refusal of the heap: nothing of it has changed, but that a FULL has swept the pages that were still to be swept. 100 and
  * up is refused before the heap is asked: BAD_NUMBER says that a number names no slot, register or global. Results go through
- * the last parameters, which are written only where the status is 0. Where a call could be refused for several reasons the
- * first of these is told: BAD_NUMBER, NO_SLOT, then in the order in which the call's own comment names them.
+ * the last parameters, which are written only where the status is 0 (the two calls that allocate many say how many came before
+ * a refusal). Where a call could be refused for several reasons the first of these is told: BAD_NUMBER, NO_SLOT, then in the
+ * order in which the call's own comment names them.
  *
  * MEMORY. Only the two opens ask for memory, and only they and mpheap_close touch errno. No call prints, ends the process or
  * calls back.
@@ -27,6 +28,7 @@
 #ifndef MPHEAP_H
 #define MPHEAP_H
 #include <stdbool.h>
+#include <stddef.h>
 #include <stdint.h>
 #include <string.h>
 #ifdef __cplusplus
@@ -137,6 +139,15 @@ uint32_t mpheap_alloc_base(mpheap *heap, uint8_t slot, uint8_t into, uint64_t wo
 
 /* As mpheap_alloc_pointer_free, and *base becomes the base. */
 uint32_t mpheap_alloc_pointer_free_base(mpheap *heap, uint8_t slot, uint8_t into, uint64_t words, uint64_t *base);
+
+/* As mpheap_alloc, up to `most` times in this call: bases[0], bases[1], .. become the bases, and *count how many came. The status is that
+ * of the last of these allocations: 0 if all were done, and else BAD_SIZE or FULL behind *count that were, of which the bases are
+ * written. Each is an allocation of its own: register `into` has the last base alone, so nothing keeps the others from a collection. */
+uint32_t mpheap_alloc_many(mpheap *heap, uint8_t slot, uint8_t into, uint64_t words, uint64_t *bases, size_t most, uint64_t *count);
+
+/* The same of objects whose words the collector never reads. */
+uint32_t mpheap_alloc_pointer_free_many(mpheap *heap, uint8_t slot, uint8_t into, uint64_t words, uint64_t *bases, size_t most,
+                                        uint64_t *count);
 
 /* The object whose base is in register `base` goes, whatever still points into it; links to it are cleared. NO_OBJECT,
  * NOT_BASE. */

@@ -3,10 +3,11 @@
 #include "check.h"
 #include "mpheap.h"
 
-enum { UNTOUCHED = 77, TWO = 1, NUMBER = 2, PLACE = 3, LATER = 4, OTHER = 5 };
+enum { UNTOUCHED = 77, TWO = 1, NUMBER = 2, PLACE = 3, LATER = 4, OTHER = 5, MANY = 10 };
 
 static mpheap heap = MPHEAP_CLOSED;
 static uint8_t me;
+static uint64_t many[MANY];
 
 static uint64_t in(uint8_t from) {
     uint64_t word = UNTOUCHED;
@@ -43,6 +44,9 @@ static void no_mutator_is_there(void) {
     STAYS(MPHEAP_NO_SLOT, mpheap_size(&heap, 0, 0, &word));
     STAYS(MPHEAP_NO_SLOT, mpheap_alloc_base(&heap, 0, 0, 1, &word));
     STAYS(MPHEAP_NO_SLOT, mpheap_alloc_pointer_free_base(&heap, 0, 0, 1, &word));
+    uint64_t count = UNTOUCHED;
+    IS(mpheap_alloc_many(&heap, 0, 0, 1, many, MANY, &count), MPHEAP_NO_SLOT);
+    IS(count, 0);
     IS(mpheap_set(&heap, 0, 0, 1), MPHEAP_NO_SLOT);
     IS(mpheap_copy(&heap, 0, 0, 1), MPHEAP_NO_SLOT);
     IS(mpheap_add(&heap, 0, 0, 1, 1), MPHEAP_NO_SLOT);
@@ -96,6 +100,10 @@ static void numbers_are_out_of_range(void) {
     STAYS(MPHEAP_BAD_NUMBER, mpheap_alloc_base(&heap, me, R, 1, &word));
     STAYS(MPHEAP_BAD_NUMBER, mpheap_alloc_pointer_free_base(&heap, S, 0, 1, &word));
     STAYS(MPHEAP_BAD_NUMBER, mpheap_alloc_pointer_free_base(&heap, me, R, 1, &word));
+    STAYS(MPHEAP_BAD_NUMBER, mpheap_alloc_many(&heap, S, 0, 1, many, MANY, &word));
+    STAYS(MPHEAP_BAD_NUMBER, mpheap_alloc_many(&heap, me, R, 1, many, MANY, &word));
+    STAYS(MPHEAP_BAD_NUMBER, mpheap_alloc_pointer_free_many(&heap, S, 0, 1, many, MANY, &word));
+    STAYS(MPHEAP_BAD_NUMBER, mpheap_alloc_pointer_free_many(&heap, me, R, 1, many, MANY, &word));
     IS(mpheap_detach(&heap, S), MPHEAP_BAD_NUMBER);
     IS(mpheap_set(&heap, S, NUMBER, 5), MPHEAP_BAD_NUMBER);
     IS(mpheap_set(&heap, me, R, 5), MPHEAP_BAD_NUMBER);
@@ -220,6 +228,40 @@ static void sizes_and_room(void) {
     IS(mpheap_free(&heap, me, OTHER), MPHEAP_OK);
 }
 
+/* Eight objects of 200 words fill the four pages, two a page: of ten the ninth is refused, and eight bases are written. */
+static void many_at_once(void) {
+    uint64_t word = UNTOUCHED;
+    for (int k = 0; k < MANY; k++) many[k] = UNTOUCHED;
+    IS(mpheap_set(&heap, me, OTHER, 9), MPHEAP_OK);
+    IS(mpheap_alloc_many(&heap, me, OTHER, 0, many, MANY, &word), MPHEAP_BAD_SIZE);
+    IS(word, 0);
+    IS(in(OTHER), 9);
+    IS(mpheap_alloc_many(&heap, me, OTHER, 200, many, 0, &word), MPHEAP_OK);
+    IS(word, 0);
+    IS(in(OTHER), 9);
+    IS(mpheap_alloc_many(&heap, me, OTHER, 200, many, MANY, &word), MPHEAP_FULL);
+    IS(word, 8);
+    for (int k = 0; k < 8; k++) IS(many[k], MPHEAP_FIRST_ADDRESS + 2048 * k);
+    IS(many[8], UNTOUCHED);
+    IS(in(OTHER), many[7]);
+    IS(mpheap_free_pages(&heap), 0);
+    for (int k = 7; k >= 0; k--) {
+        IS(mpheap_set(&heap, me, OTHER, many[k]), MPHEAP_OK);
+        IS(mpheap_size(&heap, me, OTHER, &word), MPHEAP_OK);
+        IS(word, 256);
+        IS(mpheap_free(&heap, me, OTHER), MPHEAP_OK);
+    }
+    IS(mpheap_alloc_pointer_free_many(&heap, me, OTHER, 2, many, 3, &word), MPHEAP_OK);
+    IS(word, 3);
+    for (int k = 2; k >= 0; k--) {
+        IS(many[k], MPHEAP_FIRST_ADDRESS + 16 * k);
+        IS(mpheap_set(&heap, me, OTHER, many[k]), MPHEAP_OK);
+        IS(mpheap_free(&heap, me, OTHER), MPHEAP_OK);
+    }
+    IS(many[3], MPHEAP_FIRST_ADDRESS + 3 * 2048);
+    IS(mpheap_free_pages(&heap), 4);
+}
+
 static void the_wrong_phase(void) {
     IS(mpheap_is_marking(&heap), 0);
     IS(mpheap_roots(&heap), MPHEAP_WRONG_PHASE);
@@ -317,6 +359,7 @@ int main(void) {
     registers_stack_and_globals();
     objects_come_and_go();
     sizes_and_room();
+    many_at_once();
     the_wrong_phase();
     a_cycle_marks_and_ends();
     a_partial_cycle_keeps_marks();

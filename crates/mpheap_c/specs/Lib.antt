@@ -1,3 +1,4 @@
 pub mod Handle
 pub mod Follows
 pub mod Crossing
+pub mod Many

@@ -13,6 +13,7 @@ mod beside;
 mod cycle;
 mod handle;
 mod linked;
+mod many;
 mod objects;
 mod open;
 mod registers;
