@@ -13,7 +13,7 @@
 //   collect.c cycle.c spare.c       the core's calls in an order that it grants, and nothing owed between two cycles
 //   links.c                         words of the program are cleared in kept objects alone
 //
-// and by nothing in pacing.c, texts.c, settings.c, debug.c, dump.c and unsupported.c, whose faults are wrong figures, pace or answers.
+// and by nothing in pacing.c, aligned.c, texts.c, settings.c, debug.c, dump.c and unsupported.c, whose faults are wrong figures, pace or answers.
 #ifndef MPGC_LAYER_H
 #define MPGC_LAYER_H
 #define _GNU_SOURCE
@@ -40,9 +40,9 @@
 // What a page was last given to. A fresh one holds no object yet.
 enum page_kind { FRESH, ORDINARY, POINTER_FREE };
 
-// Small objects that one call asked for, and the next of them to be given out.
+// Small objects that one call asked for, and where those stand that are still to be given out.
 enum { RUN_GRANULES = 16, RUN_WORDS = 256, RUN_OBJECTS = 32 };
-struct run { uint64_t next, count, bases[RUN_OBJECTS]; };
+struct run { uint64_t *next, *end, bases[RUN_OBJECTS]; };
 
 // All that the layer knows, in one piece, so that the collector can leave it out of the roots.
 struct layer {
@@ -118,11 +118,15 @@ static inline void mpgc_call_begins(void)
     mpgc.is_calling = 1;
     atomic_signal_fence(memory_order_seq_cst);
 }
-static inline void mpgc_call_ends(void)
+static inline bool mpgc_call_leaves_nothing(void)
 {
     atomic_signal_fence(memory_order_seq_cst);
     mpgc.is_calling = 0;
-    if (!LIKELY(!atomic_load_explicit(&mpgc.noted, memory_order_relaxed))) mpgc_tell_noted();
+    return !atomic_load_explicit(&mpgc.noted, memory_order_relaxed);
+}
+static inline void mpgc_call_ends(void)
+{
+    if (!LIKELY(mpgc_call_leaves_nothing())) mpgc_tell_noted();
 }
 
 // One call of the collector, which has to be granted.

@@ -53,60 +53,77 @@ static void *out_of_memory(size_t bytes)
     return GC_oom_fn ? GC_oom_fn(bytes) : NULL;
 }
 
-// The next object of a run, if it has one.
+static size_t words_of(size_t bytes)
+{
+    if (bytes > MAX_REQUEST_WORDS * WORD) return MAX_REQUEST_WORDS + 1;
+    size_t words = (bytes + extra() + WORD - 1) / WORD;
+    return words == 0 ? 1 : words;
+}
+
+static size_t granules_of(size_t words) { return (words + GRANULE / WORD - 1) / (GRANULE / WORD); }
+
+// The next object of a run, or 0. It is asked for under a call, so that no signal handler is given the same one.
 static inline uint64_t next_of(struct run *run)
 {
     mpgc_call_begins();
-    uint64_t base = LIKELY(run->next < run->count) ? run->bases[run->next++] : 0;
+    uint64_t base = run->next != run->end ? *run->next++ : 0;
     mpgc_call_ends();
     return base;
 }
-
-static bool is_small(size_t words) { return words <= RUN_GRANULES * GRANULE / WORD; }
-
-static size_t granules_of(size_t words) { return (words + GRANULE / WORD - 1) / (GRANULE / WORD); }
 
 // One object, of a run where it is small; 0 where there is no room.
 static uint64_t take(size_t words, enum page_kind kind)
 {
     uint64_t base = 0;
-    if (!is_small(words)) return ask_within(words, kind, &base) == MPHEAP_OK ? base : 0;
-    struct run *run = mpgc_run_of(granules_of(words), kind);
+    size_t granules = granules_of(words);
+    if (granules > RUN_GRANULES) return ask_within(words, kind, &base) == MPHEAP_OK ? base : 0;
+    struct run *run = mpgc_run_of(granules, kind);
     base = next_of(run);
-    return base == 0 && mpgc_fill_run(run, granules_of(words), kind) ? next_of(run) : base;
+    return base == 0 && mpgc_fill_run(run, granules, kind) ? next_of(run) : base;
 }
 
-__attribute__((noinline)) static void *ask_again(size_t bytes, size_t words, enum page_kind kind)
+static uint64_t take_again(size_t words, enum page_kind kind)
 {
-    if (mpgc_is_off() || words > MAX_REQUEST_WORDS) return out_of_memory(bytes);
+    if (mpgc_is_off() || words > MAX_REQUEST_WORDS) return 0;
     (void)mpgc_from_here(mpgc_collect_fully, NULL);
+    return take(words, kind);
+}
+
+// Any request, with what there is to do before it.
+__attribute__((noinline)) static void *allocate_anew(size_t bytes, enum page_kind kind)
+{
+    mpgc_enter();
+    size_t words = words_of(bytes);
+    if (mpgc.since + words >= mpgc.next) (void)mpgc_from_here(mpgc_pace, NULL);
     uint64_t base = take(words, kind);
+    if (base == 0) base = take_again(words, kind);
     if (base == 0) return out_of_memory(bytes);
     mpgc.since += words;
     return (void *)base;
 }
 
-// A request that no run answers, or before which there is something to do.
-__attribute__((noinline)) static void *allocate_anew(size_t bytes, size_t words, enum page_kind kind)
+__attribute__((noinline)) static void *tell_noted(uint64_t base)
 {
-    if (mpgc.since + words >= mpgc.next) (void)mpgc_from_here(mpgc_pace, NULL);
-    uint64_t base = take(words, kind);
-    if (!LIKELY(base != 0)) return ask_again(bytes, words, kind);
-    mpgc.since += words;
+    mpgc_tell_noted();
     return (void *)base;
 }
 
-// Part of the two requests below, each with its kind.
+// Part of the two requests below, each with its kind: what next_of does, but so that nothing is kept over a call.
 __attribute__((always_inline)) static inline void *allocate(size_t bytes, enum page_kind kind)
 {
-    mpgc_enter();
-    size_t words = bytes > MAX_REQUEST_WORDS * WORD ? MAX_REQUEST_WORDS + 1 : (bytes + extra() + WORD - 1) / WORD;
-    if (words == 0) words = 1;
-    if (!LIKELY(is_small(words) && mpgc.since + words < mpgc.next)) return allocate_anew(bytes, words, kind);
-    uint64_t base = next_of(mpgc_run_of(granules_of(words), kind));
-    if (!LIKELY(base != 0)) return allocate_anew(bytes, words, kind);
+    if (!LIKELY(mpgc_is_owner && bytes - 1 < RUN_GRANULES * GRANULE - 1)) return allocate_anew(bytes, kind);
+    size_t words = (bytes + extra() + WORD - 1) / WORD;
+    struct run *run = mpgc_run_of(granules_of(words), kind);
+    mpgc_call_begins();
+    uint64_t *next = run->next;
+    if (!LIKELY(next != run->end && mpgc.since + words < mpgc.next)) {
+        mpgc_call_ends();
+        return allocate_anew(bytes, kind);
+    }
+    run->next = next + 1;
     mpgc.since += words;
-    return (void *)base;
+    uint64_t base = *next;
+    return LIKELY(mpgc_call_leaves_nothing()) ? (void *)base : tell_noted(base);
 }
 
 void *GC_malloc(size_t bytes) { return allocate(bytes, ORDINARY); }
@@ -139,27 +156,6 @@ void *GC_malloc_atomic_ignore_off_page(size_t bytes) { return GC_malloc_atomic(b
 void *GC_malloc_stubborn(size_t bytes) { return GC_malloc(bytes); }
 
 void *GC_malloc_many(size_t bytes) { return GC_malloc(bytes); }
-
-// An object of more than half a page begins with a page. Else, inner pointers count, so an aligned address in a larger object will do.
-void *GC_memalign(size_t align, size_t bytes)
-{
-    if (align <= GRANULE) return GC_malloc(bytes);
-    bool divides_pages = PAGE % align == 0, fills_page = align > PAGE / 2 || bytes > PAGE / 2;
-    if (divides_pages && fills_page) return GC_malloc(bytes > PAGE / 2 ? bytes : PAGE / 2 + 1);
-    if (bytes > SIZE_MAX - align) return out_of_memory(bytes);
-    char *object = GC_malloc(bytes + align - 1);
-    size_t past = (uintptr_t)object % align;
-    return mpgc_is_inside((uintptr_t)object) && past != 0 ? object + (align - past) : object;
-}
-
-int GC_posix_memalign(void **result, size_t align, size_t bytes)
-{
-    if (align % sizeof(void *) != 0 || align == 0 || (align & (align - 1)) != 0) return EINVAL;
-    void *object = GC_memalign(align, bytes);
-    if (!object) return ENOMEM;
-    *result = object;
-    return 0;
-}
 
 // The kept object that the address points into.
 bool mpgc_find(uintptr_t address, uintptr_t *base, size_t *words)
