@@ -8,7 +8,7 @@ void *GC_memalign(size_t align, size_t bytes)
     if (align <= GRANULE) return GC_malloc(bytes);
     bool divides_pages = PAGE % align == 0, fills_page = align > PAGE / 2 || bytes > PAGE / 2;
     if (divides_pages && fills_page) return GC_malloc(bytes > PAGE / 2 ? bytes : PAGE / 2 + 1);
-    if (bytes > SIZE_MAX - align) return GC_malloc(bytes);
+    if (bytes > SIZE_MAX - align) return mpgc_out_of_memory(bytes);
     char *object = GC_malloc(bytes + align - 1);
     size_t past = (uintptr_t)object % align;
     return mpgc_is_inside((uintptr_t)object) && past != 0 ? object + (align - past) : object;

@@ -191,6 +191,7 @@ static inline struct run *mpgc_run_of(size_t granules, enum page_kind kind) { re
 
 // requests.c
 HIDDEN void mpgc_free_in(uint64_t base);
+HIDDEN void *mpgc_out_of_memory(size_t bytes);
 HIDDEN bool mpgc_find(uintptr_t address, uintptr_t *base, size_t *words);
 
 #endif

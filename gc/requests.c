@@ -47,7 +47,7 @@ static inline uint32_t ask_within(size_t words, enum page_kind kind, uint64_t *b
     return MPHEAP_FULL;
 }
 
-static void *out_of_memory(size_t bytes)
+void *mpgc_out_of_memory(size_t bytes)
 {
     GC_get_warn_proc()("GC Warning: Out of Memory! Heap size: %lu MiB. Returning NULL!\n", mpgc.size * PAGE >> 20);
     return GC_oom_fn ? GC_oom_fn(bytes) : NULL;
@@ -82,10 +82,13 @@ static uint64_t take(size_t words, enum page_kind kind)
     return base == 0 && mpgc_fill_run(run, granules, kind) ? next_of(run) : base;
 }
 
+// After a full collection, and with all of its pages swept: the core takes pages in a row where they are free, and those that are still to
+// be swept may be the only ones that the heap may use.
 static uint64_t take_again(size_t words, enum page_kind kind)
 {
     if (mpgc_is_off() || words > MAX_REQUEST_WORDS) return 0;
     (void)mpgc_from_here(mpgc_collect_fully, NULL);
+    while (mpgc_sweep_some(MAX_PAGES)) { }
     return take(words, kind);
 }
 
@@ -97,7 +100,7 @@ __attribute__((noinline)) static void *allocate_anew(size_t bytes, enum page_kin
     if (mpgc.since + words >= mpgc.next) (void)mpgc_from_here(mpgc_pace, NULL);
     uint64_t base = take(words, kind);
     if (base == 0) base = take_again(words, kind);
-    if (base == 0) return out_of_memory(bytes);
+    if (base == 0) return mpgc_out_of_memory(bytes);
     mpgc.since += words;
     return (void *)base;
 }
