@@ -134,7 +134,7 @@ one_verdict places pages some few lines verdict verdict' is is' = by_verdicts ve
 
     opens : (among : Places) → IsFit among (heap_after start [])
     opens Classes = opening_is pages some few
-    opens Any = sound_apart (heap_after start []) (opening_is pages some few)
+    opens (Any from) = sound_apart (heap_after start []) (opening_is pages some few)
 
     some_told : (count : ℕ) → IsJudged places pages lines (Legal count) → IsJudged places pages lines NoLines → ⊥
     some_told count x none = let h = x.counted in let k = x.some in let e = ap length none in absurd (omega (arith, h, k, e))
