@@ -3,7 +3,6 @@ use Rattle.std.proofs.Common.{◌≡◌, ◌≢◌, ℕ, ◌+◌, ◌*◌, ◌%�
 use Rattle.std.specs.Prelude.{Option, Some, None, Contains, ◌==◌, ◌&&◌, ◌||◌, not, filter}
 use Rattle.std.proofs.lemmas.Bool.{true≢false, eq-eqb, ne_eqb, eqb-true, leb-true, ltb-true, cases_eq}
 use Rattle.std.proofs.lemmas.List.Folds.{Any-from_list_any, list_any_more}
-use Rattle.words.specs.declared.limits.TheConstants.{FIRST_ADDRESS}
 use Rattle.heap_spec.specs.Layout.{PointsInto}
 use Rattle.heap_spec.specs.Heap.{Heap, Object, Link as HeapLink, PointsIntoObject, without, without_at, names, lies_in, loses_word, is_born, covers, with_cleared}
 use Rattle.heap_spec.specs.Sound.{HaveDistinctBirths}
@@ -97,50 +96,50 @@ module _ (s : Heap) (bases : List ℕ) (holds begins : ℕ → Bool) (left : Tel
   named_along are = named_filter s.objects (without s bases).objects (stays_with holds begins) (λ h. not (names s bases h || lies_in s bases h)) stay_same kept_named are
 
   -- the word at an address that is held
-  module _ (low : (a : ℕ) → holds a ≡ true → FIRST_ADDRESS ≤ a) (a : ℕ) (aligned : a % 8 ≡ 0) (held : holds a ≡ true) where
-    here : (l : Link) (h : HeapLink) → IsNamed s.objects l h → h.address ≡ a → ((word_index l.address == word_index a) && loses_with holds begins l) ≡ ((h.address == a) && names s bases h)
+  module _ (origin : ℕ) (low : (a : ℕ) → holds a ≡ true → origin ≤ a) (a : ℕ) (aligned : a % 8 ≡ 0) (held : holds a ≡ true) where
+    here : (l : Link) (h : HeapLink) → IsNamed s.objects l h → h.address ≡ a → ((word_index origin l.address == word_index origin a) && loses_with holds begins l) ≡ ((h.address == a) && names s bases h)
     here l h n e =
         let at : l.address ≡ a = sym n.address ∙ e in
-        ap (λ b. b && loses_with holds begins l) (eq-eqb (word_index l.address) (word_index a) (ap word_index at))
+        ap (λ b. b && loses_with holds begins l) (eq-eqb (word_index origin l.address) (word_index origin a) (ap (word_index origin) at))
         ∙ ap (λ b. b && not (begins l.base)) (ap holds at ∙ held)
         ∙ ap not (base_names l h n (names s bases h) refl)
         ∙ not_not (names s bases h)
         ∙ sym (ap (λ b. b && names s bases h) (eq-eqb h.address a e))
 
-    unheld : (x : ℕ) (b : Bool) → holds x ≡ b → x % 8 ≡ 0 → x ≢ a → word_index x ≡ word_index a → b ≡ false
+    unheld : (x : ℕ) (b : Bool) → holds x ≡ b → x % 8 ≡ 0 → x ≢ a → word_index origin x ≡ word_index origin a → b ≡ false
     unheld x true is even ne same = let above = low x is in let above' = low a held in absurd (ne (omega arith))
     unheld x false is even ne same = refl
 
-    elsewhere : (l : Link) (h : HeapLink) → IsNamed s.objects l h → h.address ≢ a → ((word_index l.address == word_index a) && loses_with holds begins l) ≡ ((h.address == a) && names s bases h)
+    elsewhere : (l : Link) (h : HeapLink) → IsNamed s.objects l h → h.address ≢ a → ((word_index origin l.address == word_index origin a) && loses_with holds begins l) ≡ ((h.address == a) && names s bases h)
     elsewhere l h n ne =
         ⊎_elim
-        (λ same. ap (λ b. b && loses_with holds begins l) (eq-eqb (word_index l.address) (word_index a) same)
+        (λ same. ap (λ b. b && loses_with holds begins l) (eq-eqb (word_index origin l.address) (word_index origin a) same)
         ∙ ap (λ b. b && not (begins l.base)) (unheld l.address (holds l.address) refl n.aligned (λ e. ne (n.address ∙ e)) same))
-        (λ other. ap (λ b. b && loses_with holds begins l) (ne_eqb (word_index l.address) (word_index a) other))
-        (cases_eq (word_index l.address) (word_index a))
+        (λ other. ap (λ b. b && loses_with holds begins l) (ne_eqb (word_index origin l.address) (word_index origin a) other))
+        (cases_eq (word_index origin l.address) (word_index origin a))
         ∙ sym (ap (λ b. b && names s bases h) (ne_eqb h.address a ne))
 
-    pub word_same : {row : List Link} → AreNamed s.objects row s.links → clears_with holds begins row (word_index a) ≡ loses_word s bases a
-    word_same are = named_any s.objects (λ l. (word_index l.address == word_index a) && loses_with holds begins l) (λ h. (h.address == a) && names s bases h)
+    pub word_same : {row : List Link} → AreNamed s.objects row s.links → clears_with origin holds begins row (word_index origin a) ≡ loses_word s bases a
+    word_same are = named_any s.objects (λ l. (word_index origin l.address == word_index origin a) && loses_with holds begins l) (λ h. (h.address == a) && names s bases h)
         (λ l h n. ⊎_elim (here l h n) (elsewhere l h n) (cases_eq h.address a)) are
 
 -- the words of links, one link after another
-pub clears_none : (holds begins : ℕ → Bool) (words : List ℕ) → ClearsWords holds begins [] words words
-clears_none holds begins words = record { size = refl; words = λ k. refl }
+pub clears_none : (origin : ℕ) (holds begins : ℕ → Bool) (words : List ℕ) → ClearsWords origin holds begins [] words words
+clears_none origin holds begins words = record { size = refl; words = λ k. refl }
 
 cond_or : (a b : Bool) (z w : ℕ) → cond b z (cond a z w) ≡ cond (a || b) z w
 cond_or true true z w = refl
 cond_or true false z w = refl
 cond_or false b z w = refl
 
-pub clears_more : (holds begins : ℕ → Bool) (row : List Link) (i : ℕ) (l d : Link) (words mid words' : List ℕ) → i < length row → l ≡ get_or row i d → ClearsWords holds begins (take i row) words mid
-    → length words' ≡ length mid → ((k : ℕ) → get_or words' k 0 ≡ cond ((word_index l.address == k) && loses_with holds begins l) 0 (get_or mid k 0)) → ClearsWords holds begins (take (i + 1) row) words words'
-clears_more holds begins row i l d words mid words' lt is so size one = record {
+pub clears_more : (origin : ℕ) (holds begins : ℕ → Bool) (row : List Link) (i : ℕ) (l d : Link) (words mid words' : List ℕ) → i < length row → l ≡ get_or row i d → ClearsWords origin holds begins (take i row) words mid
+    → length words' ≡ length mid → ((k : ℕ) → get_or words' k 0 ≡ cond ((word_index origin l.address == k) && loses_with holds begins l) 0 (get_or mid k 0)) → ClearsWords origin holds begins (take (i + 1) row) words words'
+clears_more origin holds begins row i l d words mid words' lt is so size one = record {
   size = size ∙ so.size;
   words = λ k.
       one k
-      ∙ ap (λ w. cond ((word_index l.address == k) && loses_with holds begins l) 0 w) (so.words k)
-      ∙ cond_or (clears_with holds begins (take i row) k) ((word_index l.address == k) && loses_with holds begins l) 0 (get_or words k 0)
-      ∙ ap (λ b. cond b 0 (get_or words k 0)) (ap (λ (x : Link). clears_with holds begins (take i row) k || ((word_index x.address == k) && loses_with holds begins x)) is
-      ∙ sym (list_any_more (λ (x : Link). (word_index x.address == k) && loses_with holds begins x) row i d lt));
+      ∙ ap (λ w. cond ((word_index origin l.address == k) && loses_with holds begins l) 0 w) (so.words k)
+      ∙ cond_or (clears_with origin holds begins (take i row) k) ((word_index origin l.address == k) && loses_with holds begins l) 0 (get_or words k 0)
+      ∙ ap (λ b. cond b 0 (get_or words k 0)) (ap (λ (x : Link). clears_with origin holds begins (take i row) k || ((word_index origin x.address == k) && loses_with holds begins x)) is
+      ∙ sym (list_any_more (λ (x : Link). (word_index origin x.address == k) && loses_with holds begins x) row i d lt));
 }

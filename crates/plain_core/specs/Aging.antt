@@ -11,37 +11,37 @@ use Rattle.plain_core.specs.Listing.{ListsAll}
 use Rattle.plain_core.specs.Reached.{MarksReached}
 
 -- Exactly the objects that were born up to one birth have their flags.
-abbrev pub TellOld : Heap → List Bool → ℕ → Type 0
-TellOld s flags last = (base : ℕ) (o : Object) → HasObject s base o → IsFlagged flags base ↔ (o.birth ≤ last)
+abbrev pub TellOld : ℕ → Heap → List Bool → ℕ → Type 0
+TellOld origin s flags last = (base : ℕ) (o : Object) → HasObject s base o → IsFlagged origin flags base ↔ (o.birth ≤ last)
 
 -- each object of each heap that the core stands for has its flag
 abbrev pub FlagsAll : PlainContents → List Bool → Type 0
-FlagsAll c flags = HasFlags c.pages flags → (s : Heap) → StandsFor c s → (base : ℕ) (o : Object) → HasObject s base o → IsFlagged flags base
+FlagsAll c flags = HasFlags c.pages flags → (s : Heap) → StandsFor c s → (base : ℕ) (o : Object) → HasObject s base o → IsFlagged c.origin flags base
 
 -- The object at the base has no flag, and the flags of all others are as they were.
 pub record FlagUnset (c : PlainContents) (base : ℕ) (old new : List Bool) : Type 0 where
   pub size : length new ≡ length old
-  pub unset : (s : Heap) → StandsFor c s → (o : Object) → HasObject s base o → IsFlagged new base → ⊥
-  pub others : (s : Heap) → StandsFor c s → (o : Object) → HasObject s base o → (at : ℕ) (p : Object) → HasObject s at p → at ≢ base → IsFlagged new at ↔ IsFlagged old at
+  pub unset : (s : Heap) → StandsFor c s → (o : Object) → HasObject s base o → IsFlagged c.origin new base → ⊥
+  pub others : (s : Heap) → StandsFor c s → (o : Object) → HasObject s base o → (at : ℕ) (p : Object) → HasObject s at p → at ≢ base → IsFlagged c.origin new at ↔ IsFlagged c.origin old at
 
 -- Where flags tell the old objects of a heap, these tell what roots or the old objects lead to.
 abbrev pub FlagsClosure : PlainContents → List Bool → List Bool → Type 0
-FlagsClosure c aged flags = HasFlags c.pages flags → (s : Heap) → StandsFor c s → (last : ℕ) → TellOld s aged last
-    → (base : ℕ) (o : Object) → HasObject s base o → IsFlagged flags base ↔ Closure s (λ birth. birth ≤ last) base
+FlagsClosure c aged flags = HasFlags c.pages flags → (s : Heap) → StandsFor c s → (last : ℕ) → TellOld c.origin s aged last
+    → (base : ℕ) (o : Object) → HasObject s base o → IsFlagged c.origin flags base ↔ Closure s (λ birth. birth ≤ last) base
 
 -- These are the bases of the objects of the row that have their flags.
-pub record AreFlaggedBases (row : List Extent) (flags : List Bool) (bases : List ℕ) : Type 0 where
-  pub all : (e : Extent) → Contains row e → IsFlagged flags e.base → Contains bases e.base
-  pub only : (base : ℕ) → Contains bases base → (e : Extent) × Contains row e × (e.base ≡ base) × IsFlagged flags e.base
+pub record AreFlaggedBases (origin : ℕ) (row : List Extent) (flags : List Bool) (bases : List ℕ) : Type 0 where
+  pub all : (e : Extent) → Contains row e → IsFlagged origin flags e.base → Contains bases e.base
+  pub only : (base : ℕ) → Contains bases base → (e : Extent) × Contains row e × (e.base ≡ base) × IsFlagged origin flags e.base
 
 -- Those of some objects of a row that have their flags are listed.
-pub record ListsFlagged (row some : List Extent) (flags : List Bool) (old new : Listing) : Type 0 where
+pub record ListsFlagged (origin : ℕ) (row some : List Extent) (flags : List Bool) (old new : Listing) : Type 0 where
   pub bases : List ℕ
-  pub are : AreFlaggedBases some flags bases
+  pub are : AreFlaggedBases origin some flags bases
   pub lists : ListsAll row bases old new
 
 -- A row marks exactly the objects that the roots or the objects with flags lead to.
-pub record MarksClosure (roots words : List ℕ) (row : List Extent) (flags marks : List Bool) : Type 0 where
+pub record MarksClosure (origin : ℕ) (roots words : List ℕ) (row : List Extent) (flags marks : List Bool) : Type 0 where
   pub bases : List ℕ
-  pub are : AreFlaggedBases row flags bases
-  pub marks_all : MarksReached (roots ++ bases) words row marks
+  pub are : AreFlaggedBases origin row flags bases
+  pub marks_all : MarksReached origin (roots ++ bases) words row marks

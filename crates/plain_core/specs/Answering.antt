@@ -1,6 +1,7 @@
 -- What calls of mutators may be answered, before they are made.
 use Rattle.std.specs.Prelude.{◌≡◌, ◌<◌, ℕ, length, slice_index}
 use Rattle.words.specs.declared.class.Kind.{Kind}
+use Rattle.words.specs.declared.limits.TheConstants.{FIRST_ADDRESS}
 use Rattle.heap_spec.specs.declared.call.Call.{Call}
 use Rattle.heap_spec.specs.declared.call.Call.TheVariants.{Alloc}
 use Rattle.heap_spec.specs.declared.event.Event.{Event}
@@ -62,7 +63,7 @@ BirthsAreAlone = (s s' : Heap) (slot into words base : ℕ) (kind : Kind) (o : O
 
 -- The object lies in the heap, and shares no byte with those that are there.
 pub record MayBePut (c : PlainContents) (e : Extent) : Type 0 where
-  pub in_heap : IsInHeap c.pages e
+  pub in_heap : IsInHeap c.origin c.pages e
   pub fresh : IsFresh c.objects e
 
 -- the heap with this object more, whose words are 0, and with its base in a register
@@ -85,9 +86,9 @@ GrantHasPlaces c call reply = (into words : ℕ) (kind : Kind) → call ≡ Allo
 abbrev pub IsAllocatedAt : PlainContents → ℕ → ℕ → ℕ → Kind → ℕ → PlainContents → Type 0
 IsAllocatedAt old slot into words kind base new = (s : Heap) → StandsFor old s → (s' : Heap) × Calls s slot (Alloc into words kind) Done s' × IsBornAt s base s' × StandsFor new s'
 
--- no heap that the core stands for grants the request at the base
+-- no heap that the core stands for grants the request at the base, if it begins where heaps with size classes do
 abbrev pub CantAllocateAt : PlainContents → ℕ → ℕ → ℕ → Kind → ℕ → Type 0
-CantAllocateAt c slot into words kind base = (s : Heap) → StandsFor c s → (s' : Heap) → Calls s slot (Alloc into words kind) Done s' → IsBornAt s base s' → ⊥
+CantAllocateAt c slot into words kind base = c.origin ≡ FIRST_ADDRESS → (s : Heap) → StandsFor c s → (s' : Heap) → Calls s slot (Alloc into words kind) Done s' → IsBornAt s base s' → ⊥
 
 -- an object of so many words was born at the base
 abbrev pub IsBornOf : Heap → ℕ → ℕ → Heap → Type 0
@@ -95,16 +96,16 @@ IsBornOf s base n s' = (born : IsBornAt s base s') × (length born.object.words 
 
 -- a request was granted by an object of so many words at the base, which may lie anywhere
 abbrev pub IsAllocatedAnywhere : PlainContents → ℕ → ℕ → ℕ → Kind → ℕ → ℕ → PlainContents → Type 0
-IsAllocatedAnywhere old slot into words kind base n new = (s : Heap) → StandsFor old s → (s' : Heap) × Requests s slot into words kind Done s' × IsBornOf s base n s' × StandsFor new s'
+IsAllocatedAnywhere old slot into words kind base n new = (s : Heap) → StandsFor old s → (s' : Heap) × Requests s old.origin slot into words kind Done s' × IsBornOf s base n s' × StandsFor new s'
 
 -- no heap that the core stands for grants the request so, wherever objects may lie
 abbrev pub CantAllocateAnywhere : PlainContents → ℕ → ℕ → ℕ → Kind → ℕ → ℕ → Type 0
-CantAllocateAnywhere c slot into words kind base n = (s : Heap) → StandsFor c s → (s' : Heap) → Requests s slot into words kind Done s' → IsBornOf s base n s' → ⊥
+CantAllocateAnywhere c slot into words kind base n = (s : Heap) → StandsFor c s → (s' : Heap) → Requests s c.origin slot into words kind Done s' → IsBornOf s base n s' → ⊥
 
 -- a request may be refused so, wherever objects may lie
 abbrev pub MayRefuse : PlainContents → ℕ → ℕ → Reply → Type 0
-MayRefuse c slot words reply = (into : ℕ) (kind : Kind) (s : Heap) → StandsFor c s → Requests s slot into words kind reply s
+MayRefuse c slot words reply = (into : ℕ) (kind : Kind) (s : Heap) → StandsFor c s → Requests s c.origin slot into words kind reply s
 
 -- no heap that the core stands for refuses the request so
 abbrev pub CantRefuse : PlainContents → ℕ → ℕ → Reply → Type 0
-CantRefuse c slot words reply = (into : ℕ) (kind : Kind) (s s' : Heap) → StandsFor c s → (reply ≡ Done → ⊥) → Requests s slot into words kind reply s' → ⊥
+CantRefuse c slot words reply = (into : ℕ) (kind : Kind) (s s' : Heap) → StandsFor c s → (reply ≡ Done → ⊥) → Requests s c.origin slot into words kind reply s' → ⊥

@@ -5,16 +5,16 @@ use Rattle.plain_core.specs.Reached.{PointsIntoNth, links_of}
 use Rattle.plain_core.specs.Aging.{AreFlaggedBases}
 
 -- What leads to the object at one place of the row: a root word, or a word of an object that is listed before a place of the list.
-pub data IsLedTo (roots words : List ℕ) (row : List Extent) (order : List ℕ) (place i : ℕ) : Type 0 where
-  by_root : {w : ℕ} → Contains roots w → PointsIntoNth row w i → IsLedTo roots words row order place i
-  by_earlier : {before from w : ℕ} {e : Extent} → before < place → slice_get order before ≡ Some from → slice_get row from ≡ Some e → Contains (links_of words e) w → PointsIntoNth row w i → IsLedTo roots words row order place i
+pub data IsLedTo (origin : ℕ) (roots words : List ℕ) (row : List Extent) (order : List ℕ) (place i : ℕ) : Type 0 where
+  by_root : {w : ℕ} → Contains roots w → PointsIntoNth row w i → IsLedTo origin roots words row order place i
+  by_earlier : {before from w : ℕ} {e : Extent} → before < place → slice_get order before ≡ Some from → slice_get row from ≡ Some e → Contains (links_of origin words e) w → PointsIntoNth row w i → IsLedTo origin roots words row order place i
 
 -- A root word leads to each object on the list, or else a word of an object that is listed before it.
-pub record IsDiscovered (roots words : List ℕ) (row : List Extent) (order : List ℕ) : Type 0 where
-  pub led : (place i : ℕ) → slice_get order place ≡ Some i → IsLedTo roots words row order place i
+pub record IsDiscovered (origin : ℕ) (roots words : List ℕ) (row : List Extent) (order : List ℕ) : Type 0 where
+  pub led : (place i : ℕ) → slice_get order place ≡ Some i → IsLedTo origin roots words row order place i
 
 -- The same where the objects with flags are listed too.
-pub record DiscoversClosure (roots words : List ℕ) (row : List Extent) (flags : List Bool) (order : List ℕ) : Type 0 where
+pub record DiscoversClosure (origin : ℕ) (roots words : List ℕ) (row : List Extent) (flags : List Bool) (order : List ℕ) : Type 0 where
   pub bases : List ℕ
-  pub are : AreFlaggedBases row flags bases
-  pub discovered : IsDiscovered (roots ++ bases) words row order
+  pub are : AreFlaggedBases origin row flags bases
+  pub discovered : IsDiscovered origin (roots ++ bases) words row order

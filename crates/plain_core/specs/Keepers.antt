@@ -39,18 +39,18 @@ TellsKeeper s base None = Reached s base → ⊥
 TellsKeeper s base (Some keeper) = IsKeptBy s base keeper
 
 -- The word of one index in the row's object at another place points into the object at its own.
-pub record IsLinkInto (words : List ℕ) (row : List Extent) (own : ℕ) (e : Extent) (position from index : ℕ) : Type 0 where
+pub record IsLinkInto (origin : ℕ) (words : List ℕ) (row : List Extent) (own : ℕ) (e : Extent) (position from index : ℕ) : Type 0 where
   pub holder : Extent
   pub there : slice_get row position ≡ Some holder
   pub is_base : holder.base ≡ from
   pub other : position ≡ own → ⊥
-  pub into : IsInto (links_of words holder) index e.base e.length
+  pub into : IsInto (links_of origin words holder) index e.base e.length
 
 -- it keeps the object by such a word
-abbrev pub IsLinkAt : List ℕ → List Extent → ℕ → Extent → ℕ → Keeper → Type 0
-IsLinkAt words row own e position (ByRoot root) = ⊥
-IsLinkAt words row own e position (ByWord from index) = IsLinkInto words row own e position from index
+abbrev pub IsLinkAt : ℕ → List ℕ → List Extent → ℕ → Extent → ℕ → Keeper → Type 0
+IsLinkAt origin words row own e position (ByRoot root) = ⊥
+IsLinkAt origin words row own e position (ByWord from index) = IsLinkInto origin words row own e position from index
 
 -- the object at this place is the object itself, or none of its words points into it
-abbrev pub HasNoLink : List ℕ → List Extent → ℕ → Extent → ℕ → Type 0
-HasNoLink words row own e position = (f : Extent) → slice_get row position ≡ Some f → (position ≡ own → ⊥) → AreNotInto (links_of words f) e.base e.length
+abbrev pub HasNoLink : ℕ → List ℕ → List Extent → ℕ → Extent → ℕ → Type 0
+HasNoLink origin words row own e position = (f : Extent) → slice_get row position ≡ Some f → (position ≡ own → ⊥) → AreNotInto (links_of origin words f) e.base e.length

@@ -1,23 +1,23 @@
 -- Which object each word of the heap belongs to.
 use Rattle.std.specs.Prelude.{◌≡◌, ℕ, ◌%◌, ◌≤◌, ◌<◌, List, All, length, slice_index}
-use Rattle.words.specs.declared.limits.TheConstants.{FIRST_ADDRESS, WORD_BYTES}
+use Rattle.words.specs.declared.limits.TheConstants.{WORD_BYTES}
+use Rattle.links.specs.Leaving.{word_index}
 use Rattle.plain_core.specs.declared.extent.Extent.{Extent}
-use Rattle.plain_core.specs.Standing.{word_index}
 use Rattle.plain_core.specs.Reached.{PointsIntoNth}
 
 -- Each word of an object has the index of that object in the row, and each object has a word. What the other words have is
 -- open.
-pub record AreOwners (row : List Extent) (owners : List ℕ) : Type 0 where
+pub record AreOwners (origin : ℕ) (row : List Extent) (owners : List ℕ) : Type 0 where
   pub some : All (λ e. 0 < e.length) row
-  pub start : (w i : ℕ) → PointsIntoNth row w i → FIRST_ADDRESS ≤ w
-  pub within : (w i : ℕ) → PointsIntoNth row w i → word_index w < length owners
-  pub owned : (w i : ℕ) → PointsIntoNth row w i → slice_index owners (word_index w) ≡ i
+  pub start : (w i : ℕ) → PointsIntoNth row w i → origin ≤ w
+  pub within : (w i : ℕ) → PointsIntoNth row w i → word_index origin w < length owners
+  pub owned : (w i : ℕ) → PointsIntoNth row w i → slice_index owners (word_index origin w) ≡ i
 
 -- The same, but the words of the object of one index in the row have anything.
-pub record AreOwnersBut (index : ℕ) (row : List Extent) (owners : List ℕ) : Type 0 where
-  pub owned : (w i : ℕ) → (i ≡ index → ⊥) → PointsIntoNth row w i → slice_index owners (word_index w) ≡ i
+pub record AreOwnersBut (origin index : ℕ) (row : List Extent) (owners : List ℕ) : Type 0 where
+  pub owned : (w i : ℕ) → (i ≡ index → ⊥) → PointsIntoNth row w i → slice_index owners (word_index origin w) ≡ i
 
 -- Objects are found by what is written down of their words, also by the first bytes of words, since each begins at one.
-pub record AreFound (row : List Extent) (owners : List ℕ) : Type 0 where
-  pub owned : AreOwners row owners
+pub record AreFound (origin : ℕ) (row : List Extent) (owners : List ℕ) : Type 0 where
+  pub owned : AreOwners origin row owners
   pub aligned : All (λ e. e.base % WORD_BYTES ≡ 0) row

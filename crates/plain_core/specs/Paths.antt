@@ -35,19 +35,19 @@ pub record IsRootStep (roots : RootSet) (row : List Extent) (own : ℕ) (step : 
   pub has : RootsHave roots root object.base object.length
 
 -- A step is from a word of the row's object at one place, to that at another.
-pub record IsWordStep (words : List ℕ) (row : List Extent) (position own : ℕ) (step : PathStep) : Type 0 where
+pub record IsWordStep (origin : ℕ) (words : List ℕ) (row : List Extent) (position own : ℕ) (step : PathStep) : Type 0 where
   pub object : Extent
   pub there : slice_get row own ≡ Some object
   pub to : step.base ≡ object.base
   pub from : ℕ
   pub index : ℕ
   pub by : step.keeper ≡ ByWord from index
-  pub into : IsLinkInto words row own object position from index
+  pub into : IsLinkInto origin words row own object position from index
 
 -- Steps lead from a root to the row's object at a place.
-pub data IsRowPath (roots : RootSet) (words : List ℕ) (row : List Extent) : List PathStep → ℕ → Type 0 where
-  row_root : {own : ℕ} (step : PathStep) → IsRootStep roots row own step → IsRowPath roots words row (step ∷ []) own
-  row_word : (path : List PathStep) {position own : ℕ} (step : PathStep) → IsRowPath roots words row path position → IsWordStep words row position own step → IsRowPath roots words row (path ++ step ∷ []) own
+pub data IsRowPath (origin : ℕ) (roots : RootSet) (words : List ℕ) (row : List Extent) : List PathStep → ℕ → Type 0 where
+  row_root : {own : ℕ} (step : PathStep) → IsRootStep roots row own step → IsRowPath origin roots words row (step ∷ []) own
+  row_word : (path : List PathStep) {position own : ℕ} (step : PathStep) → IsRowPath origin roots words row path position → IsWordStep origin words row position own step → IsRowPath origin roots words row (path ++ step ∷ []) own
 
 -- A path that is found from its end goes on by a step from a root to the object at a place of the list.
 pub record EndsAtRoot (roots : RootSet) (row : List Extent) (order : List ℕ) (place : ℕ) (old new : List PathStep) : Type 0 where
@@ -58,7 +58,7 @@ pub record EndsAtRoot (roots : RootSet) (row : List Extent) (order : List ℕ) (
   pub is_step : IsRootStep roots row own step
 
 -- The same by a step from a word of an object that is listed before.
-pub record GoesBack (words : List ℕ) (row : List Extent) (order : List ℕ) (place : ℕ) (old new : List PathStep) (before : ℕ) : Type 0 where
+pub record GoesBack (origin : ℕ) (words : List ℕ) (row : List Extent) (order : List ℕ) (place : ℕ) (old new : List PathStep) (before : ℕ) : Type 0 where
   pub own : ℕ
   pub at : slice_get order place ≡ Some own
   pub earlier : before < place
@@ -66,9 +66,9 @@ pub record GoesBack (words : List ℕ) (row : List Extent) (order : List ℕ) (p
   pub before_at : slice_get order before ≡ Some position
   pub step : PathStep
   pub put : new ≡ old ++ step ∷ []
-  pub is_step : IsWordStep words row position own step
+  pub is_step : IsWordStep origin words row position own step
 
 -- The path ends at a root, or goes back to an object that is listed before.
-abbrev pub StepsBack : RootSet → List ℕ → List Extent → List ℕ → ℕ → List PathStep → List PathStep → Option ℕ → Type 0
-StepsBack roots words row order place old new None = EndsAtRoot roots row order place old new
-StepsBack roots words row order place old new (Some before) = GoesBack words row order place old new before
+abbrev pub StepsBack : ℕ → RootSet → List ℕ → List Extent → List ℕ → ℕ → List PathStep → List PathStep → Option ℕ → Type 0
+StepsBack origin roots words row order place old new None = EndsAtRoot roots row order place old new
+StepsBack origin roots words row order place old new (Some before) = GoesBack origin words row order place old new before

@@ -1,28 +1,34 @@
 -- What a plain core contains.
-use Rattle.std.specs.Prelude.{◌≡◌, ℕ, ◌+◌, ◌-◌, ◌*◌, ◌/◌, ◌%◌, ◌<◌, ◌≤◌, ◌⊎◌, nat_eq, List, length, map, All, Contains}
+use Rattle.std.specs.Prelude.{◌≡◌, ℕ, ◌+◌, ◌*◌, ◌%◌, ◌<◌, ◌≤◌, ◌⊎◌, nat_eq, List, length, map, All, Contains}
 use Rattle.std.specs.List.{IsDistinct}
-use Rattle.words.specs.declared.limits.TheConstants.{WORD_BYTES, PAGE_WORDS, FIRST_ADDRESS, MAX_PAGES, MAX_SMALL_WORDS}
+use Rattle.words.specs.declared.limits.TheConstants.{WORD_BYTES, PAGE_WORDS, PAGE_BYTES, FIRST_ADDRESS, MAX_PAGES, MAX_SMALL_WORDS}
 use Rattle.words.specs.Layout.{page_start}
-use Rattle.heap_spec.specs.Layout.{heap_end, PointsInto}
+use Rattle.heap_spec.specs.Layout.{word_end, PointsInto}
 use Rattle.roots.specs.Roots.{RootSet}
 use Rattle.links.specs.declared.row.Link.{Link}
+use Rattle.links.specs.Leaving.{word_index}
 use Rattle.plain_core.specs.declared.extent.Extent.{Extent}
 
--- A plain core: how many pages it has, their words in the order of their addresses, where the objects lie, the roots, and the
--- links. A link names an object by its base.
+-- A plain core: the address of its first word, how many pages it has, their words in the order of their addresses, where the
+-- objects lie, the roots, and the links. A link names an object by its base.
 pub record PlainContents : Type 0 where
+  pub origin : ℕ
   pub pages : ℕ
   pub words : List ℕ
   pub objects : List Extent
   pub roots : RootSet
   pub links : List Link
 
+-- the address past the last byte of a heap of so many pages that begins at `origin`
+abbrev pub end_of : ℕ → ℕ → ℕ
+end_of origin pages = origin + PAGE_BYTES * pages
+
 -- the object lies in the heap, and begins at a word
-pub record IsInHeap (pages : ℕ) (e : Extent) : Type 0 where
-  pub start : FIRST_ADDRESS ≤ e.base
+pub record IsInHeap (origin pages : ℕ) (e : Extent) : Type 0 where
+  pub start : origin ≤ e.base
   pub aligned : e.base % WORD_BYTES ≡ 0
   pub some : 0 < e.length
-  pub ends : e.base + WORD_BYTES * e.length ≤ heap_end pages
+  pub ends : e.base + WORD_BYTES * e.length ≤ end_of origin pages
 
 -- a cell of its page
 pub record IsCellExtent (e : Extent) : Type 0 where
@@ -45,18 +51,20 @@ abbrev pub IsPlacedExtent : Extent → Type 0
 IsPlacedExtent e = IsCellExtent e ⊎ HasPages e
 
 -- the number of the word at which an object begins
-abbrev pub first_word : Extent → ℕ
-first_word e = (e.base - FIRST_ADDRESS) / WORD_BYTES
+abbrev pub first_word : ℕ → Extent → ℕ
+first_word origin e = word_index origin e.base
 
--- What is true of every plain core, wherever its objects were placed. No address points into two objects, and no two begin at
+-- What is true of every plain core, wherever it begins and its objects were placed. No address points into two objects, and no two begin at
 -- one word, so that there are never more objects than words.
 pub record IsLaidOut (c : PlainContents) : Type 0 where
   pub pages : c.pages ≤ MAX_PAGES
+  pub starts : c.origin % WORD_BYTES ≡ 0
+  pub fits : end_of c.origin c.pages < word_end
   pub words : length c.words ≡ PAGE_WORDS * c.pages
-  pub in_heap : All (IsInHeap c.pages) c.objects
-  pub distinct : IsDistinct nat_eq (map first_word c.objects)
+  pub in_heap : All (IsInHeap c.origin c.pages) c.objects
+  pub distinct : IsDistinct nat_eq (map (first_word c.origin) c.objects)
   pub apart : (e f : Extent) (w : ℕ) → Contains c.objects e → Contains c.objects f → PointsInto w e.base e.length → PointsInto w f.base f.length → e ≡ f
 
--- each object lies where size classes place it
+-- the heap begins where those with size classes do, and each object lies where these place it
 abbrev pub ArePlaced : PlainContents → Type 0
-ArePlaced c = All IsPlacedExtent c.objects
+ArePlaced c = (c.origin ≡ FIRST_ADDRESS) × All IsPlacedExtent c.objects

@@ -20,15 +20,15 @@ read_words Normal words = words
 read_words PointerFree words = []
 
 -- the words that are read of an object
-abbrev pub links_of : List ℕ → Extent → List ℕ
-links_of words e = read_words e.kind (words_at words e)
+abbrev pub links_of : ℕ → List ℕ → Extent → List ℕ
+links_of origin words e = read_words e.kind (words_at origin words e)
 
 -- The reached objects: those that root words point into, and with each of them those that its words point into.
-pub data IsReachedNth (roots words : List ℕ) (row : List Extent) : ℕ → Type 0 where
-  by_root : {w i : ℕ} → Contains roots w → PointsIntoNth row w i → IsReachedNth roots words row i
-  by_link : {i w j : ℕ} {e : Extent} → IsReachedNth roots words row i → slice_get row i ≡ Some e → Contains (links_of words e) w → PointsIntoNth row w j → IsReachedNth roots words row j
+pub data IsReachedNth (origin : ℕ) (roots words : List ℕ) (row : List Extent) : ℕ → Type 0 where
+  by_root : {w i : ℕ} → Contains roots w → PointsIntoNth row w i → IsReachedNth origin roots words row i
+  by_link : {i w j : ℕ} {e : Extent} → IsReachedNth origin roots words row i → slice_get row i ≡ Some e → Contains (links_of origin words e) w → PointsIntoNth row w j → IsReachedNth origin roots words row j
 
 -- A row marks exactly the reached objects.
-pub record MarksReached (roots words : List ℕ) (row : List Extent) (marks : List Bool) : Type 0 where
-  pub marked : (i : ℕ) → IsReachedNth roots words row i → slice_index_or marks i false ≡ true
-  pub reached : (i : ℕ) → slice_index_or marks i false ≡ true → IsReachedNth roots words row i
+pub record MarksReached (origin : ℕ) (roots words : List ℕ) (row : List Extent) (marks : List Bool) : Type 0 where
+  pub marked : (i : ℕ) → IsReachedNth origin roots words row i → slice_index_or marks i false ≡ true
+  pub reached : (i : ℕ) → slice_index_or marks i false ≡ true → IsReachedNth origin roots words row i

@@ -40,7 +40,7 @@ TellsUncollected c bases wrong = (s : Heap) → StandsFor c s → TellsLowest (I
 
 -- the same where only what has no flag has to go
 abbrev pub TellsUnforgotten : PlainContents → List Bool → List ℕ → Option Wrong → Type 0
-TellsUnforgotten c flags bases wrong = (s : Heap) → StandsFor c s → TellsLowest (IsWrong s (λ base o. Reached s base) (λ base o. IsFlagged flags base → ⊥) bases) wrong
+TellsUnforgotten c flags bases wrong = (s : Heap) → StandsFor c s → TellsLowest (IsWrong s (λ base o. Reached s base) (λ base o. IsFlagged c.origin flags base → ⊥) bases) wrong
 
 -- the one with the lower base
 abbrev pub IsLowerThan : Wrong → Option Wrong → Wrong → Type 0
@@ -74,5 +74,5 @@ IsLeftAt row marks stays i (HasToStay base) = ⊥
 IsLeftAt row marks stays i (HasToGo base) = (e : Extent) × (slice_get row i ≡ Some e) × (e.base ≡ base) × (slice_index_or marks i false ≡ false) × (slice_index_or stays i false ≡ true)
 
 -- exactly the objects that have no flag are not marked
-abbrev pub MarksFlagged : List Extent → List Bool → List Bool → Type 0
-MarksFlagged row flags marks = (i : ℕ) (e : Extent) → slice_get row i ≡ Some e → (slice_index_or marks i false ≡ false) ↔ (IsFlagged flags e.base → ⊥)
+abbrev pub MarksFlagged : ℕ → List Extent → List Bool → List Bool → Type 0
+MarksFlagged origin row flags marks = (i : ℕ) (e : Extent) → slice_get row i ≡ Some e → (slice_index_or marks i false ≡ false) ↔ (IsFlagged origin flags e.base → ⊥)

@@ -9,12 +9,13 @@ use crate::owners::owner_of;
 // Unsets the flags of the objects with these bases, if they are distinct objects that are not marked.
 pub(crate) fn unset_flags(
     bases: &[u64],
+    origin: u64,
     objects: &[Extent],
     owners: &[u64],
     marks: &[bool],
     flags: &mut Vec<bool>,
 ) -> bool
-    requires owners { AreOwners objects.now owners.now }
+    requires owners { AreOwners origin objects.now owners.now }
     requires one { HasOneEach objects.now }
     requires marks { length objects.now ≤ length marks.now }
     requires flags { AreUnset objects.now [] flags.old.items }
@@ -23,7 +24,7 @@ pub(crate) fn unset_flags(
     ensures size { length flags.new.items ≡ length flags.old.items }
 {
     for base in bases {
-        let Some(index) = owner_of(objects, owners, *base) else {
+        let Some(index) = owner_of(origin, objects, owners, *base) else {
             return false;
         };
         if marks[index] {
@@ -38,29 +39,41 @@ pub(crate) fn unset_flags(
 }
 
 // Unsets the flag of the object that has this base, if there is one.
-pub(crate) fn unset_one(base: u64, objects: &[Extent], owners: &[u64], flags: &mut Vec<bool>)
-    requires owners { AreOwners objects.now owners.now }
+pub(crate) fn unset_one(
+    base: u64,
+    origin: u64,
+    objects: &[Extent],
+    owners: &[u64],
+    flags: &mut Vec<bool>,
+)
+    requires owners { AreOwners origin objects.now owners.now }
     requires one { HasOneEach objects.now }
     requires flags { length objects.now ≤ length flags.old.items }
     ensures unset { (bases : List ℕ) → AreUnset objects.now bases flags.old.items → AreUnset objects.now (bases ++ base ∷ []) flags.new.items }
     ensures size { length flags.new.items ≡ length flags.old.items }
 {
-    let Some(index) = owner_of(objects, owners, base) else {
+    let Some(index) = owner_of(origin, objects, owners, base) else {
         return;
     };
     flags[index] = false;
 }
 
 // Unsets the flags of the objects that have one of these bases.
-pub(crate) fn unset_named(bases: &[u64], objects: &[Extent], owners: &[u64], flags: &mut Vec<bool>)
-    requires owners { AreOwners objects.now owners.now }
+pub(crate) fn unset_named(
+    bases: &[u64],
+    origin: u64,
+    objects: &[Extent],
+    owners: &[u64],
+    flags: &mut Vec<bool>,
+)
+    requires owners { AreOwners origin objects.now owners.now }
     requires one { HasOneEach objects.now }
     requires flags { AreUnset objects.now [] flags.old.items }
     ensures unset { AreUnset objects.now bases.now flags.new.items }
     ensures size { length flags.new.items ≡ length flags.old.items }
 {
     for base in bases {
-        unset_one(*base, objects, owners, flags);
+        unset_one(*base, origin, objects, owners, flags);
     }
 }
 

@@ -42,6 +42,7 @@ fn is_cell(page: PageNo, length: u64, address: u64) -> bool
 
 // Whether an object of a class may go to the address, which lies on the page.
 fn is_place_on(
+    origin: u64,
     objects: &[Extent],
     owners: &[u64],
     page: PageNo,
@@ -49,7 +50,7 @@ fn is_place_on(
     kind: Kind,
     address: u64,
 ) -> bool
-    requires found { AreFound objects.now owners.now }
+    requires found { AreFound origin objects.now owners.now }
     requires some { (0 < length) × (length ≤ MAX_SMALL_WORDS) }
     requires on { (page_start page ≤ address) × (address < page_start page + PAGE_BYTES) }
     ensures yes { IsTrue result → IsPlaceOn objects.now page length kind address }
@@ -58,14 +59,15 @@ fn is_place_on(
     if !is_cell(page, length, address) {
         return false;
     }
-    if is_base(objects, owners, address) {
+    if is_base(origin, objects, owners, address) {
         return false;
     }
-    is_cut_for(objects, owners, page, length, kind)
+    is_cut_for(origin, objects, owners, page, length, kind)
 }
 
 // Whether an object of a class may go to the address.
 fn is_small_place(
+    origin: u64,
     objects: &[Extent],
     owners: &[u64],
     pages: u32,
@@ -73,7 +75,7 @@ fn is_small_place(
     kind: Kind,
     address: u64,
 ) -> bool
-    requires found { AreFound objects.now owners.now }
+    requires found { AreFound origin objects.now owners.now }
     requires some { (0 < length) × (length ≤ MAX_SMALL_WORDS) }
     requires pages { pages ≤ MAX_PAGES }
     ensures yes { IsTrue result → IsSmallPlace objects.now pages length kind address }
@@ -82,12 +84,19 @@ fn is_small_place(
     let Some(page) = page_at(pages, address) else {
         return false;
     };
-    is_place_on(objects, owners, page, length, kind, address)
+    is_place_on(origin, objects, owners, page, length, kind, address)
 }
 
 // Whether a large object may go to the address.
-fn is_large_place(objects: &[Extent], owners: &[u64], pages: u32, count: u32, address: u64) -> bool
-    requires found { AreFound objects.now owners.now }
+fn is_large_place(
+    origin: u64,
+    objects: &[Extent],
+    owners: &[u64],
+    pages: u32,
+    count: u32,
+    address: u64,
+) -> bool
+    requires found { AreFound origin objects.now owners.now }
     requires some { 1 ≤ count }
     requires pages { pages ≤ MAX_PAGES }
     ensures yes { IsTrue result → IsLargePlace objects.now pages count address }
@@ -102,11 +111,12 @@ fn is_large_place(objects: &[Extent], owners: &[u64], pages: u32, count: u32, ad
     if count > pages - first {
         return false;
     }
-    is_free_run(objects, owners, first, count)
+    is_free_run(origin, objects, owners, first, count)
 }
 
 // A new object of a placement at this base, as the extent that it has there, if it may go there.
 pub(crate) fn place_at(
+    origin: u64,
     objects: &[Extent],
     owners: &[u64],
     pages: u32,
@@ -116,21 +126,21 @@ pub(crate) fn place_at(
 ) -> Option<Extent>
     requires pages { pages ≤ MAX_PAGES }
     requires sized { IsSized placement }
-    requires found { AreFound objects.now owners.now }
+    requires found { AreFound origin objects.now owners.now }
     ensures some { IfSome result (λ e. (e.base ≡ base) × (e.kind ≡ kind) × (e.length ≡ length_of placement) × IsPlace objects.now pages placement kind base) }
     ensures none { IfNone result (IsPlace objects.now pages placement kind base → ⊥) }
 {
     match placement {
         Placement::Small(class) => {
             let length = u64::from(class.words());
-            if !is_small_place(objects, owners, pages, length, kind, base) {
+            if !is_small_place(origin, objects, owners, pages, length, kind, base) {
                 return None;
             }
             Some(Extent { base, kind, length })
         }
         Placement::Large(count) => {
             let length = PAGE_WORDS * u64::from(count);
-            if !is_large_place(objects, owners, pages, count, base) {
+            if !is_large_place(origin, objects, owners, pages, count, base) {
                 return None;
             }
             Some(Extent { base, kind, length })

@@ -20,21 +20,22 @@ pub enum Keeper {
 // The word of the object at one place that keeps the object at its own.
 fn link_at(
     position: usize,
+    origin: u64,
     words: &[u64],
     objects: &[Extent],
     own: usize,
     object: Extent,
 ) -> Option<Keeper>
     requires within { position < length objects.now }
-    requires lie { All (LiesIn words.now) objects.now }
-    ensures some { IfSome result (λ keeper. IsLinkAt words.now objects.now own object position keeper) }
-    ensures none { IfNone result (HasNoLink words.now objects.now own object position) }
+    requires lie { All (LiesIn origin words.now) objects.now }
+    ensures some { IfSome result (λ keeper. IsLinkAt origin words.now objects.now own object position keeper) }
+    ensures none { IfNone result (HasNoLink origin words.now objects.now own object position) }
 {
     if position == own {
         return None;
     }
     let holder = at(objects, position);
-    let Some(index) = first_into(links(holder, words), object.base, object.length) else {
+    let Some(index) = first_into(links(holder, origin, words), object.base, object.length) else {
         return None;
     };
     Some(Keeper::ByWord(holder.base, index))
@@ -43,18 +44,19 @@ fn link_at(
 // The first word of the objects in this order that keeps the object at its own place, and the place of its object in the order.
 pub(crate) fn link_into(
     order: &[usize],
+    origin: u64,
     words: &[u64],
     objects: &[Extent],
     own: usize,
     object: Extent,
 ) -> Option<(usize, Keeper)>
     requires below { (i : ℕ) → Contains order.now i → i < length objects.now }
-    requires lie { All (LiesIn words.now) objects.now }
-    ensures some { IfSome result (λ found. (i : ℕ) × (slice_get order.now found.0 ≡ Some i) × IsLinkAt words.now objects.now own object i found.1) }
-    ensures none { IfNone result (All (HasNoLink words.now objects.now own object) order.now) }
+    requires lie { All (LiesIn origin words.now) objects.now }
+    ensures some { IfSome result (λ found. (i : ℕ) × (slice_get order.now found.0 ≡ Some i) × IsLinkAt origin words.now objects.now own object i found.1) }
+    ensures none { IfNone result (All (HasNoLink origin words.now objects.now own object) order.now) }
 {
     for next in 0..order.len() {
-        if let Some(keeper) = link_at(order[next], words, objects, own, object) {
+        if let Some(keeper) = link_at(order[next], origin, words, objects, own, object) {
             return Some((next, keeper));
         }
     }

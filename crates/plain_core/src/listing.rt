@@ -1,6 +1,5 @@
 //! The objects that are reached: a list that grows while it is gone along, and a row that marks what is listed.
 ghost use Rattle.std.specs.Prelude.{◌≡◌, ◌<◌, ◌≤◌, [], ◌∷◌, Some, IfOk, All, length, slice_get};
-ghost use Rattle.words.specs.declared.limits.TheConstants.{FIRST_ADDRESS};
 ghost use Rattle.plain_core.specs.Reached.{AreApart, MarksReached, links_of};
 ghost use Rattle.plain_core.specs.Owners.{AreOwners};
 ghost use Rattle.plain_core.specs.Standing.{LiesIn};
@@ -45,12 +44,12 @@ fn clear(objects: &[Extent], listing: &mut Listing)
 }
 
 // Lists the object that a word points into, unless it is listed.
-fn list_one(word: u64, objects: &[Extent], owners: &[u64], listing: &mut Listing)
+fn list_one(word: u64, origin: u64, objects: &[Extent], owners: &[u64], listing: &mut Listing)
     requires ready { IsListing objects.now listing.old }
-    requires owners { AreOwners objects.now owners.now }
+    requires owners { AreOwners origin objects.now owners.now }
     ensures { ListsAll objects.now (word ∷ []) listing.old listing.new }
 {
-    let Some(index) = owner_at(objects, owners, word) else {
+    let Some(index) = owner_at(origin, objects, owners, word) else {
         return;
     };
     if listing.marks[index] {
@@ -61,13 +60,13 @@ fn list_one(word: u64, objects: &[Extent], owners: &[u64], listing: &mut Listing
 }
 
 // Lists the objects that some words point into.
-fn list_all(words: &[u64], objects: &[Extent], owners: &[u64], listing: &mut Listing)
+fn list_all(words: &[u64], origin: u64, objects: &[Extent], owners: &[u64], listing: &mut Listing)
     requires ready { IsListing objects.now listing.old }
-    requires owners { AreOwners objects.now owners.now }
+    requires owners { AreOwners origin objects.now owners.now }
     ensures { ListsAll objects.now words.now listing.old listing.new }
 {
     for word in words {
-        list_one(*word, objects, owners, listing);
+        list_one(*word, origin, objects, owners, listing);
     }
 }
 
@@ -75,29 +74,36 @@ fn list_all(words: &[u64], objects: &[Extent], owners: &[u64], listing: &mut Lis
 fn list_if_flagged(
     object: Extent,
     flags: &[bool],
+    origin: u64,
     objects: &[Extent],
     owners: &[u64],
     listing: &mut Listing,
 )
-    requires start { FIRST_ADDRESS ≤ object.base }
+    requires start { origin ≤ object.base }
     requires ready { IsListing objects.now listing.old }
-    requires owners { AreOwners objects.now owners.now }
-    ensures { ListsFlagged objects.now (object ∷ []) flags.now listing.old listing.new }
+    requires owners { AreOwners origin objects.now owners.now }
+    ensures { ListsFlagged origin objects.now (object ∷ []) flags.now listing.old listing.new }
 {
-    if is_flagged(flags, object.base) {
-        list_one(object.base, objects, owners, listing);
+    if is_flagged(origin, flags, object.base) {
+        list_one(object.base, origin, objects, owners, listing);
     }
 }
 
 // Lists the objects that have their flags.
-fn list_flagged(flags: &[bool], objects: &[Extent], owners: &[u64], listing: &mut Listing)
-    requires starts { All (λ e. FIRST_ADDRESS ≤ e.base) objects.now }
+fn list_flagged(
+    flags: &[bool],
+    origin: u64,
+    objects: &[Extent],
+    owners: &[u64],
+    listing: &mut Listing,
+)
+    requires starts { All (λ e. origin ≤ e.base) objects.now }
     requires ready { IsListing objects.now listing.old }
-    requires owners { AreOwners objects.now owners.now }
-    ensures { ListsFlagged objects.now objects.now flags.now listing.old listing.new }
+    requires owners { AreOwners origin objects.now owners.now }
+    ensures { ListsFlagged origin objects.now objects.now flags.now listing.old listing.new }
 {
     for object in objects {
-        list_if_flagged(*object, flags, objects, owners, listing);
+        list_if_flagged(*object, flags, origin, objects, owners, listing);
     }
 }
 
@@ -110,14 +116,14 @@ pub(crate) fn at(objects: &[Extent], index: usize) -> Extent
 }
 
 // The words of an object that the collector reads.
-pub(crate) fn links(object: Extent, words: &[u64]) -> &[u64]
-    requires within { LiesIn words.now object }
-    ensures { result.now ≡ links_of words.now object }
+pub(crate) fn links(object: Extent, origin: u64, words: &[u64]) -> &[u64]
+    requires within { LiesIn origin words.now object }
+    ensures { result.now ≡ links_of origin words.now object }
 {
     if object.kind == Kind::PointerFree {
         return &[];
     }
-    let start = word_index(object.base);
+    let start = word_index(origin, object.base);
     let end = start + object.length as usize;
     &words[start..end]
 }
@@ -126,16 +132,23 @@ pub(crate) fn links(object: Extent, words: &[u64]) -> &[u64]
 fn list_links(
     object: Extent,
     words: &[u64],
+    origin: u64,
     objects: &[Extent],
     owners: &[u64],
     listing: &mut Listing,
 )
     requires ready { IsListing objects.now listing.old }
-    requires owners { AreOwners objects.now owners.now }
-    requires within { LiesIn words.now object }
-    ensures { ListsAll objects.now (links_of words.now object) listing.old listing.new }
+    requires owners { AreOwners origin objects.now owners.now }
+    requires within { LiesIn origin words.now object }
+    ensures { ListsAll objects.now (links_of origin words.now object) listing.old listing.new }
 {
-    list_all(links(object, words), objects, owners, listing);
+    list_all(
+        links(object, origin, words),
+        origin,
+        objects,
+        owners,
+        listing,
+    );
 }
 
 // Lists the objects that are reached from these roots, or from the objects with flags.
@@ -143,26 +156,27 @@ pub(crate) fn list_closure(
     roots: &[u64],
     flags: &[bool],
     words: &[u64],
+    origin: u64,
     objects: &[Extent],
     owners: &[u64],
     listing: &mut Listing,
 )
     requires apart { AreApart objects.now }
-    requires owners { AreOwners objects.now owners.now }
+    requires owners { AreOwners origin objects.now owners.now }
     requires room { HasListRoom (length objects.now) listing.old }
-    requires within { All (LiesIn words.now) objects.now }
-    ensures marks { MarksClosure roots.now words.now objects.now flags.now listing.new.marks.items }
+    requires within { All (LiesIn origin words.now) objects.now }
+    ensures marks { MarksClosure origin roots.now words.now objects.now flags.now listing.new.marks.items }
     ensures listed { IsListing objects.now listing.new }
-    ensures discovered { DiscoversClosure roots.now words.now objects.now flags.now listing.new.order.items }
+    ensures discovered { DiscoversClosure origin roots.now words.now objects.now flags.now listing.new.order.items }
     ensures room { KeepsRoom listing.old listing.new }
 {
     clear(objects, listing);
-    list_all(roots, objects, owners, listing);
-    list_flagged(flags, objects, owners, listing);
+    list_all(roots, origin, objects, owners, listing);
+    list_flagged(flags, origin, objects, owners, listing);
     for next in 0..objects.len() {
         if next < listing.order.len() {
             let object = at(objects, listing.order[next]);
-            list_links(object, words, objects, owners, listing);
+            list_links(object, words, origin, objects, owners, listing);
         }
     }
 }
@@ -171,18 +185,19 @@ pub(crate) fn list_closure(
 pub(crate) fn list_reached(
     roots: &[u64],
     words: &[u64],
+    origin: u64,
     objects: &[Extent],
     owners: &[u64],
     listing: &mut Listing,
 )
     requires apart { AreApart objects.now }
-    requires owners { AreOwners objects.now owners.now }
+    requires owners { AreOwners origin objects.now owners.now }
     requires room { HasListRoom (length objects.now) listing.old }
-    requires within { All (LiesIn words.now) objects.now }
-    ensures marks { MarksReached roots.now words.now objects.now listing.new.marks.items }
+    requires within { All (LiesIn origin words.now) objects.now }
+    ensures marks { MarksReached origin roots.now words.now objects.now listing.new.marks.items }
     ensures listed { IsListing objects.now listing.new }
-    ensures discovered { IsDiscovered roots.now words.now objects.now listing.new.order.items }
+    ensures discovered { IsDiscovered origin roots.now words.now objects.now listing.new.order.items }
     ensures room { KeepsRoom listing.old listing.new }
 {
-    list_closure(roots, &[], words, objects, owners, listing);
+    list_closure(roots, &[], words, origin, objects, owners, listing);
 }

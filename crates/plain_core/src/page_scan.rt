@@ -19,25 +19,25 @@ fn word_start(page: PageNo, word: u64) -> u64
 }
 
 // Whether no object has the byte at the address.
-pub(crate) fn is_bare(objects: &[Extent], owners: &[u64], address: u64) -> bool
-    requires { AreOwners objects.now owners.now }
+pub(crate) fn is_bare(origin: u64, objects: &[Extent], owners: &[u64], address: u64) -> bool
+    requires { AreOwners origin objects.now owners.now }
     ensures yes { IsTrue result → All (λ e. PointsInto address e.base e.length → ⊥) objects.now }
     ensures no { result ≡ false → All (λ e. PointsInto address e.base e.length → ⊥) objects.now → ⊥ }
 {
-    let Some(_) = owner_at(objects, owners, address) else {
+    let Some(_) = owner_at(origin, objects, owners, address) else {
         return true;
     };
     false
 }
 
 // Whether no object lies on the page.
-pub(crate) fn is_free(objects: &[Extent], owners: &[u64], page: PageNo) -> bool
-    requires { AreFound objects.now owners.now }
+pub(crate) fn is_free(origin: u64, objects: &[Extent], owners: &[u64], page: PageNo) -> bool
+    requires { AreFound origin objects.now owners.now }
     ensures yes { IsTrue result → IsFreePage objects.now page }
     ensures no { result ≡ false → IsFreePage objects.now page → ⊥ }
 {
     for word in 0..PAGE_WORDS {
-        if !is_bare(objects, owners, word_start(page, word)) {
+        if !is_bare(origin, objects, owners, word_start(page, word)) {
             return false;
         }
     }
@@ -55,6 +55,7 @@ fn agrees(object: &Extent, length: u64, kind: Kind) -> bool
 // The word of the page to look at after one: the next, or that behind the object that has the one. `None` if this object hasn't
 // the length and the kind.
 fn next_word(
+    origin: u64,
     objects: &[Extent],
     owners: &[u64],
     page: PageNo,
@@ -62,14 +63,14 @@ fn next_word(
     length: u64,
     kind: Kind,
 ) -> Option<u64>
-    requires owners { AreOwners objects.now owners.now }
+    requires owners { AreOwners origin objects.now owners.now }
     requires on { word < PAGE_WORDS }
     requires small { length ≤ MAX_SMALL_WORDS }
     ensures some { IfSome result (λ next. (word < next) × AreCutWords objects.now page length kind word next) }
     ensures none { IfNone result (All (λ e. PointsInto (word_start page word) e.base e.length → (e.length ≡ length) × (e.kind ≡ kind)) objects.now → ⊥) }
 {
     let address = word_start(page, word);
-    let Some(index) = owner_at(objects, owners, address) else {
+    let Some(index) = owner_at(origin, objects, owners, address) else {
         return Some(word + 1);
     };
     let object = objects[index];
@@ -81,20 +82,21 @@ fn next_word(
 
 // Whether each object on the page has this length and this kind.
 pub(crate) fn is_cut_for(
+    origin: u64,
     objects: &[Extent],
     owners: &[u64],
     page: PageNo,
     length: u64,
     kind: Kind,
 ) -> bool
-    requires found { AreFound objects.now owners.now }
+    requires found { AreFound origin objects.now owners.now }
     requires small { length ≤ MAX_SMALL_WORDS }
     ensures yes { IsTrue result → IsCutPage objects.now page length kind }
     ensures no { result ≡ false → IsCutPage objects.now page length kind → ⊥ }
 {
     let mut word = 0;
     while word < PAGE_WORDS {
-        let Some(next) = next_word(objects, owners, page, word, length, kind) else {
+        let Some(next) = next_word(origin, objects, owners, page, word, length, kind) else {
             return false;
         };
         word = next;

@@ -36,6 +36,7 @@ pub(crate) fn place_of(order: &[usize], own: usize) -> Option<usize>
 // before it, whose place is told.
 fn step_back(
     roots: &Roots,
+    origin: u64,
     words: &[u64],
     objects: &[Extent],
     listing: &Listing,
@@ -43,10 +44,10 @@ fn step_back(
     path: &mut Vec<PathStep>,
 ) -> Result<Option<usize>, AllocError>
     requires within { place < length listing.now.order.items }
-    requires lie { All (LiesIn words.now) objects.now }
+    requires lie { All (LiesIn origin words.now) objects.now }
     requires listed { IsListing objects.now listing.now }
-    requires discovered { IsDiscovered (root_words_of roots.now) words.now objects.now listing.now.order.items }
-    ensures { IfOk result (λ before. StepsBack roots.now words.now objects.now listing.now.order.items place path.old.items path.new.items before) }
+    requires discovered { IsDiscovered origin (root_words_of roots.now) words.now objects.now listing.now.order.items }
+    ensures { IfOk result (λ before. StepsBack origin roots.now words.now objects.now listing.now.order.items place path.old.items path.new.items before) }
 {
     let own = listing.order[place];
     let object = at(objects, own);
@@ -56,8 +57,14 @@ fn step_back(
         path.push(PathStep { keeper, base })?;
         return Ok(None);
     }
-    let Some((before, keeper)) = link_into(&listing.order[..place], words, objects, own, object)
-    else {
+    let Some((before, keeper)) = link_into(
+        &listing.order[..place],
+        origin,
+        words,
+        objects,
+        own,
+        object,
+    ) else {
         unreachable!();
     };
     path.push(PathStep { keeper, base })?;
@@ -67,6 +74,7 @@ fn step_back(
 // The path to the object at a place of the list, its last step first.
 pub(crate) fn walk_back(
     roots: &Roots,
+    origin: u64,
     words: &[u64],
     objects: &[Extent],
     listing: &Listing,
@@ -74,15 +82,15 @@ pub(crate) fn walk_back(
     path: &mut Vec<PathStep>,
 ) -> Result<(), AllocError>
     requires within { start < length listing.now.order.items }
-    requires lie { All (LiesIn words.now) objects.now }
+    requires lie { All (LiesIn origin words.now) objects.now }
     requires listed { IsListing objects.now listing.now }
-    requires discovered { IsDiscovered (root_words_of roots.now) words.now objects.now listing.now.order.items }
+    requires discovered { IsDiscovered origin (root_words_of roots.now) words.now objects.now listing.now.order.items }
     requires empty { path.old.items ≡ [] }
-    ensures { OnOk result ((own : ℕ) → slice_get listing.now.order.items start ≡ Some own → IsRowPath roots.now words.now objects.now (reverse path.new.items) own) }
+    ensures { OnOk result ((own : ℕ) → slice_get listing.now.order.items start ≡ Some own → IsRowPath origin roots.now words.now objects.now (reverse path.new.items) own) }
 {
     let mut place = start;
     loop {
-        let Some(before) = step_back(roots, words, objects, listing, place, path)? else {
+        let Some(before) = step_back(roots, origin, words, objects, listing, place, path)? else {
             return Ok(());
         };
         place = before;

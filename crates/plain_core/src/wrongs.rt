@@ -1,6 +1,5 @@
 //! What is wrong where the objects with some bases are said to be gone: the lowest base at which something is.
 ghost use Rattle.std.specs.Prelude.{◌≡◌, ◌<◌, ◌≤◌, [], All, length, take};
-ghost use Rattle.words.specs.declared.limits.TheConstants.{FIRST_ADDRESS};
 ghost use Rattle.plain_core.specs.Claims.{HasOneEach, AreUnset};
 ghost use Rattle.plain_core.specs.Owners.{AreOwners};
 ghost use Rattle.plain_core.specs.Wrongs.{base_of, IsLowerThan, IsLowerOf, TellsLowest, IsBelow, IsNamedAt, IsLeftAt, MarksFlagged};
@@ -67,20 +66,21 @@ pub(crate) fn lower(one: Option<Wrong>, other: Option<Wrong>) -> Option<Wrong>
 fn named_at(
     bases: &[u64],
     index: usize,
+    origin: u64,
     objects: &[Extent],
     owners: &[u64],
     marks: &[bool],
     stays: &[bool],
 ) -> Option<Wrong>
     requires within { index < length bases.now }
-    requires owners { AreOwners objects.now owners.now }
+    requires owners { AreOwners origin objects.now owners.now }
     requires one { HasOneEach objects.now }
     requires marks { length objects.now ≤ length marks.now }
     requires flags { AreUnset objects.now (take index bases.now) stays.now }
     ensures { TellsLowest (IsNamedAt objects.now marks.now bases.now index) result }
 {
     let base = bases[index];
-    let Some(position) = owner_of(objects, owners, base) else {
+    let Some(position) = owner_of(origin, objects, owners, base) else {
         return Some(Wrong::IsMissing(base));
     };
     if !stays[position] {
@@ -96,12 +96,13 @@ fn named_at(
 // are unset.
 pub(crate) fn lowest_named(
     bases: &[u64],
+    origin: u64,
     objects: &[Extent],
     owners: &[u64],
     marks: &[bool],
     stays: &mut Vec<bool>,
 ) -> Option<Wrong>
-    requires owners { AreOwners objects.now owners.now }
+    requires owners { AreOwners origin objects.now owners.now }
     requires one { HasOneEach objects.now }
     requires marks { length objects.now ≤ length marks.now }
     requires flags { AreUnset objects.now [] stays.old.items }
@@ -113,9 +114,9 @@ pub(crate) fn lowest_named(
     for index in 0..bases.len() {
         lowest = lower(
             lowest,
-            named_at(bases, index, objects, owners, marks, stays),
+            named_at(bases, index, origin, objects, owners, marks, stays),
         );
-        unset_one(bases[index], objects, owners, stays);
+        unset_one(bases[index], origin, objects, owners, stays);
     }
     lowest
 }
@@ -150,13 +151,13 @@ pub(crate) fn lowest_left(objects: &[Extent], marks: &[bool], stays: &[bool]) ->
 }
 
 // Marks the objects that have their flags, and no other.
-pub(crate) fn mark_flagged(objects: &[Extent], flags: &[bool], marks: &mut [bool])
-    requires starts { All (λ e. FIRST_ADDRESS ≤ e.base) objects.now }
+pub(crate) fn mark_flagged(origin: u64, objects: &[Extent], flags: &[bool], marks: &mut [bool])
+    requires starts { All (λ e. origin ≤ e.base) objects.now }
     requires marks { length objects.now ≤ length marks.old }
-    ensures marked { MarksFlagged objects.now flags.now marks.new }
+    ensures marked { MarksFlagged origin objects.now flags.now marks.new }
     ensures size { length marks.new ≡ length marks.old }
 {
     for index in 0..objects.len() {
-        marks[index] = is_flagged(flags, objects[index].base);
+        marks[index] = is_flagged(origin, flags, objects[index].base);
     }
 }

@@ -12,7 +12,6 @@ use crate::extent::Extent;
 use crate::flags::{flag_marked, set_all, unset_all, unset_flag};
 use crate::listing::{Listing, list_closure};
 use roots::{RootWords, Roots};
-use words::limits::FIRST_ADDRESS;
 
 // Lists the objects that are reached from the roots, or from the objects with flags.
 fn list_from_roots_and(
@@ -20,20 +19,21 @@ fn list_from_roots_and(
     roots: &Roots,
     root_words: &mut RootWords,
     words: &[u64],
+    origin: u64,
     objects: &[Extent],
     owners: &[u64],
     listing: &mut Listing,
 )
     requires apart { AreApart objects.now }
-    requires owners { AreOwners objects.now owners.now }
-    requires lie { All (LiesIn words.now) objects.now }
+    requires owners { AreOwners origin objects.now owners.now }
+    requires lie { All (LiesIn origin words.now) objects.now }
     requires room { HasListRoom (length objects.now) listing.old }
-    ensures marks { MarksClosure (root_words_of roots.now) words.now objects.now flags.now listing.new.marks.items }
+    ensures marks { MarksClosure origin (root_words_of roots.now) words.now objects.now flags.now listing.new.marks.items }
     ensures room { KeepsRoom listing.old listing.new }
 {
     roots.write_words(root_words);
     let from = root_words.as_slice();
-    list_closure(from, flags, words, objects, owners, listing);
+    list_closure(from, flags, words, origin, objects, owners, listing);
 }
 
 impl Core {
@@ -51,10 +51,10 @@ impl Core {
         ensures { FlagUnset self.now base flags.old flags.new }
     {
         self.laws();
-        if base < FIRST_ADDRESS {
+        if base < self.origin {
             return;
         }
-        unset_flag(flags, base);
+        unset_flag(self.origin, flags, base);
     }
 
     /// Sets the flags of all objects that roots or the old objects lead to, and of no other.
@@ -68,11 +68,12 @@ impl Core {
             &self.roots,
             &mut self.root_words,
             &self.words,
+            self.origin,
             &self.objects,
             &self.owners,
             &mut self.listing,
         );
         unset_all(flags);
-        flag_marked(&self.objects, &self.listing.marks, flags);
+        flag_marked(self.origin, &self.objects, &self.listing.marks, flags);
     }
 }

@@ -56,7 +56,7 @@ impl Core {
         ensures some { IfSome result (λ e. FindsExtent self.now address e) }
         ensures none { IfNone result (FindsNothing self.now address) }
     {
-        object_at(&self.objects, &self.owners, address)
+        object_at(self.origin, &self.objects, &self.owners, address)
     }
 
     // The word at an address that points into an object.
@@ -64,8 +64,8 @@ impl Core {
         ensures some { IfSome result (λ w. HoldsWord self.now address w) }
         ensures none { IfNone result (FindsNothing self.now address) }
     {
-        object_at(&self.objects, &self.owners, address)?;
-        let position = word_index(address);
+        object_at(self.origin, &self.objects, &self.owners, address)?;
+        let position = word_index(self.origin, address);
         Some(self.words[position])
     }
 
@@ -104,8 +104,14 @@ impl Core {
         let Some(placement) = class_of(words) else {
             return Reply::Refused(Refusal::BadSize);
         };
-        let Some(_object) = place_for(&self.objects, &self.owners, self.pages, placement, kind)
-        else {
+        let Some(_object) = place_for(
+            self.origin,
+            &self.objects,
+            &self.owners,
+            self.pages,
+            placement,
+            kind,
+        ) else {
             return Reply::Refused(Refusal::Full);
         };
         Reply::Done

@@ -22,41 +22,45 @@ pub(super) fn list_from_roots(
     roots: &Roots,
     root_words: &mut RootWords,
     words: &[u64],
+    origin: u64,
     objects: &[Extent],
     owners: &[u64],
     listing: &mut Listing,
 )
     requires apart { AreApart objects.now }
-    requires owners { AreOwners objects.now owners.now }
-    requires lie { All (LiesIn words.now) objects.now }
+    requires owners { AreOwners origin objects.now owners.now }
+    requires lie { All (LiesIn origin words.now) objects.now }
     requires room { HasListRoom (length objects.now) listing.old }
-    ensures marks { MarksReached (root_words_of roots.now) words.now objects.now listing.new.marks.items }
+    ensures marks { MarksReached origin (root_words_of roots.now) words.now objects.now listing.new.marks.items }
     ensures listed { IsListing objects.now listing.new }
-    ensures discovered { IsDiscovered (root_words_of roots.now) words.now objects.now listing.new.order.items }
+    ensures discovered { IsDiscovered origin (root_words_of roots.now) words.now objects.now listing.new.order.items }
     ensures room { KeepsRoom listing.old listing.new }
 {
     roots.write_words(root_words);
     let from = root_words.as_slice();
-    list_reached(from, words, objects, owners, listing);
+    list_reached(from, words, origin, objects, owners, listing);
 }
 
 impl Core {
     /// Takes out all objects that are not reached, and answers how many.
     pub fn collect(&mut self) -> u64
-        ensures { IsCollected self.old result self.new }
+        ensures collected { IsCollected self.old result self.new }
+        ensures origin { self.new.origin ≡ self.old.origin }
     {
         list_from_roots(
             &self.roots,
             &mut self.root_words,
             &self.words,
+            self.origin,
             &self.objects,
             &self.owners,
             &mut self.listing,
         );
         let count = keep_flagged(&mut self.objects, &self.listing.marks);
-        write_owners(&self.objects, &mut self.owners);
+        write_owners(self.origin, &self.objects, &mut self.owners);
         take_along(
             &mut self.words,
+            self.origin,
             &self.objects,
             &self.owners,
             &mut self.links,
@@ -73,6 +77,7 @@ impl Core {
             &self.roots,
             &mut self.root_words,
             &self.words,
+            self.origin,
             &self.objects,
             &self.owners,
             &mut self.listing,
@@ -85,6 +90,7 @@ impl Core {
         ensures yes { IsTrue result → IsCollected self.old count self.new }
         ensures no { result ≡ false → CantCollect self.old count }
         ensures same { result ≡ false → self.new ≡ self.old }
+        ensures origin { self.new.origin ≡ self.old.origin }
     {
         if self.count_unreached() != count {
             return false;
@@ -99,11 +105,13 @@ impl Core {
         ensures yes { IsTrue result → TakesBases self.old bases.now all self.new }
         ensures no { result ≡ false → CantTake self.old bases.now all }
         ensures same { result ≡ false → self.new ≡ self.old }
+        ensures origin { self.new.origin ≡ self.old.origin }
     {
         list_from_roots(
             &self.roots,
             &mut self.root_words,
             &self.words,
+            self.origin,
             &self.objects,
             &self.owners,
             &mut self.listing,
@@ -111,6 +119,7 @@ impl Core {
         self.stays.fill(true);
         if !unset_flags(
             bases,
+            self.origin,
             &self.objects,
             &self.owners,
             &self.listing.marks,
@@ -122,9 +131,10 @@ impl Core {
             return false;
         }
         let _gone = keep_flagged(&mut self.objects, &self.stays);
-        write_owners(&self.objects, &mut self.owners);
+        write_owners(self.origin, &self.objects, &mut self.owners);
         take_along(
             &mut self.words,
+            self.origin,
             &self.objects,
             &self.owners,
             &mut self.links,
@@ -137,6 +147,7 @@ impl Core {
         ensures yes { IsTrue result → TakesBases self.old bases.now true self.new }
         ensures no { result ≡ false → CantTake self.old bases.now true }
         ensures same { result ≡ false → self.new ≡ self.old }
+        ensures origin { self.new.origin ≡ self.old.origin }
     {
         self.take(bases, true)
     }

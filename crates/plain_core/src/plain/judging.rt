@@ -21,6 +21,7 @@ impl Core {
             &self.roots,
             &mut self.root_words,
             &self.words,
+            self.origin,
             &self.objects,
             &self.owners,
             &mut self.listing,
@@ -28,6 +29,7 @@ impl Core {
         self.stays.fill(true);
         let named = lowest_named(
             bases,
+            self.origin,
             &self.objects,
             &self.owners,
             &self.listing.marks,
@@ -47,6 +49,7 @@ impl Core {
             &self.roots,
             &mut self.root_words,
             &self.words,
+            self.origin,
             &self.objects,
             &self.owners,
             &mut self.listing,
@@ -54,12 +57,13 @@ impl Core {
         self.stays.fill(true);
         let named = lowest_named(
             bases,
+            self.origin,
             &self.objects,
             &self.owners,
             &self.listing.marks,
             &mut self.stays,
         );
-        mark_flagged(&self.objects, flags, &mut self.listing.marks);
+        mark_flagged(self.origin, &self.objects, flags, &mut self.listing.marks);
         let left = lowest_left(&self.objects, &self.listing.marks, &self.stays);
         lower(named, left)
     }

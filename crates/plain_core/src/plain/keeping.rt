@@ -25,12 +25,14 @@ impl Core {
             &self.roots,
             &mut self.root_words,
             &self.words,
+            self.origin,
             &self.objects,
             &self.owners,
             &mut self.listing,
         );
         let Some((_, keeper)) = link_into(
             &self.listing.order,
+            self.origin,
             &self.words,
             &self.objects,
             own,
@@ -47,7 +49,7 @@ impl Core {
         ensures keeper { (s : Heap) → StandsFor self.old s → TellsKeeper s base result }
         ensures same { self.new ≡ self.old }
     {
-        let Some(own) = owner_of(&self.objects, &self.owners, base) else {
+        let Some(own) = owner_of(self.origin, &self.objects, &self.owners, base) else {
             return None;
         };
         let object = at(&self.objects, own);

@@ -1,4 +1,6 @@
 //! Laws of cores and of births: functions that do nothing, and their contracts are the laws.
+ghost use Rattle.std.specs.Prelude.{◌≡◌};
+ghost use Rattle.words.specs.declared.limits.TheConstants.{FIRST_ADDRESS};
 ghost use Rattle.heap_spec.specs.Heap.{Heap};
 ghost use Rattle.heap_spec.specs.Sound.{IsSound};
 ghost use Rattle.heap_spec.specs.Touching.{HasApartObjects};
@@ -21,9 +23,9 @@ impl Core {
         self.laws();
     }
 
-    /// The objects of a core that stands for a sound heap lie where size classes place them.
+    /// The objects of a core that begins where heaps with size classes do and stands for a sound heap lie where these place them.
     pub fn objects_are_placed(&self)
-        ensures { (s : Heap) → StandsFor self.now s → IsSound s → ArePlaced self.now }
+        ensures { self.now.origin ≡ FIRST_ADDRESS → (s : Heap) → StandsFor self.now s → IsSound s → ArePlaced self.now }
     {
         self.laws();
     }

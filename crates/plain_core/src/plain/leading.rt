@@ -16,13 +16,14 @@ impl Core {
         ensures path { IfOk result (λ path. (s : Heap) → StandsFor self.old s → TellsPath s base path) }
         ensures same { self.new ≡ self.old }
     {
-        let Some(own) = owner_of(&self.objects, &self.owners, base) else {
+        let Some(own) = owner_of(self.origin, &self.objects, &self.owners, base) else {
             return Ok(None);
         };
         list_from_roots(
             &self.roots,
             &mut self.root_words,
             &self.words,
+            self.origin,
             &self.objects,
             &self.owners,
             &mut self.listing,
@@ -33,6 +34,7 @@ impl Core {
         let mut path = Vec::new(alloc);
         walk_back(
             &self.roots,
+            self.origin,
             &self.words,
             &self.objects,
             &self.listing,

@@ -1,4 +1,5 @@
 //! The calls on links.
+ghost use Rattle.std.specs.Prelude.{◌≡◌};
 ghost use Rattle.heap_spec.specs.Replies.{IsStep, count_reply, done_reply};
 ghost use Rattle.plain_core.specs.Standing.{StandsFor};
 
@@ -12,7 +13,8 @@ use words::{Refusal, Reg, Slot};
 impl Core {
     /// Makes a word of a pointer-free object a link to the object that a register points into.
     pub fn link(&mut self, slot: Slot, at: Reg, offset: u64, to: Reg) -> Result<(), Refusal>
-        ensures { IsStep (StandsFor self.old) (Event.Mutator slot (Call.Link at offset to)) (done_reply result) (StandsFor self.new) }
+        ensures step { IsStep (StandsFor self.old) (Event.Mutator slot (Call.Link at offset to)) (done_reply result) (StandsFor self.new) }
+        ensures origin { self.new.origin ≡ self.old.origin }
     {
         let mutator = self.roots.attached(slot)?;
         let address = mutator.address(at, offset);
@@ -20,11 +22,11 @@ impl Core {
         if address % WORD_BYTES != 0 {
             return Err(Refusal::Misaligned);
         }
-        let holder = find_in(&self.objects, &self.owners, address)?;
+        let holder = find_in(self.origin, &self.objects, &self.owners, address)?;
         if is_normal(holder.kind) {
             return Err(Refusal::NotPointerFree);
         }
-        let named = find_in(&self.objects, &self.owners, word)?;
+        let named = find_in(self.origin, &self.objects, &self.owners, word)?;
         if !self.links.has_room(address) {
             return Err(Refusal::LinksFull);
         }
@@ -34,7 +36,8 @@ impl Core {
 
     /// Takes a link away, and answers how many stood there.
     pub fn unlink(&mut self, slot: Slot, at: Reg, offset: u64) -> Result<u64, Refusal>
-        ensures { IsStep (StandsFor self.old) (Event.Mutator slot (Call.Unlink at offset)) (count_reply result) (StandsFor self.new) }
+        ensures step { IsStep (StandsFor self.old) (Event.Mutator slot (Call.Unlink at offset)) (count_reply result) (StandsFor self.new) }
+        ensures origin { self.new.origin ≡ self.old.origin }
     {
         let mutator = self.roots.attached(slot)?;
         let address = mutator.address(at, offset);

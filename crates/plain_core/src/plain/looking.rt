@@ -34,6 +34,12 @@ impl Core {
     pub fn word(&self, address: u64) -> Option<u64>
         ensures { result ≡ word_of self.now address }
     {
-        word_in(&self.words, &self.objects, &self.owners, address)
+        word_in(
+            &self.words,
+            self.origin,
+            &self.objects,
+            &self.owners,
+            address,
+        )
     }
 }

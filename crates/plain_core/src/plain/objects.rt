@@ -22,15 +22,16 @@ impl Core {
 
     /// Loads a heap word into a register.
     pub fn load(&mut self, slot: Slot, into: Reg, at: Reg, offset: u64) -> Result<u64, Refusal>
-        ensures { IsStep (StandsFor self.old) (Event.Mutator slot (Call.Load into at offset)) (word_reply result) (StandsFor self.new) }
+        ensures step { IsStep (StandsFor self.old) (Event.Mutator slot (Call.Load into at offset)) (word_reply result) (StandsFor self.new) }
+        ensures origin { self.new.origin ≡ self.old.origin }
     {
         let mutator = self.roots.attached(slot)?;
         let address = mutator.address(at, offset);
         if address % WORD_BYTES != 0 {
             return Err(Refusal::Misaligned);
         }
-        find_in(&self.objects, &self.owners, address)?;
-        let position = word_index(address);
+        find_in(self.origin, &self.objects, &self.owners, address)?;
+        let position = word_index(self.origin, address);
         let word = self.words[position];
         self.roots.set_word(slot, into, word);
         Ok(word)
@@ -38,7 +39,8 @@ impl Core {
 
     /// Stores a register's word in the heap.
     pub fn store(&mut self, slot: Slot, at: Reg, offset: u64, from: Reg) -> Result<(), Refusal>
-        ensures { IsStep (StandsFor self.old) (Event.Mutator slot (Call.Store at offset from)) (done_reply result) (StandsFor self.new) }
+        ensures step { IsStep (StandsFor self.old) (Event.Mutator slot (Call.Store at offset from)) (done_reply result) (StandsFor self.new) }
+        ensures origin { self.new.origin ≡ self.old.origin }
     {
         let mutator = self.roots.attached(slot)?;
         let address = mutator.address(at, offset);
@@ -46,8 +48,8 @@ impl Core {
         if address % WORD_BYTES != 0 {
             return Err(Refusal::Misaligned);
         }
-        find_in(&self.objects, &self.owners, address)?;
-        let position = word_index(address);
+        find_in(self.origin, &self.objects, &self.owners, address)?;
+        let position = word_index(self.origin, address);
         self.words[position] = word;
         Ok(())
     }
@@ -56,28 +58,42 @@ impl Core {
     fn put(&mut self, slot: Slot, into: Reg, object: Extent)
         requires mutator { (m : HeapMutator) × HasMutator self.old.roots slot m }
         requires fits { MayBePut self.old object }
-        ensures { IsPut self.old slot into object self.new }
+        ensures put { IsPut self.old slot into object self.new }
+        ensures origin { self.new.origin ≡ self.old.origin }
     {
-        let start = word_index(object.base);
+        let start = word_index(self.origin, object.base);
         fill(&mut self.words, start, object.length as usize, 0);
         let index = self.objects.len();
         let _pushed = self.objects.push(object);
-        write_owner(&self.objects, &mut self.owners, index);
+        write_owner(self.origin, &self.objects, &mut self.owners, index);
         self.roots.set_word(slot, into, object.base);
     }
 
     /// Allocates a zeroed object of at least so many words where its size class has a place, and puts its base into a register.
     /// This is a step where all objects lie where size classes place them, as in every sound heap (`objects_are_placed`).
     pub fn alloc(&mut self, slot: Slot, into: Reg, words: u64, kind: Kind) -> Result<(), Refusal>
-        ensures { ArePlaced self.old → IsStep (StandsFor self.old) (Event.Mutator slot (Call.Alloc into words kind)) (done_reply result) (StandsFor self.new) }
+        ensures step { ArePlaced self.old → IsStep (StandsFor self.old) (Event.Mutator slot (Call.Alloc into words kind)) (done_reply result) (StandsFor self.new) }
+        ensures origin { self.new.origin ≡ self.old.origin }
     {
         self.mutator(slot).ok_or(Refusal::NoSlot)?;
         let placement = class_of(words).ok_or(Refusal::BadSize)?;
-        let object = place_for(&self.objects, &self.owners, self.pages, placement, kind).ok_or(
-            Refusal::Full,
-        )?;
+        let object = place_for(
+            self.origin,
+            &self.objects,
+            &self.owners,
+            self.pages,
+            placement,
+            kind,
+        )
+        .ok_or(Refusal::Full)?;
         // Only an object that lies elsewhere than its class places it can be in the way.
-        if !may_be_put(&self.objects, &self.owners, self.pages, &object) {
+        if !may_be_put(
+            self.origin,
+            &self.objects,
+            &self.owners,
+            self.pages,
+            &object,
+        ) {
             return Err(Refusal::Full);
         }
         self.put(slot, into, object);
@@ -89,6 +105,7 @@ impl Core {
         ensures yes { IsTrue result → IsAllocatedAt self.old slot into words kind base self.new }
         ensures no { result ≡ false → CantAllocateAt self.old slot into words kind base }
         ensures same { result ≡ false → self.new ≡ self.old }
+        ensures origin { self.new.origin ≡ self.old.origin }
     {
         let Some(_) = self.mutator(slot) else {
             return false;
@@ -97,6 +114,7 @@ impl Core {
             return false;
         };
         let Some(object) = place_at(
+            self.origin,
             &self.objects,
             &self.owners,
             self.pages,
@@ -106,7 +124,13 @@ impl Core {
         ) else {
             return false;
         };
-        if !may_be_put(&self.objects, &self.owners, self.pages, &object) {
+        if !may_be_put(
+            self.origin,
+            &self.objects,
+            &self.owners,
+            self.pages,
+            &object,
+        ) {
             return false;
         }
         self.put(slot, into, object);
@@ -127,6 +151,7 @@ impl Core {
         ensures yes { IsTrue result → IsAllocatedAnywhere self.old slot into words kind base length self.new }
         ensures no { result ≡ false → CantAllocateAnywhere self.old slot into words kind base length }
         ensures same { result ≡ false → self.new ≡ self.old }
+        ensures origin { self.new.origin ≡ self.old.origin }
     {
         let Some(_) = self.mutator(slot) else {
             return false;
@@ -135,7 +160,13 @@ impl Core {
             return false;
         }
         let object = Extent { base, kind, length };
-        if !may_be_put(&self.objects, &self.owners, self.pages, &object) {
+        if !may_be_put(
+            self.origin,
+            &self.objects,
+            &self.owners,
+            self.pages,
+            &object,
+        ) {
             return false;
         }
         self.put(slot, into, object);
@@ -144,19 +175,23 @@ impl Core {
 
     /// Frees the object whose base a register has.
     pub fn free(&mut self, slot: Slot, at: Reg) -> Result<(), Refusal>
-        ensures { IsStep (StandsFor self.old) (Event.Mutator slot (Call.Free at)) (done_reply result) (StandsFor self.new) }
+        ensures step { IsStep (StandsFor self.old) (Event.Mutator slot (Call.Free at)) (done_reply result) (StandsFor self.new) }
+        ensures origin { self.new.origin ≡ self.old.origin }
     {
         let mutator = self.roots.attached(slot)?;
         let address = mutator.word(at);
-        let index = owner_at(&self.objects, &self.owners, address).ok_or(Refusal::NoObject)?;
+        let index = owner_at(self.origin, &self.objects, &self.owners, address).ok_or(
+            Refusal::NoObject,
+        )?;
         let object = self.objects[index];
         if object.base != address {
             return Err(Refusal::NotBase);
         }
         let _freed = self.objects.swap_remove(index);
-        write_owner(&self.objects, &mut self.owners, index);
+        write_owner(self.origin, &self.objects, &mut self.owners, index);
         take_along(
             &mut self.words,
+            self.origin,
             &self.objects,
             &self.owners,
             &mut self.links,
@@ -166,11 +201,12 @@ impl Core {
 
     /// Sets a register to the base of the object that a register points into.
     pub fn base(&mut self, slot: Slot, into: Reg, at: Reg) -> Result<u64, Refusal>
-        ensures { IsStep (StandsFor self.old) (Event.Mutator slot (Call.Base into at)) (word_reply result) (StandsFor self.new) }
+        ensures step { IsStep (StandsFor self.old) (Event.Mutator slot (Call.Base into at)) (word_reply result) (StandsFor self.new) }
+        ensures origin { self.new.origin ≡ self.old.origin }
     {
         let mutator = self.roots.attached(slot)?;
         let word = mutator.word(at);
-        let object = find_in(&self.objects, &self.owners, word)?;
+        let object = find_in(self.origin, &self.objects, &self.owners, word)?;
         self.roots.set_word(slot, into, object.base);
         Ok(object.base)
     }
@@ -181,7 +217,7 @@ impl Core {
     {
         let mutator = self.roots.attached(slot)?;
         let word = mutator.word(at);
-        let object = find_in(&self.objects, &self.owners, word)?;
+        let object = find_in(self.origin, &self.objects, &self.owners, word)?;
         Ok(object.length)
     }
 }

@@ -40,7 +40,8 @@ impl Core {
 
     // Makes a call, whatever its reply.
     fn make(&mut self, slot: Slot, call: Call)
-        ensures { HasPlaces self.old call → MakesCall self.old slot call self.new }
+        ensures made { HasPlaces self.old call → MakesCall self.old slot call self.new }
+        ensures origin { self.new.origin ≡ self.old.origin }
     {
         match call {
             Call::Detach => ignore(self.detach(slot)),
@@ -69,6 +70,7 @@ impl Core {
         ensures yes { IsTrue result → IsStep (StandsFor self.old) Event.Attach reply.now (StandsFor self.new) }
         ensures no { result ≡ false → IsNoStep self.old Event.Attach reply.now }
         ensures same { result ≡ false → self.new ≡ self.old }
+        ensures origin { self.new.origin ≡ self.old.origin }
     {
         if !is_same(&self.attach_answer(), reply) {
             return false;
@@ -83,6 +85,7 @@ impl Core {
         ensures yes { IsTrue result → GrantHasPlaces self.old call.now reply.now → IsStep (StandsFor self.old) (Event.Mutator slot call.now) reply.now (StandsFor self.new) }
         ensures no { result ≡ false → IsNoStep self.old (Event.Mutator slot call.now) reply.now }
         ensures same { result ≡ false → self.new ≡ self.old }
+        ensures origin { self.new.origin ≡ self.old.origin }
     {
         self.laws();
         if !is_same(&self.answer(slot, *call), reply) {

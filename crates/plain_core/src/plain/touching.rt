@@ -56,12 +56,13 @@ impl Core {
             &self.roots,
             &mut self.root_words,
             &self.words,
+            self.origin,
             &self.objects,
             &self.owners,
             &mut self.listing,
         );
         unset_all(flags);
-        flag_marked(&self.objects, &self.listing.marks, flags);
+        flag_marked(self.origin, &self.objects, &self.listing.marks, flags);
     }
 
     /// Sets the flags of all objects that a word leads to, unless what it points into has its flag: then so have they.
@@ -69,25 +70,26 @@ impl Core {
         ensures flags { FlagsLed self.old word flags.old flags.new }
         ensures same { self.new ≡ self.old }
     {
-        let Some(object) = object_at(&self.objects, &self.owners, word) else {
+        let Some(object) = object_at(self.origin, &self.objects, &self.owners, word) else {
             return;
         };
-        if is_flagged(flags, object.base) {
+        if is_flagged(self.origin, flags, object.base) {
             return;
         }
         // A new object needs no more.
-        if has_no_links(object, &self.words) {
-            set_flag(flags, object.base);
+        if has_no_links(object, self.origin, &self.words) {
+            set_flag(self.origin, flags, object.base);
             return;
         }
         list_reached(
             &[word],
             &self.words,
+            self.origin,
             &self.objects,
             &self.owners,
             &mut self.listing,
         );
-        flag_marked(&self.objects, &self.listing.marks, flags);
+        flag_marked(self.origin, &self.objects, &self.listing.marks, flags);
     }
 
     /// Takes out the objects with these bases, if they are distinct objects none of which is reached, and every object without
@@ -96,8 +98,16 @@ impl Core {
         ensures yes { IsTrue result → ForgetsUnflagged self.old flags.now bases.now self.new }
         ensures no { result ≡ false → CantForget self.old flags.now bases.now }
         ensures same { result ≡ false → self.new ≡ self.old }
+        ensures origin { self.new.origin ≡ self.old.origin }
     {
-        if !are_named(&self.objects, &self.owners, flags, bases, &mut self.stays) {
+        if !are_named(
+            self.origin,
+            &self.objects,
+            &self.owners,
+            flags,
+            bases,
+            &mut self.stays,
+        ) {
             return false;
         }
         self.take(bases, false)
