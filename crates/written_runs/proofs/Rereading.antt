@@ -116,7 +116,7 @@ rules_alike places line a b w w' =
 -- what the heaps of a run are, by where its objects may lie
 abbrev pub IsFit : Places → Heap → Type 0
 IsFit Classes s = IsSound s
-IsFit (Any from) s = HasApartObjects s
+IsFit (Any from) s = (0 < from) × HasApartObjects s
 
 says_itself : (hint : Hint) → SayTheSame hint hint
 says_itself Nothing = tt
@@ -133,7 +133,7 @@ one_goes : (places : Places) (line : List ℕ) (step : Step) → IsStepLine plac
 one_goes Classes line step w start run h next next' goes goes' =
     let one = one_next start run h step.event w.parts.is_command.in_range step.reply step.hint step.hint (says_itself step.hint) next next' goes goes' in record { same = one.same; fit = one.sound }
 one_goes (Any from) line step w start run h next next' goes goes' =
-    let one = one_next_anywhere from start run h step.event step.reply step.hint step.hint step.words (says_itself step.hint) next next' goes goes' in record { same = one.same; fit = one.apart }
+    let one = one_next_anywhere from h.0 start run h.1 step.event step.reply step.hint step.hint step.words (says_itself step.hint) next next' goes goes' in record { same = one.same; fit = (h.0, one.apart) }
 
 -- one line leads to one run
 pub line_alike : (places : Places) (start : Start) (run : Run) → IsFit places (heap_after start run) → (line : List ℕ) (next next' : Run)
