@@ -9,24 +9,25 @@ use Rattle.std.proofs.lemmas.Bool.{cases_lt, cases_eq}
 use Rattle.words.specs.declared.class.Kind.{Kind}
 use Rattle.words.specs.declared.class.Placement.{Placement}
 use Rattle.words.specs.declared.class.Placement.TheVariants.{Small, Large}
-use Rattle.words.specs.declared.limits.TheConstants.{WORD_BYTES, PAGE_WORDS, MAX_PAGES}
+use Rattle.words.specs.declared.limits.TheConstants.{WORD_BYTES, PAGE_WORDS, FIRST_ADDRESS, MAX_PAGES}
 use Rattle.words.specs.Placing.{placement_of}
 use Rattle.heap_spec.specs.declared.call.Call.TheVariants.{Alloc}
 use Rattle.heap_spec.specs.declared.reply.Reply.TheVariants.{Done}
-use Rattle.heap_spec.specs.Layout.{PointsInto, LiesOn}
+use Rattle.heap_spec.specs.Layout.{PointsInto, LiesOn, word_end}
 use Rattle.heap_spec.specs.Heap.{Heap, Object, Mutator, HasObject}
 use Rattle.heap_spec.specs.Room.{HasRoom, length_of}
 use Rattle.heap_spec.specs.Steps.{Acts, Calls, acts, with_register, with_object, with_new}
 use Rattle.heap_spec.proofs.Objects.{with_at-same, with_at-other, same_object}
 use Rattle.links.specs.declared.row.Link.{Link}
+use Rattle.links.specs.Leaving.{word_index}
 use Rattle.links.proofs.Named.{named_kept}
 use Rattle.roots.specs.Roots.{RootSet, HasMutator, HasNoMutator, SetsWord}
 use Rattle.plain_core.specs.declared.extent.Extent.{Extent}
-use Rattle.plain_core.specs.PlainContents.{PlainContents, IsLaidOut, IsInHeap, IsPlacedExtent, ArePlaced}
+use Rattle.plain_core.specs.PlainContents.{PlainContents, IsLaidOut, IsInHeap, IsPlacedExtent, ArePlaced, end_of}
 use Rattle.plain_core.specs.Answering.{MayBePut, IsPut, IsBornAt, IsAllocatedAt, CantAllocateAt, heap_with}
 use Rattle.plain_core.specs.Anywhere.{with_words}
 use Rattle.plain_core.specs.Places.{IsPlace, IsSized, IsFresh}
-use Rattle.plain_core.specs.Standing.{StandsFor, IsShown, word_index, words_at}
+use Rattle.plain_core.specs.Standing.{StandsFor, IsShown, words_at}
 use Rattle.plain_core.proofs.Stands.{StepsCall, mutator_at, set_is}
 use Rattle.plain_core.proofs.Memory.{length_words}
 use Rattle.plain_core.proofs.Objects.{in_heap, object_of, extent_of}
@@ -35,13 +36,16 @@ use Rattle.plain_core.proofs.Placing.{sized}
 use Rattle.plain_core.proofs.Rooms.{room_of, place_of}
 
 -- a new core
-pub new_sound : (pages : ℕ) (words : List ℕ) (objects : List Extent) (roots : RootSet) (links : List Link) → pages ≤ MAX_PAGES → length words ≡ PAGE_WORDS * pages → objects ≡ []
-    → IsLaidOut (record { pages = pages; words = words; objects = objects; roots = roots; links = links })
-new_sound pages words objects roots links p w o = record {
+pub new_sound : (origin pages : ℕ) (words : List ℕ) (objects : List Extent) (roots : RootSet) (links : List Link) → pages ≤ MAX_PAGES → origin % WORD_BYTES ≡ 0 → 0 < origin → end_of origin pages < word_end → length words ≡ PAGE_WORDS * pages
+    → objects ≡ [] → IsLaidOut (record { origin = origin; pages = pages; words = words; objects = objects; roots = roots; links = links })
+new_sound origin pages words objects roots links p a z f w o = record {
   pages = p;
+  starts = a;
+  past_zero = z;
+  fits = f;
   words = w;
-  in_heap = rw o (All-nil (IsInHeap pages));
-  distinct = distinct_none objects o;
+  in_heap = rw o (All-nil (IsInHeap origin pages));
+  distinct = distinct_none origin objects o;
   apart = λ e f x he hf re rf. absurd (All-contains (λ (g : Extent). ⊥) objects e (rw o (All-nil (λ (g : Extent). ⊥))) he);
 }
 
@@ -51,7 +55,7 @@ even_product l i even =
     ap (λ x. (x * i) % 2) e ∙ ap (λ x. x % 2) (mul_assoc 2 (l / 2) i) ∙ mul-mod_right 2 ((l / 2) * i)
 
 -- where an object goes it is in the heap, has a proper place, and shares no word
-pub new_in_heap : (pages : ℕ) (row : List Extent) (placement : Placement) (kind : Kind) (e : Extent) → IsSized placement → e.length ≡ length_of placement → IsPlace row pages placement kind e.base → IsInHeap pages e
+pub new_in_heap : (pages : ℕ) (row : List Extent) (placement : Placement) (kind : Kind) (e : Extent) → IsSized placement → e.length ≡ length_of placement → IsPlace row pages placement kind e.base → IsInHeap FIRST_ADDRESS pages e
 new_in_heap pages row (Small class) kind e sized l p =
     let i = p.on.is_cell in let f = p.on.in_page in let q = p.in_heap in
     let even : (class * p.on.cell) % 2 ≡ 0 = even_product class p.on.cell sized.2 in
@@ -73,30 +77,30 @@ after_cases s base o' b p is =
     (cases_eq b base)
 
 -- the words that a new object's place has
-pub record IsZeroed (old new : List ℕ) (e : Extent) : Type 0 where
+pub record IsZeroed (origin : ℕ) (old new : List ℕ) (e : Extent) : Type 0 where
   pub long : length new ≡ length old
-  pub zeroed : (k : ℕ) → word_index e.base ≤ k → k < word_index e.base + e.length → get_or new k 0 ≡ 0
-  pub others : (k : ℕ) → (k < word_index e.base) ⊎ (word_index e.base + e.length ≤ k) → get_or new k 0 ≡ get_or old k 0
+  pub zeroed : (k : ℕ) → word_index origin e.base ≤ k → k < word_index origin e.base + e.length → get_or new k 0 ≡ 0
+  pub others : (k : ℕ) → (k < word_index origin e.base) ⊎ (word_index origin e.base + e.length ≤ k) → get_or new k 0 ≡ get_or old k 0
 
-words_index : (row : List ℕ) (e : Extent) (i : ℕ) → i < e.length → get_or (words_at row e) i 0 ≡ get_or row (word_index e.base + i) 0
-words_index row e i lt = get_or-take e.length (drop (word_index e.base) row) i 0 lt ∙ get_or-drop (word_index e.base) row i 0
+words_index : (origin : ℕ) (row : List ℕ) (e : Extent) (i : ℕ) → i < e.length → get_or (words_at origin row e) i 0 ≡ get_or row (word_index origin e.base + i) 0
+words_index origin row e i lt = get_or-take e.length (drop (word_index origin e.base) row) i 0 lt ∙ get_or-drop (word_index origin e.base) row i 0
 
-zero_words : (old new : List ℕ) (pages : ℕ) (e : Extent) → length old ≡ PAGE_WORDS * pages → IsInHeap pages e → IsZeroed old new e → replicate e.length 0 ≡ words_at new e
-zero_words old new pages e l i z =
-    ext_get_or 0 _ _ (length-replicate e.length 0 ∙ sym (length_words new pages e (z.long ∙ l) i))
+zero_words : (origin : ℕ) (old new : List ℕ) (pages : ℕ) (e : Extent) → length old ≡ PAGE_WORDS * pages → IsInHeap origin pages e → IsZeroed origin old new e → replicate e.length 0 ≡ words_at origin new e
+zero_words origin old new pages e l i z =
+    ext_get_or 0 _ _ (length-replicate e.length 0 ∙ sym (length_words origin new pages e (z.long ∙ l) i))
     (λ k lt. let h : k < e.length = rw length-replicate at lt in
-    get_or-replicate e.length k 0 0 h ∙ sym (words_index new e k h ∙ z.zeroed (word_index e.base + k) (omega arith) (omega arith)))
+    get_or-replicate e.length k 0 0 h ∙ sym (words_index origin new e k h ∙ z.zeroed (word_index origin e.base + k) (omega arith) (omega arith)))
 
-other_words : (old new : List ℕ) (pages : ℕ) (e g : Extent) → length old ≡ PAGE_WORDS * pages → IsInHeap pages e → IsInHeap pages g → IsZeroed old new e → ((w : ℕ) → PointsInto w e.base e.length → PointsInto w g.base g.length → ⊥) → words_at old g ≡ words_at new g
-other_words old new pages e g l ie ig z apart =
-    ext_get_or 0 _ _ (length_words old pages g l ig ∙ sym (length_words new pages g (z.long ∙ l) ig))
-    (λ k lt. let h : k < g.length = rw (length_words old pages g l ig) at lt in
-    words_index old g k h ∙ sym (words_index new g k h ∙ z.others (word_index g.base + k) (outside k h)))
+other_words : (origin : ℕ) (old new : List ℕ) (pages : ℕ) (e g : Extent) → length old ≡ PAGE_WORDS * pages → IsInHeap origin pages e → IsInHeap origin pages g → IsZeroed origin old new e → ((w : ℕ) → PointsInto w e.base e.length → PointsInto w g.base g.length → ⊥) → words_at origin old g ≡ words_at origin new g
+other_words origin old new pages e g l ie ig z apart =
+    ext_get_or 0 _ _ (length_words origin old pages g l ig ∙ sym (length_words origin new pages g (z.long ∙ l) ig))
+    (λ k lt. let h : k < g.length = rw (length_words origin old pages g l ig) at lt in
+    words_index origin old g k h ∙ sym (words_index origin new g k h ∙ z.others (word_index origin g.base + k) (outside k h)))
   where
-    outside : (k : ℕ) → k < g.length → (word_index g.base + k < word_index e.base) ⊎ (word_index e.base + e.length ≤ word_index g.base + k)
-    outside k h = ⊎_elim (λ before. inl before) (λ from. ⊎_elim (λ inside. absurd (apart (g.base + WORD_BYTES * k) (omega arith, omega arith) (omega arith, omega arith))) (λ past. inr past) (cases_lt (word_index g.base + k) (word_index e.base + e.length))) (cases_lt (word_index g.base + k) (word_index e.base))
+    outside : (k : ℕ) → k < g.length → (word_index origin g.base + k < word_index origin e.base) ⊎ (word_index origin e.base + e.length ≤ word_index origin g.base + k)
+    outside k h = ⊎_elim (λ before. inl before) (λ from. ⊎_elim (λ inside. absurd (apart (g.base + WORD_BYTES * k) (omega arith, omega arith) (omega arith, omega arith))) (λ past. inr past) (cases_lt (word_index origin g.base + k) (word_index origin e.base + e.length))) (cases_lt (word_index origin g.base + k) (word_index origin e.base))
 
-pub puts_at : (c : PlainContents) (roots : RootSet) (k d : ℕ) (e : Extent) (row : List ℕ) → IsLaidOut c → MayBePut c e → IsZeroed c.words row e → SetsWord c.roots k d e.base roots
+pub puts_at : (c : PlainContents) (roots : RootSet) (k d : ℕ) (e : Extent) (row : List ℕ) → IsLaidOut c → MayBePut c e → IsZeroed c.origin c.words row e → SetsWord c.roots k d e.base roots
     → IsPut c k d e (record c { words = row; objects = c.objects ++ e ∷ []; roots = roots })
 puts_at c roots k d e row sound fits zeroed sets m at s h = (
   record {
@@ -113,10 +117,10 @@ puts_at c roots k d e row sound fits zeroed sets m at s h = (
         (λ old. let kept = h.kept g old in (
           kept.0,
           with_at-other s.objects e.base (Some o) g.base (λ same. fresh g g.base old (base_in e new g.base same) (base_in g (in_heap c sound g old) g.base refl)) ∙ kept.1,
-          record { kind = kept.2.kind; words = kept.2.words ∙ other_words c.words row c.pages e g sound.words new (in_heap c sound g old) zeroed (λ w re rg. fresh g w old re rg) },
+          record { kind = kept.2.kind; words = kept.2.words ∙ other_words c.origin c.words row c.pages e g sound.words new (in_heap c sound g old) zeroed (λ w re rg. fresh g w old re rg) },
         ))
-        (λ same. subst (λ (x : Extent). (p : Object) × HasObject after x.base p × IsShown row x p) same
-        (o, with_at-same s.objects e.base (Some o) e.base refl, record { kind = refl; words = zero_words c.words row c.pages e sound.words new zeroed }))
+        (λ same. subst (λ (x : Extent). (p : Object) × HasObject after x.base p × IsShown c.origin row x p) same
+        (o, with_at-same s.objects e.base (Some o) e.base refl, record { kind = refl; words = zero_words c.origin c.words row c.pages e sound.words new zeroed }))
         (Contains-push_cases c.objects e g hg);
     only = λ b p has. ⊎_elim
         (λ q. (e, Contains-push c.objects e, sym q.0))
@@ -134,7 +138,7 @@ puts_at c roots k d e row sound fits zeroed sets m at s h = (
   },
 )
   where
-    new : IsInHeap c.pages e
+    new : IsInHeap c.origin c.pages e
     new = fits.in_heap
 
     fresh : IsFresh c.objects e
@@ -146,7 +150,7 @@ puts_at c roots k d e row sound fits zeroed sets m at s h = (
     after : Heap
     after = heap_with s k m d e
 
-    base_in : (g : Extent) → IsInHeap c.pages g → (w : ℕ) → w ≡ g.base → PointsInto w g.base g.length
+    base_in : (g : Extent) → IsInHeap c.origin c.pages g → (w : ℕ) → w ≡ g.base → PointsInto w g.base g.length
     base_in g i w same = (omega arith, omega arith)
 
     bare : (b : ℕ) (p : Object) → b ≡ e.base → HasObject s b p → ⊥
@@ -158,13 +162,16 @@ puts_at c roots k d e row sound fits zeroed sets m at s h = (
     too_late b q x has is same = let r = h.born b q has in let l = r.1 in omega arith
 
 -- the core stays sound
-pub sound_after : (c : PlainContents) (roots : RootSet) (e : Extent) (row : List ℕ) → IsLaidOut c → IsInHeap c.pages e → IsFresh c.objects e → length row ≡ length c.words
+pub sound_after : (c : PlainContents) (roots : RootSet) (e : Extent) (row : List ℕ) → IsLaidOut c → IsInHeap c.origin c.pages e → IsFresh c.objects e → length row ≡ length c.words
     → IsLaidOut (record c { words = row; objects = c.objects ++ e ∷ []; roots = roots })
 sound_after c roots e row sound new fresh long = record {
   pages = sound.pages;
+  starts = sound.starts;
+  past_zero = sound.past_zero;
+  fits = sound.fits;
   words = long ∙ sound.words;
-  in_heap = All-push (IsInHeap c.pages) c.objects e sound.in_heap new;
-  distinct = distinct_push c.pages c.objects e sound.in_heap new fresh sound.distinct;
+  in_heap = All-push (IsInHeap c.origin c.pages) c.objects e sound.in_heap new;
+  distinct = distinct_push c.origin c.pages c.objects e sound.in_heap new fresh sound.distinct;
   apart = λ f g w hf hg rf rg. ⊎_elim
       (λ x. ⊎_elim (λ y. sound.apart f g w x y rf rg) (λ y. absurd (fresh f w x (subst (λ (z : Extent). PointsInto w z.base z.length) (sym y) rg) rf)) (Contains-push_cases c.objects e g hg))
       (λ x. ⊎_elim (λ y. absurd (fresh g w y (subst (λ (z : Extent). PointsInto w z.base z.length) (sym x) rf) rg)) (λ y. sym x ∙ y) (Contains-push_cases c.objects e g hg))
@@ -172,9 +179,9 @@ sound_after c roots e row sound new fresh long = record {
 }
 
 -- there is room for one more
-pub has_room : (c : PlainContents) (e : Extent) → IsLaidOut c → IsInHeap c.pages e → IsFresh c.objects e → length c.objects < PAGE_WORDS * c.pages
+pub has_room : (c : PlainContents) (e : Extent) → IsLaidOut c → IsInHeap c.origin c.pages e → IsFresh c.objects e → length c.objects < PAGE_WORDS * c.pages
 has_room c e sound new fresh =
-    let l : length (c.objects ++ e ∷ []) ≤ PAGE_WORDS * c.pages = few_objects c.pages (c.objects ++ e ∷ []) (All-push (IsInHeap c.pages) c.objects e sound.in_heap new) (distinct_push c.pages c.objects e sound.in_heap new fresh sound.distinct) in
+    let l : length (c.objects ++ e ∷ []) ≤ PAGE_WORDS * c.pages = few_objects c.origin c.pages (c.objects ++ e ∷ []) (All-push (IsInHeap c.origin c.pages) c.objects e sound.in_heap new) (distinct_push c.origin c.pages c.objects e sound.in_heap new fresh sound.distinct) in
     let m : length c.objects + 1 ≤ PAGE_WORDS * c.pages = rw length_push at l in
     omega arith
 
@@ -187,10 +194,10 @@ module _ (c : PlainContents) (e : Extent) (sound : IsLaidOut c) (fits : MayBePut
   pub room_left : length c.objects < PAGE_WORDS * c.pages
   room_left = has_room c e sound fits.in_heap fits.fresh
 
-  pub fits_row : word_index e.base + e.length ≤ length c.words
+  pub fits_row : word_index c.origin e.base + e.length ≤ length c.words
   fits_row = let i = fits.in_heap in let w = sound.words in omega (arith, i.start, i.aligned, i.ends)
 
-  pub puts : (roots : RootSet) (k d : ℕ) (row : List ℕ) (objects : List Extent) → IsZeroed c.words row e → objects ≡ c.objects ++ e ∷ [] → SetsWord c.roots k d e.base roots
+  pub puts : (roots : RootSet) (k d : ℕ) (row : List ℕ) (objects : List Extent) → IsZeroed c.origin c.words row e → objects ≡ c.objects ++ e ∷ [] → SetsWord c.roots k d e.base roots
       → IsPut c k d e (record c { words = row; objects = objects; roots = roots })
   puts roots k d row objects zeroed pushed sets = rw pushed (puts_at c roots k d e row sound fits zeroed sets)
 
@@ -208,34 +215,34 @@ born_where c sound s h k d n base kind placement is (acts at (Acts.allocated {pl
     (after_cases s a _ base born.object born.there)
 
 pub cant_place : (c : PlainContents) → IsLaidOut c → (k d n base : ℕ) (kind : Kind) (placement : Placement) → placement_of n ≡ Some placement → (IsPlace c.objects c.pages placement kind base → ⊥) → CantAllocateAt c k d n kind base
-cant_place c sound k d n base kind placement is none s h s' calls born = none (born_where c sound s h k d n base kind placement is calls born)
+cant_place c sound k d n base kind placement is none from s h s' calls born = none (born_where c sound s h k d n base kind placement is calls born)
 
 -- a request of no size, and one of no mutator, are granted nowhere
 pub cant_size : (c : PlainContents) (k d n base : ℕ) (kind : Kind) → placement_of n ≡ None → CantAllocateAt c k d n kind base
-cant_size c k d n base kind none s h s' (acts at (Acts.allocated {placement = placement} a is room)) born = absurd (none-some placement (sym none ∙ is))
+cant_size c k d n base kind none from s h s' (acts at (Acts.allocated {placement = placement} a is room)) born = absurd (none-some placement (sym none ∙ is))
 
 pub cant_call : (c : PlainContents) (k d n base : ℕ) (kind : Kind) → HasNoMutator c.roots k → CantAllocateAt c k d n kind base
-cant_call c k d n base kind none s h s' (acts {m = m} at act) born =
+cant_call c k d n base kind none from s h s' (acts {m = m} at act) born =
     absurd (none-some m (same_Some None (Some m) (sym (ap (λ ms. slice_get ms k) h.mutators ∙ none) ∙ at)))
 
 -- where size classes place objects, a place for a new one may have it
 pub may_have : (c : PlainContents) → IsLaidOut c → (n : ℕ) (kind : Kind) (placement : Placement) (e : Extent) → ArePlaced c → placement_of n ≡ Some placement → e.length ≡ length_of placement → IsPlace c.objects c.pages placement kind e.base → MayBePut c e
 may_have c sound n kind placement e placed is long room = record {
-  in_heap = new_in_heap c.pages c.objects placement kind e (sized n placement is) long room;
-  fresh = new_fresh c.pages c.objects placement kind e placed (sized n placement is) long room;
+  in_heap = subst (λ o. IsInHeap o c.pages e) (sym placed.0) (new_in_heap c.pages c.objects placement kind e (sized n placement is) long room);
+  fresh = new_fresh c.pages c.objects placement kind e placed.1 (sized n placement is) long room;
 }
 
 -- no object begins at a place for a new one
-no_base : (pages : ℕ) (row : List Extent) (placement : Placement) (kind : Kind) (a : ℕ) → IsSized placement → IsPlace row pages placement kind a → All (IsInHeap pages) row → (f : Extent) → Contains row f → f.base ≡ a → ⊥
-no_base pages row (Small class) kind a sized p inside f has same =
-    let i : IsInHeap pages f = All-contains (IsInHeap pages) row f inside has in
+no_base : (origin pages : ℕ) (row : List Extent) (placement : Placement) (kind : Kind) (a : ℕ) → IsSized placement → IsPlace row pages placement kind a → All (IsInHeap origin pages) row → (f : Extent) → Contains row f → f.base ≡ a → ⊥
+no_base origin pages row (Small class) kind a sized p inside f has same =
+    let i : IsInHeap origin pages f = All-contains (IsInHeap origin pages) row f inside has in
     let is = p.on.is_cell in let in_page = p.on.in_page in let some = sized.0 in let more = i.some in
     ⊎_elim
     (λ free. All-contains (λ (g : Extent). LiesOn g.base g.length p.page → ⊥) row f free has (omega arith, omega arith))
     (λ cut. All-contains (λ (g : Extent). g.base ≡ a → ⊥) row f cut.1 has same)
     p.on.cut
-no_base pages row (Large count) kind a sized p inside f has same =
-    let i : IsInHeap pages f = All-contains (IsInHeap pages) row f inside has in
+no_base origin pages row (Large count) kind a sized p inside f has same =
+    let i : IsInHeap origin pages f = All-contains (IsInHeap origin pages) row f inside has in
     let is = p.is_start in let more = i.some in
     All-contains (λ (g : Extent). LiesOn g.base g.length p.first → ⊥) row f (p.free p.first (omega arith) (omega arith)) has (omega arith, omega arith)
 
@@ -253,23 +260,23 @@ shares c sound s h k d a m kind placement other e same long sized room born f w 
     o = record { birth = s.births + 1; kind = kind; words = replicate (length_of other) 0 }
 
     none : f.base ≡ e.base → ⊥
-    none = no_base c.pages c.objects placement kind e.base sized room sound.in_heap f has
+    none = no_base c.origin c.pages c.objects placement kind e.base sized room sound.in_heap f has
 
     size : o ≡ born.object → e.length ≡ length born.object.words
     size is = long ∙ ap length_of (sym same) ∙ sym (length-replicate (length_of other) 0) ∙ ap (λ (x : Object). length x.words) is
 
 pub cant_share : (c : PlainContents) → IsLaidOut c → (k d n base : ℕ) (kind : Kind) (placement : Placement) (e : Extent) → placement_of n ≡ Some placement → e.length ≡ length_of placement → e.base ≡ base
     → IsPlace c.objects c.pages placement kind base → (MayBePut c e → ⊥) → CantAllocateAt c k d n kind base
-cant_share c sound k d n base kind placement e is long bases room none s h s' (acts {m = m} at (Acts.allocated {placement = other} a is' has)) born =
+cant_share c sound k d n base kind placement e is long bases room none from s h s' (acts {m = m} at (Acts.allocated {placement = other} a is' has)) born =
     let here : IsPlace c.objects c.pages placement kind e.base = subst (IsPlace c.objects c.pages placement kind) (sym bases) room in
     none (record {
-      in_heap = new_in_heap c.pages c.objects placement kind e (sized n placement is) long here;
+      in_heap = subst (λ o. IsInHeap o c.pages e) (sym from) (new_in_heap c.pages c.objects placement kind e (sized n placement is) long here);
       fresh = shares c sound s h k d a m kind placement other e (same_Some other placement (sym is' ∙ is)) long (sized n placement is) here
           (subst (λ b. IsBornAt s b (with_register (with_new s a kind other) k m d a)) (sym bases) born);
     })
 
 -- what may be put may be put into the core as it is seen
-pub fits_by : (c now : PlainContents) → c ≡ now → (row : List Extent) → row ≡ c.objects → (e : Extent) → IsInHeap c.pages e → IsFresh row e → MayBePut now e
+pub fits_by : (c now : PlainContents) → c ≡ now → (row : List Extent) → row ≡ c.objects → (e : Extent) → IsInHeap c.origin c.pages e → IsFresh row e → MayBePut now e
 fits_by c now view row rows e inside fresh = subst (λ (x : PlainContents). MayBePut x e) view (record { in_heap = inside; fresh = subst (λ r. IsFresh r e) rows fresh })
 
 -- a request that was granted by an object

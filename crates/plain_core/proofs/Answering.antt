@@ -18,10 +18,11 @@ use Rattle.heap_spec.specs.Laws.{IsLegible}
 use Rattle.heap_spec.specs.Replies.{IsStep}
 use Rattle.heap_spec.specs.Steps.{Acts, Calls, acts, vacant, Attaches, IsLowestVacant, with_register, register, address}
 use Rattle.heap_spec.proofs.Outcomes.{calls_same, calls_refused}
+use Rattle.links.specs.Leaving.{word_index}
 use Rattle.roots.specs.Roots.{HasMutator, HasNoMutator, HasNoSlot, IsNextSlot}
 use Rattle.plain_core.specs.declared.extent.Extent.{Extent}
 use Rattle.plain_core.specs.PlainContents.{PlainContents, IsLaidOut, IsInHeap}
-use Rattle.plain_core.specs.Standing.{StandsFor, word_index}
+use Rattle.plain_core.specs.Standing.{StandsFor}
 use Rattle.plain_core.specs.Answering.{FindsExtent, HoldsWord, MayAnswer, CanAnswer, CanAttach, IsNoStep, MakesCall, HasPlaces, GrantHasPlaces}
 use Rattle.plain_core.proofs.Stands.{StepsCall, mutator_at}
 use Rattle.plain_core.proofs.Memory.{word_in}
@@ -43,18 +44,18 @@ legible c sound s h = record {
       sym e.2 ∙ ap (λ (x : Extent). x.base) (sound.apart e.0 f.0 w e.1 f.1 reads others) ∙ f.2;
   some = λ base o has.
       let e = extent_of c sound s h base o has in
-      let i : IsInHeap c.pages e.0 = in_heap c sound e.0 e.1 in
+      let i : IsInHeap c.origin c.pages e.0 = in_heap c sound e.0 e.1 in
       let same = e.3 in omega (arith, i.some);
 }
 
 -- the word of an object's row is that of the object
-pub holds_word : (c : PlainContents) (a w : ℕ) (e : Extent) → IsLaidOut c → Contains c.objects e → PointsInto a e.base e.length → w ≡ get_or c.words (word_index a) w → HoldsWord c a w
+pub holds_word : (c : PlainContents) (a w : ℕ) (e : Extent) → IsLaidOut c → Contains c.objects e → PointsInto a e.base e.length → w ≡ get_or c.words (word_index c.origin a) w → HoldsWord c a w
 holds_word c a w e sound has reads is s h =
     let kept = h.kept e has in (
       e.base,
       kept.0,
       (kept.1, rw (length_shown c sound e has kept.0 kept.2) reads),
-      ap (λ xs. get_or xs ((a - e.base) / WORD_BYTES) 0) kept.2.words ∙ word_in c.words c.pages a e (in_heap c sound e has) reads ∙ sym (get_or_read c.words (word_index a) w (in_row c sound e has a reads) is 0),
+      ap (λ xs. get_or xs ((a - e.base) / WORD_BYTES) 0) kept.2.words ∙ word_in c.origin c.words c.pages a e sound.starts (in_heap c sound e has) reads ∙ sym (get_or_read c.words (word_index c.origin a) w (in_row c sound e has a reads) is 0),
     )
 
 -- what a mutator's call may be answered the call of its slot may be

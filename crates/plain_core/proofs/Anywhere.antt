@@ -25,7 +25,7 @@ abbrev pub extent : ℕ → Kind → ℕ → Extent
 extent base kind n = record { base = base; kind = kind; length = n }
 
 module _ (c : PlainContents) (sound : IsLaidOut c) (k d words base n : ℕ) (kind : Kind) where
-  room : (s : Heap) → StandsFor c s → MayBePut c (extent base kind n) → HasRoomAnywhere s n base
+  room : (s : Heap) → StandsFor c s → MayBePut c (extent base kind n) → HasRoomAnywhere s c.origin n base
   room s h fits = record {
     start = fits.in_heap.start;
     aligned = fits.in_heap.aligned;
@@ -41,7 +41,7 @@ module _ (c : PlainContents) (sound : IsLaidOut c) (k d words base n : ℕ) (kin
       let same : x.0.object ≡ o = same_Some _ _ (sym x.0.there ∙ with_at-same s.objects base (Some o) base refl) in
       (heap_with s k m d (extent base kind n), by (mutator_at c s h k m at) (Grants.granted base n few (room s h fits)), (x.0, ap (λ (z : Object). length z.words) same ∙ length-replicate n 0), x.1)
 
-  fits_of : (s : Heap) → StandsFor c s → HasRoomAnywhere s n base → MayBePut c (extent base kind n)
+  fits_of : (s : Heap) → StandsFor c s → HasRoomAnywhere s c.origin n base → MayBePut c (extent base kind n)
   fits_of s h r = record {
     in_heap = record { start = r.start; aligned = r.aligned; some = r.some; ends = rw (← h.pages) r.ends };
     fresh = λ f w has re rf. let kept = object_of c sound s h f has in r.free f.base w kept.0 kept.1 re (rw kept.2 rf);
@@ -53,7 +53,7 @@ module _ (c : PlainContents) (sound : IsLaidOut c) (k d words base n : ℕ) (kin
       ⊎_elim
       (λ new.
       let size : g ≡ n = sym (length-replicate g 0) ∙ ap (λ (z : Object). length z.words) new.1 ∙ born.1 in
-      none (omega arith) (fits_of s h (subst (λ x. HasRoomAnywhere s x base) size (subst (HasRoomAnywhere s g) (sym new.0) has))))
+      none (omega arith) (fits_of s h (subst (λ x. HasRoomAnywhere s c.origin x base) size (subst (HasRoomAnywhere s c.origin g) (sym new.0) has))))
       (λ old. let b = h.born base born.0.object old.1 in let newest = born.0.newest in absurd (omega (arith, b.1)))
       (after_cases s a o base born.0.object born.0.there)
 
@@ -63,29 +63,29 @@ module _ (c : PlainContents) (sound : IsLaidOut c) (k d words base n : ℕ) (kin
 -- a request that isn't granted
 module _ (c : PlainContents) (k words : ℕ) (reply : Reply) where
   pub refuse_vacant : HasNoMutator c.roots k → reply ≡ Refused NoSlot → MayRefuse c k words reply
-  refuse_vacant none is into kind s h = subst (λ r. Requests s k into words kind r s) (sym is) (vacant (ap (λ ms. slice_get ms k) h.mutators ∙ none))
+  refuse_vacant none is into kind s h = subst (λ r. Requests s c.origin k into words kind r s) (sym is) (vacant (ap (λ ms. slice_get ms k) h.mutators ∙ none))
 
   pub refuse_full : (m : Mutator) → HasMutator c.roots k m → reply ≡ Refused Full → MayRefuse c k words reply
-  refuse_full m at is into kind s h = subst (λ r. Requests s k into words kind r s) (sym is) (by (mutator_at c s h k m at) Grants.full)
+  refuse_full m at is into kind s h = subst (λ r. Requests s c.origin k into words kind r s) (sym is) (by (mutator_at c s h k m at) Grants.full)
 
   pub refuse_size : (m : Mutator) → HasMutator c.roots k m → placement_of words ≡ None → reply ≡ Refused BadSize → MayRefuse c k words reply
-  refuse_size m at none is into kind s h = subst (λ r. Requests s k into words kind r s) (sym is) (by (mutator_at c s h k m at) (Grants.bad_size none))
+  refuse_size m at none is into kind s h = subst (λ r. Requests s c.origin k into words kind r s) (sym is) (by (mutator_at c s h k m at) (Grants.bad_size none))
 
   pub not_vacant : HasNoMutator c.roots k → (reply ≡ Refused NoSlot → ⊥) → CantRefuse c k words reply
   not_vacant none other into kind s s' h fair asks = go reply refl asks
     where
-      go : (r : Reply) {t : Heap} → r ≡ reply → Requests s k into words kind r t → ⊥
+      go : (r : Reply) {t : Heap} → r ≡ reply → Requests s c.origin k into words kind r t → ⊥
       go r is (by {m = m} at act) = none-some m (same_Some None (Some m) (sym (ap (λ ms. slice_get ms k) h.mutators ∙ none) ∙ at))
       go r is (vacant free) = other (sym is)
 
   pub not_refused : (m : Mutator) → HasMutator c.roots k m → (reply ≡ Refused Full → ⊥) → (placement_of words ≡ None → reply ≡ Refused BadSize → ⊥) → CantRefuse c k words reply
   not_refused m here other size into kind s s' h fair asks = go reply refl asks
     where
-      grants : (n : Mutator) (r : Reply) {t : Heap} → r ≡ reply → Grants s k n into words kind r t → ⊥
+      grants : (n : Mutator) (r : Reply) {t : Heap} → r ≡ reply → Grants s c.origin k n into words kind r t → ⊥
       grants n r is (Grants.bad_size none) = size none (sym is)
       grants n r is Grants.full = other (sym is)
       grants n r is (Grants.granted a l few has) = fair (sym is)
 
-      go : (r : Reply) {t : Heap} → r ≡ reply → Requests s k into words kind r t → ⊥
+      go : (r : Reply) {t : Heap} → r ≡ reply → Requests s c.origin k into words kind r t → ⊥
       go r is (by {m = n} at act) = grants n r is act
       go r is (vacant free) = none-some m (same_Some None (Some m) (sym free ∙ mutator_at c s h k m here))

@@ -8,7 +8,7 @@ use Rattle.plain_core.specs.declared.extent.Extent.{Extent}
 use Rattle.plain_core.specs.Owners.{AreFound}
 use Rattle.plain_core.specs.Places.{IsFresh}
 
-module _ (row : List Extent) (owners : List ℕ) (found : AreFound row owners) (e : Extent) (even : e.base % WORD_BYTES ≡ 0) where
+module _ (origin : ℕ) (row : List Extent) (owners : List ℕ) (found : AreFound origin row owners) (e : Extent) (even : e.base % WORD_BYTES ≡ 0) where
   pub fresh_by : ((i : ℕ) → i < e.length → All (λ f. PointsInto (e.base + WORD_BYTES * i) f.base f.length → ⊥) row) → IsFresh row e
   fresh_by bare f w has re rf =
       let straight = All-contains (λ (g : Extent). g.base % WORD_BYTES ≡ 0) row f found.aligned has in

@@ -10,7 +10,7 @@ use Rattle.std.proofs.lemmas.Bool.{true≢false, ne_eqb}
 use Rattle.std.proofs.lemmas.List.{length-map}
 use Rattle.std.proofs.lemmas.List.Elements.{All-contains, All-map, Contains-get_or}
 use Rattle.std.proofs.lemmas.Option.{same_Some, none-some, slice_get_within, slice_get-get_or, slice_get-map, get_or_from_slice_get}
-use Rattle.words.specs.declared.limits.TheConstants.{FIRST_ADDRESS, WORD_BYTES, PAGE_WORDS}
+use Rattle.words.specs.declared.limits.TheConstants.{WORD_BYTES, PAGE_WORDS}
 use Rattle.words.specs.declared.class.Kind.{Kind}
 use Rattle.words.specs.declared.class.Kind.TheVariants.{Normal, PointerFree}
 use Rattle.heap_spec.specs.declared.reply.Reply.TheVariants.{Count}
@@ -19,6 +19,7 @@ use Rattle.heap_spec.specs.Heap.{Heap, Object, HasObject, PointsIntoObject, word
 use Rattle.heap_spec.specs.Closure.{given, root, word, Reached}
 use Rattle.heap_spec.specs.Cycles.{TakesOut, CollectsFully}
 use Rattle.links.specs.declared.row.Link.{Link}
+use Rattle.links.specs.Leaving.{word_index}
 use Rattle.roots.specs.Roots.{root_words_of}
 use Rattle.plain_core.specs.declared.extent.Extent.{Extent}
 use Rattle.plain_core.specs.PlainContents.{PlainContents, IsLaidOut, IsInHeap, first_word}
@@ -49,30 +50,30 @@ read_in Normal words w is has = has
 read_in PointerFree words w is has = let z : PointerFree ≡ Normal = is in cc
 
 -- an object stands at one place
-once : (row : List Extent) → IsDistinct nat_eq (map first_word row) → (i j : ℕ) (e : Extent) → slice_get row i ≡ Some e → slice_get row j ≡ Some e → i ≡ j
-once [] d i j e at at' = absurd (none-some e at)
-once (g ∷ row) d zero zero e at at' = refl
-once (g ∷ row) d zero (suc j) e at at' = absurd (first_apart row g d j e at' (same_Some g e at))
-once (g ∷ row) d (suc i) zero e at at' = absurd (first_apart row g d i e at (same_Some g e at'))
-once (g ∷ row) d (suc i) (suc j) e at at' = ap suc (once row (IsDistinct-tail nat_eq (first_word g) (map first_word row) d) i j e at at')
+once : (origin : ℕ) (row : List Extent) → IsDistinct nat_eq (map (first_word origin) row) → (i j : ℕ) (e : Extent) → slice_get row i ≡ Some e → slice_get row j ≡ Some e → i ≡ j
+once origin [] d i j e at at' = absurd (none-some e at)
+once origin (g ∷ row) d zero zero e at at' = refl
+once origin (g ∷ row) d zero (suc j) e at at' = absurd (first_apart origin row g d j e at' (same_Some g e at))
+once origin (g ∷ row) d (suc i) zero e at at' = absurd (first_apart origin row g d i e at (same_Some g e at'))
+once origin (g ∷ row) d (suc i) (suc j) e at at' = ap suc (once origin row (IsDistinct-tail nat_eq (first_word origin g) (map (first_word origin) row) d) i j e at at')
 
 -- no word points into two objects of a sound core
 pub sound_apart : (c : PlainContents) → IsLaidOut c → AreApart c.objects
 sound_apart c sound = record {
   one = λ w i j p q.
       let same : q.0 ≡ p.0 = sound.apart q.0 p.0 w (in_row c.objects j q.0 q.1) (in_row c.objects i p.0 p.1) q.2 p.2 in
-      once c.objects sound.distinct i j p.0 p.1 (q.1 ∙ ap Some same);
+      once c.origin c.objects sound.distinct i j p.0 p.1 (q.1 ∙ ap Some same);
 }
 
 -- the bases of distinct objects are distinct
-heads_apart : (q : Extent) (gone rest : List Extent) → AllByRecursion (λ y. eqb (first_word q) y ≡ false) (map first_word (gone ++ rest)) → AllByRecursion (λ y. eqb q.base y ≡ false) (map (λ (e : Extent). e.base) gone)
-heads_apart q [] rest all = tt
-heads_apart q (f ∷ gone) rest all = (ne_eqb q.base f.base (λ same. differ (first_word q) (first_word f) all.0 (ap (λ (b : ℕ). (b - FIRST_ADDRESS) / WORD_BYTES) same)), heads_apart q gone rest all.1)
+heads_apart : (origin : ℕ) (q : Extent) (gone rest : List Extent) → AllByRecursion (λ y. eqb (first_word origin q) y ≡ false) (map (first_word origin) (gone ++ rest)) → AllByRecursion (λ y. eqb q.base y ≡ false) (map (λ (e : Extent). e.base) gone)
+heads_apart origin q [] rest all = tt
+heads_apart origin q (f ∷ gone) rest all = (ne_eqb q.base f.base (λ same. differ (first_word origin q) (first_word origin f) all.0 (ap (word_index origin) same)), heads_apart origin q gone rest all.1)
 
-bases_distinct : (gone rest : List Extent) → IsDistinct nat_eq (map first_word (gone ++ rest)) → IsDistinct nat_eq (map (λ (e : Extent). e.base) gone)
-bases_distinct [] rest d = IsDistinct-from_count nat_eq_equiv [] refl
-bases_distinct (g ∷ gone) rest d = IsDistinct-cons nat_eq g.base (map (λ (e : Extent). e.base) gone)
-    (heads_apart g gone rest (IsDistinct-head nat_eq (first_word g) (map first_word (gone ++ rest)) d)) (bases_distinct gone rest (IsDistinct-tail nat_eq (first_word g) (map first_word (gone ++ rest)) d))
+bases_distinct : (origin : ℕ) (gone rest : List Extent) → IsDistinct nat_eq (map (first_word origin) (gone ++ rest)) → IsDistinct nat_eq (map (λ (e : Extent). e.base) gone)
+bases_distinct origin [] rest d = IsDistinct-from_count nat_eq_equiv [] refl
+bases_distinct origin (g ∷ gone) rest d = IsDistinct-cons nat_eq g.base (map (λ (e : Extent). e.base) gone)
+    (heads_apart origin g gone rest (IsDistinct-head nat_eq (first_word origin g) (map (first_word origin) (gone ++ rest)) d)) (bases_distinct origin gone rest (IsDistinct-tail nat_eq (first_word origin g) (map (first_word origin) (gone ++ rest)) d))
 
 mapped : (gone : List Extent) (e : Extent) → Contains gone e → Contains (map (λ (x : Extent). x.base) gone) e.base
 mapped gone e has = let at : slice_get (map (λ (x : Extent). x.base) gone) has.0 ≡ Some e.base = slice_get-map (λ (x : Extent). x.base) gone has.0 ∙ ap (option_map (λ (x : Extent). x.base)) (slice_get-get_or gone has.0 e has.1 ∙ ap Some has.2) in in_row _ has.0 e.base at
@@ -93,11 +94,11 @@ module _ (c : PlainContents) (sound : IsLaidOut c) (s : Heap) (h : StandsFor c s
   reads_at w i p e at =
       let o = reads_object c sound s h e (in_row c.objects i e at) w (subst (λ (x : Extent). PointsInto w x.base x.length) (same_Some p.0 e (sym p.1 ∙ at)) p.2) in (o.0, o.1)
 
-  pub reached_out : (i : ℕ) (e : Extent) → IsReachedNth (root_words_of c.roots) c.words c.objects i → slice_get c.objects i ≡ Some e → Reached s e.base
+  pub reached_out : (i : ℕ) (e : Extent) → IsReachedNth c.origin (root_words_of c.roots) c.words c.objects i → slice_get c.objects i ≡ Some e → Reached s e.base
   reached_out i e (by_root {w = w} among p) at = root (subst (λ ws. Contains ws w) (sym roots_are) among) (reads_at w i p e at).1
   reached_out i e (by_link {i = from} {w = w} {e = f} r there among p) at =
       let kept = h.kept f (in_row c.objects from f there) in
-      let link = read_of f.kind (words_at c.words f) w among in
+      let link = read_of f.kind (words_at c.origin c.words f) w among in
       word (reached_out from f r there) kept.1 (kept.2.kind ∙ link.0) (subst (λ ws. Contains ws w) (sym kept.2.words) link.1) (reads_at w i p e at).1
 
   -- the object that a word reads stands in the row
@@ -107,7 +108,7 @@ module _ (c : PlainContents) (sound : IsLaidOut c) (s : Heap) (h : StandsFor c s
       let i = at_place c.objects e.0 e.1 in
       (i.0, e.0, i.1, e.2, subst (λ b. PointsInto w b e.0.length) (sym e.2) (subst (λ n. PointsInto w base n) (sym e.3) r.1))
 
-  pub reached_in : (base : ℕ) → Reached s base → (i : ℕ) × (e : Extent) × (slice_get c.objects i ≡ Some e) × (e.base ≡ base) × IsReachedNth (root_words_of c.roots) c.words c.objects i
+  pub reached_in : (base : ℕ) → Reached s base → (i : ℕ) × (e : Extent) × (slice_get c.objects i ≡ Some e) × (e.base ≡ base) × IsReachedNth c.origin (root_words_of c.roots) c.words c.objects i
   reached_in base (given has none) = absurd none
   reached_in base (root {w = w} {o = o} among r) =
       let p = points_at w base o r in (p.0, p.1, p.2, p.3, by_root (subst (λ ws. Contains ws w) roots_are among) (p.1, p.2, p.4))
@@ -116,12 +117,12 @@ module _ (c : PlainContents) (sound : IsLaidOut c) (s : Heap) (h : StandsFor c s
       let kept = h.kept f.1 (in_row c.objects f.0 f.1 f.2) in
       let same : kept.0 ≡ q = same_Some kept.0 q (sym kept.1 ∙ ap s.objects f.3 ∙ has) in
       let kind : f.1.kind ≡ Normal = sym kept.2.kind ∙ ap (λ (x : Object). x.kind) same ∙ normal in
-      let words : Contains (words_at c.words f.1) w = subst (λ ws. Contains ws w) (sym (ap (λ (x : Object). x.words) same) ∙ kept.2.words) among in
+      let words : Contains (words_at c.origin c.words f.1) w = subst (λ ws. Contains ws w) (sym (ap (λ (x : Object). x.words) same) ∙ kept.2.words) among in
       let p = points_at w base o r in
-      (p.0, p.1, p.2, p.3, by_link f.4 f.2 (read_in f.1.kind (words_at c.words f.1) w kind words) (p.1, p.2, p.4))
+      (p.0, p.1, p.2, p.3, by_link f.4 f.2 (read_in f.1.kind (words_at c.origin c.words f.1) w kind words) (p.1, p.2, p.4))
 
   -- what is not marked is not reached
-  pub not_reached : (marks : List Bool) → MarksReached (root_words_of c.roots) c.words c.objects marks → (i : ℕ) (e : Extent) → slice_get c.objects i ≡ Some e → get_or marks i false ≡ false → Reached s e.base → ⊥
+  pub not_reached : (marks : List Bool) → MarksReached c.origin (root_words_of c.roots) c.words c.objects marks → (i : ℕ) (e : Extent) → slice_get c.objects i ≡ Some e → get_or marks i false ≡ false → Reached s e.base → ⊥
   not_reached marks m i e at unmarked r =
       let f = reached_in e.base r in
       let here : PointsInto e.base e.base e.length = reads_base c sound e (in_row c.objects i e at) e.base refl in
@@ -130,7 +131,7 @@ module _ (c : PlainContents) (sound : IsLaidOut c) (s : Heap) (h : StandsFor c s
       true≢false (sym (m.marked f.0 f.4) ∙ ap (λ k. get_or marks k false) (sym same) ∙ unmarked)
 
   -- objects that are not marked go
-  module _ (marks : List Bool) (m : MarksReached (root_words_of c.roots) c.words c.objects marks) (stay : List Extent) (n : ℕ) (parts : Parts c.objects marks stay n) where
+  module _ (marks : List Bool) (m : MarksReached c.origin (root_words_of c.roots) c.words c.objects marks) (stay : List Extent) (n : ℕ) (parts : Parts c.objects marks stay n) where
     abbrev bases : List ℕ
     bases = map (λ (e : Extent). e.base) parts.gone
 
@@ -141,7 +142,7 @@ module _ (c : PlainContents) (sound : IsLaidOut c) (s : Heap) (h : StandsFor c s
     takes = record {
       objects = All-map (λ b. (o : Object) × HasObject s b o) (λ (e : Extent). e.base) parts.gone
           (λ k d lt. let o = h.kept (get_or parts.gone k d) (was_gone c sound parts.gone stay parts.all (get_or parts.gone k d) (Contains-get_or parts.gone k d lt)) in (o.0, o.1));
-      distinct = bases_distinct parts.gone stay (distinct_all c sound parts.gone stay parts.all);
+      distinct = bases_distinct c.origin parts.gone stay (distinct_all c sound parts.gone stay parts.all);
       unreached = All-map (λ b. Reached s b → ⊥) (λ (e : Extent). e.base) parts.gone (λ k d lt. unreached (get_or parts.gone k d) (Contains-get_or parts.gone k d lt));
       number = ap Count (parts.number ∙ sym (length-map parts.gone (λ (e : Extent). e.base)));
       after = refl;
@@ -165,32 +166,32 @@ module _ (c : PlainContents) (sound : IsLaidOut c) (s : Heap) (h : StandsFor c s
       rest_stands c sound parts.gone stay parts.all bases (are_bases parts.gone) words links along s h,
     )
 
-pub collects : (c : PlainContents) → IsLaidOut c → (marks : List Bool) → MarksReached (root_words_of c.roots) c.words c.objects marks → (stay : List Extent) (n : ℕ) → Parts c.objects marks stay n
+pub collects : (c : PlainContents) → IsLaidOut c → (marks : List Bool) → MarksReached c.origin (root_words_of c.roots) c.words c.objects marks → (stay : List Extent) (n : ℕ) → Parts c.objects marks stay n
     → (words : List ℕ) (links : List Link) → LeavesAlong c stay words links → IsCollected c n (record c { words = words; objects = stay; links = links })
 collects c sound marks m stay n parts words links along s h = collected c sound s h marks m stay n parts words links along
 
-pub garbage : (c : PlainContents) → IsLaidOut c → (marks : List Bool) → MarksReached (root_words_of c.roots) c.words c.objects marks → (stay : List Extent) (n : ℕ) → Parts c.objects marks stay n → HasGarbage c n
+pub garbage : (c : PlainContents) → IsLaidOut c → (marks : List Bool) → MarksReached c.origin (root_words_of c.roots) c.words c.objects marks → (stay : List Extent) (n : ℕ) → Parts c.objects marks stay n → HasGarbage c n
 garbage c sound marks m stay n parts s h = (_, full c sound s h marks m stay n parts)
 
 -- each object's words are in a row of all words
-pub lie_in : (c : PlainContents) → IsLaidOut c → (row : List ℕ) → length row ≡ PAGE_WORDS * c.pages → All (LiesIn row) c.objects
+pub lie_in : (c : PlainContents) → IsLaidOut c → (row : List ℕ) → length row ≡ PAGE_WORDS * c.pages → All (LiesIn c.origin row) c.objects
 lie_in c sound row long k d lt =
     let e : Extent = get_or c.objects k d in
-    let i : IsInHeap c.pages e = sound.in_heap k d lt in
+    let i : IsInHeap c.origin c.pages e = sound.in_heap k d lt in
     record { start = i.start; aligned = let whole = i.aligned in omega arith; some = i.some; ends = omega (arith, i.start, i.aligned, i.ends) }
 
-pub all_lie : (c : PlainContents) → IsLaidOut c → All (LiesIn c.words) c.objects
+pub all_lie : (c : PlainContents) → IsLaidOut c → All (LiesIn c.origin c.words) c.objects
 all_lie c sound = lie_in c sound c.words sound.words
 
 -- the same marks, by equations
-pub marks_are : (roots roots' words words' : List ℕ) (row row' : List Extent) (marks marks' : List Bool) → roots ≡ roots' → words ≡ words' → row ≡ row' → marks' ≡ marks → MarksReached roots words row marks → MarksReached roots' words' row' marks'
-marks_are roots roots' words words' row row' marks marks' er ew eo em m =
-    subst (MarksReached roots' words' row') (sym em) (subst (λ o. MarksReached roots' words' o marks) eo (subst (λ w. MarksReached roots' w row marks) ew (subst (λ r. MarksReached r words row marks) er m)))
+pub marks_are : (origin : ℕ) (roots roots' words words' : List ℕ) (row row' : List Extent) (marks marks' : List Bool) → roots ≡ roots' → words ≡ words' → row ≡ row' → marks' ≡ marks → MarksReached origin roots words row marks → MarksReached origin roots' words' row' marks'
+marks_are origin roots roots' words words' row row' marks marks' er ew eo em m =
+    subst (MarksReached origin roots' words' row') (sym em) (subst (λ o. MarksReached origin roots' words' o marks) eo (subst (λ w. MarksReached origin roots' w row marks) ew (subst (λ r. MarksReached origin r words row marks) er m)))
 
 -- there is room for all objects, before and after
 pub room_for : (c : PlainContents) → IsLaidOut c → (l : Listing) → HasListRoom (PAGE_WORDS * c.pages) l → HasListRoom (length c.objects) l
 room_for c sound l room =
-    let few : length c.objects ≤ PAGE_WORDS * c.pages = few_objects c.pages c.objects sound.in_heap sound.distinct in
+    let few : length c.objects ≤ PAGE_WORDS * c.pages = few_objects c.origin c.pages c.objects sound.in_heap sound.distinct in
     let marks = room.marks in let order = room.order in record { marks = omega arith; order = omega arith }
 
 pub room_kept : (n : ℕ) (l l' : Listing) → HasListRoom n l → KeepsRoom l l' → HasListRoom n l'

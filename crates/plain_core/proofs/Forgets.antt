@@ -57,7 +57,7 @@ all_set_of row flags n is room = record {
 
 -- the flags of a core have room for its objects
 pub room_of_flags : (c : PlainContents) → IsLaidOut c → (n : ℕ) → PAGE_WORDS * c.pages ≤ n → length c.objects ≤ n
-room_of_flags c sound n room = let few : length c.objects ≤ PAGE_WORDS * c.pages = few_objects c.pages c.objects sound.in_heap sound.distinct in omega arith
+room_of_flags c sound n room = let few : length c.objects ≤ PAGE_WORDS * c.pages = few_objects c.origin c.pages c.objects sound.in_heap sound.distinct in omega arith
 
 pub all_set : (c : PlainContents) → IsLaidOut c → (flags : List Bool) (n : ℕ) → flags ≡ replicate n true → PAGE_WORDS * c.pages ≤ n → AreUnset c.objects [] flags
 all_set c sound flags n is room = all_set_of c.objects flags n is (room_of_flags c sound n room)
@@ -67,12 +67,12 @@ get_at : (row : List Extent) (i : ℕ) → i < length row → (e : Extent) × (s
 get_at row i lt = let e : Extent = get_or row i (record { base = 0; kind = Normal; length = 0 }) in (e, slice_get-get_or row i _ lt)
 
 -- what is not reached is not marked
-pub unmarked : (c : PlainContents) (sound : IsLaidOut c) (marks : List Bool) (m : MarksReached (root_words_of c.roots) c.words c.objects marks) (s : Heap) (h : StandsFor c s) (b : Bool) (i : ℕ) (e : Extent)
+pub unmarked : (c : PlainContents) (sound : IsLaidOut c) (marks : List Bool) (m : MarksReached c.origin (root_words_of c.roots) c.words c.objects marks) (s : Heap) (h : StandsFor c s) (b : Bool) (i : ℕ) (e : Extent)
     → slice_get c.objects i ≡ Some e → (Reached s e.base → ⊥) → get_or marks i false ≡ b → get_or marks i false ≡ false
 unmarked c sound marks m s h true i e at out is = absurd (out (reached_out c sound s h i e (m.reached i is) at))
 unmarked c sound marks m s h false i e at out is = is
 
-module _ (c : PlainContents) (sound : IsLaidOut c) (marks : List Bool) (m : MarksReached (root_words_of c.roots) c.words c.objects marks) (bases : List ℕ) where
+module _ (c : PlainContents) (sound : IsLaidOut c) (marks : List Bool) (m : MarksReached c.origin (root_words_of c.roots) c.words c.objects marks) (bases : List ℕ) where
   module _ (free : AreFreeToGo c.objects marks bases) (flags : List Bool) (unset : AreUnset c.objects bases flags) (stay : List Extent) (n : ℕ) (parts : Parts c.objects flags stay n) where
     are : AreBases parts.gone bases
     are = record {

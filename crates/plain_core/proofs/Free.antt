@@ -7,7 +7,7 @@ use Rattle.std.proofs.lemmas.List.Sorted.{Contains-permutation, IsPermutation-ma
 use Rattle.std.proofs.lemmas.Map.Keys.{IsDistinct-IsPermutation, IsDistinct-head, IsDistinct-tail}
 use Rattle.std.proofs.lemmas.Option.{slice_get_within, get_or_from_slice_get}
 use Rattle.words.specs.declared.refusal.Refusal.TheVariants.{NotBase}
-use Rattle.words.specs.declared.limits.TheConstants.{FIRST_ADDRESS, WORD_BYTES}
+use Rattle.words.specs.declared.limits.TheConstants.{WORD_BYTES}
 use Rattle.heap_spec.specs.declared.call.Call.TheVariants.{Free}
 use Rattle.heap_spec.specs.declared.reply.Reply.TheVariants.{Done, Refused}
 use Rattle.heap_spec.specs.Layout.{PointsInto}
@@ -17,12 +17,12 @@ use Rattle.heap_spec.proofs.Objects.{without_some, without_other}
 use Rattle.heap_spec.proofs.Links.{left_by, stays_by}
 use Rattle.links.specs.declared.row.Link.{Link}
 use Rattle.links.specs.Named.{AreNamed}
-use Rattle.links.specs.Leaving.{TellObjects, ClearsWords, clears_with, stays_with}
+use Rattle.links.specs.Leaving.{TellObjects, ClearsWords, clears_with, stays_with, word_index}
 use Rattle.links.proofs.Leaving.{PointsIntoOne, named_along, word_same}
 use Rattle.roots.specs.Roots.{HasMutator}
 use Rattle.plain_core.specs.declared.extent.Extent.{Extent}
 use Rattle.plain_core.specs.PlainContents.{PlainContents, IsLaidOut, IsInHeap, first_word}
-use Rattle.plain_core.specs.Standing.{StandsFor, IsShown, word_index, words_at}
+use Rattle.plain_core.specs.Standing.{StandsFor, IsShown, words_at}
 use Rattle.plain_core.specs.Along.{holds_word, has_base}
 use Rattle.plain_core.proofs.Stands.{StepsCall, mutator_at, keeps_all}
 use Rattle.plain_core.proofs.Lists.{the_one}
@@ -37,40 +37,40 @@ pub differ : (a b : ℕ) → eqb a b ≡ false → a ≢ b
 differ a b e = grind arith
 
 -- no object of the row has a first word that none of their first words is equal to
-first_words_apart : (q : ℕ) (row : List Extent) → AllByRecursion (λ y. eqb q y ≡ false) (map first_word row) → (f : Extent) (k : ℕ) → k < length row → get_or row k f ≡ f → eqb q (first_word f) ≡ false
-first_words_apart q [] all f k lt is = absurd (omega arith)
-first_words_apart q (g ∷ row) all f zero lt is = subst (λ (x : Extent). eqb q (first_word x) ≡ false) is all.0
-first_words_apart q (g ∷ row) all f (suc k) lt is = first_words_apart q row all.1 f k (omega arith) is
+first_words_apart : (origin q : ℕ) (row : List Extent) → AllByRecursion (λ y. eqb q y ≡ false) (map (first_word origin) row) → (f : Extent) (k : ℕ) → k < length row → get_or row k f ≡ f → eqb q (first_word origin f) ≡ false
+first_words_apart origin q [] all f k lt is = absurd (omega arith)
+first_words_apart origin q (g ∷ row) all f zero lt is = subst (λ (x : Extent). eqb q (first_word origin x) ≡ false) is all.0
+first_words_apart origin q (g ∷ row) all f (suc k) lt is = first_words_apart origin q row all.1 f k (omega arith) is
 
 -- the first of a row whose first words are distinct stands nowhere else
-pub first_apart : (row : List Extent) (g : Extent) → IsDistinct nat_eq (first_word g ∷ map first_word row) → (j : ℕ) (e : Extent) → slice_get row j ≡ Some e → g ≡ e → ⊥
-first_apart row g d j e at same =
-    differ (first_word g) (first_word e) (first_words_apart (first_word g) row (IsDistinct-head nat_eq (first_word g) (map first_word row) d) e j (slice_get_within row j e at) (get_or_from_slice_get row j e e at)) (ap first_word same)
+pub first_apart : (origin : ℕ) (row : List Extent) (g : Extent) → IsDistinct nat_eq (first_word origin g ∷ map (first_word origin) row) → (j : ℕ) (e : Extent) → slice_get row j ≡ Some e → g ≡ e → ⊥
+first_apart origin row g d j e at same =
+    differ (first_word origin g) (first_word origin e) (first_words_apart origin (first_word origin g) row (IsDistinct-head nat_eq (first_word origin g) (map (first_word origin) row) d) e j (slice_get_within row j e at) (get_or_from_slice_get row j e e at)) (ap (first_word origin) same)
 
 -- what is behind distinct ones is distinct, and none of it is among them
-rest_distinct : (gone rest : List Extent) → IsDistinct nat_eq (map first_word (gone ++ rest)) → IsDistinct nat_eq (map first_word rest)
-rest_distinct [] rest d = d
-rest_distinct (g ∷ gone) rest d = rest_distinct gone rest (IsDistinct-tail nat_eq (first_word g) (map first_word (gone ++ rest)) d)
+rest_distinct : (origin : ℕ) (gone rest : List Extent) → IsDistinct nat_eq (map (first_word origin) (gone ++ rest)) → IsDistinct nat_eq (map (first_word origin) rest)
+rest_distinct origin [] rest d = d
+rest_distinct origin (g ∷ gone) rest d = rest_distinct origin gone rest (IsDistinct-tail nat_eq (first_word origin g) (map (first_word origin) (gone ++ rest)) d)
 
-rest_apart : (gone rest : List Extent) → IsDistinct nat_eq (map first_word (gone ++ rest)) → (e f : Extent) → Contains gone e → Contains rest f → first_word e ≢ first_word f
-rest_apart [] rest d e f there has = absurd (let lt = there.1 in omega arith)
-rest_apart (g ∷ gone) rest d e f there has = ⊎_elim
+rest_apart : (origin : ℕ) (gone rest : List Extent) → IsDistinct nat_eq (map (first_word origin) (gone ++ rest)) → (e f : Extent) → Contains gone e → Contains rest f → first_word origin e ≢ first_word origin f
+rest_apart origin [] rest d e f there has = absurd (let lt = there.1 in omega arith)
+rest_apart origin (g ∷ gone) rest d e f there has = ⊎_elim
     (λ first. let here = Contains-append_right gone rest f has in
-    differ _ _ (subst (λ (x : Extent). eqb (first_word x) (first_word f) ≡ false) (the_one g e first) (first_words_apart (first_word g) (gone ++ rest) (IsDistinct-head nat_eq (first_word g) (map first_word (gone ++ rest)) d) f here.0 here.1 here.2)))
-    (λ later. rest_apart gone rest (IsDistinct-tail nat_eq (first_word g) (map first_word (gone ++ rest)) d) e f later has)
+    differ _ _ (subst (λ (x : Extent). eqb (first_word origin x) (first_word origin f) ≡ false) (the_one g e first) (first_words_apart origin (first_word origin g) (gone ++ rest) (IsDistinct-head nat_eq (first_word origin g) (map (first_word origin) (gone ++ rest)) d) f here.0 here.1 here.2)))
+    (λ later. rest_apart origin gone rest (IsDistinct-tail nat_eq (first_word origin g) (map (first_word origin) (gone ++ rest)) d) e f later has)
     (Contains-append_cases (g ∷ []) gone e there)
 
 -- The links went along with the objects that are gone: these are the objects that stay.
 pub record LeavesAlong (c : PlainContents) (rest : List Extent) (words : List ℕ) (links : List Link) : Type 0 where
-  pub cleared : ClearsWords (holds_word rest) (has_base rest) c.links c.words words
+  pub cleared : ClearsWords c.origin (holds_word rest) (has_base rest) c.links c.words words
   pub left : links ≡ filter (stays_with (holds_word rest) (has_base rest)) c.links
 
 -- the same by equations
-pub along_of : (c : PlainContents) (rest objects : List Extent) (row row' words : List ℕ) (links : List Link) → objects ≡ rest → row ≡ c.words → words ≡ row' → ClearsWords (holds_word objects) (has_base objects) c.links row row'
+pub along_of : (c : PlainContents) (rest objects : List Extent) (row row' words : List ℕ) (links : List Link) → objects ≡ rest → row ≡ c.words → words ≡ row' → ClearsWords c.origin (holds_word objects) (has_base objects) c.links row row'
     → links ≡ filter (stays_with (holds_word objects) (has_base objects)) c.links → LeavesAlong c rest words links
 along_of c rest objects row row' words links same old new clears stays = record {
-  cleared = subst (λ o. ClearsWords (holds_word o) (has_base o) c.links c.words words) same
-      (subst (λ ws. ClearsWords (holds_word objects) (has_base objects) c.links ws words) old (subst (ClearsWords (holds_word objects) (has_base objects) c.links row) (sym new) clears));
+  cleared = subst (λ o. ClearsWords c.origin (holds_word o) (has_base o) c.links c.words words) same
+      (subst (λ ws. ClearsWords c.origin (holds_word objects) (has_base objects) c.links ws words) old (subst (ClearsWords c.origin (holds_word objects) (has_base objects) c.links row) (sym new) clears));
   left = subst (λ o. links ≡ filter (stays_with (holds_word o) (has_base o)) c.links) same stays;
 }
 
@@ -90,18 +90,21 @@ module _ (c : PlainContents) (sound : IsLaidOut c) (gone rest : List Extent) (pe
   pub stays_in : (f : Extent) → Contains c.objects f → Contains gone f ⊎ Contains rest f
   stays_in f has = Contains-append_cases gone rest f (Contains-permutation c.objects (gone ++ rest) f perm has)
 
-  pub distinct_all : IsDistinct nat_eq (map first_word (gone ++ rest))
-  distinct_all = IsDistinct-IsPermutation nat_eq flips (map first_word c.objects) (map first_word (gone ++ rest)) (IsPermutation-map first_word c.objects (gone ++ rest) perm) sound.distinct
+  pub distinct_all : IsDistinct nat_eq (map (first_word c.origin) (gone ++ rest))
+  distinct_all = IsDistinct-IsPermutation nat_eq flips (map (first_word c.origin) c.objects) (map (first_word c.origin) (gone ++ rest)) (IsPermutation-map (first_word c.origin) c.objects (gone ++ rest) perm) sound.distinct
 
   other_base : (e f : Extent) → Contains gone e → Contains rest f → e.base ≢ f.base
-  other_base e f there has same = rest_apart gone rest distinct_all e f there has (ap (λ (b : ℕ). (b - FIRST_ADDRESS) / WORD_BYTES) same)
+  other_base e f there has same = rest_apart c.origin gone rest distinct_all e f there has (ap (word_index c.origin) same)
 
   pub rest_sound : (words : List ℕ) (links : List Link) → length words ≡ length c.words → IsLaidOut (record c { words = words; objects = rest; links = links })
   rest_sound words links size = record {
     pages = sound.pages;
+    starts = sound.starts;
+    past_zero = sound.past_zero;
+    fits = sound.fits;
     words = size ∙ sound.words;
-    in_heap = λ k d lt. All-contains (IsInHeap c.pages) c.objects (get_or rest k d) sound.in_heap (was_in (get_or rest k d) (Contains-get_or rest k d lt));
-    distinct = rest_distinct gone rest distinct_all;
+    in_heap = λ k d lt. All-contains (IsInHeap c.origin c.pages) c.objects (get_or rest k d) sound.in_heap (was_in (get_or rest k d) (Contains-get_or rest k d lt));
+    distinct = rest_distinct c.origin gone rest distinct_all;
     apart = λ f g w hf hg rf rg. sound.apart f g w (was_in f hf) (was_in g hg) rf rg;
   }
 
@@ -133,25 +136,25 @@ module _ (c : PlainContents) (sound : IsLaidOut c) (gone rest : List Extent) (pe
           none o.0 (subst (λ x. without_at s.objects bases x ≡ Some o.0) same (without_other s.objects bases f.base (not_gone f has) ∙ o.1)));
     }
 
-    low : (a : ℕ) → holds_word rest a ≡ true → FIRST_ADDRESS ≤ a
-    low a is = let e = held_by rest a is in let i : IsInHeap c.pages e.0 = in_heap c sound e.0 (was_in e.0 e.1) in let from = e.2.0 in let start = i.start in omega arith
+    low : (a : ℕ) → holds_word rest a ≡ true → c.origin ≤ a
+    low a is = let e = held_by rest a is in let i : IsInHeap c.origin c.pages e.0 = in_heap c sound e.0 (was_in e.0 e.1) in let from = e.2.0 in let start = i.start in omega arith
 
     one : PointsIntoOne s
     one = (legible c sound s h).one
 
     -- the words of an object that stays
-    words_left : (f : Extent) → Contains rest f → cleared (loses_word s bases) f.base (words_at c.words f) ≡ words_at words f
-    words_left f has = words_along c.words words c.pages f inside sound.words along.cleared.size (loses_word s bases) (clears_with (holds_word rest) (has_base rest) c.links) same along.cleared.words
+    words_left : (f : Extent) → Contains rest f → cleared (loses_word s bases) f.base (words_at c.origin c.words f) ≡ words_at c.origin words f
+    words_left f has = words_along c.origin c.words words c.pages f inside sound.words along.cleared.size (loses_word s bases) (clears_with c.origin (holds_word rest) (has_base rest) c.links) same along.cleared.words
       where
-        inside : IsInHeap c.pages f
+        inside : IsInHeap c.origin c.pages f
         inside = in_heap c sound f (was_in f has)
 
-        same : (i : ℕ) → i < f.length → clears_with (holds_word rest) (has_base rest) c.links (word_index f.base + i) ≡ loses_word s bases (f.base + WORD_BYTES * i)
+        same : (i : ℕ) → i < f.length → clears_with c.origin (holds_word rest) (has_base rest) c.links (word_index c.origin f.base + i) ≡ loses_word s bases (f.base + WORD_BYTES * i)
         same i lt =
             let start = inside.start in let even = inside.aligned in
-            let at : word_index f.base + i ≡ word_index (f.base + WORD_BYTES * i) = omega arith in
-            ap (clears_with (holds_word rest) (has_base rest) c.links) at
-            ∙ word_same s bases (holds_word rest) (has_base rest) tells h.distinct one low (f.base + WORD_BYTES * i) (omega arith) (holds_yes rest f (f.base + WORD_BYTES * i) has (omega arith, omega arith)) h.links
+            let at : word_index c.origin f.base + i ≡ word_index c.origin (f.base + WORD_BYTES * i) = omega arith in
+            ap (clears_with c.origin (holds_word rest) (has_base rest) c.links) at
+            ∙ word_same s bases (holds_word rest) (has_base rest) tells h.distinct one c.origin low (f.base + WORD_BYTES * i) (omega arith) (holds_yes rest f (f.base + WORD_BYTES * i) has (omega arith, omega arith)) h.links
 
     pub rest_stands : StandsFor (record c { words = words; objects = rest; links = links }) (without s bases)
     rest_stands = record {
@@ -186,7 +189,7 @@ frees c sound e rest perm words links along k r m at has same s h = (
   rest_stands c sound (e ∷ []) rest perm (e.base ∷ []) (one_base e) words links along s h,
 )
   where
-    kept : (o : Object) × HasObject s e.base o × IsShown c.words e o
+    kept : (o : Object) × HasObject s e.base o × IsShown c.origin c.words e o
     kept = h.kept e has
 
 -- an address inside an object that is not its base

@@ -72,24 +72,24 @@ fresh_large pages count row e whole p f w has re rf =
     All-contains (λ (g : Extent). LiesOn g.base g.length page → ⊥) row f (p.free page (omega arith) (omega arith)) has (omega arith, omega arith)
 
 -- the first words of the objects are below their number in the heap
-below_all : (pages : ℕ) (row : List Extent) → All (IsInHeap pages) row → (q : ℕ) → list_any (eqb q) (map first_word row) ≡ true → q < PAGE_WORDS * pages
-below_all pages row h q is =
-    let a = Any-from_list_any (eqb q) (map first_word row) is in
-    let b : All (λ g. g < PAGE_WORDS * pages) (map first_word row) = All-map (λ g. g < PAGE_WORDS * pages) first_word row (All-weaker (IsInHeap pages) (λ e. first_word e < PAGE_WORDS * pages) (λ e i. omega arith) row h) in
+below_all : (origin pages : ℕ) (row : List Extent) → All (IsInHeap origin pages) row → (q : ℕ) → list_any (eqb q) (map (first_word origin) row) ≡ true → q < PAGE_WORDS * pages
+below_all origin pages row h q is =
+    let a = Any-from_list_any (eqb q) (map (first_word origin) row) is in
+    let b : All (λ g. g < PAGE_WORDS * pages) (map (first_word origin) row) = All-map (λ g. g < PAGE_WORDS * pages) (first_word origin) row (All-weaker (IsInHeap origin pages) (λ e. first_word origin e < PAGE_WORDS * pages) (λ e i. omega arith) row h) in
     rw (eqb-true q a.1 a.4) (rw a.3 at (b a.0 a.1 a.2))
 
 -- there are no more objects than words
-pub few_objects : (pages : ℕ) (row : List Extent) → All (IsInHeap pages) row → IsDistinct eqb (map first_word row) → length row ≤ PAGE_WORDS * pages
-few_objects pages row h d = let l : length (map first_word row) ≤ PAGE_WORDS * pages = length-le_from_distinct_below (map first_word row) (PAGE_WORDS * pages) d (below_all pages row h) in rw length-map at l
+pub few_objects : (origin pages : ℕ) (row : List Extent) → All (IsInHeap origin pages) row → IsDistinct eqb (map (first_word origin) row) → length row ≤ PAGE_WORDS * pages
+few_objects origin pages row h d = let l : length (map (first_word origin) row) ≤ PAGE_WORDS * pages = length-le_from_distinct_below (map (first_word origin) row) (PAGE_WORDS * pages) d (below_all origin pages row h) in rw length-map at l
 
 -- with a new object the first words stay distinct
-pub distinct_push : (pages : ℕ) (row : List Extent) (e : Extent) → All (IsInHeap pages) row → IsInHeap pages e → IsFresh row e → IsDistinct eqb (map first_word row) → IsDistinct eqb (map first_word (row ++ e ∷ []))
-distinct_push pages row e h new fresh d = rw map_push (IsDistinct-push nat_eq_equiv (map first_word row) (first_word e) d
-    (list_any_none (eqb (first_word e)) (map first_word row) (All-map (λ g. eqb (first_word e) g ≡ false) first_word row (λ k g lt. apart (get_or row k g) (Contains-get_or row k g lt)))))
+pub distinct_push : (origin pages : ℕ) (row : List Extent) (e : Extent) → All (IsInHeap origin pages) row → IsInHeap origin pages e → IsFresh row e → IsDistinct eqb (map (first_word origin) row) → IsDistinct eqb (map (first_word origin) (row ++ e ∷ []))
+distinct_push origin pages row e h new fresh d = rw map_push (IsDistinct-push nat_eq_equiv (map (first_word origin) row) (first_word origin e) d
+    (list_any_none (eqb (first_word origin e)) (map (first_word origin) row) (All-map (λ g. eqb (first_word origin e) g ≡ false) (first_word origin) row (λ k g lt. apart (get_or row k g) (Contains-get_or row k g lt)))))
   where
-    apart : (f : Extent) → Contains row f → eqb (first_word e) (first_word f) ≡ false
-    apart f has = ne_eqb _ _ (λ same. let i : IsInHeap pages f = All-contains (IsInHeap pages) row f h has in fresh f e.base has (omega arith, omega arith) (omega arith, omega arith))
+    apart : (f : Extent) → Contains row f → eqb (first_word origin e) (first_word origin f) ≡ false
+    apart f has = ne_eqb _ _ (λ same. let i : IsInHeap origin pages f = All-contains (IsInHeap origin pages) row f h has in fresh f e.base has (omega arith, omega arith) (omega arith, omega arith))
 
-pub distinct_none : (row : List Extent) → row ≡ [] → IsDistinct eqb (map first_word row)
+pub distinct_none : (origin : ℕ) (row : List Extent) → row ≡ [] → IsDistinct eqb (map (first_word origin) row)
 unfolding IsDistinct
-distinct_none row e = rw e tt
+distinct_none origin row e = rw e tt

@@ -36,12 +36,12 @@ module _ (c : PlainContents) (sound : IsLaidOut c) (own : ℕ) (e : Extent) (the
       let roots : roots_of s ≡ c.roots = ap (λ ms. record { mutators = ms; globals = s.globals }) h.mutators ∙ ap (λ gs. record { mutators = c.roots.mutators; globals = gs }) h.globals in
       (o.0, o.1, subst (RootsHave (roots_of s) root e.base) (sym o.2) (subst (λ (r : RootSet). RootsHave r root e.base e.length) (sym roots) has))
 
-  module _ (order : List ℕ) (marks : List Bool) (listed : IsListOf (length c.objects) order marks) (m : MarksReached (root_words_of c.roots) c.words c.objects marks) where
-    kept_by_word : (from index i : ℕ) → Contains order i → IsLinkInto c.words c.objects own e i from index → (s : Heap) → StandsFor c s → IsKeptBy s e.base (ByWord from index)
+  module _ (order : List ℕ) (marks : List Bool) (listed : IsListOf (length c.objects) order marks) (m : MarksReached c.origin (root_words_of c.roots) c.words c.objects marks) where
+    kept_by_word : (from index i : ℕ) → Contains order i → IsLinkInto c.origin c.words c.objects own e i from index → (s : Heap) → StandsFor c s → IsKeptBy s e.base (ByWord from index)
     kept_by_word from index i among l s h =
         let kept = h.kept l.holder (in_row c.objects i l.holder l.there) in
         let o = object_of c sound s h e (in_row c.objects own e there) in
-        let read = read_at l.holder.kind (words_at c.words l.holder) index l.into.0 l.into.1 in (
+        let read = read_at l.holder.kind (words_at c.origin c.words l.holder) index l.into.0 l.into.1 in (
           o.0,
           o.1,
           record {
@@ -55,23 +55,23 @@ module _ (c : PlainContents) (sound : IsLaidOut c) (own : ℕ) (e : Extent) (the
         )
 
     module _ (rootless : AreNotInto (root_words_of c.roots) e.base e.length) where
-      module _ (none : All (HasNoLink c.words c.objects own e) order) where
+      module _ (none : All (HasNoLink c.origin c.words c.objects own e) order) where
         into_own : (i w : ℕ) (p : PointsIntoNth c.objects w i) → i ≡ own → PointsInto w e.base e.length
         into_own i w p same = subst (λ (x : Extent). PointsInto w x.base x.length) (same_Some p.0 e (sym p.1 ∙ ap (slice_get c.objects) same ∙ there)) p.2
 
-        unkept : (i : ℕ) → IsReachedNth (root_words_of c.roots) c.words c.objects i → i ≡ own → ⊥
+        unkept : (i : ℕ) → IsReachedNth c.origin (root_words_of c.roots) c.words c.objects i → i ≡ own → ⊥
         unkept i (by_root {w = w} among p) same = All-contains (λ v. PointsInto v e.base e.length → ⊥) (root_words_of c.roots) w rootless among (into_own i w p same)
         unkept i (by_link {i = from} {w = w} {e = f} r at among p) same = ⊎_elim
             (λ is. unkept from r is)
-            (λ ne. All-contains (λ v. PointsInto v e.base e.length → ⊥) (links_of c.words f) w
-            (All-contains (HasNoLink c.words c.objects own e) order from none (listed.only from (m.marked from r)) f at ne) among (into_own i w p same))
+            (λ ne. All-contains (λ v. PointsInto v e.base e.length → ⊥) (links_of c.origin c.words f) w
+            (All-contains (HasNoLink c.origin c.words c.objects own e) order from none (listed.only from (m.marked from r)) f at ne) among (into_own i w p same))
             (cases_eq from own)
 
         not_kept : (s : Heap) → StandsFor c s → TellsKeeper s e.base None
         not_kept s h r = let f = reached_in c sound s h e.base r in unkept f.0 f.4 ((one_each c sound).one f.0 own f.1 e f.2 there f.3)
 
       -- what the search of the list answers is told
-      pub kept_in_list : (found : Option Keeper) → IfSome found (λ k. (i : ℕ) × Contains order i × IsLinkAt c.words c.objects own e i k) → IfNone found (All (HasNoLink c.words c.objects own e) order)
+      pub kept_in_list : (found : Option Keeper) → IfSome found (λ k. (i : ℕ) × Contains order i × IsLinkAt c.origin c.words c.objects own e i k) → IfNone found (All (HasNoLink c.origin c.words c.objects own e) order)
           → (s : Heap) → StandsFor c s → TellsKeeper s e.base found
       kept_in_list None some none s h = not_kept none s h
       kept_in_list (Some (ByRoot root)) some none s h = absurd some.2

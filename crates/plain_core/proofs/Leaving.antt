@@ -5,16 +5,16 @@ use Rattle.std.proofs.lemmas.Bool.{true≢false, eq-eqb, eqb-true, le-leb, lt-lt
 use Rattle.std.proofs.lemmas.List.{ext_get_or, get_or-take, get_or-drop}
 use Rattle.std.proofs.lemmas.List.Elements.{All-contains, filter_more}
 use Rattle.std.proofs.lemmas.List.Folds.{Any-from_list_any, list_any-from_Any, list_any_none}
-use Rattle.words.specs.declared.limits.TheConstants.{FIRST_ADDRESS, WORD_BYTES, PAGE_WORDS}
+use Rattle.words.specs.declared.limits.TheConstants.{WORD_BYTES, PAGE_WORDS}
 use Rattle.heap_spec.specs.Layout.{PointsInto}
 use Rattle.heap_spec.specs.Heap.{cleared}
 use Rattle.heap_spec.proofs.Links.{length-cleared, cleared_at}
 use Rattle.links.specs.declared.row.Link.{Link}
-use Rattle.links.specs.Leaving.{ClearsWords}
+use Rattle.links.specs.Leaving.{ClearsWords, word_index}
 use Rattle.links.proofs.Leaving.{clears_more}
 use Rattle.plain_core.specs.declared.extent.Extent.{Extent}
 use Rattle.plain_core.specs.PlainContents.{IsInHeap}
-use Rattle.plain_core.specs.Standing.{LiesIn, word_index, words_at}
+use Rattle.plain_core.specs.Standing.{LiesIn, words_at}
 use Rattle.plain_core.specs.Along.{holds_word, has_base, ClearsWord}
 use Rattle.plain_core.proofs.Memory.{length_words}
 
@@ -49,26 +49,26 @@ pub base_no : (row : List Extent) (b : ℕ) → ((e : Extent) → Contains row e
 base_no row b none = not_true _ (λ is. let x = Any-from_list_any (λ (e : Extent). e.base == b) row is in none x.1 (x.0, x.2, x.3) (eqb-true _ _ x.4))
 
 -- an address that is held is one of a word in the row
-pub held_low : (words : List ℕ) (row : List Extent) (a : ℕ) → All (LiesIn words) row → holds_word row a ≡ true → FIRST_ADDRESS ≤ a
-held_low words row a lie is =
+pub held_low : (origin : ℕ) (words : List ℕ) (row : List Extent) (a : ℕ) → All (LiesIn origin words) row → holds_word row a ≡ true → origin ≤ a
+held_low origin words row a lie is =
     let e = held_by row a is in
-    let l : LiesIn words e.0 = All-contains (LiesIn words) row e.0 lie e.1 in
+    let l : LiesIn origin words e.0 = All-contains (LiesIn origin words) row e.0 lie e.1 in
     let from = e.2.0 in let start = l.start in omega arith
 
-pub held_inside : (words : List ℕ) (row : List Extent) (a : ℕ) → All (LiesIn words) row → holds_word row a ≡ true → word_index a < length words
-held_inside words row a lie is =
+pub held_inside : (origin : ℕ) (words : List ℕ) (row : List Extent) (a : ℕ) → All (LiesIn origin words) row → holds_word row a ≡ true → word_index origin a < length words
+held_inside origin words row a lie is =
     let e = held_by row a is in
-    let l : LiesIn words e.0 = All-contains (LiesIn words) row e.0 lie e.1 in
+    let l : LiesIn origin words e.0 = All-contains (LiesIn origin words) row e.0 lie e.1 in
     let from = e.2.0 in let below = e.2.1 in let start = l.start in let even = l.aligned in let ends = l.ends in omega arith
 
 -- rows of words of one length lie the same
-pub lie_same : (words words' : List ℕ) (row : List Extent) → length words' ≡ length words → All (LiesIn words) row → All (LiesIn words') row
-lie_same words words' row size lie = λ k d lt. let l = lie k d lt in record { start = l.start; aligned = l.aligned; some = l.some; ends = let e = l.ends in omega arith }
+pub lie_same : (origin : ℕ) (words words' : List ℕ) (row : List Extent) → length words' ≡ length words → All (LiesIn origin words) row → All (LiesIn origin words') row
+lie_same origin words words' row size lie = λ k d lt. let l = lie k d lt in record { start = l.start; aligned = l.aligned; some = l.some; ends = let e = l.ends in omega arith }
 
 -- one link after another
-pub along_more : (objects : List Extent) (row : List Link) (i : ℕ) (l d : Link) (words mid words' : List ℕ) → i < length row → l ≡ get_or row i d
-    → ClearsWords (holds_word objects) (has_base objects) (take i row) words mid → ClearsWord objects l mid words' → ClearsWords (holds_word objects) (has_base objects) (take (i + 1) row) words words'
-along_more objects row i l d words mid words' lt is so one = clears_more (holds_word objects) (has_base objects) row i l d words mid words' lt is so one.size one.words
+pub along_more : (origin : ℕ) (objects : List Extent) (row : List Link) (i : ℕ) (l d : Link) (words mid words' : List ℕ) → i < length row → l ≡ get_or row i d
+    → ClearsWords origin (holds_word objects) (has_base objects) (take i row) words mid → ClearsWord origin objects l mid words' → ClearsWords origin (holds_word objects) (has_base objects) (take (i + 1) row) words words'
+along_more origin objects row i l d words mid words' lt is so one = clears_more origin (holds_word objects) (has_base objects) row i l d words mid words' lt is so one.size one.words
 
 pub kept_more : (p : Link → Bool) (row : List Link) (i : ℕ) (d : Link) (b : Bool) (us vs : List Link) → i < length row → p (get_or row i d) ≡ b → us ≡ filter p (take i row)
     → vs ≡ us ++ cond b (get_or row i d ∷ []) [] → vs ≡ filter p (take (i + 1) row)
@@ -76,20 +76,20 @@ kept_more p row i d b us vs lt test so now =
     now ∙ ap (λ l. l ++ cond b (get_or row i d ∷ []) []) so ∙ ap (λ c. filter p (take i row) ++ cond c (get_or row i d ∷ []) []) (sym test) ∙ sym (filter_more p row i d lt)
 
 -- the words of an object, of which some have become 0
-word_of : (row : List ℕ) (e : Extent) (i : ℕ) → i < e.length → get_or (words_at row e) i 0 ≡ get_or row (word_index e.base + i) 0
-word_of row e i lt = get_or-take e.length (drop (word_index e.base) row) i 0 lt ∙ get_or-drop (word_index e.base) row i 0
+word_of : (origin : ℕ) (row : List ℕ) (e : Extent) (i : ℕ) → i < e.length → get_or (words_at origin row e) i 0 ≡ get_or row (word_index origin e.base + i) 0
+word_of origin row e i lt = get_or-take e.length (drop (word_index origin e.base) row) i 0 lt ∙ get_or-drop (word_index origin e.base) row i 0
 
-pub words_along : (row row' : List ℕ) (pages : ℕ) (e : Extent) → IsInHeap pages e → length row ≡ PAGE_WORDS * pages → length row' ≡ length row → (gone clears : ℕ → Bool)
-    → ((i : ℕ) → i < e.length → clears (word_index e.base + i) ≡ gone (e.base + WORD_BYTES * i)) → ((k : ℕ) → get_or row' k 0 ≡ cond (clears k) 0 (get_or row k 0))
-    → cleared gone e.base (words_at row e) ≡ words_at row' e
-words_along row row' pages e inside long size gone clears same changed =
-    let here : length (words_at row e) ≡ e.length = length_words row pages e long inside in
-    let there : length (words_at row' e) ≡ e.length = length_words row' pages e (size ∙ long) inside in
-    let kept = length-cleared gone e.base (words_at row e) in
+pub words_along : (origin : ℕ) (row row' : List ℕ) (pages : ℕ) (e : Extent) → IsInHeap origin pages e → length row ≡ PAGE_WORDS * pages → length row' ≡ length row → (gone clears : ℕ → Bool)
+    → ((i : ℕ) → i < e.length → clears (word_index origin e.base + i) ≡ gone (e.base + WORD_BYTES * i)) → ((k : ℕ) → get_or row' k 0 ≡ cond (clears k) 0 (get_or row k 0))
+    → cleared gone e.base (words_at origin row e) ≡ words_at origin row' e
+words_along origin row row' pages e inside long size gone clears same changed =
+    let here : length (words_at origin row e) ≡ e.length = length_words origin row pages e long inside in
+    let there : length (words_at origin row' e) ≡ e.length = length_words origin row' pages e (size ∙ long) inside in
+    let kept = length-cleared gone e.base (words_at origin row e) in
     ext_get_or 0 _ _ (kept ∙ here ∙ sym there) (λ i lt.
     let within : i < e.length = omega arith in
-    cleared_at gone e.base (words_at row e) i
-    ∙ ap (λ b. cond b 0 (get_or (words_at row e) i 0)) (sym (same i within))
-    ∙ ap (λ w. cond (clears (word_index e.base + i)) 0 w) (word_of row e i within)
-    ∙ sym (changed (word_index e.base + i))
-    ∙ sym (word_of row' e i within))
+    cleared_at gone e.base (words_at origin row e) i
+    ∙ ap (λ b. cond b 0 (get_or (words_at origin row e) i 0)) (sym (same i within))
+    ∙ ap (λ w. cond (clears (word_index origin e.base + i)) 0 w) (word_of origin row e i within)
+    ∙ sym (changed (word_index origin e.base + i))
+    ∙ sym (word_of origin row' e i within))

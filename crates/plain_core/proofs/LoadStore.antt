@@ -4,7 +4,7 @@ use Rattle.std.specs.Prelude.{Some, Contains}
 use Rattle.std.proofs.lemmas.Option.{same_Some}
 use Rattle.std.proofs.lemmas.List.{get_or_read}
 use Rattle.std.proofs.lemmas.Bool.{cases_eq}
-use Rattle.words.specs.declared.limits.TheConstants.{WORD_BYTES, FIRST_ADDRESS}
+use Rattle.words.specs.declared.limits.TheConstants.{WORD_BYTES}
 use Rattle.heap_spec.specs.declared.call.Call.TheVariants.{Load, Store, Size}
 use Rattle.heap_spec.specs.declared.reply.Reply.TheVariants.{Done, Word, Count}
 use Rattle.heap_spec.specs.Layout.{PointsInto}
@@ -12,17 +12,18 @@ use Rattle.heap_spec.specs.Heap.{Heap, Object, Mutator, HasObject}
 use Rattle.heap_spec.specs.Steps.{Acts, acts, with_object, with_register, register, address}
 use Rattle.heap_spec.proofs.Objects.{with_at-same, with_at-other}
 use Rattle.heap_spec.proofs.Calls.{stored_same}
+use Rattle.links.specs.Leaving.{word_index}
 use Rattle.links.proofs.Named.{named_kept}
 use Rattle.roots.specs.Roots.{RootSet, HasMutator, SetsWord}
 use Rattle.plain_core.specs.declared.extent.Extent.{Extent}
 use Rattle.plain_core.specs.PlainContents.{PlainContents, IsLaidOut, IsInHeap}
-use Rattle.plain_core.specs.Standing.{IsShown, word_index}
+use Rattle.plain_core.specs.Standing.{IsShown}
 use Rattle.plain_core.proofs.Stands.{StepsCall, mutator_at, keeps_all, sets_register}
 use Rattle.plain_core.proofs.Memory.{word_in, written_in, written_out}
 use Rattle.plain_core.proofs.Objects.{in_heap, reads_base, in_row, length_shown, reads_object}
 
 pub loads : (c : PlainContents) (roots : RootSet) (k d r n w : ℕ) (m : Mutator) (e : Extent) → IsLaidOut c → HasMutator c.roots k m → Contains c.objects e
-    → PointsInto (address m r n) e.base e.length → address m r n % WORD_BYTES ≡ 0 → w ≡ get_or c.words (word_index (address m r n)) w
+    → PointsInto (address m r n) e.base e.length → address m r n % WORD_BYTES ≡ 0 → w ≡ get_or c.words (word_index c.origin (address m r n)) w
     → SetsWord c.roots k d w roots → StepsCall c k (Load d r n) (Word w) (record c { roots = roots })
 loads c roots k d r n w m e sound at has reads al is sets =
     sets_register c roots k d w m (Load d r n) (Word w) at sets
@@ -31,8 +32,8 @@ loads c roots k d r n w m e sound at has reads al is sets =
     let kept = h.kept e has in
     let word : get_or kept.0.words ((a - e.base) / WORD_BYTES) 0 ≡ w =
     ap (λ xs. get_or xs ((a - e.base) / WORD_BYTES) 0) kept.2.words
-    ∙ word_in c.words c.pages a e (in_heap c sound e has) reads
-    ∙ sym (get_or_read c.words (word_index a) w (in_row c sound e has a reads) is 0) in
+    ∙ word_in c.origin c.words c.pages a e sound.starts (in_heap c sound e has) reads
+    ∙ sym (get_or_read c.words (word_index c.origin a) w (in_row c sound e has a reads) is 0) in
     subst (λ v. Acts s k m (Load d r n) (Word v) (with_register s k m d v)) word (Acts.loaded al (kept.1, rw (length_shown c sound e has kept.0 kept.2) reads)))
 
 pub sizes : (c : PlainContents) (k r : ℕ) (m : Mutator) (e : Extent) → IsLaidOut c → HasMutator c.roots k m → Contains c.objects e → PointsInto (register m r) e.base e.length
@@ -53,7 +54,7 @@ module _ (s : Heap) (base : ℕ) (o o' : Object) (has : HasObject s base o) (bir
 
 pub stores : (c : PlainContents) (k r n f : ℕ) (m : Mutator) (e : Extent) → IsLaidOut c → HasMutator c.roots k m → Contains c.objects e
     → PointsInto (address m r n) e.base e.length → address m r n % WORD_BYTES ≡ 0
-    → StepsCall c k (Store r n f) Done (record c { words = set c.words (word_index (address m r n)) (register m f) })
+    → StepsCall c k (Store r n f) Done (record c { words = set c.words (word_index c.origin (address m r n)) (register m f) })
 stores c k r n f m e sound at has reads al s h = (
   after,
   acts (mutator_at c s h k m at) (Acts.stored al (kept.1, rw (length_shown c sound e has kept.0 kept.2) reads)),
@@ -62,12 +63,12 @@ stores c k r n f m e sound at has reads al s h = (
     mutators = h.mutators;
     globals = h.globals;
     kept = λ g hg. ⊎_elim
-        (λ same. subst (λ (x : Extent). (p : Object) × HasObject after x.base p × IsShown row x p) (sound.apart e g g.base has hg (reads_base c sound e has g.base same) (reads_base c sound g hg g.base refl))
-        (o', with_at-same s.objects e.base (Some o') e.base refl, record { kind = kept.2.kind; words = ap (λ xs. set xs ((a - e.base) / WORD_BYTES) v) kept.2.words ∙ sym (written_in c.words c.pages a v e (in_heap c sound e has) reads) }))
+        (λ same. subst (λ (x : Extent). (p : Object) × HasObject after x.base p × IsShown c.origin row x p) (sound.apart e g g.base has hg (reads_base c sound e has g.base same) (reads_base c sound g hg g.base refl))
+        (o', with_at-same s.objects e.base (Some o') e.base refl, record { kind = kept.2.kind; words = ap (λ xs. set xs ((a - e.base) / WORD_BYTES) v) kept.2.words ∙ sym (written_in c.origin c.words c.pages a v e sound.starts (in_heap c sound e has) reads) }))
         (λ other. let old = h.kept g hg in (
           old.0,
           with_at-other s.objects e.base (Some o') g.base other ∙ old.1,
-          record { kind = old.2.kind; words = old.2.words ∙ sym (written_out c.words c.pages a v g (in_heap c sound g hg) (low) al (λ rg. other (ap (λ (x : Extent). x.base) (sound.apart g e a hg has rg reads)))) },
+          record { kind = old.2.kind; words = old.2.words ∙ sym (written_out c.origin c.words c.pages a v g sound.starts (in_heap c sound g hg) (low) al (λ rg. other (ap (λ (x : Extent). x.base) (sound.apart g e a hg has rg reads)))) },
         ))
         (cases_eq g.base e.base);
     only = λ b p is. let q = was_there s e.base kept.0 o' kept.1 refl b p is in h.only b q.0 q.1;
@@ -87,9 +88,9 @@ stores c k r n f m e sound at has reads al s h = (
     v = register m f
 
     row : List ℕ
-    row = set c.words (word_index a) v
+    row = set c.words (word_index c.origin a) v
 
-    kept : (o : Object) × HasObject s e.base o × IsShown c.words e o
+    kept : (o : Object) × HasObject s e.base o × IsShown c.origin c.words e o
     kept = h.kept e has
 
     o' : Object
@@ -98,5 +99,5 @@ stores c k r n f m e sound at has reads al s h = (
     after : Heap
     after = with_object s e.base (Some o')
 
-    low : FIRST_ADDRESS ≤ a
-    low = let i : IsInHeap c.pages e = in_heap c sound e has in omega arith
+    low : c.origin ≤ a
+    low = let i : IsInHeap c.origin c.pages e = in_heap c sound e has in omega arith

@@ -131,25 +131,25 @@ module _ (row : List Extent) (marks stays : List Bool) (i : ℕ) where
   }
 
 -- exactly those of the first objects that have no flag are not marked
-abbrev pub FlaggedSoFar : List Extent → List Bool → ℕ → List Bool → Type 0
-FlaggedSoFar row flags done marks = (i : ℕ) (e : Extent) → i < done → slice_get row i ≡ Some e → (get_or marks i false ≡ false) ↔ (IsFlagged flags e.base → ⊥)
+abbrev pub FlaggedSoFar : (origin : ℕ) → List Extent → List Bool → ℕ → List Bool → Type 0
+FlaggedSoFar origin row flags done marks = (i : ℕ) (e : Extent) → i < done → slice_get row i ≡ Some e → (get_or marks i false ≡ false) ↔ (IsFlagged origin flags e.base → ⊥)
 
 false_where : (P : Type 0) (b : Bool) → (b ≡ true → P) → (P → ⊥) → b ≡ false
 false_where P true holds out = absurd (out (holds refl))
 false_where P false holds out = refl
 
-pub flagged_more : (row : List Extent) (flags : List Bool) (done : ℕ) (e : Extent) (b : Bool) (marks : List Bool) → done < length marks → slice_get row done ≡ Some e → (b ≡ true → IsFlagged flags e.base) → (b ≡ false → IsFlagged flags e.base → ⊥)
-    → FlaggedSoFar row flags done marks → FlaggedSoFar row flags (done + 1) (set marks done b)
-flagged_more row flags done e b marks short there set_is unset_is before i f lt at = ⊎_elim
+pub flagged_more : (origin : ℕ) (row : List Extent) (flags : List Bool) (done : ℕ) (e : Extent) (b : Bool) (marks : List Bool) → done < length marks → slice_get row done ≡ Some e → (b ≡ true → IsFlagged origin flags e.base) → (b ≡ false → IsFlagged origin flags e.base → ⊥)
+    → FlaggedSoFar origin row flags done marks → FlaggedSoFar origin row flags (done + 1) (set marks done b)
+flagged_more origin row flags done e b marks short there set_is unset_is before i f lt at = ⊎_elim
     (λ same.
     let is_e : f ≡ e = same_Some f e (sym at ∙ ap (slice_get row) same ∙ there) in
     let value : get_or (set marks done b) i false ≡ b = ap (λ k. get_or (set marks done b) k false) same ∙ get_or-set_same marks done b false short in (
-      λ off has. unset_is (sym value ∙ off) (subst (λ (x : Extent). IsFlagged flags x.base) is_e has),
-      λ out. value ∙ false_where (IsFlagged flags e.base) b set_is (λ has. out (subst (λ (x : Extent). IsFlagged flags x.base) (sym is_e) has)),
+      λ off has. unset_is (sym value ∙ off) (subst (λ (x : Extent). IsFlagged origin flags x.base) is_e has),
+      λ out. value ∙ false_where (IsFlagged origin flags e.base) b set_is (λ has. out (subst (λ (x : Extent). IsFlagged origin flags x.base) (sym is_e) has)),
     ))
     (λ ne.
     let value : get_or (set marks done b) i false ≡ get_or marks i false = get_or-set_other marks done i b false ne in
-    let old : (get_or marks i false ≡ false) ↔ (IsFlagged flags f.base → ⊥) = before i f (omega arith) at in
+    let old : (get_or marks i false ≡ false) ↔ (IsFlagged origin flags f.base → ⊥) = before i f (omega arith) at in
     (λ off. old.0 (sym value ∙ off), λ out. value ∙ old.1 out))
     (cases_eq i done)
 
@@ -163,7 +163,7 @@ left_are row row' marks marks' stays stays' r eo em es low =
     subst (λ x. TellsLowest (IsBelow (IsLeftAt row' marks' x) (length row')) r) es (subst (λ m. TellsLowest (IsBelow (IsLeftAt row' m stays) (length row')) r) em (subst (λ o. TellsLowest (IsBelow (IsLeftAt o marks stays) (length o)) r) eo low))
 
 -- What is wrong in the row is what is wrong in a heap that the core stands for.
-module _ (c : PlainContents) (sound : IsLaidOut c) (marks : List Bool) (m : MarksReached (root_words_of c.roots) c.words c.objects marks) (bases : List ℕ) (stays : List Bool) (unset : AreUnset c.objects bases stays) where
+module _ (c : PlainContents) (sound : IsLaidOut c) (marks : List Bool) (m : MarksReached c.origin (root_words_of c.roots) c.words c.objects marks) (bases : List ℕ) (stays : List Bool) (unset : AreUnset c.objects bases stays) where
   module _ (s : Heap) (h : StandsFor c s) (kept : List Bool) (Goes : ℕ → Object → Type 0) (goes : (i : ℕ) (e : Extent) (o : Object) → slice_get c.objects i ≡ Some e → HasObject s e.base o → (get_or kept i false ≡ false) ↔ Goes e.base o) where
     abbrev Named : Wrong → Type 0
     Named = IsBelow (IsNamedAt c.objects marks bases) (length bases)
@@ -234,6 +234,6 @@ module _ (c : PlainContents) (sound : IsLaidOut c) (marks : List Bool) (m : Mark
   uncollected a b r x y is s h = told s h marks (λ base o. Reached s base → ⊥)
       (λ i e o at has. (λ off reached. not_reached c sound s h marks m i e at off reached, λ out. unmarked c sound marks m s h (get_or marks i false) i e at out refl)) a b r x y is
 
-  pub unforgotten : (flags kept : List Bool) → MarksFlagged c.objects flags kept → (a b r : Option Wrong) → TellsLowest (IsBelow (IsNamedAt c.objects marks bases) (length bases)) a
+  pub unforgotten : (flags kept : List Bool) → MarksFlagged c.origin c.objects flags kept → (a b r : Option Wrong) → TellsLowest (IsBelow (IsNamedAt c.objects marks bases) (length bases)) a
       → TellsLowest (IsBelow (IsLeftAt c.objects kept stays) (length c.objects)) b → IsLowerOf a b r → TellsUnforgotten c flags bases r
-  unforgotten flags kept flagged a b r x y is s h = told s h kept (λ base o. IsFlagged flags base → ⊥) (λ i e o at has. flagged i e at) a b r x y is
+  unforgotten flags kept flagged a b r x y is s h = told s h kept (λ base o. IsFlagged c.origin flags base → ⊥) (λ i e o at has. flagged i e at) a b r x y is

@@ -5,10 +5,11 @@ use Rattle.std.proofs.lemmas.List.Elements.{All-contains, Contains-get_or}
 use Rattle.std.proofs.lemmas.Option.{same_Some, none-some}
 use Rattle.heap_spec.specs.Layout.{PointsInto}
 use Rattle.heap_spec.specs.Heap.{Heap, Object, HasObject, PointsIntoObject, PointsIntoNothing}
+use Rattle.links.specs.Leaving.{word_index}
 use Rattle.plain_core.specs.declared.extent.Extent.{Extent}
 use Rattle.plain_core.specs.PlainContents.{PlainContents, IsLaidOut, IsInHeap}
 use Rattle.plain_core.specs.Places.{IsNoBase}
-use Rattle.plain_core.specs.Standing.{StandsFor, IsShown, word_index}
+use Rattle.plain_core.specs.Standing.{StandsFor, IsShown}
 use Rattle.plain_core.proofs.Memory.{length_words}
 
 none_of : {A : Type 0} (o : Option A) → ((x : A) → o ≡ Some x → ⊥) → o ≡ None
@@ -16,20 +17,20 @@ none_of None h = refl
 none_of (Some x) h = absurd (h x refl)
 
 module _ (c : PlainContents) (sound : IsLaidOut c) where
-  pub in_heap : (e : Extent) → Contains c.objects e → IsInHeap c.pages e
-  in_heap e has = All-contains (IsInHeap c.pages) c.objects e sound.in_heap has
+  pub in_heap : (e : Extent) → Contains c.objects e → IsInHeap c.origin c.pages e
+  in_heap e has = All-contains (IsInHeap c.origin c.pages) c.objects e sound.in_heap has
 
   -- an object of the heap is as long as its extent
-  pub length_shown : (e : Extent) → Contains c.objects e → (o : Object) → IsShown c.words e o → length o.words ≡ e.length
-  length_shown e has o show = ap length show.words ∙ length_words c.words c.pages e sound.words (in_heap e has)
+  pub length_shown : (e : Extent) → Contains c.objects e → (o : Object) → IsShown c.origin c.words e o → length o.words ≡ e.length
+  length_shown e has o show = ap length show.words ∙ length_words c.origin c.words c.pages e sound.words (in_heap e has)
 
   -- an object reads its own base
   pub reads_base : (e : Extent) → Contains c.objects e → (a : ℕ) → a ≡ e.base → PointsInto a e.base e.length
-  reads_base e has a is = let i : IsInHeap c.pages e = in_heap e has in (omega arith, omega arith)
+  reads_base e has a is = let i : IsInHeap c.origin c.pages e = in_heap e has in (omega arith, omega arith)
 
   -- an address that reads an object has a place in the row of words
-  pub in_row : (e : Extent) → Contains c.objects e → (a : ℕ) → PointsInto a e.base e.length → word_index a < length c.words
-  in_row e has a r = let i : IsInHeap c.pages e = in_heap e has in let w = sound.words in omega arith
+  pub in_row : (e : Extent) → Contains c.objects e → (a : ℕ) → PointsInto a e.base e.length → word_index c.origin a < length c.words
+  in_row e has a r = let i : IsInHeap c.origin c.pages e = in_heap e has in let w = sound.words in omega arith
 
 module _ (c : PlainContents) (sound : IsLaidOut c) (s : Heap) (h : StandsFor c s) where
   -- the object of the heap that lies there

@@ -6,111 +6,112 @@ use Rattle.std.proofs.lemmas.Bool.{cases_eq, cases_lt}
 use Rattle.std.proofs.lemmas.List.{get_or_append_left, get_or-take, length-take, length_push}
 use Rattle.std.proofs.lemmas.List.Elements.{All-nil, All-weaker}
 use Rattle.std.proofs.lemmas.Option.{same_Some, none-some, slice_get_within, get_or_from_slice_get, slice_get-get_or}
-use Rattle.words.specs.declared.limits.TheConstants.{FIRST_ADDRESS, WORD_BYTES}
+use Rattle.words.specs.declared.limits.TheConstants.{WORD_BYTES}
 use Rattle.heap_spec.specs.Layout.{PointsInto}
+use Rattle.links.specs.Leaving.{word_index}
 use Rattle.plain_core.specs.declared.extent.Extent.{Extent}
-use Rattle.plain_core.specs.Standing.{LiesIn, word_index}
+use Rattle.plain_core.specs.Standing.{LiesIn}
 use Rattle.plain_core.specs.Reached.{PointsIntoNth, AreApart}
 use Rattle.plain_core.specs.PlainContents.{PlainContents, IsLaidOut, IsInHeap}
 use Rattle.plain_core.specs.Owners.{AreOwners, AreOwnersBut, AreFound}
 
 -- the object at a place of the row lies in it
-pub lies_at : (row : List Extent) (words : List ℕ) → All (LiesIn words) row → (i : ℕ) (e : Extent) → slice_get row i ≡ Some e → LiesIn words e
-lies_at row words all i e at = subst (LiesIn words) (get_or_from_slice_get row i e e at) (all i e (slice_get_within row i e at))
+pub lies_at : (origin : ℕ) (row : List Extent) (words : List ℕ) → All (LiesIn origin words) row → (i : ℕ) (e : Extent) → slice_get row i ≡ Some e → LiesIn origin words e
+lies_at origin row words all i e at = subst (LiesIn origin words) (get_or_from_slice_get row i e e at) (all i e (slice_get_within row i e at))
 
 -- an address of an object, by its place
-placed_in : (words : List ℕ) (e : Extent) (w : ℕ) → LiesIn words e → PointsInto w e.base e.length → (FIRST_ADDRESS ≤ w) × (word_index e.base ≤ word_index w) × (word_index w < word_index e.base + e.length)
-placed_in words e w lies reads =
+placed_in : (origin : ℕ) (words : List ℕ) (e : Extent) (w : ℕ) → LiesIn origin words e → PointsInto w e.base e.length → (origin ≤ w) × (word_index origin e.base ≤ word_index origin w) × (word_index origin w < word_index origin e.base + e.length)
+placed_in origin words e w lies reads =
     let s = lies.start in let a = lies.aligned in (omega (arith, reads.0), omega (arith, reads.0), omega (arith, reads.0, reads.1))
 
-reads_in : (words : List ℕ) (e : Extent) (w : ℕ) → LiesIn words e → FIRST_ADDRESS ≤ w → word_index e.base ≤ word_index w → word_index w < word_index e.base + e.length → PointsInto w e.base e.length
-reads_in words e w lies low from until = let s = lies.start in let a = lies.aligned in (omega arith, omega arith)
+reads_in : (origin : ℕ) (words : List ℕ) (e : Extent) (w : ℕ) → LiesIn origin words e → origin ≤ w → word_index origin e.base ≤ word_index origin w → word_index origin w < word_index origin e.base + e.length → PointsInto w e.base e.length
+reads_in origin words e w lies low from until = let s = lies.start in let a = lies.aligned in (omega arith, omega arith)
 
 -- So far each word of one of the first objects has that object's place.
-pub record OwnSoFar (row : List Extent) (count : ℕ) (owners : List ℕ) : Type 0 where
-  pub owned : (w i : ℕ) → i < count → PointsIntoNth row w i → get_or owners (word_index w) 0 ≡ i
+pub record OwnSoFar (origin : ℕ) (row : List Extent) (count : ℕ) (owners : List ℕ) : Type 0 where
+  pub owned : (w i : ℕ) → i < count → PointsIntoNth row w i → get_or owners (word_index origin w) 0 ≡ i
 
-module _ (row : List Extent) (apart : AreApart row) (words : List ℕ) (lie : All (LiesIn words) row) where
-  pub own_none : (owners : List ℕ) → OwnSoFar row 0 owners
+module _ (origin : ℕ) (row : List Extent) (apart : AreApart row) (words : List ℕ) (lie : All (LiesIn origin words) row) where
+  pub own_none : (owners : List ℕ) → OwnSoFar origin row 0 owners
   own_none owners = record { owned = λ w i few p. absurd (omega (arith, few)) }
 
   -- the words of the object at a place, and all others
-  module _ (n : ℕ) (e : Extent) (start : ℕ) (at : slice_get row n ≡ Some e) (begins : start ≡ word_index e.base) where
-    lies : LiesIn words e
-    lies = lies_at row words lie n e at
+  module _ (n : ℕ) (e : Extent) (start : ℕ) (at : slice_get row n ≡ Some e) (begins : start ≡ word_index origin e.base) where
+    lies : LiesIn origin words e
+    lies = lies_at origin row words lie n e at
 
-    inside : (w i : ℕ) → i ≡ n → PointsIntoNth row w i → (start ≤ word_index w) × (word_index w < start + e.length)
+    inside : (w i : ℕ) → i ≡ n → PointsIntoNth row w i → (start ≤ word_index origin w) × (word_index origin w < start + e.length)
     inside w i same p =
         let is : p.0 ≡ e = same_Some p.0 e (sym p.1 ∙ ap (slice_get row) same ∙ at) in
-        let in_it = placed_in words e w lies (subst (λ (x : Extent). PointsInto w x.base x.length) is p.2) in
+        let in_it = placed_in origin words e w lies (subst (λ (x : Extent). PointsInto w x.base x.length) is p.2) in
         (let b = begins in omega (arith, in_it.1), let b = begins in omega (arith, in_it.2))
 
-    outside : (w i : ℕ) → (i ≡ n → ⊥) → PointsIntoNth row w i → (word_index w < start) ⊎ (start + e.length ≤ word_index w)
+    outside : (w i : ℕ) → (i ≡ n → ⊥) → PointsIntoNth row w i → (word_index origin w < start) ⊎ (start + e.length ≤ word_index origin w)
     outside w i ne p =
-        let low = (placed_in words p.0 w (lies_at row words lie i p.0 p.1) p.2).0 in
+        let low = (placed_in origin words p.0 w (lies_at origin row words lie i p.0 p.1) p.2).0 in
         ⊎_elim (λ under. inl under)
         (λ from. ⊎_elim
-        (λ within. absurd (ne (apart.one w i n p (e, at, reads_in words e w lies low (let b = begins in omega (arith, from)) (let b = begins in omega (arith, within))))))
+        (λ within. absurd (ne (apart.one w i n p (e, at, reads_in origin words e w lies low (let b = begins in omega (arith, from)) (let b = begins in omega (arith, within))))))
         (λ past. inr past)
-        (cases_lt (word_index w) (start + e.length)))
-        (cases_lt (word_index w) start)
+        (cases_lt (word_index origin w) (start + e.length)))
+        (cases_lt (word_index origin w) start)
 
     -- once they are written down
-    pub own_more : (old new : List ℕ) → OwnSoFar row n old
+    pub own_more : (old new : List ℕ) → OwnSoFar origin row n old
         → ((k : ℕ) → start ≤ k → k < start + e.length → get_or new k 0 ≡ n)
         → ((k : ℕ) → (k < start) ⊎ (start + e.length ≤ k) → get_or new k 0 ≡ get_or old k 0)
-        → OwnSoFar row (n + 1) new
+        → OwnSoFar origin row (n + 1) new
     own_more old new before filled others = record {
       owned = λ w i few p. ⊎_elim
-          (λ same. let here = inside w i same p in filled (word_index w) here.0 here.1 ∙ sym same)
-          (λ ne. others (word_index w) (outside w i ne p) ∙ before.owned w i (omega arith) p)
+          (λ same. let here = inside w i same p in filled (word_index origin w) here.0 here.1 ∙ sym same)
+          (λ ne. others (word_index origin w) (outside w i ne p) ∙ before.owned w i (omega arith) p)
           (cases_eq i n);
     }
 
-    pub own_last : (old new : List ℕ) → AreOwnersBut n row old
+    pub own_last : (old new : List ℕ) → AreOwnersBut origin n row old
         → ((k : ℕ) → start ≤ k → k < start + e.length → get_or new k 0 ≡ n)
         → ((k : ℕ) → (k < start) ⊎ (start + e.length ≤ k) → get_or new k 0 ≡ get_or old k 0)
-        → OwnSoFar row (length row) new
+        → OwnSoFar origin row (length row) new
     own_last old new before filled others = record {
       owned = λ w i few p. ⊎_elim
-          (λ same. let here = inside w i same p in filled (word_index w) here.0 here.1 ∙ sym same)
-          (λ ne. others (word_index w) (outside w i ne p) ∙ before.owned w i ne p)
+          (λ same. let here = inside w i same p in filled (word_index origin w) here.0 here.1 ∙ sym same)
+          (λ ne. others (word_index origin w) (outside w i ne p) ∙ before.owned w i ne p)
           (cases_eq i n);
     }
 
   -- none is left
-  pub own_past : (n : ℕ) (owners : List ℕ) → length row ≤ n → AreOwnersBut n row owners → OwnSoFar row (length row) owners
+  pub own_past : (n : ℕ) (owners : List ℕ) → length row ≤ n → AreOwnersBut origin n row owners → OwnSoFar origin row (length row) owners
   own_past n owners past but = record { owned = λ w i few p. but.owned w i (λ same. absurd (omega arith)) p }
 
   -- all have theirs
-  pub own_all : (n : ℕ) (owners : List ℕ) → length row ≤ n → length owners ≡ length words → OwnSoFar row n owners → AreOwners row owners
+  pub own_all : (n : ℕ) (owners : List ℕ) → length row ≤ n → length owners ≡ length words → OwnSoFar origin row n owners → AreOwners origin row owners
   own_all n owners past long so_far = record {
     some = λ k d lt. (lie k d lt).some;
-    start = λ w i p. (placed_in words p.0 w (lies_at row words lie i p.0 p.1) p.2).0;
-    within = λ w i p. let lies = lies_at row words lie i p.0 p.1 in let in_it = placed_in words p.0 w lies p.2 in let ends = lies.ends in omega (arith, in_it.2);
+    start = λ w i p. (placed_in origin words p.0 w (lies_at origin row words lie i p.0 p.1) p.2).0;
+    within = λ w i p. let lies = lies_at origin row words lie i p.0 p.1 in let in_it = placed_in origin words p.0 w lies p.2 in let ends = lies.ends in omega (arith, in_it.2);
     owned = λ w i p. so_far.owned w i (let lt = slice_get_within row i p.0 p.1 in omega arith) p;
   }
 
 -- the same of equal rows
-pub owners_as : (row row' : List Extent) (owners owners' : List ℕ) → row ≡ row' → owners ≡ owners' → AreOwners row owners → AreOwners row' owners'
-owners_as row row' owners owners' er eo own = subst (λ r. AreOwners r owners') er (subst (AreOwners row) eo own)
+pub owners_as : (origin : ℕ) (row row' : List Extent) (owners owners' : List ℕ) → row ≡ row' → owners ≡ owners' → AreOwners origin row owners → AreOwners origin row' owners'
+owners_as origin row row' owners owners' er eo own = subst (λ r. AreOwners origin r owners') er (subst (AreOwners origin row) eo own)
 
-module _ (row : List Extent) (owners : List ℕ) (own : AreOwners row owners) (w : ℕ) where
+module _ (origin : ℕ) (row : List Extent) (owners : List ℕ) (own : AreOwners origin row owners) (w : ℕ) where
   abbrev points : (k : ℕ) (d : Extent) → k < length row → PointsInto w (get_or row k d).base (get_or row k d).length → PointsIntoNth row w k
   points k d lt reads = (get_or row k d, slice_get-get_or row k d lt, reads)
 
   -- no object has a word before the first, or past the last
-  pub none_low : w < FIRST_ADDRESS → All (λ (e : Extent). PointsInto w e.base e.length → ⊥) row
+  pub none_low : w < origin → All (λ (e : Extent). PointsInto w e.base e.length → ⊥) row
   none_low low k d lt reads = let from = own.start w k (points k d lt reads) in omega arith
 
-  pub none_past : length owners ≤ word_index w → All (λ (e : Extent). PointsInto w e.base e.length → ⊥) row
+  pub none_past : length owners ≤ word_index origin w → All (λ (e : Extent). PointsInto w e.base e.length → ⊥) row
   none_past past k d lt reads = let until = own.within w k (points k d lt reads) in omega arith
 
   -- none but the owner
-  pub none_at : length row ≤ get_or owners (word_index w) 0 → All (λ (e : Extent). PointsInto w e.base e.length → ⊥) row
+  pub none_at : length row ≤ get_or owners (word_index origin w) 0 → All (λ (e : Extent). PointsInto w e.base e.length → ⊥) row
   none_at past k d lt reads = let is = own.owned w k (points k d lt reads) in omega arith
 
-  pub none_other : (e : Extent) → slice_get row (get_or owners (word_index w) 0) ≡ Some e → (PointsInto w e.base e.length → ⊥) → All (λ (e : Extent). PointsInto w e.base e.length → ⊥) row
+  pub none_other : (e : Extent) → slice_get row (get_or owners (word_index origin w) 0) ≡ Some e → (PointsInto w e.base e.length → ⊥) → All (λ (e : Extent). PointsInto w e.base e.length → ⊥) row
   none_other e at out k d lt reads =
       let p = points k d lt reads in
       let is : p.0 ≡ e = same_Some p.0 e (sym p.1 ∙ ap (slice_get row) (sym (own.owned w k p)) ∙ at) in
@@ -138,8 +139,8 @@ module _ (row : List Extent) (owners : List ℕ) (own : AreOwners row owners) (w
       same_Some e (get_or row k d) (sym at ∙ ap (slice_get row) same ∙ p.1)
 
 -- no object has words
-pub own_nothing : (row : List Extent) (owners : List ℕ) → row ≡ [] → AreOwners row owners
-own_nothing row owners is = subst (λ r. AreOwners r owners) (sym is) (record {
+pub own_nothing : (origin : ℕ) (row : List Extent) (owners : List ℕ) → row ≡ [] → AreOwners origin row owners
+own_nothing origin row owners is = subst (λ r. AreOwners origin r owners) (sym is) (record {
   some = All-nil (λ (e : Extent). 0 < e.length);
   start = λ w i p. absurd (none-some p.0 p.1);
   within = λ w i p. absurd (none-some p.0 p.1);
@@ -147,8 +148,8 @@ own_nothing row owners is = subst (λ r. AreOwners r owners) (sym is) (record {
 })
 
 -- one object more comes last
-pub own_pushed : (row : List Extent) (e : Extent) (owners : List ℕ) → AreOwners row owners → AreOwnersBut (length row) (row ++ e ∷ []) owners
-own_pushed row e owners own = record {
+pub own_pushed : (origin : ℕ) (row : List Extent) (e : Extent) (owners : List ℕ) → AreOwners origin row owners → AreOwnersBut origin (length row) (row ++ e ∷ []) owners
+own_pushed origin row e owners own = record {
   owned = λ w i ne p.
       let long : length (row ++ e ∷ []) ≡ length row + 1 = length_push row e in
       let within = slice_get_within (row ++ e ∷ []) i p.0 p.1 in
@@ -158,8 +159,8 @@ own_pushed row e owners own = record {
 }
 
 -- an object goes, and the last one comes to its place
-pub own_removed : (row : List Extent) (index : ℕ) (e : Extent) (owners : List ℕ) → AreOwners row owners → AreOwnersBut index (swap_remove row index e) owners
-own_removed row index e owners own = record {
+pub own_removed : (origin : ℕ) (row : List Extent) (index : ℕ) (e : Extent) (owners : List ℕ) → AreOwners origin row owners → AreOwnersBut origin index (swap_remove row index e) owners
+own_removed origin row index e owners own = record {
   owned = λ w i ne p.
       let short : length (swap_remove row index e) ≤ length row - 1 = rw length-take (omega arith) in
       let within = slice_get_within (swap_remove row index e) i p.0 p.1 in
@@ -172,5 +173,5 @@ own_removed row index e owners own = record {
 }
 
 -- objects of a core are found by the first bytes of words too
-pub found_by : (c : PlainContents) → IsLaidOut c → (owners : List ℕ) → AreOwners c.objects owners → AreFound c.objects owners
-found_by c sound owners own = record { owned = own; aligned = All-weaker (IsInHeap c.pages) (λ (e : Extent). e.base % WORD_BYTES ≡ 0) (λ e i. i.aligned) c.objects sound.in_heap }
+pub found_by : (c : PlainContents) → IsLaidOut c → (owners : List ℕ) → AreOwners c.origin c.objects owners → AreFound c.origin c.objects owners
+found_by c sound owners own = record { owned = own; aligned = All-weaker (IsInHeap c.origin c.pages) (λ (e : Extent). e.base % WORD_BYTES ≡ 0) (λ e i. i.aligned) c.objects sound.in_heap }

@@ -4,7 +4,7 @@ use Rattle.std.specs.Prelude.{All, Some, slice_get}
 use Rattle.std.proofs.lemmas.Bool.{cases_lt}
 use Rattle.std.proofs.lemmas.Option.{slice_get-get_or}
 use Rattle.words.specs.declared.class.Kind.{Kind}
-use Rattle.words.specs.declared.limits.TheConstants.{FIRST_ADDRESS, WORD_BYTES, PAGE_WORDS}
+use Rattle.words.specs.declared.limits.TheConstants.{WORD_BYTES, PAGE_WORDS}
 use Rattle.words.specs.Layout.{page_start}
 use Rattle.heap_spec.specs.Layout.{PointsInto, LiesOn}
 use Rattle.plain_core.specs.declared.extent.Extent.{Extent}
@@ -12,8 +12,8 @@ use Rattle.plain_core.specs.Owners.{AreOwners, AreFound}
 use Rattle.plain_core.specs.Places.{word_start, AreCutWords}
 use Rattle.plain_core.proofs.Owning.{one_there}
 
-word_on : (page : ℕ) (e : Extent) → FIRST_ADDRESS ≤ e.base → e.base % WORD_BYTES ≡ 0 → 0 < e.length → LiesOn e.base e.length page → (g : ℕ) × (g < PAGE_WORDS) × PointsInto (word_start page g) e.base e.length
-word_on page e low even some lies = ⊎_elim
+word_on : (page : ℕ) (e : Extent) → e.base % WORD_BYTES ≡ 0 → 0 < e.length → LiesOn e.base e.length page → (g : ℕ) × (g < PAGE_WORDS) × PointsInto (word_start page g) e.base e.length
+word_on page e even some lies = ⊎_elim
     (λ before. (0, omega arith, (omega (arith, before), omega (arith, lies.1))))
     (λ from. ((e.base - page_start page) / WORD_BYTES, omega (arith, from, lies.0), (omega (arith, from, even), omega (arith, from, even, some))))
     (cases_lt e.base (page_start page))
@@ -21,23 +21,22 @@ word_on page e low even some lies = ⊎_elim
 on_word : (page g : ℕ) (e : Extent) → g < PAGE_WORDS → PointsInto (word_start page g) e.base e.length → LiesOn e.base e.length page
 on_word page g e lt reads = (omega (arith, lt, reads.0), omega (arith, reads.1))
 
-module _ (row : List Extent) (owners : List ℕ) (found : AreFound row owners) (P : Extent → Type 0) (page : ℕ) where
+module _ (origin : ℕ) (row : List Extent) (owners : List ℕ) (found : AreFound origin row owners) (P : Extent → Type 0) (page : ℕ) where
   -- what is so of each object that has such a byte is so of each that lies on the page
   pub all_on : (n : ℕ) → PAGE_WORDS ≤ n → ((g : ℕ) → g < n → All (λ e. PointsInto (word_start page g) e.base e.length → P e) row) → All (λ e. LiesOn e.base e.length page → P e) row
   all_on n all so k d lt lies =
       let e : Extent = get_or row k d in
       let more : 0 < e.length = found.owned.some k d lt in
-      let low : FIRST_ADDRESS ≤ e.base = found.owned.start e.base k (e, slice_get-get_or row k d lt, (omega arith, omega (arith, more))) in
-      let g = word_on page e low (found.aligned k d lt) more lies in
+      let g = word_on page e (found.aligned k d lt) more lies in
       so g.0 (omega (arith, g.1, all)) k d lt g.2
 
   pub not_on : (g : ℕ) → g < PAGE_WORDS → (All (λ e. PointsInto (word_start page g) e.base e.length → P e) row → ⊥) → All (λ e. LiesOn e.base e.length page → P e) row → ⊥
   not_on g small not so = not (λ k d lt reads. so k d lt (on_word page g (get_or row k d) small reads))
 
 -- the words of one object from one of them on
-pub cut_more : (row : List Extent) (owners : List ℕ) → AreOwners row owners → (page word length more : ℕ) (kind : Kind) (i : ℕ) (e f : Extent) → slice_get row i ≡ Some e → PointsInto (word_start page word) e.base e.length → f ≡ e
+pub cut_more : (origin : ℕ) (row : List Extent) (owners : List ℕ) → AreOwners origin row owners → (page word length more : ℕ) (kind : Kind) (i : ℕ) (e f : Extent) → slice_get row i ≡ Some e → PointsInto (word_start page word) e.base e.length → f ≡ e
     → (f.length ≡ length) × (f.kind ≡ kind) → more ≡ f.length - (word_start page word - f.base) / WORD_BYTES → (word < word + more) × AreCutWords row page length kind word (word + more)
-cut_more row owners own page word length more kind i e f at reads same agrees is = (omega (arith, size, reads.0, reads.1), each)
+cut_more origin row owners own page word length more kind i e f at reads same agrees is = (omega (arith, size, reads.0, reads.1), each)
   where
     size : more ≡ e.length - (word_start page word - e.base) / WORD_BYTES
     size = subst (λ (x : Extent). more ≡ x.length - (word_start page word - x.base) / WORD_BYTES) same is
@@ -45,7 +44,7 @@ cut_more row owners own page word length more kind i e f at reads same agrees is
     each : AreCutWords row page length kind word (word + more)
     each g from until k d lt there =
         let mine : PointsInto (word_start page g) e.base e.length = (omega (arith, from, reads.0), omega (arith, size, from, until, reads.0, reads.1)) in
-        subst (λ (x : Extent). (x.length ≡ length) × (x.kind ≡ kind)) (same ∙ one_there row owners own (word_start page g) i e at mine k d lt there) agrees
+        subst (λ (x : Extent). (x.length ≡ length) × (x.kind ≡ kind)) (same ∙ one_there origin row owners own (word_start page g) i e at mine k d lt there) agrees
 
 -- a word of no object
 pub cut_one : (row : List Extent) (page word length next : ℕ) (kind : Kind) → All (λ e. PointsInto (word_start page word) e.base e.length → ⊥) row → next ≡ word + 1 → AreCutWords row page length kind word next

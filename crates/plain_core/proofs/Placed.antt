@@ -1,7 +1,8 @@
 -- Where the objects of sound heaps lie.
-use Rattle.std.proofs.Common.{ℕ, ◌⊎◌, subst, inl, inr, ⊎_elim}
+use Rattle.std.proofs.Common.{◌≡◌, ℕ, ◌⊎◌, subst, inl, inr, ⊎_elim}
 use Rattle.std.specs.Prelude.{Contains}
 use Rattle.std.proofs.lemmas.List.Elements.{All-contains_itself, All-weaker}
+use Rattle.words.specs.declared.limits.TheConstants.{FIRST_ADDRESS}
 use Rattle.words.proofs.Classes.{class_few}
 use Rattle.heap_spec.specs.Heap.{Heap}
 use Rattle.heap_spec.specs.Sound.{IsSound, IsCell, ArePages}
@@ -20,11 +21,14 @@ laid_placed pages e laid = ⊎_elim
     (λ p. inr (record { first = p.first; count = p.count; some = p.some; whole = p.whole; is_start = p.is_start }))
     laid
 
-pub are_placed : (c : PlainContents) → IsLaidOut c → (s : Heap) → StandsFor c s → IsSound s → ArePlaced c
-are_placed c laid s h sound = All-weaker (Contains c.objects) IsPlacedExtent
-    (λ e has. let o = object_of c laid s h e has in
-    laid_placed s.pages e (subst (λ n. IsCell s.pages e.base n ⊎ ArePages s.pages e.base n) o.2 (sound.objects.laid e.base o.0 o.1)))
-    c.objects (All-contains_itself c.objects)
+pub are_placed : (c : PlainContents) → IsLaidOut c → c.origin ≡ FIRST_ADDRESS → (s : Heap) → StandsFor c s → IsSound s → ArePlaced c
+are_placed c laid from s h sound = (
+  from,
+  All-weaker (Contains c.objects) IsPlacedExtent
+      (λ e has. let o = object_of c laid s h e has in
+      laid_placed s.pages e (subst (λ n. IsCell s.pages e.base n ⊎ ArePages s.pages e.base n) o.2 (sound.objects.laid e.base o.0 o.1)))
+      c.objects (All-contains_itself c.objects),
+)
 
 pub births_alone : BirthsAreAlone
 births_alone s s' slot into words base kind o sound calls there newest = record {

@@ -54,11 +54,12 @@ IsPlacedExtent e = IsCellExtent e ⊎ HasPages e
 abbrev pub first_word : ℕ → Extent → ℕ
 first_word origin e = word_index origin e.base
 
--- What is true of every plain core, wherever it begins and its objects were placed. No address points into two objects, and no two begin at
--- one word, so that there are never more objects than words.
+-- What is true of every plain core, wherever it begins and its objects were placed. The word 0 points into no object, no address
+-- points into two, and no two begin at one word, so that there are never more objects than words.
 pub record IsLaidOut (c : PlainContents) : Type 0 where
   pub pages : c.pages ≤ MAX_PAGES
   pub starts : c.origin % WORD_BYTES ≡ 0
+  pub past_zero : 0 < c.origin
   pub fits : end_of c.origin c.pages < word_end
   pub words : length c.words ≡ PAGE_WORDS * c.pages
   pub in_heap : All (IsInHeap c.origin c.pages) c.objects

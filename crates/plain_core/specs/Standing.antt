@@ -1,5 +1,5 @@
 -- The heap that a plain core stands for.
-use Rattle.std.specs.Prelude.{◌≡◌, ℕ, ◌+◌, ◌%◌, ◌<◌, ◌≤◌, List, length, take, drop, Contains}
+use Rattle.std.specs.Prelude.{◌≡◌, ℕ, ◌+◌, ◌-◌, ◌%◌, ◌<◌, ◌≤◌, List, length, take, drop, Contains}
 use Rattle.words.specs.declared.limits.TheConstants.{WORD_BYTES}
 use Rattle.heap_spec.specs.Heap.{Heap, Object, HasObject}
 use Rattle.heap_spec.specs.Sound.{HaveDistinctBirths}
@@ -8,10 +8,10 @@ use Rattle.links.specs.Leaving.{word_index}
 use Rattle.plain_core.specs.declared.extent.Extent.{Extent}
 use Rattle.plain_core.specs.PlainContents.{PlainContents}
 
--- The object has words, and they are in the row, whose first word has the address `origin`.
+-- The object begins at a word of the row, whose first has the address `origin`, and its words are in the row.
 pub record LiesIn (origin : ℕ) (row : List ℕ) (e : Extent) : Type 0 where
   pub start : origin ≤ e.base
-  pub aligned : e.base % WORD_BYTES ≡ 0
+  pub aligned : (e.base - origin) % WORD_BYTES ≡ 0
   pub some : 0 < e.length
   pub ends : word_index origin e.base + e.length ≤ length row
 

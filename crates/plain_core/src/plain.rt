@@ -74,6 +74,7 @@ impl Core {
     /// A core of so many pages whose first word has this address. All memory that it ever takes is taken here.
     pub fn new_from(alloc: Global, origin: u64, pages: u32) -> Result<Core, OpenError>
         requires aligned { origin % WORD_BYTES ≡ 0 }
+        requires past_zero { 0 < origin }
         requires fits { end_of origin pages < word_end }
         ensures ok { IfOk result (λ core. StandsFor core (opening pages)) }
         ensures origin { IfOk result (λ core. core.origin ≡ origin) }

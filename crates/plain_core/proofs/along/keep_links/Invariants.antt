@@ -9,5 +9,5 @@ abbrev pub invariant-loop-link : goal.invariant-loop-link
 invariant-loop-link l = record {
   items : l.into.items ≡ filter (stays_with (holds_word l.objects) (has_base l.objects)) (take l.link-index l.row);
   few : length l.into.items ≤ l.link-index;
-  along : ClearsWords (holds_word l.objects) (has_base l.objects) (take l.link-index l.row) l.fn.words l.words;
+  along : ClearsWords l.origin (holds_word l.objects) (has_base l.objects) (take l.link-index l.row) l.fn.words l.words;
 }

@@ -6,8 +6,8 @@ use Rattle.plain_core.specs.Flags.{IsFlagged}
 use Rattle.plain_core.proofs.flags.are_gone.Goals as goal
 
 pub loop-index-preserved : goal.loop-index-preserved
-loop-index-preserved c = below_more (λ (i : ℕ). (e : Extent) → slice_get c.args.objects.now i ≡ Some e → IsFlagged c.args.flags.now e.base ⊎ (slice_index_or c.args.stays.now i false ≡ false)) _ c.loop-index.invariant
-    (λ e at. subst (λ (x : Extent). IsFlagged c.args.flags.now x.base ⊎ (slice_index_or c.args.stays.now c.loop-index.index false ≡ false)) (get_or_from_slice_get c.args.objects.now c.loop-index.index e _ at)
+loop-index-preserved c = below_more (λ (i : ℕ). (e : Extent) → slice_get c.args.objects.now i ≡ Some e → IsFlagged c.args.origin c.args.flags.now e.base ⊎ (slice_index_or c.args.stays.now i false ≡ false)) _ c.loop-index.invariant
+    (λ e at. subst (λ (x : Extent). IsFlagged c.args.origin c.args.flags.now x.base ⊎ (slice_index_or c.args.stays.now c.loop-index.index false ≡ false)) (get_or_from_slice_get c.args.objects.now c.loop-index.index e _ at)
     (c.is_named.ensures.yes c.if-not-is_named.false))
 
 pub returns-then-not-is_named-clause-no : goal.returns-then-not-is_named-clause-no

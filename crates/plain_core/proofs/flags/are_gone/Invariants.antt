@@ -6,4 +6,4 @@ use Rattle.plain_core.proofs.flags.are_gone.Given as goal
 
 -- so far
 abbrev pub invariant-loop-index : goal.invariant-loop-index
-invariant-loop-index l = (i : ℕ) → i < l.index → (e : Extent) → slice_get l.objects i ≡ Some e → IsFlagged l.flags e.base ⊎ (slice_index_or l.stays i false ≡ false)
+invariant-loop-index l = (i : ℕ) → i < l.index → (e : Extent) → slice_get l.objects i ≡ Some e → IsFlagged l.origin l.flags e.base ⊎ (slice_index_or l.stays i false ≡ false)

@@ -6,9 +6,9 @@ use Rattle.plain_core.proofs.flags.flag_marked.Goals.{then-marks-index, else-mar
 
 pub loop-index-preserved : goal.loop-index-preserved
 loop-index-preserved c = elim c.if-marks-index.branch [
-  | then-marks-index w ↦ marked_more _ _ _ c.loop-index.index _ _ _ c.loop-index.invariant (slice_get-get_or c.args.objects.now c.loop-index.index _ c.loop-index-test.true) w.if-marks-index.true (w.flags-is ∙ w.set_flag.ensures)
-  | else-marks-index w ↦ marked_past _ _ _ c.loop-index.index _ _ c.loop-index.invariant w.if-marks-index.false w.flags-is
+  | then-marks-index w ↦ marked_more _ _ _ _ c.loop-index.index _ _ _ c.loop-index.invariant (slice_get-get_or c.args.objects.now c.loop-index.index _ c.loop-index-test.true) w.if-marks-index.true (w.flags-is ∙ w.set_flag.ensures)
+  | else-marks-index w ↦ marked_past _ _ _ _ c.loop-index.index _ _ c.loop-index.invariant w.if-marks-index.false w.flags-is
 ]
 
 pub returns : goal.returns
-returns c = marked_all _ _ _ _ _ c.loop-index-test.false c.loop-index.invariant
+returns c = marked_all _ _ _ _ _ _ c.loop-index-test.false c.loop-index.invariant

@@ -11,7 +11,7 @@ loop-index-preserved c = below_more (λ (i : ℕ). All (λ (f : Extent). PointsI
     (c.is_bare.ensures.yes c.if-not-is_bare.false)
 
 pub returns-then-not-is_bare-clause-no : goal.returns-then-not-is_bare-clause-no
-returns-then-not-is_bare-clause-no c _ = not_fresh _ _ c.requires.found c.args.object.now c.requires.aligned c.loop-index.index (omega (arith, c.loop-index-test.true)) (c.is_bare.ensures.no c.if-not-is_bare.true)
+returns-then-not-is_bare-clause-no c _ = not_fresh _ _ _ c.requires.found c.args.object.now c.requires.aligned c.loop-index.index (omega (arith, c.loop-index-test.true)) (c.is_bare.ensures.no c.if-not-is_bare.true)
 
 pub returns-clause-yes : goal.returns-clause-yes
-returns-clause-yes c _ = fresh_by _ _ c.requires.found c.args.object.now c.requires.aligned (λ i lt. c.loop-index.invariant i (omega arith))
+returns-clause-yes c _ = fresh_by _ _ _ c.requires.found c.args.object.now c.requires.aligned (λ i lt. c.loop-index.invariant i (omega arith))

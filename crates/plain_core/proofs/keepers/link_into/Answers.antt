@@ -9,9 +9,9 @@ link_at-requires-clause-within c = c.requires.below _ (Contains-get_or c.args.or
 
 pub loop-next-preserved : goal.loop-next-preserved
 loop-next-preserved c =
-    All-more (λ (i : ℕ). HasNoLink c.args.words.now c.args.objects.now c.args.own c.args.object i) c.args.order.now c.loop-next.next 0 c.loop-next-test.true c.loop-next.invariant c.in_default.ensures.none
+    All-more (λ (i : ℕ). HasNoLink c.args.origin c.args.words.now c.args.objects.now c.args.own c.args.object i) c.args.order.now c.loop-next.next 0 c.loop-next-test.true c.loop-next.invariant c.in_default.ensures.none
 
 pub returns-clause-none : goal.returns-clause-none
 returns-clause-none c =
-    All-same (λ (i : ℕ). HasNoLink c.args.words.now c.args.objects.now c.args.own c.args.object i) c.args.order.now (take c.loop-next.next c.args.order.now)
+    All-same (λ (i : ℕ). HasNoLink c.args.origin c.args.words.now c.args.objects.now c.args.own c.args.object i) c.args.order.now (take c.loop-next.next c.args.order.now)
     (sym (take_all c.loop-next.next c.args.order.now c.loop-next-test.false)) c.loop-next.invariant

@@ -4,4 +4,4 @@ use Rattle.plain_core.proofs.keepers.link_into.Given as goal
 
 -- so far
 abbrev pub invariant-loop-next : goal.invariant-loop-next
-invariant-loop-next l = All (HasNoLink l.words l.objects l.own l.object) (take l.next l.order)
+invariant-loop-next l = All (HasNoLink l.origin l.words l.objects l.own l.object) (take l.next l.order)

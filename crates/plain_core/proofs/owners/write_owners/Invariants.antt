@@ -3,4 +3,4 @@ use Rattle.plain_core.proofs.owners.write_owners.Given as goal
 
 -- so far
 abbrev pub invariant-loop-index : goal.invariant-loop-index
-invariant-loop-index l = OwnSoFar l.objects l.index l.owners
+invariant-loop-index l = OwnSoFar l.origin l.objects l.index l.owners

@@ -6,7 +6,7 @@ pub loop-word-preserved : goal.loop-word-preserved
 loop-word-preserved c = cut_goes _ _ _ _ _ _ c.loop-word.invariant c.in-Some.ensures.some.1
 
 pub returns-in_default-clause-no : goal.returns-in_default-clause-no
-returns-in_default-clause-no c _ cut = not_on _ _ c.requires.found (λ e. (e.length ≡ c.args.length) × (e.kind ≡ c.args.kind)) c.args.page c.loop-word.word c.loop-word-test.true c.in_default.ensures.none cut
+returns-in_default-clause-no c _ cut = not_on _ _ _ c.requires.found (λ e. (e.length ≡ c.args.length) × (e.kind ≡ c.args.kind)) c.args.page c.loop-word.word c.loop-word-test.true c.in_default.ensures.none cut
 
 pub returns-clause-yes : goal.returns-clause-yes
-returns-clause-yes c _ = all_on _ _ c.requires.found (λ e. (e.length ≡ c.args.length) × (e.kind ≡ c.args.kind)) c.args.page _ c.loop-word-test.false (λ g lt. c.loop-word.invariant g (omega arith) lt)
+returns-clause-yes c _ = all_on _ _ _ c.requires.found (λ e. (e.length ≡ c.args.length) × (e.kind ≡ c.args.kind)) c.args.page _ c.loop-word-test.false (λ g lt. c.loop-word.invariant g (omega arith) lt)

@@ -11,7 +11,7 @@ loop-word-preserved c = below_more (λ (g : ℕ). All (λ (e : Extent). PointsIn
     (rw c.word_start.ensures at c.is_bare.ensures.yes c.if-not-is_bare.false)
 
 pub returns-then-not-is_bare-clause-no : goal.returns-then-not-is_bare-clause-no
-returns-then-not-is_bare-clause-no c _ free = not_on _ _ c.requires (λ e. ⊥) c.args.page c.loop-word.word c.loop-word-test.true (rw c.word_start.ensures at c.is_bare.ensures.no c.if-not-is_bare.true) free
+returns-then-not-is_bare-clause-no c _ free = not_on _ _ _ c.requires (λ e. ⊥) c.args.page c.loop-word.word c.loop-word-test.true (rw c.word_start.ensures at c.is_bare.ensures.no c.if-not-is_bare.true) free
 
 pub returns-clause-yes : goal.returns-clause-yes
-returns-clause-yes c _ = all_on _ _ c.requires (λ e. ⊥) c.args.page _ c.loop-word-test.false c.loop-word.invariant
+returns-clause-yes c _ = all_on _ _ _ c.requires (λ e. ⊥) c.args.page _ c.loop-word-test.false c.loop-word.invariant

@@ -3,4 +3,4 @@ use Rattle.plain_core.proofs.wrongs.mark_flagged.Given as goal
 
 -- so far
 abbrev pub invariant-loop-index : goal.invariant-loop-index
-invariant-loop-index l = FlaggedSoFar l.objects l.flags l.index l.marks
+invariant-loop-index l = FlaggedSoFar l.origin l.objects l.flags l.index l.marks

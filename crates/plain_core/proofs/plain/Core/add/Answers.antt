@@ -4,5 +4,5 @@ use Rattle.heap_spec.specs.Replies.{done_reply}
 use Rattle.plain_core.proofs.Stands.{steps_roots}
 use Rattle.plain_core.proofs.plain.Core.add.Goals as goal
 
-pub returns : goal.returns
-returns c = rw (← c.self.view_is) (steps_roots _ _ (Mutator c.args.slot (Add c.args.into c.args.from c.args.number)) (done_reply c.add.result) c.add.ensures)
+pub returns-clause-step : goal.returns-clause-step
+returns-clause-step c = rw (← c.self.view_is) (steps_roots _ _ (Mutator c.args.slot (Add c.args.into c.args.from c.args.number)) (done_reply c.add.result) c.add.ensures)

@@ -12,16 +12,16 @@ use Rattle.plain_core.proofs.plain.Core.alloc.Goals as goal
 pub place_for-requires-clause-found : goal.place_for-requires-clause-found
 place_for-requires-clause-found c = rw (c.deref.ensures.value, c.deref-2.ensures.value) (found_by _ c.self.invariant.0 _ c.self.invariant.2)
 
-pub returns-in_err-ok_or : goal.returns-in_err-ok_or
-returns-in_err-ok_or c _ = rw (handed_on_none _ _ _ _ c.from_residual.ensures.1 c.in_err-ok_or.ensures.value)
+pub returns-in_err-ok_or-clause-step : goal.returns-in_err-ok_or-clause-step
+returns-in_err-ok_or-clause-step c _ = rw (handed_on_none _ _ _ _ c.from_residual.ensures.1 c.in_err-ok_or.ensures.value)
     (refused_vacant _ _ _ (rw c.in_err-ok_or.ensures.ok_part at c.mutator.ensures.none))
 
-pub returns-in_err-placement : goal.returns-in_err-placement
-returns-in_err-placement c _ = rw (handed_on_none _ _ _ _ c.from_residual-in_err-placement.ensures.1 c.in_err-placement.ensures.value)
+pub returns-in_err-placement-clause-step : goal.returns-in_err-placement-clause-step
+returns-in_err-placement-clause-step c _ = rw (handed_on_none _ _ _ _ c.from_residual-in_err-placement.ensures.1 c.in_err-placement.ensures.value)
     (keeps_all _ _ _ _ c.in_ok-ok_or.field-0.now (rw c.in_ok-ok_or.ensures.ok_part at c.mutator.ensures.some) (λ s h. Acts.bad_size (sym c.class_of.ensures ∙ c.in_err-placement.ensures.ok_part)))
 
-pub returns-in_err-object : goal.returns-in_err-object
-returns-in_err-object c _ =
+pub returns-in_err-object-clause-step : goal.returns-in_err-object-clause-step
+returns-in_err-object-clause-step c _ =
     let none = rw (c.in_err-object.ensures.ok_part, c.deref.ensures.value) at c.place_for.ensures.none in
     rw (handed_on_none _ _ _ _ c.from_residual-in_err-object.ensures.1 c.in_err-object.ensures.value)
     (keeps_all _ _ _ _ c.in_ok-ok_or.field-0.now (rw c.in_ok-ok_or.ensures.ok_part at c.mutator.ensures.some)
@@ -30,8 +30,8 @@ returns-in_err-object c _ =
 pub may_be_put-requires-clause-found : goal.may_be_put-requires-clause-found
 may_be_put-requires-clause-found c = rw (c.deref-3.ensures.value, c.deref-4.ensures.value) (found_by _ c.self.invariant.0 _ c.self.invariant.2)
 
-pub returns-then-not-may_be_put : goal.returns-then-not-may_be_put
-returns-then-not-may_be_put c placed =
+pub returns-then-not-may_be_put-clause-step : goal.returns-then-not-may_be_put-clause-step
+returns-then-not-may_be_put-clause-step c placed =
     let some = rw (c.in_ok-object.ensures.ok_part, c.deref.ensures.value) at c.place_for.ensures.some in
     let fits = may_have _ c.self.invariant.0 c.args.words _ _ c.in_ok-object.object (subst ArePlaced (sym c.self.view_is) placed) (sym c.class_of.ensures ∙ c.in_ok-placement.ensures.ok_part) some.1 some.2 in
     absurd (c.may_be_put.ensures.no c.if-not-may_be_put.true fits.in_heap (rw c.deref-3.ensures.value fits.fresh))
@@ -39,9 +39,9 @@ returns-then-not-may_be_put c placed =
 pub put-requires-clause-fits : goal.put-requires-clause-fits
 put-requires-clause-fits c = let yes = c.may_be_put.ensures.yes c.if-not-may_be_put.false in fits_by _ _ c.self.view_is _ c.deref-3.ensures.value _ yes.0 yes.1
 
-pub returns : goal.returns
-returns c placed =
+pub returns-clause-step : goal.returns-clause-step
+returns-clause-step c placed =
     let some = rw (c.in_ok-object.ensures.ok_part, c.deref.ensures.value) at c.place_for.ensures.some in
     let at = rw c.in_ok-ok_or.ensures.ok_part at c.mutator.ensures.some in
     let is = sym c.class_of.ensures ∙ c.in_ok-placement.ensures.ok_part in
-    rw (← c.self.view_is) (put_steps _ _ c.self.invariant.0 _ _ c.args.words _ _ c.in_ok-object.object c.in_ok-ok_or.field-0.now (rw (← c.self.view_is) at at) is some.0 some.1 some.2 (rw (← c.self.view_is) at c.put.ensures))
+    rw (← c.self.view_is) (put_steps _ _ c.self.invariant.0 _ _ c.args.words _ _ c.in_ok-object.object c.in_ok-ok_or.field-0.now (rw (← c.self.view_is) at at) is some.0 some.1 some.2 (rw (← c.self.view_is) at c.put.ensures.put))

@@ -24,4 +24,4 @@ pub returns-clause-yes : goal.returns-clause-yes
 returns-clause-yes c done =
     let yes = c.may_be_put.ensures.yes c.if-not-may_be_put.false in
     rw (← c.self.view_is) (put_anywhere _ c.self.invariant.0 _ _ _ _ _ _ _ c.in-Some.field-0.now (rw (← c.self.view_is) at c.in-Some.ensures.some) (omega arith)
-    (fits_by _ _ refl _ c.deref.ensures.value _ yes.0 yes.1) (rw (← c.self.view_is) at c.put.ensures))
+    (fits_by _ _ refl _ c.deref.ensures.value _ yes.0 yes.1) (rw (← c.self.view_is) at c.put.ensures.put))

@@ -35,4 +35,4 @@ returns-clause-yes c done =
     let some = c.in-Some-place_at.ensures.some in
     let room = rw c.deref.ensures.value at some.3 in
     let is = sym c.class_of.ensures ∙ c.in-Some-class_of.is in
-    rw (← c.self.view_is) (put_at _ _ c.self.invariant.0 _ _ c.args.words _ _ _ c.in-Some-place_at.object c.in-Some.field-0.now (rw (← c.self.view_is) at c.in-Some.ensures.some) is some.1 some.2 some.0 room (rw (← c.self.view_is) at c.put.ensures))
+    rw (← c.self.view_is) (put_at _ _ c.self.invariant.0 _ _ c.args.words _ _ _ c.in-Some-place_at.object c.in-Some.field-0.now (rw (← c.self.view_is) at c.in-Some.ensures.some) is some.1 some.2 some.0 room (rw (← c.self.view_is) at c.put.ensures.put))

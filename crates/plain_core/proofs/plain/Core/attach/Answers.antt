@@ -3,5 +3,5 @@ use Rattle.heap_spec.specs.Replies.{slot_reply}
 use Rattle.plain_core.proofs.Stands.{steps_roots}
 use Rattle.plain_core.proofs.plain.Core.attach.Goals as goal
 
-pub returns : goal.returns
-returns c = rw (← c.self.view_is) (steps_roots _ _ Attach (slot_reply c.attach.result) c.attach.ensures)
+pub returns-clause-step : goal.returns-clause-step
+returns-clause-step c = rw (← c.self.view_is) (steps_roots _ _ Attach (slot_reply c.attach.result) c.attach.ensures)

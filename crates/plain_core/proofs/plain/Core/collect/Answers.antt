@@ -31,7 +31,7 @@ write_owners-requires-clause-within c = rw (c.deref-5.ensures.value, c.deref_mut
 pub take_along-requires-clause-owners : goal.take_along-requires-clause-owners
 take_along-requires-clause-owners c =
     let long = c.write_owners.auto.owners ∙ ap length c.deref_mut.ensures.value in
-    owners_as _ _ _ _ (c.deref-5.ensures.value ∙ sym c.deref-6.ensures.value)
+    owners_as _ _ _ _ _ (c.deref-5.ensures.value ∙ sym c.deref-6.ensures.value)
     (sym (c.deref-7.ensures.value ∙ with_items_is c.self.inside.owners c.write_owners.new.owners (long ∙ sym c.self.inside.owners.ok.0))) c.write_owners.ensures
 
 pub take_along-requires-clause-lie : goal.take_along-requires-clause-lie
@@ -44,12 +44,12 @@ invariant_of-self c = (
       rest_sound _ c.self.invariant.0 c.keep_flagged-count.ensures.parts.gone _ c.keep_flagged-count.ensures.parts.all _ _
       (ap length (with_items_is c.self.inside.words c.take_along.new.words (long ∙ sym c.self.inside.words.ok.0)) ∙ long)),
   record { objects = rw c.keep_flagged-count.ensures.capacity c.self.invariant.1.objects; lists = room_kept _ _ _ c.self.invariant.1.lists c.list_from_roots.ensures.room; flags = c.self.invariant.1.flags; words = c.self.invariant.1.words },
-  (let filed = c.write_owners.auto.owners ∙ ap length c.deref_mut.ensures.value in owners_as _ _ _ _ c.deref-5.ensures.value (sym (with_items_is c.self.inside.owners c.write_owners.new.owners (filed ∙ sym c.self.inside.owners.ok.0))) c.write_owners.ensures),
+  (let filed = c.write_owners.auto.owners ∙ ap length c.deref_mut.ensures.value in owners_as _ _ _ _ _ c.deref-5.ensures.value (sym (with_items_is c.self.inside.owners c.write_owners.new.owners (filed ∙ sym c.self.inside.owners.ok.0))) c.write_owners.ensures),
 )
 
-pub returns : goal.returns
-returns c = rw (← c.self.view_is)
+pub returns-clause-collected : goal.returns-clause-collected
+returns-clause-collected c = rw (← c.self.view_is)
     (collects _ c.self.invariant.0 c.deref-4.result.now
-    (marks_are _ _ _ _ _ _ _ _ refl c.deref.ensures.value c.deref-2.ensures.value c.deref-4.ensures.value c.list_from_roots.ensures.marks)
+    (marks_are _ _ _ _ _ _ _ _ _ refl c.deref.ensures.value c.deref-2.ensures.value c.deref-4.ensures.value c.list_from_roots.ensures.marks)
     _ _ c.keep_flagged-count.ensures.parts _ _
     (along_of _ _ _ _ _ _ _ c.deref-6.ensures.value c.deref_mut-2.ensures.value (with_items_is c.self.inside.words c.take_along.new.words (c.take_along.auto.words ∙ ap length c.deref_mut-2.ensures.value ∙ sym c.self.inside.words.ok.0)) c.take_along.ensures.words c.take_along.ensures.links))

@@ -12,6 +12,6 @@ returns-then-count_unreached-count-clause-no c refused s h s' full =
 pub returns-clause-yes : goal.returns-clause-yes
 returns-clause-yes c done s h =
     let garbage = c.count_unreached.ensures.garbage s h in
-    let x = c.collect-gone.ensures s (subst (λ core. StandsFor core s) (sym c.count_unreached.ensures.same) h) in
+    let x = c.collect-gone.ensures.collected s (subst (λ core. StandsFor core s) (sym c.count_unreached.ensures.same) h) in
     let same = same_count s x.0 garbage.0 _ _ x.1 garbage.1 ∙ c.if-count_unreached-count.false in
     (x.0, subst (λ n. CollectsFully s (Count n) x.0) same x.1, x.2)

@@ -21,6 +21,6 @@ count_unflagged-requires c = rw (c.deref-4.ensures.value, c.deref-5.ensures.valu
 pub returns-clause-garbage : goal.returns-clause-garbage
 returns-clause-garbage c = rw (← c.self.view_is)
     (garbage _ c.self.invariant.0 c.deref-5.result.now
-    (marks_are _ _ _ _ _ _ _ _ refl c.deref.ensures.value c.deref-2.ensures.value c.deref-5.ensures.value c.list_from_roots.ensures.marks)
+    (marks_are _ _ _ _ _ _ _ _ _ refl c.deref.ensures.value c.deref-2.ensures.value c.deref-5.ensures.value c.list_from_roots.ensures.marks)
     c.count_unflagged.ensures.0 c.count_unflagged.result
     (subst (λ o. Parts o c.deref-5.result.now c.count_unflagged.ensures.0 c.count_unflagged.result) c.deref-4.ensures.value c.count_unflagged.ensures.1))

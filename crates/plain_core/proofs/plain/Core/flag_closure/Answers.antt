@@ -19,6 +19,6 @@ flag_marked-requires-clause-marks c = rw (c.deref-4.ensures.value, c.deref-5.ens
 pub returns-clause-flags : goal.returns-clause-flags
 returns-clause-flags c = rw (← c.self.view_is)
     (closure_flagged _ c.self.invariant.0 c.args.aged.now c.deref-5.result.now _ _
-    (subst (λ o. FlagsMarked o c.deref-5.result.now c.unset_all.new.flags c.flag_marked.new.flags) c.deref-4.ensures.value c.flag_marked.ensures)
+    (subst (λ o. FlagsMarked c.self.inside.origin o c.deref-5.result.now c.unset_all.new.flags c.flag_marked.new.flags) c.deref-4.ensures.value c.flag_marked.ensures)
     c.unset_all.ensures.none
-    (closure_are _ _ _ _ _ _ _ _ _ refl c.deref.ensures.value c.deref-2.ensures.value c.deref-5.ensures.value c.list_from_roots_and.ensures.marks))
+    (closure_are _ _ _ _ _ _ _ _ _ _ refl c.deref.ensures.value c.deref-2.ensures.value c.deref-5.ensures.value c.list_from_roots_and.ensures.marks))

@@ -23,7 +23,7 @@ returns-then-is_flagged-clause-flags c =
 pub has_no_links-requires : goal.has_no_links-requires
 has_no_links-requires c =
     let some = rw c.deref.ensures.value at c.in-Some.ensures.some in
-    rw c.deref-3.ensures.value (All-contains (LiesIn c.self.inside.words.items) c.self.inside.objects.items c.in-Some.object (all_lie _ c.self.invariant.0) some.0)
+    rw c.deref-3.ensures.value (All-contains (LiesIn c.self.inside.origin c.self.inside.words.items) c.self.inside.objects.items c.in-Some.object (all_lie _ c.self.invariant.0) some.0)
 
 pub returns-then-has_no_links-clause-flags : goal.returns-then-has_no_links-clause-flags
 returns-then-has_no_links-clause-flags c =
@@ -43,6 +43,6 @@ flag_marked-requires-clause-marks c = rw (c.deref-7.ensures.value, c.deref-8.ens
 pub returns-clause-flags : goal.returns-clause-flags
 returns-clause-flags c = rw (← c.self.view_is)
     (led_flagged _ c.self.invariant.0 c.deref-8.result.now _ _
-    (subst (λ o. FlagsMarked o c.deref-8.result.now c.args.flags.now c.flag_marked.new.flags) c.deref-7.ensures.value c.flag_marked.ensures)
+    (subst (λ o. FlagsMarked c.self.inside.origin o c.deref-8.result.now c.args.flags.now c.flag_marked.new.flags) c.deref-7.ensures.value c.flag_marked.ensures)
     _
-    (marks_are _ _ _ _ _ _ _ _ refl c.deref-4.ensures.value c.deref-5.ensures.value c.deref-8.ensures.value c.list_reached.ensures.marks))
+    (marks_are _ _ _ _ _ _ _ _ _ refl c.deref-4.ensures.value c.deref-5.ensures.value c.deref-8.ensures.value c.list_reached.ensures.marks))

@@ -4,5 +4,5 @@ use Rattle.heap_spec.specs.Replies.{word_reply}
 use Rattle.plain_core.proofs.Stands.{steps_roots}
 use Rattle.plain_core.proofs.plain.Core.gget.Goals as goal
 
-pub returns : goal.returns
-returns c = rw (← c.self.view_is) (steps_roots _ _ (Mutator c.args.slot (GlobalGet c.args.into c.args.global)) (word_reply c.gget.result) c.gget.ensures)
+pub returns-clause-step : goal.returns-clause-step
+returns-clause-step c = rw (← c.self.view_is) (steps_roots _ _ (Mutator c.args.slot (GlobalGet c.args.into c.args.global)) (word_reply c.gget.result) c.gget.ensures)

@@ -29,7 +29,7 @@ returns-in_default-clause-keeper c =
     let listed = rw c.deref-2.ensures.value at c.list_from_roots.ensures.listed in
     rw (← c.self.view_is)
     (kept_in_list _ c.self.invariant.0 c.args.own c.args.object (rw (← c.self.view_is) at c.requires.there) c.list_from_roots.new.listing.order.items c.list_from_roots.new.listing.marks.items listed.listed
-    (marks_are _ _ _ _ _ _ _ _ refl c.deref.ensures.value c.deref-2.ensures.value refl c.list_from_roots.ensures.marks)
+    (marks_are _ _ _ _ _ _ _ _ _ refl c.deref.ensures.value c.deref-2.ensures.value refl c.list_from_roots.ensures.marks)
     (rw (← c.self.view_is) at c.requires.rootless)
     None tt
     (rw (c.deref-4.ensures.value, c.deref-5.ensures.value, c.deref-6.ensures.value) at c.in_default.ensures.none))
@@ -40,6 +40,6 @@ returns-clause-keeper c =
     let found = rw (c.deref-4.ensures.value, c.deref-5.ensures.value, c.deref-6.ensures.value) at c.in-Some.ensures.some in
     rw (← c.self.view_is)
     (kept_in_list _ c.self.invariant.0 c.args.own c.args.object (rw (← c.self.view_is) at c.requires.there) c.list_from_roots.new.listing.order.items c.list_from_roots.new.listing.marks.items listed.listed
-    (marks_are _ _ _ _ _ _ _ _ refl c.deref.ensures.value c.deref-2.ensures.value refl c.list_from_roots.ensures.marks)
+    (marks_are _ _ _ _ _ _ _ _ _ refl c.deref.ensures.value c.deref-2.ensures.value refl c.list_from_roots.ensures.marks)
     (rw (← c.self.view_is) at c.requires.rootless)
     (Some c.in-Some.keeper) (found.0, in_row _ _ found.0 found.1, found.2) tt)

@@ -8,23 +8,23 @@ use Rattle.plain_core.proofs.plain.Core.load.Goals as goal
 pub find_in-requires : goal.find_in-requires
 find_in-requires c = rw (c.deref.ensures.value, c.deref-2.ensures.value) c.self.invariant.2
 
-pub returns-in_err-mutator : goal.returns-in_err-mutator
-returns-in_err-mutator c = rw (← c.self.view_is, handed_on _ _ _ c.from_residual.ensures.1 c.in_err-mutator.ensures.err.0) (refused_vacant _ _ _ c.in_err-mutator.ensures.err.1)
+pub returns-in_err-mutator-clause-step : goal.returns-in_err-mutator-clause-step
+returns-in_err-mutator-clause-step c = rw (← c.self.view_is, handed_on _ _ _ c.from_residual.ensures.1 c.in_err-mutator.ensures.err.0) (refused_vacant _ _ _ c.in_err-mutator.ensures.err.1)
 
-pub returns-then-address-ne0 : goal.returns-then-address-ne0
-returns-then-address-ne0 c =
+pub returns-then-address-ne0-clause-step : goal.returns-then-address-ne0-clause-step
+returns-then-address-ne0-clause-step c =
     rw (← c.self.view_is)
     (keeps_all _ _ _ _ c.in_ok-mutator.mutator.now c.in_ok-mutator.ensures.ok (λ s h. Acts.load_misaligned (rw c.address-address.ensures at c.if-address-ne0.true)))
 
-pub returns-in_err-find_in : goal.returns-in_err-find_in
-returns-in_err-find_in c =
+pub returns-in_err-find_in-clause-step : goal.returns-in_err-find_in-clause-step
+returns-in_err-find_in-clause-step c =
     rw (← c.self.view_is, handed_on _ _ _ c.from_residual-in_err-find_in.ensures.1 c.in_err-find_in.ensures.err.0)
     (let at = c.in_ok-mutator.ensures.ok in
     let none = rw (c.deref.ensures.value, c.address-address.ensures) at c.in_err-find_in.ensures.err.1 in
     keeps_all _ _ _ _ c.in_ok-mutator.mutator.now at (λ s h. Acts.load_nothing (rw c.address-address.ensures at c.if-address-ne0.false) (reads_nothing _ c.self.invariant.0 s h _ none)))
 
-pub returns : goal.returns
-returns c =
+pub returns-clause-step : goal.returns-clause-step
+returns-clause-step c =
     rw (← c.self.view_is)
     (loads _ _ _ _ _ _ _ c.in_ok-mutator.mutator.now _ c.self.invariant.0 c.in_ok-mutator.ensures.ok
     (rw c.deref.ensures.value at c.in_ok-find_in.ensures.ok.0)

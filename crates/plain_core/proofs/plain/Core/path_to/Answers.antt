@@ -22,7 +22,7 @@ returns-in_default-place_of-clause-path c =
     let none = rw c.deref-6.ensures.value at c.in_default-place_of.ensures.none in
     rw (← c.self.view_is)
     (unlisted _ c.self.invariant.0 c.in-Some.own c.args.base (rw c.deref.ensures.value at c.in-Some.ensures.some) c.list_from_roots.new.listing.order.items c.list_from_roots.new.listing.marks.items listed.listed
-    (marks_are _ _ _ _ _ _ _ _ refl c.deref-3.ensures.value c.deref-4.ensures.value refl c.list_from_roots.ensures.marks) none)
+    (marks_are _ _ _ _ _ _ _ _ _ refl c.deref-3.ensures.value c.deref-4.ensures.value refl c.list_from_roots.ensures.marks) none)
 
 pub walk_back-requires-clause-within : goal.walk_back-requires-clause-within
 walk_back-requires-clause-within c = slice_get_within _ _ _ (rw c.deref-6.ensures.value at c.in-Some-place_of.ensures.some)
@@ -47,5 +47,5 @@ returns-clause-path c =
     let leads = rw (c.deref-7.ensures.value, c.deref-8.ensures.value) at c.in_ok-walk_back.ensures in
     rw (← c.self.view_is)
     (told_path _ c.self.invariant.0 c.in-Some.own c.args.base (rw c.deref.ensures.value at c.in-Some.ensures.some) c.list_from_roots.new.listing.order.items c.list_from_roots.new.listing.marks.items listed.listed
-    (marks_are _ _ _ _ _ _ _ _ refl c.deref-3.ensures.value c.deref-4.ensures.value refl c.list_from_roots.ensures.marks)
+    (marks_are _ _ _ _ _ _ _ _ _ refl c.deref-3.ensures.value c.deref-4.ensures.value refl c.list_from_roots.ensures.marks)
     c.in-Some-place_of.place place _ (rw c.reverse.ensures.items (leads c.in-Some.own place)))

@@ -38,7 +38,7 @@ unset_flags-requires-clause-flags c = rw c.deref-4.ensures.value (all_set _ c.se
 pub returns-then-not-unset_flags-clause-no : goal.returns-then-not-unset_flags-clause-no
 returns-then-not-unset_flags-clause-no c refused = rw (← c.self.view_is)
     (cant _ c.self.invariant.0 c.deref-6.result.now
-    (marks_are _ _ _ _ _ _ _ _ refl c.deref.ensures.value c.deref-2.ensures.value c.deref-6.ensures.value c.list_from_roots.ensures.marks)
+    (marks_are _ _ _ _ _ _ _ _ _ refl c.deref.ensures.value c.deref-2.ensures.value c.deref-6.ensures.value c.list_from_roots.ensures.marks)
     c.args.bases.now c.args.all
     (λ free. c.unset_flags.ensures.no c.if-not-unset_flags.true (subst (λ o. AreFreeToGo o c.deref-6.result.now c.args.bases.now) (sym c.deref-4.ensures.value) free)))
 
@@ -53,7 +53,7 @@ write_owners-requires-clause-within c = rw (c.deref-10.ensures.value, c.deref_mu
 pub take_along-requires-clause-owners : goal.take_along-requires-clause-owners
 take_along-requires-clause-owners c =
     let long = c.write_owners.auto.owners ∙ ap length c.deref_mut.ensures.value in
-    owners_as _ _ _ _ (c.deref-10.ensures.value ∙ sym c.deref-11.ensures.value)
+    owners_as _ _ _ _ _ (c.deref-10.ensures.value ∙ sym c.deref-11.ensures.value)
     (sym (c.deref-12.ensures.value ∙ with_items_is c.self.inside.owners c.write_owners.new.owners (long ∙ sym c.self.inside.owners.ok.0))) c.write_owners.ensures
 
 pub take_along-requires-clause-lie : goal.take_along-requires-clause-lie
@@ -74,7 +74,7 @@ invariant_of-self-2 c =
         flags = omega (arith, c.fill.new.self.ok.0, c.unset_flags.new.flags.ok.0);
         words = c.self.invariant.1.words;
       },
-      (let filed = c.write_owners.auto.owners ∙ ap length c.deref_mut.ensures.value in owners_as _ _ _ _ c.deref-10.ensures.value (sym (with_items_is c.self.inside.owners c.write_owners.new.owners (filed ∙ sym c.self.inside.owners.ok.0))) c.write_owners.ensures),
+      (let filed = c.write_owners.auto.owners ∙ ap length c.deref_mut.ensures.value in owners_as _ _ _ _ _ c.deref-10.ensures.value (sym (with_items_is c.self.inside.owners c.write_owners.new.owners (filed ∙ sym c.self.inside.owners.ok.0))) c.write_owners.ensures),
     )
 
 pub are_all_named-requires-clause-marks : goal.are_all_named-requires-clause-marks
@@ -95,7 +95,7 @@ returns-then-not-are_all_named-clause-no c refused =
     let unset = subst (λ o. AreUnset o c.args.bases.now c.unset_flags.new.flags.items) c.deref-4.ensures.value both.1 in
     rw (← c.self.view_is)
     (cant_all _ c.self.invariant.0 c.deref-7.result.now
-    (marks_are _ _ _ _ _ _ _ _ refl c.deref.ensures.value c.deref-2.ensures.value c.deref-7.ensures.value c.list_from_roots.ensures.marks)
+    (marks_are _ _ _ _ _ _ _ _ _ refl c.deref.ensures.value c.deref-2.ensures.value c.deref-7.ensures.value c.list_from_roots.ensures.marks)
     c.args.bases.now c.args.all no.0 c.unset_flags.new.flags.items unset
     (λ all. no.1 (all_unset_as _ _ _ _ _ _ (length_is c) refl (sym c.deref-8.ensures.value) all)))
   where
@@ -110,7 +110,7 @@ returns-clause-yes c done =
     let parts = subst (λ f. Parts c.self.inside.objects.items f c.keep_flagged-gone.new.objects.items c.keep_flagged-gone.result) c.deref-9.ensures.value c.keep_flagged-gone.ensures.parts in
     rw (← c.self.view_is)
     (takes _ c.self.invariant.0 c.deref-6.result.now
-    (marks_are _ _ _ _ _ _ _ _ refl c.deref.ensures.value c.deref-2.ensures.value c.deref-6.ensures.value c.list_from_roots.ensures.marks)
+    (marks_are _ _ _ _ _ _ _ _ _ refl c.deref.ensures.value c.deref-2.ensures.value c.deref-6.ensures.value c.list_from_roots.ensures.marks)
     c.args.bases.now free c.unset_flags.new.flags.items unset _ _ parts _ _
     (along_of _ _ _ _ _ _ _ c.deref-11.ensures.value c.deref_mut-2.ensures.value (with_items_is c.self.inside.words c.take_along.new.words (c.take_along.auto.words ∙ ap length c.deref_mut-2.ensures.value ∙ sym c.self.inside.words.ok.0)) c.take_along.ensures.words c.take_along.ensures.links)
     c.args.all

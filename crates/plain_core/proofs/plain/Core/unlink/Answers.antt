@@ -4,13 +4,13 @@ use Rattle.plain_core.proofs.Stands.{refused_vacant}
 use Rattle.plain_core.proofs.Linking.{unlinked, one_if}
 use Rattle.plain_core.proofs.plain.Core.unlink.Goals as goal
 
-pub returns-in_err-mutator : goal.returns-in_err-mutator
-returns-in_err-mutator c = rw (← c.self.view_is, handed_on _ _ _ c.from_residual.ensures.1 c.in_err-mutator.ensures.err.0) (refused_vacant _ _ _ c.in_err-mutator.ensures.err.1)
+pub returns-in_err-mutator-clause-step : goal.returns-in_err-mutator-clause-step
+returns-in_err-mutator-clause-step c = rw (← c.self.view_is, handed_on _ _ _ c.from_residual.ensures.1 c.in_err-mutator.ensures.err.0) (refused_vacant _ _ _ c.in_err-mutator.ensures.err.1)
 
-pub returns-then-not-stood : goal.returns-then-not-stood
-returns-then-not-stood c = rw (← c.self.view_is, c.unlink.ensures, c.address-address.ensures)
+pub returns-then-not-stood-clause-step : goal.returns-then-not-stood-clause-step
+returns-then-not-stood-clause-step c = rw (← c.self.view_is, c.unlink.ensures, c.address-address.ensures)
     (unlinked _ _ _ _ c.in_ok-mutator.mutator.now 0 c.in_ok-mutator.ensures.ok (ap one_if (sym c.if-not-stood.true ∙ rw c.address-address.ensures at c.has-stood.ensures)))
 
-pub returns : goal.returns
-returns c = rw (← c.self.view_is, c.unlink.ensures, c.address-address.ensures)
+pub returns-clause-step : goal.returns-clause-step
+returns-clause-step c = rw (← c.self.view_is, c.unlink.ensures, c.address-address.ensures)
     (unlinked _ _ _ _ c.in_ok-mutator.mutator.now 1 c.in_ok-mutator.ensures.ok (ap one_if (sym c.if-not-stood.false ∙ rw c.address-address.ensures at c.has-stood.ensures)))

@@ -26,7 +26,7 @@ lowest_left-left-requires-clause-marks c = rw (c.deref-7.ensures.value, c.deref-
 pub returns-clause-wrong : goal.returns-clause-wrong
 returns-clause-wrong c = rw (← c.self.view_is)
     (uncollected _ c.self.invariant.0 c.deref-6.result.now
-    (marks_are _ _ _ _ _ _ _ _ refl c.deref.ensures.value c.deref-2.ensures.value c.deref-6.ensures.value c.list_from_roots.ensures.marks)
+    (marks_are _ _ _ _ _ _ _ _ _ refl c.deref.ensures.value c.deref-2.ensures.value c.deref-6.ensures.value c.list_from_roots.ensures.marks)
     c.args.bases.now c.lowest_named-named.new.stays.items
     (subst (λ o. AreUnset o c.args.bases.now c.lowest_named-named.new.stays.items) c.deref-4.ensures.value c.lowest_named-named.ensures.unset)
     _ _ _

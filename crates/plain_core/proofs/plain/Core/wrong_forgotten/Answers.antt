@@ -37,11 +37,11 @@ returns-clause-wrong c =
     let long = c.mark_flagged.ensures.size ∙ ap length c.deref_mut.ensures.value in
     rw (← c.self.view_is)
     (unforgotten _ c.self.invariant.0 c.deref-6.result.now
-    (marks_are _ _ _ _ _ _ _ _ refl c.deref.ensures.value c.deref-2.ensures.value c.deref-6.ensures.value c.list_from_roots.ensures.marks)
+    (marks_are _ _ _ _ _ _ _ _ _ refl c.deref.ensures.value c.deref-2.ensures.value c.deref-6.ensures.value c.list_from_roots.ensures.marks)
     c.args.bases.now c.lowest_named-named.new.stays.items
     (subst (λ o. AreUnset o c.args.bases.now c.lowest_named-named.new.stays.items) c.deref-4.ensures.value c.lowest_named-named.ensures.unset)
     c.args.flags.now c.mark_flagged.new.marks
-    (subst (λ o. MarksFlagged o c.args.flags.now c.mark_flagged.new.marks) c.deref-7.ensures.value c.mark_flagged.ensures.marked)
+    (subst (λ o. MarksFlagged c.self.inside.origin o c.args.flags.now c.mark_flagged.new.marks) c.deref-7.ensures.value c.mark_flagged.ensures.marked)
     _ _ _
     (named_are _ _ _ _ _ c.deref-4.ensures.value c.lowest_named-named.ensures.wrong)
     (left_are _ _ _ _ _ _ _ c.deref-8.ensures.value (c.deref-9.ensures.value ∙ with_items_is c.list_from_roots.new.listing.marks c.mark_flagged.new.marks (long ∙ sym c.list_from_roots.new.listing.marks.ok.0)) c.deref-10.ensures.value c.lowest_left-left.ensures)
