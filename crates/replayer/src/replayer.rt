@@ -68,8 +68,8 @@ impl Replayer {
     /// [`RunError::Memory`] where a growth of memory was refused.
     pub fn new_from(alloc: Global, origin: u64, pages: u32) -> Result<Replayer, RunError>
         requires pages { (1 ≤ pages) × (pages ≤ MAX_PAGES) }
-        requires above { 0 < origin }
         requires aligned { origin % WORD_BYTES ≡ 0 }
+        requires past_zero { 0 < origin }
         requires fits { origin + PAGE_BYTES * pages < word_end }
         ensures opens { IfOk result (λ replayer. Follows replayer (opening_start pages) []) }
         ensures origin { IfOk result (λ replayer. replayer.core.origin ≡ origin) }

@@ -135,7 +135,7 @@ one_verdict places pages some few range lines verdict verdict' is is' = by_verdi
 
     opens : (among : Places) → HasRange among pages → IsFit among (heap_after start [])
     opens Classes has = opening_is pages some few
-    opens (Any from) has = (has.above, sound_apart (heap_after start []) (opening_is pages some few))
+    opens (Any from) has = (has.past_zero, sound_apart (heap_after start []) (opening_is pages some few))
 
     some_told : (count : ℕ) → IsJudged places pages lines (Legal count) → IsJudged places pages lines NoLines → ⊥
     some_told count x none = let h = x.counted in let k = x.some in let e = ap length none in absurd (omega (arith, h, k, e))

@@ -11,10 +11,10 @@ abbrev pub first_of : Places → ℕ
 first_of Classes = FIRST_ADDRESS
 first_of (Any from) = from
 
--- A heap of so many pages that begins at an address: this is a multiple of 8 above 0, and the end of the heap lies below 2 ^ 64.
+-- A heap of so many pages that begins at an address: this is a multiple of 8 past 0, and the end of the heap lies below 2 ^ 64.
 pub record IsRange (from pages : ℕ) : Type 0 where
-  pub above : 0 < from
   pub aligned : from % WORD_BYTES ≡ 0
+  pub past_zero : 0 < from
   pub ends : from + PAGE_BYTES * pages < word_end
 
 -- the heap has a range, as it always has where objects lie in classes

@@ -23,6 +23,6 @@ impl Places {
         let Places::Any(from) = self else {
             return true;
         };
-        from != 0 && from % WORD_BYTES == 0 && from <= u64::MAX - PAGE_BYTES * u64::from(pages)
+        from % WORD_BYTES == 0 && from != 0 && from <= u64::MAX - PAGE_BYTES * u64::from(pages)
     }
 }
