@@ -1,5 +1,5 @@
 -- Objects go, and the core and its heap are left without them.
-use Rattle.std.proofs.Common.{◌≡◌, ℕ, ◌+◌, ◌*◌, ◌≤◌, ◌-◌, ◌/◌, zero, suc, false, List, [], ◌∷◌, ◌++◌, map, get_or, length, ◌<◌, eqb, refl, sym, ap, ◌∙◌, subst, arith, ⊎_elim, ◌⊎◌}
+use Rattle.std.proofs.Common.{◌≡◌, ℕ, ◌+◌, ◌*◌, ◌≤◌, zero, suc, false, List, [], ◌∷◌, ◌++◌, map, get_or, length, ◌<◌, eqb, refl, sym, ap, ◌∙◌, subst, arith, ⊎_elim, ◌⊎◌}
 use Rattle.std.specs.Prelude.{filter, true, ◌≢◌, Some, Contains, IsPermutation, slice_get, nat_eq}
 use Rattle.std.specs.List.{IsDistinct, AllByRecursion, swap_remove}
 use Rattle.std.proofs.lemmas.List.Elements.{All-contains, Contains-get_or, Contains-append_left, Contains-append_right, Contains-append_cases}

@@ -1,4 +1,4 @@
--- Which object each word of the heap belongs to.
+-- Which object each word of the heap belongs to, which begins at `origin`.
 use Rattle.std.specs.Prelude.{◌≡◌, ℕ, ◌%◌, ◌≤◌, ◌<◌, List, All, length, slice_index}
 use Rattle.words.specs.declared.limits.TheConstants.{WORD_BYTES}
 use Rattle.links.specs.Leaving.{word_index}

@@ -14,12 +14,14 @@
 //! anything is (`TellsUncollected`, `TellsUnforgotten`), and change nothing. `keeper` tells of a reached object a root or a word of
 //! another reached object that points into it (`TellsKeeper`), and `path_to` a path from a root to it (`TellsPath`).
 //!
-//! The objects of a core may lie at any words. `alloc_anywhere` grants a request by an object of a given length at a given base,
-//! if it lies in the heap there and shares no byte with another (`Requests`, `IsAllocatedAnywhere`, `CantAllocateAnywhere`), and
-//! `may_refuse` tells whether a request may be answered so without being granted (`MayRefuse`, `CantRefuse`). `alloc` and a granted
-//! request of `call_as`, for which the core picks the place, are steps where all objects lie where size classes place them
-//! (`ArePlaced`). By two laws they do where the core stands for a sound heap (`objects_are_placed`), and what a request brings into
-//! a sound heap shares no byte with another object (`births_are_alone`).
+//! A core begins where heaps with size classes do (`new`), or at a given address (`new_from`), and no call moves it. Its objects
+//! may lie at any of its words. `alloc_anywhere` grants a request by an object of a given length at a given base, if it lies in the
+//! heap there and shares no byte with another (`Requests`, `IsAllocatedAnywhere`, `CantAllocateAnywhere`), and `may_refuse` tells
+//! whether a request may be answered so without being granted (`MayRefuse`, `CantRefuse`). `alloc` and a granted request of
+//! `call_as`, for which the core picks the place, are steps where the core begins where heaps with size classes do and
+//! all objects lie where these place them (`ArePlaced`); only there does the refusal of `alloc_at` say that the request can't be
+//! granted so (`CantAllocateAt`). By two laws objects lie so in a core that begins there and stands for a sound heap
+//! (`objects_are_placed`), and what a request brings into a sound heap shares no byte with another object (`births_are_alone`).
 #![tactic(auto)]
 
 mod along;

@@ -70,7 +70,8 @@ impl Core {
     }
 
     /// Allocates a zeroed object of at least so many words where its size class has a place, and puts its base into a register.
-    /// This is a step where all objects lie where size classes place them, as in every sound heap (`objects_are_placed`).
+    /// This is a step where all objects lie where size classes place them (`ArePlaced`), as in every sound heap that begins where
+    /// heaps with size classes do (`objects_are_placed`).
     pub fn alloc(&mut self, slot: Slot, into: Reg, words: u64, kind: Kind) -> Result<(), Refusal>
         ensures step { ArePlaced self.old → IsStep (StandsFor self.old) (Event.Mutator slot (Call.Alloc into words kind)) (done_reply result) (StandsFor self.new) }
         ensures origin { self.new.origin ≡ self.old.origin }
@@ -100,7 +101,8 @@ impl Core {
         Ok(())
     }
 
-    /// Allocates a zeroed object at this base, if the request is granted there. Else nothing changes.
+    /// Allocates a zeroed object at this base, if the request is granted there. Else nothing changes. Only a core that begins where
+    /// heaps with size classes do grants every request that can be.
     pub fn alloc_at(&mut self, slot: Slot, into: Reg, words: u64, kind: Kind, base: u64) -> bool
         ensures yes { IsTrue result → IsAllocatedAt self.old slot into words kind base self.new }
         ensures no { result ≡ false → CantAllocateAt self.old slot into words kind base }
