@@ -3,8 +3,8 @@ use Rattle.std.specs.Prelude.{Some, All, slice_get}
 use Rattle.std.proofs.lemmas.Option.{slice_get-get_or}
 use Rattle.words.specs.declared.class.Kind.TheVariants.{Normal}
 use Rattle.heap_spec.specs.Layout.{PointsInto}
-use Rattle.plain_core.specs.declared.extent.Extent.{Extent}
 use Rattle.links.specs.Leaving.{word_index}
+use Rattle.plain_core.specs.declared.extent.Extent.{Extent}
 use Rattle.plain_core.specs.Owners.{AreOwners}
 use Rattle.plain_core.proofs.Owning.{none_low, none_past, none_at, none_other}
 use Rattle.plain_core.proofs.owners.owner_at.Goals as goal
