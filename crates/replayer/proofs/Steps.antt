@@ -1,6 +1,7 @@
 -- How a run goes on, as a replayer follows it.
 use Rattle.std.proofs.Common.{◌≡◌, ◌⊎◌, ℕ, ◌+◌, ◌%◌, ◌<◌, ◌≤◌, Bool, true, false, List, length, refl, sym, ap, ◌∙◌, subst, arith, inl, inr, ⊎_elim}
 use Rattle.words.specs.declared.class.Kind.{Kind}
+use Rattle.words.specs.declared.limits.TheConstants.{FIRST_ADDRESS}
 use Rattle.words.specs.declared.refusal.Refusal.TheVariants.{WrongPhase, NeedsFull}
 use Rattle.heap_spec.specs.declared.call.Call.{Call}
 use Rattle.heap_spec.specs.declared.call.Call.TheVariants.{Alloc}
@@ -216,11 +217,11 @@ module _ (old : ReplayerContents) (small : old.number < word_end) (few : old.bir
               (calls_newborn (heap_after start run) d slot into words kind x.1) x.2,
         )
 
-    pub no_grant : CantAllocateAt old.core slot into words kind base → IsNoReplay old (Mutator slot (Alloc into words kind)) Done (Place base)
-    no_grant none start run next f r = stuck r.line (r.place slot into words kind refl refl)
+    pub no_grant : CantAllocateAt old.core slot into words kind base → old.core.origin ≡ FIRST_ADDRESS → IsNoReplay old (Mutator slot (Alloc into words kind)) Done (Place base)
+    no_grant none begins start run next f r = stuck r.line (r.place slot into words kind refl refl)
       where
         stuck : {to : Run} → LineOf start run (Mutator slot (Alloc into words kind)) Done to → IsBornAt (heap_after start run) base (heap_after start to) → ⊥
-        stuck (LineOf.happens {s' = s'} happens) born = none (heap_after start run) f.stands s' happens born
+        stuck (LineOf.happens {s' = s'} happens) born = none begins (heap_after start run) f.stands s' happens born
 
   -- no request is granted where no place is named, or where births are at their end
   no_name : (hint : Hint) → ((base : ℕ) → hint ≡ Place base → ⊥) → (s s' : Heap) → NamesPlace hint s s' → ⊥
