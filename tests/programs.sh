@@ -31,9 +31,14 @@ examples_print_their_replies() {
     done
 }
 
+# What is said of a request that was granted where no object may lie, and of words that `replay` doesn't take.
+not_placed="no object of so many words may be placed there, it has fewer words than were asked for, or the slot has no mutator"
+replay_usage="replay (--pages N | --bytes N) [--places any [--from ADDRESS]] [--why] FILE"
+
 # Words that neither of `replay` and `record` takes, and files that neither can read.
 faults_are_told() {
-    local usage="$program --pages N $([ "$program" != replay ] || echo '[--places any] [--why] ')FILE"
+    local usage="record --pages N FILE"
+    [ "$program" = record ] || usage=$replay_usage
     printf 'attach\n\377\n' | file_is no_text 1 "read fault" "" --pages 1 {}
     file_is no_file 1 "read fault" "" --pages 1 not.there </dev/null
     file_is no_page 2 "$usage" "" --pages 0 {} </dev/null
@@ -59,7 +64,7 @@ written_runs_are_judged() {
 
 # Options of `replay` in any order, each at most once, with a word that they take; and what it doesn't take.
 options_are_read() {
-    local usage="replay --pages N [--places any] [--why] FILE"
+    local usage=$replay_usage
     lines "attach => mutator 0" "0 alloc 1 2 normal => ok @ 268435464 2" | tee "$room/sized" |
         file_is sized 0 "" "legal, 2 lines" --places any --pages 1 {}
     file_is sized_why 0 "" "legal, 2 lines" --why --pages 1 --places any {} <"$room/sized"
@@ -73,6 +78,53 @@ options_are_read() {
     file_is no_pages 2 "$usage" "" --places any {} </dev/null
     file_is no_value 2 "$usage" "" --pages 1 --places {} </dev/null
     file_is no_words 2 "$usage" "" </dev/null
+}
+
+# The range of a heap that places objects anywhere: in whole pages of bytes, from a multiple of 8 on, and with its end below 2 ^ 64.
+ranges_are_read() {
+    local from=140737488289792 bad=0 words ranged="--places any --from 140737488289792"
+    lines "attach => mutator 0" "0 alloc 1 1 normal => ok @ 140737488297976 1" | tee "$room/ranged" |
+        file_is ranged 0 "" "legal, 2 lines" --places any --from $from --bytes 8192 {}
+    file_is ranged_in_another_order 0 "" "legal, 2 lines" --why --bytes 8192 --from $from --places any {} <"$room/ranged"
+    file_is ranged_by_pages 0 "" "legal, 2 lines" --from $from --places any --pages 2 {} <"$room/ranged"
+    file_is ranged_below 1 "" "line 2: $not_placed" --places any --from $from --bytes 4096 {} <"$room/ranged"
+    file_is ranged_elsewhere 1 "" "line 2: $not_placed" --places any --bytes 8192 {} <"$room/ranged"
+    file_is ranged_from_the_first 0 "" "legal, 2 lines" --places any --bytes 4096 {} <"$room/sized"
+    file_is ranged_from_it 0 "" "legal, 2 lines" --places any --from 268435456 --bytes 4096 {} <"$room/sized"
+    file_is ranged_largest 0 "" "legal, 2 lines" --places any --from 268435456 --bytes 16777216 {} <"$room/sized"
+    file_is ranged_highest 1 "" "line 2: $not_placed" --places any --from 18446744073692774392 --bytes 16777216 {} <"$room/ranged"
+    while IFS= read -r words; do
+        bad=$((bad + 1))
+        # shellcheck disable=SC2086 # (each is a word of its own)
+        file_is "range_$bad" 2 "$replay_usage" "" $words {} </dev/null
+    done <<BAD
+$ranged
+$ranged --bytes 4096 --pages 1
+$ranged --bytes 4096 --bytes 4096
+$ranged --from 140737488289792 --bytes 4096
+$ranged --bytes 0
+$ranged --bytes 4095
+$ranged --bytes 4104
+$ranged --bytes 04096
+$ranged --bytes 16781312
+$ranged --bytes
+--places any --from --bytes 4096
+--places any --from 140737488289793 --bytes 4096
+--places any --from 140737488289788 --bytes 4096
+--places any --from 0 --bytes 4096
+--places any --from 08 --bytes 4096
+--places any --from 0x8 --bytes 4096
+--places any --from -8 --bytes 4096
+--places any --from 18446744073709547520 --bytes 4096
+--places any --from 18446744073692774400 --bytes 16777216
+--places any --from 18446744073709551608 --pages 1
+--places any --from 18446744073709551616 --bytes 4096
+--bytes 4096
+--from 140737488289792 --pages 1
+--from 140737488289792 --bytes 4096
+--places classes --bytes 4096
+--places classes --from 268435456 --pages 1
+BAD
 }
 
 # With `--why` a path from a root leads to an object that has to stay: through two objects, and straight from a register. Nothing more
@@ -101,7 +153,7 @@ foreign_runs_are_judged() {
 # Runs of bdwgc, as it stands and with each fault of the recorder: its .expected has what is said of each, where {N} is the address of
 # the Nth alloc, which depends on bdwgc's release. Where libgc isn't installed they are left out.
 bdwgc_runs_are_judged() {
-    local bug said source=$top/examples/c/record_bdwgc
+    local bug said range source=$top/examples/c/record_bdwgc
     if ! echo "int main(void) { return 0; }" | cc -include gc.h -x c - -lgc -o "$room/has_libgc" 2>/dev/null; then
         echo "$kind: no libgc here: examples/c/record_bdwgc.c isn't compiled, and no run of it is judged"
         return
@@ -111,7 +163,8 @@ bdwgc_runs_are_judged() {
         is "record_bdwgc with -DBUG=$bug compiles" 0 $?
         "$room/record_bdwgc" >"$room/bdwgc_$bug"
         said=$(sed -n "s/^$bug: //p" "$source.expected" | named_places "$room/bdwgc_$bug")
-        file_is "bdwgc_$bug" "$((bug > 0))" "" "$said" --pages 512 --places any {} <"$room/bdwgc_$bug"
+        read -ra range < <(sed -n 's/^# in //p' "$room/bdwgc_$bug")
+        file_is "bdwgc_$bug" "$((bug > 0))" "" "$said" --places any "${range[@]}" {} <"$room/bdwgc_$bug"
     done
 }
 
@@ -134,10 +187,11 @@ open_cases replay
 written_runs_are_judged
 paths_are_shown
 options_are_read
+ranges_are_read
 foreign_runs_are_judged
 bdwgc_runs_are_judged
 faults_are_told
-run_cases 38
+run_cases 73
 open_cases record
 runs_are_written
 faults_are_told

@@ -125,7 +125,7 @@ usage_comes_first() {
     has "no words: threads" "mpheap threads --pages N [--helpers H] [--record RUN] FILE" "$err"
     has "no words: stress" "mpheap stress --seed S --mutators M --steps K" "$err"
     has "no words: record" "mpheap record --pages N FILE" "$err"
-    has "no words: replay" "mpheap replay --pages N [--places any] [--why] FILE" "$err"
+    has "no words: replay" "mpheap replay (--pages N | --bytes N) [--places any [--from ADDRESS]] [--why] FILE" "$err"
     has "no words: draw" "mpheap draw --pages N [FILE]" "$err"
     has "no words: draw --run" "mpheap draw --pages N --run FILE" "$err"
     has "no words: build" "mpheap build" "$err"
@@ -228,7 +228,7 @@ wrong_words_are_told() {
 
 # Options stand before FILE in any order, each at most once, and FILE is the last word whatever it looks like.
 replay_takes_options_in_any_order() {
-    local usage="replay --pages N [--places any] [--why] FILE"
+    local usage="replay (--pages N | --bytes N) [--places any [--from ADDRESS]] [--why] FILE"
     try_ends 0 $'legal\n'
     call replay --why --places any --pages 4 first.script
     is "replay: options in another order" "replay try -- --why --places any --pages 4 /dev/stdin" "$(calls)"
@@ -248,6 +248,36 @@ replay_takes_options_in_any_order() {
     refused 2 "$usage" "'--why' is given twice" replay --why --pages 4 --why first.script
     refused 2 "$usage" "'replay' has no option '--run'" replay --pages 4 --run first.script
     refused 1 "read fault" "there is no file 'not.there'" replay --pages 4 --why not.there
+}
+
+# A range is that of a heap that places objects anywhere: whole pages of bytes, or their number, from a multiple of 8 on, with its end
+# below 2^64.
+replay_takes_a_range() {
+    local usage="replay (--pages N | --bytes N) [--places any [--from ADDRESS]] [--why] FILE"
+    try_ends 0 $'legal\n'
+    call replay --bytes 8192 --from 140737488289792 --places any first.script
+    is "replay: a range" "replay try -- --bytes 8192 --from 140737488289792 --places any /dev/stdin" "$(calls)"
+    call replay --places any --from 18446744073692774392 --bytes 16777216 first.script
+    is "replay: the highest range" "replay try -- --places any --from 18446744073692774392 --bytes 16777216 /dev/stdin" "$(calls)"
+    call replay --places any --from 8 --pages 4096 first.script
+    is "replay: the lowest range" "replay try -- --places any --from 8 --pages 4096 /dev/stdin" "$(calls)"
+    call replay --places any --bytes 4096 first.script
+    is "replay: a range from the first address" "replay try -- --places any --bytes 4096 /dev/stdin" "$(calls)"
+    refused 2 "$usage" "'replay' lacks '--pages'" replay --places any --from 8 first.script
+    refused 2 "$usage" "'--pages' and '--bytes' say the same of a heap" replay --places any --pages 1 --bytes 4096 first.script
+    refused 2 "$usage" "'--from' is for '--places any' alone" replay --pages 1 --from 8 first.script
+    refused 2 "$usage" "'--bytes' is for '--places any' alone" replay --places classes --bytes 4096 first.script
+    refused 2 "$usage" "'--from' is given twice" replay --places any --from 8 --from 8 --pages 1 first.script
+    refused 2 "$usage" "'--bytes' lacks its number" replay --places any --bytes first.script
+    refused 2 "$usage" "'0' is no number for '--from': 8 to 18446744073709551608, in decimal" replay --places any --from 0 --pages 1 first.script
+    refused 2 "$usage" "'140737488289796' is no number for '--from': it is no multiple of 8" replay --from 140737488289796 --pages 1 first.script
+    refused 2 "$usage" "'18446744073709551604' is no number for '--from': it is no multiple of 8" replay --from 18446744073709551604 first.script
+    refused 2 "$usage" "'4095' is no number for '--bytes': it is no multiple of 4096" replay --places any --bytes 4095 first.script
+    refused 2 "$usage" "'4104' is no number for '--bytes': it is no multiple of 4096" replay --places any --bytes 4104 first.script
+    refused 2 "$usage" "'16781312' is no number for '--bytes': 4096 to 16777216, in decimal" replay --places any --bytes 16781312 first.script
+    refused 2 "$usage" "a heap from '18446744073692774400' on has its end past 2^64 - 1" \
+        replay --places any --from 18446744073692774400 --bytes 16777216 first.script
+    refused 2 "$usage" "a heap from '18446744073709547520' on has its end past 2^64 - 1" replay --places any --from 18446744073709547520 --pages 1 first.script
 }
 
 # A drawn run is the page with the trace that the program printed: joined wherever there is any line, with its status.
@@ -615,6 +645,7 @@ each_program_is_called_by_its_name
 a_drawn_run_is_a_page
 wrong_words_are_told
 replay_takes_options_in_any_order
+replay_takes_a_range
 limits_are_the_programs
 file_is_the_callers
 input_is_read_to_its_end

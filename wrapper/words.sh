@@ -8,24 +8,31 @@ most_helpers=8
 most_mutators=16
 most_steps=100000
 most_seed=18446744073709551615
+most_bytes=16777216
+most_from=18446744073709551608
 
 # options_of COMMAND: its options, which all have a number, but for --record, which has a file, --places, which has a word, and --why.
 options_of() {
     case $1 in
         run | record | draw) echo pages ;;
-        replay) echo pages places why ;;
+        replay) echo pages bytes places from why ;;
         threads) echo pages helpers record ;;
         stress) echo seed mutators steps ;;
     esac
 }
 
 may_lack() {
-    is_in "$1" "helpers record places why"
+    is_in "$1" "helpers record bytes places from why" || { [ "$1" = pages ] && is_in bytes "$given"; }
 }
 
 # least_of OPTION, most_of OPTION: the range of its number.
 least_of() {
-    case $1 in seed | steps) echo 0 ;; *) echo 1 ;; esac
+    case $1 in seed | steps) echo 0 ;; from) echo 8 ;; bytes) echo 4096 ;; *) echo 1 ;; esac
+}
+
+# step_of OPTION: what its number is a multiple of.
+step_of() {
+    case $1 in from) echo 8 ;; bytes) echo 4096 ;; *) echo 1 ;; esac
 }
 
 most_of() {
@@ -55,13 +62,27 @@ is_number() {
     esac
 }
 
+# is_multiple NUMBER STEP: of a number that the shell may not count to, the last 15 digits tell it.
+is_multiple() {
+    case $1 in ???????????????*) set -- "1${1#"${1%???????????????}"}" "$2" ;; esac
+    [ $(($1 % $2)) = 0 ]
+}
+
+# is_below_end FROM BYTES: a heap of so many bytes from there on ends below 2^64, which is 18446744073709551616.
+is_below_end() {
+    case $1 in
+        1844674407??????????) [ $((1${1#??????????} + $2)) -lt 13709551616 ] ;;
+        *) true ;;
+    esac
+}
+
 # Says what is wrong with the words, how they are used, and last what the program says of them.
 bad_words() {
     say "$*"
     (usage)
     case $command in
         draw) echo "draw --pages N [--run] FILE" ;;
-        replay) echo "replay --pages N [--places any] [--why] FILE" ;;
+        replay) echo "replay (--pages N | --bytes N) [--places any [--from ADDRESS]] [--why] FILE" ;;
         record) echo "record --pages N FILE" ;;
         *) echo "bad command" ;;
     esac >&2
@@ -84,8 +105,10 @@ look_at_number() {
         *)
             is_number "$2" "$(least_of "$1")" "$(most_of "$1")" ||
                 bad_words "'$2' is no number for '--$1': $(least_of "$1") to $(most_of "$1"), in decimal"
+            is_multiple "$2" "$(step_of "$1")" || bad_words "'$2' is no number for '--$1': it is no multiple of $(step_of "$1")"
             ;;
     esac
+    case $1 in pages | bytes | places | from) eval "said_$1=\$2" ;; esac
     option=
 }
 
@@ -137,13 +160,22 @@ look_at_replay() {
     eval "file=\${$#}"
 }
 
+# Says what is wrong with the range of a run's heap.
+look_at_range() {
+    [ -z "$said_pages" ] || [ -z "$said_bytes" ] || bad_words "'--pages' and '--bytes' say the same of a heap"
+    [ "$said_places" = any ] || [ -z "$said_from" ] || bad_words "'--from' is for '--places any' alone"
+    [ "$said_places" = any ] || [ -z "$said_bytes" ] || bad_words "'--bytes' is for '--places any' alone"
+    is_below_end "$said_from" "${said_bytes:-$((4096 * said_pages))}" || bad_words "a heap from '$said_from' on has its end past 2^64 - 1"
+}
+
 # Looks at all words of a command line. What is left in file_at is the place of FILE among them, 0 if there is none.
 look_at_words() {
-    command=$1 file_at=0 file='' at=0 option='' given='' are_options=yes
+    command=$1 file_at=0 file='' at=0 option='' given='' are_options=yes said_pages='' said_bytes='' said_places='' said_from=''
     is_in "$command" "run threads stress replay record draw" || bad_words "'$1' is no command"
     if [ "$command" = replay ]; then
         look_at_replay "$@"
         look_for_missing
+        look_at_range
         return
     fi
     look_at_order "$@"

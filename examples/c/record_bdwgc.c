@@ -1,12 +1,13 @@
 /* A recorder for bdwgc, the Boehm-Demers-Weiser collector: a program runs on its heap, and each call is printed as a line that
  * ./mpheap replay --places any judges (docs/REPLAY.md). Nothing here is proved, and of bdwgc only what this run shows is judged.
  *
- *     cc -std=c99 record_bdwgc.c -lgc -o record_bdwgc && ./record_bdwgc >run && ./mpheap replay --pages 512 --places any run
+ *     cc -std=c99 record_bdwgc.c -lgc -o record_bdwgc && ./record_bdwgc >run
+ *     ./mpheap replay --places any $(sed -n 's/^# in //p' run) run
  *
- * What is recorded. The 16 registers are an array that bdwgc scans as a part of the program's data; pointers stand in them and in
- * objects as they are, interior ones too, and are printed as an offset from MIDDLE pages below a first object. An alloc has the
- * number of words that GC_size tells, but for the last one (below), and a full cycle (GC_gcollect) the bases of the objects whose
- * disappearing links it cleared: these stand disguised in a table, and bdwgc clears them as soon as it finds an object
+ * What is recorded. The 16 registers are an array that bdwgc scans as a part of the program's data; pointers stand in them, in
+ * objects and in lines as they are, interior ones too. The last line is a comment with the range in which the objects lay. An alloc
+ * has the number of words that GC_size tells, but for the last one (below), and a full cycle (GC_gcollect) the bases of the objects
+ * whose disappearing links it cleared: these stand disguised in a table, and bdwgc clears them as soon as it finds an object
  * inaccessible. Collections of bdwgc's own accord are off, since they would take objects away between two lines.
  * GC_malloc_atomic doesn't clear what it gives, so alloc does.
  *
@@ -26,33 +27,22 @@
 #define BUG 0
 #endif
 
-enum { PAGES = 512, PAGE_BYTES = 4096, MIDDLE = PAGES / 2, REGISTERS = 16, OBJECTS = 4096, STEPS = 2000, STEPS_TO_A_CYCLE = 40 };
-
-static const uint64_t FIRST = 268435456; /* where the heap begins in lines */
+enum { PAGE_BYTES = 4096, MOST_BYTES = 4096 * PAGE_BYTES, REGISTERS = 16, OBJECTS = 4096, STEPS = 2000, STEPS_TO_A_CYCLE = 40 };
 
 static uintptr_t registers[REGISTERS];
-static uintptr_t lowest; /* what FIRST stands for */
 
-/* What is known of an object: its address, disguised, which bdwgc makes 0 when the object is gone, and what is printed for it. */
+/* What is known of an object: its address, disguised, which bdwgc makes 0 when the object is gone, and its complement, which stays.
+ * As they are addresses would keep their objects, here too. */
 typedef struct {
     void *link;
-    uint64_t address;
+    uintptr_t hidden;
 } object;
 
 static object objects[OBJECTS];
+static uintptr_t first_page = UINTPTR_MAX, end_page; /* of all objects, and the page behind them */
 static int collections;
 
 /* ---- Lines. ---- */
-
-/* How a word is printed: an address of the heap by its offset. */
-static uint64_t word_of(uintptr_t value) {
-    if (value >= lowest && value - lowest < (uintptr_t)PAGES * PAGE_BYTES) return FIRST + (value - lowest);
-    if (value >= 4096) {
-        fprintf(stderr, "record_bdwgc: the heap is larger than a run may be\n");
-        exit(1);
-    }
-    return value;
-}
 
 static uintptr_t base_of(uintptr_t value) { return (uintptr_t)GC_base((void *)value); }
 
@@ -66,7 +56,7 @@ static uintptr_t words_of(uintptr_t base) {
 
 static void set(int r, uintptr_t value) {
     registers[r] = value;
-    printf("0 set %d %" PRIu64 " => ok\n", r, word_of(value));
+    printf("0 set %d %" PRIuPTR " => ok\n", r, value);
 }
 
 static void copy(int to, int from) {
@@ -82,18 +72,20 @@ static void add(int to, int from, uintptr_t number) {
 /* Keeps a link to an object that bdwgc clears when the object is gone. */
 static void know(uintptr_t base) {
     int i;
-    for (i = 0; i < OBJECTS && objects[i].address != 0; i++) {}
+    for (i = 0; i < OBJECTS && objects[i].hidden != 0; i++) {}
     if (i == OBJECTS) exit(1);
+    if (base / PAGE_BYTES < first_page) first_page = base / PAGE_BYTES;
+    if ((base + GC_size((void *)base)) / PAGE_BYTES >= end_page) end_page = (base + GC_size((void *)base)) / PAGE_BYTES + 1;
     objects[i].link = (void *)GC_HIDE_POINTER((void *)base);
-    objects[i].address = word_of(base);
+    objects[i].hidden = ~base;
     if (GC_general_register_disappearing_link(&objects[i].link, (void *)base) != GC_SUCCESS) exit(1);
 }
 
 /* Where an object is said to lie. A bug says of an object that it lies where the one before does. */
-static uint64_t place_of(uintptr_t base) {
-    static uint64_t before;
-    uint64_t place = BUG == 4 && before != 0 ? before : word_of(base);
-    before = place;
+static uintptr_t place_of(uintptr_t base) {
+    static uintptr_t hidden;
+    uintptr_t place = BUG == 4 && hidden != 0 ? ~hidden : base;
+    hidden = ~place;
     return place;
 }
 
@@ -107,7 +99,7 @@ static void alloc(int r, unsigned length, bool atomic) {
     if (atomic) memset((void *)base, 0, GC_size((void *)base));
     know(base);
     registers[r] = base;
-    printf("ok @ %" PRIu64 " %" PRIuPTR "\n", place_of(base), words_of(base));
+    printf("ok @ %" PRIuPTR " %" PRIuPTR "\n", place_of(base), words_of(base));
 }
 
 static bool is_refused(uintptr_t address) {
@@ -130,7 +122,7 @@ static void load(int to, int r, uintptr_t offset) {
     printf("0 load %d %d %" PRIuPTR " => ", to, r, offset);
     if (is_refused(address)) return;
     registers[to] = *(uintptr_t *)address;
-    printf("%" PRIu64 "\n", word_of(registers[to]));
+    printf("%" PRIuPTR "\n", registers[to]);
 }
 
 static void base(int to, int r) {
@@ -141,7 +133,7 @@ static void base(int to, int r) {
         return;
     }
     registers[to] = found;
-    printf("%" PRIu64 "\n", word_of(found));
+    printf("%" PRIuPTR "\n", found);
 }
 
 static void size(int r) {
@@ -164,12 +156,13 @@ static void wipe_stack(void) {
 static void print_gone(void) {
     int i, at = 0, gone[OBJECTS + 1];
     for (i = 0; i < OBJECTS; i++)
-        if (objects[i].address != 0 && (objects[i].link == NULL || (BUG == 3 && at == 0))) gone[at++] = i;
+        if (objects[i].hidden != 0 && (objects[i].link == NULL || (BUG == 3 && at == 0))) gone[at++] = i;
     if (BUG == 2 && at > 0) at--;
     printf("gc collect => %d -", at);
     for (i = 0; i < at; i++) {
-        printf(" %" PRIu64, objects[gone[i]].address);
-        objects[gone[i]].address = 0;
+        printf(" %" PRIuPTR, ~objects[gone[i]].hidden);
+        if (objects[gone[i]].link != NULL) GC_unregister_disappearing_link(&objects[gone[i]].link);
+        objects[gone[i]].hidden = 0;
     }
     printf("\n");
 }
@@ -277,14 +270,21 @@ static void run_cycle(void) {
     run(collect);
 }
 
-/* The middle of the range that is printed is the page of an object that no line tells of. */
-static void find_heap(void) { lowest = (uintptr_t)GC_malloc(8) / PAGE_BYTES * PAGE_BYTES - (uintptr_t)MIDDLE * PAGE_BYTES; }
+/* Where the objects lay, as the checker has to be told. */
+static void print_range(void) {
+    uintptr_t bytes = (end_page - first_page) * PAGE_BYTES;
+    if (bytes > MOST_BYTES) {
+        fprintf(stderr, "record_bdwgc: the heap is larger than a run may be\n");
+        exit(1);
+    }
+    printf("# in --from %" PRIuPTR " --bytes %" PRIuPTR "\n", first_page * PAGE_BYTES, bytes);
+}
 
 int main(void) {
     int step;
+    GC_set_max_heap_size(MOST_BYTES);
     GC_INIT();
     GC_disable();
-    find_heap();
     printf("attach => mutator 0\n");
     run(use_list);
     run_cycle();
@@ -295,5 +295,6 @@ int main(void) {
     }
     run(forget_all);
     run_cycle();
+    print_range();
     return 0;
 }

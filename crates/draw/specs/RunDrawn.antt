@@ -7,7 +7,7 @@ use Rattle.heap_spec.specs.declared.reply.Reply.{Reply}
 use Rattle.heap_spec.specs.Ranges.{IsWord}
 use Rattle.plain_core.specs.declared.wrongs.Wrong.{Wrong}
 use Rattle.plain_core.specs.declared.wrongs.Wrong.TheVariants.{IsMissing, StandsTwice, HasToStay, HasToGo}
-use Rattle.plain_core.specs.Standing.{word_index}
+use Rattle.pages.specs.Memory.{word_index}
 use Rattle.replayer.specs.declared.hint.Hint.{Hint}
 use Rattle.scripts.specs.Grammar.{IsLineOf}
 use Rattle.written_runs.specs.Written.{IsAnswer, IsWritten, answer_of}

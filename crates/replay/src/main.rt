@@ -1,11 +1,13 @@
 //! The program that checks a written run: `replay --pages N FILE` says `legal, N lines`, or which line isn't and what rule it breaks.
-//! With `--places any` objects may lie anywhere, and with `--why` it also shows a path from a root to an object that has to stay.
+//! With `--places any` objects may lie anywhere, in a heap of `--bytes N` from `--from ADDRESS` on, and with `--why` it also shows a path
+//! from a root to an object that has to stay.
 //!
 //! The lines of FILE are those of docs/REPLAY.md.
 #![tactic(auto)]
 
 ghost use Rattle.std.specs.Prelude.{◌≤◌};
 ghost use Rattle.words.specs.declared.limits.TheConstants.{MAX_PAGES};
+ghost use Rattle.written_runs.specs.Ranges.{HasRange};
 
 mod options;
 
@@ -92,7 +94,7 @@ fn print_explained(rt: &HostRuntime, said: &Explained) -> Result<u8, Fault> {
 
 // Checks the run in a file, and gives the status that goes with what is said of it.
 fn check(rt: &HostRuntime, asked: Asked, file: &str) -> Result<u8, Fault>
-    requires { (1 ≤ asked.pages) × (asked.pages ≤ MAX_PAGES) }
+    requires { (1 ≤ asked.pages) × (asked.pages ≤ MAX_PAGES) × HasRange asked.places asked.pages }
 {
     let text = match fs::read_to_string(rt, file) {
         Ok(text) => text,
@@ -123,7 +125,9 @@ fn main(rt: HostRuntime) -> ExitCode {
     let status = match obey(&rt) {
         Ok(status) => status,
         Err(Fault::BadCommand) => {
-            let _ = eprintln!(rt; "replay --pages N [--places any] [--why] FILE");
+            let _ = eprintln!(rt;
+                "replay (--pages N | --bytes N) [--places any [--from ADDRESS]] [--why] FILE"
+            );
             Fault::BadCommand.status()
         }
         Err(fault) => end(Err(fault), &mut Std::new(rt.stderr())),

@@ -33,8 +33,8 @@ not_done slot r _ before other = refl
 
 module _ (s s' : Heap) (d' : HasApartObjects s') where
   -- a step that leaves the count of births leaves which objects are old
-  pub old_tell : (event : Event) (reply : Reply) → Step s event reply s' → s'.births ≡ s.births → (flags : List Bool) (last : ℕ) → TellOld s flags last → TellOld s' flags last
-  old_tell event reply step births flags last tell base p has = ⊎_elim
+  pub old_tell : (origin : ℕ) (event : Event) (reply : Reply) → Step s event reply s' → s'.births ≡ s.births → (flags : List Bool) (last : ℕ) → TellOld origin s flags last → TellOld origin s' flags last
+  old_tell origin event reply step births flags last tell base p has = ⊎_elim
       (λ old. (
         λ set. subst (λ b. b ≤ last) (sym old.2.birth) ((tell base old.0 old.1).0 set),
         λ le. (tell base old.0 old.1).1 (subst (λ b. b ≤ last) old.2.birth le),
@@ -44,21 +44,21 @@ module _ (s s' : Heap) (d' : HasApartObjects s') where
 
   -- what is born is not old
   pub new_tell : ((q : ℕ) (p : Object) → HasObject s' q p → IsOldOrNew s q p) → s'.births ≡ s.births + 1 → (base : ℕ) (born : IsBornAt s base s') (c : PlainContents) → StandsFor c s' → (old new : List Bool) → FlagUnset c base old new
-      → (last : ℕ) → last ≤ s.births → TellOld s old last → TellOld s' new last
+      → (last : ℕ) → last ≤ s.births → TellOld c.origin s old last → TellOld c.origin s' new last
   new_tell split births base born c h old new f last past tell at p has = ⊎_elim here away (cases_eq at base)
     where
       newest : s.births < born.object.birth
       newest = born.newest
 
-      here : at ≡ base → (IsFlagged new at → p.birth ≤ last) × (p.birth ≤ last → IsFlagged new at)
+      here : at ≡ base → (IsFlagged c.origin new at → p.birth ≤ last) × (p.birth ≤ last → IsFlagged c.origin new at)
       here same = (
-        λ set. absurd (f.unset s' h born.object born.there (subst (IsFlagged new) same set)),
+        λ set. absurd (f.unset s' h born.object born.there (subst (IsFlagged c.origin new) same set)),
         λ le.
             let is : p.birth ≡ born.object.birth = ap (λ (x : Object). x.birth) (same_Some p born.object (sym has ∙ ap s'.objects same ∙ born.there)) in
             absurd (omega (arith, is, le, newest, past)),
       )
 
-      away : (at ≡ base → ⊥) → (IsFlagged new at → p.birth ≤ last) × (p.birth ≤ last → IsFlagged new at)
+      away : (at ≡ base → ⊥) → (IsFlagged c.origin new at → p.birth ≤ last) × (p.birth ≤ last → IsFlagged c.origin new at)
       away ne = ⊎_elim
           (λ was. (
             λ set. subst (λ b. b ≤ last) (sym was.2.birth) ((tell at was.0 was.1).0 ((f.others s' h born.object born.there at p has ne).0 set)),
@@ -71,12 +71,12 @@ module _ (s s' : Heap) (d' : HasApartObjects s') where
           (split at p has)
 
 -- after a collection all objects are old
-pub all_tell : (s : Heap) (c : PlainContents) → StandsFor c s → (flags : List Bool) → HasFlags c.pages flags → FlagsAll c flags → TellOld s flags s.births
+pub all_tell : (s : Heap) (c : PlainContents) → StandsFor c s → (flags : List Bool) → HasFlags c.pages flags → FlagsAll c flags → TellOld c.origin s flags s.births
 all_tell s c h flags room all base o has = (λ set. (h.born base o has).1, λ le. all room s h base o has)
 
 -- a partial cycle touches what roots and old objects lead to
-pub partial_tell : (start : Start) (run : Run) (c : PlainContents) → StandsFor c (heap_after start run) → HasApartObjects (heap_after start run) → (aged flags : List Bool) → TellOld (heap_after start run) aged (old_births start run)
-    → HasFlags c.pages flags → FlagsClosure c aged flags → TellTouched flags start (goes_on run BeginPartial Done (heap_after start run))
+pub partial_tell : (start : Start) (run : Run) (c : PlainContents) → StandsFor c (heap_after start run) → HasApartObjects (heap_after start run) → (aged flags : List Bool) → TellOld c.origin (heap_after start run) aged (old_births start run)
+    → HasFlags c.pages flags → FlagsClosure c aged flags → TellTouched c.origin flags start (goes_on run BeginPartial Done (heap_after start run))
 partial_tell start run c h d aged flags tell room closure base o has =
     let k = closure room (heap_after start run) h (old_births start run) tell base o has in (
       λ set. (base, o, has, refl, k.0 set),

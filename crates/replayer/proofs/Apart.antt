@@ -1,5 +1,5 @@
 -- A replay has one next run, where objects may lie anywhere: none of its heaps has objects that share a byte.
-use Rattle.std.proofs.Common.{◌≡◌, ℕ, ◌+◌, List, [], ◌∷◌, length, replicate, refl, sym, ap, ◌∙◌, subst, arith, ⊎_elim}
+use Rattle.std.proofs.Common.{◌≡◌, ℕ, ◌+◌, ◌<◌, List, [], ◌∷◌, length, replicate, refl, sym, ap, ◌∙◌, subst, arith, ⊎_elim}
 use Rattle.std.specs.Prelude.{Some}
 use Rattle.std.proofs.lemmas.List.{length-set, length-replicate}
 use Rattle.std.proofs.lemmas.Option.{same_Some}
@@ -99,7 +99,7 @@ module _ (start : Start) (run : Run) where
   happens_keep Number reply t plain step = absurd step
 
 -- A request that was granted.
-module _ (s : Heap) (h : HasApartObjects s) (slot d a n : ℕ) (m : HeapMutator) (kind : Kind) (room : HasRoomAnywhere s n a) where
+module _ (s : Heap) (h : HasApartObjects s) (slot d a n : ℕ) (m : HeapMutator) (kind : Kind) (origin : ℕ) (above : 0 < origin) (room : HasRoomAnywhere s origin n a) where
   granted_apart : HasApartObjects (with_register (with_words s a kind n) slot m d a)
   granted_apart = record {
     births = λ p q o o' x y e. ⊎_elim
@@ -125,7 +125,7 @@ module _ (s : Heap) (h : HasApartObjects s) (slot d a n : ℕ) (m : HeapMutator)
         (at_cases s.objects a _ q _ y.0))
         (at_cases s.objects a _ p _ x.0);
     zero = λ q o x. ⊎_elim
-        (λ here. let from = room.start in let low = (into_new 0 q o here.0 here.1 x.1).0 in absurd (omega (arith, from, low)))
+        (λ here. let from = room.start in let low = (into_new 0 q o here.0 here.1 x.1).0 in absurd (omega (arith, above, from, low)))
         (λ old. h.zero q o (old.1, x.1))
         (at_cases s.objects a _ q _ x.0);
   }
@@ -146,11 +146,11 @@ module _ (s : Heap) (h : HasApartObjects s) (slot d a n : ℕ) (m : HeapMutator)
       (λ old. let few = h.born base born.0.object old.1 in let new = born.0.newest in absurd (omega (arith, few, new)))
       (at_cases s.objects a _ base _ born.0.there)
 
-requests_apart : (s : Heap) → HasApartObjects s → (slot d n : ℕ) (kind : Kind) (reply : Reply) (t : Heap) → Requests s slot d n kind reply t → HasApartObjects t
-requests_apart s h slot d n kind reply t (Requests.by {m = m} at (Grants.granted a k enough room)) = granted_apart s h slot d a k m kind room
-requests_apart s h slot d n kind reply t (Requests.by at (Grants.bad_size e)) = h
-requests_apart s h slot d n kind reply t (Requests.by at Grants.full) = h
-requests_apart s h slot d n kind reply t (Requests.vacant none) = h
+requests_apart : (s : Heap) (origin : ℕ) → 0 < origin → HasApartObjects s → (slot d n : ℕ) (kind : Kind) (reply : Reply) (t : Heap) → Requests s origin slot d n kind reply t → HasApartObjects t
+requests_apart s origin above h slot d n kind reply t (Requests.by {m = m} at (Grants.granted a k enough room)) = granted_apart s h slot d a k m kind origin above room
+requests_apart s origin above h slot d n kind reply t (Requests.by at (Grants.bad_size e)) = h
+requests_apart s origin above h slot d n kind reply t (Requests.by at Grants.full) = h
+requests_apart s origin above h slot d n kind reply t (Requests.vacant none) = h
 
 -- An object of so many words is born at one base in both heaps.
 abbrev BothBornOf : Heap → Heap → Heap → Type 0
@@ -164,28 +164,28 @@ both_born_of Nothing hint n e s t t' x y = absurd x
 both_born_of (Forgot a) hint n e s t t' x y = absurd x
 
 -- a request that isn't granted changes nothing
-requests_refused : (s : Heap) (slot d n : ℕ) (kind : Kind) {reply : Reply} {t : Heap} → Requests s slot d n kind reply t → (reply ≡ Done → ⊥) → t ≡ s
-requests_refused s slot d n kind (Requests.by at (Grants.granted a k enough room)) plain = absurd (plain refl)
-requests_refused s slot d n kind (Requests.by at (Grants.bad_size e)) plain = refl
-requests_refused s slot d n kind (Requests.by at Grants.full) plain = refl
-requests_refused s slot d n kind (Requests.vacant none) plain = refl
+requests_refused : (s : Heap) (origin slot d n : ℕ) (kind : Kind) {reply : Reply} {t : Heap} → Requests s origin slot d n kind reply t → (reply ≡ Done → ⊥) → t ≡ s
+requests_refused s origin slot d n kind (Requests.by at (Grants.granted a k enough room)) plain = absurd (plain refl)
+requests_refused s origin slot d n kind (Requests.by at (Grants.bad_size e)) plain = refl
+requests_refused s origin slot d n kind (Requests.by at Grants.full) plain = refl
+requests_refused s origin slot d n kind (Requests.vacant none) plain = refl
 
 -- a request that was granted at one base, with so many words
-grants_one : (s : Heap) → HasApartObjects s → (slot d n : ℕ) (m : HeapMutator) (kind : Kind) {t t' : Heap} → Grants s slot m d n kind Done t → Grants s slot m d n kind Done t' → BothBornOf s t t' → t ≡ t'
-grants_one s h slot d n m kind (Grants.granted a k enough room) (Grants.granted b j more free) born =
-    let here = born_here s h slot d a k m kind room born.0 born.1 born.2 in
-    let there = born_here s h slot d b j m kind free born.0 born.1 born.3 in
+grants_one : (s : Heap) (origin : ℕ) → 0 < origin → HasApartObjects s → (slot d n : ℕ) (m : HeapMutator) (kind : Kind) {t t' : Heap} → Grants s origin slot m d n kind Done t → Grants s origin slot m d n kind Done t' → BothBornOf s t t' → t ≡ t'
+grants_one s origin above h slot d n m kind (Grants.granted a k enough room) (Grants.granted b j more free) born =
+    let here = born_here s h slot d a k m kind origin above room born.0 born.1 born.2 in
+    let there = born_here s h slot d b j m kind origin above free born.0 born.1 born.3 in
     ap (λ z. with_register (with_words s z kind k) slot m d z) (sym here.0 ∙ there.0) ∙ ap (λ z. with_register (with_words s b kind z) slot m d b) (sym here.1 ∙ there.1)
 
-requests_one : (s : Heap) → HasApartObjects s → (slot d n : ℕ) (kind : Kind) (reply : Reply) (t t' : Heap) → Requests s slot d n kind reply t → Requests s slot d n kind reply t' → (reply ≡ Done → BothBornOf s t t') → t ≡ t'
-requests_one s h slot d n kind reply t t' (Requests.by {m = m} at (Grants.granted a k enough room)) other born = granted_one other (born refl)
+requests_one : (s : Heap) (origin : ℕ) → 0 < origin → HasApartObjects s → (slot d n : ℕ) (kind : Kind) (reply : Reply) (t t' : Heap) → Requests s origin slot d n kind reply t → Requests s origin slot d n kind reply t' → (reply ≡ Done → BothBornOf s t t') → t ≡ t'
+requests_one s origin above h slot d n kind reply t t' (Requests.by {m = m} at (Grants.granted a k enough room)) other born = granted_one other (born refl)
   where
-    granted_one : Requests s slot d n kind Done t' → BothBornOf s (with_register (with_words s a kind k) slot m d a) t' → with_register (with_words s a kind k) slot m d a ≡ t'
+    granted_one : Requests s origin slot d n kind Done t' → BothBornOf s (with_register (with_words s a kind k) slot m d a) t' → with_register (with_words s a kind k) slot m d a ≡ t'
     granted_one (Requests.by {m = m'} at' grants) both =
-        grants_one s h slot d n m kind (Grants.granted a k enough room) (subst (λ x. Grants s slot x d n kind Done t') (sym (same_mutator s slot m m' at at')) grants) both
-requests_one s h slot d n kind reply t t' (Requests.by at (Grants.bad_size e)) other born = sym (requests_refused s slot d n kind other (λ e. cc))
-requests_one s h slot d n kind reply t t' (Requests.by at Grants.full) other born = sym (requests_refused s slot d n kind other (λ e. cc))
-requests_one s h slot d n kind reply t t' (Requests.vacant none) other born = sym (requests_refused s slot d n kind other (λ e. cc))
+        grants_one s origin above h slot d n m kind (Grants.granted a k enough room) (subst (λ x. Grants s origin slot x d n kind Done t') (sym (same_mutator s slot m m' at at')) grants) both
+requests_one s origin above h slot d n kind reply t t' (Requests.by at (Grants.bad_size e)) other born = sym (requests_refused s origin slot d n kind other (λ e. cc))
+requests_one s origin above h slot d n kind reply t t' (Requests.by at Grants.full) other born = sym (requests_refused s origin slot d n kind other (λ e. cc))
+requests_one s origin above h slot d n kind reply t t' (Requests.vacant none) other born = sym (requests_refused s origin slot d n kind other (λ e. cc))
 
 module _ (start : Start) (run : Run) (h : HasApartObjects (heap_after start run)) where
   other_apart : (event : Event) (reply : Reply) (next : Run) → IsNoRequest event → LineOf start run event reply next → HasApartObjects (heap_after start next)
@@ -198,21 +198,21 @@ module _ (start : Start) (run : Run) (h : HasApartObjects (heap_after start run)
   other_apart event reply next plain (LineOf.sweep few) = h
   other_apart event reply next plain LineOf.number = h
 
-  line_apart : (event : Event) (reply : Reply) (next : Run) → LineAnywhere start run event reply next → HasApartObjects (heap_after start next)
-  line_apart event reply next (LineAnywhere.requested {slot = slot} {into = d} {words = n} {kind = kind} {s' = t} requests) = requests_apart (heap_after start run) h slot d n kind reply t requests
-  line_apart event reply next (LineAnywhere.other plain line) = other_apart event reply next plain line
+  line_apart : (origin : ℕ) → 0 < origin → (event : Event) (reply : Reply) (next : Run) → LineAnywhere origin start run event reply next → HasApartObjects (heap_after start next)
+  line_apart origin above event reply next (LineAnywhere.requested {slot = slot} {into = d} {words = n} {kind = kind} {s' = t} requests) = requests_apart (heap_after start run) origin above h slot d n kind reply t requests
+  line_apart origin above event reply next (LineAnywhere.other plain line) = other_apart event reply next plain line
 
   -- What two hints say of two heaps after an event.
   record SaidAnywhere (event : Event) (reply : Reply) (t t' : Heap) : Type 0 where
     born : (slot into words : ℕ) (kind : Kind) → event ≡ Mutator slot (Alloc into words kind) → reply ≡ Done → BothBornOf (heap_after start run) t t'
     ended : (k : ℕ) → event ≡ Finish → reply ≡ Count k → t ≡ t'
 
-  line_one : {event : Event} {reply : Reply} {next next' : Run} → LineAnywhere start run event reply next → LineAnywhere start run event reply next' → SaidAnywhere event reply (heap_after start next) (heap_after start next') → next ≡ next'
-  line_one (LineAnywhere.requested {slot = slot} {into = d} {words = n} {kind = kind} {reply = reply} {s' = t} one) (LineAnywhere.requested {s' = t'} two) said =
-      ap (goes_on run (Mutator slot (Alloc d n kind)) reply) (requests_one (heap_after start run) h slot d n kind reply t t' one two (said.born slot d n kind refl))
-  line_one (LineAnywhere.requested {slot = slot} {into = d} {words = n} {kind = kind} one) (LineAnywhere.other plain line) said = absurd (plain slot d n kind refl)
-  line_one (LineAnywhere.other plain line) (LineAnywhere.requested {slot = slot} {into = d} {words = n} {kind = kind} two) said = absurd (plain slot d n kind refl)
-  line_one (LineAnywhere.other plain one) (LineAnywhere.other plain' two) said =
+  line_one : (origin : ℕ) → 0 < origin → {event : Event} {reply : Reply} {next next' : Run} → LineAnywhere origin start run event reply next → LineAnywhere origin start run event reply next' → SaidAnywhere event reply (heap_after start next) (heap_after start next') → next ≡ next'
+  line_one origin above (LineAnywhere.requested {slot = slot} {into = d} {words = n} {kind = kind} {reply = reply} {s' = t} one) (LineAnywhere.requested {s' = t'} two) said =
+      ap (goes_on run (Mutator slot (Alloc d n kind)) reply) (requests_one (heap_after start run) origin above h slot d n kind reply t t' one two (said.born slot d n kind refl))
+  line_one origin above (LineAnywhere.requested {slot = slot} {into = d} {words = n} {kind = kind} one) (LineAnywhere.other plain line) said = absurd (plain slot d n kind refl)
+  line_one origin above (LineAnywhere.other plain line) (LineAnywhere.requested {slot = slot} {into = d} {words = n} {kind = kind} two) said = absurd (plain slot d n kind refl)
+  line_one origin above (LineAnywhere.other plain one) (LineAnywhere.other plain' two) said =
       line_next start run h one two (record { born = λ slot into words kind is done. absurd (plain slot into words kind is); ended = said.ended })
 
 -- Two runs after one are the same, and no objects share a byte in the heap after it.
@@ -220,12 +220,12 @@ pub record AreOneApart (start : Start) (next next' : Run) : Type 0 where
   pub same : next ≡ next'
   pub apart : HasApartObjects (heap_after start next)
 
-pub one_next_anywhere : (start : Start) (run : Run) → HasApartObjects (heap_after start run) → (event : Event) (reply : Reply) (hint hint' : Hint) (n : ℕ) → SayTheSame hint hint' → (next next' : Run)
-    → IsReplayAnywhere hint n start run event reply next → IsReplayAnywhere hint' n start run event reply next' → AreOneApart start next next'
-one_next_anywhere start run h event reply hint hint' n same next next' one two = record {
-  same = line_one start run h one.line two.line (record {
+pub one_next_anywhere : (origin : ℕ) → 0 < origin → (start : Start) (run : Run) → HasApartObjects (heap_after start run) → (event : Event) (reply : Reply) (hint hint' : Hint) (n : ℕ) → SayTheSame hint hint' → (next next' : Run)
+    → IsReplayAnywhere origin hint n start run event reply next → IsReplayAnywhere origin hint' n start run event reply next' → AreOneApart start next next'
+one_next_anywhere origin above start run h event reply hint hint' n same next next' one two = record {
+  same = line_one start run h origin above one.line two.line (record {
     born = λ slot into words kind is done. both_born_of hint hint' n same (heap_after start run) (heap_after start next) (heap_after start next') (one.place slot into words kind is done) (two.place slot into words kind is done);
     ended = λ k is counts. named_next hint hint' same k (heap_after start run) (heap_after start next) (heap_after start next') (one.finished k is counts) (two.finished k is counts);
   });
-  apart = line_apart start run h event reply next one.line;
+  apart = line_apart start run h origin above event reply next one.line;
 }

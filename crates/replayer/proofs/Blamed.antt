@@ -29,7 +29,7 @@ module _ (r : ReplayerContents) (start : Start) (run : Run) (f : Follows r start
 
   module _ (marks : r.marking ≡ true) (bases : List ℕ) where
     abbrev Flagged : Wrong → Type 0
-    Flagged = IsWrong (heap_after start run) (λ base o. Reached (heap_after start run) base) (λ base o. IsFlagged r.touched base → ⊥) bases
+    Flagged = IsWrong (heap_after start run) (λ base o. Reached (heap_after start run) base) (λ base o. IsFlagged r.core.origin r.touched base → ⊥) bases
 
     to_run : (x : Wrong) → Flagged x → IsWrongFinish start run bases x
     to_run (IsMissing b) h = (sym f.phase ∙ marks, h)

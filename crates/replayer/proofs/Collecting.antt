@@ -59,7 +59,7 @@ module _ (old : ReplayerContents) (small : old.number < word_end) (few : old.bir
     needs = needed;
     aged_room = room_as _ _ _ _ f.aged_room (ap (λ (x : Heap). x.pages) after) size;
     past = omega (arith, ages);
-    aged = subst (TellOld s' aged) (sym ages) (all_tell s' new stands aged (room_as _ _ _ _ f.aged_room (sym stands.pages ∙ ap (λ (x : Heap). x.pages) after) size) all);
+    aged = subst (TellOld new.origin s' aged) (sym ages) (all_tell s' new stands aged (room_as _ _ _ _ f.aged_room (sym stands.pages ∙ ap (λ (x : Heap). x.pages) after) size) all);
     number = ap (λ k. (k + 1) % word_end) f.number ∙ ap (λ k. (count start run + k) % word_end) (sym one);
     births = f.births ∙ sym (ap (λ (x : Heap). x.births) after);
     room = room_as _ _ _ _ f.room (ap (λ (x : Heap). x.pages) after) refl;

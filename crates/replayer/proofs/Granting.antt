@@ -106,10 +106,10 @@ module _ (s : Heap) (slot : ℕ) (m : HeapMutator) (at : IsAttached s slot m) (d
   }
 
 -- what a request answers that isn't granted leaves the heap
-act_stays : (s : Heap) (slot : ℕ) (m : HeapMutator) (d n : ℕ) (kind : Kind) {reply : Reply} {s' : Heap} → Grants s slot m d n kind reply s' → (reply ≡ Done → ⊥) → s' ≡ s
-act_stays s slot m d n kind (Grants.bad_size e) fair = refl
-act_stays s slot m d n kind Grants.full fair = refl
-act_stays s slot m d n kind (Grants.granted a l few room) fair = absurd (fair refl)
+act_stays : (s : Heap) (origin slot : ℕ) (m : HeapMutator) (d n : ℕ) (kind : Kind) {reply : Reply} {s' : Heap} → Grants s origin slot m d n kind reply s' → (reply ≡ Done → ⊥) → s' ≡ s
+act_stays s origin slot m d n kind (Grants.bad_size e) fair = refl
+act_stays s origin slot m d n kind Grants.full fair = refl
+act_stays s origin slot m d n kind (Grants.granted a l few room) fair = absurd (fair refl)
 
 -- nothing comes to a heap that stays
 stays : (s : Heap) → Gains s s (λ w. ⊥)
@@ -132,7 +132,7 @@ module _ (old : ReplayerContents) where
   pub never : (event : Event) (reply : Reply) (hint : Hint) (n : ℕ) → IsNoRequest event → IsNoReplay old event reply hint → IsNoReplayAnywhere old event reply hint n
   never event reply hint n free none start run next f r = stuck event refl refl r.line
     where
-      stuck : (e : Event) → e ≡ event → {to : Run} → to ≡ next → LineAnywhere start run e reply to → ⊥
+      stuck : (e : Event) → e ≡ event → {to : Run} → to ≡ next → LineAnywhere old.core.origin start run e reply to → ⊥
       stuck e is ends (LineAnywhere.requested {slot = slot} {into = into} {words = words} {kind = kind} asks) = free slot into words kind (sym is)
       stuck e is {to} ends (LineAnywhere.other other line) =
           none start run next f (record {
@@ -150,7 +150,7 @@ expects_ever r event reply free expects start run f = record {
   only = λ q next ne line. stuck event refl q ne line;
 }
   where
-    stuck : (e : Event) → e ≡ event → {to : Run} (q : Reply) → (reply ≡ q → ⊥) → LineAnywhere start run e q to → ⊥
+    stuck : (e : Event) → e ≡ event → {to : Run} (q : Reply) → (reply ≡ q → ⊥) → LineAnywhere r.core.origin start run e q to → ⊥
     stuck e is q ne (LineAnywhere.requested {slot = slot} {into = into} {words = words} {kind = kind} asks) = free slot into words kind (sym is)
     stuck e is {to} q ne (LineAnywhere.other other line) = (expects start run f).only q to ne (subst (λ x. LineOf start run x q to) is line)
 
@@ -161,15 +161,15 @@ expects_if r event (Some reply) free expects = expects_ever r event reply free e
 module _ (old : ReplayerContents) (small : old.number < word_end) (few : old.births < word_end) where
   module _ (slot into words : ℕ) (kind : Kind) where
     -- a granted request
-    pub grants_anywhere : (base n : ℕ) (new : PlainContents) (flags aged : List Bool) → AreApartIn old.core → AreApartIn new → IsAllocatedAnywhere old.core slot into words kind base n new → old.births + 1 < word_end
+    pub grants_anywhere : (base n : ℕ) (new : PlainContents) (flags aged : List Bool) → new.origin ≡ old.core.origin → AreApartIn old.core → AreApartIn new → IsAllocatedAnywhere old.core slot into words kind base n new → old.births + 1 < word_end
         → length flags ≡ length old.touched → (old.marking ≡ true → FlagsLed new base old.touched flags) → FlagUnset new base old.aged aged
         → IsReplayedAnywhere old (Mutator slot (Alloc into words kind)) Done (Place base) n (record old { core = new; births = old.births + 1; touched = flags; aged = aged })
-    grants_anywhere base n new flags aged apart apart' steps room size led unset start run f =
+    grants_anywhere base n new flags aged same apart apart' steps room size led unset start run f =
         let x = steps (heap_after start run) f.stands in
         granted x.0 x.1 x.2 x.3
       where
-        by_act : (m : HeapMutator) (s' : Heap) → IsAttached (heap_after start run) slot m → Grants (heap_after start run) slot m into words kind Done s' → IsBornOf (heap_after start run) base n s' → StandsFor new s'
-            → (next : Run) × IsReplayAnywhere (Place base) n start run (Mutator slot (Alloc into words kind)) Done next × Follows (record old { core = new; births = old.births + 1; touched = flags; aged = aged }) start next
+        by_act : (m : HeapMutator) (s' : Heap) → IsAttached (heap_after start run) slot m → Grants (heap_after start run) old.core.origin slot m into words kind Done s' → IsBornOf (heap_after start run) base n s' → StandsFor new s'
+            → (next : Run) × IsReplayAnywhere old.core.origin (Place base) n start run (Mutator slot (Alloc into words kind)) Done next × Follows (record old { core = new; births = old.births + 1; touched = flags; aged = aged }) start next
         by_act m s' at (Grants.granted a l many has) born stands =
             let known = f.births in
             let d = apart (heap_after start run) f.stands in
@@ -182,18 +182,18 @@ module _ (old : ReplayerContents) (small : old.number < word_end) (few : old.bir
                 collected = λ k which is. absurd (cc);
                 births = omega arith;
               },
-              follows_grant old small few slot into words base kind new flags aged room size led unset start run f s' stands d d' refl refl
+              follows_grant old small few slot into words base kind new flags aged same room size led unset start run f s' stands d d' refl refl
                   (old_or_new (heap_after start run) slot m at into a l kind d d') (gains (heap_after start run) slot m at into a l kind d d') (one_newborn (heap_after start run) slot m at into a l kind d d') born.0,
             )
 
-        granted : (s' : Heap) → Requests (heap_after start run) slot into words kind Done s' → IsBornOf (heap_after start run) base n s' → StandsFor new s'
-            → (next : Run) × IsReplayAnywhere (Place base) n start run (Mutator slot (Alloc into words kind)) Done next × Follows (record old { core = new; births = old.births + 1; touched = flags; aged = aged }) start next
+        granted : (s' : Heap) → Requests (heap_after start run) old.core.origin slot into words kind Done s' → IsBornOf (heap_after start run) base n s' → StandsFor new s'
+            → (next : Run) × IsReplayAnywhere old.core.origin (Place base) n start run (Mutator slot (Alloc into words kind)) Done next × Follows (record old { core = new; births = old.births + 1; touched = flags; aged = aged }) start next
         granted s' (by {m = m} at act) born stands = by_act m s' at act born stands
 
     pub no_grant_anywhere : (base n : ℕ) → CantAllocateAnywhere old.core slot into words kind base n → IsNoReplayAnywhere old (Mutator slot (Alloc into words kind)) Done (Place base) n
     no_grant_anywhere base n none start run next f r = stuck r.line (r.place slot into words kind refl refl)
       where
-        stuck : {to : Run} → LineAnywhere start run (Mutator slot (Alloc into words kind)) Done to → IsBornOf (heap_after start run) base n (heap_after start to) → ⊥
+        stuck : {to : Run} → LineAnywhere old.core.origin start run (Mutator slot (Alloc into words kind)) Done to → IsBornOf (heap_after start run) base n (heap_after start to) → ⊥
         stuck (LineAnywhere.requested {s' = s'} asks) born = none (heap_after start run) f.stands s' asks born
         stuck (LineAnywhere.other free line) born = free slot into words kind refl
 
@@ -208,13 +208,13 @@ module _ (old : ReplayerContents) (small : old.number < word_end) (few : old.bir
     pub no_birth_anywhere : (hint : Hint) (n : ℕ) → word_end ≤ old.births + 1 → IsNoReplayAnywhere old (Mutator slot (Alloc into words kind)) Done hint n
     no_birth_anywhere hint n most start run next f r = stuck r.line r.births
       where
-        act_birth : (m : HeapMutator) (s' : Heap) → Grants (heap_after start run) slot m into words kind Done s' → s'.births ≡ (heap_after start run).births + 1
+        act_birth : (m : HeapMutator) (s' : Heap) → Grants (heap_after start run) old.core.origin slot m into words kind Done s' → s'.births ≡ (heap_after start run).births + 1
         act_birth m s' (Grants.granted a l many has) = refl
 
-        birth : {s' : Heap} → Requests (heap_after start run) slot into words kind Done s' → s'.births ≡ (heap_after start run).births + 1
+        birth : {s' : Heap} → Requests (heap_after start run) old.core.origin slot into words kind Done s' → s'.births ≡ (heap_after start run).births + 1
         birth {s'} (by {m = m} at act) = act_birth m s' act
 
-        stuck : {to : Run} → LineAnywhere start run (Mutator slot (Alloc into words kind)) Done to → (heap_after start to).births < word_end → ⊥
+        stuck : {to : Run} → LineAnywhere old.core.origin start run (Mutator slot (Alloc into words kind)) Done to → (heap_after start to).births < word_end → ⊥
         stuck (LineAnywhere.requested {s' = s'} asks) less =
             let births : s'.births ≡ (heap_after start run).births + 1 = birth asks in
             let known = f.births in omega arith
@@ -246,13 +246,13 @@ module _ (old : ReplayerContents) (small : old.number < word_end) (few : old.bir
             room = f.room;
             touched = λ marks.
                 flags_tell (heap_after start run) (heap_after start run) (Touched start run) (λ w. ⊥) d d (stays (heap_after start run)) (marking_closed start run (sym f.phase ∙ marks) d)
-                (IsFlagged old.touched) (IsFlagged old.touched) (f.touched marks) (λ b p has is. inl is) (λ b is. is) (λ w none. absurd none) (λ v w none. absurd none);
+                (IsFlagged old.core.origin old.touched) (IsFlagged old.core.origin old.touched) (f.touched marks) (λ b p has is. inl is) (λ b is. is) (λ w none. absurd none) (λ v w none. absurd none);
           },
         )
 
     pub no_refusal_anywhere : (reply : Reply) (hint : Hint) (n : ℕ) → (reply ≡ Done → ⊥) → CantRefuse old.core slot words reply → IsNoReplayAnywhere old (Mutator slot (Alloc into words kind)) reply hint n
     no_refusal_anywhere reply hint n fair cant start run next f r = stuck reply refl r.line
       where
-        stuck : (q : Reply) → q ≡ reply → {to : Run} → LineAnywhere start run (Mutator slot (Alloc into words kind)) q to → ⊥
-        stuck q is (LineAnywhere.requested {s' = s'} asks) = cant into kind (heap_after start run) s' f.stands fair (subst (λ x. Requests (heap_after start run) slot into words kind x s') is asks)
+        stuck : (q : Reply) → q ≡ reply → {to : Run} → LineAnywhere old.core.origin start run (Mutator slot (Alloc into words kind)) q to → ⊥
+        stuck q is (LineAnywhere.requested {s' = s'} asks) = cant into kind (heap_after start run) s' f.stands fair (subst (λ x. Requests (heap_after start run) old.core.origin slot into words kind x s') is asks)
         stuck q is (LineAnywhere.other free line) = free slot into words kind refl

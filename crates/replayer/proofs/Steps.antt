@@ -1,6 +1,7 @@
 -- How a run goes on, as a replayer follows it.
 use Rattle.std.proofs.Common.{◌≡◌, ◌⊎◌, ℕ, ◌+◌, ◌%◌, ◌<◌, ◌≤◌, Bool, true, false, List, length, refl, sym, ap, ◌∙◌, subst, arith, inl, inr, ⊎_elim}
 use Rattle.words.specs.declared.class.Kind.{Kind}
+use Rattle.words.specs.declared.limits.TheConstants.{FIRST_ADDRESS}
 use Rattle.words.specs.declared.refusal.Refusal.TheVariants.{WrongPhase, NeedsFull}
 use Rattle.heap_spec.specs.declared.call.Call.{Call}
 use Rattle.heap_spec.specs.declared.call.Call.TheVariants.{Alloc}
@@ -19,7 +20,7 @@ use Rattle.plain_core.specs.PlainContents.{PlainContents}
 use Rattle.plain_core.specs.Standing.{StandsFor}
 use Rattle.plain_core.specs.Answering.{IsNoStep, IsBornAt, IsAllocatedAt, CantAllocateAt}
 use Rattle.plain_core.specs.Flags.{HasFlags, FlagsReached, FlagsLed, FlagsBrought, NamesUnflagged}
-use Rattle.plain_core.specs.Aging.{FlagUnset, FlagsClosure}
+use Rattle.plain_core.specs.Aging.{FlagUnset, FlagsClosure, TellOld}
 use Rattle.heap_spec.specs.Touching.{HasApartObjects, HasNewborn}
 use Rattle.heap_spec.specs.Laws.{IsOldOrNew}
 use Rattle.heap_spec.proofs.Births.{step_births}
@@ -27,7 +28,7 @@ use Rattle.heap_spec.proofs.Gaining.{Gains, calls_gain}
 use Rattle.heap_spec.proofs.Touching.{calls_newborn, calls_pages, attach_pages}
 use Rattle.replayer.specs.declared.hint.Hint.{Hint}
 use Rattle.replayer.specs.declared.hint.Hint.TheVariants.{Nothing, Place, Forgot}
-use Rattle.replayer.specs.ReplayerContents.{ReplayerContents, Follows}
+use Rattle.replayer.specs.ReplayerContents.{ReplayerContents, Follows, TellTouched}
 use Rattle.replayer.specs.Replays.{IsGrant, NamesPlace, NamesBases, MayNameBases, IsReplayed, IsNoReplay}
 use Rattle.replayer.proofs.Telling.{attach_tell, call_tell, grant_tell, begin_tell}
 use Rattle.replayer.proofs.Aging.{old_tell, new_tell, partial_tell}
@@ -99,9 +100,9 @@ room_as pages pages' flags flags' room same size = omega (arith, room, same, siz
 
 module _ (old : ReplayerContents) (small : old.number < word_end) (few : old.births < word_end) where
   -- a mutator comes
-  pub attaches : (new : PlainContents) (reply : Reply) (hint : Hint) → AreApartIn old.core → AreApartIn new → IsStep (StandsFor old.core) Attach reply (StandsFor new)
+  pub attaches : (new : PlainContents) (reply : Reply) (hint : Hint) → new.origin ≡ old.core.origin → AreApartIn old.core → AreApartIn new → IsStep (StandsFor old.core) Attach reply (StandsFor new)
       → IsReplayed old Attach reply hint (record old { core = new })
-  attaches new reply hint apart apart' steps start run f =
+  attaches new reply hint same apart apart' steps start run f =
       let x = steps (heap_after start run) f.stands in
       let births : x.0.births ≡ (heap_after start run).births = attach_births (heap_after start run) x.1 in
       let known = f.births in (
@@ -121,9 +122,10 @@ module _ (old : ReplayerContents) (small : old.number < word_end) (few : old.bir
           births = f.births ∙ sym births;
           aged_room = room_as _ _ _ _ f.aged_room (attach_pages (heap_after start run) x.1) refl;
           past = subst (λ n. old_births start run ≤ n) (sym births) f.past;
-          aged = old_tell (heap_after start run) x.0 (apart' x.0 x.2) Attach reply x.1 births old.aged (old_births start run) f.aged;
+          aged = subst (λ o. TellOld o x.0 old.aged (old_births start run)) (sym same) (old_tell (heap_after start run) x.0 (apart' x.0 x.2) old.core.origin Attach reply x.1 births old.aged (old_births start run) f.aged);
           room = room_as _ _ _ _ f.room (attach_pages (heap_after start run) x.1) refl;
-          touched = λ marks. attach_tell start run x.0 (sym f.phase ∙ marks) (apart (heap_after start run) f.stands) (apart' x.0 x.2) reply old.touched x.1 (f.touched marks);
+          touched = λ marks. subst (λ o. TellTouched o old.touched start (goes_on run Attach reply x.0)) (sym same)
+              (attach_tell start run x.0 (sym f.phase ∙ marks) (apart (heap_after start run) f.stands) (apart' x.0 x.2) old.core.origin reply old.touched x.1 (f.touched marks));
         },
       )
 
@@ -135,10 +137,10 @@ module _ (old : ReplayerContents) (small : old.number < word_end) (few : old.bir
       stuck q is (LineOf.refused wrong) = wrong
 
   -- a call of a mutator that grants no request
-  pub calls : (new : PlainContents) (need : Bool) (flags : List Bool) (slot : ℕ) (call : Call) (reply : Reply) (hint : Hint) → AreApartIn old.core → AreApartIn new → (IsGrant call reply → ⊥)
+  pub calls : (new : PlainContents) (need : Bool) (flags : List Bool) (slot : ℕ) (call : Call) (reply : Reply) (hint : Hint) → new.origin ≡ old.core.origin → AreApartIn old.core → AreApartIn new → (IsGrant call reply → ⊥)
       → IsStep (StandsFor old.core) (Mutator slot call) reply (StandsFor new) → need ≡ needs_full_after (Mutator slot call) reply old.needs_full → length flags ≡ length old.touched
       → (old.marking ≡ true → FlagsBrought new slot call old.touched flags) → IsReplayed old (Mutator slot call) reply hint (record old { core = new; needs_full = need; touched = flags })
-  calls new need flags slot call reply hint apart apart' none steps needed size brought start run f =
+  calls new need flags slot call reply hint same apart apart' none steps needed size brought start run f =
       let x = steps (heap_after start run) f.stands in
       let births : x.0.births ≡ (heap_after start run).births = calls_births (heap_after start run) slot call reply x.0 x.1 none in
       let known = f.births in (
@@ -158,10 +160,10 @@ module _ (old : ReplayerContents) (small : old.number < word_end) (few : old.bir
           births = f.births ∙ sym births;
           aged_room = room_as _ _ _ _ f.aged_room (calls_pages (heap_after start run) slot call x.1) refl;
           past = subst (λ n. old_births start run ≤ n) (sym births) f.past;
-          aged = old_tell (heap_after start run) x.0 (apart' x.0 x.2) (Mutator slot call) reply x.1 births old.aged (old_births start run) f.aged;
+          aged = subst (λ o. TellOld o x.0 old.aged (old_births start run)) (sym same) (old_tell (heap_after start run) x.0 (apart' x.0 x.2) old.core.origin (Mutator slot call) reply x.1 births old.aged (old_births start run) f.aged);
           room = room_as _ _ _ _ f.room (calls_pages (heap_after start run) slot call x.1) size;
           touched = λ marks. call_tell start run x.0 (sym f.phase ∙ marks) (apart (heap_after start run) f.stands) (apart' x.0 x.2) new x.2 old.touched flags
-              (room_as _ _ _ _ f.room (sym x.2.pages ∙ calls_pages (heap_after start run) slot call x.1) refl) (f.touched marks) slot call reply x.1 none (brought marks);
+              (room_as _ _ _ _ f.room (sym x.2.pages ∙ calls_pages (heap_after start run) slot call x.1) refl) (subst (λ o. TellTouched o old.touched start run) (sym same) (f.touched marks)) slot call reply x.1 none (brought marks);
         },
       )
 
@@ -175,12 +177,12 @@ module _ (old : ReplayerContents) (small : old.number < word_end) (few : old.bir
   -- a granted request
   module _ (slot into words base : ℕ) (kind : Kind) where
     -- the heap after one is followed, by what came to it
-    pub follows_grant : (new : PlainContents) (flags aged : List Bool) → old.births + 1 < word_end → length flags ≡ length old.touched → (old.marking ≡ true → FlagsLed new base old.touched flags) → FlagUnset new base old.aged aged
+    pub follows_grant : (new : PlainContents) (flags aged : List Bool) → new.origin ≡ old.core.origin → old.births + 1 < word_end → length flags ≡ length old.touched → (old.marking ≡ true → FlagsLed new base old.touched flags) → FlagUnset new base old.aged aged
         → (start : Start) (run : Run) → Follows old start run → (s' : Heap) → StandsFor new s' → HasApartObjects (heap_after start run) → HasApartObjects s' → s'.births ≡ (heap_after start run).births + 1 → s'.pages ≡ (heap_after start run).pages
         → ((q : ℕ) (p : Object) → HasObject s' q p → IsOldOrNew (heap_after start run) q p) → Gains (heap_after start run) s' (HasNewborn (heap_after start run) s')
         → ((v w : ℕ) → HasNewborn (heap_after start run) s' v → HasNewborn (heap_after start run) s' w → v ≡ w) → IsBornAt (heap_after start run) base s'
         → Follows (record old { core = new; births = old.births + 1; touched = flags; aged = aged }) start (goes_on run (Mutator slot (Alloc into words kind)) Done s')
-    follows_grant new flags aged room size led unset start run f s' stands d d' births pages split gain one born = record {
+    follows_grant new flags aged same room size led unset start run f s' stands d d' births pages split gain one born = record {
       stands = stands;
       phase = f.phase;
       needs = f.needs;
@@ -188,15 +190,15 @@ module _ (old : ReplayerContents) (small : old.number < word_end) (few : old.bir
       births = ap (λ k. k + 1) f.births ∙ sym births;
       aged_room = room_as _ _ _ _ f.aged_room pages unset.size;
       past = subst (λ n. old_births start run ≤ n) (sym births) (let past = f.past in omega arith);
-      aged = new_tell (heap_after start run) s' d' split births base born new stands old.aged aged unset (old_births start run) f.past f.aged;
+      aged = new_tell (heap_after start run) s' d' split births base born new stands old.aged aged unset (old_births start run) f.past (subst (λ o. TellOld o (heap_after start run) old.aged (old_births start run)) (sym same) f.aged);
       room = room_as _ _ _ _ f.room pages size;
-      touched = λ marks. grant_tell start run s' (sym f.phase ∙ marks) d d' new stands old.touched flags (room_as _ _ _ _ f.room (sym stands.pages ∙ pages) refl) (f.touched marks) slot into words base kind gain one born (led marks);
+      touched = λ marks. grant_tell start run s' (sym f.phase ∙ marks) d d' new stands old.touched flags (room_as _ _ _ _ f.room (sym stands.pages ∙ pages) refl) (subst (λ o. TellTouched o old.touched start run) (sym same) (f.touched marks)) slot into words base kind gain one born (led marks);
     }
 
-    pub grants : (new : PlainContents) (flags aged : List Bool) → AreApartIn old.core → AreApartIn new → IsAllocatedAt old.core slot into words kind base new → old.births + 1 < word_end
+    pub grants : (new : PlainContents) (flags aged : List Bool) → new.origin ≡ old.core.origin → AreApartIn old.core → AreApartIn new → IsAllocatedAt old.core slot into words kind base new → old.births + 1 < word_end
         → length flags ≡ length old.touched → (old.marking ≡ true → FlagsLed new base old.touched flags) → FlagUnset new base old.aged aged
         → IsReplayed old (Mutator slot (Alloc into words kind)) Done (Place base) (record old { core = new; births = old.births + 1; touched = flags; aged = aged })
-    grants new flags aged apart apart' steps room size led unset start run f =
+    grants new flags aged same apart apart' steps room size led unset start run f =
         let x = steps (heap_after start run) f.stands in
         let births : x.0.births ≡ (heap_after start run).births + 1 = call_birth (heap_after start run) slot into words kind x.1 in
         let d = apart (heap_after start run) f.stands in
@@ -210,16 +212,16 @@ module _ (old : ReplayerContents) (small : old.number < word_end) (few : old.bir
             collected = λ n which is. absurd (cc);
             births = omega arith;
           },
-          follows_grant new flags aged room size led unset start run f x.0 x.3 d d' births (calls_pages (heap_after start run) slot (Alloc into words kind) x.1)
+          follows_grant new flags aged same room size led unset start run f x.0 x.3 d d' births (calls_pages (heap_after start run) slot (Alloc into words kind) x.1)
               (step_births (heap_after start run) (Mutator slot (Alloc into words kind)) Done x.0 x.1) (calls_gain (heap_after start run) slot (Alloc into words kind) Done x.0 d' x.1)
               (calls_newborn (heap_after start run) d slot into words kind x.1) x.2,
         )
 
-    pub no_grant : CantAllocateAt old.core slot into words kind base → IsNoReplay old (Mutator slot (Alloc into words kind)) Done (Place base)
-    no_grant none start run next f r = stuck r.line (r.place slot into words kind refl refl)
+    pub no_grant : CantAllocateAt old.core slot into words kind base → old.core.origin ≡ FIRST_ADDRESS → IsNoReplay old (Mutator slot (Alloc into words kind)) Done (Place base)
+    no_grant none begins start run next f r = stuck r.line (r.place slot into words kind refl refl)
       where
         stuck : {to : Run} → LineOf start run (Mutator slot (Alloc into words kind)) Done to → IsBornAt (heap_after start run) base (heap_after start to) → ⊥
-        stuck (LineOf.happens {s' = s'} happens) born = none (heap_after start run) f.stands s' happens born
+        stuck (LineOf.happens {s' = s'} happens) born = none begins (heap_after start run) f.stands s' happens born
 
   -- no request is granted where no place is named, or where births are at their end
   no_name : (hint : Hint) → ((base : ℕ) → hint ≡ Place base → ⊥) → (s s' : Heap) → NamesPlace hint s s' → ⊥
@@ -398,7 +400,7 @@ module _ (old : ReplayerContents) (small : old.number < word_end) (few : old.bir
         stuck q is (LineOf.refused phase) = phase
         stuck q is LineOf.number = none (sym is ∙ ap Count (sym f.number))
 
-    pub no_finish : (old.marking ≡ false → reply ≡ Refused WrongPhase → ⊥) → (old.marking ≡ true → (s : Heap) → StandsFor old.core s → (n : ℕ) (s' : Heap) → reply ≡ Count n → NamesBases hint n s s' → (theirs : List ℕ) → s' ≡ without s theirs → NamesUnflagged s old.touched theirs → ⊥)
+    pub no_finish : (old.marking ≡ false → reply ≡ Refused WrongPhase → ⊥) → (old.marking ≡ true → (s : Heap) → StandsFor old.core s → (n : ℕ) (s' : Heap) → reply ≡ Count n → NamesBases hint n s s' → (theirs : List ℕ) → s' ≡ without s theirs → NamesUnflagged old.core.origin s old.touched theirs → ⊥)
         → IsNoReplay old Finish reply hint
     no_finish wrong none start run next f r = stuck reply refl r.line r.finished
       where

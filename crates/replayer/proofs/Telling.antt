@@ -27,17 +27,17 @@ alloc_or (Alloc d n kind) = inr (d, n, kind, refl)
 alloc_or _ = inl tt
 
 module _ (start : Start) (run : Run) (s' : Heap) (marks : is_marking start run ≡ true) (d : HasApartObjects (heap_after start run)) (d' : HasApartObjects s') where
-  pub attach_tell : (reply : Reply) (flags : List Bool) → Attaches (heap_after start run) reply s' → TellTouched flags start run → TellTouched flags start (goes_on run Attach reply s')
-  attach_tell reply flags step tell =
+  pub attach_tell : (origin : ℕ) (reply : Reply) (flags : List Bool) → Attaches (heap_after start run) reply s' → TellTouched origin flags start run → TellTouched origin flags start (goes_on run Attach reply s')
+  attach_tell origin reply flags step tell =
       flags_tell (heap_after start run) s' (Touched start run) (λ w. ⊥) d d' (attach_gain (heap_after start run) reply s' d' step) (marking_closed start run marks d)
-      (IsFlagged flags) (IsFlagged flags) tell (λ base o has is. inl is) (λ base is. is) (λ w none. absurd none) (λ v w none. absurd none)
+      (IsFlagged origin flags) (IsFlagged origin flags) tell (λ base o has is. inl is) (λ base is. is) (λ w none. absurd none) (λ v w none. absurd none)
 
-  module _ (c : PlainContents) (h : StandsFor c s') (old new : List Bool) (room : HasFlags c.pages old) (tell : TellTouched old start run) where
+  module _ (c : PlainContents) (h : StandsFor c s') (old new : List Bool) (room : HasFlags c.pages old) (tell : TellTouched c.origin old start run) where
     pub call_tell : (slot : ℕ) (call : Call) (reply : Reply) → Calls (heap_after start run) slot call reply s' → (IsGrant call reply → ⊥) → FlagsBrought c slot call old new
-        → TellTouched new start (goes_on run (Mutator slot call) reply s')
+        → TellTouched c.origin new start (goes_on run (Mutator slot call) reply s')
     call_tell slot call reply step none f =
         flags_tell (heap_after start run) s' (Touched start run) (IsBrought (heap_after start run) slot call s') d d' (calls_gain (heap_after start run) slot call reply s' d' step) (marking_closed start run marks d)
-        (IsFlagged old) (IsFlagged new) tell (λ base o has is. f.only (heap_after start run) s' h base o has is) f.keeps
+        (IsFlagged c.origin old) (IsFlagged c.origin new) tell (λ base o has is. f.only (heap_after start run) s' h base o has is) f.keeps
         (λ w x lead base led. ⊎_elim (λ other. f.adds other room (heap_after start run) s' h w x lead base led) (λ is. absurd (no_request is w x)) (alloc_or call))
         (λ v w x y. ⊎_elim (λ other. brought_one (heap_after start run) slot call s' other v w x y) (λ is. absurd (no_request is v x)) (alloc_or call))
       where
@@ -47,18 +47,18 @@ module _ (start : Start) (run : Run) (s' : Heap) (marks : is_marking start run �
             (subst (λ k. IsBrought (heap_after start run) slot k s' w) is.3 x)
 
     pub grant_tell : (slot into words base : ℕ) (kind : Kind) → Gains (heap_after start run) s' (HasNewborn (heap_after start run) s') → ((v w : ℕ) → HasNewborn (heap_after start run) s' v → HasNewborn (heap_after start run) s' w → v ≡ w)
-        → IsBornAt (heap_after start run) base s' → FlagsLed c base old new → TellTouched new start (goes_on run (Mutator slot (Alloc into words kind)) Done s')
+        → IsBornAt (heap_after start run) base s' → FlagsLed c base old new → TellTouched c.origin new start (goes_on run (Mutator slot (Alloc into words kind)) Done s')
     grant_tell slot into words base kind gain one born f =
         flags_tell (heap_after start run) s' (Touched start run) (HasNewborn (heap_after start run) s') d d' gain (marking_closed start run marks d)
-        (IsFlagged old) (IsFlagged new) tell (λ b o has is. ⊎_elim (λ before. inl before) (λ led. inr (base, newborn, led)) (f.only s' h b o has is)) f.keeps
-        (λ w x lead b led. let same : w ≡ base = one w base x newborn in f.adds room s' h (subst (LeadsToFlagged s' old) same lead) b (subst (λ k. LedTo s' k b) same led))
+        (IsFlagged c.origin old) (IsFlagged c.origin new) tell (λ b o has is. ⊎_elim (λ before. inl before) (λ led. inr (base, newborn, led)) (f.only s' h b o has is)) f.keeps
+        (λ w x lead b led. let same : w ≡ base = one w base x newborn in f.adds room s' h (subst (LeadsToFlagged c.origin s' old) same lead) b (subst (λ k. LedTo s' k b) same led))
         one
       where
         newborn : HasNewborn (heap_after start run) s' base
         newborn = (born.object, born.there, born.newest)
 
 pub begin_tell : (start : Start) (run : Run) (c : PlainContents) → StandsFor c (heap_after start run) → HasApartObjects (heap_after start run) → (flags : List Bool) → HasFlags c.pages flags → FlagsReached c flags
-    → TellTouched flags start (goes_on run Begin Done (heap_after start run))
+    → TellTouched c.origin flags start (goes_on run Begin Done (heap_after start run))
 begin_tell start run c h d flags room reached base o has = (
   λ is. (base, o, has, refl, (reached room (heap_after start run) h base o has).0 is),
   λ x. (reached room (heap_after start run) h base o has).1 (subst (Reached (heap_after start run)) (d.births x.0 base x.1 o x.2 has x.3) x.4),

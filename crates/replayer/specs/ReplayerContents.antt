@@ -18,9 +18,9 @@ pub record ReplayerContents : Type 0 where
   pub touched : List Bool
   pub aged : List Bool
 
--- exactly the touched objects have their flags
-abbrev pub TellTouched : List Bool → Start → Run → Type 0
-TellTouched flags start run = (base : ℕ) (o : Object) → HasObject (heap_after start run) base o → IsFlagged flags base ↔ Touched start run o.birth
+-- exactly the touched objects have their flags, in a heap that begins at the origin
+abbrev pub TellTouched : ℕ → List Bool → Start → Run → Type 0
+TellTouched origin flags start run = (base : ℕ) (o : Object) → HasObject (heap_after start run) base o → IsFlagged origin flags base ↔ Touched start run o.birth
 
 -- The replayer is where the run has led: its core stands for the heap after it, in its phase, with its need of a full cycle
 -- and with its counts, its flags tell which objects are old and, while a cycle marks, which are touched.
@@ -31,7 +31,7 @@ pub record Follows (r : ReplayerContents) (start : Start) (run : Run) : Type 0 w
   pub number : r.number ≡ count start run
   pub births : r.births ≡ (heap_after start run).births
   pub room : HasFlags (heap_after start run).pages r.touched
-  pub touched : r.marking ≡ true → TellTouched r.touched start run
+  pub touched : r.marking ≡ true → TellTouched r.core.origin r.touched start run
   pub aged_room : HasFlags (heap_after start run).pages r.aged
   pub past : old_births start run ≤ (heap_after start run).births
-  pub aged : TellOld (heap_after start run) r.aged (old_births start run)
+  pub aged : TellOld r.core.origin (heap_after start run) r.aged (old_births start run)

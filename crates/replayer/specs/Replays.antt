@@ -1,6 +1,7 @@
 -- When a replayer says yes.
 use Rattle.std.specs.Prelude.{◌≡◌, ◌<◌, ℕ}
 use Rattle.words.specs.declared.class.Kind.{Kind}
+use Rattle.words.specs.declared.limits.TheConstants.{FIRST_ADDRESS}
 use Rattle.heap_spec.specs.declared.call.Call.{Call}
 use Rattle.heap_spec.specs.declared.call.Call.TheVariants.{Alloc}
 use Rattle.heap_spec.specs.declared.event.Event.{Event}
@@ -52,6 +53,10 @@ pub record IsReplay (hint : Hint) (start : Start) (run : Run) (event : Event) (r
 -- From each run that the replayer followed it is a replay, to one that it follows.
 abbrev pub IsReplayed : ReplayerContents → Event → Reply → Hint → ReplayerContents → Type 0
 IsReplayed old event reply hint new = (start : Start) (run : Run) → Follows old start run → (next : Run) × IsReplay hint start run event reply next × Follows new start next
+
+-- a granted request is judged in a heap that begins where those with size classes do
+abbrev pub JudgesGrants : ReplayerContents → Event → Reply → Type 0
+JudgesGrants r event reply = (slot into words : ℕ) (kind : Kind) → event ≡ Mutator slot (Alloc into words kind) → reply ≡ Done → r.core.origin ≡ FIRST_ADDRESS
 
 -- From no run that the replayer follows it is a replay.
 abbrev pub IsNoReplay : ReplayerContents → Event → Reply → Hint → Type 0

@@ -23,6 +23,7 @@ impl Replayer {
         ensures yes { IsTrue result → IsReplayedAnywhere self.old (Event.Mutator slot (Call.Alloc into words kind)) Reply.Done hint.entry length self.new }
         ensures no { result ≡ false → IsNoReplayAnywhere self.old (Event.Mutator slot (Call.Alloc into words kind)) Reply.Done hint.entry length }
         ensures same { result ≡ false → self.new ≡ self.old }
+        ensures origin { self.new.core.origin ≡ self.old.core.origin }
     {
         self.limits();
         let Hint::Place(base) = hint else {
@@ -76,6 +77,7 @@ impl Replayer {
         ensures yes { IsTrue result → IsReplayedAnywhere self.old (Event.Mutator slot (Call.Alloc call.0 call.1 call.2)) reply.now hint.entry length self.new }
         ensures no { result ≡ false → IsNoReplayAnywhere self.old (Event.Mutator slot (Call.Alloc call.0 call.1 call.2)) reply.now hint.entry length }
         ensures same { result ≡ false → self.new ≡ self.old }
+        ensures origin { self.new.core.origin ≡ self.old.core.origin }
     {
         let (into, words, kind) = call;
         let Reply::Done = reply else {
@@ -90,6 +92,7 @@ impl Replayer {
         ensures yes { IsTrue result → IsReplayedAnywhere self.old event.now reply.now hint.entry length self.new }
         ensures no { result ≡ false → IsNoReplayAnywhere self.old event.now reply.now hint.entry length }
         ensures same { result ≡ false → self.new ≡ self.old }
+        ensures origin { self.new.core.origin ≡ self.old.core.origin }
     {
         let Event::Mutator(slot, call) = *event else {
             return self.step(event, reply, hint);

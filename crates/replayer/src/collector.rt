@@ -108,6 +108,7 @@ impl Replayer {
         ensures yes { IsTrue result → (hint : HintValue) → IsReplayed self.old Event.Begin reply.now hint self.new }
         ensures no { result ≡ false → (hint : HintValue) → IsNoReplay self.old Event.Begin reply.now hint }
         ensures same { result ≡ false → self.new ≡ self.old }
+        ensures origin { self.new.core.origin ≡ self.old.core.origin }
     {
         self.limits();
         if self.is_marking() {
@@ -128,6 +129,7 @@ impl Replayer {
         ensures yes { IsTrue result → (hint : HintValue) → IsReplayed self.old Event.BeginPartial reply.now hint self.new }
         ensures no { result ≡ false → (hint : HintValue) → IsNoReplay self.old Event.BeginPartial reply.now hint }
         ensures same { result ≡ false → self.new ≡ self.old }
+        ensures origin { self.new.core.origin ≡ self.old.core.origin }
     {
         self.limits();
         if self.is_marking() {
@@ -216,6 +218,7 @@ impl Replayer {
         ensures yes { IsTrue result → IsReplayed self.old Event.Finish reply.now hint.entry self.new }
         ensures no { result ≡ false → IsNoReplay self.old Event.Finish reply.now hint.entry }
         ensures same { result ≡ false → self.new ≡ self.old }
+        ensures origin { self.new.core.origin ≡ self.old.core.origin }
     {
         self.limits();
         if !self.is_marking() {
@@ -238,6 +241,7 @@ impl Replayer {
         ensures yes { IsTrue result → IsReplayed self.old Event.Collect reply.now HintValue.Nothing self.new }
         ensures no { result ≡ false → IsNoReplay self.old Event.Collect reply.now HintValue.Nothing }
         ensures same { result ≡ false → self.new ≡ self.old }
+        ensures origin { self.new.core.origin ≡ self.old.core.origin }
     {
         self.limits();
         let Some(n) = count_in(reply) else {
@@ -259,6 +263,7 @@ impl Replayer {
         ensures yes { IsTrue result → IsReplayed self.old Event.Collect reply.now hint.entry self.new }
         ensures no { result ≡ false → IsNoReplay self.old Event.Collect reply.now hint.entry }
         ensures same { result ≡ false → self.new ≡ self.old }
+        ensures origin { self.new.core.origin ≡ self.old.core.origin }
     {
         self.limits();
         let Some(bases) = forgotten(reply, hint) else {
@@ -279,6 +284,7 @@ impl Replayer {
         ensures yes { IsTrue result → IsReplayed self.old Event.Collect reply.now hint.entry self.new }
         ensures no { result ≡ false → IsNoReplay self.old Event.Collect reply.now hint.entry }
         ensures same { result ≡ false → self.new ≡ self.old }
+        ensures origin { self.new.core.origin ≡ self.old.core.origin }
     {
         let Hint::Nothing = hint else {
             return self.collect_named(reply, hint);

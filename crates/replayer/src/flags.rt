@@ -76,6 +76,7 @@ pub(crate) fn forget(core: &mut Core, bases: &[u64], flags: &Vec<bool>) -> bool
     ensures yes { IsTrue result → ForgetsUnflagged core.old flags.now.items bases.now core.new }
     ensures no { result ≡ false → CantForget core.old flags.now.items bases.now }
     ensures same { result ≡ false → core.new ≡ core.old }
+    ensures origin { core.new.origin ≡ core.old.origin }
 {
     core.forget(bases, flags)
 }

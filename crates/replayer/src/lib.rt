@@ -22,7 +22,9 @@
 //! `Replayer::step_anywhere` is the same of a run of a heap that places objects anywhere: an object may lie wherever it lies in
 //! the heap at a multiple of 8 and shares no byte with another, it has the words that are told beside the hint, at least as many as
 //! were asked for, and a request may be refused with Full at any time (`LineAnywhere`, `IsReplayAnywhere`). All other events are
-//! those of any run. `reply_anywhere_to` is the one reply of an event there (`ExpectsAnywhere`).
+//! those of any run. `reply_anywhere_to` is the one reply of an event there (`ExpectsAnywhere`). Such a heap may begin at any
+//! multiple of 8 (`new_from`), which it does for ever; `step` says no to a granted request only of one that begins where size
+//! classes place objects (`JudgesGrants`).
 #![tactic(auto)]
 
 mod anywhere;

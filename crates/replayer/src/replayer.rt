@@ -1,11 +1,11 @@
 //! The replayer, how it is made, and its one question.
-ghost use Rattle.std.specs.Prelude.{◌≡◌, ℕ, ◌+◌, ◌<◌, ◌≤◌, IfOk, IsTrue, false, []};
-ghost use Rattle.words.specs.declared.limits.TheConstants.{MAX_PAGES};
+ghost use Rattle.std.specs.Prelude.{◌≡◌, ℕ, ◌+◌, ◌*◌, ◌%◌, ◌<◌, ◌≤◌, IfOk, IsTrue, false, []};
+ghost use Rattle.words.specs.declared.limits.TheConstants.{FIRST_ADDRESS, MAX_PAGES, PAGE_BYTES, WORD_BYTES};
 ghost use Rattle.heap_spec.specs.Layout.{word_end};
 ghost use Rattle.heap_spec.specs.Runs.{opening_start, needs_full_after as needs_full_by};
 ghost use Rattle.replayer.specs.ReplayerContents.{Follows};
 ghost use Rattle.replayer.specs.declared.hint.Hint.{Hint as HintValue};
-ghost use Rattle.replayer.specs.Replays.{IsReplayed, IsNoReplay, IsGrant};
+ghost use Rattle.replayer.specs.Replays.{IsReplayed, IsNoReplay, IsGrant, JudgesGrants};
 
 use crate::flags::{flag_call, flag_place, renew};
 use crate::hint::Hint;
@@ -13,7 +13,7 @@ use heap_spec::{Call, Event, Reply};
 use plain_core::Core;
 use std::alloc::Global;
 use std::marker::Model;
-use words::limits::PAGE_WORDS;
+use words::limits::{FIRST_ADDRESS, PAGE_WORDS};
 use words::{Kind, Reg, RunError, Slot};
 
 /// A checker of the runs of one heap.
@@ -56,9 +56,25 @@ impl Replayer {
     /// [`RunError::Memory`] where a growth of memory was refused.
     pub fn new(alloc: Global, pages: u32) -> Result<Replayer, RunError>
         requires { (1 ≤ pages) × (pages ≤ MAX_PAGES) }
-        ensures { IfOk result (λ replayer. Follows replayer (opening_start pages) []) }
+        ensures opens { IfOk result (λ replayer. Follows replayer (opening_start pages) []) }
+        ensures origin { IfOk result (λ replayer. replayer.core.origin ≡ FIRST_ADDRESS) }
     {
-        let Ok(core) = Core::new(alloc, pages) else {
+        Replayer::new_from(alloc, FIRST_ADDRESS, pages)
+    }
+
+    /// The same of a heap that begins at an address.
+    ///
+    /// # Errors
+    /// [`RunError::Memory`] where a growth of memory was refused.
+    pub fn new_from(alloc: Global, origin: u64, pages: u32) -> Result<Replayer, RunError>
+        requires pages { (1 ≤ pages) × (pages ≤ MAX_PAGES) }
+        requires aligned { origin % WORD_BYTES ≡ 0 }
+        requires past_zero { 0 < origin }
+        requires fits { origin + PAGE_BYTES * pages < word_end }
+        ensures opens { IfOk result (λ replayer. Follows replayer (opening_start pages) []) }
+        ensures origin { IfOk result (λ replayer. replayer.core.origin ≡ origin) }
+    {
+        let Ok(core) = Core::new_from(alloc, origin, pages) else {
             return Err(RunError::Memory);
         };
         let Ok(touched) = vec![in alloc; false; PAGE_WORDS as usize * pages as usize] else {
@@ -89,8 +105,9 @@ impl Replayer {
     // A request that was granted at the base of the hint.
     fn alloc(&mut self, slot: Slot, into: Reg, words: u64, kind: Kind, hint: Hint) -> bool
         ensures yes { IsTrue result → IsReplayed self.old (Event.Mutator slot (Call.Alloc into words kind)) Reply.Done hint.entry self.new }
-        ensures no { result ≡ false → IsNoReplay self.old (Event.Mutator slot (Call.Alloc into words kind)) Reply.Done hint.entry }
+        ensures no { result ≡ false → self.old.core.origin ≡ FIRST_ADDRESS → IsNoReplay self.old (Event.Mutator slot (Call.Alloc into words kind)) Reply.Done hint.entry }
         ensures same { result ≡ false → self.new ≡ self.old }
+        ensures origin { self.new.core.origin ≡ self.old.core.origin }
     {
         self.limits();
         let Hint::Place(base) = hint else {
@@ -116,6 +133,7 @@ impl Replayer {
         ensures yes { IsTrue result → (hint : HintValue) → IsReplayed self.old (Event.Mutator slot call.now) reply.now hint self.new }
         ensures no { result ≡ false → (hint : HintValue) → IsNoReplay self.old (Event.Mutator slot call.now) reply.now hint }
         ensures same { result ≡ false → self.new ≡ self.old }
+        ensures origin { self.new.core.origin ≡ self.old.core.origin }
     {
         self.limits();
         self.core.objects_are_apart();
@@ -133,6 +151,7 @@ impl Replayer {
         ensures yes { IsTrue result → (hint : HintValue) → IsReplayed self.old Event.Attach reply.now hint self.new }
         ensures no { result ≡ false → (hint : HintValue) → IsNoReplay self.old Event.Attach reply.now hint }
         ensures same { result ≡ false → self.new ≡ self.old }
+        ensures origin { self.new.core.origin ≡ self.old.core.origin }
     {
         self.limits();
         self.core.objects_are_apart();
@@ -146,8 +165,9 @@ impl Replayer {
     // A call of a mutator.
     fn call(&mut self, slot: Slot, call: &Call, reply: &Reply, hint: Hint) -> bool
         ensures yes { IsTrue result → IsReplayed self.old (Event.Mutator slot call.now) reply.now hint.entry self.new }
-        ensures no { result ≡ false → IsNoReplay self.old (Event.Mutator slot call.now) reply.now hint.entry }
+        ensures no { result ≡ false → JudgesGrants self.old (Event.Mutator slot call.now) reply.now → IsNoReplay self.old (Event.Mutator slot call.now) reply.now hint.entry }
         ensures same { result ≡ false → self.new ≡ self.old }
+        ensures origin { self.new.core.origin ≡ self.old.core.origin }
     {
         let Reply::Done = reply else {
             return self.answered(slot, call, reply);
@@ -161,8 +181,9 @@ impl Replayer {
     // An event, by its kind.
     fn replay(&mut self, event: Event, reply: &Reply, hint: Hint) -> bool
         ensures yes { IsTrue result → IsReplayed self.old event reply.now hint.entry self.new }
-        ensures no { result ≡ false → IsNoReplay self.old event reply.now hint.entry }
+        ensures no { result ≡ false → JudgesGrants self.old event reply.now → IsNoReplay self.old event reply.now hint.entry }
         ensures same { result ≡ false → self.new ≡ self.old }
+        ensures origin { self.new.core.origin ≡ self.old.core.origin }
     {
         self.limits();
         match event {
@@ -181,11 +202,13 @@ impl Replayer {
     }
 
     /// Whether the event with its reply goes on with what was told so far, by the hint. If so, the replayer goes on to the
-    /// heap after it, and else it stays where it was. It takes no memory.
+    /// heap after it, and else it stays where it was. It takes no memory. Size classes place objects in pages from
+    /// `FIRST_ADDRESS` on, so of a granted request a no says something only of a heap that begins there.
     pub fn step(&mut self, event: &Event, reply: &Reply, hint: Hint) -> bool
         ensures yes { IsTrue result → IsReplayed self.old event.now reply.now hint.entry self.new }
-        ensures no { result ≡ false → IsNoReplay self.old event.now reply.now hint.entry }
+        ensures no { result ≡ false → JudgesGrants self.old event.now reply.now → IsNoReplay self.old event.now reply.now hint.entry }
         ensures same { result ≡ false → self.new ≡ self.old }
+        ensures origin { self.new.core.origin ≡ self.old.core.origin }
     {
         self.replay(*event, reply, hint)
     }

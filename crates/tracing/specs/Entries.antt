@@ -1,7 +1,7 @@
 -- How the mark stack changes.
 use Rattle.std.specs.Prelude.{◌≡◌, Option, Some, None, List, ◌++◌, take}
 use Rattle.marker.specs.declared.entry.Entry.{Entry}
-use Rattle.plain_core.specs.Standing.{word_index}
+use Rattle.pages.specs.Memory.{word_index}
 use Rattle.trace_lines.specs.declared.record.EntryAt.{EntryAt}
 use Rattle.trace_lines.specs.declared.record.EntriesChange.{EntriesChange}
 use Rattle.trace_lines.specs.declared.record.Current.{Current}

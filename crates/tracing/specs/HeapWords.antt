@@ -11,7 +11,7 @@ use Rattle.links.specs.declared.row.Link.{Link}
 use Rattle.roots.specs.Roots.{RootSet}
 use Rattle.plain_core.specs.PlainContents.{PlainContents}
 use Rattle.plain_core.specs.Along.{word_of}
-use Rattle.plain_core.specs.Standing.{word_index}
+use Rattle.pages.specs.Memory.{word_index}
 use Rattle.trace_lines.specs.declared.record.Numbered.{Numbered}
 use Rattle.tracing.specs.Sets.{listed}
 use Rattle.tracing.specs.Leaving.{forgets}

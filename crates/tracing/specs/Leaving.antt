@@ -5,7 +5,7 @@ use Rattle.words.specs.declared.limits.TheConstants.{PAGE_WORDS}
 use Rattle.heap_spec.specs.declared.event.Event.{Event}
 use Rattle.heap_spec.specs.declared.event.Event.TheVariants.{Finish, Collect}
 use Rattle.heap_core.specs.CoreContents.{CoreContents}
-use Rattle.plain_core.specs.Standing.{word_index}
+use Rattle.pages.specs.Memory.{word_index}
 use Rattle.tracing.specs.declared.leaving.Leaving.{Leaving}
 use Rattle.tracing.specs.Sets.{those_that}
 

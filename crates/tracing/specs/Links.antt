@@ -3,7 +3,7 @@ use Rattle.std.specs.Prelude.{◌==◌, ◌&&◌, Bool, not, Some, None, List, [
 use Rattle.std.specs.List.{list_any}
 use Rattle.links.specs.declared.row.Link.{Link}
 use Rattle.links.specs.Rows.{has_at}
-use Rattle.plain_core.specs.Standing.{word_index}
+use Rattle.pages.specs.Memory.{word_index}
 use Rattle.trace_lines.specs.declared.record.LinkChange.{LinkChange}
 use Rattle.tracing.specs.Sets.{those_that}
 

@@ -2,7 +2,7 @@
 use Rattle.std.specs.Prelude.{◌≡◌, ℕ, Bool, not, Option, Some, None, List, [], ◌∷◌, flat_map, map, if◌then◌else◌, nat_eq}
 use Rattle.std.specs.Set.{is_member}
 use Rattle.plain_core.specs.declared.extent.Extent.{Extent}
-use Rattle.plain_core.specs.Standing.{word_index}
+use Rattle.pages.specs.Memory.{word_index}
 use Rattle.trace_lines.specs.declared.record.SetChange.{SetChange}
 use Rattle.trace_lines.specs.declared.record.SetChange.TheVariants.{Comes, Goes, Differs, Whole}
 

@@ -2,7 +2,7 @@
 use Rattle.std.specs.Prelude.{◌≡◌, ℕ, ◌*◌, Option, Some, None, List, [], map}
 use Rattle.std.specs.List.{range_with_len}
 use Rattle.std.specs.Borrow.{Bor}
-use Rattle.words.specs.declared.limits.TheConstants.{PAGE_WORDS}
+use Rattle.words.specs.declared.limits.TheConstants.{FIRST_ADDRESS, PAGE_WORDS}
 use Rattle.heap_spec.specs.declared.event.Event.{Event}
 use Rattle.heap_spec.specs.declared.reply.Reply.{Reply}
 use Rattle.heap_spec.specs.Runs.{opening_start}
@@ -10,7 +10,7 @@ use Rattle.heap_core.specs.CoreContents.{CoreContents}
 use Rattle.links.specs.declared.row.Link.{Link}
 use Rattle.roots.specs.Roots.{RootSet}
 use Rattle.plain_core.specs.PlainContents.{PlainContents}
-use Rattle.plain_core.specs.Standing.{word_index}
+use Rattle.pages.specs.Memory.{word_index}
 use Rattle.replayer.specs.declared.hint.Hint.{Hint}
 use Rattle.replayer.specs.ReplayerContents.{ReplayerContents, Follows}
 use Rattle.replayer.specs.Replays.{IsReplayed, IsNoReplay}
@@ -94,10 +94,11 @@ pub record TracerContents : Type 0 where
   pub seen : Seen
   pub waiting : List ℕ
 
--- A tracer of a new heap: its checker follows the empty run of a heap of so many pages, there is a flag for each word,
--- and nothing was seen yet.
+-- A tracer of a new heap: its checker follows the empty run of a heap of so many pages, which begins where size classes place
+-- objects, there is a flag for each word, and nothing was seen yet.
 pub record IsNewTracer (n : ℕ) (t : TracerContents) : Type 0 where
   pub replayer : Follows t.replayer (opening_start n) []
+  pub begins : t.replayer.core.origin ≡ FIRST_ADDRESS
   pub room : t.room ≡ PAGE_WORDS * n
   pub pages : t.pages ≡ range_with_len 0 n
   pub seen : IsBlank t.seen
@@ -107,6 +108,7 @@ pub record IsNewTracer (n : ℕ) (t : TracerContents) : Type 0 where
 -- what was seen before became that.
 pub record IsTold (old : TracerContents) (core : Option (Bor CoreContents)) (event : Event) (reply : Reply) (hint : Hint) (r : Record) (new : TracerContents) : Type 0 where
   pub replayed : IsReplayed old.replayer event reply hint new.replayer
+  pub begins : new.replayer.core.origin ≡ FIRST_ADDRESS
   pub seen : IsSeen core new.replayer old.room old.pages new.seen
   pub leaving : Leaving
   pub parted : IsParted core event old.waiting (bases_of (objects_without old.seen.truth.objects.items new.seen.truth.objects.items)) leaving

@@ -1,7 +1,7 @@
 -- What is true of a heap, as a trace shows it.
 use Rattle.std.specs.Prelude.{◌≡◌, ℕ, Bool, false, List, [], if◌then◌else◌, length, slice_index_or}
 use Rattle.plain_core.specs.declared.extent.Extent.{Extent}
-use Rattle.plain_core.specs.Standing.{word_index}
+use Rattle.pages.specs.Memory.{word_index}
 use Rattle.plain_core.specs.Flags.{FlagsReached}
 use Rattle.replayer.specs.ReplayerContents.{ReplayerContents}
 use Rattle.tracing.specs.declared.truth.Truth.{Truth}

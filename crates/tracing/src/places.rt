@@ -1,7 +1,7 @@
 //! Where an address of the heap stands in a trace.
 ghost use Rattle.std.specs.Prelude.{◌≡◌, ◌/◌, IfOk, false, map, slice_index_or};
 ghost use Rattle.words.specs.declared.limits.TheConstants.{PAGE_WORDS};
-ghost use Rattle.plain_core.specs.Standing.{word_index};
+ghost use Rattle.pages.specs.Memory.{word_index};
 
 use std::alloc::{AllocError, Global};
 use words::limits::{FIRST_ADDRESS, PAGE_WORDS, WORD_BYTES};

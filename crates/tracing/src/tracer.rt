@@ -33,12 +33,15 @@ pub struct Tracer {
 }
 
 impl Model for Tracer {
-    ghost use Rattle.std.specs.Prelude.{length};
+    ghost use Rattle.std.specs.Prelude.{◌≡◌, length};
+    ghost use Rattle.words.specs.declared.limits.TheConstants.{FIRST_ADDRESS};
     ghost use Rattle.tracing.specs.Telling.{TracerContents};
 
     ghost Value = { TracerContents };
 
     ghost view = { λ t. record { replayer = t.replayer; room = length t.flags.items; pages = t.pages.items; seen = t.seen; waiting = t.waiting.items } };
+
+    ghost invariant = { λ t. t.replayer.core.origin ≡ FIRST_ADDRESS };
 }
 
 // The numbers of so many pages.

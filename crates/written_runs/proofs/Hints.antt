@@ -88,18 +88,18 @@ no_second text rest a at none base n are =
 pub place_here : (text : List ℕ) (base : ℕ) → IsOnlyNumber text base → IsBehind Classes (codes " @" ++ text) (PlaceBehind base)
 place_here text base is = record { whole = ap (λ t. codes " @" ++ t) is.whole; words = is.word; suits = refl }
 
-pub object_here : (text : List ℕ) (base n : ℕ) → AreBases text (base ∷ n ∷ []) → IsBehind Any (codes " @" ++ text) (Object base n)
-object_here text base n are = record {
+pub object_here : (from : ℕ) (text : List ℕ) (base n : ℕ) → AreBases text (base ∷ n ∷ []) → IsBehind (Any from) (codes " @" ++ text) (Object base n)
+object_here from text base n are = record {
   whole = ap (λ t. codes " @" ++ t) are.whole;
   words = (All-head IsWord base (n ∷ []) are.words, All-head IsWord n [] (All-tail IsWord base (n ∷ []) are.words));
-  suits = refl;
+  suits = tt;
 }
 
 pub no_place_here : (text : List ℕ) → ((n : ℕ) → IsOnlyNumber text n → ⊥) → (base n : ℕ) → IsHintText Classes (codes " @" ++ text) (Place base) n → ⊥
 no_place_here text none base n is = none base (record { whole = append_cancel_left (codes " @") text (codes " " ++ decimal base) is.whole; word = is.words })
 
-pub no_object_here : (text : List ℕ) → ((base n : ℕ) → AreBases text (base ∷ n ∷ []) → ⊥) → (base n : ℕ) → IsHintText Any (codes " @" ++ text) (Place base) n → ⊥
-no_object_here text none base n is = none base n (record {
+pub no_object_here : (from : ℕ) (text : List ℕ) → ((base n : ℕ) → AreBases text (base ∷ n ∷ []) → ⊥) → (base n : ℕ) → IsHintText (Any from) (codes " @" ++ text) (Place base) n → ⊥
+no_object_here from text none base n is = none base n (record {
   whole = append_cancel_left (codes " @") text (bases_text (base ∷ n ∷ [])) is.whole;
   words = All-cons IsWord base (n ∷ []) is.words (All-cons IsWord n [] is.size (All-nil IsWord));
 })
@@ -110,9 +110,9 @@ module _ (text : List ℕ) (some : text ≡ [] → ⊥) where
   no_hint_text Classes place forgot Nothing n is = some is.whole
   no_hint_text Classes place forgot (Place base) n is = place base n is
   no_hint_text Classes place forgot (Forgot bases) n is = forgot bases.now is.whole is.words
-  no_hint_text Any place forgot Nothing n is = some is.whole
-  no_hint_text Any place forgot (Place base) n is = place base n is
-  no_hint_text Any place forgot (Forgot bases) n is = forgot bases.now is.whole is.words
+  no_hint_text (Any from) place forgot Nothing n is = some is.whole
+  no_hint_text (Any from) place forgot (Place base) n is = place base n is
+  no_hint_text (Any from) place forgot (Forgot bases) n is = forgot bases.now is.whole is.words
 
   -- a text that begins as a place, with none behind it
   pub no_place : (places : Places) (place : List ℕ) → text ≡ codes " @" ++ place → ((base n : ℕ) → IsHintText places (codes " @" ++ place) (Place base) n → ⊥) → (hint : Hint) (n : ℕ) → IsHintText places text hint n → ⊥
@@ -123,7 +123,7 @@ module _ (text : List ℕ) (some : text ≡ [] → ⊥) where
   -- how a text of a place begins
   place_begins : (places : Places) (base n : ℕ) → IsHintText places text (Place base) n → (rest : List ℕ) × (text ≡ codes " @" ++ rest)
   place_begins Classes base n is = (codes " " ++ decimal base, is.whole)
-  place_begins Any base n is = (bases_text (base ∷ n ∷ []), is.whole)
+  place_begins (Any from) base n is = (bases_text (base ∷ n ∷ []), is.whole)
 
   -- a text that begins as neither a place nor bases
   pub no_beginning : (places : Places) → ((rest : List ℕ) → text ≡ codes " @" ++ rest → ⊥) → ((rest : List ℕ) → text ≡ codes " -" ++ rest → ⊥) → (hint : Hint) (n : ℕ) → IsHintText places text hint n → ⊥
@@ -139,16 +139,16 @@ module _ (text : List ℕ) (some : text ≡ [] → ⊥) where
 -- what a hint is of what stands behind a reply
 pub hint_of : (places : Places) (text : List ℕ) → IsBehind places text NothingBehind → IsHintText places text Nothing 0
 hint_of Classes text is = record { whole = is.whole; words = tt; size = tt }
-hint_of Any text is = record { whole = is.whole; words = tt; size = refl }
+hint_of (Any from) text is = record { whole = is.whole; words = tt; size = refl }
 
 pub hint_of_place : (places : Places) (text : List ℕ) (base : ℕ) → IsBehind places text (PlaceBehind base) → IsHintText places text (Place base) 0
 hint_of_place Classes text base is = record { whole = is.whole; words = is.words; size = tt }
-hint_of_place Any text base is = let no : ⊥ = cc in absurd no
+hint_of_place (Any from) text base is = let no : ⊥ = cc in absurd no
 
 pub hint_of_object : (places : Places) (text : List ℕ) (base n : ℕ) → IsBehind places text (Object base n) → IsHintText places text (Place base) n
-hint_of_object Any text base n is = record { whole = is.whole; words = is.words.0; size = is.words.1 }
-hint_of_object Classes text base n is = let no : ⊥ = cc in absurd no
+hint_of_object (Any from) text base n is = record { whole = is.whole; words = is.words.0; size = is.words.1 }
+hint_of_object Classes text base n is = absurd is.suits
 
 pub hint_of_bases : (places : Places) (text : List ℕ) (bases : Vec ℕ) (named : Bor (List ℕ)) → named.now ≡ bases.items → IsBehind places text (Bases bases) → IsHintText places text (Forgot named) 0
 hint_of_bases Classes text bases named e is = record { whole = is.whole ∙ ap (λ bs. codes " -" ++ bases_text bs) (sym e); words = subst (All IsWord) (sym e) is.words; size = tt }
-hint_of_bases Any text bases named e is = record { whole = is.whole ∙ ap (λ bs. codes " -" ++ bases_text bs) (sym e); words = subst (All IsWord) (sym e) is.words; size = refl }
+hint_of_bases (Any from) text bases named e is = record { whole = is.whole ∙ ap (λ bs. codes " -" ++ bases_text bs) (sym e); words = subst (All IsWord) (sym e) is.words; size = refl }

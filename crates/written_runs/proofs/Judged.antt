@@ -18,6 +18,7 @@ use Rattle.written_runs.specs.declared.verdict.Verdict.{Verdict}
 use Rattle.written_runs.specs.Cuts.{IsEmptyOrFrom, IsTextCut}
 use Rattle.written_runs.specs.Finding.{Takes, IsToldAt, IsLineVerdict, IsLineExplained, IsLineBlamed, IsLineTraced}
 use Rattle.written_runs.specs.Judging.{Leads, ends, on, IsBroken, HasFault, IsJudged, HadToAnswer, IsExplained, IsWrongLine, IsBlamed, IsWayTo, IsTracedBack}
+use Rattle.written_runs.specs.Ranges.{BeginsBy}
 use Rattle.written_runs.specs.Steps.{IsUnwritten, TakesOn}
 use Rattle.written_runs.specs.Told.{is_comment, told_lines}
 
@@ -45,9 +46,10 @@ pub record IsUpTo (places : Places) (pages : ℕ) (text rest : List ℕ) (number
   pub few : number + length rest ≤ length text
   pub leads : Leads places (opening_start pages) [] (told_lines lines) run
   pub follows : Follows replayer (opening_start pages) run
+  pub begins : BeginsBy places replayer
 
-pub starts : (places : Places) (pages : ℕ) (text : List ℕ) (replayer : ReplayerContents) → Follows replayer (opening_start pages) [] → IsUpTo places pages text text 0 0 replayer
-starts places pages text replayer follows = record { lines = []; run = []; are = refl; counted = refl; told_are = refl; fewer = omega arith; few = omega arith; leads = ends; follows = follows }
+pub starts : (places : Places) (pages : ℕ) (text : List ℕ) (replayer : ReplayerContents) → Follows replayer (opening_start pages) [] → BeginsBy places replayer → IsUpTo places pages text text 0 0 replayer
+starts places pages text replayer follows begins = record { lines = []; run = []; are = refl; counted = refl; told_are = refl; fewer = omega arith; few = omega arith; leads = ends; follows = follows; begins = begins }
 
 regroup : (places : Places) (pages : ℕ) (text rest behind line : List ℕ) (number told : ℕ) (old : ReplayerContents) (u : IsUpTo places pages text rest number told old) → lines_of rest ≡ line ∷ lines_of behind → lines_of text ≡ (u.lines ++ line ∷ []) ++ lines_of behind
 regroup places pages text rest behind line number told old u e = u.are ∙ ap (λ ls. u.lines ++ ls) e ∙ sym (append_assoc u.lines (line ∷ []) (lines_of behind))
@@ -68,8 +70,8 @@ one_at_most : (line : List ℕ) (comment : Bool) → length (cond (not comment) 
 one_at_most line true = omega arith
 one_at_most line false = omega arith
 
-pub goes_on : (places : Places) (pages : ℕ) (text rest behind line : List ℕ) (number told : ℕ) (old new : ReplayerContents) → IsUpTo places pages text rest number told old → lines_of rest ≡ line ∷ lines_of behind → length behind < length rest → Takes places (is_comment line) old line new → (more : ℕ) → more ≡ length (told_lines (line ∷ [])) → IsUpTo places pages text behind (number + 1) (told + more) new
-goes_on places pages text rest behind line number told old new u e shorter takes more is =
+pub goes_on : (places : Places) (pages : ℕ) (text rest behind line : List ℕ) (number told : ℕ) (old new : ReplayerContents) → IsUpTo places pages text rest number told old → lines_of rest ≡ line ∷ lines_of behind → length behind < length rest → Takes places (is_comment line) old line new → BeginsBy places new → (more : ℕ) → more ≡ length (told_lines (line ∷ [])) → IsUpTo places pages text behind (number + 1) (told + more) new
+goes_on places pages text rest behind line number told old new u e shorter takes begins more is =
     let next = taken places (opening_start pages) u.run old new line (is_comment line) u.follows takes in
     record {
       lines = u.lines ++ line ∷ [];
@@ -81,6 +83,7 @@ goes_on places pages text rest behind line number told old new u e shorter takes
       few = let h = u.few in omega arith;
       leads = subst (λ ls. Leads places (opening_start pages) [] ls next.next) (sym (told_more u.lines line)) (next.leads (told_lines u.lines) u.leads);
       follows = next.follows;
+      begins = begins;
     }
 
 all_read : (places : Places) (pages : ℕ) (text rest : List ℕ) (number told : ℕ) (replayer : ReplayerContents) (u : IsUpTo places pages text rest number told replayer) → length rest ≡ 0 → u.lines ≡ lines_of text

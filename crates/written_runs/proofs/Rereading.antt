@@ -1,5 +1,5 @@
 -- A line that is read twice replays alike.
-use Rattle.std.proofs.Common.{◌≡◌, ℕ, List, refl, sym, ap, ◌∙◌, subst}
+use Rattle.std.proofs.Common.{◌≡◌, ℕ, ◌<◌, List, refl, sym, ap, ◌∙◌, subst}
 use Rattle.heap_spec.specs.declared.event.Event.{Event}
 use Rattle.heap_spec.specs.declared.reply.Reply.{Reply}
 use Rattle.heap_spec.specs.declared.reply.Reply.TheVariants.{Count}
@@ -80,8 +80,8 @@ object_alike (Place a) (Forgot b) e n s t x = absurd e
 object_alike Nothing b e n s t x = absurd x
 object_alike (Forgot a) b e n s t x = absurd x
 
-anywhere_alike : (start : Start) (run next : Run) (event : Event) (reply : Reply) (a b : Hint) (n : ℕ) → SayTheSame a b → IsReplayAnywhere a n start run event reply next → IsReplayAnywhere b n start run event reply next
-anywhere_alike start run next event reply a b n e is = record {
+anywhere_alike : (origin : ℕ) (start : Start) (run next : Run) (event : Event) (reply : Reply) (a b : Hint) (n : ℕ) → SayTheSame a b → IsReplayAnywhere origin a n start run event reply next → IsReplayAnywhere origin b n start run event reply next
+anywhere_alike origin start run next event reply a b n e is = record {
   line = is.line;
   place = λ slot into words kind which done. object_alike a b e n _ _ (is.place slot into words kind which done);
   finished = λ k which counts. bases_alike a b e k _ _ (is.finished k which counts);
@@ -89,24 +89,24 @@ anywhere_alike start run next event reply a b n e is = record {
   births = is.births;
 }
 
-reread_anywhere : (start : Start) (run next : Run) (event event' : Event) (reply reply' : Reply) (hint : Hint) (n n' : ℕ) → event ≡ event' → reply ≡ reply' → n ≡ n'
-    → IsReplayAnywhere hint n' start run event' reply' next → IsReplayAnywhere hint n start run event reply next
-reread_anywhere start run next event event' reply reply' hint n n' e r k is =
-    subst (λ x. IsReplayAnywhere hint n start run x reply next) (sym e) (subst (λ x. IsReplayAnywhere hint n start run event' x next) (sym r) (subst (λ x. IsReplayAnywhere hint x start run event' reply' next) (sym k) is))
+reread_anywhere : (origin : ℕ) (start : Start) (run next : Run) (event event' : Event) (reply reply' : Reply) (hint : Hint) (n n' : ℕ) → event ≡ event' → reply ≡ reply' → n ≡ n'
+    → IsReplayAnywhere origin hint n' start run event' reply' next → IsReplayAnywhere origin hint n start run event reply next
+reread_anywhere origin start run next event event' reply reply' hint n n' e r k is =
+    subst (λ x. IsReplayAnywhere origin hint n start run x reply next) (sym e) (subst (λ x. IsReplayAnywhere origin hint n start run event' x next) (sym r) (subst (λ x. IsReplayAnywhere origin hint x start run event' reply' next) (sym k) is))
 
 -- two steps of which one line is written are read alike, and go on alike
 pub read_once : (places : Places) (line : List ℕ) (a b : Step) → IsStepLine places line a → IsStepLine places line b → AreOneReading a.event b.event a.reply b.reply a.hint b.hint
 read_once Classes line a b w w' = one_reading line a.event b.event a.reply b.reply a.hint b.hint w w'
-read_once Any line a b w w' = (one_sized_reading line a.event b.event a.reply b.reply a.hint b.hint a.words b.words w w').reading
+read_once (Any from) line a b w w' = (one_sized_reading line a.event b.event a.reply b.reply a.hint b.hint a.words b.words w w').reading
 
 pub goes_alike : (places : Places) (line : List ℕ) (a b : Step) → IsStepLine places line a → IsStepLine places line b → (start : Start) (run next : Run) → GoesBy places start run b next → GoesBy places start run a next
 goes_alike Classes line a b w w' start run next goes =
     let same = one_reading line a.event b.event a.reply b.reply a.hint b.hint w w' in
     replay_alike start run next a.event a.reply b.hint a.hint (back_alike a.hint b.hint same.hints) (reread start run next a.event b.event a.reply b.reply b.hint same.events same.replies goes)
-goes_alike Any line a b w w' start run next goes =
+goes_alike (Any from) line a b w w' start run next goes =
     let same = one_sized_reading line a.event b.event a.reply b.reply a.hint b.hint a.words b.words w w' in
     let said = same.reading in
-    anywhere_alike start run next a.event a.reply b.hint a.hint a.words (back_alike a.hint b.hint said.hints) (reread_anywhere start run next a.event b.event a.reply b.reply b.hint a.words b.words said.events said.replies same.sizes goes)
+    anywhere_alike from start run next a.event a.reply b.hint a.hint a.words (back_alike a.hint b.hint said.hints) (reread_anywhere from start run next a.event b.event a.reply b.reply b.hint a.words b.words said.events said.replies same.sizes goes)
 
 pub rules_alike : (places : Places) (line : List ℕ) (a b : Step) → IsStepLine places line a → IsStepLine places line b → rule_of places a.event a.reply a.hint ≡ rule_of places b.event b.reply b.hint
 rules_alike places line a b w w' =
@@ -116,7 +116,7 @@ rules_alike places line a b w w' =
 -- what the heaps of a run are, by where its objects may lie
 abbrev pub IsFit : Places → Heap → Type 0
 IsFit Classes s = IsSound s
-IsFit Any s = HasApartObjects s
+IsFit (Any from) s = (0 < from) × HasApartObjects s
 
 says_itself : (hint : Hint) → SayTheSame hint hint
 says_itself Nothing = tt
@@ -132,8 +132,8 @@ one_goes : (places : Places) (line : List ℕ) (step : Step) → IsStepLine plac
     → GoesBy places start run step next → GoesBy places start run step next' → AreOneFitNext places start next next'
 one_goes Classes line step w start run h next next' goes goes' =
     let one = one_next start run h step.event w.parts.is_command.in_range step.reply step.hint step.hint (says_itself step.hint) next next' goes goes' in record { same = one.same; fit = one.sound }
-one_goes Any line step w start run h next next' goes goes' =
-    let one = one_next_anywhere start run h step.event step.reply step.hint step.hint step.words (says_itself step.hint) next next' goes goes' in record { same = one.same; fit = one.apart }
+one_goes (Any from) line step w start run h next next' goes goes' =
+    let one = one_next_anywhere from h.0 start run h.1 step.event step.reply step.hint step.hint step.words (says_itself step.hint) next next' goes goes' in record { same = one.same; fit = (h.0, one.apart) }
 
 -- one line leads to one run
 pub line_alike : (places : Places) (start : Start) (run : Run) → IsFit places (heap_after start run) → (line : List ℕ) (next next' : Run)

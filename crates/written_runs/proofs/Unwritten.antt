@@ -32,16 +32,16 @@ sized_from (Forgot bases) n = refl
 
 told_from : (places : Places) (hint : Hint) (n : ℕ) → IsEmptyOrFrom 32 (told_text places hint n)
 told_from Classes hint n = hint_from hint
-told_from Any hint n = sized_from hint n
+told_from (Any from) hint n = sized_from hint n
 
 -- the parts of a line that is written of a step
 step_with : (places : Places) (line : List ℕ) (step : Step) → IsStepLine places line step → IsLineWith line step.event step.reply (told_text places step.hint step.words)
 step_with Classes line step w = w.parts
-step_with Any line step w = w.parts
+step_with (Any from) line step w = w.parts
 
 step_hint : (places : Places) (line rest : List ℕ) (step : Step) → IsStepLine places line step → rest ≡ told_text places step.hint step.words → IsHintText places rest step.hint step.words
 step_hint Classes line rest step w e = record { whole = e; words = w.words; size = tt }
-step_hint Any line rest step w e = record { whole = e; words = w.words; size = w.size }
+step_hint (Any from) line rest step w e = record { whole = e; words = w.words; size = w.size }
 
 pub parts_of : (line : List ℕ) (event : Event) (reply : Reply) (behind : List ℕ) (w : IsLineWith line event reply behind) → IsParted line w.command (answer_of reply ++ behind)
 parts_of line event reply behind w = record { whole = w.is_line; lacks = line_lacks w.command event w.is_command }
@@ -96,4 +96,4 @@ module _ (places : Places) (line : List ℕ) where
 pub read_step : (places : Places) (line : List ℕ) (l : Line) (hint : Hint) (n : ℕ) → ((text : List ℕ) → IsBehind places text l.behind → IsHintText places text hint n) → IsRead places line l
     → IsStepLine places line (record { event = l.event; reply = l.reply; hint = hint; words = n })
 read_step Classes line l hint n of read = let told = of read.text read.behind in record { parts = subst (IsLineWith line l.event l.reply) told.whole read.parts; words = told.words }
-read_step Any line l hint n of read = let told = of read.text read.behind in record { parts = subst (IsLineWith line l.event l.reply) told.whole read.parts; words = told.words; size = told.size }
+read_step (Any from) line l hint n of read = let told = of read.text read.behind in record { parts = subst (IsLineWith line l.event l.reply) told.whole read.parts; words = told.words; size = told.size }

@@ -11,6 +11,7 @@ use Rattle.written_runs.specs.declared.places.Places.TheVariants.{Classes, Any}
 use Rattle.written_runs.specs.declared.rules.Rule.{Rule}
 use Rattle.written_runs.specs.declared.verdict.Verdict.{Verdict}
 use Rattle.written_runs.specs.declared.verdict.Verdict.TheVariants.{Legal, NoLines, Bad, Breaks}
+use Rattle.written_runs.specs.Ranges.{HasRange}
 use Rattle.written_runs.specs.Judging.{Leads, ends, on, IsBroken, HasFault, IsJudged}
 use Rattle.written_runs.specs.Steps.{IsStepLine, IsUnwritten}
 use Rattle.written_runs.specs.Told.{is_comment, told_lines}
@@ -126,15 +127,15 @@ module _ (places : Places) (start : Start) (opens : IsFit places (heap_after sta
       let b = g.fault in
       f.fault b.step (subst (λ l. IsStepLine places l b.step) (sym place.lines) b.is_written)
 
-pub one_verdict : (places : Places) (pages : ℕ) → 1 ≤ pages → pages ≤ MAX_PAGES → (lines : List (List ℕ)) (verdict verdict' : Verdict) → IsJudged places pages lines verdict → IsJudged places pages lines verdict' → verdict ≡ verdict'
-one_verdict places pages some few lines verdict verdict' is is' = by_verdicts verdict verdict' is is'
+pub one_verdict : (places : Places) (pages : ℕ) → 1 ≤ pages → pages ≤ MAX_PAGES → HasRange places pages → (lines : List (List ℕ)) (verdict verdict' : Verdict) → IsJudged places pages lines verdict → IsJudged places pages lines verdict' → verdict ≡ verdict'
+one_verdict places pages some few range lines verdict verdict' is is' = by_verdicts verdict verdict' is is'
   where
     start : Start
     start = opening_start pages
 
-    opens : (among : Places) → IsFit among (heap_after start [])
-    opens Classes = opening_is pages some few
-    opens Any = sound_apart (heap_after start []) (opening_is pages some few)
+    opens : (among : Places) → HasRange among pages → IsFit among (heap_after start [])
+    opens Classes has = opening_is pages some few
+    opens (Any from) has = (has.past_zero, sound_apart (heap_after start []) (opening_is pages some few))
 
     some_told : (count : ℕ) → IsJudged places pages lines (Legal count) → IsJudged places pages lines NoLines → ⊥
     some_told count x none = let h = x.counted in let k = x.some in let e = ap length none in absurd (omega (arith, h, k, e))
@@ -142,17 +143,17 @@ one_verdict places pages some few lines verdict verdict' is is' = by_verdicts ve
     by_verdicts : (v w : Verdict) → IsJudged places pages lines v → IsJudged places pages lines w → v ≡ w
     by_verdicts (Legal n) (Legal k) x y = ap Legal (x.counted ∙ sym y.counted)
     by_verdicts (Legal n) NoLines x y = absurd (some_told n x y)
-    by_verdicts (Legal n) (Bad k) x y = absurd (no_run places start (opens places) lines (λ run line. IsUnwritten places line) (unwritten_stops places start) k y x.last x.leads)
-    by_verdicts (Legal n) (Breaks k rule) x y = absurd (no_run places start (opens places) lines (IsBroken places start rule) (broken_stops places start rule) k y x.last x.leads)
+    by_verdicts (Legal n) (Bad k) x y = absurd (no_run places start (opens places range) lines (λ run line. IsUnwritten places line) (unwritten_stops places start) k y x.last x.leads)
+    by_verdicts (Legal n) (Breaks k rule) x y = absurd (no_run places start (opens places range) lines (IsBroken places start rule) (broken_stops places start rule) k y x.last x.leads)
     by_verdicts NoLines (Legal k) x y = absurd (some_told k y x)
     by_verdicts NoLines NoLines x y = refl
     by_verdicts NoLines (Bad k) x y = absurd (no_fault places (λ run line. IsUnwritten places line) start lines k x y)
     by_verdicts NoLines (Breaks k rule) x y = absurd (no_fault places (IsBroken places start rule) start lines k x y)
-    by_verdicts (Bad n) (Legal k) x y = absurd (no_run places start (opens places) lines (λ run line. IsUnwritten places line) (unwritten_stops places start) n x y.last y.leads)
+    by_verdicts (Bad n) (Legal k) x y = absurd (no_run places start (opens places range) lines (λ run line. IsUnwritten places line) (unwritten_stops places start) n x y.last y.leads)
     by_verdicts (Bad n) NoLines x y = absurd (no_fault places (λ run line. IsUnwritten places line) start lines n y x)
-    by_verdicts (Breaks n rule) (Legal k) x y = absurd (no_run places start (opens places) lines (IsBroken places start rule) (broken_stops places start rule) n x y.last y.leads)
+    by_verdicts (Breaks n rule) (Legal k) x y = absurd (no_run places start (opens places range) lines (IsBroken places start rule) (broken_stops places start rule) n x y.last y.leads)
     by_verdicts (Breaks n rule) NoLines x y = absurd (no_fault places (IsBroken places start rule) start lines n y x)
-    by_verdicts (Bad n) (Bad k) x y = ap Bad (one_number places start (opens places) lines (λ run line. IsUnwritten places line) (λ run line. IsUnwritten places line) (unwritten_stops places start) (unwritten_stops places start) n k x y)
-    by_verdicts (Bad n) (Breaks k rule) x y = absurd (not_both places start (opens places) lines rule n k x y)
-    by_verdicts (Breaks n rule) (Bad k) x y = absurd (not_both places start (opens places) lines rule k n y x)
-    by_verdicts (Breaks n rule) (Breaks k rule') x y = broken_alike places start (opens places) lines rule rule' n k x y
+    by_verdicts (Bad n) (Bad k) x y = ap Bad (one_number places start (opens places range) lines (λ run line. IsUnwritten places line) (λ run line. IsUnwritten places line) (unwritten_stops places start) (unwritten_stops places start) n k x y)
+    by_verdicts (Bad n) (Breaks k rule) x y = absurd (not_both places start (opens places range) lines rule n k x y)
+    by_verdicts (Breaks n rule) (Bad k) x y = absurd (not_both places start (opens places range) lines rule k n y x)
+    by_verdicts (Breaks n rule) (Breaks k rule') x y = broken_alike places start (opens places range) lines rule rule' n k x y

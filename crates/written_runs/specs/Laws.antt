@@ -9,6 +9,7 @@ use Rattle.written_runs.specs.declared.verdict.Verdict.{Verdict}
 use Rattle.written_runs.specs.declared.places.Places.{Places}
 use Rattle.written_runs.specs.Written.{IsWritten, IsWrittenSized}
 use Rattle.written_runs.specs.Judging.{IsJudged}
+use Rattle.written_runs.specs.Ranges.{HasRange}
 
 -- Two readings of a line are the same.
 pub record AreOneReading (event event' : Event) (reply reply' : Reply) (hint hint' : Hint) : Type 0 where
@@ -31,7 +32,7 @@ abbrev pub SizedLinesHaveOneReading : Type 0
 SizedLinesHaveOneReading = (line : List ℕ) (event event' : Event) (reply reply' : Reply) (hint hint' : Hint) (n n' : ℕ)
     → IsWrittenSized line event reply hint n → IsWrittenSized line event' reply' hint' n' → AreOneSizedReading event event' reply reply' hint hint' n n'
 
--- of the lines of a run one verdict is true, wherever its objects may lie
+-- of the lines of a run one verdict is true, wherever its objects may lie in a heap that has a range
 abbrev pub RunsHaveOneVerdict : Type 0
-RunsHaveOneVerdict = (places : Places) (pages : ℕ) → 1 ≤ pages → pages ≤ MAX_PAGES → (lines : List (List ℕ)) (verdict verdict' : Verdict)
+RunsHaveOneVerdict = (places : Places) (pages : ℕ) → 1 ≤ pages → pages ≤ MAX_PAGES → HasRange places pages → (lines : List (List ℕ)) (verdict verdict' : Verdict)
     → IsJudged places pages lines verdict → IsJudged places pages lines verdict' → verdict ≡ verdict'

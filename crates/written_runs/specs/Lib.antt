@@ -3,6 +3,7 @@ pub mod Written
 pub mod Reading
 pub mod Rules
 pub mod Told
+pub mod Ranges
 pub mod Steps
 pub mod Judging
 pub mod Finding

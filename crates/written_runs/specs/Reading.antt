@@ -55,11 +55,16 @@ HasWords (Place base) = IsWord base
 HasWords (Object base n) = IsWord base × IsWord n
 HasWords (Bases bases) = All IsWord bases.items
 
+-- objects may lie anywhere
+abbrev pub IsAnywhere : Places → Type 0
+IsAnywhere Classes = ⊥
+IsAnywhere (Any from) = Unit {0}
+
 -- a place stands alone where objects lie in classes, and with its object's number of words where they may lie anywhere
 abbrev pub Suits : Places → Behind → Type 0
 Suits places Nothing = Unit {0}
 Suits places (Place base) = places ≡ Classes
-Suits places (Object base n) = places ≡ Any
+Suits places (Object base n) = IsAnywhere places
 Suits places (Bases bases) = Unit {0}
 
 -- a text is these bases, each a word behind a space
@@ -76,12 +81,12 @@ pub record IsBehind (places : Places) (text : List ℕ) (behind : Behind) : Type
 -- what a hint is behind a reply, with the number of words of the object that it places
 abbrev pub told_text : Places → Hint → ℕ → List ℕ
 told_text Classes hint n = hint_text hint
-told_text Any hint n = sized_text hint n
+told_text (Any from) hint n = sized_text hint n
 
 -- that number of words, where it is told
 abbrev pub IsToldSize : Places → Hint → ℕ → Type 0
 IsToldSize Classes hint n = Unit {0}
-IsToldSize Any hint n = IsSize hint n
+IsToldSize (Any from) hint n = IsSize hint n
 
 -- a text is that of a hint
 pub record IsHintText (places : Places) (text : List ℕ) (hint : Hint) (n : ℕ) : Type 0 where

@@ -15,11 +15,11 @@ use Rattle.written_runs.specs.declared.rules.Rule.TheVariants.{Attach as AttachR
 -- a request that was granted at a place, by where objects may lie, and one that wasn't granted
 abbrev pub given_rule : Places → Rule
 given_rule Classes = GivenPlace
-given_rule Any = GivenObject
+given_rule (Any from) = GivenObject
 
 abbrev pub refusal_rule : Places → Rule
 refusal_rule Classes = Refusal
-refusal_rule Any = RefusalAnywhere
+refusal_rule (Any from) = RefusalAnywhere
 
 -- a granted request, with its place or without
 abbrev pub place_rule : Places → Hint → Rule

@@ -14,12 +14,12 @@ use Rattle.written_runs.specs.Written.{IsWritten, IsWrittenSized}
 -- the line is written of a step
 abbrev pub IsStepLine : Places → List ℕ → Step → Type 0
 IsStepLine Classes line step = IsWritten line step.event step.reply step.hint
-IsStepLine Any line step = IsWrittenSized line step.event step.reply step.hint step.words
+IsStepLine (Any from) line step = IsWrittenSized line step.event step.reply step.hint step.words
 
 -- the run goes on by a step to the next run
 abbrev pub GoesBy : Places → Start → Run → Step → Run → Type 0
 GoesBy Classes start run step next = IsReplay step.hint start run step.event step.reply next
-GoesBy Any start run step next = IsReplayAnywhere step.hint step.words start run step.event step.reply next
+GoesBy (Any from) start run step next = IsReplayAnywhere from step.hint step.words start run step.event step.reply next
 
 -- A line takes a run on to the next: it is written of a step by which the run goes on to it.
 pub record TakesOn (places : Places) (start : Start) (run : Run) (line : List ℕ) (next : Run) : Type 0 where
@@ -34,4 +34,4 @@ IsUnwritten places line = (step : Step) → IsStepLine places line step → ⊥
 -- the run goes on by the event with this reply alone
 abbrev pub IsOnlyReply : Places → Start → Run → Event → Reply → Type 0
 IsOnlyReply Classes start run event reply = IsTheReply start run event reply
-IsOnlyReply Any start run event reply = IsTheReplyAnywhere start run event reply
+IsOnlyReply (Any from) start run event reply = IsTheReplyAnywhere from start run event reply

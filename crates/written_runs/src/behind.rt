@@ -94,7 +94,7 @@ fn place_of(places: Places, text: &[u8]) -> Option<Behind>
             };
             Some(Behind::Place(base))
         }
-        Places::Any => {
+        Places::Any(_) => {
             let Some((base, words)) = object_of(text) else {
                 return None;
             };

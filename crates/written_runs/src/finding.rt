@@ -1,5 +1,6 @@
 //! What a replayer finds of a step.
 ghost use Rattle.std.specs.Prelude.{◌≡◌, IfOk, IfSome, IsTrue, false};
+ghost use Rattle.written_runs.specs.Ranges.{BeginsBy};
 ghost use Rattle.written_runs.specs.Finding.{IsNoStep, IsOnlyReplyTo, IsStepped, TellsWay, TellsWhy};
 
 use crate::places::Places;
@@ -11,29 +12,35 @@ use std::alloc::{AllocError, Global};
 
 /// Whether a step goes on with what was told so far.
 pub(crate) fn goes_on(replayer: &mut Replayer, places: Places, step: &Step) -> bool
+    requires begins { BeginsBy places replayer.old }
     ensures yes { IsTrue result → IsStepped places replayer.old step.now replayer.new }
     ensures no { result ≡ false → IsNoStep places replayer.old step.now }
     ensures same { result ≡ false → replayer.new ≡ replayer.old }
+    ensures begins { BeginsBy places replayer.new }
 {
     match places {
         Places::Classes => replayer.step(&step.event, &step.reply, step.hint),
-        Places::Any => { replayer.step_anywhere(&step.event, &step.reply, step.hint, step.words) }
+        Places::Any(_) => {
+            replayer.step_anywhere(&step.event, &step.reply, step.hint, step.words)
+        }
     }
 }
 
 // The one reply that an event has here, if it is known.
 fn only_reply(replayer: &mut Replayer, places: Places, event: &Event) -> Option<Reply>
+    requires begins { BeginsBy places replayer.old }
     ensures reply { IfSome result (λ reply. IsOnlyReplyTo places replayer.old event.now reply) }
     ensures same { replayer.new ≡ replayer.old }
 {
     match places {
         Places::Classes => replayer.reply_to(event),
-        Places::Any => replayer.reply_anywhere_to(event),
+        Places::Any(_) => replayer.reply_anywhere_to(event),
     }
 }
 
 /// The reply that a step had to have, where it is known and another one than it has.
 pub(crate) fn other_reply(replayer: &mut Replayer, places: Places, step: &Step) -> Option<Reply>
+    requires begins { BeginsBy places replayer.old }
     ensures other { IfSome result (λ expected. expected ≡ step.now.reply → ⊥) }
     ensures expected { IfSome result (λ expected. IsOnlyReplyTo places replayer.old step.now.event expected) }
     ensures same { replayer.new ≡ replayer.old }

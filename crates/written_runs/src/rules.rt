@@ -125,7 +125,7 @@ fn of_place(places: Places, hint: Hint) -> Rule
     };
     match places {
         Places::Classes => Rule::GivenPlace,
-        Places::Any => Rule::GivenObject,
+        Places::Any(_) => Rule::GivenObject,
     }
 }
 
@@ -138,7 +138,7 @@ fn of_alloc(places: Places, reply: &Reply, hint: Hint) -> Rule
     }
     match places {
         Places::Classes => Rule::Refusal,
-        Places::Any => Rule::RefusalAnywhere,
+        Places::Any(_) => Rule::RefusalAnywhere,
     }
 }
 

@@ -1,10 +1,13 @@
 //! A written run is replayed, line by line.
-ghost use Rattle.std.specs.Prelude.{◌≡◌, ◌≤◌, IfOk, None};
+ghost use Rattle.std.specs.Prelude.{◌≡◌, ◌≤◌, IfOk, None, []};
 ghost use Rattle.words.specs.declared.limits.TheConstants.{MAX_PAGES};
 ghost use Rattle.scripts.specs.Lines.{lines_of};
+ghost use Rattle.heap_spec.specs.Runs.{opening_start};
+ghost use Rattle.replayer.specs.ReplayerContents.{Follows};
 ghost use Rattle.written_runs.specs.declared.places.Places.TheVariants.{Classes};
 ghost use Rattle.written_runs.specs.Finding.{IsLineJudged};
 ghost use Rattle.written_runs.specs.Judging.{IsBlamed, IsExplained, IsJudged, IsTracedBack};
+ghost use Rattle.written_runs.specs.Ranges.{BeginsBy, HasRange};
 
 use crate::finding::{goes_on, keeper_of, other_reply, path_of};
 use crate::line::read_line;
@@ -88,7 +91,9 @@ fn judge_line(
     number: u64,
     line: &[u8],
 ) -> Result<Option<Explained>, AllocError>
-    ensures { IfOk result (λ found. IsLineJudged places replayer.old why number line.now found replayer.new) }
+    requires begins { BeginsBy places replayer.old }
+    ensures found { IfOk result (λ found. IsLineJudged places replayer.old why number line.now found replayer.new) }
+    ensures begins { BeginsBy places replayer.new }
 {
     if is_comment(line) {
         return Ok(None);
@@ -114,6 +119,19 @@ fn judge_line(
     Ok(Some(Explained { judgement, path }))
 }
 
+// A checker of a heap of so many pages, which begins where `places` says.
+fn new_replayer(alloc: Global, pages: u32, places: Places) -> Result<Replayer, RunError>
+    requires pages { (1 ≤ pages) × (pages ≤ MAX_PAGES) }
+    requires range { HasRange places pages }
+    ensures opens { IfOk result (λ replayer. Follows replayer (opening_start pages) []) }
+    ensures begins { IfOk result (λ replayer. BeginsBy places replayer) }
+{
+    match places {
+        Places::Classes => Replayer::new(alloc, pages),
+        Places::Any(from) => Replayer::new_from(alloc, from, pages),
+    }
+}
+
 /// Replays a written run on a heap of so many pages, whose objects may lie where `places` says, and says what is so of its lines;
 /// and, if `why`, which path leads to an object that has to stay.
 ///
@@ -126,13 +144,14 @@ pub fn explain(
     text: &str,
     why: bool,
 ) -> Result<Explained, RunError>
-    requires { (1 ≤ pages) × (pages ≤ MAX_PAGES) }
+    requires pages { (1 ≤ pages) × (pages ≤ MAX_PAGES) }
+    requires range { HasRange places pages }
     ensures verdict { IfOk result (λ said. IsJudged places pages (lines_of text.now) said.judgement.verdict) }
     ensures expected { IfOk result (λ said. IsExplained places pages (lines_of text.now) said.judgement.verdict said.judgement.expected) }
     ensures wrong { IfOk result (λ said. IsBlamed places pages (lines_of text.now) said.judgement.verdict said.judgement.wrong said.judgement.keeper) }
     ensures path { IfOk result (λ said. IsTracedBack places pages (lines_of text.now) why said.judgement.verdict said.judgement.wrong said.path) }
 {
-    let mut replayer = Replayer::new(alloc, pages)?;
+    let mut replayer = new_replayer(alloc, pages, places)?;
     let mut number = 0u64;
     let mut told = 0u64;
     let mut rest = text.as_bytes();

@@ -5,7 +5,7 @@ use Rattle.thread_records.proofs.Growing.{no_lines, one_more}
 use Rattle.thread_records.proofs.lines.lines_of.Goals as goal
 
 pub loop-entry-init : goal.loop-entry-init
-loop-entry-init c = ([], no_lines string_bytes (opening_start c.args.pages) c.new-lines.result.items c.new-lines.ensures.items, c.in-Ok.ensures)
+loop-entry-init c = ([], no_lines string_bytes (opening_start c.args.pages) c.new-lines.result.items c.new-lines.ensures.items, c.in-Ok.ensures.opens)
 
 pub loop-entry-preserved : goal.loop-entry-preserved
 loop-entry-preserved c =

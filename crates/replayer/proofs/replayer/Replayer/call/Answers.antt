@@ -10,10 +10,10 @@ pub returns-in_default-clause-yes : goal.returns-in_default-clause-yes
 returns-in_default-clause-yes c done = c.answered.ensures.yes done c.args.hint
 
 pub returns-in_default-clause-no : goal.returns-in_default-clause-no
-returns-in_default-clause-no c refused = c.answered.ensures.no refused c.args.hint
+returns-in_default-clause-no c refused judges = c.answered.ensures.no refused c.args.hint
 
 pub returns-in_default-call-clause-yes : goal.returns-in_default-call-clause-yes
 returns-in_default-call-clause-yes c done = c.answered-in_default-call.ensures.yes done c.args.hint
 
 pub returns-in_default-call-clause-no : goal.returns-in_default-call-clause-no
-returns-in_default-call-clause-no c refused = c.answered-in_default-call.ensures.no refused c.args.hint
+returns-in_default-call-clause-no c refused judges = c.answered-in_default-call.ensures.no refused c.args.hint

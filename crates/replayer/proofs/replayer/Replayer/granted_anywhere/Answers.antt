@@ -21,4 +21,4 @@ returns-clause-yes c done =
     let small = subst (λ (r : ReplayerContents). r.number < word_end) (sym c.self.view_is) c.limits.ensures.number in
     let few = subst (λ (r : ReplayerContents). r.births < word_end) (sym c.self.view_is) c.limits.ensures.births in
     let room = subst (λ (r : ReplayerContents). r.births + 1 < word_end) (sym c.self.view_is) (c.is_full.ensures.no c.if-is_full.false) in
-    rw (← c.self.view_is, c.in-Place.is, c.flag_place.ensures.same) (grants_anywhere _ small few _ _ _ _ _ _ _ _ _ c.objects_are_apart.ensures c.objects_are_apart-2.ensures (c.alloc_anywhere.ensures.yes c.if-not-alloc_anywhere.false) room c.flag_place.ensures.size c.flag_place.ensures.flags (rw c.flag_place.ensures.same at c.renew.ensures))
+    rw (← c.self.view_is, c.in-Place.is, c.flag_place.ensures.same) (grants_anywhere _ small few _ _ _ _ _ _ _ _ _ c.alloc_anywhere.ensures.origin c.objects_are_apart.ensures c.objects_are_apart-2.ensures (c.alloc_anywhere.ensures.yes c.if-not-alloc_anywhere.false) room c.flag_place.ensures.size c.flag_place.ensures.flags (rw c.flag_place.ensures.same at c.renew.ensures))
