@@ -7,7 +7,7 @@ pub mod Parting
 pub mod Commands
 pub mod Hints
 pub mod Unwritten
-pub mod Finding
+pub mod Anywhere
 pub mod Judged
 pub mod Arguments
 pub mod Events
