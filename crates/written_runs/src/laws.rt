@@ -11,7 +11,7 @@ pub fn sized_lines_have_one_reading()
     ensures { SizedLinesHaveOneReading }
 {}
 
-/// Of the lines of a run one verdict is true, wherever its objects may lie.
+/// Of the lines of a run one verdict is true, wherever its objects may lie in a heap that has a range.
 pub fn runs_have_one_verdict()
     ensures { RunsHaveOneVerdict }
 {}

@@ -12,13 +12,13 @@
 //! also name the reply that its run goes on by, alone of all (`IsExplained`, `IsOnlyReply`), and it names the lowest of what is
 //! wrong about the objects that the line says were forgotten, if anything is, and what keeps an object that has to stay
 //! (`IsBlamed`, `IsWrongOf`, `TellsKeeper`). `explain` is `judge`, with a path from a root to that object, if it is asked for
-//! (`IsTracedBack`, `IsPath`), and it is told where objects may lie (`Places`): in size classes, as `judge` has it, or anywhere in a
-//! heap that begins at an address of its own (`HasRange`), where the line of a granted request also has the number of words of its
-//! object (`IsWrittenSized`, `IsReplayAnywhere`). Laws: a
-//! line is written of at most one event, reply and hint (`lines_have_one_reading`), with at most one number of words
-//! (`sized_lines_have_one_reading`), and of the lines of a run at most one verdict is true, wherever its objects lie
-//! (`runs_have_one_verdict`). `line_text` writes a line of a run whose objects lie in classes. `words_given` reads the words of
-//! `record` and `draw` (`AreGiven`), and `pages_given` and `places_given` words behind options of `replay`.
+//! (`IsTracedBack`, `IsPath`), and it is told where objects may lie (`Places`): in size classes, as `judge` has it, or anywhere in
+//! a heap that begins at a given address (`HasRange`), where the line of a granted request also has the number of words of its
+//! object (`IsWrittenSized`, `IsReplayAnywhere`). Laws: a line is written of at most one event, reply and hint
+//! (`lines_have_one_reading`), with at most one number of words (`sized_lines_have_one_reading`), and of the lines of a run at
+//! most one verdict is true, wherever its objects lie (`runs_have_one_verdict`). `line_text` writes a line of a run whose objects
+//! lie in classes. `words_given` reads the words of `record` and `draw` (`AreGiven`), and `pages_given`, `bytes_given`,
+//! `places_given` and `address_given` words behind options of `replay`.
 #![tactic(auto)]
 
 mod behind;

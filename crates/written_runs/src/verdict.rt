@@ -132,8 +132,8 @@ fn new_replayer(alloc: Global, pages: u32, places: Places) -> Result<Replayer, R
     }
 }
 
-/// Replays a written run on a heap of so many pages, whose objects may lie where `places` says, and says what is so of its lines;
-/// and, if `why`, which path leads to an object that has to stay.
+/// Replays a written run on a heap of so many pages, whose objects may lie where `places` says, and which begins there, and says
+/// what is so of its lines; and, if `why`, which path leads to an object that has to stay.
 ///
 /// # Errors
 /// [`RunError::Memory`] if memory was refused.
