@@ -8,5 +8,6 @@ pub mod Seen
 pub mod Spans
 pub mod Sweeping
 pub mod Taking
+pub mod Takings
 pub mod Walking
 pub mod Words

@@ -5,4 +5,5 @@ pub mod Objects
 pub mod Shown
 pub mod States
 pub mod Sweeps
+pub mod Takings
 pub mod Walks

@@ -30,6 +30,16 @@ pub struct Taken {
     pub was_last: bool,
 }
 
+/// Cells of a page that were taken.
+#[derive(Clone, Copy)]
+pub struct TakenCells {
+    /// How many.
+    pub count: usize,
+
+    /// Whether no cell of the page is free now.
+    pub is_full: bool,
+}
+
 /// A page on which a cell became free.
 #[derive(Clone, Copy)]
 pub struct Put {

@@ -1,6 +1,6 @@
 //! The map of a heap, seen as the list of what stands on its pages, and through `found_in` as a function from every
 //! word to the object that it points into.
-ghost use Rattle.std.specs.Prelude.{◌≡◌, ℕ, ◌+◌, ◌*◌, ◌<◌, ◌≤◌, true, false, length, map, slice_set, IfNone, IfSome, MatchBool};
+ghost use Rattle.std.specs.Prelude.{◌≡◌, ℕ, ◌+◌, ◌*◌, ◌<◌, ◌≤◌, true, false, length, map, slice_set, take, IfNone, IfSome, MatchBool};
 ghost use Rattle.words.specs.declared.limits.TheConstants.{MAX_PAGES, PAGE_GRANULES};
 ghost use Rattle.pages.specs.Opening.{IsOpened};
 ghost use Rattle.words.specs.Layout.{page_start};
@@ -9,12 +9,13 @@ ghost use Rattle.block_map.specs.FreeCells.{HasFree, IsFirstFree, IsFullOn, Tell
 ghost use Rattle.block_map.specs.Objects.{object_on, large_object};
 ghost use Rattle.block_map.specs.FoundIn.{found_in, IsLawful};
 ghost use Rattle.block_map.specs.Sweeps.{SweepsObjects, SweepsOn};
+ghost use Rattle.block_map.specs.Takings.{TakesCells};
 ghost use Rattle.block_map.specs.Changes.{IsSameMap, IsAdded, IsRemoved, IsCleared, IsUncut};
 
-use crate::found::{Put, Taken};
+use crate::found::{Put, Taken, TakenCells};
 use crate::page::Page;
 use crate::page_changes::{
-    fill_free, fill_large, free_pages, put_cell, put_page, sweep_cells, take_cell,
+    fill_free, fill_large, free_pages, put_cell, put_page, sweep_cells, take_cell, take_cells,
 };
 use blocks::Block;
 use pages::is_page_count;
@@ -146,6 +147,20 @@ impl BlockMap {
         ensures last { IfSome result (λ t. MatchBool t.was_last (IsFullOn (state_at self.new page)) (HasFree (state_at self.new page))) }
     {
         take_cell(&mut self.pages, page)
+    }
+
+    /// Takes the lowest free cells of a page that is cut, as many as there is room for, each for a new object, and writes them down in their
+    /// order. Fewer than there is room for only if every cell is allocated then.
+    pub fn take_many(&mut self, page: PageNo, cells: &mut [u16]) -> TakenCells
+        requires inside { page < length self.old }
+        requires cut { IsCut (state_at self.old page) }
+        ensures size { length cells.new ≡ length cells.old }
+        ensures few { result.count ≤ length cells.new }
+        ensures takes { TakesCells page self.old (take result.count cells.new) self.new }
+        ensures short { result.count < length cells.new → IsFullOn (state_at self.new page) }
+        ensures full { MatchBool result.is_full (IsFullOn (state_at self.new page)) (HasFree (state_at self.new page)) }
+    {
+        take_cells(&mut self.pages, page, cells)
     }
 
     /// Makes an allocated cell free. Answers what is left on the page.

@@ -1,5 +1,5 @@
 //! Pages that change their state, and cells that are taken and put back.
-ghost use Rattle.std.specs.Prelude.{◌≡◌, ◌+◌, ◌<◌, ◌≤◌, true, false, length, map, slice_set, vec_len, ◌*◌, IfNone, IfOk, IfSome, MatchBool};
+ghost use Rattle.std.specs.Prelude.{◌≡◌, ◌+◌, ◌<◌, ◌≤◌, true, false, length, map, slice_set, take, vec_len, ◌*◌, IfNone, IfOk, IfSome, MatchBool};
 ghost use Rattle.words.specs.declared.limits.TheConstants.{MAX_PAGES, PAGE_GRANULES};
 ghost use Rattle.words.specs.Bits.{IsFirstClearFrom, IsFullRow};
 ghost use Rattle.block_map.specs.States.{free, cut, state_at, large_states, with_cell, HasCell, IsCut, IsSpanSet, AreFreePages};
@@ -7,8 +7,9 @@ ghost use Rattle.block_map.specs.FreeCells.{HasFree, IsFirstFree, IsFullOn, Tell
 ghost use Rattle.block_map.specs.Objects.{cell_object, object_on};
 ghost use Rattle.block_map.specs.Shown.{shown};
 ghost use Rattle.block_map.specs.Sweeps.{SweepsOn};
+ghost use Rattle.block_map.specs.Takings.{FillsOn};
 
-use crate::found::{Put, Taken};
+use crate::found::{Put, Taken, TakenCells};
 use crate::look::cell_at;
 use crate::page::Page;
 use blocks::{Block, LargeHead};
@@ -104,6 +105,34 @@ fn take_on(what: &mut Page, page: PageNo) -> Option<Taken>
     }
 }
 
+// Takes the lowest free cells of a block, as many as there is room for.
+fn take_many_in(block: &mut Block, cells: &mut [u16]) -> TakenCells
+    ensures size { length cells.new ≡ length cells.old }
+    ensures few { result.count ≤ length cells.new }
+    ensures fills { FillsOn (cut block.old) (take result.count cells.new) (cut block.new) }
+    ensures short { result.count < length cells.new → IsFullOn (cut block.new) }
+    ensures full { MatchBool result.is_full (IsFullOn (cut block.new)) (HasFree (cut block.new)) }
+{
+    let count = block.take_many(cells);
+    let is_full = block.is_full();
+    TakenCells { count, is_full }
+}
+
+// Takes the lowest free cells of what stands on a page, which is cut.
+fn take_many_on(what: &mut Page, cells: &mut [u16]) -> TakenCells
+    requires { IsCut (shown what.old) }
+    ensures size { length cells.new ≡ length cells.old }
+    ensures few { result.count ≤ length cells.new }
+    ensures fills { FillsOn (shown what.old) (take result.count cells.new) (shown what.new) }
+    ensures short { result.count < length cells.new → IsFullOn (shown what.new) }
+    ensures full { MatchBool result.is_full (IsFullOn (shown what.new)) (HasFree (shown what.new)) }
+{
+    match what {
+        Page::Cut(block) => take_many_in(block, cells),
+        Page::Free | Page::Head(_) | Page::Body(_) => unreachable!(),
+    }
+}
+
 // Makes an allocated cell of a block free.
 fn put_in(block: &mut Block, cell: u16) -> Put
     requires { cell < length block.old.taken }
@@ -151,6 +180,22 @@ pub(crate) fn take_cell(pages: &mut Vec<Page>, page: PageNo) -> Option<Taken>
     ensures len { vec_len pages.new ≡ vec_len pages.old }
 {
     take_on(&mut pages[page as usize], page)
+}
+
+// Takes the lowest free cells of a page that is cut, as many as there is room for.
+#[tactic(auto, using(crate::proofs::Filling::put))]
+pub(crate) fn take_cells(pages: &mut Vec<Page>, page: PageNo, cells: &mut [u16]) -> TakenCells
+    requires page { page < vec_len pages.old }
+    requires cut { IsCut (state_at (map shown pages.old.items) page) }
+    ensures size { length cells.new ≡ length cells.old }
+    ensures few { result.count ≤ length cells.new }
+    ensures states { map shown pages.new.items ≡ slice_set (map shown pages.old.items) page (state_at (map shown pages.new.items) page) }
+    ensures fills { FillsOn (state_at (map shown pages.old.items) page) (take result.count cells.new) (state_at (map shown pages.new.items) page) }
+    ensures short { result.count < length cells.new → IsFullOn (state_at (map shown pages.new.items) page) }
+    ensures full { MatchBool result.is_full (IsFullOn (state_at (map shown pages.new.items) page)) (HasFree (state_at (map shown pages.new.items) page)) }
+    ensures len { vec_len pages.new ≡ vec_len pages.old }
+{
+    take_many_on(&mut pages[page as usize], cells)
 }
 
 // Makes an allocated cell free.

@@ -1,9 +1,9 @@
 //! A page that is cut into cells of one class. Contracts see the class, the kind, and the row of its cells, in which true is
 //! an allocated cell.
 ghost use Rattle.std.specs.Prelude.{◌≡◌, ◌+◌, ◌≤◌, ◌*◌, ◌/◌, ◌%◌, ◌<◌, ℕ, true, false};
-ghost use Rattle.std.specs.Prelude.{length, replicate, slice_index_or, slice_set, MatchOption, MatchBool, IfSome, IfNone};
+ghost use Rattle.std.specs.Prelude.{length, replicate, slice_index_or, slice_set, take, MatchOption, MatchBool, IfSome, IfNone};
 ghost use Rattle.words.specs.declared.limits.TheConstants.{PAGE_WORDS, PAGE_BYTES, PAGE_GRANULES, MAX_PAGES};
-ghost use Rattle.words.specs.Bits.{members, IsFullRow, IsEmptyFrom, IsFirstClearFrom, IsFirstFrom};
+ghost use Rattle.words.specs.Bits.{members, Fills, IsFullRow, IsEmptyFrom, IsFirstClearFrom, IsFirstFrom};
 ghost use Rattle.words.specs.Classes.{IsSizeClass};
 ghost use Rattle.blocks.specs.Cells.{IsCells, IsInCell, IsLeftOver};
 ghost use Rattle.blocks.specs.Sweeps.{SweepsCells};
@@ -130,6 +130,18 @@ impl Block {
         };
         self.taken.set(cell);
         Some(cell)
+    }
+
+    /// Allocates the lowest free cells, as many as there is room for, and writes them down in their order. Answers how many: fewer than there
+    /// is room for only if every cell is allocated then.
+    pub fn take_many(&mut self, cells: &mut [u16]) -> usize
+        ensures size { length cells.new ≡ length cells.old }
+        ensures few { result ≤ length cells.new }
+        ensures fills { Fills self.old.taken (take result cells.new) self.new.taken }
+        ensures full { result < length cells.new → IsFullRow self.new.taken }
+        ensures block { self.new ≡ record self.old { taken = self.new.taken } }
+    {
+        self.taken.fill(cells)
     }
 
     /// Makes a cell free.

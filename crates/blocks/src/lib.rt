@@ -5,8 +5,9 @@
 //! # What is proved
 //!
 //! Contracts see a block as its class, its kind and the row of its cells. `cell_of` is exact for every byte of the page.
-//! `take` gives the lowest free cell, and `None` exactly if every cell is taken; `put` makes a cell free; `sweep` makes those
-//! cells free that aren't marked, and no others (`SweepsCells`).
+//! `take` gives the lowest free cell, and `None` exactly if every cell is taken; `take_many` gives the lowest free cells in
+//! their order, as many as are asked for or else all (`Fills`); `put` makes a cell free; `sweep` makes those cells free that
+//! aren't marked, and no others (`SweepsCells`).
 #![tactic(auto)]
 
 mod block;

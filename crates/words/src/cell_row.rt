@@ -1,10 +1,10 @@
 //! A row of at most 256 bits that lies in the value itself, seen as the list of its bits.
-ghost use Rattle.std.specs.Prelude.{◌≡◌, ℕ, ◌<◌, ◌≤◌, Bool, true, false, List, length, replicate, slice_index_or, slice_set, MatchOption, MatchBool};
+ghost use Rattle.std.specs.Prelude.{◌≡◌, ℕ, ◌+◌, ◌*◌, ◌<◌, ◌≤◌, Bool, true, false, List, length, replicate, slice_index_or, slice_set, take, MatchOption, MatchBool};
 ghost use Rattle.words.specs.declared.limits.TheConstants.{PAGE_GRANULES};
-ghost use Rattle.words.specs.Bits.{bits, members, Has, IsEmptyFrom, IsFirstClearFrom, IsFirstFrom, IsFullRow};
+ghost use Rattle.words.specs.Bits.{bits, members, Fills, Has, HasNoClear, IsEmptyFrom, IsFirstClearFrom, IsFirstClearIn, IsFirstFrom, IsFullBelow, IsFullRow};
 
 use crate::count::ones_of;
-use crate::scan::first_from;
+use crate::scan::{first_from, first_in};
 use std::marker::Model;
 
 /// A row of at most 256 bits, each at first clear, which takes no memory of its own.
@@ -20,6 +20,23 @@ impl Model for CellRow {
     ghost view = { λ s. bits s.words s.len };
 
     ghost invariant = { λ s. s.len ≤ PAGE_GRANULES };
+}
+
+// The place of the lowest clear bit of the word `j` of a row of so many bits, and `None` if all that are the row's are set.
+#[inline]
+fn clear_in(word: u64, j: usize, len: u16) -> Option<u16>
+    requires word { j < 4 }
+    ensures { MatchOption result (HasNoClear word j len) (λ place. IsFirstClearIn word j len place) }
+{
+    let Some(bit) = first_in(word, false, 0) else {
+        return None;
+    };
+    let place = 64 * j + bit as usize;
+    if place < len as usize {
+        Some(place as u16)
+    } else {
+        None
+    }
 }
 
 #[tactic(auto, using(crate::proofs::Rows::rows))]
@@ -108,6 +125,46 @@ impl CellRow {
         } else {
             None
         }
+    }
+
+    /// Sets the lowest places that aren't members, as many as there is room for, and writes them down in their order. Answers how many: fewer
+    /// than there is room for only if every bit is set then.
+    pub fn fill(&mut self, places: &mut [u16]) -> usize
+        ensures size { length places.new ≡ length places.old }
+        ensures few { result ≤ length places.new }
+        ensures fills { Fills self.old (take result places.new) self.new }
+        ensures full { result < length places.new → IsFullRow self.new }
+    {
+        let mut count = 0;
+        for j in 0..4 {
+            count = self.fill_word(j, places, count);
+        }
+        count
+    }
+
+    // Sets the lowest clear bits of a word, below which each is set, and writes their places behind the first `count`.
+    #[inline]
+    fn fill_word(&mut self, j: usize, places: &mut [u16], count: usize) -> usize
+        requires word { j < 4 }
+        requires room { count ≤ length places.old }
+        requires below { count < length places.old → IsFullBelow self.old (64 * j) }
+        ensures size { length places.new ≡ length places.old }
+        ensures few { result ≤ length places.new }
+        ensures fills { (row : List Bool) → Fills row (take count places.old) self.old → Fills row (take result places.new) self.new }
+        ensures full { result < length places.new → IsFullBelow self.new (64 * j + 64) }
+        ensures small { length self.new ≤ PAGE_GRANULES }
+    {
+        let mut word = self.words[j];
+        for index in count..places.len() {
+            let Some(place) = clear_in(word, j, self.len) else {
+                self.words[j] = word;
+                return index;
+            };
+            word |= 1 << (place as usize % 64);
+            places[index] = place;
+        }
+        self.words[j] = word;
+        places.len()
     }
 
     /// Whether every bit is set.

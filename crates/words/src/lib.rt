@@ -5,7 +5,8 @@
 //!
 //! Contracts see a class as its words and a row as the list of its bits; the five of `laws` make a row a set. `class_of` is the
 //! table of size classes, exactly (`placement_of`); `next` and `next_clear` find the least place, and `None` exactly where there
-//! is none; `count` is the number of bits between two places (`members_between`).
+//! is none; `fill` sets many places, each the lowest clear one then (`Fills`); `count` is the number of bits between two places
+//! (`members_between`).
 #![tactic(auto)]
 
 mod bit_row;
