@@ -2,7 +2,7 @@
 use super::{Space, row_of, start_of};
 use crate::plain_map::Page;
 use crate::plain_marker::Marker;
-use crate::plain_row::ones;
+use crate::plain_row::{next, ones};
 
 impl Space {
     // Sweeps a page. One that keeps no object is free at once, and none of its cells is looked at where it has no mark.
@@ -68,7 +68,13 @@ impl Space {
     /// many.
     pub fn finish(&mut self, marker: &mut Marker, roots: &[u64]) -> u64 {
         marker.mark(&self.map, &self.words, roots);
-        (0..self.map.len()).map(|page| u64::from(self.forget_on(marker, page))).sum()
+        let mut gone = 0;
+        let mut low = 0;
+        while let Some(page) = next(&self.free, low, false).filter(|page| *page < self.map.len()) {
+            gone += u64::from(self.forget_on(marker, page));
+            low = page + 1;
+        }
+        gone
     }
 
     /// The same, but all that is forgotten is swept now.

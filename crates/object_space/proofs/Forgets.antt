@@ -1,5 +1,5 @@
 -- What is forgotten, page by page.
-use Rattle.std.proofs.Common.{inl, inr, ◌≡◌, ℕ, suc, ◌-◌, ◌+◌, ◌*◌, ◌<◌, ◌≤◌, ◌⊎◌, Bool, true, false, List, [], ◌++◌, ◌∷◌, length, set, get_or, get_or-set_same, get_or-set_other, Contains, Some, None, refl, sym, ap, ◌∙◌, subst, ⊎_elim, arith, length-append, append_assoc, append-nil, nat_eq}
+use Rattle.std.proofs.Common.{inl, inr, ◌≡◌, ℕ, zero, suc, ◌-◌, ◌+◌, ◌*◌, ◌<◌, ◌≤◌, ◌⊎◌, Bool, true, false, List, [], ◌++◌, ◌∷◌, length, set, get_or, get_or-set_same, get_or-set_other, Contains, Some, None, refl, sym, ap, ◌∙◌, subst, ⊎_elim, arith, length-append, append_assoc, append-nil, nat_eq}
 use Rattle.std.specs.Prelude.{All}
 use Rattle.std.specs.List.{IsDistinct}
 use Rattle.std.proofs.lemmas.Bool.{cases_lt, cases_eq, false≢true, eq-eqb}
@@ -20,7 +20,7 @@ use Rattle.block_map.specs.FoundIn.{found_in, found_large, IsLawful}
 use Rattle.block_map.specs.Objects.{IsObjectOn, IsMap, IsInside, large_object}
 use Rattle.block_map.specs.States.{PageState, free, cut, head, body, state_at, IsCut, LaidAt, IsLaid}
 use Rattle.marker.specs.Mutations.{KeepsWords}
-use Rattle.object_space.specs.Store.{Store, IsSwept, IsPendingRow}
+use Rattle.object_space.specs.Store.{Store, Agree, IsSwept, IsPendingRow}
 use Rattle.object_space.specs.Sweeps.{Loses, ForgetsLazily}
 use Rattle.object_space.specs.Kept.{kept_in}
 use Rattle.object_space.specs.Forgets.{IsUnmarkedOn, AreUnmarkedOn, nothing, unswept, gone, ForgetsBases, ForgetsOn}
@@ -331,3 +331,25 @@ forgotten_all old marks n now lawful row h = record {
     marked : (f : Found) → found_in old.states f.base ≡ Some f → (Contains h.bases f.base → ⊥) → (b : Bool) → get_or marks (granule f.base) false ≡ b → Has marks (granule f.base)
     marked f there stays true e = e
     marked f there stays false e = absurd (stays (h.all f there (below f.base f there) (λ k. false≢true (sym e ∙ k))))
+
+-- ---- free pages have nothing to forget
+pub free_has_nothing : (t : Store) (marks : List Bool) (page : ℕ) → IsLawful t.states → state_at t.states page ≡ free → ForgetsOn t marks page 0 t
+free_has_nothing t marks page lawful is = no_large t marks page lawful (λ c. subst IsCut is c) (ap (found_large page) (sym is))
+
+pub forgotten_over : (old : Store) (marks : List Bool) (page n : ℕ) (mid : Store) → IsMap (length old.states) (found_in old.states) → IsLawful mid.states → HasForgotten old marks page n mid → (k : ℕ)
+    → ((p : ℕ) → page ≤ p → p < page + k → state_at mid.states p ≡ free) → HasForgotten old marks (page + k) n mid
+forgotten_over old marks page n mid before lawful h zero free_there = subst (λ p. HasForgotten old marks p n mid) (omega arith) h
+forgotten_over old marks page n mid before lawful h (suc k) free_there =
+    let so_far = forgotten_over old marks page n mid before lawful h k (λ p a b. free_there p a (omega arith)) in
+    subst (λ c. HasForgotten old marks (page + suc k) c mid) (omega arith)
+    (subst (λ p. HasForgotten old marks p (n + 0) mid) (omega arith)
+    (forgotten_more old marks (page + k) n mid before lawful.map so_far 0 mid (free_has_nothing mid marks (page + k) lawful (free_there (page + k) (omega arith) (omega arith)))))
+
+-- up to a page that is further on, where those between are free
+pub forgotten_to : (old : Store) (marks : List Bool) (page n : ℕ) (mid : Store) → IsMap (length old.states) (found_in old.states) → IsLawful mid.states → Agree mid.free mid.states → HasForgotten old marks page n mid
+    → (to : ℕ) → page ≤ to → ((p : ℕ) → page ≤ p → p < to → Has mid.free p) → HasForgotten old marks to n mid
+forgotten_to old marks page n mid before lawful agree h to le free_there =
+    let k : ℕ = to - page in
+    let same : page + k ≡ to = omega arith in
+    subst (λ p. HasForgotten old marks p n mid) same
+    (forgotten_over old marks page n mid before lawful h k (λ p a b. agree.free_in_map p (free_there p a (omega arith))))

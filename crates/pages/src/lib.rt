@@ -5,7 +5,7 @@
 //!
 //! Contracts see the heap's words as a list; the reader counts its reads at no cost. `read`, `write` and `zero` say exactly
 //! which words change; `read_run` counts so many words in a row and gives each of them once, singly or by four (`Words`).
-//! `take_run` gives n consecutive free pages, and `None` exactly where there are none.
+//! `take_run` gives n consecutive free pages, and `None` exactly where there are none; `next_taken` finds those in use.
 #![tactic(auto)]
 
 mod count;

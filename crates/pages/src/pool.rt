@@ -1,7 +1,7 @@
 //! The pool of free pages, seen as the row of its pages: true is a free page.
 ghost use Rattle.std.specs.Prelude.{◌≡◌, ◌+◌, ◌%◌, ◌<◌, ◌≤◌, Bool, true, false, List, length, slice_index_or, MatchOption, IfSome, IfNone};
 ghost use Rattle.words.specs.declared.limits.TheConstants.{MAX_PAGES};
-ghost use Rattle.words.specs.Bits.{members};
+ghost use Rattle.words.specs.Bits.{members, IsFirstClearFrom, IsFullFrom};
 ghost use Rattle.pages.specs.Opening.{IsOpened};
 ghost use Rattle.pages.specs.Runs.{IsFirstFreeRun, HasNoFreeRun, IsFilled, IsMask, IsRunEnd, AreAllFree};
 
@@ -135,6 +135,16 @@ impl PagePool {
         ensures { result ≡ members self.now }
     {
         self.free.count(0, self.free.len())
+    }
+
+    /// The lowest page from a page on that isn't free, found by whole words.
+    pub fn next_taken(&self, low: PageNo) -> Option<PageNo>
+        ensures { MatchOption result (IsFullFrom self.now low) (λ page. IsFirstClearFrom self.now low page) }
+    {
+        let Some(page) = self.free.next_clear(low as usize) else {
+            return None;
+        };
+        Some(page as u32)
     }
 
     /// Takes n consecutive pages, the lowest that are free, and answers the first of them. `None` exactly where there

@@ -62,7 +62,7 @@ impl ObjectSpace {
     }
 
     // Forgets the objects that aren't marked, and answers how many: the large ones now, and the others when their pages are
-    // swept.
+    // swept. Free pages are passed over by whole words.
     fn forget_lazily(&mut self, marker: &Marker) -> u64
         requires pages { length marker.now.dirty ≡ length self.old.states }
         requires swept { IsSwept self.old }
@@ -71,8 +71,10 @@ impl ObjectSpace {
     {
         self.laws();
         let mut count = 0;
-        for page in 0..self.map.len() {
+        let mut low = 0;
+        while let Some(page) = self.pool.next_taken(low) {
             count += u64::from(self.forget_on(marker, page));
+            low = page + 1;
         }
         self.laws();
         count
