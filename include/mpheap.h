@@ -142,7 +142,8 @@ uint32_t mpheap_alloc_pointer_free_base(mpheap *heap, uint8_t slot, uint8_t into
 
 /* As mpheap_alloc, up to `most` times in this call: bases[0], bases[1], .. become the bases, and *count how many came. The status is that
  * of the last of these allocations: 0 if all were done, and else BAD_SIZE or FULL behind *count that were, of which the bases are
- * written. Each is an allocation of its own: register `into` has the last base alone, so nothing keeps the others from a collection. */
+ * written; the others stay as they were. Each is an allocation of its own: register `into` has the last base alone, so nothing keeps
+ * the objects before it from a collection. */
 uint32_t mpheap_alloc_many(mpheap *heap, uint8_t slot, uint8_t into, uint64_t words, uint64_t *bases, size_t most, uint64_t *count);
 
 /* The same of objects whose words the collector never reads. */

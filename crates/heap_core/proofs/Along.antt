@@ -1,14 +1,12 @@
 -- What leaves takes its links along: of the heap, and of the core.
-use Rattle.std.proofs.Common.{inl, inr, ⊎_elim, ◌⊎◌, ◌≡◌, ℕ, ◌+◌, ◌-◌, ◌*◌, ◌/◌, ◌%◌, ◌<◌, ◌≤◌, Bool, true, false, cond, eqb, length, get_or, List, Some, None, refl, sym, ap, ◌∙◌, subst, arith}
+use Rattle.std.proofs.Common.{inl, inr, ⊎_elim, ◌⊎◌, ◌≡◌, ℕ, ◌+◌, ◌*◌, ◌%◌, ◌<◌, ◌≤◌, Bool, true, false, cond, length, List, Some, None, refl, sym, ap, ◌∙◌, subst, arith}
 use Rattle.std.specs.Prelude.{Option, Contains, ◌==◌, ◌&&◌, ◌||◌, ◌≢◌, not, filter, option_map, slice_index, slice_set, is_some}
 use Rattle.std.proofs.lemmas.List.{length-set}
-use Rattle.std.specs.List.{list_any}
 use Rattle.std.proofs.lemmas.Bool.{true≢false, eq-eqb, ne_eqb, eqb-true, leb-true, ltb-true, cases_eq}
-use Rattle.std.proofs.lemmas.Option.{same_Some, none-some}
+use Rattle.std.proofs.lemmas.Option.{same_Some}
 use Rattle.std.proofs.lemmas.List.Folds.{Any-from_list_any}
-use Rattle.words.specs.declared.limits.TheConstants.{FIRST_ADDRESS}
 use Rattle.heap_spec.specs.Layout.{PointsInto}
-use Rattle.heap_spec.specs.Heap.{Heap, Object, Link as HeapLink, IsSameObject, with_at, HasObject, PointsIntoObject, without, without_at, names, lies_in, loses_word, is_born, covers, cleared, with_cleared}
+use Rattle.heap_spec.specs.Heap.{Heap, Object, Link as HeapLink, IsSameObject, with_at, HasObject, PointsIntoObject, without, without_at, names, lies_in, loses_word, is_born, covers, with_cleared}
 use Rattle.heap_spec.specs.Sound.{HaveDistinctBirths}
 use Rattle.heap_spec.proofs.Objects.{without_some, without_other, with_at-same, with_at-other}
 use Rattle.heap_spec.proofs.Links.{left_by, stays_by, names_yes, lies_yes, neither, length-cleared, cleared_at}
@@ -18,7 +16,7 @@ use Rattle.block_map.specs.declared.found.Found.{Found}
 use Rattle.links.specs.declared.row.Link.{Link}
 use Rattle.links.specs.Named.{IsNamed, AreNamed}
 use Rattle.links.proofs.Named.{named_any, named_filter}
-use Rattle.heap_view.specs.Shows.{Shows, ShowsObjects, IsShown}
+use Rattle.heap_view.specs.Shows.{Shows, ShowsObjects}
 use Rattle.block_map.specs.FoundIn.{found_in}
 use Rattle.marker.specs.Marking.{Marking, word_address}
 use Rattle.marker.specs.Invariant.{IsTargetMarked, IsSettled}

@@ -1,10 +1,9 @@
 -- Where an object was born in a step, there was none.
-use Rattle.std.proofs.Common.{◌≡◌, ℕ, zero, suc, ◌+◌, ◌*◌, ◌/◌, ◌<◌, ◌≤◌, [], ◌∷◌, length, Some, None, sym, ap, ◌∙◌, ⊎_elim, arith}
+use Rattle.std.proofs.Common.{◌≡◌, ℕ, zero, suc, ◌+◌, ◌*◌, ◌<◌, ◌≤◌, [], ◌∷◌, length, sym, ap, ◌∙◌, ⊎_elim, arith}
 use Rattle.std.proofs.lemmas.Option.{same_Some, none-some}
 use Rattle.words.specs.declared.class.Kind.{Kind}
 use Rattle.words.specs.declared.class.Placement.{Placement}
 use Rattle.words.specs.declared.class.Placement.TheVariants.{Small, Large}
-use Rattle.words.specs.Placing.{placement_of}
 use Rattle.heap_spec.specs.Layout.{LiesOn}
 use Rattle.heap_spec.specs.declared.call.Call.{Call}
 use Rattle.heap_spec.specs.declared.event.Event.{Event}

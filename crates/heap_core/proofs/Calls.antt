@@ -11,7 +11,6 @@ use Rattle.heap_spec.specs.declared.reply.Reply.TheVariants.{Refused, Done}
 use Rattle.heap_spec.specs.Heap.{Heap, Object, HasObject, Mutator as HeapMutator}
 use Rattle.heap_spec.proofs.Objects.{with_at-other}
 use Rattle.links.proofs.Named.{named_kept}
-use Rattle.links.specs.Named.{AreNamed}
 use Rattle.std.specs.Prelude.{filter, slice_index}
 use Rattle.object_space.specs.Along.{TakesAlong, stays, clears}
 use Rattle.heap_core.proofs.Along.{less, beside_is, reads_one, shows_along, named_along}

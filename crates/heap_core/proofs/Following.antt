@@ -2,7 +2,7 @@
 use Rattle.std.proofs.Common.{Result, Ok, Err, ◌++◌, ◌≡◌, ℕ, ◌+◌, ◌%◌, ◌<◌, ◌≤◌, ◌⊎◌, true, false, List, length, [], ◌∷◌, Bool, Some, None, refl, sym, ap, ◌∙◌, subst, inl, inr, ⊎_elim, arith}
 use Rattle.std.specs.Prelude.{⊤}
 use Rattle.words.specs.declared.refusal.Refusal.{Refusal}
-use Rattle.words.specs.declared.refusal.Refusal.TheVariants.{WrongPhase, NeedsFull}
+use Rattle.words.specs.declared.refusal.Refusal.TheVariants.{WrongPhase}
 use Rattle.words.specs.Layout.{granule}
 use Rattle.heap_spec.specs.Replies.{done_reply, count_reply}
 use Rattle.roots.specs.Roots.{root_words_of}
@@ -10,14 +10,14 @@ use Rattle.std.proofs.lemmas.Bool.{false≢true}
 use Rattle.heap_spec.specs.declared.event.Event.{Event}
 use Rattle.heap_spec.specs.declared.event.Event.TheVariants.{Attach, Mutator, Begin, BeginPartial, Roots, Mark, Retrace, Finish, Sweep, Collect, Number}
 use Rattle.heap_spec.specs.declared.reply.Reply.{Reply}
-use Rattle.heap_spec.specs.declared.reply.Reply.TheVariants.{Slot as SlotReply, Done, Word, Count, Refused}
+use Rattle.heap_spec.specs.declared.reply.Reply.TheVariants.{Done, Count, Refused}
 use Rattle.heap_spec.specs.Layout.{word_end}
 use Rattle.heap_spec.specs.Heap.{Heap, Object, Mutator as HeapMutator, HasObject}
 use Rattle.heap_spec.specs.Closure.{Closure, IsInClosure, given}
 use Rattle.heap_spec.specs.Histories.{Happens}
 use Rattle.heap_spec.specs.Steps.{Step, Acts, Calls, Attaches}
 use Rattle.heap_spec.specs.declared.call.Call.{Call}
-use Rattle.heap_spec.specs.declared.call.Call.TheVariants.{Detach, Set, Copy, Add, Sub, Get, Push, Pop, Load, Store, Alloc, Free, Base, Size, GlobalGet, GlobalPut}
+use Rattle.heap_spec.specs.declared.call.Call.TheVariants.{Free}
 use Rattle.words.specs.Bits.{Has}
 use Rattle.heap_core.specs.MutatorCalls.{Frees}
 use Rattle.heap_spec.specs.Runs.{Start, Run, Told, heap_after, is_marking, marking_after, count, counted, needs_full, needs_full_after, old_births, old_births_after, goes_on, Touched, touched_after, IsBornSince}

@@ -1,5 +1,5 @@
 -- Sound heaps that cores stand for, and a held word in them.
-use Rattle.std.proofs.Common.{Result, Ok, Err, ◌≡◌, ◌≢◌, ℕ, ◌+◌, ◌*◌, ◌<◌, ◌%◌, ◌⊎◌, inl, inr, Bool, List, length, Some, None, refl, sym, ap, ◌∙◌, subst, arith, ⊎_elim, get_or-set_same}
+use Rattle.std.proofs.Common.{Result, Ok, Err, ◌≡◌, ◌≢◌, ℕ, ◌<◌, ◌%◌, ◌⊎◌, inl, inr, Bool, List, length, Some, None, refl, sym, ap, ◌∙◌, subst, arith, ⊎_elim, get_or-set_same}
 use Rattle.std.specs.Prelude.{slice_get, slice_index, slice_set}
 use Rattle.std.proofs.lemmas.Bool.{cases_eq}
 use Rattle.std.proofs.lemmas.Option.{none-some, slice_get_within}
@@ -18,7 +18,7 @@ use Rattle.heap_spec.specs.declared.event.Event.TheVariants.{Attach, Mutator, Be
 use Rattle.heap_spec.specs.declared.reply.Reply.{Reply}
 use Rattle.heap_spec.specs.declared.reply.Reply.TheVariants.{Done, Word, Refused}
 use Rattle.heap_spec.specs.Cycles.{TakesOut}
-use Rattle.heap_spec.specs.Heap.{Heap, Object, Mutator as HeapMutator, HasObject, IsAttached}
+use Rattle.heap_spec.specs.Heap.{Heap, Mutator as HeapMutator, HasObject, IsAttached}
 use Rattle.heap_spec.specs.Layout.{index_in}
 use Rattle.heap_spec.specs.Ranges.{CallInRange}
 use Rattle.heap_spec.specs.Sound.{IsSound}
@@ -26,7 +26,7 @@ use Rattle.heap_spec.specs.Steps.{Acts, Attaches, Calls, attached, no_slot, acts
 use Rattle.heap_spec.proofs.Calls.{attached_is, calls_kept, attaches_kept, takes_out_kept, opening_is}
 use Rattle.heap_spec.proofs.Loads.{same_mutator}
 use Rattle.heap_spec.proofs.Objects.{object_lies}
-use Rattle.heap_history.specs.Laws.{LeavesRegister, LeavesWordsCall}
+use Rattle.heap_history.specs.Laws.{LeavesRegister}
 use Rattle.heap_history.proofs.Slots.{slice_get-set_same, slice_get-set_other, not_both, calls_leave as slots_left}
 use Rattle.heap_history.proofs.Stored.{set_is}
 use Rattle.heap_history.proofs.Held.{held_reached}

@@ -16,7 +16,7 @@ use Rattle.object_space.specs.Kept.{is_kept}
 use Rattle.object_space.specs.Store.{Store}
 use Rattle.object_space.specs.Stores.{Stores}
 use Rattle.heap_core.specs.MutatorCalls.{IsCall, ReachesPages}
-use Rattle.heap_core.specs.Collections.{BeginsCycle, BeginsPartialCycle, MarksOn, SweepsOne, EndsCycle, CollectsAll}
+use Rattle.heap_core.specs.Collections.{BeginsCycle, BeginsPartialCycle, MarksOn, EndsCycle, CollectsAll}
 use Rattle.heap_core.specs.CoreContents.{CoreContents, Cycle, IsTraced}
 use Rattle.heap_core.specs.DirectWrites.{StoresWord, StoresWords}
 use Rattle.heap_core.specs.Legal.{IsLegalCore}

@@ -18,3 +18,4 @@ pub mod DirectLines
 pub mod DirectTold
 pub mod Held
 pub mod Legal
+pub mod Many

@@ -1,5 +1,5 @@
 -- The calls on links.
-use Rattle.std.proofs.Common.{inl, inr, ⊎_elim, ◌≡◌, ◌≢◌, ℕ, ◌%◌, ◌<◌, ◌≤◌, Bool, true, false, List, length, cond, Some, None, refl, sym, ap, ◌∙◌, subst, arith}
+use Rattle.std.proofs.Common.{inl, inr, ◌≡◌, ℕ, ◌%◌, ◌<◌, Bool, false, List, length, Some, refl, sym, ap, ◌∙◌, subst, arith}
 use Rattle.std.specs.Prelude.{if◌then◌else◌}
 use Rattle.words.specs.declared.limits.TheConstants.{MAX_LINKS}
 use Rattle.words.specs.declared.class.Kind.TheVariants.{PointerFree}
@@ -8,7 +8,7 @@ use Rattle.heap_spec.specs.declared.call.Call.TheVariants.{Link as LinkCall, Unl
 use Rattle.heap_spec.specs.declared.event.Event.TheVariants.{Mutator}
 use Rattle.heap_spec.specs.declared.reply.Reply.TheVariants.{Done, Count, Refused}
 use Rattle.heap_spec.specs.Heap.{Heap, Mutator as HeapMutator}
-use Rattle.heap_spec.specs.Steps.{Acts, Calls, address, register, with_link, without_link, has_link, HasLinkRoom}
+use Rattle.heap_spec.specs.Steps.{Acts, Calls, address, register, with_link, without_link, HasLinkRoom}
 use Rattle.block_map.specs.FoundIn.{found_in, IsLawful}
 use Rattle.block_map.specs.declared.found.Found.{Found}
 use Rattle.links.specs.declared.row.Link.{Link}
@@ -20,7 +20,6 @@ use Rattle.object_space.specs.Store.{Store}
 use Rattle.object_space.specs.Kept.{restrict, is_kept}
 use Rattle.heap_core.specs.CoreContents.{Cycle}
 use Rattle.heap_core.specs.MutatorCalls.{IsCall}
-use Rattle.heap_core.specs.Standing.{StandsFor}
 use Rattle.heap_core.proofs.Lookups.{finds}
 use Rattle.heap_core.proofs.Roots.{core_of, attached, quiet, links_change}
 

@@ -14,3 +14,4 @@ pub mod Held
 pub mod Legal
 pub mod DirectWrites
 pub mod Granted
+pub mod Many

@@ -16,6 +16,7 @@ mod events;
 mod kept;
 mod linked;
 mod looking;
+mod many;
 mod objects;
 mod partial;
 mod registers;

@@ -9,7 +9,8 @@
 //! `close_with` and `sweep` leave that heap as it is, and each says what it does to marks and pages; after `close_with` the
 //! marks are the closure of the marks before, with no page dirty and no entry left (`ClosesMarks`). `finish` forgets exactly the
 //! objects outside of the closure of the marks (`EndsCycle`), `collect` exactly those that aren't reached (`CollectsAll`); no page
-//! becomes carried by either but one on which a stray word stands (`HasStray`).
+//! becomes carried by either but one on which a stray word stands (`HasStray`). `alloc_many` makes requests of one size one after the
+//! other, each a call of its own (`AreWritten`); where a page is ready for them its cells are taken together.
 //! WrongPhase is answered exactly in the wrong phase (`IsGrantedInPhase`), NeedsFull by `begin_partial` exactly where a full cycle
 //! is needed and none is marking (`IsGrantedPartial`), and a refused call changes nothing of the sequential heap (a Full leaves no
 //! page pending). `act` makes the call that an event is, and `run` a list of them (`IsAct`, `AreActs`): the replies continue a

@@ -1,38 +1,13 @@
-//! Many objects by one call: what stands before each request is done once for all of them.
+//! Many objects by one call.
 ghost use Rattle.std.specs.Prelude.{◌≡◌, ◌<◌};
 ghost use Rattle.words.specs.declared.limits.TheConstants.{SLOTS, REGISTERS};
 ghost use Rattle.mpheap_c.specs.Handle.{IsOpen};
 ghost use Rattle.mpheap_c.specs.Crossing.{IsAnswered};
-ghost use Rattle.mpheap_c.specs.Many.{AreWritten, IsManyCall};
+ghost use Rattle.mpheap_c.specs.Many.{IsManyCall};
 
 use crate::handle::Heap;
 use crate::status::{BAD_NUMBER, done};
-use heap_core::Core;
-use words::{Kind, Refusal, Reg, Slot};
-
-// Makes a request as many times as there is room for bases, or until it is refused.
-#[inline(always)]
-fn alloc_each(
-    core: &mut Core,
-    slot: Slot,
-    into: Reg,
-    words: u64,
-    kind: Kind,
-    bases: &mut [u64],
-    count: &mut u64,
-) -> Result<(), Refusal>
-    ensures { AreWritten slot into words kind core.old bases.old bases.new count.new result core.new }
-{
-    *count = 0;
-    for index in 0..bases.len() {
-        match core.alloc_base(slot, into, words, kind) {
-            Ok(base) => bases[index] = base,
-            Err(refusal) => return Err(refusal),
-        }
-        *count += 1;
-    }
-    Ok(())
-}
+use words::{Kind, Reg, Slot};
 
 /// Allocates objects of at least so many words, all 0, one after the other, as many as there is room for bases, and puts the base of
 /// the last one into `into`.
@@ -52,7 +27,10 @@ pub extern "C" fn mpheap_alloc_many(
     let (Some(slot), Some(into)) = (Slot::new(slot), Reg::new(into)) else {
         return BAD_NUMBER;
     };
-    done(alloc_each(heap.core(), slot, into, words, Kind::Normal, bases, count))
+    done(
+        heap.core()
+            .alloc_many(slot, into, words, Kind::Normal, bases, count),
+    )
 }
 
 /// The same of objects whose words the collector never reads.
@@ -72,13 +50,8 @@ pub extern "C" fn mpheap_alloc_pointer_free_many(
     let (Some(slot), Some(into)) = (Slot::new(slot), Reg::new(into)) else {
         return BAD_NUMBER;
     };
-    done(alloc_each(
-        heap.core(),
-        slot,
-        into,
-        words,
-        Kind::PointerFree,
-        bases,
-        count,
-    ))
+    done(
+        heap.core()
+            .alloc_many(slot, into, words, Kind::PointerFree, bases, count),
+    )
 }

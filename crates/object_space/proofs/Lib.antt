@@ -24,3 +24,4 @@ pub mod FreePages
 pub mod SweptCells
 pub mod Putting
 pub mod Along
+pub mod Many

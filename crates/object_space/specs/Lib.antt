@@ -7,3 +7,4 @@ pub mod Rooms
 pub mod Sweeps
 pub mod Forgets
 pub mod Along
+pub mod Many

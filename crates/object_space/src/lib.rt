@@ -22,13 +22,14 @@
 //!
 //! Memory, pool and map lie in `ObjectSpace` alone, and no other crate changes them: a caller names words, placements and roots. Marks
 //! are the marker's, which is lent to each call that looks at them. `cut_page` and `take_cell` (`taking.rt`) take free pages and
-//! cells, `release` and `free_page` give one back, a sweep those of a page. Links are lent too: `take_along` makes words 0 where the
-//! object of a link has left.
+//! cells, `take_cells` (`taking_many.rt`) many cells of a page, `release` and `free_page` give one back, a sweep those of a page. Links
+//! are lent too: `take_along` makes words 0 where the object of a link has left.
 //!
 //! # What is proved
 //!
 //! `find` answers the kept object that a word points into, for every `u64`. `allocate` may sweep, gives an address that has room, and
-//! `None` exactly if none has, and then nothing is pending (`Allocates`, `FindsNoRoom`). `release` takes the object that it is given
+//! `None` exactly if none has, and then nothing is pending (`Allocates`, `FindsNoRoom`). `allocate_many` takes cells of one page that is
+//! ready, as one allocation after the other would (`AllocatesEach`). `release` takes the object that it is given
 //! (`Loses`), and `sweep` and `sweep_all` none that is kept (`Sweeps`); `close_with` closes the marks with helpers; `finish` and
 //! `collect` forget exactly what the marks and the roots don't reach, say how many (`ForgetsUnreached`), leave no dirty page and no
 //! entry, and make only pages carried on which a stray word stands (`Traces`); after `finish` each small object still has its cell

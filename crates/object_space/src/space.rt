@@ -15,6 +15,7 @@ ghost use Rattle.object_space.specs.Kept.{kept_in};
 ghost use Rattle.object_space.specs.Stores.{Stores};
 
 mod allocate;
+mod allocate_many;
 mod along;
 mod available_pages;
 mod close;
@@ -26,6 +27,7 @@ mod mark;
 mod page_row;
 mod sweep;
 mod taking;
+mod taking_many;
 
 use self::available_pages::AvailablePages;
 use self::page_row::PageRow;

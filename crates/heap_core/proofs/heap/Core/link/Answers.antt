@@ -1,4 +1,4 @@
-use Rattle.std.proofs.Common.{refl, sym, ◌∙◌}
+use Rattle.std.proofs.Common.{sym, ◌∙◌}
 use Rattle.heap_spec.specs.declared.call.Call.TheVariants.{Link}
 use Rattle.heap_spec.specs.declared.reply.Reply.TheVariants.{Done}
 use Rattle.heap_spec.specs.Steps.{Acts}

@@ -1,4 +1,4 @@
-use Rattle.std.proofs.Common.{refl, sym, ap, ◌∙◌}
+use Rattle.std.proofs.Common.{sym, ap, ◌∙◌}
 use Rattle.heap_spec.specs.declared.call.Call.TheVariants.{Unlink}
 use Rattle.roots.proofs.Refusals.{handed_on}
 use Rattle.heap_core.proofs.Roots.{refused_vacant}

@@ -1,0 +1,57 @@
+//! Where many new objects of a class and kind go in one call: into cells of one page that is cut for them.
+ghost use Rattle.std.specs.Prelude.{◌≡◌, ℕ, ◌<◌, ◌≤◌, Bool, List, length, slice_index_or, take};
+ghost use Rattle.object_space.specs.Many.{AllocatesEach, HasNoneReady};
+
+use super::ObjectSpace;
+use super::taking_many::{take_cells, write_bases};
+use words::{Class, Kind, PageNo, Placement};
+
+// So many cells at most are taken in one call.
+const MOST_CELLS: usize = 32;
+
+impl ObjectSpace {
+    // Takes cells of the lowest page that has a free one for the class and the kind and needs no sweep.
+    fn take_many(&mut self, class: Class, kind: Kind, bases: &mut [u64]) -> usize
+        ensures size { length bases.new ≡ length bases.old }
+        ensures few { result ≤ length bases.new }
+        ensures none { 0 < length bases.new → result ≡ 0 → HasNoneReady self.old (Placement.Small class) kind }
+        ensures allocates { (marks : List Bool) → AllocatesEach marks (Placement.Small class) kind self.old (take result bases.new) self.new }
+        ensures rest { (k : ℕ) → result ≤ k → slice_index_or bases.new k 0 ≡ slice_index_or bases.old k 0 }
+    {
+        self.map.laws();
+        let Some(page) = self.ready.first(class, kind) else {
+            return 0;
+        };
+        let page = page as PageNo;
+        let mut row = [0u16; MOST_CELLS];
+        let cells = &mut row[..bases.len().min(MOST_CELLS)];
+        let count = take_cells(
+            &mut self.map,
+            &mut self.ready,
+            &self.pending,
+            page,
+            class,
+            kind,
+            cells,
+        );
+        write_bases(&mut self.memory, page, class, &cells[..count], bases);
+        count
+    }
+
+    /// Takes places for new objects in the lowest page that has a free cell for them and needs no sweep, as many as that page
+    /// and the room for bases have, but at most 32. It writes 0 into their words, and their bases down in the order in
+    /// which they came, and answers how many. Where there is room for a base it takes none only if no such page is
+    /// ready, or if each is to have pages of its own, and then nothing has changed.
+    pub fn allocate_many(&mut self, placement: &Placement, kind: Kind, bases: &mut [u64]) -> usize
+        ensures size { length bases.new ≡ length bases.old }
+        ensures few { result ≤ length bases.new }
+        ensures none { 0 < length bases.new → result ≡ 0 → HasNoneReady self.old placement.now kind }
+        ensures allocates { (marks : List Bool) → AllocatesEach marks placement.now kind self.old (take result bases.new) self.new }
+        ensures rest { (k : ℕ) → result ≤ k → slice_index_or bases.new k 0 ≡ slice_index_or bases.old k 0 }
+    {
+        match placement {
+            Placement::Small(class) => self.take_many(*class, kind, bases),
+            Placement::Large(_) => 0,
+        }
+    }
+}
