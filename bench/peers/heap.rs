@@ -14,6 +14,13 @@ pub trait Heap {
     /// The base of a new object of at least so many words, which the root then is; 0 where there is no room.
     fn alloc(&mut self, root: usize, words: u64, pointer_free: bool) -> u64;
 
+    /// The bases of as many new objects, of which the root then is the last. There is room for them.
+    fn alloc_many(&mut self, root: usize, words: u64, bases: &mut [u64]) {
+        for base in bases {
+            *base = self.alloc(root, words, false);
+        }
+    }
+
     fn set_root(&mut self, root: usize, word: u64);
 
     /// Writes a word of an object.

@@ -15,6 +15,7 @@ unsafe extern "C" {
     fn mpheap_set(heap: *mut Handle, slot: u8, into: u8, number: u64) -> u32;
     fn mpheap_alloc_base(heap: *mut Handle, slot: u8, into: u8, words: u64, base: *mut u64) -> u32;
     fn mpheap_alloc_pointer_free_base(heap: *mut Handle, slot: u8, into: u8, words: u64, base: *mut u64) -> u32;
+    fn mpheap_alloc_many(heap: *mut Handle, slot: u8, into: u8, words: u64, bases: *mut u64, most: usize, count: *mut u64) -> u32;
     fn mpheap_collect(heap: *mut Handle, count: *mut u64) -> u32;
     fn mpheap_begin(heap: *mut Handle) -> u32;
     fn mpheap_begin_partial(heap: *mut Handle) -> u32;
@@ -56,6 +57,11 @@ impl Heap for Proved {
         let call = if pointer_free { mpheap_alloc_pointer_free_base } else { mpheap_alloc_base };
         unsafe { call(&mut self.heap, 0, root as u8, words, &mut base) };
         base
+    }
+
+    fn alloc_many(&mut self, root: usize, words: u64, bases: &mut [u64]) {
+        let mut count = 0;
+        unsafe { done(mpheap_alloc_many(&mut self.heap, 0, root as u8, words, bases.as_mut_ptr(), bases.len(), &mut count)) }
     }
 
     fn set_root(&mut self, root: usize, word: u64) {

@@ -93,6 +93,19 @@ fn alloc_2<H: Heap>() -> (u64, u64) {
     (cost, units)
 }
 
+// The same, 32 asked for at a time.
+fn alloc_2_many<H: Heap>() -> (u64, u64) {
+    let mut heap = H::open(PAGES);
+    let mut bases = [0; 32];
+    let units = 150_016;
+    let cost = timed(units, || {
+        for _ in 0..units / 32 {
+            heap.alloc_many(0, 2, &mut bases);
+        }
+    });
+    (cost, units)
+}
+
 // 1 to 40 words, a third of them pointer-free, of which 12 are kept at a time, beside a tree that stays. Where there is no room, a cycle
 // makes some.
 fn alloc_1_to_40<H: Heap>(pages: u32, live: u64) -> (u64, u64) {
@@ -268,6 +281,7 @@ fn collect_beside_new<H: Heap>(is_partial: bool) -> Option<(u64, u64)> {
 pub fn run<H: Heap>(row: &str) -> Option<(u64, u64)> {
     match row {
         "alloc_2" => Some(alloc_2::<H>()),
+        "alloc_2_many" => Some(alloc_2_many::<H>()),
         "alloc_1_to_40" => Some(alloc_1_to_40::<H>(PAGES, 1)),
         "alloc_on_64" => Some(alloc_1_to_40::<H>(64, 2_500)),
         "alloc_on_256" => Some(alloc_1_to_40::<H>(256, 10_000)),
