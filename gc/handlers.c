@@ -2,13 +2,8 @@
 // it, so that no fault of a closed page reaches a handler that knows nothing of it, and the program is told the handler that it had set
 // itself. Handlers of other signals run without faults being blocked (masks.c), and else as ever. Trusted, not proved.
 //
-// It owes the core the same as the fault handler does (signals.c): that this one is called is what it sees to.
+// It owes the core what signals.c does: that the barrier's handler is called, and not one that could open a closed page untold.
 #include "layer.h"
-
-#define SHOWN __attribute__((visibility("default")))
-
-// The C library's other name of its sigaction.
-extern int __sigaction(int number, const struct sigaction *next, struct sigaction *old);
 
 SHOWN int sigaction(int number, const struct sigaction *next, struct sigaction *old)
 {

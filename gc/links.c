@@ -5,8 +5,10 @@
 // of the program. So each of these has a cell, a word of an object of the layer's own, which isn't 0 and is a link to the object. Where
 // a cell is 0 once a collection has ended, the program's word is cleared, before the program runs on or anything is allocated.
 //
-// What it owes the core: words are written in kept objects alone. So a word of the program that lay in an object which is gone is left
-// as it is, and its link is gone too.
+// What it owes the core, of mpheap.h:
+//
+//   "any 64-bit word may be put at any 8-aligned         a word of the program that lay in an object which is gone is left as it is,
+//   address of an object that is kept at that moment"    and its link is gone too
 #include "layer.h"
 
 enum { ROOM = MPHEAP_MAX_LINKS, AT = 0, OBJECT = 1, ROOT = 0 };  // registers, and a global of the heap
@@ -136,9 +138,10 @@ int GC_general_register_disappearing_link(void **link, const void *object) { ret
 
 int GC_register_disappearing_link(void **link)
 {
-    void *object = GC_base(link);
-    if (!object) mpgc_stop("GC_register_disappearing_link of what lies in no object of the heap");
-    return set_link(link, object, false);
+    uintptr_t base;
+    size_t words;
+    if (!mpgc_find((uintptr_t)link, &base, &words)) mpgc_stop("GC_register_disappearing_link of what lies in no object of the heap");
+    return set_link(link, (void *)base, false);
 }
 
 int GC_unregister_disappearing_link(void **link) { return remove_link(link, false); }

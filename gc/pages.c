@@ -1,8 +1,10 @@
-// What the layer knows of pages: what each was last given to, how many the heap has, and which objects stay whatever points into
-// them. Trusted, not proved.
+// What the layer knows of pages: what each was last given to, how many the heap has, which are to be swept, and which objects stay
+// whatever points into them. Trusted, not proved.
 //
 // It rests on one fact of the core (heap_spec, Room): a page that holds objects holds objects of one kind.
 #include "layer.h"
+
+static size_t count[3];  // of pages of each kind, but fresh ones
 
 // Objects of this kind came to lie on the page.
 static void learn_page(size_t page, enum page_kind kind)
@@ -10,6 +12,8 @@ static void learn_page(size_t page, enum page_kind kind)
     enum page_kind old = mpgc.kind[page];
     mpgc.kind[page] = (uint8_t)kind;
     if (kind == old) return;
+    count[old]--;
+    count[kind]++;
     if (kind == POINTER_FREE)
         mpgc_holds_pointer_free(page);
     else if (mpgc.is_marking)
@@ -25,29 +29,49 @@ bool mpgc_learn(uintptr_t base, size_t words, enum page_kind kind)
     return true;
 }
 
-// Pages on which an object lies, or one that is still to be swept.
-size_t mpgc_used_pages(void)
+enum page_kind mpgc_kind_at(uintptr_t address) { return mpgc_is_inside(address) ? mpgc.kind[mpgc_page_of(address)] : FRESH; }
+
+size_t mpgc_pages_of(enum page_kind kind) { return count[kind]; }
+
+// Pages that a figure of the core counts.
+#define COUNTS(name, figure) \
+    size_t name(void) \
+    { \
+        size_t pages; \
+        mpgc_enter(); \
+        CALL(pages, figure(&mpgc.heap)); \
+        return pages; \
+    }
+COUNTS(mpgc_free_pages, mpheap_free_pages)
+COUNTS(mpgc_pending_pages, mpheap_pending_pages)
+COUNTS(mpgc_dirty_pages, mpheap_dirty_pages)
+
+// So many pages are swept, if there are. Answers whether there were.
+bool mpgc_sweep_some(size_t pages)
 {
-    mpgc_call_begins();
-    size_t free_pages = mpheap_free_pages(&mpgc.heap);
-    mpgc_call_ends();
-    return mpgc.pages - free_pages;
+    uint64_t swept = 1;
+    for (; pages > 0 && swept == 1; pages--) GRANTED(mpheap_sweep(&mpgc.heap, &swept));
+    return swept == 1;
 }
 
 // The heap has at least so many pages from now on, if it may.
 bool mpgc_grow(size_t pages)
 {
-    if (pages > mpgc.limit) return false;
+    if (pages > MAX_PAGES || pages > mpgc_figures.limit) return false;
     if (pages <= mpgc.size) return true;
     mpgc.size = pages;
     if (GC_on_heap_resize) GC_on_heap_resize(pages * PAGE);
     return true;
 }
 
+size_t GC_get_heap_size(void) { return mpgc.size * PAGE; }
+
+int GC_is_heap_ptr(const void *address) { return (uintptr_t)address - FIRST < mpgc.size * PAGE; }
+
 bool mpgc_is_uncollectable(uintptr_t base)
 {
     size_t granule = (base - FIRST) / GRANULE;
-    return mpgc.uncollectable[granule / 64] >> granule % 64 & 1;
+    return mpgc_is_inside(base) && mpgc.uncollectable[granule / 64] >> granule % 64 & 1;
 }
 
 void mpgc_set_uncollectable(uintptr_t base, bool on)

@@ -2,9 +2,9 @@
 //
 // What it owes the core, of mpheap.h:
 //
-//   "tell the address first, then write"                                     mpheap_written, clause TellsWritten
-//   "... and no more there without telling it again once a call may have cleaned its page"
-//                                                                            mpheap_retrace, clauses Retraces.lowest and .others
+//   "if the object is not pointer-free and the word lies in the heap's range of addresses, the address was told by mpheap_written first,
+//   after the last mpheap_begin, mpheap_retrace, mpheap_finish or mpheap_collect"
+//                                                  mpheap_written, clause TellsWritten; mpheap_retrace, clauses Retraces.lowest and .others
 //
 // It pays by one rule, true whenever the program runs while a cycle marks:
 //
@@ -28,9 +28,9 @@
 // So many neighbouring pages are closed at once before one of them is read again.
 enum { RUN = 32 };
 
+static bool is_closing;            // pages are being closed, and then a cycle begins
 static atomic_size_t lowest_open;  // while a cycle marks, no open page of ordinary objects lies below
-static size_t closing;      // so far pages were closed for the next cycle
-static size_t opening;      // so far pages were opened after the last one
+static size_t closing;             // so far pages were closed for the next cycle
 
 static void *page_start(size_t page) { return (void *)(FIRST + page * PAGE); }
 
@@ -60,7 +60,7 @@ void mpgc_tell_noted(void)
     while ((blocks = atomic_exchange(&mpgc.noted, 0)) != 0) {
         for (; blocks != 0; blocks &= blocks - 1) {
             size_t first = (size_t)__builtin_ctzll(blocks) * BLOCK;
-            for (size_t page = first; page < first + BLOCK && page < mpgc.pages; page++) {
+            for (size_t page = first; page < first + BLOCK; page++) {
                 if (!mpgc.is_noted[page]) continue;
                 mpgc.is_noted[page] = 0;
                 if (mpgc.is_marking) tell_now(page);
@@ -87,15 +87,15 @@ static void open_page(size_t page)
 // The block in which the page lies.
 static void open_block(size_t page)
 {
-    size_t first = page - page % BLOCK, count = mpgc.pages - first < BLOCK ? mpgc.pages - first : BLOCK;
-    set_access(first, count, PROT_READ | PROT_WRITE);
-    memset((void *)&mpgc.is_closed[first], 0, count);
+    size_t first = page - page % BLOCK;
+    set_access(first, BLOCK, PROT_READ | PROT_WRITE);
+    memset((void *)&mpgc.is_closed[first], 0, BLOCK);
 }
 
 // A write to this closed page is to be made: it is told first, and then the page is opened.
 void mpgc_let_write(size_t page)
 {
-    if (!mpgc.is_marking && !mpgc.is_closing) {
+    if (!mpgc.is_marking && !is_closing) {
         open_block(page);
         return;
     }
@@ -118,13 +118,20 @@ static size_t close_run(size_t page, size_t most)
 void mpgc_start_closing(void)
 {
     mpgc_take_faults();
-    mpgc.is_closing = true;
+    is_closing = true;
     closing = 0;
+}
+
+// The barrier's handler stands, as it has to before a page is closed.
+static void must_be_closing(void)
+{
+    if (!is_closing) mpgc_stop("a cycle went on that wasn't started");
 }
 
 // Of the next block of pages those of ordinary objects are closed. Answers whether there are more.
 bool mpgc_close_some(void)
 {
+    must_be_closing();
     size_t end = closing + BLOCK < mpgc.size ? closing + BLOCK : mpgc.size;
     while (closing < end) closing = is_to_close(closing) ? close_run(closing, end - closing) : closing + 1;
     return closing < mpgc.size;
@@ -133,9 +140,10 @@ bool mpgc_close_some(void)
 // A cycle has just begun: what holds ordinary objects and isn't closed is told.
 void mpgc_tell_open(void)
 {
+    must_be_closing();
     for (size_t page = 0; page < mpgc.size; page++)
         if (is_to_close(page)) tell_now(page);
-    mpgc.is_closing = false;
+    is_closing = false;
     lowest_open = 0;
 }
 
@@ -147,26 +155,29 @@ void mpgc_close_lowest(void)
     lowest_open = page < mpgc.size ? close_run(page, RUN) : page;
 }
 
-// No cycle marks: what is closed is opened again.
-void mpgc_start_opening(void)
+// No cycle marks, and none begins to.
+void mpgc_stop_closing(void) { is_closing = false; }
+
+// The lowest page that is closed, or the heap's end.
+static size_t lowest_closed(void)
 {
-    mpgc.is_closing = false;
-    opening = 0;
+    const uint8_t *first = (const uint8_t *)mpgc.is_closed, *closed = memchr(first, 1, mpgc.size);
+    return closed ? (size_t)(closed - first) : mpgc.size;
 }
 
-// The next block is opened. Answers whether there was one.
+// Where no cycle marks: the block of the lowest closed page is opened again. Answers whether there was one.
 bool mpgc_open_some(void)
 {
-    while (opening < mpgc.size && !mpgc.is_closed[opening]) opening++;
-    if (opening == mpgc.size) return false;
-    open_block(opening);
+    size_t page = lowest_closed();
+    if (mpgc.is_marking || page == mpgc.size) return false;
+    open_block(page);
     return true;
 }
 
+// The program writes nothing until no cycle marks.
 void mpgc_open_all(void)
 {
-    bool is_one_closed = memchr((const void *)mpgc.is_closed, 1, mpgc.size) != NULL;
-    if (!is_one_closed) return;
+    if (lowest_closed() == mpgc.size) return;
     set_access(0, mpgc.size, PROT_READ | PROT_WRITE);
     memset((void *)mpgc.is_closed, 0, sizeof mpgc.is_closed);
 }

@@ -2,30 +2,26 @@
 //
 // What it owes the core, of mpheap.h:
 //
-//   "each out parameter points to one number of its own, apart from `heap`"   locals, in each call below
-//   "only words of kept objects may be written"    a program is given bases of objects that a request has just made (clause
-//                                                  IsBaseCall), and keeps them reachable; what it frees it doesn't write again
-//   kinds are as the page's                        mpgc_learn, after each request that is no run's
+//   "Each out parameter points to a number of its own, outside of every heap"   locals, in each call below
+//   "any 64-bit word may be put at any 8-aligned         a program is given bases of objects that a request has just made (clause
+//   address of an object that is kept at that moment"    IsBaseCall), each once, and keeps them reachable; what it frees it doesn't
+//                                                        write again; GC_realloc writes no further than the object goes
+//   kinds are as the page's                              mpgc_learn, after each request
+//
+// The debugging names of what frees stand here too, since no file of names/ may free.
 #include "layer.h"
-#include <errno.h>
-#include <stdlib.h>
 #include <string.h>
 
 enum { INTO = 0, FREED = 1 };  // registers
 
-struct sort { enum page_kind kind; bool is_uncollectable; };
+int GC_all_interior_pointers = 1;
+
+void GC_set_all_interior_pointers(int on) { GC_all_interior_pointers = on ? 1 : 0; }
+
+int GC_get_all_interior_pointers(void) { return GC_all_interior_pointers; }
 
 // One byte more than asked for, so that a pointer past the end points into its own object.
 static size_t extra(void) { return GC_all_interior_pointers ? 1 : 0; }
-
-static inline uint32_t ask(size_t words, enum page_kind kind, uint64_t *base)
-{
-    mpgc_call_begins();
-    uint32_t status = kind == ORDINARY ? mpheap_alloc_base(&mpgc.heap, mpgc.slot, INTO, words, base)
-                                                   : mpheap_alloc_pointer_free_base(&mpgc.heap, mpgc.slot, INTO, words, base);
-    mpgc_call_ends();
-    return status;
-}
 
 void mpgc_free_in(uint64_t base)
 {
@@ -36,21 +32,18 @@ void mpgc_free_in(uint64_t base)
     if (status != MPHEAP_OK) mpgc_stop("GC_free of what isn't the beginning of an object");
 }
 
-// The object is there and its pages are known, or there is no room for it.
-static inline uint32_t ask_within(size_t words, enum page_kind kind, uint64_t *base)
+// An object of its own request, whose pages are known; 0 where there is no room.
+static uint64_t ask(size_t words, enum page_kind kind)
 {
-    uint32_t status = ask(words, kind, base);
-    if (status != MPHEAP_OK) return status;
-    if (LIKELY(mpgc.kind[mpgc_page_of(*base)] == kind && words <= PAGE / WORD)) return MPHEAP_OK;
-    if (mpgc_learn(*base, words, kind)) return MPHEAP_OK;
-    mpgc_free_in(*base);
-    return MPHEAP_FULL;
-}
-
-void *mpgc_out_of_memory(size_t bytes)
-{
-    GC_get_warn_proc()("GC Warning: Out of Memory! Heap size: %lu MiB. Returning NULL!\n", mpgc.size * PAGE >> 20);
-    return GC_oom_fn ? GC_oom_fn(bytes) : NULL;
+    uint64_t base;
+    uint32_t status;
+    CALL(status, kind == ORDINARY ? mpheap_alloc_base(&mpgc.heap, mpgc.slot, INTO, words, &base)
+                                  : mpheap_alloc_pointer_free_base(&mpgc.heap, mpgc.slot, INTO, words, &base));
+    if (status != MPHEAP_OK) return 0;
+    bool is_known = mpgc.kind[mpgc_page_of(base)] == kind && words <= PAGE / WORD;
+    if (LIKELY(is_known) || mpgc_learn(base, words, kind)) return base;
+    mpgc_free_in(base);
+    return 0;
 }
 
 static size_t words_of(size_t bytes)
@@ -74,11 +67,10 @@ static inline uint64_t next_of(struct run *run)
 // One object, of a run where it is small; 0 where there is no room.
 static uint64_t take(size_t words, enum page_kind kind)
 {
-    uint64_t base = 0;
     size_t granules = granules_of(words);
-    if (granules > RUN_GRANULES) return ask_within(words, kind, &base) == MPHEAP_OK ? base : 0;
+    if (granules > RUN_GRANULES) return ask(words, kind);
     struct run *run = mpgc_run_of(granules, kind);
-    base = next_of(run);
+    uint64_t base = next_of(run);
     return base == 0 && mpgc_fill_run(run, granules, kind) ? next_of(run) : base;
 }
 
@@ -97,11 +89,11 @@ __attribute__((noinline)) static void *allocate_anew(size_t bytes, enum page_kin
 {
     mpgc_enter();
     size_t words = words_of(bytes);
-    if (mpgc.since + words >= mpgc.next) (void)mpgc_from_here(mpgc_pace, NULL);
+    if (mpgc_figures.since + words >= mpgc_figures.next) (void)mpgc_from_here(mpgc_look, NULL);
     uint64_t base = take(words, kind);
     if (base == 0) base = take_again(words, kind);
     if (base == 0) return mpgc_out_of_memory(bytes);
-    mpgc.since += words;
+    mpgc_figures.since += words;
     return (void *)base;
 }
 
@@ -119,12 +111,12 @@ __attribute__((always_inline)) static inline void *allocate(size_t bytes, enum p
     struct run *run = mpgc_run_of(granules_of(words), kind);
     mpgc_call_begins();
     uint64_t *next = run->next;
-    if (!LIKELY(next != run->end && mpgc.since + words < mpgc.next)) {
+    if (!LIKELY(next != run->end && mpgc_figures.since + words < mpgc_figures.next)) {
         mpgc_call_ends();
         return allocate_anew(bytes, kind);
     }
     run->next = next + 1;
-    mpgc.since += words;
+    mpgc_figures.since += words;
     uint64_t base = *next;
     return LIKELY(mpgc_call_leaves_nothing()) ? (void *)base : tell_noted(base);
 }
@@ -142,57 +134,20 @@ static void *keep(void *object)
     return object;
 }
 
-static void *allocate_sort(size_t bytes, struct sort sort)
-{
-    void *object = sort.kind == ORDINARY ? GC_malloc(bytes) : GC_malloc_atomic(bytes);
-    return sort.is_uncollectable ? keep(object) : object;
-}
-
 void *GC_malloc_uncollectable(size_t bytes) { return keep(GC_malloc(bytes)); }
 
 void *GC_malloc_atomic_uncollectable(size_t bytes) { return keep(GC_malloc_atomic(bytes)); }
-
-void *GC_malloc_ignore_off_page(size_t bytes) { return GC_malloc(bytes); }
-
-void *GC_malloc_atomic_ignore_off_page(size_t bytes) { return GC_malloc_atomic(bytes); }
-
-void *GC_malloc_stubborn(size_t bytes) { return GC_malloc(bytes); }
-
-void *GC_malloc_many(size_t bytes) { return GC_malloc(bytes); }
 
 // The kept object that the address points into.
 bool mpgc_find(uintptr_t address, uintptr_t *base, size_t *words)
 {
     uint64_t found = 0, length = 0;
-    mpgc_call_begins();
-    uint32_t status = mpheap_kept_at(&mpgc.heap, address, &found, &length);
-    mpgc_call_ends();
+    uint32_t status;
+    mpgc_enter();
+    CALL(status, mpheap_kept_at(&mpgc.heap, address, &found, &length));
     *base = found;
     *words = length;
     return status == MPHEAP_OK;
-}
-
-void *GC_base(void *address)
-{
-    uintptr_t base;
-    size_t words;
-    mpgc_enter();
-    return mpgc_find((uintptr_t)address, &base, &words) ? (void *)base : NULL;
-}
-
-size_t GC_size(const void *object)
-{
-    uintptr_t base;
-    size_t words;
-    mpgc_enter();
-    return mpgc_find((uintptr_t)object, &base, &words) ? words * WORD : 0;
-}
-
-int GC_is_heap_ptr(const void *address) { return (uintptr_t)address - FIRST < mpgc.size * PAGE; }
-
-static struct sort sort_of(uintptr_t base)
-{
-    return (struct sort){ mpgc.kind[mpgc_page_of(base)], mpgc_is_uncollectable(base) };
 }
 
 void GC_free(void *object)
@@ -202,17 +157,18 @@ void GC_free(void *object)
     size_t bytes = GC_size(object);
     mpgc_enter();
     mpgc_free_in(base);
-    mpgc.freed += bytes / WORD;
-    if (mpgc_is_uncollectable(base)) {
-        mpgc_set_uncollectable(base, false);
-        GC_non_gc_bytes -= bytes;
-    }
+    mpgc_figures.freed += bytes / WORD;
+    if (!mpgc_is_uncollectable(base)) return;
+    mpgc_set_uncollectable(base, false);
+    GC_non_gc_bytes -= bytes;
 }
 
-// What stood in the object, in a larger or much smaller one of the same sort.
+// What stood in the object, in a larger or much smaller one of the same kind, which stays if that one did.
 static void *move(void *old, size_t old_bytes, size_t bytes)
 {
-    void *object = allocate_sort(bytes, sort_of((uintptr_t)old));
+    bool is_ordinary = mpgc_kind_at((uintptr_t)old) == ORDINARY;
+    void *object = is_ordinary ? GC_malloc(bytes) : GC_malloc_atomic(bytes);
+    if (mpgc_is_uncollectable((uintptr_t)old)) object = keep(object);
     if (!object) return NULL;
     memcpy(object, old, bytes < old_bytes ? bytes : old_bytes);
     GC_free(old);
@@ -229,21 +185,16 @@ void *GC_realloc(void *old, size_t bytes)
     }
     uintptr_t base;
     size_t words;
-    mpgc_enter();
     if (!mpgc_find((uintptr_t)old, &base, &words) || base != (uintptr_t)old)
         mpgc_stop("GC_realloc of what isn't the beginning of an object");
     size_t room = words * WORD;
     if (bytes > room - extra() || bytes < room / 2) return move(old, room, bytes);
-    if (sort_of(base).kind == ORDINARY) memset((char *)old + bytes, 0, room - bytes);
+    if (mpgc_kind_at(base) == ORDINARY) memset((char *)old + bytes, 0, room - bytes);
     return old;
 }
 
-size_t GC_get_size_map_at(int bytes)
-{
-    static const size_t classes[] = { 2, 4, 6, 8, 12, 16, 24, 32, 48, 64, 96, 128, 256 };
-    size_t words = ((size_t)bytes + extra() + WORD - 1) / WORD;
-    if (bytes < 0 || words > PAGE / WORD / 2) return (size_t)-1;
-    size_t k = 0;
-    while (classes[k] < words) k++;
-    return classes[k] * WORD;
-}
+void GC_debug_free(void *base) { GC_free(base); }
+
+void *GC_debug_realloc(void *old, size_t bytes, ...) { return GC_realloc(old, bytes); }
+
+void *GC_debug_realloc_replacement(void *old, size_t bytes) { return GC_realloc(old, bytes); }

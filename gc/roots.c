@@ -21,6 +21,9 @@
 #define UNCHECKED __attribute__((no_sanitize("address")))
 enum { ROOT_SLOTS = MPHEAP_SLOTS - 1 };
 
+char *GC_stackbottom;  // where the program says that its stack ends
+int GC_no_dls;         // objects that were loaded aren't read
+
 struct range { const char *from, *to; };
 struct ranges { struct range *at; size_t count, room; };
 
@@ -75,7 +78,7 @@ UNCHECKED static void scan(const char *from, const char *to)
 {
     const uint64_t *word = (const uint64_t *)(((uintptr_t)from + WORD - 1) & ~(WORD - 1));
     const uint64_t *end = (const uint64_t *)((uintptr_t)to & ~(WORD - 1));
-    size_t bytes = mpgc.pages * PAGE;
+    const size_t bytes = MAX_PAGES * PAGE;
     for (; word + 4 <= end; word += 4) {
         uint64_t nearest = least(least(word[0] - FIRST, word[1] - FIRST), least(word[2] - FIRST, word[3] - FIRST));
         for (size_t k = 0; nearest < bytes && k < 4; k++) push_inside(word[k]);
@@ -238,3 +241,13 @@ void GC_clear_roots(void) { added.count = 0; }
 void GC_clear_exclusion_table(void) { excluded.count = 0; }
 
 void GC_register_has_static_roots_callback(GC_has_static_roots_func filter) { is_scanned = filter; }
+
+void GC_set_no_dls(int on) { GC_no_dls = on; }
+
+int GC_get_no_dls(void) { return GC_no_dls; }
+
+void GC_set_stackbottom(void *thread, const struct GC_stack_base *base)
+{
+    (void)thread;
+    GC_stackbottom = base->mem_base;
+}

@@ -2,11 +2,11 @@
 //
 // What it owes the core, of mpheap.h:
 //
-//   "only words of kept objects may be written"   no root keeps an object before it is given out, so that a collection may take it: all
-//                                                 runs are dropped when one begins (mpgc_drop_runs), and what they still had is garbage.
-//                                                 An object that comes while a cycle marks is kept by that cycle
+//   "any 64-bit word may be put at any 8-aligned         no root keeps an object before it is given out, so that a collection may take it:
+//   address of an object that is kept at that moment"    all runs are dropped when one begins (mpgc_drop_runs), and what they still had
+//                                                        is garbage. An object that comes while a cycle marks is kept by that cycle
 //   "Each out parameter points to a number of its own, outside of every heap"   the run's bases, in the layer, and a local
-//   kinds are as the page's                       mpgc_learn, for each object
+//   kinds are as the page's                              mpgc_learn, for each object
 #include "layer.h"
 
 enum { INTO = 0 };  // a register

@@ -3,18 +3,26 @@
 //
 // What it owes the core, of mpheap.h:
 //
-//   "tell the address first, then write"          mpheap_written, clause TellsWritten: a write to a closed page faults before anything
-//                                                 is written; protection.c tells and opens the page, and then the write is done again
-//   "nothing changes the heap's words while a     every signal but those of faults is blocked under the collector's calls. Requests
-//   call runs"                                    and frees don't block them: what a handler of the program writes to a closed page
-//                                                 under one is told when that call has returned
+//   "the address was told by mpheap_written first"   a write to a closed page faults before anything is written; protection.c tells and
+//                                                    opens the page, and then the write is done again
+//   "Calls .. never from a signal handler that       every signal but those of faults is blocked under the collector's calls. Requests and
+//   interrupted one of them"                         frees don't block them: a handler that makes a call under one stops the program
+//                                                    (CALL), and what it writes to a closed page then is told when that call has returned
 #include "layer.h"
 #include <errno.h>
-#include <pthread.h>
+#include <sys/syscall.h>
 #include <ucontext.h>
+#include <unistd.h>
 
 static struct sigaction before;  // what the program does on a fault
 static bool is_installed;
+
+// By the kernel's own call: those of the C library are taken for the program (kernel/masks.c), and the collector's calls don't use them.
+static void set_signals(const sigset_t *blocked, sigset_t *old)
+{
+    enum { BYTES = 8 };  // of a set, to the kernel
+    if (syscall(SYS_rt_sigprocmask, SIG_SETMASK, blocked, old, BYTES) != 0) mpgc_stop("the kernel refused to block signals");
+}
 
 void mpgc_block_signals(sigset_t *old)
 {
@@ -22,10 +30,11 @@ void mpgc_block_signals(sigset_t *old)
     sigset_t all;
     sigfillset(&all);
     for (size_t k = 0; k < sizeof of_faults / sizeof *of_faults; k++) sigdelset(&all, of_faults[k]);
-    pthread_sigmask(SIG_SETMASK, &all, old);
+    set_signals(&all, old);
+    sigdelset(old, SIGSEGV);  // the program may have been started with it blocked
 }
 
-void mpgc_restore_signals(const sigset_t *old) { pthread_sigmask(SIG_SETMASK, old, NULL); }
+void mpgc_restore_signals(const sigset_t *old) { set_signals(old, NULL); }
 
 // The fault isn't of the barrier's making: the program's own handler runs, under the signals that it would see.
 static void pass_on(int number, siginfo_t *info, void *context)
@@ -61,23 +70,20 @@ static void on_fault(int number, siginfo_t *info, void *context)
     }
     if (!mpgc_is_owner) mpgc_stop("a second thread wrote into the heap: libmpgc is for programs of one thread");
     int kept = errno;
-    mpgc.faults++;
+    mpgc_figures.faults++;
     mpgc_let_write(mpgc_page_of(address));
     errno = kept;
 }
 
-// To be called before pages are closed: where the C library's calls aren't taken (handlers.c), the program may have set its own handler.
+// To be called before pages are closed, under blocked signals: where the C library's calls aren't taken (handlers.c), the program may have
+// set its own handler.
 void mpgc_take_faults(void)
 {
     struct sigaction ours = { .sa_sigaction = on_fault, .sa_flags = SA_SIGINFO | SA_ONSTACK | SA_RESTART }, old;
     bool was_installed = is_installed;
     sigfillset(&ours.sa_mask);
     is_installed = false;
-    sigset_t faults;
-    sigemptyset(&faults);
-    sigaddset(&faults, SIGSEGV);
-    pthread_sigmask(SIG_UNBLOCK, &faults, NULL);  // the program may have been started with it blocked
-    if (sigaction(SIGSEGV, &ours, &old) != 0) mpgc_stop("the kernel refused a handler of faults");
+    if (__sigaction(SIGSEGV, &ours, &old) != 0) mpgc_stop("the kernel refused a handler of faults");
     bool is_ours = was_installed && (old.sa_flags & SA_SIGINFO) && old.sa_sigaction == on_fault;
     if (!is_ours) before = old;
     is_installed = true;

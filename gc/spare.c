@@ -14,9 +14,8 @@ enum { SPARE = 2 };  // the register that keeps it
 void mpgc_make_spare(void)
 {
     uint64_t base;
-    mpgc_call_begins();
-    uint32_t status = mpheap_alloc_pointer_free_base(&mpgc.heap, mpgc.slot, SPARE, 1, &base);
-    mpgc_call_ends();
+    uint32_t status;
+    CALL(status, mpheap_alloc_pointer_free_base(&mpgc.heap, mpgc.slot, SPARE, 1, &base));
     if (status != MPHEAP_OK) mpgc_stop("the heap has no room for a word");
     (void)mpgc_learn(base, 1, POINTER_FREE);
 }

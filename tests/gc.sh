@@ -65,8 +65,8 @@ planted() {
         echo "its text doesn't stand once"
         return
     fi
-    cc -std=c11 -O1 -w -fvisibility=hidden "-I$top/include/mpgc" "-I$include" "-I$top/gc" "$room/$name.c" "$top/tests/gc/$test.c" \
-        "$room"/syscalls*.o "$room/libmpgc.a" -pthread -o "$room/planted_$name" 2>&1 || return
+    cc -std=c11 -O1 -w -fvisibility=hidden "-I$top/include/mpgc" "-I$include" "-I$top/gc" "-I$top/gc/names" "$room/$name.c" \
+        "$top/tests/gc/$test.c" "$room"/syscalls*.o "$room/libmpgc.a" -pthread -o "$room/planted_$name" 2>&1 || return
     { timeout 300 env "${setting[@]:1}" "$room/planted_$name" "${words[@]}" >"$room/said_$name" 2>&1; } 2>>"$room/said_$name"
     status=$?
     case $status in
@@ -75,9 +75,10 @@ planted() {
     esac
 }
 
-# All faults, four at a time; and none, under each of their tests, which then has nothing to notice.
+# All faults, four at a time; and none, under each of their tests, which then has nothing to notice; and those of the names, by which no
+# object may be lost (harmless).
 faults_are_noticed() {
-    local edit name test wanted edits=("$top"/tests/gc/planted/*.edit)
+    local edit name test wanted edits=("$top"/tests/gc/planted/*.edit "$top"/tests/gc/harmless/*.edit)
     while read -r test; do
         edit=$room/none_under_${test// /_}.edit
         printf '%s\n' "test: $test" "file: spare.c" "old: enum { SPARE = 2 };" "new: enum { SPARE = 2 };" >"$edit"
@@ -91,7 +92,7 @@ faults_are_noticed() {
     for edit in "${edits[@]}"; do
         name=$(basename "$edit" .edit)
         wanted=noticed
-        [[ $name != none_* ]] || wanted="status 0"
+        [[ $name != none_* && $edit != */harmless/* ]] || wanted="status 0"
         is "planted fault $name" "$wanted" "$(cat "$room/seen_$name.edit")"
     done
 }
@@ -126,6 +127,51 @@ if [ -n "$bdw" ]; then
 else
     skip libgc1 "its names"
 fi
+
+# The names and the wrapped functions reach no more of the layer than front.h declares, and the compiler refuses them what could lose an
+# object.
+grep -o '\bmpgc_[a-z_]*' "$top/gc/front.h" | sort -u >"$room/front"
+for file in "$top"/gc/names/*.c "$top"/gc/kernel/*.c; do
+    cc -std=c11 -O1 -fPIC -fvisibility=hidden -c "$file" -o "$room/reaching.o" 2>"$room/said"
+    is "$(basename "$file") is compiled without the core" "" "$(cat "$room/said")"
+    is "what $(basename "$file") reaches" "" \
+        "$(nm -u "$room/reaching.o" | awk '{print $2}' | grep '^mpgc\|^mpheap' | sort | comm -23 - "$room/front")"
+done
+# And the audited files rest on nothing of theirs but what front.h says.
+mkdir "$room/audited" "$room/others"
+for file in "$top"/gc/*.c "$top"/gc/names/*.c "$top"/gc/kernel/*.c; do
+    part=others
+    [ "$(dirname "$file")" != "$top/gc" ] || part=audited
+    cc -std=c11 -O1 -fPIC -fvisibility=hidden "-I$include" -c "$file" -o "$room/$part/$(basename "$file" .c).o"
+done
+nm --defined-only "$room"/others/*.o | awk 'NF == 3 && $2 ~ /[TDBRC]/ {print $3}' | sort -u >"$room/theirs"
+is "what the audited files ask" \
+    "GC_dont_gc GC_gc_no GC_get_abort_func GC_is_incremental_mode GC_non_gc_bytes GC_on_heap_resize GC_oom_fn GC_size pthread_sigmask" \
+    "$(nm -u "$room"/audited/*.o | awk 'NF == 2 {print $2}' | sort -u | comm -12 - "$room/theirs" | comm -23 - "$room/front" | paste -sd ' ')"
+# answered LINE: whether the compiler takes the line in a file of names.
+answered() {
+    if printf '#include "../front.h"\n%s\n' "$1" | cc -std=c11 -fsyntax-only "-I$top/gc/names" -x c - 2>"$room/said"; then
+        echo taken
+    else
+        echo refused
+    fi
+}
+is "a line in a file of names" taken "$(answered 'void go(void) { GC_gcollect(); }')"
+for line in '#include "../layer.h"' '#include "mpheap.h"' 'void *go(void) { return &mpgc; }' 'void go(void *p) { GC_free(p); }' \
+    'void *go(void *p) { return GC_realloc(p, 9); }' 'void go(void) { GC_stackbottom = 0; }' 'void go(void) { GC_no_dls = 1; }' \
+    'void go(void) { GC_all_interior_pointers = 0; }' 'void go(void *p) { GC_remove_roots(p, p); }' 'void go(void) { GC_clear_roots(); }' \
+    'void go(void **p) { GC_unregister_disappearing_link(p); }'; do
+    is "in a file of names: $line" refused "$(answered "$line")"
+done
+
+# The lines of code that are named: of the audited files, of the names, and of the wrapped functions.
+# named FILE TEXT: the number of lines behind the text. code FILES..: how many they have, but for blank ones and comments.
+named() { sed -n "s/.*$2 \([0-9,]*\) lines.*/\1/p" "$1" | tr -d ,; }
+code() { cat "$@" | grep -cvE '^ *(//.*)?$'; }
+is "lines that layer.h names" "$(code "$top"/gc/*.[ch])" "$(named "$top/gc/layer.h" 'break memory:')"
+is "audited lines" "$(code "$top"/gc/*.[ch])" "$(named "$top/docs/PROGRAMS.md" '\*\*audited\*\*,')"
+is "lines of names" "$(code "$top"/gc/names/*)" "$(named "$top/docs/PROGRAMS.md" '\*\*names\*\*,')"
+is "lines of wrapped functions" "$(code "$top"/gc/kernel/*)" "$(named "$top/docs/PROGRAMS.md" '\*\*wrapped functions of the C library\*\*,')"
 
 # Each function, each place of roots, and what stands round the barrier.
 for test in functions settings macros limits links roots barrier kernel signals process shadow; do
@@ -203,7 +249,7 @@ shadow "shadow, in small steps" env INCREMENTAL=1 "$room/shadow" 2 1000000
 
 # Faults of the layer, each of which a test has to notice.
 for file in syscalls syscalls_more syscalls_checked; do
-    cc -std=c11 -O1 -fvisibility=hidden "-I$include" -c "$top/gc/$file.c" -o "$room/$file.o"
+    cc -std=c11 -O1 -fvisibility=hidden -c "$top/gc/kernel/$file.c" -o "$room/$file.o"
 done
 faults_are_noticed
 

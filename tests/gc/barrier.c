@@ -136,10 +136,11 @@ static void handlers_write(void)
 {
     signal(SIGUSR2, rings_bell);
     for (int round = 0; round < 20; round++) {
+        int before = rings;
         begin();
         while (GC_collect_a_little()) raise(SIGUSR2);
         GC_gcollect();
-        for (int k = 0; k < COUNT; k += 50) CHECK(GC_base(*(void **)(void *)(ordinary[k] + 8)) != NULL || rings == 0);
+        for (int k = 0; k < COUNT; k += 50) CHECK(GC_base(*(void **)(void *)(ordinary[k] + 8)) != NULL || rings == before);
     }
     CHECK(rings >= 20);
 }

@@ -1,5 +1,6 @@
-// The names of requests with the caller's place. The place is not kept, and nothing is checked at an object's ends. Trusted, not proved.
-#include "layer.h"
+// The names of requests with the caller's place. The place is not kept, and nothing is checked at an object's ends. Those that free are
+// in requests.c.
+#include "../front.h"
 
 void *GC_debug_malloc(size_t bytes, ...) { return GC_malloc(bytes); }
 void *GC_debug_malloc_atomic(size_t bytes, ...) { return GC_malloc_atomic(bytes); }
@@ -8,12 +9,9 @@ void *GC_debug_malloc_atomic_uncollectable(size_t bytes, ...) { return GC_malloc
 void *GC_debug_malloc_ignore_off_page(size_t bytes, ...) { return GC_malloc(bytes); }
 void *GC_debug_malloc_atomic_ignore_off_page(size_t bytes, ...) { return GC_malloc_atomic(bytes); }
 void *GC_debug_malloc_stubborn(size_t bytes, ...) { return GC_malloc(bytes); }
-void *GC_debug_realloc(void *old, size_t bytes, ...) { return GC_realloc(old, bytes); }
 char *GC_debug_strdup(const char *text, ...) { return GC_strdup(text); }
 char *GC_debug_strndup(const char *text, size_t most, ...) { return GC_strndup(text, most); }
-void GC_debug_free(void *base) { GC_free(base); }
 void *GC_debug_malloc_replacement(size_t bytes) { return GC_malloc(bytes); }
-void *GC_debug_realloc_replacement(void *old, size_t bytes) { return GC_realloc(old, bytes); }
 void GC_debug_change_stubborn(const void *object) { (void)object; }
 void GC_debug_end_stubborn_change(const void *object) { (void)object; }
 void GC_debug_ptr_store_and_dirty(void *at, const void *word) { GC_ptr_store_and_dirty(at, word); }

@@ -1,8 +1,5 @@
 // Calls of the C library by which the kernel writes into the program's memory: sockets, waiting, times, signals, devices. As syscalls.c
-// has those of files. Only in libmpgc.so. Trusted, not proved.
-//
-// It owes the core the same as the fault handler does (protection.c), and pays by the same function. Those that wait with other signals
-// blocked don't block faults (masks.c).
+// has those of files. Only in libmpgc.so. Those that wait with other signals blocked don't block faults (masks.c).
 #include "next.h"
 #include <poll.h>
 #include <sched.h>

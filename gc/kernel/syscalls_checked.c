@@ -1,7 +1,5 @@
 // The names by which a program that was built with checks of its buffers (_FORTIFY_SOURCE, as distributions build theirs) calls what is in
-// syscalls.c and syscalls_more.c. Only in libmpgc.so. Trusted, not proved.
-//
-// It owes the core the same as the fault handler does (protection.c), and pays by the same function.
+// syscalls.c and syscalls_more.c. Only in libmpgc.so.
 #include "next.h"
 #include <poll.h>
 #include <stdio.h>

@@ -1,5 +1,5 @@
-// A heap that is printed for people: GC_dump and its kin, on standard output as bdwgc has it. Trusted, not proved; it changes nothing.
-#include "layer.h"
+// A heap that is printed for people: GC_dump and its kin, on standard output as bdwgc has it. It changes nothing.
+#include "../front.h"
 #include <stdio.h>
 
 struct sum { size_t objects, words; };
@@ -24,27 +24,28 @@ static struct sum add_page(size_t page, struct sum *sum)
 // One letter a page: what it was last given to, in capitals if objects fill more than half of it.
 static char letter(size_t page, struct sum here)
 {
-    uintptr_t base;
+    uintptr_t base, start = FIRST + page * PAGE;
     size_t words;
-    if (mpgc.kind[page] == FRESH) return '.';
-    bool is_inner = here.objects == 0 && mpgc_find(FIRST + page * PAGE, &base, &words);
+    if (mpgc_kind_at(start) == FRESH) return '.';
+    bool is_inner = here.objects == 0 && mpgc_find(start, &base, &words);
     if (here.objects == 0 && !is_inner) return '-';
     bool is_full = is_inner || here.words > PAGE / WORD / 2;
-    if (mpgc.kind[page] == POINTER_FREE) return is_full ? 'A' : 'a';
+    if (mpgc_kind_at(start) == POINTER_FREE) return is_full ? 'A' : 'a';
     return is_full ? 'O' : 'o';
 }
 
 void GC_dump_regions(void)
 {
     struct sum sums[3] = { { 0, 0 }, { 0, 0 }, { 0, 0 } };
-    mpgc_enter();
+    GC_init();
+    size_t pages = GC_get_heap_size() / PAGE;
     printf("Pages (o ordinary objects, a pointer-free ones, capitals where more than half full, - empty, . never used):\n");
-    for (size_t page = 0; page < mpgc.size; page++) {
-        struct sum here = add_page(page, &sums[mpgc.kind[page]]);
+    for (size_t page = 0; page < pages; page++) {
+        struct sum here = add_page(page, &sums[mpgc_kind_at(FIRST + page * PAGE)]);
         putchar(letter(page, here));
         if (page % 64 == 63) putchar('\n');
     }
-    if (mpgc.size % 64 != 0) putchar('\n');
+    if (pages % 64 != 0) putchar('\n');
     printf("Ordinary: %zu objects, %zu bytes; pointer-free: %zu objects, %zu bytes\n", sums[ORDINARY].objects,
            sums[ORDINARY].words * WORD, sums[POINTER_FREE].objects, sums[POINTER_FREE].words * WORD);
 }
@@ -56,8 +57,9 @@ void GC_dump_named(const char *name)
     else
         printf("***GC Dump collection #%lu\n", (unsigned long)GC_gc_no);
     printf("Heap: %zu bytes, at most %zu, of them %zu in free pages; %zu asked for since the last collection, %zu in all\n",
-           GC_get_heap_size(), mpgc.limit * PAGE, GC_get_free_bytes(), GC_get_bytes_since_gc(), GC_get_total_bytes());
-    printf("Collections: %lu full, %lu in small steps%s\n", mpgc.full, mpgc.cycles, mpgc.is_marking ? ", one under way" : "");
+           GC_get_heap_size(), mpgc_figures.limit * PAGE, GC_get_free_bytes(), GC_get_bytes_since_gc(), GC_get_total_bytes());
+    printf("Collections: %lu full, %lu in small steps%s\n", mpgc_figures.full, mpgc_figures.cycles,
+           mpgc_is_marking() ? ", one under way" : "");
     GC_dump_regions();
     fflush(stdout);
 }

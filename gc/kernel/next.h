@@ -1,11 +1,9 @@
 // For functions that take the place of the C library's: the one that stands behind this one, as `next`.
 #ifndef MPGC_NEXT_H
 #define MPGC_NEXT_H
-#include "layer.h"
+#include "../front.h"
 #include <dlfcn.h>
 #include <string.h>
-
-#define SHOWN __attribute__((visibility("default")))
 
 #define NEXT(answer, name, words) \
     static answer(*next) words; \

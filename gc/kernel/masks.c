@@ -1,13 +1,10 @@
 // The C library's calls by which a program blocks signals, without SIGSEGV: a write to a closed page while faults are blocked would end
-// the program, since the kernel can't hold back such a fault. Of other signals nothing is different. Trusted, not proved.
-//
-// It owes the core the same as the fault handler does (signals.c): that this one is called is what it sees to.
-#include "layer.h"
+// the program, since the kernel can't hold back such a fault. Of other signals nothing is different.
+#include "../front.h"
 #include <errno.h>
 #include <sys/syscall.h>
 #include <unistd.h>
 
-#define SHOWN __attribute__((visibility("default")))
 enum { BYTES = 8 };  // of a set, to the kernel
 
 // These signals but faults, in `room`; null for null. The C library's own two, 32 and 33, are never blocked.

@@ -1,12 +1,10 @@
 // The names of bdwgc that this layer can't do. Each stops with a sentence, or answers what is so: nothing is silently wrong, and no call
-// falls through to a libgc that lies in the same process, whose memory would not be read. Trusted, not proved.
-#include "layer.h"
+// falls through to a libgc that lies in the same process, whose memory would not be read.
+#include "../front.h"
 #include <dlfcn.h>
 #include <pthread.h>
 #include <stdarg.h>
 #include <stdio.h>
-
-#define SHOWN __attribute__((visibility("default")))
 
 // Finalizers: to take one away is right, since there is none, and one outside of the heap is ignored as documented.
 static void refuse_finalizer(void *object, GC_finalization_proc finalizer, GC_finalization_proc *old, void **old_data)
@@ -99,7 +97,7 @@ int GC_get_kind_and_size(const void *base, size_t *bytes)
     if (!GC_base((void *)(uintptr_t)base)) mpgc_stop("GC_get_kind_and_size of what isn't an object");
     int is_kept = mpgc_is_uncollectable((uintptr_t)base) ? 2 : 0;
     if (bytes) *bytes = GC_size(base);
-    return is_kept | (mpgc.kind[mpgc_page_of((uintptr_t)base)] == ORDINARY ? KIND_NORMAL : KIND_ATOMIC);
+    return is_kept | (mpgc_kind_at((uintptr_t)base) == ORDINARY ? KIND_NORMAL : KIND_ATOMIC);
 }
 SHOWN GC_word GC_make_descriptor(const GC_word *bits, size_t count);
 GC_word GC_make_descriptor(const GC_word *bits, size_t count)
@@ -185,7 +183,7 @@ STOPS(GC_start_world_external)
 STOPS(GC_stop_world_external)
 STOPS(GC_suspend_thread)
 STOPS(GC_toggleref_add)
-STOPS(GC_unregister_my_thread)
+void GC_unregister_my_thread(void) { mpgc_stop("GC_unregister_my_thread isn't there in libmpgc"); }
 
 // Variables by which such a program would reach bdwgc's own lists: it faults at once.
 SHOWN void **const GC_objfreelist_ptr = NULL;

@@ -1,8 +1,8 @@
-// Copies of texts, in atomic objects. Trusted, not proved; it makes requests as a program does, and owes the core nothing.
-#include "layer.h"
+// Copies of texts, in atomic objects. It makes requests as a program does.
+#define GC_REQUIRE_WCSDUP
+#include "../front.h"
 #include <errno.h>
 #include <string.h>
-#include <wchar.h>
 
 static char *copy_text(const char *text, size_t bytes)
 {
@@ -20,7 +20,7 @@ char *GC_strdup(const char *text) { return text ? copy_text(text, strlen(text)) 
 
 char *GC_strndup(const char *text, size_t most) { return copy_text(text, strnlen(text, most)); }
 
-__attribute__((visibility("default"))) wchar_t *GC_wcsdup(const wchar_t *text)
+wchar_t *GC_wcsdup(const wchar_t *text)
 {
     size_t bytes = (wcslen(text) + 1) * sizeof *text;
     wchar_t *copy = GC_malloc_atomic(bytes);

@@ -1,5 +1,5 @@
-// Objects at aligned addresses. Trusted, not proved; it makes requests as a program does, and owes the core nothing.
-#include "layer.h"
+// Objects at aligned addresses. It makes requests as a program does.
+#include "../front.h"
 #include <errno.h>
 
 // An object of more than half a page begins with a page. Else, inner pointers count, so an aligned address in a larger object will do.
@@ -11,7 +11,7 @@ void *GC_memalign(size_t align, size_t bytes)
     if (bytes > SIZE_MAX - align) return mpgc_out_of_memory(bytes);
     char *object = GC_malloc(bytes + align - 1);
     size_t past = (uintptr_t)object % align;
-    return mpgc_is_inside((uintptr_t)object) && past != 0 ? object + (align - past) : object;
+    return GC_is_heap_ptr(object) && past != 0 ? object + (align - past) : object;
 }
 
 int GC_posix_memalign(void **result, size_t align, size_t bytes)

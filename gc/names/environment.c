@@ -1,0 +1,55 @@
+// What the environment says, and how large the heap becomes.
+#include "../front.h"
+#include <stdio.h>
+#include <stdlib.h>
+
+// Bytes, with k, M or G behind them; or the fallback, where the variable isn't set or says nothing.
+static size_t bytes_of(const char *name, size_t fallback)
+{
+    const char *text = getenv(name);
+    char *end;
+    if (!text) return fallback;
+    size_t number = strtoull(text, &end, 10);
+    if (end == text || number == 0) return fallback;
+    unsigned shift = *end == 'k' || *end == 'K' ? 10 : *end == 'm' || *end == 'M' ? 20 : *end == 'g' || *end == 'G' ? 30 : 0;
+    return number > SIZE_MAX >> shift ? SIZE_MAX : number << shift;
+}
+
+static size_t pages_of(size_t bytes) { return bytes / PAGE + (bytes % PAGE != 0); }
+
+static void print_figures(void)
+{
+    struct figures *all = &mpgc_figures;
+    fprintf(stderr, "mpgc: %lu collections: %lu full, the longest %.0f us; %lu cycles, their longest end %.0f us, %lu faults; "
+            "%zu pages, %zu bytes asked for\n", (unsigned long)GC_gc_no, all->full, all->longest_full, all->cycles,
+            all->longest_cycle_end, all->faults, GC_get_heap_size() / PAGE, GC_get_total_bytes());
+}
+
+// The heap has just been opened.
+void mpgc_read_environment(void)
+{
+    size_t most = bytes_of("GC_MAXIMUM_HEAP_SIZE", 0), least = bytes_of("GC_INITIAL_HEAP_SIZE", 0);
+    if (most) GC_set_max_heap_size(most);
+    if (least) GC_expand_hp(least);
+    GC_free_space_divisor = bytes_of("GC_FREE_SPACE_DIVISOR", GC_free_space_divisor);
+    if (getenv("GC_DONT_GC")) GC_dont_gc = 1;
+    if (getenv("GC_FIND_LEAK")) GC_set_find_leak(1);
+    if (getenv("GC_PRINT_STATS")) atexit(print_figures);
+    mpgc_set_budget();
+    if (getenv("GC_ENABLE_INCREMENTAL")) GC_enable_incremental();
+}
+
+// Before the first request this says how large the heap may become; later how far it may grow. A heap never shrinks.
+void GC_set_max_heap_size(GC_word bytes)
+{
+    size_t pages = pages_of(bytes);
+    mpgc_figures.limit = pages == 0 || pages > MAX_PAGES ? MAX_PAGES : pages;
+}
+
+int GC_expand_hp(size_t bytes)
+{
+    GC_init();
+    return mpgc_grow(GC_get_heap_size() / PAGE + pages_of(bytes));
+}
+
+void GC_deinit(void) { }

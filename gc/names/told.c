@@ -1,0 +1,89 @@
+// What the program is told, and by which functions of its own.
+#include "../front.h"
+#include <stdio.h>
+#include <string.h>
+#include <unistd.h>
+
+static void *answer_nothing(size_t bytes)
+{
+    (void)bytes;
+    return NULL;
+}
+GC_oom_func GC_oom_fn = answer_nothing;
+GC_on_heap_resize_proc GC_on_heap_resize;
+
+static void print_warning(char *format, GC_word number)
+{
+    char text[200];
+#pragma GCC diagnostic push
+#pragma GCC diagnostic ignored "-Wformat-nonliteral"
+    int length = snprintf(text, sizeof text, format, number);
+#pragma GCC diagnostic pop
+    if (length > 0) (void)!write(2, text, strlen(text));
+}
+
+static void print_message(const char *message)
+{
+    if (!message) return;
+    (void)!write(2, "libmpgc: ", 9);
+    (void)!write(2, message, strlen(message));
+    (void)!write(2, "\n", 1);
+}
+
+static int never(void) { return 0; }
+
+static GC_warn_proc warn = print_warning;
+static GC_abort_func tell_abort = print_message;
+static GC_stop_func stop_by_default = never;
+static GC_on_collection_event_proc tell_event;
+static GC_start_callback_proc tell_start;
+
+static void tell_events(const GC_EventType *events, size_t count)
+{
+    GC_on_collection_event_proc tell = tell_event;
+    for (size_t k = 0; tell && k < count; k++) tell(events[k]);
+}
+
+void mpgc_tell_start(void)
+{
+    static const GC_EventType first[] = { GC_EVENT_START, GC_EVENT_MARK_START };
+    tell_events(first, 2);
+    if (tell_start) tell_start();
+}
+
+void mpgc_tell_end(void)
+{
+    static const GC_EventType last[] = { GC_EVENT_MARK_END, GC_EVENT_RECLAIM_START, GC_EVENT_RECLAIM_END, GC_EVENT_END };
+    tell_events(last, 4);
+}
+
+void *mpgc_out_of_memory(size_t bytes)
+{
+    warn("GC Warning: Out of Memory! Heap size: %lu MiB. Returning NULL!\n", GC_get_heap_size() >> 20);
+    return GC_oom_fn ? GC_oom_fn(bytes) : NULL;
+}
+
+// The function that may break off a collection, if there is one.
+GC_stop_func mpgc_stop_func(void) { return stop_by_default == never ? NULL : stop_by_default; }
+
+void GC_set_oom_fn(GC_oom_func answer) { GC_oom_fn = answer; }
+GC_oom_func GC_get_oom_fn(void) { return GC_oom_fn; }
+void GC_set_warn_proc(GC_warn_proc proc) { warn = proc; }
+GC_warn_proc GC_get_warn_proc(void) { return warn; }
+void GC_ignore_warn_proc(char *format, GC_word number)
+{
+    (void)format;
+    (void)number;
+}
+void GC_set_abort_func(GC_abort_func tell) { tell_abort = tell; }
+GC_abort_func GC_get_abort_func(void) { return tell_abort; }
+void GC_abort_on_oom(void) { mpgc_stop("insufficient memory for the allocation"); }
+void GC_set_on_heap_resize(GC_on_heap_resize_proc tell) { GC_on_heap_resize = tell; }
+GC_on_heap_resize_proc GC_get_on_heap_resize(void) { return GC_on_heap_resize; }
+void GC_set_on_collection_event(GC_on_collection_event_proc tell) { tell_event = tell; }
+GC_on_collection_event_proc GC_get_on_collection_event(void) { return tell_event; }
+void GC_set_start_callback(GC_start_callback_proc tell) { tell_start = tell; }
+GC_start_callback_proc GC_get_start_callback(void) { return tell_start; }
+void GC_set_log_fd(int file) { (void)file; }
+void GC_set_stop_func(GC_stop_func stop) { stop_by_default = stop; }
+GC_stop_func GC_get_stop_func(void) { return stop_by_default; }
