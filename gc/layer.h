@@ -35,7 +35,7 @@ _Static_assert(MAX_PAGES % 64 == 0, "the heap isn't 64 blocks of pages");
 #define LIKELY(x) __builtin_expect(!!(x), 1)
 
 // Small objects that one call asked for, and where those stand that are still to be given out.
-enum { RUN_GRANULES = 16, RUN_WORDS = 256, RUN_OBJECTS = 32 };
+enum { RUN_GRANULES = 16, RUN_WORDS = 256, RUN_OBJECTS = 64 };
 struct run { uint64_t *next, *end, bases[RUN_OBJECTS]; };
 
 // All that the layer knows of the heap, in one piece, so that the collector can leave it out of the roots.
