@@ -58,13 +58,13 @@ cut_same s p c k laid lt is =
       same = λ w. same_but s (set s p (all_free c k)) p 1 span.others (closed_one s p (subst IsPlain (sym is) free_plain)) laid w
           (λ q a b at. let e : q ≡ p = omega arith in
           found_as (set s p (all_free c k)) q w (all_free c k) at (span.inside q a b)
-          ∙ block_empty q w (record { class = c; kind = k; taken = replicate (PAGE_WORDS / c) false }) (replicate_false (PAGE_WORDS / c))
+          ∙ block_empty q w (record { class = c; kind = k; taken = replicate (PAGE_WORDS / c) false; first = 0 }) (replicate_false (PAGE_WORDS / c))
           ∙ sym (found_as s q w free at (ap (state_at s) e ∙ is)));
     }
 
 -- ---- a cell is allocated in t that is free in s
-module _ (s t : List PageState) (p i : ℕ) (b : Cells) (taken : List Bool) (laid : IsLaid s) (cells : IsCells b)
-    (is : state_at s p ≡ cut b) (now : state_at t p ≡ cut (record b { taken = taken }))
+module _ (s t : List PageState) (p i : ℕ) (b : Cells) (taken : List Bool) (n : ℕ) (laid : IsLaid s) (cells : IsCells b)
+    (is : state_at s p ≡ cut b) (now : state_at t p ≡ cut (record b { taken = taken; first = n }))
     (others : (k : ℕ) → Out p 1 k → state_at t k ≡ state_at s k)
     (inside : i < PAGE_WORDS / b.class)
     (was_free : get_or b.taken i false ≡ false) (is_taken : get_or taken i false ≡ true)
@@ -78,7 +78,7 @@ module _ (s t : List PageState) (p i : ℕ) (b : Cells) (taken : List Bool) (lai
   after : (w : ℕ) → IsInside w (cell_object p b i) → found_in t w ≡ Some (cell_object p b i)
   after w reads =
       let r = read_cell p i w b inside reads in
-      found_as t p w (cut (record b { taken = taken })) r.0 now
+      found_as t p w (cut (record b { taken = taken; first = n })) r.0 now
       ∙ cond-true (get_or taken (cell_at b w) false) (Some (cell_object p b (cell_at b w))) None (ap (λ k. get_or taken k false) r.1 ∙ is_taken)
       ∙ ap (λ k. Some (cell_object p b k)) r.1
 
@@ -89,46 +89,46 @@ module _ (s t : List PageState) (p i : ℕ) (b : Cells) (taken : List Bool) (lai
       let e : q ≡ p = omega arith in
       let at' : IsOnPage p w = subst (λ x. IsOnPage x w) e at in
       let ne : cell_at b w ≢ i = λ h. not_read (subst (λ k. IsInside w (cell_object p b k)) h (cell_read p w b cells.class at')) in
-      found_as t p w (cut (record b { taken = taken })) at' now
+      found_as t p w (cut (record b { taken = taken; first = n })) at' now
       ∙ ap (λ x. cond x (Some (cell_object p b (cell_at b w))) None) (same (cell_at b w) ne)
       ∙ sym (found_as s p w (cut b) at' is))
 
   pub cell_added : IsAdded (found_in s) (found_in t) (cell_object p b i)
   cell_added = record { before = before; after = after; others = elsewhere }
 
-taken_in : (s : List PageState) (st : PageState) (p i : ℕ) → IsLaid s → p < length s → state_at s p ≡ st → HasCell st i false → IsAdded (found_in s) (found_in (set s p (with_cell st i true))) (object_on p st i)
-taken_in s free p i laid lt is cell = absurd cell
-taken_in s (cut b) p i laid lt is cell =
+taken_in : (s : List PageState) (st : PageState) (p i n : ℕ) → IsLaid s → p < length s → state_at s p ≡ st → HasCell st i false → IsAdded (found_in s) (found_in (set s p (with_cell st i true n))) (object_on p st i)
+taken_in s free p i n laid lt is cell = absurd cell
+taken_in s (cut b) p i n laid lt is cell =
     let cells : IsCells b = laid_at s p (cut b) laid is lt in
     let size = cells.size in let inside = cell.0 in
-    let span = span_one s p (with_cell (cut b) i true) lt in
-    cell_added s (set s p (with_cell (cut b) i true)) p i b (set b.taken i true) laid cells is (span.inside p (omega arith) (omega arith)) span.others (omega arith)
+    let span = span_one s p (with_cell (cut b) i true n) lt in
+    cell_added s (set s p (with_cell (cut b) i true n)) p i b (set b.taken i true) n laid cells is (span.inside p (omega arith) (omega arith)) span.others (omega arith)
     cell.1 (get_or-set_same b.taken i true false inside) (λ k ne. get_or-set_other b.taken i k true false ne)
-taken_in s (head m k) p i laid lt is cell = absurd cell
-taken_in s (body q) p i laid lt is cell = absurd cell
+taken_in s (head m k) p i n laid lt is cell = absurd cell
+taken_in s (body q) p i n laid lt is cell = absurd cell
 
-pub cell_taken : (s : List PageState) (p i : ℕ) → IsLaid s → p < length s → HasCell (state_at s p) i false
-    → IsAdded (found_in s) (found_in (set s p (with_cell (state_at s p) i true))) (object_on p (state_at s p) i)
-cell_taken s p i laid lt cell = taken_in s (state_at s p) p i laid lt refl cell
+pub cell_taken : (s : List PageState) (p i n : ℕ) → IsLaid s → p < length s → HasCell (state_at s p) i false
+    → IsAdded (found_in s) (found_in (set s p (with_cell (state_at s p) i true n))) (object_on p (state_at s p) i)
+cell_taken s p i n laid lt cell = taken_in s (state_at s p) p i n laid lt refl cell
 
-put_in : (s : List PageState) (st : PageState) (p i : ℕ) → IsLaid s → IsLaid (set s p (with_cell st i false)) → p < length s → state_at s p ≡ st → HasCell st i true
-    → IsAdded (found_in (set s p (with_cell st i false))) (found_in s) (object_on p st i)
-put_in s free p i laid new lt is cell = absurd cell
-put_in s (cut b) p i laid new lt is cell =
+put_in : (s : List PageState) (st : PageState) (p i n : ℕ) → IsLaid s → IsLaid (set s p (with_cell st i false n)) → p < length s → state_at s p ≡ st → HasCell st i true
+    → IsAdded (found_in (set s p (with_cell st i false n))) (found_in s) (object_on p st i)
+put_in s free p i n laid new lt is cell = absurd cell
+put_in s (cut b) p i n laid new lt is cell =
     let cells : IsCells b = laid_at s p (cut b) laid is lt in
     let size = cells.size in let inside = cell.0 in
-    let span = span_one s p (with_cell (cut b) i false) lt in
-    let t : List PageState = set s p (with_cell (cut b) i false) in
-    cell_added t s p i (record b { taken = set b.taken i false }) b.taken new
+    let span = span_one s p (with_cell (cut b) i false n) lt in
+    let t : List PageState = set s p (with_cell (cut b) i false n) in
+    cell_added t s p i (record b { taken = set b.taken i false; first = n }) b.taken b.first new
     (record { class = cells.class; size = length-set b.taken i false ∙ cells.size })
     (span.inside p (omega arith) (omega arith)) is (λ k out. sym (span.others k out)) (omega arith)
     (get_or-set_same b.taken i false false inside) cell.1 (λ k ne. sym (get_or-set_other b.taken i k false false ne))
-put_in s (head m k) p i laid new lt is cell = absurd cell
-put_in s (body q) p i laid new lt is cell = absurd cell
+put_in s (head m k) p i n laid new lt is cell = absurd cell
+put_in s (body q) p i n laid new lt is cell = absurd cell
 
-pub cell_put : (s : List PageState) (p i : ℕ) → IsLaid s → IsLaid (set s p (with_cell (state_at s p) i false)) → p < length s → HasCell (state_at s p) i true
-    → IsAdded (found_in (set s p (with_cell (state_at s p) i false))) (found_in s) (object_on p (state_at s p) i)
-cell_put s p i laid new lt cell = put_in s (state_at s p) p i laid new lt refl cell
+pub cell_put : (s : List PageState) (p i n : ℕ) → IsLaid s → IsLaid (set s p (with_cell (state_at s p) i false n)) → p < length s → HasCell (state_at s p) i true
+    → IsAdded (found_in (set s p (with_cell (state_at s p) i false n))) (found_in s) (object_on p (state_at s p) i)
+cell_put s p i n laid new lt cell = put_in s (state_at s p) p i n laid new lt refl cell
 
 -- ---- a large object comes
 pub large_added : (old new : List PageState) (first n : ℕ) (kind : Kind) → IsLaid old → 0 < n → ((k : ℕ) → first ≤ k → k < first + n → state_at old k ≡ free)

@@ -5,7 +5,7 @@ use Rattle.std.proofs.lemmas.Bool.{cond-true, cond-false, cases_lt, false≢true
 use Rattle.std.proofs.lemmas.List.{get_or_past}
 use Rattle.std.proofs.lemmas.Option.{same_Some}
 use Rattle.std.proofs.Math.Nat.{mul-le-mul_right}
-use Rattle.words.specs.declared.limits.TheConstants.{FIRST_ADDRESS, MAX_PAGES, PAGE_BYTES, PAGE_WORDS}
+use Rattle.words.specs.declared.limits.TheConstants.{FIRST_ADDRESS, MOST_PAGES, PAGE_BYTES, PAGE_WORDS}
 use Rattle.words.specs.declared.class.Kind.{Kind}
 use Rattle.words.proofs.Addresses.{on_its_page, page_is}
 use Rattle.blocks.specs.Cells.{Cells, IsCells, IsInCell, IsLeftOver}
@@ -66,7 +66,7 @@ large_found s p n k f is e = ap (found_large p) is ∙ ap Some (sym e)
 pub body_head : (s : List PageState) (p q : ℕ) → IsLaid s → p < length s → state_at s p ≡ body q → (q < length s) × ((n : ℕ) × (k : Kind) × (state_at s q ≡ head n k))
 body_head s p q laid lt is = let here : LaidAt s p (body q) = laid_at s p (body q) laid is lt in let less = here.0 in (omega arith, (here.1, here.2, here.3))
 
-pub head_few : (s : List PageState) (p n : ℕ) (k : Kind) → IsLaid s → p < length s → state_at s p ≡ head n k → (n ≤ MAX_PAGES) × (p < MAX_PAGES)
+pub head_few : (s : List PageState) (p n : ℕ) (k : Kind) → IsLaid s → p < length s → state_at s p ≡ head n k → (n ≤ MOST_PAGES) × (p < MOST_PAGES)
 head_few s p n k laid lt is = let here : LaidAt s p (head n k) = laid_at s p (head n k) laid is lt in let few = laid.few in let ends = here.1 in (omega arith, omega arith)
 
 pub ruleset finding = (outside, on_free, on_cut, on_head, on_body, large_found, body_head, head_few)

@@ -2,7 +2,7 @@
 use Rattle.std.proofs.Common.{◌≡◌, ℕ, ◌+◌, ◌/◌, ◌<◌, ◌≤◌, Bool, false, List, length, set, replicate, refl, sym, ◌∙◌, subst, arith, ⊎_elim, length-set, get_or-set_same}
 use Rattle.std.proofs.lemmas.Bool.{cases_eq}
 use Rattle.words.specs.declared.class.Kind.{Kind}
-use Rattle.words.specs.declared.limits.TheConstants.{MAX_PAGES, PAGE_WORDS}
+use Rattle.words.specs.declared.limits.TheConstants.{MOST_PAGES, PAGE_WORDS}
 use Rattle.blocks.specs.Cells.{IsCells}
 use Rattle.block_map.specs.States.{PageState, free, cut, head, body, state_at, span_of, LaidAt, IsLaid, IsCut, HasCell, with_cell, IsSpanSet, large_states, all_free, AreFreePages}
 use Rattle.block_map.proofs.Spans.{Out, place_of, IsClosed, IsPlain, free_plain, cut_plain, closed_one, closed_free, closed_head, span_one, large_here, large_else}
@@ -34,14 +34,14 @@ set_one s p st laid lt plain here =
     (λ k a b l. let e : k ≡ p = omega arith in
     subst (λ i. LaidAt (set s p st) i (state_at (set s p st) i)) (sym e) (subst (LaidAt (set s p st) p) (sym (get_or-set_same s p st free lt)) here))
 
-pub laid_block : (s : List PageState) (p c : ℕ) (k : Kind) → IsLaid s → p < length s → state_at s p ≡ free → IsCells (record { class = c; kind = k; taken = replicate (PAGE_WORDS / c) false }) → IsLaid (set s p (all_free c k))
+pub laid_block : (s : List PageState) (p c : ℕ) (k : Kind) → IsLaid s → p < length s → state_at s p ≡ free → IsCells (record { class = c; kind = k; taken = replicate (PAGE_WORDS / c) false; first = 0 }) → IsLaid (set s p (all_free c k))
 laid_block s p c k laid lt is cells = set_one s p (all_free c k) laid lt (subst IsPlain (sym is) free_plain) cells
 
-celled : (s : List PageState) (st : PageState) (p i : ℕ) (b : Bool) → IsCut st → LaidAt s p st → LaidAt (set s p (with_cell st i b)) p (with_cell st i b)
-celled s free p i b is laid = absurd is
-celled s (cut cells) p i b is laid = record { class = laid.class; size = length-set cells.taken i b ∙ laid.size }
-celled s (head m kind) p i b is laid = absurd is
-celled s (body first) p i b is laid = absurd is
+celled : (s : List PageState) (st : PageState) (p i : ℕ) (b : Bool) (n : ℕ) → IsCut st → LaidAt s p st → LaidAt (set s p (with_cell st i b n)) p (with_cell st i b n)
+celled s free p i b n is laid = absurd is
+celled s (cut cells) p i b n is laid = record { class = laid.class; size = length-set cells.taken i b ∙ laid.size }
+celled s (head m kind) p i b n is laid = absurd is
+celled s (body first) p i b n is laid = absurd is
 
 pub cell_cut : (st : PageState) (i : ℕ) (b : Bool) → HasCell st i b → IsCut st
 cell_cut free i b h = absurd h
@@ -49,11 +49,11 @@ cell_cut (cut cells) i b h = tt
 cell_cut (head n kind) i b h = absurd h
 cell_cut (body first) i b h = absurd h
 
-pub laid_cell : (s : List PageState) (p i : ℕ) (a b : Bool) → IsLaid s → p < length s → HasCell (state_at s p) i a → IsLaid (set s p (with_cell (state_at s p) i b))
-laid_cell s p i a b laid lt h =
-    let is = cell_cut (state_at s p) i a h in set_one s p _ laid lt (cut_plain _ is) (celled s (state_at s p) p i b is (laid.each p lt))
+pub laid_cell : (s : List PageState) (p i : ℕ) (a b : Bool) (n : ℕ) → IsLaid s → p < length s → HasCell (state_at s p) i a → IsLaid (set s p (with_cell (state_at s p) i b n))
+laid_cell s p i a b n laid lt h =
+    let is = cell_cut (state_at s p) i a h in set_one s p _ laid lt (cut_plain _ is) (celled s (state_at s p) p i b n is (laid.each p lt))
 
-pub laid_free : (s : List PageState) (n : ℕ) → AreFreePages s n → n ≤ MAX_PAGES → IsLaid s
+pub laid_free : (s : List PageState) (n : ℕ) → AreFreePages s n → n ≤ MOST_PAGES → IsLaid s
 laid_free s n all few = record {
   few = let size = all.size in omega arith;
   each = λ k lt. subst (LaidAt s k) (sym (all.each k)) tt;

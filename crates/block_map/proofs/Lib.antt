@@ -2,12 +2,15 @@ pub mod Bases
 pub mod Changing
 pub mod Filling
 pub mod Finding
+pub mod Padding
 pub mod Laid
+pub mod Listed
+pub mod Linking
 pub mod Lawful
 pub mod Seen
 pub mod Spans
 pub mod Sweeping
-pub mod Taking
+pub mod Unread
 pub mod Takings
 pub mod Walking
 pub mod Words

@@ -15,6 +15,8 @@ use Rattle.block_map.proofs.Laid.{set_one}
 use Rattle.block_map.specs.Objects.{cell_object, IsInside, IsObjectOn}
 use Rattle.block_map.specs.FoundIn.{cell_at, found_in, IsLawful}
 use Rattle.block_map.specs.Sweeps.{SweepsObjects, SweepsOn}
+use Rattle.block_map.specs.Listed.{AreListed, IsListedOn}
+use Rattle.block_map.proofs.Listed.{listed_else}
 use Rattle.block_map.specs.declared.found.Found.{Found}
 use Rattle.block_map.proofs.Spans.{Out, IsPlain, cut_plain, closed_one, span_one}
 use Rattle.block_map.proofs.Words.{read_cell}
@@ -118,3 +120,7 @@ module _ (s t : List PageState) (p : ℕ) (marks : List Bool) (laid : IsLaid s) 
   pub objects_swept : IsLawful s → SweepsObjects (found_in s) (found_in t) marks p
   objects_swept lawful = sweeps_objects s t p marks x.old x.new laid lawful cells_before x.was x.is
       (λ k out. ap (λ y. state_at y k) became ∙ (span_one s p (state_at t p) lt).others k out) x.cells
+
+  -- and its lists
+  pub listed_swept : (words : List ℕ) → IsListedOn words p (state_at t p) → AreListed words s → AreListed words t
+  listed_swept words here listed = listed_else words s t p laid lt listed became here

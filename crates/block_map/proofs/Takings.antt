@@ -2,54 +2,55 @@
 use Rattle.std.proofs.Common.{◌≡◌, ◌≢◌, ℕ, ◌<◌, true, false, Bool, List, [], length, set, refl, sym, ap, ◌∙◌, subst, arith, length-set, get_or-set_same, get_or-set_other}
 use Rattle.std.proofs.lemmas.List.{set-set, set-get_or}
 use Rattle.words.specs.declared.class.Kind.{Kind}
-use Rattle.words.specs.Bits.{Fills}
-use Rattle.block_map.specs.FreeCells.{IsFirstFree}
-use Rattle.block_map.specs.States.{PageState, free, cut, state_at, with_cell, IsLaid}
-use Rattle.block_map.specs.Takings.{with_taken, TakesCells, FillsOn}
+use Rattle.blocks.specs.Lists.{link_of, Pops}
+use Rattle.block_map.specs.Listed.{first_on, link_on, with_taken, HasFirst}
+use Rattle.block_map.specs.States.{PageState, free, cut, state_at, IsLaid}
+use Rattle.block_map.specs.Takings.{after_take, TakesCells, PopsOn}
 use Rattle.block_map.proofs.Laid.{laid_cell}
 use Rattle.block_map.proofs.Changing.{cell_taken}
-use Rattle.block_map.proofs.Taking.{first_is_free}
 
--- a page cut for a class and a kind, with these cells allocated
-abbrev cut_as : ℕ → Kind → List Bool → PageState
-cut_as c k taken = cut (record { class = c; kind = k; taken = taken })
+-- a page cut for a class and a kind, with these cells allocated and this first free one
+abbrev cut_as : ℕ → Kind → List Bool → ℕ → PageState
+cut_as c k taken first = cut (record { class = c; kind = k; taken = taken; first = first })
 
-takes_row : {row after : List Bool} {cells : List ℕ} → Fills row cells after → (s : List PageState) (p c : ℕ) (k : Kind) → IsLaid s → p < length s → state_at s p ≡ cut_as c k row
-    → TakesCells p s cells (set s p (cut_as c k after)) × IsLaid (set s p (cut_as c k after))
-takes_row (Fills.done {row = row}) s p c k laid lt is =
-    let same : set s p (cut_as c k row) ≡ s = ap (set s p) (sym is) ∙ set-get_or s p free in
-    (subst (TakesCells p s []) (sym same) TakesCells.done, subst IsLaid (sym same) laid)
-takes_row (Fills.next {row = row} {new = after} {i = i} {more = more} first rest) s p c k laid lt is =
-    let lowest : IsFirstFree (state_at s p) i = subst (λ st. IsFirstFree st i) (sym is) first in
-    let has = first_is_free (state_at s p) i lowest in
-    let here : with_cell (state_at s p) i true ≡ cut_as c k (set row i true) = ap (λ st. with_cell st i true) is in
-    let size : length (with_taken s p i) ≡ length s = length-set s p (with_cell (state_at s p) i true) in
-    let later = takes_row rest (with_taken s p i) p c k (laid_cell s p i false true laid lt has) (omega (arith, size, lt))
-    (get_or-set_same s p (with_cell (state_at s p) i true) free lt ∙ here) in
-    let same : set (with_taken s p i) p (cut_as c k after) ≡ set s p (cut_as c k after) = set-set s p (with_cell (state_at s p) i true) (cut_as c k after) in
-    (TakesCells.next laid lowest (cell_taken s p i laid lt has) (subst (TakesCells p (with_taken s p i) more) same later.0), subst IsLaid same later.1)
+takes_row : {link : ℕ → ℕ} {row after : List Bool} {first last : ℕ} {cells : List ℕ} → Pops link row first cells after last → (words : List ℕ) (s : List PageState) (p c : ℕ) (k : Kind) → link ≡ link_of words p c → IsLaid s → p < length s
+    → state_at s p ≡ cut_as c k row first → TakesCells words p s cells (set s p (cut_as c k after last)) × IsLaid (set s p (cut_as c k after last))
+takes_row (Pops.done {row = row} {first = first}) words s p c k links laid lt is =
+    let same : set s p (cut_as c k row first) ≡ s = ap (set s p) (sym is) ∙ set-get_or s p free in
+    (subst (TakesCells words p s []) (sym same) TakesCells.done, subst IsLaid (sym same) laid)
+takes_row {link = link} (Pops.next {row = row} {new = after} {first = first} {last = last} {more = more} here rest) words s p c k links laid lt is =
+    let begins : first_on (state_at s p) ≡ first = ap first_on is in
+    let has : HasFirst (state_at s p) = subst HasFirst (sym is) (here.inside, here.free) in
+    let became : with_taken words p (state_at s p) ≡ cut_as c k (set row first true) (link_of words p c first) = ap (with_taken words p) is in
+    let became_so : with_taken words p (state_at s p) ≡ cut_as c k (set row first true) (link first) = became ∙ ap (λ l. cut_as c k (set row first true) (l first)) (sym links) in
+    let size : length (after_take words s p) ≡ length s = length-set s p (with_taken words p (state_at s p)) in
+    let n : ℕ = link_on words p (state_at s p) (first_on (state_at s p)) in
+    let later = takes_row rest words (after_take words s p) p c k links (laid_cell s p (first_on (state_at s p)) false true n laid lt has) (omega (arith, size, lt))
+    (get_or-set_same s p (with_taken words p (state_at s p)) free lt ∙ became_so) in
+    let same : set (after_take words s p) p (cut_as c k after last) ≡ set s p (cut_as c k after last) = set-set s p (with_taken words p (state_at s p)) (cut_as c k after last) in
+    (TakesCells.next laid (sym begins) has (cell_taken s p (first_on (state_at s p)) n laid lt has) (subst (TakesCells words p (after_take words s p) more) same later.0), subst IsLaid same later.1)
 
 -- cells of a page were taken, and all other pages are as they were
-pub takes_cells : (s new : List PageState) (p : ℕ) (cells : List ℕ) → IsLaid s → p < length s → new ≡ set s p (state_at new p) → FillsOn (state_at s p) cells (state_at new p)
-    → TakesCells p s cells new × IsLaid new
-takes_cells s new p cells laid lt else on =
-    let taken = takes_row on.fills s p on.block.class on.block.kind laid lt on.was in
-    let same : set s p (cut_as on.block.class on.block.kind on.taken) ≡ new = sym (else ∙ ap (set s p) on.is) in
-    (subst (TakesCells p s cells) same taken.0, subst IsLaid same taken.1)
+pub takes_cells : (words : List ℕ) (s new : List PageState) (p : ℕ) (cells : List ℕ) → IsLaid s → p < length s → new ≡ set s p (state_at new p) → PopsOn words p (state_at s p) cells (state_at new p)
+    → TakesCells words p s cells new × IsLaid new
+takes_cells words s new p cells laid lt else on =
+    let taken = takes_row on.pops words s p on.block.class on.block.kind refl laid lt on.was in
+    let same : set s p (cut_as on.block.class on.block.kind on.taken on.first) ≡ new = sym (else ∙ ap (set s p) on.is) in
+    (subst (TakesCells words p s cells) same taken.0, subst IsLaid same taken.1)
 
 -- there are as many pages as before
-pub taken_size : {page : ℕ} {states new : List PageState} {cells : List ℕ} → TakesCells page states cells new → length new ≡ length states
+pub taken_size : {words : List ℕ} {page : ℕ} {states new : List PageState} {cells : List ℕ} → TakesCells words page states cells new → length new ≡ length states
 taken_size TakesCells.done = refl
-taken_size {page = page} (TakesCells.next {states = states} {cell = cell} laid lowest added rest) =
-    taken_size rest ∙ length-set states page (with_cell (state_at states page) cell true)
+taken_size {words = words} {page = page} (TakesCells.next {states = states} laid at has added rest) =
+    taken_size rest ∙ length-set states page (with_taken words page (state_at states page))
 
 -- other pages are as they were
-pub taken_else : {page : ℕ} {states new : List PageState} {cells : List ℕ} → TakesCells page states cells new → (p : ℕ) → p ≢ page → state_at new p ≡ state_at states p
+pub taken_else : {words : List ℕ} {page : ℕ} {states new : List PageState} {cells : List ℕ} → TakesCells words page states cells new → (p : ℕ) → p ≢ page → state_at new p ≡ state_at states p
 taken_else TakesCells.done p ne = refl
-taken_else {page = page} (TakesCells.next {states = states} {cell = cell} laid lowest added rest) p ne =
-    taken_else rest p ne ∙ get_or-set_other states page p (with_cell (state_at states page) cell true) free ne
+taken_else {words = words} {page = page} (TakesCells.next {states = states} laid at has added rest) p ne =
+    taken_else rest p ne ∙ get_or-set_other states page p (with_taken words page (state_at states page)) free ne
 
 -- the map was laid out before
-pub laid_before : {page : ℕ} {states new : List PageState} {cells : List ℕ} → TakesCells page states cells new → IsLaid new → IsLaid states
+pub laid_before : {words : List ℕ} {page : ℕ} {states new : List PageState} {cells : List ℕ} → TakesCells words page states cells new → IsLaid new → IsLaid states
 laid_before TakesCells.done laid = laid
-laid_before (TakesCells.next laid lowest added rest) after = laid
+laid_before (TakesCells.next laid at has added rest) after = laid

@@ -1,20 +1,13 @@
 -- Which cells of a page are free.
-use Rattle.std.specs.Prelude.{ℕ, MatchBool}
-use Rattle.words.specs.Bits.{IsEmptyFrom, IsFirstClearFrom, IsFirstFrom, IsFullRow}
+use Rattle.std.specs.Prelude.{ℕ, false, MatchBool}
+use Rattle.words.specs.Bits.{IsEmptyFrom, IsFirstFrom, IsFullRow}
 use Rattle.words.specs.Classes.{IsSizeClass}
-use Rattle.block_map.specs.States.{PageState, free, cut, head, body, IsBlockFor}
+use Rattle.block_map.specs.States.{PageState, free, cut, head, body, HasCell, IsBlockFor}
 use Rattle.block_map.specs.declared.found.Put.{Put}
 
--- the page is cut, and i is its lowest free cell
-abbrev pub IsFirstFree : PageState → ℕ → Type 0
-IsFirstFree free i = ⊥
-IsFirstFree (cut b) i = IsFirstClearFrom b.taken 0 i
-IsFirstFree (head n kind) i = ⊥
-IsFirstFree (body first) i = ⊥
-
--- the page is cut, and has a lowest free cell
+-- the page is cut, and has a free cell
 abbrev pub HasFree : PageState → Type 0
-HasFree st = (i : ℕ) × IsFirstFree st i
+HasFree st = (i : ℕ) × HasCell st i false
 
 -- the page is cut, and each cell is allocated
 abbrev pub IsFullOn : PageState → Type 0

@@ -1,6 +1,7 @@
 pub mod Changes
 pub mod FoundIn
 pub mod FreeCells
+pub mod Listed
 pub mod Objects
 pub mod Shown
 pub mod States

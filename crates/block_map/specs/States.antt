@@ -1,7 +1,7 @@
 -- What stands on each page of the heap.
 use Rattle.std.specs.Prelude.{◌≡◌, ℕ, ◌+◌, ◌/◌, ◌<◌, ◌≤◌, ◌⊎◌, ◌==◌, if◌then◌else◌, Bool, false, List, length, replicate, slice_index_or, slice_set}
 use Rattle.words.specs.declared.class.Kind.{Kind}
-use Rattle.words.specs.declared.limits.TheConstants.{MAX_PAGES, PAGE_WORDS}
+use Rattle.words.specs.declared.limits.TheConstants.{MOST_PAGES, PAGE_WORDS}
 use Rattle.blocks.specs.Cells.{Cells, IsCells}
 
 -- a free page, a page cut into cells, the first page of a large object of so many pages, and a further page of the
@@ -25,7 +25,7 @@ LaidAt states page (body first) = (first < page) × (n : ℕ) × (kind : Kind) �
 
 -- large objects lie on consecutive pages, and blocks have the cells of their class
 pub record IsLaid (states : List PageState) : Type 0 where
-  pub few : length states ≤ MAX_PAGES
+  pub few : length states ≤ MOST_PAGES
   pub each : (page : ℕ) → page < length states → LaidAt states page (state_at states page)
 
 -- the page is cut
@@ -49,16 +49,16 @@ HasCell (cut b) i taken = (i < length b.taken) × (slice_index_or b.taken i fals
 HasCell (head n kind) i taken = ⊥
 HasCell (body first) i taken = ⊥
 
--- the state with the cell i allocated, or free
-abbrev pub with_cell : PageState → ℕ → Bool → PageState
-with_cell free i taken = free
-with_cell (cut b) i taken = cut (record b { taken = slice_set b.taken i taken })
-with_cell (head n kind) i taken = head n kind
-with_cell (body first) i taken = body first
+-- the state with the cell i allocated, or free, and this first free cell
+abbrev pub with_cell : PageState → ℕ → Bool → ℕ → PageState
+with_cell free i taken begin = free
+with_cell (cut b) i taken begin = cut (record b { taken = slice_set b.taken i taken; first = begin })
+with_cell (head n kind) i taken begin = head n kind
+with_cell (body first) i taken begin = body first
 
--- a page that is cut for a class and a kind, with all its cells free
+-- a page that is cut for a class and a kind, with all its cells free, the first one first
 abbrev pub all_free : ℕ → Kind → PageState
-all_free class kind = cut (record { class = class; kind = kind; taken = replicate (PAGE_WORDS / class) false })
+all_free class kind = cut (record { class = class; kind = kind; taken = replicate (PAGE_WORDS / class) false; first = 0 })
 
 -- how many pages what begins on a page has, and 0 where nothing does
 abbrev pub span_of : PageState → ℕ

@@ -2,7 +2,7 @@
 //! multiplication.
 ghost use Rattle.std.specs.Prelude.{◌≡◌, ℕ, ◌+◌, ◌*◌, ◌<◌, ◌≤◌, length, IfSome, MatchOption, Option, None, Some};
 ghost use Rattle.words.specs.declared.class.Kind.{Kind};
-ghost use Rattle.words.specs.declared.limits.TheConstants.{MAX_PAGES, WORD_BYTES};
+ghost use Rattle.words.specs.declared.limits.TheConstants.{MOST_PAGES, WORD_BYTES};
 ghost use Rattle.words.specs.Layout.{page_start, IsOnPage, IsOutside};
 ghost use Rattle.blocks.specs.Cells.{IsCells};
 ghost use Rattle.block_map.specs.States.{head, state_at};
@@ -116,7 +116,7 @@ impl BlockMap {
 #[inline]
 #[tactic(auto, using(crate::proofs::Finding::on_page))]
 fn find_in_block(page: PageNo, block: &Block, w: u64) -> Option<Found>
-    requires { page < MAX_PAGES }
+    requires { page < MOST_PAGES }
     ensures found { result ≡ found_in_block page block.now w }
     ensures cells { IsCells block.now }
 {
@@ -134,7 +134,7 @@ fn find_in_block(page: PageNo, block: &Block, w: u64) -> Option<Found>
 /// look-up of the address.
 #[inline]
 pub fn object_from(page: PageNo, block: &Block, base: u64) -> Option<Found>
-    requires { page < MAX_PAGES }
+    requires { page < MOST_PAGES }
     ensures object { MatchOption result ((f : Found) → found_in_block page block.now base ≡ Some f → f.base ≡ base → ⊥) (λ f. (found_in_block page block.now base ≡ Some f) × (f.base ≡ base)) }
     ensures inside { IfSome result (λ f. f.base + WORD_BYTES * f.len ≤ page_start (page + 1)) }
 {
@@ -152,7 +152,7 @@ pub fn object_from(page: PageNo, block: &Block, base: u64) -> Option<Found>
 #[inline]
 #[tactic(auto, using(crate::proofs::Finding::on_page))]
 fn object_in_block(page: PageNo, block: &Block, base: u64) -> Found
-    requires page { page < MAX_PAGES }
+    requires page { page < MOST_PAGES }
     requires base { (f : Found) × (found_in_block page block.now base ≡ Some f) × (f.base ≡ base) }
     ensures { found_in_block page block.now base ≡ Some result }
 {
@@ -172,7 +172,7 @@ fn object_in_block(page: PageNo, block: &Block, base: u64) -> Found
 #[inline]
 #[tactic(auto, using(crate::proofs::Finding::on_page))]
 pub(crate) fn cell_at(page: PageNo, block: &Block, cell: u16) -> Found
-    requires page { page < MAX_PAGES }
+    requires page { page < MOST_PAGES }
     requires cell { cell < length block.now.taken }
     ensures { result ≡ cell_object page block.now cell }
 {
@@ -189,8 +189,8 @@ pub(crate) fn cell_at(page: PageNo, block: &Block, cell: u16) -> Found
 // The large object that begins on a page.
 #[inline]
 pub(crate) fn large_at(page: PageNo, large: LargeHead) -> Found
-    requires page { page < MAX_PAGES }
-    requires few { large.pages ≤ MAX_PAGES }
+    requires page { page < MOST_PAGES }
+    requires few { large.pages ≤ MOST_PAGES }
     ensures { result ≡ large_object page large.pages large.kind }
 {
     Found {

@@ -1,11 +1,15 @@
 //! The map of a heap, seen as the list of what stands on its pages, and through `found_in` as a function from every
 //! word to the object that it points into.
-ghost use Rattle.std.specs.Prelude.{◌≡◌, ℕ, ◌+◌, ◌*◌, ◌<◌, ◌≤◌, true, false, length, map, slice_set, take, IfNone, IfSome, MatchBool};
-ghost use Rattle.words.specs.declared.limits.TheConstants.{MAX_PAGES, PAGE_GRANULES};
-ghost use Rattle.pages.specs.Opening.{IsOpened};
-ghost use Rattle.words.specs.Layout.{page_start};
-ghost use Rattle.block_map.specs.States.{free, state_at, all_free, large_states, with_cell, span_of, HasCell, IsCut, AreFreePages, IsSpanSet};
-ghost use Rattle.block_map.specs.FreeCells.{HasFree, IsFirstFree, IsFullOn, TellsOf};
+ghost use Rattle.std.specs.Prelude.{◌≡◌, ℕ, ◌+◌, ◌*◌, ◌<◌, ◌≤◌, true, false, List, length, map, slice_set, take, IfNone, IfSome, MatchBool, Some};
+ghost use Rattle.words.specs.declared.limits.TheConstants.{MOST_PAGES, PAGE_GRANULES};
+ghost use Rattle.pages.specs.Opening.{IsOpenedWithin};
+ghost use Rattle.words.specs.Layout.{page_of, page_start};
+ghost use Rattle.block_map.specs.declared.found.Found.{Found};
+ghost use Rattle.block_map.specs.States.{free, state_at, all_free, large_states, span_of, HasCell, IsCut, AreFreePages, IsSpanSet};
+ghost use Rattle.pages.specs.Memory.{with_word_at};
+ghost use Rattle.blocks.specs.Lists.{ChangesPage};
+ghost use Rattle.block_map.specs.FreeCells.{IsFullOn, TellsOf};
+ghost use Rattle.block_map.specs.Listed.{first_object, first_on, with_first, with_put, with_taken, AreListed, ChangesFreeOn, HasFirst, IsLinked};
 ghost use Rattle.block_map.specs.Objects.{object_on, large_object};
 ghost use Rattle.block_map.specs.FoundIn.{found_in, IsLawful};
 ghost use Rattle.block_map.specs.Sweeps.{SweepsObjects, SweepsOn};
@@ -14,11 +18,9 @@ ghost use Rattle.block_map.specs.Changes.{IsSameMap, IsAdded, IsRemoved, IsClear
 
 use crate::found::{Put, Taken, TakenCells};
 use crate::page::Page;
-use crate::page_changes::{
-    fill_free, fill_large, free_pages, put_cell, put_page, sweep_cells, take_cell, take_cells,
-};
+use crate::page_list::PageList;
 use blocks::Block;
-use pages::is_page_count;
+use pages::{Memory, is_page_count};
 use std::alloc::Global;
 use std::marker::Model;
 use words::{BitRow, Class, Kind, OpenError, PageNo};
@@ -26,20 +28,18 @@ use words::{BitRow, Class, Kind, OpenError, PageNo};
 /// What stands on the pages of a heap.
 #[derive(Drop)]
 pub struct BlockMap {
-    pages: Vec<Page>,
+    pages: PageList,
 }
 
 impl Model for BlockMap {
-    ghost use Rattle.std.specs.Prelude.{List, map};
+    ghost use Rattle.std.specs.Prelude.{List};
     ghost use Rattle.block_map.specs.States.{PageState, IsLaid};
 
     ghost Value = { List PageState };
 
-    ghost use Rattle.block_map.specs.Shown.{shown};
+    ghost view = { λ m. m.pages };
 
-    ghost view = { λ m. map shown m.pages.items };
-
-    ghost invariant = { λ m. IsLaid (map shown m.pages.items) };
+    ghost invariant = { λ m. IsLaid m.pages };
 }
 
 impl BlockMap {
@@ -49,12 +49,12 @@ impl BlockMap {
     /// So many pages, each of them free.
     #[tactic(auto, using(crate::proofs::Laid::laid, crate::proofs::Changing::changing))]
     pub fn new(alloc: Global, pages: u32) -> Result<BlockMap, OpenError>
-        ensures { IsOpened pages result (λ m. AreFreePages m pages) }
+        ensures { IsOpenedWithin MOST_PAGES pages result (λ m. AreFreePages m pages) }
     {
         if !is_page_count(pages) {
             return Err(OpenError::BadPages);
         }
-        let pages = free_pages(alloc, pages)?;
+        let pages = PageList::new(alloc, pages)?;
         Ok(BlockMap { pages })
     }
 
@@ -62,7 +62,7 @@ impl BlockMap {
     #[inline]
     #[tactic(auto, using(crate::proofs::Lawful::laws))]
     pub fn laws(&self)
-        ensures small { length self.now ≤ MAX_PAGES }
+        ensures small { length self.now ≤ MOST_PAGES }
         ensures laid { IsLaid self.now }
         ensures lawful { IsLawful self.now }
     {
@@ -73,23 +73,38 @@ impl BlockMap {
     #[tactic(auto, using(crate::proofs::Lawful::laws))]
     pub fn len(&self) -> u32
         ensures len { result ≡ length self.now }
-        ensures small { result ≤ MAX_PAGES }
+        ensures small { result ≤ MOST_PAGES }
         ensures laid { IsLaid self.now }
         ensures lawful { IsLawful self.now }
     {
-        self.pages.len() as u32
+        self.pages.len()
     }
 
-    /// Cuts a free page into cells of a class. No word points into another object than before.
+    /// How many pages, from the first one on, may have something on them: past them all are free, and nothing of the map was
+    /// ever written there.
+    #[inline]
+    pub fn used(&self) -> u32
+        ensures inside { result ≤ length self.now }
+        ensures past { (k : ℕ) → result ≤ k → state_at self.now k ≡ free }
+        ensures below { (w : ℕ) (f : Found) → found_in self.now w ≡ Some f → page_of w < result }
+    {
+        self.pages.used()
+    }
+
+    /// Cuts a free page into cells of a class, and makes them a list. No word points into another object than before.
     #[tactic(auto, using(crate::proofs::Laid::laid, crate::proofs::Changing::changing))]
-    pub fn cut(&mut self, page: PageNo, class: Class, kind: Kind)
+    pub fn cut(&mut self, memory: &mut Memory, page: PageNo, class: Class, kind: Kind)
         requires inside { page < length self.old }
         requires free { state_at self.old page ≡ free }
+        requires listed { AreListed memory.old self.old }
         ensures states { self.new ≡ slice_set self.old page (all_free class kind) }
         ensures same { IsSameMap (found_in self.old) (found_in self.new) }
+        ensures memory { ChangesPage memory.old memory.new page }
+        ensures listed { AreListed memory.new self.new }
     {
-        let block = Block::new(class, kind);
-        put_page(&mut self.pages, page as usize, Page::Cut(block));
+        self.laws();
+        let block = Block::new(memory, page, class, kind);
+        self.pages.put_page(page as usize, Page::Cut(block));
     }
 
     /// Makes free pages one large object, which is allocated from then on.
@@ -101,7 +116,7 @@ impl BlockMap {
         ensures states { IsSpanSet self.old self.new first pages (large_states first pages kind) }
         ensures added { IsAdded (found_in self.old) (found_in self.new) (large_object first pages kind) }
     {
-        fill_large(&mut self.pages, first, pages, kind);
+        self.pages.fill_large(first, pages, kind);
     }
 
     /// Makes the page of a block free, or all pages of the large object that begins there.
@@ -114,7 +129,7 @@ impl BlockMap {
         ensures uncut { IsUncut page (state_at self.old page) (found_in self.old) (found_in self.new) }
     {
         let count = self.span(page);
-        fill_free(&mut self.pages, page, count);
+        self.pages.fill_free(page, count);
     }
 
     /// How many pages what begins on a page has: 1 for a block, those of a large object, and 0 where nothing begins.
@@ -131,51 +146,62 @@ impl BlockMap {
         }
     }
 
-    /// Takes the lowest free cell of a page that is cut for a new object. `None` exactly if every cell is allocated, and
-    /// then nothing changes.
+    /// Takes the first free cell of a page that is cut for a new object; the next one is then the first. `None` exactly if
+    /// every cell is allocated, and then nothing changes.
     #[inline(always)]
     #[tactic(auto, using(crate::proofs::Laid::laid, crate::proofs::Changing::changing))]
-    pub fn take(&mut self, page: PageNo) -> Option<Taken>
+    pub fn take(&mut self, memory: &Memory, page: PageNo) -> Option<Taken>
         requires inside { page < length self.old }
-        requires cut { IsCut (state_at self.old page) }
+        requires linked { IsLinked (state_at self.old page) }
+        requires listed { AreListed memory.now self.old }
         ensures none { IfNone result (IsFullOn (state_at self.old page)) }
         ensures same { IfNone result (self.new ≡ self.old) }
-        ensures object { IfSome result (λ t. t.object ≡ object_on page (state_at self.old page) t.object.cell) }
-        ensures first { IfSome result (λ t. IsFirstFree (state_at self.old page) t.object.cell) }
-        ensures states { IfSome result (λ t. self.new ≡ slice_set self.old page (with_cell (state_at self.old page) t.object.cell true)) }
+        ensures object { IfSome result (λ t. t.object ≡ first_object page (state_at self.old page)) }
+        ensures free { IfSome result (λ _. HasFirst (state_at self.old page)) }
+        ensures states { IfSome result (λ _. self.new ≡ slice_set self.old page (with_taken memory.now page (state_at self.old page))) }
         ensures added { IfSome result (λ t. IsAdded (found_in self.old) (found_in self.new) t.object) }
-        ensures last { IfSome result (λ t. MatchBool t.was_last (IsFullOn (state_at self.new page)) (HasFree (state_at self.new page))) }
+        ensures last { IfSome result (λ t. MatchBool t.was_last (IsFullOn (state_at self.new page)) (HasFirst (state_at self.new page))) }
+        ensures listed { AreListed memory.now self.new }
+        ensures linked { IsLinked (state_at self.new page) }
     {
-        take_cell(&mut self.pages, page)
+        self.pages.take_cell(memory, page)
     }
 
-    /// Takes the lowest free cells of a page that is cut, as many as there is room for, each for a new object, and writes them down in their
+    /// Takes the first free cells of a page that is cut, as many as there is room for, each for a new object, and writes them down in their
     /// order. Fewer than there is room for only if every cell is allocated then.
-    pub fn take_many(&mut self, page: PageNo, cells: &mut [u16]) -> TakenCells
+    pub fn take_many(&mut self, memory: &Memory, page: PageNo, cells: &mut [u16]) -> TakenCells
         requires inside { page < length self.old }
-        requires cut { IsCut (state_at self.old page) }
+        requires linked { IsLinked (state_at self.old page) }
+        requires listed { AreListed memory.now self.old }
         ensures size { length cells.new ≡ length cells.old }
         ensures few { result.count ≤ length cells.new }
-        ensures takes { TakesCells page self.old (take result.count cells.new) self.new }
+        ensures takes { TakesCells memory.now page self.old (take result.count cells.new) self.new }
         ensures short { result.count < length cells.new → IsFullOn (state_at self.new page) }
-        ensures full { MatchBool result.is_full (IsFullOn (state_at self.new page)) (HasFree (state_at self.new page)) }
+        ensures full { MatchBool result.is_full (IsFullOn (state_at self.new page)) (HasFirst (state_at self.new page)) }
+        ensures listed { AreListed memory.now self.new }
+        ensures linked { IsLinked (state_at self.new page) }
     {
-        take_cells(&mut self.pages, page, cells)
+        self.pages.take_cells(memory, page, cells)
     }
 
-    /// Makes an allocated cell free. Answers what is left on the page.
+    /// Makes an allocated cell free, and the first free one of its page where that has a list. Its first word gets the number of the one that was
+    /// first, and no other word changes. Answers what is left on the page.
     #[tactic(auto, using(crate::proofs::Laid::laid, crate::proofs::Changing::changing))]
-    pub fn put(&mut self, page: PageNo, cell: u16) -> Put
+    pub fn put(&mut self, memory: &mut Memory, page: PageNo, cell: u16) -> Put
         requires inside { page < length self.old }
         requires cell { HasCell (state_at self.old page) cell true }
-        ensures states { self.new ≡ slice_set self.old page (with_cell (state_at self.old page) cell false) }
+        requires listed { AreListed memory.old self.old }
+        ensures states { self.new ≡ slice_set self.old page (with_put (state_at self.old page) cell) }
         ensures removed { IsRemoved (found_in self.old) (found_in self.new) (object_on page (state_at self.old page) cell) }
-        ensures tells { TellsOf (state_at self.old page) (with_cell (state_at self.old page) cell false) result }
+        ensures memory { memory.new ≡ with_word_at memory.old (object_on page (state_at self.old page) cell).base (first_on (state_at self.old page)) }
+        ensures listed { AreListed memory.new self.new }
+        ensures tells { TellsOf (state_at self.old page) (with_put (state_at self.old page) cell) result }
     {
-        put_cell(&mut self.pages, page, cell)
+        self.pages.put_cell(memory, page, cell)
     }
 
-    /// Sweeps a page that is cut: its unmarked objects go. The marks are those of the heap's granules.
+    /// Sweeps a page that is cut: its unmarked objects go. No word changes: a list of its free cells is made once one is
+    /// wanted. The marks are those of the heap's granules.
     pub fn sweep(&mut self, page: PageNo, marks: &BitRow)
         requires inside { page < length self.old }
         requires cut { IsCut (state_at self.old page) }
@@ -183,19 +209,36 @@ impl BlockMap {
         ensures states { self.new ≡ slice_set self.old page (state_at self.new page) }
         ensures sweeps { SweepsOn marks.now page (state_at self.old page) (state_at self.new page) }
         ensures objects { SweepsObjects (found_in self.old) (found_in self.new) marks.now page }
+        ensures listed { (words : List ℕ) → AreListed words self.old → AreListed words self.new }
     {
         self.laws();
-        sweep_cells(&mut self.pages, page, marks)
+        self.pages.sweep_cells(page, marks)
+    }
+
+    /// Makes the free cells of a page that is cut a list in their order, if they are none.
+    #[inline(always)]
+    pub fn link(&mut self, memory: &mut Memory, page: PageNo)
+        requires inside { page < length self.old }
+        requires cut { IsCut (state_at self.old page) }
+        requires listed { AreListed memory.old self.old }
+        ensures states { self.new ≡ slice_set self.old page (state_at self.new page) }
+        ensures first { state_at self.new page ≡ with_first (state_at self.old page) (first_on (state_at self.new page)) }
+        ensures linked { IsLinked (state_at self.new page) }
+        ensures same { IsSameMap (found_in self.old) (found_in self.new) }
+        ensures memory { ChangesFreeOn memory.old memory.new page (state_at self.old page) }
+        ensures listed { AreListed memory.new self.new }
+    {
+        self.laws();
+        self.pages.link_cells(memory, page)
     }
 
     // What stands on a page.
     #[inline]
-    #[tactic(auto, using(crate::proofs::Seen::state_read))]
     pub(crate) fn page(&self, page: PageNo) -> &Page
         requires { page < length self.now }
         ensures state { state_at self.now page ≡ shown result.now }
         ensures laid { IsLaid self.now }
     {
-        &self.pages[page as usize]
+        self.pages.at(page as usize)
     }
 }

@@ -1,6 +1,6 @@
 //! The pages of a map one by one: what stands on a page, and its objects in their order.
 ghost use Rattle.std.specs.Prelude.{◌≡◌, ◌≢◌, ◌+◌, ◌<◌, ◌≤◌, length, MatchOption, MatchBool};
-ghost use Rattle.words.specs.declared.limits.TheConstants.{MAX_PAGES};
+ghost use Rattle.words.specs.declared.limits.TheConstants.{MOST_PAGES};
 ghost use Rattle.words.specs.Bits.{IsEmptyFrom};
 ghost use Rattle.words.specs.Layout.{page_start, IsOnPage};
 ghost use Rattle.block_map.specs.States.{free, cut, state_at, IsCut};
@@ -60,7 +60,7 @@ impl BlockMap {
 #[inline(always)]
 #[tactic(auto, using(crate::proofs::Walking::cells))]
 fn next_in_block(page: PageNo, block: &Block, from: u64) -> Option<Found>
-    requires page { page < MAX_PAGES }
+    requires page { page < MOST_PAGES }
     requires from { IsOnPage page from }
     ensures { MatchOption result (IsEmptyFrom block.now.taken (cell_at block.now from)) (λ f. IsNextCell page block.now from f) }
 {

@@ -4,11 +4,13 @@ use Rattle.words.specs.declared.class.Kind.{Kind}
 use Rattle.words.specs.declared.limits.TheConstants.{PAGE_WORDS, WORD_BYTES}
 use Rattle.words.specs.Classes.{IsSizeClass}
 
--- What contracts see of a block: in the row of its cells, true is an allocated cell.
+-- What contracts see of a block: in the row of its cells, true is an allocated cell. The first free cell is where the list
+-- of the free cells begins.
 pub record Cells : Type 0 where
   pub class : ℕ
   pub kind : Kind
   pub taken : List Bool
+  pub first : ℕ
 
 -- the row has the cells of the class
 pub record IsCells (b : Cells) : Type 0 where

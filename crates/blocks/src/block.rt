@@ -1,14 +1,19 @@
-//! A page that is cut into cells of one class. Contracts see the class, the kind, and the row of its cells, in which true is
-//! an allocated cell.
-ghost use Rattle.std.specs.Prelude.{◌≡◌, ◌+◌, ◌≤◌, ◌*◌, ◌/◌, ◌%◌, ◌<◌, ℕ, true, false};
-ghost use Rattle.std.specs.Prelude.{length, replicate, slice_index_or, slice_set, take, MatchOption, MatchBool, IfSome, IfNone};
-ghost use Rattle.words.specs.declared.limits.TheConstants.{PAGE_WORDS, PAGE_BYTES, PAGE_GRANULES, MAX_PAGES};
-ghost use Rattle.words.specs.Bits.{members, Fills, IsFullRow, IsEmptyFrom, IsFirstClearFrom, IsFirstFrom};
+//! A page that is cut into cells of one class. Contracts see the class, the kind, the row of its cells, in which true is
+//! an allocated cell, and the number of its first free cell.
+ghost use Rattle.std.specs.Prelude.{◌≡◌, ◌+◌, ◌≤◌, ◌*◌, ◌/◌, ◌%◌, ◌<◌, ◌==◌, ◌≢◌, ℕ, true, false};
+ghost use Rattle.std.specs.Prelude.{List, length, replicate, slice_index_or, slice_set, take, MatchOption, MatchBool, IfSome, IfNone};
+ghost use Rattle.words.specs.declared.limits.TheConstants.{PAGE_WORDS, PAGE_BYTES, PAGE_GRANULES, MOST_PAGES};
+ghost use Rattle.words.specs.Bits.{members, IsFullRow, IsEmptyFrom, IsFirstClearFrom, IsFirstFrom};
 ghost use Rattle.words.specs.Classes.{IsSizeClass};
+ghost use Rattle.pages.specs.Memory.{with_word_at};
 ghost use Rattle.blocks.specs.Cells.{IsCells, IsInCell, IsLeftOver};
+ghost use Rattle.blocks.specs.Lists.{cell_start, first_after_put, link_of, ChangesFree, ChangesPage, HasPage, IsFirstOrEnd, IsFreeCellOf, IsListed, IsTakenCellOf, MayBeListed, Pops};
 ghost use Rattle.blocks.specs.Sweeps.{SweepsCells};
+ghost use Rattle.blocks.specs.declared.list.TheConstants.{LIST_END, UNLISTED};
 
+use crate::list::{LIST_END, UNLISTED, link_free, start_of};
 use crate::reciprocal::{WHOLE, reciprocal_of};
+use pages::Memory;
 use std::marker::Model;
 use words::limits::{GRANULE_BYTES, PAGE_BYTES};
 use words::{BitRow, CellRow, Class, Kind, PageNo};
@@ -20,6 +25,7 @@ pub struct Block {
     kind: Kind,
     pub(crate) reciprocal: u32,
     pub(crate) taken: CellRow,
+    first: u16,
 }
 
 impl Model for Block {
@@ -31,25 +37,33 @@ impl Model for Block {
 
     ghost Value = { Cells };
 
-    ghost view = { λ b. record { class = b.class; kind = b.kind; taken = b.taken } };
+    ghost view = { λ b. record { class = b.class; kind = b.kind; taken = b.taken; first = b.first } };
 
     ghost invariant = { λ b. IsSizeClass b.class × (length b.taken ≡ PAGE_WORDS / b.class) × IsReciprocal b.class b.reciprocal };
 }
 
 #[tactic(auto, using(crate::proofs::Places::places))]
 impl Block {
-    /// A page cut for a class and a kind, with all its cells free.
-    pub fn new(class: Class, kind: Kind) -> Block
-        ensures value { result ≡ record { class = class; kind = kind; taken = replicate (PAGE_WORDS / class) false } }
+    /// A page cut for a class and a kind, with all its cells free and in their order.
+    pub fn new(memory: &mut Memory, page: PageNo, class: Class, kind: Kind) -> Block
+        requires page { page < MOST_PAGES }
+        requires has { HasPage memory.old page }
+        ensures value { result ≡ record { class = class; kind = kind; taken = replicate (PAGE_WORDS / class) false; first = 0 } }
         ensures cells { IsCells result }
+        ensures listed { IsListed memory.new page result }
+        ensures memory { ChangesPage memory.old memory.new page }
     {
         // Its number of cells comes first, so that it is divided but once.
         let taken = CellRow::new(class.cells());
+        // Its clauses tell that the class is one.
+        let _words = class.words();
+        let first = link_free(memory, class, page, &taken);
         Block {
             class,
             kind,
             reciprocal: reciprocal_of(class),
             taken,
+            first,
         }
     }
 
@@ -118,49 +132,138 @@ impl Block {
         self.taken.next(from)
     }
 
-    /// Allocates the lowest free cell. `None` exactly if every cell is allocated.
+    /// Whether the list of its free cells has come to its end: where the list stands, each cell is allocated then.
     #[inline]
-    pub fn take(&mut self) -> Option<u16>
-        ensures none { IfNone result (IsFullRow self.old.taken × (self.new ≡ self.old)) }
-        ensures first { IfSome result (λ i. IsFirstClearFrom self.old.taken 0 i) }
-        ensures block { IfSome result (λ i. self.new ≡ record self.old { taken = slice_set self.old.taken i true }) }
+    pub fn is_at_end(&self) -> bool
+        ensures first { result ≡ (self.now.first == LIST_END) }
+        ensures full { (words : List ℕ) (page : ℕ) → IsListed words page self.now → MatchBool result (IsFullRow self.now.taken) (IsFreeCellOf self.now.taken self.now.first) }
     {
-        let Some(cell) = self.taken.first_clear() else {
+        self.first == LIST_END
+    }
+
+    /// Whether it has a list of its free cells.
+    #[inline]
+    pub fn is_listed(&self) -> bool
+        ensures { MatchBool result (self.now.first ≢ UNLISTED) (self.now.first ≡ UNLISTED) }
+    {
+        self.first != UNLISTED
+    }
+
+    /// Allocates the first free cell; the next one is then the first. `None` exactly if every cell is allocated.
+    #[inline]
+    pub fn take(&mut self, memory: &Memory, page: PageNo) -> Option<u16>
+        requires page { page < MOST_PAGES }
+        requires has { HasPage memory.now page }
+        requires listed { IsListed memory.now page self.old }
+        ensures none { IfNone result (IsFullRow self.old.taken × (self.new ≡ self.old)) }
+        ensures first { IfSome result (λ i. i ≡ self.old.first) }
+        ensures free { IfSome result (λ i. IsFreeCellOf self.old.taken i) }
+        ensures block { IfSome result (λ i. self.new ≡ record self.old { taken = slice_set self.old.taken i true; first = link_of memory.now page self.old.class i }) }
+        ensures listed { IsListed memory.now page self.new }
+        ensures linked { self.new.first ≢ UNLISTED }
+    {
+        let cell = self.first;
+        if cell == LIST_END {
             return None;
-        };
+        }
+        self.first = memory.read(start_of(self.class, page, cell)) as u16;
         self.taken.set(cell);
         Some(cell)
     }
 
-    /// Allocates the lowest free cells, as many as there is room for, and writes them down in their order. Answers how many: fewer than there
-    /// is room for only if every cell is allocated then.
-    pub fn take_many(&mut self, cells: &mut [u16]) -> usize
+    /// Allocates the first free cells one after the other, as many as there is room for, and writes them down. Answers how
+    /// many: fewer than there is room for only if every cell is allocated then.
+    pub fn take_many(&mut self, memory: &Memory, page: PageNo, cells: &mut [u16]) -> usize
+        requires page { page < MOST_PAGES }
+        requires has { HasPage memory.now page }
+        requires listed { IsListed memory.now page self.old }
         ensures size { length cells.new ≡ length cells.old }
         ensures few { result ≤ length cells.new }
-        ensures fills { Fills self.old.taken (take result cells.new) self.new.taken }
+        ensures pops { Pops (link_of memory.now page self.old.class) self.old.taken self.old.first (take result cells.new) self.new.taken self.new.first }
         ensures full { result < length cells.new → IsFullRow self.new.taken }
-        ensures block { self.new ≡ record self.old { taken = self.new.taken } }
+        ensures block { self.new ≡ record self.old { taken = self.new.taken; first = self.new.first } }
+        ensures listed { IsListed memory.now page self.new }
+        ensures linked { self.new.first ≢ UNLISTED }
+        ensures cells { IsCells self.old }
     {
-        self.taken.fill(cells)
+        // Its clauses tell of its cells.
+        let _class = self.class();
+        for index in 0..cells.len() {
+            let Some(cell) = self.take(memory, page) else {
+                return index;
+            };
+            cells[index] = cell;
+        }
+        cells.len()
     }
 
-    /// Makes a cell free.
+    /// Makes an allocated cell free, and the first of the free ones. Its first word gets the number of the one that was first.
+    /// A block that has no list still has none.
     #[inline]
-    pub fn put(&mut self, cell: u16)
-        requires { cell < length self.old.taken }
-        ensures { self.new ≡ record self.old { taken = slice_set self.old.taken cell false } }
+    pub fn put(&mut self, memory: &mut Memory, page: PageNo, cell: u16)
+        requires page { page < MOST_PAGES }
+        requires has { HasPage memory.old page }
+        requires listed { MayBeListed memory.old page self.old }
+        requires taken { IsTakenCellOf self.old.taken cell }
+        ensures block { self.new ≡ record self.old { taken = slice_set self.old.taken cell false; first = first_after_put self.old.first cell } }
+        ensures memory { memory.new ≡ with_word_at memory.old (cell_start page self.old.class cell) self.old.first }
+        ensures changes { ChangesPage memory.old memory.new page }
+        ensures listed { MayBeListed memory.new page self.new }
     {
+        memory.write(start_of(self.class, page, cell), u64::from(self.first));
         self.taken.clear(cell);
+        if self.first != UNLISTED {
+            self.first = cell;
+        }
     }
 
-    /// Makes each allocated cell free that isn't marked. The marks are those of the heap's granules.
-    pub fn sweep(&mut self, page: PageNo, marks: &BitRow)
-        requires page { page < MAX_PAGES }
+    /// Makes each allocated cell free that isn't marked. Its free cells are no list then, but where there is none. The marks
+    /// are those of the heap's granules.
+    pub fn keep_marked(&mut self, page: PageNo, marks: &BitRow)
+        requires page { page < MOST_PAGES }
         requires marks { PAGE_GRANULES * page + PAGE_GRANULES ≤ length marks.now }
-        ensures { SweepsCells marks.now page self.old self.new }
+        ensures sweeps { SweepsCells marks.now page self.old self.new }
+        ensures listed { (words : List ℕ) → MayBeListed words page self.new }
+        ensures full { MatchBool (self.new.first == LIST_END) (IsFullRow self.new.taken) (self.new.first ≡ UNLISTED) }
     {
         let live = self.marked_cells(page, marks);
         self.taken.keep(&live);
+        self.first = if self.taken.is_full() {
+            LIST_END
+        } else {
+            UNLISTED
+        };
+    }
+
+    /// Makes its free cells a list in their order.
+    #[inline(never)]
+    pub fn link(&mut self, memory: &mut Memory, page: PageNo)
+        requires page { page < MOST_PAGES }
+        requires has { HasPage memory.old page }
+        ensures block { self.new ≡ record self.old { first = self.new.first } }
+        ensures first { IsFirstOrEnd self.old.taken 0 self.new.first }
+        ensures listed { IsListed memory.new page self.new }
+        ensures linked { self.new.first ≢ UNLISTED }
+        ensures cells { IsCells self.old }
+        ensures memory { ChangesFree memory.old memory.new page self.old.class self.old.taken }
+        ensures changes { ChangesPage memory.old memory.new page }
+    {
+        self.first = link_free(memory, self.class, page, &self.taken);
+    }
+
+    /// Makes each allocated cell free that isn't marked, and the free cells a list in their order.
+    pub fn sweep(&mut self, memory: &mut Memory, page: PageNo, marks: &BitRow)
+        requires page { page < MOST_PAGES }
+        requires has { HasPage memory.old page }
+        requires marks { PAGE_GRANULES * page + PAGE_GRANULES ≤ length marks.now }
+        ensures sweeps { SweepsCells marks.now page self.old self.new }
+        ensures first { IsFirstOrEnd self.new.taken 0 self.new.first }
+        ensures listed { IsListed memory.new page self.new }
+        ensures memory { ChangesFree memory.old memory.new page self.new.class self.new.taken }
+        ensures changes { ChangesPage memory.old memory.new page }
+    {
+        self.keep_marked(page, marks);
+        self.link(memory, page);
     }
 
     /// How many cells are allocated.

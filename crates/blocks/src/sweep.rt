@@ -1,6 +1,6 @@
 //! Which cells of a page are marked: it goes from one mark to the next, a word of bits at a time.
 ghost use Rattle.std.specs.Prelude.{◌≡◌, ◌+◌, ◌*◌, ◌<◌, ◌≤◌, ℕ, length, MatchOption};
-ghost use Rattle.words.specs.declared.limits.TheConstants.{MAX_PAGES, PAGE_GRANULES};
+ghost use Rattle.words.specs.declared.limits.TheConstants.{MOST_PAGES, PAGE_GRANULES};
 ghost use Rattle.blocks.specs.Cells.{IsCells};
 ghost use Rattle.blocks.specs.Sweeps.{BeginsAt, HasMarked};
 
@@ -29,7 +29,7 @@ impl Block {
     // Adds the marked cells that begin at the granules of a word of the page's marks.
     #[inline]
     fn add_marked(&self, live: &mut CellRow, page: PageNo, marks: &BitRow, j: u32)
-        requires page { page < MAX_PAGES }
+        requires page { page < MOST_PAGES }
         requires marks { PAGE_GRANULES * page + PAGE_GRANULES ≤ length marks.now }
         requires word { j < 4 }
         requires before { HasMarked marks.now page self.now (64 * j) live.old }
@@ -48,7 +48,7 @@ impl Block {
     // The cells that are marked.
     #[inline]
     pub(crate) fn marked_cells(&self, page: PageNo, marks: &BitRow) -> CellRow
-        requires page { page < MAX_PAGES }
+        requires page { page < MOST_PAGES }
         requires marks { PAGE_GRANULES * page + PAGE_GRANULES ≤ length marks.now }
         ensures marked { HasMarked marks.now page self.now PAGE_GRANULES result }
         ensures cells { IsCells self.now }

@@ -11,12 +11,12 @@ use Rattle.dirty_pages.specs.Summary.{AreZerosFrom, IsLeastWord, IsOr}
 
 -- the words below `from` have become the or of both
 pub record Ors (from : ℕ) (before more row : List ℕ) : Type 0 where
-  pub size : length row ≡ 64
+  pub size : length row ≡ length before
   pub done : (j k : ℕ) → j < from → bit_at (get_or row j 0) k ≡ max (bit_at (get_or before j 0) k) (bit_at (get_or more j 0) k)
   pub rest : (j : ℕ) → from ≤ j → get_or row j 0 ≡ get_or before j 0
 
-pub ors_none : (old more : List ℕ) → length old ≡ 64 → Ors 0 old more old
-ors_none old more size = record { size = size; done = λ j k lt. absurd (omega (arith, lt)); rest = λ j past. refl }
+pub ors_none : (old more : List ℕ) → Ors 0 old more old
+ors_none old more = record { size = refl; done = λ j k lt. absurd (omega (arith, lt)); rest = λ j past. refl }
 
 -- words that weren't looked at stay as they are where the other row's are 0
 or_zero : (old more row : List ℕ) (j k : ℕ) → get_or row j 0 ≡ get_or old j 0 → get_or more j 0 ≡ 0 → bit_at (get_or row j 0) k ≡ max (bit_at (get_or old j 0) k) (bit_at (get_or more j 0) k)
@@ -25,13 +25,13 @@ or_zero old more row j k same none =
     let kept : bit_at (get_or row j 0) k ≡ bit_at (get_or old j 0) k = ap (λ w. bit_at w k) same in
     omega (arith, nothing, kept)
 
-pub ors_step : (from j word : ℕ) (old more row : List ℕ) → Ors from old more row → IsLeastWord more from j → word ≡ bit_or (get_or row j 0) (get_or more j 0) → Ors (j + 1) old more (set row j word)
-ors_step from j word old more row o first is =
+pub ors_step : (from j word : ℕ) (old more row : List ℕ) → length more ≡ length old → Ors from old more row → IsLeastWord more from j → word ≡ bit_or (get_or row j 0) (get_or more j 0) → Ors (j + 1) old more (set row j word)
+ors_step from j word old more row both_size o first is =
     let inside = first.inside in let past = first.from in let size = o.size in record {
       size = length-set row j word ∙ o.size;
       done = λ i k lt. ⊎_elim
           (λ (e : i ≡ j).
-          let now : get_or (set row j word) i 0 ≡ word = ap (λ n. get_or (set row j word) n 0) e ∙ get_or-set_same row j word 0 (omega (arith, size, inside)) in
+          let now : get_or (set row j word) i 0 ≡ word = ap (λ n. get_or (set row j word) n 0) e ∙ get_or-set_same row j word 0 (omega (arith, size, inside, both_size)) in
           let both : get_or row j 0 ≡ get_or old i 0 = o.rest j past ∙ ap (λ n. get_or old n 0) (sym e) in
           let a : bit_at (get_or (set row j word) i 0) k ≡ bit_at (bit_or (get_or row j 0) (get_or more j 0)) k = ap (λ w. bit_at w k) (now ∙ is) in
           let b = bit_at_or (get_or row j 0) (get_or more j 0) k in
@@ -48,7 +48,7 @@ ors_step from j word old more row o first is =
 pub ors_all : (from : ℕ) (old more row : List ℕ) → Ors from old more row → AreZerosFrom more from → IsOr old more row
 ors_all from old more row o none = record {
   size = o.size;
-  each = λ j k lt. ⊎_elim (λ low. o.done j k low) (λ high. or_zero old more row j k (o.rest j high) (none.zero j high lt)) (cases_lt j from);
+  each = λ j k. ⊎_elim (λ low. o.done j k low) (λ high. or_zero old more row j k (o.rest j high) (none.zero j high)) (cases_lt j from);
 }
 
 -- ---- the same of the rows' bits
@@ -67,16 +67,16 @@ one_max (suc zero) (suc zero) u v e = refl
 one_max (suc (suc a)) b u v e = absurd (omega (arith, u))
 one_max a (suc (suc b)) u v e = absurd (omega (arith, v))
 
-or_bit : (old more new : List ℕ) (p : ℕ) → p / 64 < 64 → IsOr old more new → bit new p ≡ true → (bit old p ≡ true) ⊎ (bit more p ≡ true)
+or_bit : (old more new : List ℕ) (p : ℕ) → IsOr old more new → bit new p ≡ true → (bit old p ≡ true) ⊎ (bit more p ≡ true)
 unfolding bit
-or_bit old more new p lt o is =
+or_bit old more new p o is =
     max_one (bit_at (get_or old (p / 64) 0) (p % 64)) (bit_at (get_or more (p / 64) 0) (p % 64)) (bit_at-lt (get_or old (p / 64) 0) (p % 64)) (bit_at-lt (get_or more (p / 64) 0) (p % 64))
-    (ap (λ b. b == 1) (sym (o.each (p / 64) (p % 64) lt)) ∙ is)
+    (ap (λ b. b == 1) (sym (o.each (p / 64) (p % 64))) ∙ is)
 
-bit_or_is : (old more new : List ℕ) (p : ℕ) → p / 64 < 64 → IsOr old more new → (bit old p ≡ true) ⊎ (bit more p ≡ true) → bit new p ≡ true
+bit_or_is : (old more new : List ℕ) (p : ℕ) → IsOr old more new → (bit old p ≡ true) ⊎ (bit more p ≡ true) → bit new p ≡ true
 unfolding bit
-bit_or_is old more new p lt o either =
-    ap (λ b. b == 1) (o.each (p / 64) (p % 64) lt)
+bit_or_is old more new p o either =
+    ap (λ b. b == 1) (o.each (p / 64) (p % 64))
     ∙ one_max (bit_at (get_or old (p / 64) 0) (p % 64)) (bit_at (get_or more (p / 64) 0) (p % 64)) (bit_at-lt (get_or old (p / 64) 0) (p % 64)) (bit_at-lt (get_or more (p / 64) 0) (p % 64)) either
 
 has_bit : (words : List ℕ) (n p : ℕ) → Has (bits words n) p → (p < n) × (bit words p ≡ true)
@@ -88,21 +88,21 @@ has_bit words n p has =
 bit_has : (words : List ℕ) (n p : ℕ) → p < n → bit words p ≡ true → Has (bits words n) p
 bit_has words n p lt is = get_or-bits words n p false lt ∙ is
 
-module _ (old more new : List ℕ) (n m : ℕ) (few : n ≤ 4096) (same : length (bits more m) ≡ length (bits old n)) (o : IsOr old more new) where
+module _ (old more new : List ℕ) (n m : ℕ) (same : length (bits more m) ≡ length (bits old n)) (o : IsOr old more new) where
   equal : m ≡ n
   equal = sym (length-bits more m) ∙ same ∙ length-bits old n
 
   pub or_each : (p : ℕ) → Has (bits new n) p → Has (bits old n) p ⊎ Has (bits more m) p
   or_each p has =
       let here = has_bit new n p has in let lt = here.0 in let e = equal in
-      ⊎_elim (λ a. inl (bit_has old n p lt a)) (λ b. inr (bit_has more m p (omega (arith, lt, e)) b)) (or_bit old more new p (omega (arith, lt, few)) o here.1)
+      ⊎_elim (λ a. inl (bit_has old n p lt a)) (λ b. inr (bit_has more m p (omega (arith, lt, e)) b)) (or_bit old more new p o here.1)
 
   pub or_old : (p : ℕ) → Has (bits old n) p → Has (bits new n) p
-  or_old p has = let here = has_bit old n p has in let lt = here.0 in bit_has new n p lt (bit_or_is old more new p (omega (arith, lt, few)) o (inl here.1))
+  or_old p has = let here = has_bit old n p has in let lt = here.0 in bit_has new n p lt (bit_or_is old more new p o (inl here.1))
 
   pub or_more : (p : ℕ) → Has (bits more m) p → Has (bits new n) p
   or_more p has =
       let here = has_bit more m p has in let lt = here.0 in let e = equal in
-      bit_has new n p (omega (arith, lt, e)) (bit_or_is old more new p (omega (arith, lt, e, few)) o (inr here.1))
+      bit_has new n p (omega (arith, lt, e)) (bit_or_is old more new p o (inr here.1))
 
 pub ruleset adding = (ors_none, ors_step, ors_all)

@@ -1,74 +1,74 @@
 -- A row of words and its summary.
-use Rattle.std.proofs.Common.{◌≡◌, ◌≢◌, ℕ, ◌-◌, ◌*◌, ◌%◌, ◌^◌, ◌<◌, ◌≤◌, true, false, ◌==◌, List, length, get_or, set, replicate, sym, ap, ◌∙◌, arith, ⊎_elim, get_or-set_same, get_or-set_other}
-use Rattle.std.specs.Int.{bit_at, w64}
-use Rattle.std.specs.Int.RustNames.{bit_or, bit_and}
+use Rattle.std.proofs.Common.{◌≡◌, ◌≢◌, ℕ, ◌<◌, ◌≤◌, ◌⊎◌, Bool, true, false, List, length, get_or, set, replicate, sym, ap, ◌∙◌, arith, ⊎_elim, get_or-set_same, get_or-set_other, length-set}
 use Rattle.std.proofs.lemmas.Bool.{cases_eq, cases_lt, true≢false}
 use Rattle.std.proofs.lemmas.List.{get_or_past, get_or-replicate, length-replicate}
-use Rattle.std.proofs.lemmas.Nat.Bits.{bit_at_set_same, bit_at_set_other, bit_at_clear_same, bit_at_clear_other, bit_at-zero}
-use Rattle.words.specs.Bits.{HasNoBit, IsFirstBit}
-use Rattle.dirty_pages.specs.Summary.{Tells, IsSummary, AreZeros, AreZerosFrom, IsLeastWord}
-
--- ---- the summary's bit of one word
-pub told_zero : (summary j word : ℕ) → j < 64 → word ≡ 0 → Tells summary j word (bit_and summary (2 ^ 64 - 1 - 1 * 2 ^ j % 2 ^ 64))
-told_zero summary j word lt e = record {
-  zero = λ _. bit_at_clear_same w64 summary j lt;
-  some = λ ne. absurd (ne e);
-  others = λ k few ne. bit_at_clear_other w64 summary j lt k few ne;
-}
-
-pub told_some : (summary j word : ℕ) → j < 64 → word ≢ 0 → Tells summary j word (bit_or summary (1 * 2 ^ j % 2 ^ 64))
-told_some summary j word lt ne = record {
-  zero = λ e. absurd (ne e);
-  some = λ _. bit_at_set_same w64 summary j lt;
-  others = λ k few other. bit_at_set_other w64 summary j lt k other;
-}
+use Rattle.words.specs.Bits.{IsClear, IsEmptyFrom, IsFirstFrom}
+use Rattle.dirty_pages.specs.Summary.{IsSummary, AreZeros, AreZerosFrom, IsLeastWord}
 
 -- ---- all words
 size_of : (n : ℕ) → length (replicate {A = ℕ} n 0) ≡ n
 size_of n = length-replicate {A = ℕ} n 0
 
-pub zeros_are : (words : List ℕ) → words ≡ replicate 64 0 → AreZeros words
-zeros_are words e = record {
-  size = ap length e ∙ size_of 64;
+pub zeros_are : (words : List ℕ) (n : ℕ) → words ≡ replicate n 0 → AreZeros words n
+zeros_are words n e = record {
+  size = ap length e ∙ size_of n;
   zero = λ j. ap (λ ws. get_or ws j 0) e ∙ ⊎_elim
-      (λ lt. get_or-replicate 64 j 0 0 lt)
-      (λ past. get_or_past (replicate 64 0) j 0 (omega (arith, size_of 64)))
-      (cases_lt j 64);
+      (λ lt. get_or-replicate n j 0 0 lt)
+      (λ past. get_or_past (replicate n 0) j 0 (omega (arith, size_of n)))
+      (cases_lt j n);
 }
 
-pub zeros_summary : (words : List ℕ) → AreZeros words → IsSummary words 0
-zeros_summary words z = record { zero = λ j lt e. bit_at-zero j; some = λ j lt ne. absurd (ne (z.zero j)) }
+pub zeros_summary : (words : List ℕ) (n : ℕ) (summary : List Bool) → AreZeros words n → IsClear summary n → IsSummary words summary
+zeros_summary words n summary z c = record { size = c.size ∙ sym z.size; zero = λ j e. c.clear j; some = λ j ne. absurd (ne (z.zero j)) }
 
-pub summary_put : (words : List ℕ) (summary j word new : ℕ) → length words ≡ 64 → j < 64 → IsSummary words summary → Tells summary j word new → IsSummary (set words j word) new
-summary_put words summary j word new size lt s t =
-    let same : get_or (set words j word) j 0 ≡ word = get_or-set_same words j word 0 (omega (arith, size)) in record {
-      zero = λ k few e. ⊎_elim
-          (λ (at : k ≡ j). ap (bit_at new) at ∙ t.zero (sym same ∙ ap (λ i. get_or (set words j word) i 0) (sym at) ∙ e))
-          (λ ne. t.others k few ne ∙ s.zero k few (sym (get_or-set_other words j k word 0 ne) ∙ e))
+pub summary_zero : (words : List ℕ) (summary : List Bool) (j word : ℕ) → j < length words → IsSummary words summary → word ≡ 0 → IsSummary (set words j word) (set summary j false)
+summary_zero words summary j word lt s e =
+    let size = s.size in
+    let same : get_or (set words j word) j 0 ≡ word = get_or-set_same words j word 0 lt in
+    let told : get_or (set summary j false) j false ≡ false = get_or-set_same summary j false false (omega (arith, size, lt)) in record {
+      size = length-set summary j false ∙ s.size ∙ sym (length-set words j word);
+      zero = λ k zero. ⊎_elim
+          (λ (at : k ≡ j). ap (λ i. get_or (set summary j false) i false) at ∙ told)
+          (λ ne. get_or-set_other summary j k false false ne ∙ s.zero k (sym (get_or-set_other words j k word 0 ne) ∙ zero))
           (cases_eq k j);
-      some = λ k few some. ⊎_elim
-          (λ (at : k ≡ j). ap (bit_at new) at ∙ t.some (λ e. some (ap (λ i. get_or (set words j word) i 0) at ∙ same ∙ e)))
-          (λ ne. t.others k few ne ∙ s.some k few (λ e. some (get_or-set_other words j k word 0 ne ∙ e)))
+      some = λ k some. ⊎_elim
+          (λ (at : k ≡ j). absurd (some (ap (λ i. get_or (set words j word) i 0) at ∙ same ∙ e)))
+          (λ ne. get_or-set_other summary j k false false ne ∙ s.some k (λ zero. some (get_or-set_other words j k word 0 ne ∙ zero)))
+          (cases_eq k j);
+    }
+
+pub summary_some : (words : List ℕ) (summary : List Bool) (j word : ℕ) → j < length words → IsSummary words summary → word ≢ 0 → IsSummary (set words j word) (set summary j true)
+summary_some words summary j word lt s some_word =
+    let size = s.size in
+    let same : get_or (set words j word) j 0 ≡ word = get_or-set_same words j word 0 lt in
+    let told : get_or (set summary j true) j false ≡ true = get_or-set_same summary j true false (omega (arith, size, lt)) in record {
+      size = length-set summary j true ∙ s.size ∙ sym (length-set words j word);
+      zero = λ k zero. ⊎_elim
+          (λ (at : k ≡ j). absurd (some_word (sym same ∙ ap (λ i. get_or (set words j word) i 0) (sym at) ∙ zero)))
+          (λ ne. get_or-set_other summary j k true false ne ∙ s.zero k (sym (get_or-set_other words j k word 0 ne) ∙ zero))
+          (cases_eq k j);
+      some = λ k some. ⊎_elim
+          (λ (at : k ≡ j). ap (λ i. get_or (set summary j true) i false) at ∙ told)
+          (λ ne. get_or-set_other summary j k true false ne ∙ s.some k (λ zero. some (get_or-set_other words j k word 0 ne ∙ zero)))
           (cases_eq k j);
     }
 
 -- a bit that isn't set is one of a word of 0
-is_zero : (words : List ℕ) (summary j : ℕ) → IsSummary words summary → j < 64 → (bit_at summary j == 1) ≡ false → get_or words j 0 ≡ 0
-is_zero words summary j s lt not_set = ⊎_elim (λ e. e) (λ ne. absurd (true≢false (sym (ap (λ b. b == 1) (s.some j lt ne)) ∙ not_set))) (cases_eq (get_or words j 0) 0)
+is_zero : (words : List ℕ) (summary : List Bool) (j : ℕ) → IsSummary words summary → get_or summary j false ≡ false → get_or words j 0 ≡ 0
+is_zero words summary j s not_set = ⊎_elim (λ e. e) (λ ne. absurd (true≢false (sym (s.some j ne) ∙ not_set))) (cases_eq (get_or words j 0) 0)
 
-pub no_word : (words : List ℕ) (summary from : ℕ) → IsSummary words summary → HasNoBit summary true from → AreZerosFrom words from
-no_word words summary from s none = record { zero = λ j past lt. is_zero words summary j s lt (none.none j past lt) }
+pub no_word : (words : List ℕ) (summary : List Bool) (from : ℕ) → IsSummary words summary → IsEmptyFrom summary from → AreZerosFrom words from
+no_word words summary from s none = record {
+  zero = λ j past. ⊎_elim (λ lt. is_zero words summary j s (none j past lt)) (λ far. is_zero words summary j s (get_or_past summary j false far)) (cases_lt j (length summary));
+}
 
-pub past_words : (words : List ℕ) (from : ℕ) → 64 ≤ from → AreZerosFrom words from
-past_words words from far = record { zero = λ j past lt. absurd (omega arith) }
-
-pub least_word : (words : List ℕ) (summary from j : ℕ) → IsSummary words summary → IsFirstBit summary true from j → IsLeastWord words from j
+pub least_word : (words : List ℕ) (summary : List Bool) (from j : ℕ) → IsSummary words summary → IsFirstFrom summary from j → IsLeastWord words from j
 least_word words summary from j s first =
-    let lt = first.inside in record {
-      inside = lt;
+    let inside = first.inside in let size = s.size in record {
+      inside = omega (arith, inside, size);
       from = first.from;
-      some = λ e. true≢false (sym first.here ∙ ap (λ b. b == 1) (s.zero j lt e));
-      least = λ k past below. is_zero words summary k s (omega arith) (first.least k past below);
+      some = λ e. true≢false (sym first.member ∙ s.zero j e);
+      least = λ k past below. is_zero words summary k s (first.least k past below);
     }
 
-pub ruleset words = (told_zero, told_some, zeros_are, zeros_summary, summary_put, no_word, past_words, least_word)
+pub ruleset words = (zeros_are, zeros_summary, summary_zero, summary_some, no_word, least_word)

@@ -1,28 +1,27 @@
 //! A set of pages: those that were written since the collector read them, or those that are carried. Contracts see it as one
-//! `bool` a page. The collector takes the pages out from the least one on. A set lies in the value itself, a bit a page, and takes
-//! no memory; what goes through its pages passes over 64 that aren't in it at once.
+//! `bool` a page. The collector takes the pages out from the least one on. A set has a bit a page; what goes through its pages passes
+//! over 4,096 that aren't in it at a look.
 //!
 //! # What is proved
 //!
 //! `set`, `clear` and `clear_all` change the one `bool` of the page, or all; `first` is the least member, and `None` exactly if
-//! there is none; `count` is how many there are; `add` is the union with another set. The word that says which of the others
+//! there is none; `count` is how many there are; `add` is the union with another set. The row that says which of the words
 //! aren't 0 is right (`IsSummary`, an invariant); that it is used to pass over them, no clause says.
 #![tactic(auto)]
 
 ghost use Rattle.std.specs.Prelude.{◌≡◌, ℕ, ◌<◌, ◌≤◌, ◌⊎◌, true, false, length, slice_index_or, slice_set, IfOk, IfSome, MatchOption};
 ghost use Rattle.words.specs.Bits.{bits, Has, members, IsClear, IsEmptyFrom, IsFirstFrom};
-ghost use Rattle.words.specs.declared.limits.TheConstants.{MAX_PAGES};
+ghost use Rattle.words.specs.declared.limits.TheConstants.{MOST_PAGES};
 ghost use Rattle.dirty_pages.specs.Summary.{IsOr};
 
+mod row;
 mod summary;
 
+pub use row::SummedRow;
 use std::alloc::{AllocError, Global};
 use std::marker::Model;
 use summary::SummedWords;
 use words::PageNo;
-use words::limits::MAX_PAGES;
-
-const _: () = prove!(MAX_PAGES == 64 * 64);
 
 /// A set of the pages of a heap.
 #[derive(Drop)]
@@ -32,28 +31,26 @@ pub struct DirtyPages {
 }
 
 impl Model for DirtyPages {
-    ghost use Rattle.std.specs.Prelude.{List, Bool, ◌≡◌, ◌≤◌, length};
+    ghost use Rattle.std.specs.Prelude.{List, Bool, ◌≡◌, ◌+◌, ◌/◌, ◌≤◌, length};
     ghost use Rattle.words.specs.Bits.{bits};
-    ghost use Rattle.words.specs.declared.limits.TheConstants.{MAX_PAGES};
+    ghost use Rattle.words.specs.declared.limits.TheConstants.{MOST_PAGES};
 
     ghost Value = { List Bool };
 
     ghost view = { λ d. bits d.words d.len };
 
-    ghost invariant = { λ d. (length d.words ≡ 64) × (d.len ≤ MAX_PAGES) };
+    ghost invariant = { λ d. (length d.words ≡ d.len / 64 + 1) × (d.len ≤ MOST_PAGES) };
 }
 
 #[tactic(auto, using(crate::proofs::Pages::pages))]
 impl DirtyPages {
-    /// No page of a heap of so many. The error, that there is no memory, never comes.
-    pub fn new(_alloc: Global, pages: u32) -> Result<DirtyPages, AllocError>
-        requires { pages ≤ MAX_PAGES }
+    /// No page of a heap of so many. The error is that there is no memory.
+    pub fn new(alloc: Global, pages: u32) -> Result<DirtyPages, AllocError>
+        requires { pages ≤ MOST_PAGES }
         ensures { IfOk result (λ dirty. IsClear dirty pages) }
     {
-        Ok(DirtyPages {
-            words: SummedWords::new(),
-            len: pages,
-        })
+        let words = SummedWords::new(alloc, pages as usize / 64 + 1)?;
+        Ok(DirtyPages { words, len: pages })
     }
 
     /// Whether the page is in the set.
@@ -84,7 +81,7 @@ impl DirtyPages {
             .put(page as usize / 64, word & !(1 << (page as usize % 64)));
     }
 
-    /// How many pages are in the set, counted by whole words.
+    /// How many pages are in the set. Words of the row that have none are passed over.
     pub fn count(&self) -> u32
         ensures { result ≡ members self.now }
     {
@@ -112,7 +109,7 @@ impl DirtyPages {
     /// The least page of the set, and `None` exactly where it is empty.
     pub fn first(&self) -> Option<PageNo>
         ensures first { MatchOption result (IsEmptyFrom self.now 0) (λ page. IsFirstFrom self.now 0 page) }
-        ensures limit { IfSome result (λ page. page < MAX_PAGES) }
+        ensures limit { IfSome result (λ page. page < MOST_PAGES) }
     {
         let j = self.words.next(0)?;
         let page = 64 * j as PageNo + self.words.at(j).trailing_zeros();
@@ -123,7 +120,8 @@ impl DirtyPages {
 // Each word becomes the or of both; the words of `more` that are 0 are passed over.
 #[tactic(auto, using(crate::proofs::Adding::adding))]
 fn add_words(words: &mut SummedWords, more: &SummedWords)
-    requires size { length words.old ≡ 64 }
+    requires size { length more.now ≡ length words.old }
+    requires few { length words.old ≤ MOST_PAGES }
     ensures { IsOr words.old more.now words.new }
 {
     let mut from = 0;

@@ -5,3 +5,4 @@ pub mod Growing
 pub mod Serving
 pub mod Gathering
 pub mod Marked
+pub mod Numbering

@@ -1,7 +1,7 @@
 -- What a helper of a pause does with a word.
 use Rattle.std.specs.Prelude.{◌≡◌, ℕ, zero, suc, ◌+◌, ◌*◌, ◌<◌, ◌≤◌, Bool, true, List, length, Contains, Option, Some, ◌⊎◌, if◌then◌else◌}
 use Rattle.words.specs.declared.class.Kind.TheVariants.{Normal}
-use Rattle.words.specs.declared.limits.TheConstants.{MAX_PAGES, PAGE_GRANULES, PAGE_WORDS}
+use Rattle.words.specs.declared.limits.TheConstants.{MOST_PAGES, PAGE_GRANULES, PAGE_WORDS}
 use Rattle.words.specs.Bits.{Has}
 use Rattle.words.specs.Layout.{page_of, granule}
 use Rattle.mark_bits.specs.declared.claimer_view.ClaimerView.{ClaimerView}
@@ -39,7 +39,7 @@ pub record IsReadyPause (p : Pause) : Type 0 where
   pub start : start_of p.table.now ≡ p.marker.now.marks
   pub granules : length (start_of p.table.now) ≡ PAGE_GRANULES * length p.map.now
   pub pages : length p.marker.now.dirty ≡ length p.map.now
-  pub few : length p.map.now ≤ MAX_PAGES
+  pub few : length p.map.now ≤ MOST_PAGES
   pub memory : length p.memory.now ≡ PAGE_WORDS * length p.map.now
   pub some : 0 < p.helpers
   pub map : IsMap (length p.map.now) (found p)

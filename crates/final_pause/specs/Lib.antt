@@ -1,3 +1,4 @@
+pub mod Crews
 pub mod Helping
 pub mod Serving
 pub mod Gathering

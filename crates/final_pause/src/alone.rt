@@ -1,5 +1,5 @@
 //! Closing the marks by one thread.
-ghost use Rattle.std.specs.Prelude.{◌≡◌, ◌+◌, ◌*◌, ◌<◌, ◌≤◌, [], IfNone, IfSome, length};
+ghost use Rattle.std.specs.Prelude.{◌≡◌, ◌∷◌, ◌+◌, ◌*◌, ◌<◌, ◌≤◌, [], IfNone, IfSome, length};
 ghost use Rattle.words.specs.declared.limits.TheConstants.{PAGE_WORDS};
 ghost use Rattle.block_map.specs.FoundIn.{found_in};
 ghost use Rattle.marker.specs.Marking.{IsDone};
@@ -17,11 +17,13 @@ use words::limits::PAGE_WORDS;
 pub fn close_marks(marker: &mut Marker, map: &BlockMap, reader: &mut Reader, roots: &[u64])
     requires pages { length marker.old.dirty ≡ length map.now }
     requires memory { length reader.old.words ≡ PAGE_WORDS * length map.now }
+    requires one { reader.old.moments ≡ reader.old.words ∷ [] }
     requires invariant { DirtyPageInvariant (found_in map.now) reader.old.words marker.old }
     ensures closure { AreClosed (found_in map.now) reader.old.words roots.now marker.old marker.new }
     ensures done { IsDone marker.new }
     ensures traces { Traces (found_in map.now) reader.old.words roots.now marker.old marker.new }
     ensures words { reader.new.words ≡ reader.old.words }
+    ensures moments { reader.new.moments ≡ reader.old.moments }
     ensures reads { reader.new.reads ≤ reader.old.reads + (PAGE_WORDS * (dirty_pages marker.old + newly_pages (found_in map.now) marker.old marker.new) + entry_words (found_in map.now) marker.old) }
 {
     marker.scan_roots(map, roots);
@@ -38,11 +40,13 @@ pub(crate) fn mark_on(
 ) -> Option<u64>
     requires pages { length marker.old.dirty ≡ length map.now }
     requires memory { length reader.old.words ≡ PAGE_WORDS * length map.now }
+    requires one { reader.old.moments ≡ reader.old.words ∷ [] }
     requires some { 0 < most }
     ensures traces { Traces (found_in map.now) reader.old.words [] marker.old marker.new }
     ensures done { IfNone result (IsDone marker.new) }
     ensures less { IfSome result (λ _. cost (found_in map.now) marker.new < cost (found_in map.now) marker.old) }
     ensures words { reader.new.words ≡ reader.old.words }
+    ensures moments { reader.new.moments ≡ reader.old.moments }
     ensures reads { reader.new.reads + cost (found_in map.now) marker.new ≤ reader.old.reads + cost (found_in map.now) marker.old }
 {
     let marked = marker.step(map, reader, most);

@@ -46,8 +46,8 @@ fn is_shareable(marker: &Marker, helpers: Helpers) -> bool {
     number > 1 && entries.saturating_add(pages) >= number
 }
 
-/// Marks on alone, from the roots, until nothing is left to read, or enough waits for the helpers on a heap of so many words of
-/// which a quarter is read. With 0 words it does nothing. Answers whether nothing is left to read: then the marks are the
+/// Marks on alone, from the roots, until nothing is left to read, or enough waits for the helpers on a heap of as many words as
+/// they start for, of which a quarter is read. Where they start at once it does nothing. Answers whether nothing is left to read: then the marks are the
 /// closure of the marks before and the roots.
 pub(crate) fn mark_before_helpers(
     marker: &mut Marker,
@@ -55,7 +55,6 @@ pub(crate) fn mark_before_helpers(
     memory: &Memory,
     roots: &[u64],
     helpers: Helpers,
-    least: u64,
 ) -> bool
     requires pages { length marker.old.dirty ≡ length map.now }
     requires memory { length memory.now ≡ PAGE_WORDS * length map.now }
@@ -64,6 +63,7 @@ pub(crate) fn mark_before_helpers(
     ensures done { result ≡ true → IsDone marker.new }
     ensures traces { Traces (found_in map.now) memory.now roots.now marker.old marker.new }
 {
+    let least = helpers.least_words();
     if least == 0 {
         return false;
     }

@@ -1,7 +1,7 @@
 //! All helpers of a pause: how they are made ready, and how they are joined.
 ghost use Rattle.std.specs.Prelude.{◌≡◌, ℕ, ◌+◌, ◌<◌, ◌≤◌, ◌⊎◌, All, IfOk, length, vec_len, slice_index_or};
 ghost use Rattle.words.specs.Bits.{Has};
-ghost use Rattle.words.specs.declared.limits.TheConstants.{MAX_HELPERS, MAX_PAGES};
+ghost use Rattle.words.specs.declared.limits.TheConstants.{MAX_HELPERS, MOST_PAGES};
 ghost use Rattle.mark_bits.specs.Tables.{view, IsOf};
 ghost use Rattle.mark_bits.specs.Claims.{joined};
 ghost use Rattle.final_pause.specs.declared.helper.Helper.{Helper as HelperValue};
@@ -16,7 +16,7 @@ use arrayvec::ArrayVec;
 use dirty_pages::DirtyPages;
 use mark_bits::{Claimer, MarkTable};
 use std::alloc::{AllocError, Global};
-use words::limits::{MAX_HELPERS, MAX_PAGES};
+use words::limits::{MAX_HELPERS, MOST_PAGES};
 
 // A helper with nothing to do yet.
 fn new_helper<'a>(
@@ -29,7 +29,7 @@ fn new_helper<'a>(
 ) -> Result<Helper<'a>, AllocError>
     requires of { IsOf table.now first.old }
     requires parts { 1 < (view first.old).parts }
-    requires pages { pages ≤ MAX_PAGES }
+    requires pages { pages ≤ MOST_PAGES }
     requires few { share < MAX_HELPERS }
     ensures of { IsOf table.now first.new }
     ensures share { IfOk result (λ h. h.share ≡ share) }
@@ -63,7 +63,7 @@ pub(crate) fn hire<'a>(
 ) -> Result<Vec<Helper<'a>>, AllocError>
     requires of { IsOf table.now first.old }
     requires parts { helpers < (view first.old).parts }
-    requires pages { pages ≤ MAX_PAGES }
+    requires pages { pages ≤ MOST_PAGES }
     requires few { helpers ≤ MAX_HELPERS }
     ensures of { IfOk result (λ v. IsOf table.now first.new) }
     ensures won { (view first.new).won ≡ (view first.old).won }

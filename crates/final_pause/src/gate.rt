@@ -12,10 +12,6 @@ pub const COLLECTOR_ACTOR: u8 = SLOTS;
 /// The number of the first helper as an actor.
 pub const FIRST_HELPER: u8 = 32;
 
-/// How many words the pages in use have at least where helpers start and nobody is held back: to mark that much alone takes
-/// some times as long as to start a thread.
-const LEAST_WORDS: u64 = 65_536;
-
 /// What runs before and after each call of an actor. It may hold the actor back, and sees nothing of the heap.
 pub trait Gate: Sync {
     /// The actor is about to make the call.
@@ -23,13 +19,9 @@ pub trait Gate: Sync {
 
     /// The actor has made the call.
     fn after(&self, actor: u8, call: u32);
-
-    /// How many words the heap's pages in use have at least where helpers of a pause start. Over fewer the calling thread
-    /// marks alone, and over more it does so until it has read a quarter as many. With 0 helpers start at once.
-    fn least_words(&self) -> u64;
 }
 
-/// A gate that holds nobody back. Helpers start where they have enough to do.
+/// A gate that holds nobody back.
 #[derive(Clone, Copy, Debug, Default)]
 pub struct Open;
 
@@ -37,22 +29,4 @@ impl Gate for Open {
     fn before(&self, _actor: u8, _call: u32) {}
 
     fn after(&self, _actor: u8, _call: u32) {}
-
-    fn least_words(&self) -> u64 {
-        LEAST_WORDS
-    }
-}
-
-/// A gate that holds nobody back, and under which helpers start at once, however little there is to do.
-#[derive(Clone, Copy, Debug, Default)]
-pub struct AtOnce;
-
-impl Gate for AtOnce {
-    fn before(&self, _actor: u8, _call: u32) {}
-
-    fn after(&self, _actor: u8, _call: u32) {}
-
-    fn least_words(&self) -> u64 {
-        0
-    }
 }

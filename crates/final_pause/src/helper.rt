@@ -1,6 +1,6 @@
 //! One helper of a pause: what it holds, and what it does with an object.
 ghost use Rattle.std.specs.Prelude.{◌≡◌, ◌<◌, ◌≤◌, true, false, ◌∷◌, length, slice_set, if◌then◌else◌};
-ghost use Rattle.words.specs.declared.limits.TheConstants.{MAX_PAGES};
+ghost use Rattle.words.specs.declared.limits.TheConstants.{MOST_PAGES};
 ghost use Rattle.mark_bits.specs.Tables.{view, start_of, IsOf};
 ghost use Rattle.mark_bits.specs.Claims.{knows, LearnsMore};
 ghost use Rattle.block_map.specs.Objects.{IsPlaced};
@@ -64,7 +64,7 @@ pub(crate) fn claim<G: Gate>(
 // pages that it covers become dirty.
 pub(crate) fn queue(helper: &mut Helper, found: Found)
     requires placed { IsPlaced (length helper.old.dirty) found }
-    requires small { length helper.old.dirty ≤ MAX_PAGES }
+    requires small { length helper.old.dirty ≤ MOST_PAGES }
     ensures { QueuesObject found helper.old helper.new }
 {
     if found.kind == Kind::PointerFree {

@@ -71,6 +71,6 @@ mod parallel;
 mod share;
 
 pub use alone::close_marks;
-pub use gate::{AtOnce, COLLECTOR_ACTOR, FIRST_HELPER, Gate, Open};
+pub use gate::{COLLECTOR_ACTOR, FIRST_HELPER, Gate, Open};
 pub use helpers::Helpers;
 pub use parallel::close_marks_with;

@@ -116,7 +116,7 @@ fn mark_with_helpers<R: Threads + Wait + Sync, G: Gate>(
 
 /// Marks on until nothing is left to read, with helpers at the same time, the last of them on the calling thread: the marks become
 /// the closure of the marks before and the roots, as [`close_marks`] leaves them. Where there is less to do than
-/// the gate says, or too little waits to be shared, and where memory or a thread is refused, the calling thread does it alone.
+/// they start for, or too little waits to be shared, and where memory or a thread is refused, the calling thread does it alone.
 pub fn close_marks_with<R: Threads + Wait + Sync, G: Gate>(
     rt: &R,
     alloc: Global,
@@ -134,7 +134,7 @@ pub fn close_marks_with<R: Threads + Wait + Sync, G: Gate>(
     ensures done { IsDone marker.new }
     ensures traces { Traces (found_in map.now) memory.now roots.now marker.old marker.new }
 {
-    if mark_before_helpers(marker, map, memory, roots, helpers, gate.least_words()) {
+    if mark_before_helpers(marker, map, memory, roots, helpers) {
         return;
     }
     mark_with_helpers(rt, alloc, marker, map, memory, roots, helpers, gate);

@@ -10,24 +10,27 @@ use Rattle.block_map.specs.FoundIn.{IsLawful}
 use Rattle.heap_core.specs.CoreContents.{CoreContents, IsCore}
 use Rattle.heap_core.specs.Acts.{IsAct, AreActs}
 use Rattle.heap_core.specs.Following.{IsLine, AreLines, told_of}
-use Rattle.heap_core.proofs.Following.{call_line, begin_result, partial_result, roots_result, mark_result, retrace_result, finish_result, sweep_result, collect_result, number_line, no_lines, lines_more}
+use Rattle.heap_core.proofs.Following.{CountsObjects, lawful_counts, counted_call_line, begin_result, partial_result, roots_result, mark_result, retrace_result, finish_result, sweep_result, collect_result, number_line, no_lines, lines_more}
 
 -- what is a line with one reply is one with the same reply
 line_with : (old new : CoreContents) (event : Event) (reply told : Reply) → reply ≡ told → IsLine old event told new → IsLine old event reply new
 line_with old new event reply told same line = subst (λ x. IsLine old event x new) (sym same) line
 
+pub counted_act_line : (old new : CoreContents) (event : Event) (reply : Reply) → CountsObjects old → IsAct old event reply new → IsLine old event reply new
+counted_act_line old new Attach reply counts act = counted_call_line old Attach reply new counts act
+counted_act_line old new (Mutator slot call) reply counts act = counted_call_line old (Mutator slot call) reply new counts act
+counted_act_line old new Begin reply counts act = line_with old new Begin reply _ act.1 (begin_result old new act.0 act.2)
+counted_act_line old new BeginPartial reply counts act = line_with old new BeginPartial reply _ act.1 (partial_result old new act.0 act.2)
+counted_act_line old new Roots reply counts act = line_with old new Roots reply _ act.1 (roots_result old new act.0 act.2)
+counted_act_line old new (Mark most) reply counts act = line_with old new (Mark most) reply _ act.1 (mark_result old new most act.0 act.2)
+counted_act_line old new Retrace reply counts act = line_with old new Retrace reply _ act.1 (retrace_result old new act.0 act.2)
+counted_act_line old new Finish reply counts act = line_with old new Finish reply _ act.1 (finish_result old new act.0 act.2)
+counted_act_line old new Sweep reply counts act = line_with old new Sweep reply _ act.1 (sweep_result old new act.0 act.2)
+counted_act_line old new Collect reply counts act = line_with old new Collect reply _ act.1 (collect_result old new act.0 act.2)
+counted_act_line old new Number reply counts act = line_with old new Number reply _ act.0 (subst (λ c. IsLine old Number (Count old.cycle.count) c) (sym act.1) (number_line old))
+
 pub act_line : (old new : CoreContents) (event : Event) (reply : Reply) → IsLawful old.store.states → IsAct old event reply new → IsLine old event reply new
-act_line old new Attach reply lawful act = call_line old Attach reply new lawful act
-act_line old new (Mutator slot call) reply lawful act = call_line old (Mutator slot call) reply new lawful act
-act_line old new Begin reply lawful act = line_with old new Begin reply _ act.1 (begin_result old new act.0 act.2)
-act_line old new BeginPartial reply lawful act = line_with old new BeginPartial reply _ act.1 (partial_result old new act.0 act.2)
-act_line old new Roots reply lawful act = line_with old new Roots reply _ act.1 (roots_result old new act.0 act.2)
-act_line old new (Mark most) reply lawful act = line_with old new (Mark most) reply _ act.1 (mark_result old new most act.0 act.2)
-act_line old new Retrace reply lawful act = line_with old new Retrace reply _ act.1 (retrace_result old new act.0 act.2)
-act_line old new Finish reply lawful act = line_with old new Finish reply _ act.1 (finish_result old new act.0 act.2)
-act_line old new Sweep reply lawful act = line_with old new Sweep reply _ act.1 (sweep_result old new act.0 act.2)
-act_line old new Collect reply lawful act = line_with old new Collect reply _ act.1 (collect_result old new act.0 act.2)
-act_line old new Number reply lawful act = line_with old new Number reply _ act.0 (subst (λ c. IsLine old Number (Count old.cycle.count) c) (sym act.1) (number_line old))
+act_line old new event reply lawful act = counted_act_line old new event reply (lawful_counts old lawful) act
 
 -- what the calls leave has the laws of a map
 lawful_after : (old : CoreContents) → IsLawful old.store.states → {lines : List Told} {new : CoreContents} → AreActs old lines new → IsLawful new.store.states

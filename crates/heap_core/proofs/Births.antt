@@ -14,18 +14,17 @@ use Rattle.heap_spec.specs.Room.{HasRoom}
 use Rattle.heap_spec.specs.Steps.{Acts, Attaches, Calls, Step, register}
 use Rattle.heap_spec.proofs.Objects.{at_cases}
 use Rattle.heap_spec.proofs.Links.{left_by, same_left}
-use Rattle.object_space.specs.Rooms.{IsRequest}
-use Rattle.object_space.proofs.Placing.{sized}
+use Rattle.heap_spec.proofs.Layouts.{IsPlacement, placed}
 
 -- where there is room for a request no object has its base
-room_none : (s : Heap) (placement : Placement) (kind : Kind) (a : ℕ) → IsRequest placement → HasRoom s placement kind a → (o : Object) → HasObject s a o → 0 < length o.words → ⊥
+room_none : (s : Heap) (placement : Placement) (kind : Kind) (a : ℕ) → IsPlacement placement → HasRoom s placement kind a → (o : Object) → HasObject s a o → 0 < length o.words → ⊥
 room_none s (Small class) kind a fit room o has some = ⊎_elim (λ empty. empty a o has (lies class room.in_page room.is_cell)) (λ cut. none-some o (sym cut.1 ∙ has)) room.cut
   where
     lies : (class : ℕ) → class * (room.cell + 1) ≤ 512 → a ≡ 268435456 + 4096 * room.page + 8 * (class * room.cell) → LiesOn a (length o.words) room.page
     lies zero in_page is = (omega arith, omega arith)
     lies (suc c) in_page is = (omega arith, omega arith)
 room_none s (Large pages) kind a fit room o has some =
-    let start = room.is_start in let more = fit.0 in
+    let start = room.is_start in let more : 0 < pages = fit in
     room.free room.first (omega arith) (omega arith) a o has (omega arith, omega arith)
 
 -- The heap's objects have words, and their births are counted.
@@ -39,7 +38,7 @@ acts_apart s all slot m (Acts.stored {base = b} {o = x} al reads) base p has bor
     (λ other. let old = all.born base p other.1 in omega arith)
     (at_cases s.objects b _ base _ has)
 acts_apart s all slot m (Acts.allocated {n = n} {kind = kind} {placement = placement} a e room) base p has born o was = ⊎_elim
-    (λ here. room_none s placement kind a (sized n placement e) room o (ap s.objects (sym here.0) ∙ was) (all.some base o was))
+    (λ here. room_none s placement kind a (placed _ n placement e) room o (ap s.objects (sym here.0) ∙ was) (all.some base o was))
     (λ other. let old = all.born base p other.1 in omega arith)
     (at_cases s.objects a _ base _ has)
 acts_apart s all slot m (Acts.freed {r = r} gone) base p has born o was =

@@ -1,6 +1,6 @@
 -- The calls that allocate and free.
 use Rattle.std.proofs.Common.{◌≤◌, get_or, cond, replicate, true, false, length, inl, inr, ⊎_elim, ◌≡◌, ℕ, ◌+◌, [], ◌∷◌, Some, None, refl, sym, ap, ◌∙◌, subst, List}
-use Rattle.std.specs.Prelude.{◌≢◌}
+use Rattle.std.specs.Prelude.{◌≢◌, ◌⊎◌}
 use Rattle.words.specs.declared.class.Kind.{Kind}
 use Rattle.words.specs.declared.class.Placement.{Placement}
 use Rattle.words.specs.declared.refusal.Refusal.TheVariants.{Full, NotBase}
@@ -50,16 +50,22 @@ use Rattle.object_space.proofs.Allocations.{shows_same}
 use Rattle.object_space.proofs.Words.{shows_kept}
 use Rattle.heap_view.proofs.Shows.{at_base}
 use Rattle.object_space.proofs.Sweeping.{read_or_not}
+use Rattle.object_space.specs.Many.{HasNoneReady}
 use Rattle.object_space.specs.Rooms.{HasRoomAt, HasNoRoom}
 use Rattle.heap_core.proofs.Lookups.{finds}
 use Rattle.heap_core.proofs.Forgotten.{forgotten_added, forgotten_removed, forgotten_swept}
-use Rattle.heap_core.proofs.Roots.{not_done, dirty_event, refused_clean, core_of, attached, stands_set, none_some, frees_event, frees_reply}
+use Rattle.heap_core.proofs.Roots.{allocation_event, not_done, dirty_event, refused_clean, core_of, attached, stands_set, none_some, frees_event, frees_reply}
+
+-- where a request goes in the heap that is stood for
+limit_is : (roots : RootSet) (t : Store) (y : Cycle) {ls : List Link} (s : Heap) (n : ℕ) (placement : Placement) → StandsFor (core_of roots t y ls) s → placement_of roots.request_words n ≡ Some placement → placement_of s.request_words n ≡ Some placement
+limit_is roots t y s n placement h is = ap (λ limit. placement_of limit n) h.request_words ∙ is
 
 -- pages were swept
 pub swept_stands : (roots : RootSet) (t0 t : Store) (y : Cycle) {ls : List Link} → Sweeps t0 y.marker.marks t → (s : Heap) → StandsFor (core_of roots t0 y ls) s → StandsFor (core_of roots t y ls) s
 swept_stands roots t0 t y {ls = ls} sweeps s h = record {
   mutators = h.mutators;
   globals = h.globals;
+  request_words = h.request_words;
   links = h.links;
   store = record {
     pages = h.store.pages ∙ sym sweeps.pages;
@@ -120,20 +126,20 @@ module _ (t t' : Store) (y y' : Cycle) (placement : Placement) (kind : Kind) (ba
       let there = (kept_cases (is_kept t.pending y.marker.marks) (found_in t.states) b f.0 f.1).0 in
       none_some f.0 (sym (gains.added.before b (subst (λ x. IsInside x gains.object) (gains.at ∙ sym same) (gains.map.reads gains.object.base gains.object here))) ∙ there)
 
-allocated_step : (roots roots' : RootSet) (t t' : Store) (y y' : Cycle) {ls : List Link} (slot d n base : ℕ) (kind : Kind) (placement : Placement) (m : HeapMutator) → HasMutator roots slot m → placement_of n ≡ Some placement
+allocated_step : (roots roots' : RootSet) (t t' : Store) (y y' : Cycle) {ls : List Link} (slot d n base : ℕ) (kind : Kind) (placement : Placement) (m : HeapMutator) → HasMutator roots slot m → placement_of roots.request_words n ≡ Some placement
     → HasRoomAt t placement kind base → Gains t placement kind base t' → SetsWord roots slot d base roots' → NotesObject y.is_marking base y.marker y'.marker → IsStep (StandsFor (core_of roots t y ls)) (Mutator slot (Alloc d n kind)) Done (StandsFor (core_of roots' t' y' ls))
 allocated_step roots roots' t t' y y' {ls = ls} slot d n base kind placement m at is room gains sets notes s h =
     let new = stores_new t t' y y' placement kind base gains notes s h.store in
     let after : Heap = with_register (with_new s base kind placement) slot m d base in (
       after,
-      Calls.acts (attached roots t y s slot m h at) (Acts.allocated base is (room (is_kept t.pending y.marker.marks) s h.store)),
-      stands_set roots roots' t t' y y' s after slot d base m h at sets refl refl (record { pages = new.pages; shows = new.shows }) (named_kept s.objects after.objects (λ b o has. (o, with_at-other s.objects base _ b (λ same. none_at t t' y y' placement kind base gains notes s h.store b o same has) ∙ has, record { birth = refl; kind = refl; size = refl })) h.links),
+      Calls.acts (attached roots t y s slot m h at) (Acts.allocated base (limit_is roots t y s n placement h is) (room (is_kept t.pending y.marker.marks) s h.store)),
+      stands_set roots roots' t t' y y' s after slot d base m h at sets refl refl refl (record { pages = new.pages; shows = new.shows }) (named_kept s.objects after.objects (λ b o has. (o, with_at-other s.objects base _ b (λ same. none_at t t' y y' placement kind base gains notes s h.store b o same has) ∙ has, record { birth = refl; kind = refl; size = refl })) h.links),
     )
 
-pub allocated : (roots roots' : RootSet) (t0 t t' : Store) (y y' : Cycle) {ls : List Link} (slot d n base : ℕ) (kind : Kind) (placement : Placement) (m : HeapMutator) → HasMutator roots slot m → placement_of n ≡ Some placement
+pub allocated : (roots roots' : RootSet) (t0 t t' : Store) (y y' : Cycle) {ls : List Link} (slot d n base : ℕ) (kind : Kind) (placement : Placement) (m : HeapMutator) → HasMutator roots slot m → placement_of roots.request_words n ≡ Some placement
     → Sweeps t0 y.marker.marks t → HasRoomAt t placement kind base → (gains : Gains t placement kind base t') → SetsWord roots slot d base roots' → NotesObject y.is_marking base y.marker y'.marker → (IsMarked y.marker gains.object.base → ⊥) → y'.is_marking ≡ y.is_marking → y'.count ≡ y.count → y'.needs_full ≡ y.needs_full
-    → IsCall (core_of roots t0 y ls) (Mutator slot (Alloc d n kind)) Done (core_of roots' t' y' ls)
-allocated roots roots' t0 t t' y y' {ls = ls} slot d n base kind placement m at is sweeps room gains sets notes unmarked phase count needs = record {
+    → HasNoneReady t0 placement kind ⊎ (t'.free ≡ t0.free) → IsCall (core_of roots t0 y ls) (Mutator slot (Alloc d n kind)) Done (core_of roots' t' y' ls)
+allocated roots roots' t0 t t' y y' {ls = ls} slot d n base kind placement m at is sweeps room gains sets notes unmarked phase count needs cuts = record {
   steps = λ s h. allocated_step roots roots' t t' y y' slot d n base kind placement m at is room gains sets notes s (swept_stands roots t0 t y sweeps s h);
   phase = phase;
   count = count;
@@ -157,6 +163,7 @@ allocated roots roots' t0 t t' y y' {ls = ls} slot d n base kind placement m at 
         λ h. came.1 (swept.1 (h.0, subst (λ row. Has row f.page) gains.pending h.1)),
       );
   full = λ h. absurd (not_done (Mutator slot (Alloc d n kind)) h);
+  cuts = λ p k h. cut_in_need p k (allocation_event (core_of roots t0 y ls) (Mutator slot (Alloc d n kind)) Done p k h);
   written = λ p h. absurd (clean (dirty_event (core_of roots t0 y ls) (Mutator slot (Alloc d n kind)) Done p h));
   roots_alone = λ not. absurd (not tt);
 }
@@ -166,6 +173,14 @@ allocated roots roots' t0 t t' y y' {ls = ls} slot d n base kind placement m at 
 
     no_free : ((s q : ℕ) × (Mutator slot (Alloc d n kind) ≡ Mutator s (Free q))) → ⊥
     no_free (s, q, e) = cc
+
+    cut_in_need : (p : Placement) (k : Kind) → ((s x w : ℕ) × (Mutator slot (Alloc d n kind) ≡ Mutator s (Alloc x w k)) × (Done ≡ Done) × (placement_of roots.request_words w ≡ Some p))
+        → HasNoneReady t0 p k ⊎ (t'.free ≡ t0.free)
+    cut_in_need p k (s, x, w, e, _, found) =
+        let same : w ≡ n = cc in
+        let of_kind : kind ≡ k = cc in
+        let one : placement ≡ p = same_Some placement p (sym is ∙ ap (placement_of roots.request_words) (sym same) ∙ found) in
+        subst (λ q. HasNoneReady t0 p q ⊎ (t'.free ≡ t0.free)) of_kind (subst (λ q. HasNoneReady t0 q kind ⊎ (t'.free ≡ t0.free)) one cuts)
 
     -- the object at the granule is the one that came
     new : (f : Found) → found_in t'.states f.base ≡ Some f → granule f.base ≡ granule base → restrict (is_kept t0.pending y.marker.marks) (found_in t0.states) f.base ≡ None
@@ -206,7 +221,7 @@ all_kept keep t s all stores = record {
 refused_done : Refused Full ≡ Done → ⊥
 refused_done e = cc
 
-pub full : (roots : RootSet) (t0 t : Store) (y : Cycle) {ls : List Link} (slot d n : ℕ) (kind : Kind) (placement : Placement) (m : HeapMutator) → HasMutator roots slot m → placement_of n ≡ Some placement → Sweeps t0 y.marker.marks t → IsSwept t → HasNoRoom t placement kind
+pub full : (roots : RootSet) (t0 t : Store) (y : Cycle) {ls : List Link} (slot d n : ℕ) (kind : Kind) (placement : Placement) (m : HeapMutator) → HasMutator roots slot m → placement_of roots.request_words n ≡ Some placement → Sweeps t0 y.marker.marks t → IsSwept t → HasNoRoom t placement kind
     → IsCall (core_of roots t0 y ls) (Mutator slot (Alloc d n kind)) (Refused Full) (core_of roots t y ls)
 full roots t0 t y {ls = ls} slot d n kind placement m at is sweeps swept none = record {
   freed = λ h. absurd (refused_done (frees_reply (Mutator slot (Alloc d n kind)) (Refused Full) h));
@@ -215,7 +230,7 @@ full roots t0 t y {ls = ls} slot d n kind placement m at is sweeps swept none = 
   carried = refl;
   steps = λ s h.
       let now = swept_stands roots t0 t y sweeps s h in
-      (s, Calls.acts (attached roots t0 y s slot m h at) (Acts.full is (none s (all_kept (is_kept t.pending y.marker.marks) t s (λ f. nothing_pending t.pending y.marker.marks f (swept f.page)) now.store))), now);
+      (s, Calls.acts (attached roots t0 y s slot m h at) (Acts.full (limit_is roots t y s n placement now is) (none s (all_kept (is_kept t.pending y.marker.marks) t s (λ f. nothing_pending t.pending y.marker.marks f (swept f.page)) now.store))), now);
   phase = refl;
   count = refl;
   marks = λ f there marked. inl marked;
@@ -229,6 +244,7 @@ full roots t0 t y {ls = ls} slot d n kind placement m at is sweeps swept none = 
   swept = λ p h. inr tt;
   forgotten = forgotten_swept t0 t y.marker.marks sweeps;
   full = λ h. swept;
+  cuts = λ p k h. absurd (refused_done (allocation_event (core_of roots t0 y ls) (Mutator slot (Alloc d n kind)) (Refused Full) p k h).4);
   written = λ p h. absurd (refused_clean (core_of roots t0 y ls) (Mutator slot (Alloc d n kind)) Full p h);
   roots_alone = λ not. absurd (not tt);
 }
@@ -301,6 +317,7 @@ freed_along roots t t' words y y' {ls = ls} slot r m f lawful at is base loses f
         subst (λ b. StandsFor (core_of roots (record t' { words = words }) y' (filter (stays (kept_in t'.states t'.pending y'.marker.marks)) ls)) (without s (b ∷ []))) base (record {
           mutators = h.mutators;
           globals = h.globals;
+          request_words = h.request_words;
           store = record { pages = left.pages; shows = shows_along (kept_in t'.states t'.pending y'.marker.marks) (length t'.states) map' t'.words words s (f.base ∷ []) ls left.shows h.store.shows.distinct one h.links changed };
           links = named_along (kept_in t'.states t'.pending y'.marker.marks) (length t'.states) map' t'.words words s (f.base ∷ []) ls left.shows h.store.shows.distinct one h.links;
         }),
@@ -319,12 +336,16 @@ freed_along roots t t' words y y' {ls = ls} slot r m f lawful at is base loses f
   forgotten = forgotten_removed t t' y.marker.marks y'.marker.marks f loses.removed (kept_cases (is_kept t.pending y.marker.marks) (found_in t.states) f.base f there).1
       (keeps_left t t' y y' f lawful.map there loses others);
   full = λ h. absurd (not_done (Mutator slot (Free r)) h);
+  cuts = λ p k h. absurd (no_allocation (allocation_event (core_of roots t y ls) (Mutator slot (Free r)) Done p k h));
   written = λ p h. absurd (clean (dirty_event (core_of roots t y ls) (Mutator slot (Free r)) Done p h));
   roots_alone = λ not. absurd (not tt);
 }
   where
     clean : ((s a n q : ℕ) × (Mutator slot (Free r) ≡ Mutator s (StoreCall a n q))) → ⊥
     clean (s, a, n, q, e) = cc
+
+    no_allocation : {p : Placement} {k : Kind} → ((s d n : ℕ) × (Mutator slot (Free r) ≡ Mutator s (Alloc d n k)) × (Done ≡ Done) × (placement_of roots.request_words n ≡ Some p)) → ⊥
+    no_allocation (s, d, n, e, _, found) = cc
 
     there : restrict (is_kept t.pending y.marker.marks) (found_in t.states) f.base ≡ Some f
     there = ap (restrict (is_kept t.pending y.marker.marks) (found_in t.states)) base ∙ is

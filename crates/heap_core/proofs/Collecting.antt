@@ -150,6 +150,7 @@ module _ (c : CoreContents) (map : IsMap (length c.store.states) (found_in c.sto
     stands_without = record {
       mutators = h.mutators;
       globals = h.globals;
+      request_words = h.request_words;
       store = record {
         pages = h.store.pages ∙ sym x.pages;
         shows = shows_along (kept_in t'.states t'.pending y.marker.marks) (length t'.states) kmap t'.words words s x.bases c.links less_shown h.store.shows.distinct one h.links changed;

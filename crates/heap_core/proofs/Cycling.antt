@@ -35,6 +35,7 @@ pub stands_still : (c : CoreContents) (y : Cycle) → IsSwept c.store → (s : H
 stands_still c y swept s h = record {
   mutators = h.mutators;
   globals = h.globals;
+  request_words = h.request_words;
   links = h.links;
   store = record {
     pages = h.store.pages;

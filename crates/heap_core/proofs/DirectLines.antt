@@ -38,18 +38,18 @@ use Rattle.heap_core.proofs.Roots.{core_of, steps_roots}
 use Rattle.heap_core.proofs.DirectStores.{by_words}
 
 -- the roots with this mutator at the slot
-abbrev with_slot : RootSet → ℕ → HeapMutator → RootSet
-with_slot roots slot m = record { mutators = set roots.mutators slot (Some m); globals = roots.globals }
+abbrev pub with_slot : RootSet → ℕ → HeapMutator → RootSet
+with_slot roots slot m = record roots { mutators = set roots.mutators slot (Some m) }
 
-slot_has : (roots : RootSet) (slot : ℕ) (m n : HeapMutator) → HasMutator roots slot m → HasMutator (with_slot roots slot n) slot n
+pub slot_has : (roots : RootSet) (slot : ℕ) (m n : HeapMutator) → HasMutator roots slot m → HasMutator (with_slot roots slot n) slot n
 slot_has roots slot m n at =
     let lt = slice_get_within roots.mutators slot (Some m) at in
     slice_get-get_or (set roots.mutators slot (Some n)) slot (Some n) (rw (length-set roots.mutators slot (Some n)) lt) ∙ ap Some (get_or-set_same roots.mutators slot (Some n) (Some n) lt)
 
 -- a mutator puts a word into a register of its own
-set_call : (roots : RootSet) (t : Store) (y : Cycle) (ls : List Link) (slot r w : ℕ) (m : HeapMutator) → HasMutator roots slot m → IsCall (core_of roots t y ls) (Mutator slot (Set r w)) Done (core_of (with_slot roots slot (with_word m r w)) t y ls)
+pub set_call : (roots : RootSet) (t : Store) (y : Cycle) (ls : List Link) (slot r w : ℕ) (m : HeapMutator) → HasMutator roots slot m → IsCall (core_of roots t y ls) (Mutator slot (Set r w)) Done (core_of (with_slot roots slot (with_word m r w)) t y ls)
 set_call roots t y ls slot r w m at =
-    let is : SetsWord roots slot r w (with_slot roots slot (with_word m r w)) = (refl, record { before = m; after = with_word m r w; at = at; change = refl; only = refl }) in
+    let is : SetsWord roots slot r w (with_slot roots slot (with_word m r w)) = (record { globals = refl; request_words = refl }, record { before = m; after = with_word m r w; at = at; change = refl; only = refl }) in
     steps_roots roots (with_slot roots slot (with_word m r w)) t y (Mutator slot (Set r w)) Done (λ h. h) (sets roots (with_slot roots slot (with_word m r w)) slot r w m (Set r w) Done at is (λ s. Acts.set))
 
 -- the cycle once a page is dirty
@@ -76,7 +76,7 @@ notes y a inside = record {
 -- the dirty pages are nothing to a run
 follows_dirty : (roots : RootSet) (t : Store) (y : Cycle) (ls : List Link) (dirty : List Bool) (start : Start) (run : Run) → Follows (core_of roots t (record y { marker = with_dirty y.marker dirty }) ls) start run → Follows (core_of roots t y ls) start run
 follows_dirty roots t y ls dirty start run f = record {
-  stands = record { mutators = f.stands.mutators; globals = f.stands.globals; store = record { pages = f.stands.store.pages; shows = f.stands.store.shows }; links = f.stands.links };
+  stands = record { mutators = f.stands.mutators; globals = f.stands.globals; request_words = f.stands.request_words; store = record { pages = f.stands.store.pages; shows = f.stands.store.shows }; links = f.stands.links };
   phase = f.phase;
   count = f.count;
   small = f.small;
@@ -89,7 +89,7 @@ follows_dirty roots t y ls dirty start run f = record {
 
 other_dirty : (old : CoreContents) (words : List ℕ) (dirty : List Bool) (start : Start) (run : Run) → Follows (with_memory old words old.cycle.marker.dirty) start run → Follows (with_memory old words dirty) start run
 other_dirty old words dirty start run f = record {
-  stands = record { mutators = f.stands.mutators; globals = f.stands.globals; store = record { pages = f.stands.store.pages; shows = f.stands.store.shows }; links = f.stands.links };
+  stands = record { mutators = f.stands.mutators; globals = f.stands.globals; request_words = f.stands.request_words; store = record { pages = f.stands.store.pages; shows = f.stands.store.shows }; links = f.stands.links };
   phase = f.phase;
   count = f.count;
   small = f.small;
@@ -201,13 +201,13 @@ writes_line old new slot m whole at row writes =
   where
     on : (ws : List ℕ) (a : ℕ) (f : Found) → length ws ≡ length old.store.words → IsWordAddress old.store.words a → objects_of old a ≡ Some f → IsWord (word_at new.store.words a) → LinesTo old slot ws → LinesTo old slot (with_word_at ws a (word_at new.store.words a))
     on ws a f len there is word p =
-        let size = whole.space.whole.long in let few = whole.core.laid.few in let pages = whole.core.traced.pages in let above = there.above in let below = there.below in
+        let size = whole.space.whole.listed.size in let few = whole.core.laid.few in let pages = whole.core.traced.pages in let above = there.above in let below = there.below in
         one_word old.roots (record old.store { words = ws }) (record old.cycle { marker = with_dirty old.cycle.marker old.cycle.marker.dirty }) old.links slot a (word_at new.store.words a) m f whole.core.lawful (len ∙ size)
         at row.size there.aligned (omega arith) (omega arith) is old p.0 row.words word p.1 p.2
 
 -- the roots with no mutator at the slot
 abbrev without_slot : RootSet → ℕ → RootSet
-without_slot roots slot = record { mutators = set roots.mutators slot None; globals = roots.globals }
+without_slot roots slot = record roots { mutators = set roots.mutators slot None }
 
 comes_call : (roots : RootSet) (t : Store) (y : Cycle) (ls : List Link) (slot : ℕ) → IsNextSlot roots slot → IsCall (core_of roots t y ls) Attach (Slot slot) (core_of (with_slot roots slot newcomer) t y ls)
 comes_call roots t y ls slot next = steps_roots roots (with_slot roots slot newcomer) t y Attach (Slot slot) (λ h. h) (λ s. Attaches.attached (next.is_vacant, next.lowest))
@@ -284,6 +284,6 @@ writes_visit old new slot whole next writes =
   where
     on : (ws : List ℕ) (a : ℕ) (f : Found) → length ws ≡ length old.store.words → IsWordAddress old.store.words a → objects_of old a ≡ Some f → IsWord (word_at new.store.words a) → VisitsTo old slot ws → VisitsTo old slot (with_word_at ws a (word_at new.store.words a))
     on ws a f len there is word p =
-        let size = whole.space.whole.long in let few = whole.core.laid.few in let pages = whole.core.traced.pages in let above = there.above in let below = there.below in
+        let size = whole.space.whole.listed.size in let few = whole.core.laid.few in let pages = whole.core.traced.pages in let above = there.above in let below = there.below in
         one_visit old.roots (record old.store { words = ws }) (record old.cycle { marker = with_dirty old.cycle.marker old.cycle.marker.dirty }) old.links slot a (word_at new.store.words a) f whole.core.lawful (len ∙ size)
         next there.aligned (omega arith) (omega arith) is old p.0 word p.1 p.2

@@ -93,6 +93,7 @@ stores_one c dirty ws a v f lawful long aligned is word s h =
       record {
         mutators = h.mutators;
         globals = h.globals;
+        request_words = h.request_words;
         store = record {
           pages = h.store.pages;
           shows = shows_stored (restrict (keeps c) (found_in c.store.states)) (length c.store.states) map ws s.objects s.births h.store.shows a v f found.0 is found.1.0 found.2 aligned inside;
@@ -103,10 +104,10 @@ stores_one c dirty ws a v f lawful long aligned is word s h =
 
 -- the dirty pages are nothing to the heap
 pub stands_dirty : (c : CoreContents) (words : List ℕ) (a b : List Bool) (s : Heap) → StandsFor (with_memory c words a) s → StandsFor (with_memory c words b) s
-stands_dirty c words a b s h = record { mutators = h.mutators; globals = h.globals; store = record { pages = h.store.pages; shows = h.store.shows }; links = h.links }
+stands_dirty c words a b s h = record { mutators = h.mutators; globals = h.globals; request_words = h.request_words; store = record { pages = h.store.pages; shows = h.store.shows }; links = h.links }
 
 pub stands_same : (c : CoreContents) (s : Heap) → StandsFor c s → StandsFor (with_memory c c.store.words c.cycle.marker.dirty) s
-stands_same c s h = record { mutators = h.mutators; globals = h.globals; store = record { pages = h.store.pages; shows = h.store.shows }; links = h.links }
+stands_same c s h = record { mutators = h.mutators; globals = h.globals; request_words = h.request_words; store = record { pages = h.store.pages; shows = h.store.shows }; links = h.links }
 
 -- An object is the same as itself, and where it was the same as another, that one's.
 same_object : (o : Object) → IsSameObject o o
@@ -116,7 +117,7 @@ same_more : (o p q : Object) → IsSameObject o p → IsSameObject p q → IsSam
 same_more o p q a b = record { birth = b.birth ∙ a.birth; kind = b.kind ∙ a.kind; size = b.size ∙ a.size }
 
 other_same : (s : Heap) → HasOtherWords s s
-other_same s = record { pages = refl; mutators = refl; globals = refl; births = refl; links = refl; stays = λ b o has. (o, has, same_object o); only = λ b o has. (o, has, same_object o) }
+other_same s = record { pages = refl; request_words = refl; mutators = refl; globals = refl; births = refl; links = refl; stays = λ b o has. (o, has, same_object o); only = λ b o has. (o, has, same_object o) }
 
 -- the object with another word
 abbrev written : Object → ℕ → ℕ → Object
@@ -128,6 +129,7 @@ same_written o i w = record { birth = refl; kind = refl; size = length-set o.wor
 other_one : (s s' : Heap) → StoresWord s s' → HasOtherWords s s'
 other_one s s' (StoresWord.stored {base = base} {i = i} {w = w} {o = o} has lt word) = record {
   pages = refl;
+  request_words = refl;
   mutators = refl;
   globals = refl;
   births = refl;
@@ -145,6 +147,7 @@ other_one s s' (StoresWord.stored {base = base} {i = i} {w = w} {o = o} has lt w
 other_more : (s m t : Heap) → HasOtherWords s m → HasOtherWords m t → HasOtherWords s t
 other_more s m t a b = record {
   pages = b.pages ∙ a.pages;
+  request_words = b.request_words ∙ a.request_words;
   mutators = b.mutators ∙ a.mutators;
   globals = b.globals ∙ a.globals;
   births = b.births ∙ a.births;
@@ -181,5 +184,5 @@ writes_store old new whole writes s h =
   where
     on : (ws : List ℕ) (a : ℕ) (f : Found) → length ws ≡ length old.store.words → IsWordAddress old.store.words a → objects_of old a ≡ Some f → IsWord (word_at new.store.words a) → StandsAfter old s ws → StandsAfter old s (with_word_at ws a (word_at new.store.words a))
     on ws a f len at is word p =
-        let one = stores_one old old.cycle.marker.dirty ws a (word_at new.store.words a) f whole.core.lawful (len ∙ whole.space.whole.long) at.aligned is word p.0 p.2 in
+        let one = stores_one old old.cycle.marker.dirty ws a (word_at new.store.words a) f whole.core.lawful (len ∙ whole.space.whole.listed.size) at.aligned is word p.0 p.2 in
         (one.0, StoresWords.more p.1 one.1, one.2)

@@ -26,7 +26,7 @@ told_written old new address w f whole tells kept aligned word = record {
     found = (kept_cases (keeps old) (found_in old.store.states) address f (sym (ap (λ (c : CoreContents). objects_of c address) tells.alone) ∙ kept)).0
 
     there : IsWordAddress old.store.words address
-    there = is_word (found_in old.store.states) (length old.store.states) whole.core.lawful.map old.store.words whole.space.whole.long address f found aligned
+    there = is_word (found_in old.store.states) (length old.store.states) whole.core.lawful.map old.store.words whole.space.whole.listed.size address f found aligned
 
     same_words : new.store.words ≡ old.store.words
     same_words = ap (λ (c : CoreContents). c.store.words) tells.alone
@@ -43,4 +43,4 @@ told_written old new address w f whole tells kept aligned word = record {
         (λ is normal. inr dirty) (λ is normal marked. inr dirty))
       where
         dirty : Has new.cycle.marker.dirty (page_of address)
-        dirty = tells.written there.above (let size = whole.space.whole.long in let above = there.above in let below = there.below in omega arith)
+        dirty = tells.written there.above (let size = whole.space.whole.listed.size in let above = there.above in let below = there.below in omega arith)

@@ -108,19 +108,22 @@ need_after s _ reply s' step b now freed not = absurd step
 none_some : {A : Type 0} (x : A) → None ≡ Some x → ⊥
 none_some x e = cc
 
--- A call of a mutator is a line.
-module _ (old : CoreContents) (event : Event) (reply : Reply) (new : CoreContents) (lawful : IsLawful old.store.states) (call : IsCall old event reply new) (start : Start) (run : Run) (follows : Follows old start run)
-    (after : Heap) (step : Step (heap_after start run) event reply after) (stands : StandsFor new after) where
-  -- the objects of the heap before have words
-  counted_objects : HasCountedObjects (heap_after start run)
-  counted_objects = record {
-    some = λ b p has.
-        let map = kept_map (length old.store.states) (keeps old) (found_in old.store.states) lawful.map in
-        let x = seen (objects_of old) (length old.store.states) map old.store.words (heap_after start run).objects follows.stands.store.shows.shown b p has in
-        let size = x.3.size in let some = (map.placed b x.0 x.1).some in omega arith;
-    born = λ b p has. (follows.stands.store.shows.born b p has).1;
-  }
+-- the objects of each heap to which a run leads that the core follows have words, and their births are counted
+abbrev pub CountsObjects : CoreContents → Type 0
+CountsObjects c = (start : Start) (run : Run) → Follows c start run → HasCountedObjects (heap_after start run)
 
+pub lawful_counts : (c : CoreContents) → IsLawful c.store.states → CountsObjects c
+lawful_counts c lawful start run follows = record {
+  some = λ b p has.
+      let map = kept_map (length c.store.states) (keeps c) (found_in c.store.states) lawful.map in
+      let x = seen (objects_of c) (length c.store.states) map c.store.words (heap_after start run).objects follows.stands.store.shows.shown b p has in
+      let size = x.3.size in let some = (map.placed b x.0 x.1).some in omega arith;
+  born = λ b p has. (follows.stands.store.shows.born b p has).1;
+}
+
+-- A call of a mutator is a line.
+module _ (old : CoreContents) (event : Event) (reply : Reply) (new : CoreContents) (counts : CountsObjects old) (call : IsCall old event reply new) (start : Start) (run : Run) (follows : Follows old start run)
+    (after : Heap) (step : Step (heap_after start run) event reply after) (stands : StandsFor new after) where
   touches : old.cycle.is_marking ≡ true → (base : ℕ) (o : Object) → HasObject after base o → IsMarked new.cycle.marker base → Touched start run o.birth ⊎ ((heap_after start run).births < o.birth)
   touches is base o has marked =
       let f = stands.store.shows.shown.only base o has in
@@ -143,7 +146,7 @@ module _ (old : CoreContents) (event : Event) (reply : Reply) (new : CoreContent
       let before = follows.stands.store.shows.shown.kept f.0 was.0 in
       ⊎_elim
       (λ old_one. let le = follows.aged is base old_one.0 old_one.1 (subst (IsMarked old.cycle.marker) f.2 was.1) in let same = old_one.2.birth in omega arith)
-      (λ born. absurd (born_apart (heap_after start run) counted_objects event reply after step base o has born before.0 (subst (λ b. HasObject (heap_after start run) b before.0) f.2 before.1)))
+      (λ born. absurd (born_apart (heap_after start run) (counts start run follows) event reply after step base o has born before.0 (subst (λ b. HasObject (heap_after start run) b before.0) f.2 before.1)))
       (step_births (heap_after start run) event reply after step base o has)
 
   kept : old.cycle.is_marking ≡ false → (base : ℕ) (o : Object) → HasObject after base o → o.birth ≤ old_births start run → IsMarked new.cycle.marker base
@@ -179,10 +182,13 @@ module _ (old : CoreContents) (event : Event) (reply : Reply) (new : CoreContent
   line : (next : Run) × LineOf start run event reply next × Follows new start next
   line = (goes_on run event reply after, LineOf.happens moment.happens, next_follows)
 
-pub call_line : (old : CoreContents) (event : Event) (reply : Reply) (new : CoreContents) → IsLawful old.store.states → IsCall old event reply new → IsLine old event reply new
-call_line old event reply new lawful call start run follows =
+pub counted_call_line : (old : CoreContents) (event : Event) (reply : Reply) (new : CoreContents) → CountsObjects old → IsCall old event reply new → IsLine old event reply new
+counted_call_line old event reply new counts call start run follows =
     let went = call.steps (heap_after start run) follows.stands in
-    line old event reply new lawful call start run follows went.0 went.1 went.2
+    line old event reply new counts call start run follows went.0 went.1 went.2
+
+pub call_line : (old : CoreContents) (event : Event) (reply : Reply) (new : CoreContents) → IsLawful old.store.states → IsCall old event reply new → IsLine old event reply new
+call_line old event reply new lawful call = counted_call_line old event reply new (lawful_counts old lawful) call
 
 -- A granted begin is a line.
 pub begin_line : (old new : CoreContents) → old.cycle.is_marking ≡ false → BeginsCycle old new → IsLine old Begin Done new
@@ -226,7 +232,7 @@ closed c start [] follows is birth x = sym follows.phase ∙ is
 closed c start (m ∷ run) follows is birth x = touched_closed start m run follows.stands.store.shows.distinct birth x
 
 -- and each object of the closure of its marks is touched
-reached_touched : (c : CoreContents) (start : Start) (run : Run) → Follows c start run → c.cycle.is_marking ≡ true
+pub reached_touched : (c : CoreContents) (start : Start) (run : Run) → Follows c start run → c.cycle.is_marking ≡ true
     → (base : ℕ) (o : Object) → HasObject (heap_after start run) base o → Closure (heap_after start run) (IsMarkedBirth (heap_after start run) c.cycle.marker) base → Touched start run o.birth
 reached_touched c start run follows is base o has inside =
     closed c start run follows is o.birth (

@@ -182,13 +182,13 @@ granted_held old new slot r n k is range lt act =
       };
     }
 
-alloc_refused : (s : Heap) (slot r n : ℕ) (kind : Kind) (why : Refusal) → placement_of n ≢ None → {s' : Heap} → Calls s slot (Alloc r n kind) (Refused why) s' → (why ≡ NoSlot) ⊎ (why ≡ Full)
+alloc_refused : (s : Heap) (slot r n : ℕ) (kind : Kind) (why : Refusal) → placement_of s.request_words n ≢ None → {s' : Heap} → Calls s slot (Alloc r n kind) (Refused why) s' → (why ≡ NoSlot) ⊎ (why ≡ Full)
 alloc_refused s slot r n kind why placed (acts at (Acts.bad_size none)) = absurd (placed none)
 alloc_refused s slot r n kind why placed (acts at (Acts.full e none)) = inr refl
 alloc_refused s slot r n kind why placed (vacant none) = inl refl
 
-pub few_refused : (old new : CoreContents) (slot r n : ℕ) (kind : Kind) (why : Refusal) → IsSoundCore old → placement_of n ≢ None → IsCall old (Mutator slot (Alloc r n kind)) (Refused why) new → (why ≡ NoSlot) ⊎ (why ≡ Full)
-few_refused old new slot r n kind why is placed act = alloc_refused is.0 slot r n kind why placed (act.steps is.0 is.1).1
+pub few_refused : (old new : CoreContents) (slot r n : ℕ) (kind : Kind) (why : Refusal) → IsSoundCore old → placement_of old.roots.request_words n ≢ None → IsCall old (Mutator slot (Alloc r n kind)) (Refused why) new → (why ≡ NoSlot) ⊎ (why ≡ Full)
+few_refused old new slot r n kind why is placed act = alloc_refused is.0 slot r n kind why (λ none. placed (sym (ap (λ limit. placement_of limit n) is.1.request_words) ∙ none)) (act.steps is.0 is.1).1
 
 -- where a held word lies
 held_place : (s : Heap) → IsSound s → (slot r k w : ℕ) → (held : IsHeldWord s slot r k w) → (address held.mutator r k % WORD_BYTES ≡ 0) × Place s held.mutator r k held.object

@@ -71,13 +71,14 @@ legal_collected old new is traced n all =
 
 -- the same marks keep the same objects
 pub told_stands : (roots : RootSet) (t : Store) (y y' : Cycle) (ls : List Link) → y'.marker.marks ≡ y.marker.marks → (s : Heap) → StandsFor (core_of roots t y ls) s → StandsFor (core_of roots t y' ls) s
-told_stands roots t y y' ls same s h = record { mutators = h.mutators; globals = h.globals; store = subst (λ ms. Stores (is_kept t.pending ms) t s) (sym same) h.store; links = h.links }
+told_stands roots t y y' ls same s h = record { mutators = h.mutators; globals = h.globals; request_words = h.request_words; store = subst (λ ms. Stores (is_kept t.pending ms) t s) (sym same) h.store; links = h.links }
 
 -- one word of an object is another
 stored_sound : (s s' : Heap) → StoresWord s s' → IsSound s → IsSound s'
 stored_sound s s' (StoresWord.stored {base = base} {i = i} {w = w} {o = o} has lt word) h = record {
   some_page = h.some_page;
   few_pages = h.few_pages;
+  few_words = h.few_words;
   objects = objects_stored s.pages s.births s.objects base i w o h.objects has word;
   slots = h.slots;
   mutators = h.mutators;

@@ -1,3 +1,4 @@
+pub mod Unmarked
 pub mod Forgotten
 pub mod Roots
 pub mod Births
@@ -15,7 +16,11 @@ pub mod AsObject
 pub mod DirectWrites
 pub mod DirectStores
 pub mod DirectLines
+pub mod BesideSteps
 pub mod DirectTold
 pub mod Held
+pub mod Straight
 pub mod Legal
 pub mod Many
+pub mod Unreached
+pub mod FreedWords

@@ -39,6 +39,7 @@ linked roots t y ls slot a n r m f g lawful at aligned is kind names room = link
       record {
         mutators = h.mutators;
         globals = h.globals;
+        request_words = h.request_words;
         store = record { pages = h.store.pages; shows = h.store.shows };
         links = named_push s.objects (named_but s.objects (address m a n) h.links) (record { address = refl; aligned = aligned; holder_base = f.base; holder = holder.0; held = holder.1.0; in_holder = holder.1.1; object = object.0; has = object.1.0; names = refl });
       },
@@ -63,5 +64,5 @@ unlinked roots t y ls slot a n m count at is = links_change (core_of roots t y l
   without_link s (address m a n),
   Calls.acts (attached roots t y s slot m h at)
       (subst (λ k. Acts s slot m (Unlink a n) (Count k) (without_link s (address m a n))) (sym (is ∙ ap one_if (named_at s.objects (address m a n) h.links))) Acts.unlinked),
-  record { mutators = h.mutators; globals = h.globals; store = record { pages = h.store.pages; shows = h.store.shows }; links = named_but s.objects (address m a n) h.links },
+  record { mutators = h.mutators; globals = h.globals; request_words = h.request_words; store = record { pages = h.store.pages; shows = h.store.shows }; links = named_but s.objects (address m a n) h.links },
 ))

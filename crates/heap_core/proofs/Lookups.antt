@@ -71,7 +71,7 @@ loads roots roots' t y {ls = ls} slot d a n w m f lawful at aligned is read sets
     let word = word_read (restrict (is_kept t.pending y.marker.marks) (found_in t.states)) (length t.states) (kept_map (length t.states) (is_kept t.pending y.marker.marks) (found_in t.states) lawful.map) t.words s.objects h.store.shows.shown (address m a n) f found.0 is found.2 aligned ∙ sym read in (
       with_register s slot m d w,
       Calls.acts (attached roots t y s slot m h at) (subst (λ v. Acts s slot m (Load d a n) (Word v) (with_register s slot m d v)) word (Acts.loaded aligned found.1)),
-      stands_set roots roots' t t y y s (with_register s slot m d w) slot d w m h at sets refl refl (record { pages = h.store.pages; shows = h.store.shows }) h.links,
+      stands_set roots roots' t t y y s (with_register s slot m d w) slot d w m h at sets refl refl refl (record { pages = h.store.pages; shows = h.store.shows }) h.links,
     ))
 
 stores_step : (roots : RootSet) (t t' : Store) (y y' : Cycle) {ls : List Link} (slot a n r : ℕ) (m : HeapMutator) (f : Found) → IsLawful t.states → length t.words ≡ PAGE_WORDS * length t.states → HasMutator roots slot m → address m a n % 8 ≡ 0 → restrict (is_kept t.pending y.marker.marks) (found_in t.states) (address m a n) ≡ Some f
@@ -86,6 +86,7 @@ stores_step roots t t' y y' {ls = ls} slot a n r m f lawful long at aligned is w
           (record {
             mutators = h.mutators;
             globals = h.globals;
+            request_words = h.request_words;
             links = named_kept s.objects after.objects (stored_same s f.base found.0 ((address m a n - f.base) / 8) (register m r) found.1.0) h.links;
             store = record {
               pages = h.store.pages;
@@ -120,6 +121,7 @@ stores roots t t' y y' {ls = ls} slot a n r m f lawful long at aligned is writes
   swept = λ p h. inl (subst (λ (x : Store). Has x.pending p) (sym writes) h);
   forgotten = forgotten_same (core_of roots t y ls) (core_of roots t' y' ls) (ap (λ (x : Store). x.states) writes) (ap (λ (x : Store). x.pending) writes) notes.marks;
   full = λ h. absurd (not_done (Mutator slot (StoreCall a n r)) h);
+  cuts = λ placement kind is. inr (ap (λ (x : Store). x.free) writes);
   roots_alone = λ not. absurd (not tt);
 }
   where
@@ -142,7 +144,7 @@ based roots roots' t y {ls = ls} slot d a m f lawful at is sets = quiet (core_of
     let found = finds (is_kept t.pending y.marker.marks) t s (register m a) f lawful h.store is in (
       with_register s slot m d f.base,
       Calls.acts (attached roots t y s slot m h at) (Acts.based found.1),
-      stands_set roots roots' t t y y s (with_register s slot m d f.base) slot d f.base m h at sets refl refl (record { pages = h.store.pages; shows = h.store.shows }) h.links,
+      stands_set roots roots' t t y y s (with_register s slot m d f.base) slot d f.base m h at sets refl refl refl (record { pages = h.store.pages; shows = h.store.shows }) h.links,
     ))
 
 pub sized : (roots : RootSet) (t : Store) (y : Cycle) {ls : List Link} (slot r : ℕ) (m : HeapMutator) (f : Found) → IsLawful t.states → HasMutator roots slot m → restrict (is_kept t.pending y.marker.marks) (found_in t.states) (register m r) ≡ Some f

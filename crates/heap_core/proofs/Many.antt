@@ -1,5 +1,5 @@
 -- Objects that the store gained one after the other are as many calls.
-use Rattle.std.proofs.Common.{◌≡◌, ℕ, ◌+◌, ◌-◌, ◌<◌, ◌≤◌, false, List, [], ◌∷◌, ◌++◌, length, get_or, set, take, drop, Some, None, refl, sym, ap, ◌∙◌, subst, arith, inl, append_assoc, length-set, get_or-set_same}
+use Rattle.std.proofs.Common.{◌≡◌, ℕ, ◌+◌, ◌-◌, ◌<◌, ◌≤◌, false, List, [], ◌∷◌, ◌++◌, length, get_or, set, take, drop, Some, None, refl, sym, ap, ◌∙◌, subst, arith, inl, inr, append_assoc, length-set, get_or-set_same}
 use Rattle.std.proofs.Math.Seq.{get_or-append_seam, take-append-add}
 use Rattle.std.proofs.lemmas.Bool.{false≢true}
 use Rattle.std.proofs.lemmas.List.{append-nil, get_or-append_right, get_or-drop, get_or-take, length-append, length-take-le, set-set}
@@ -57,22 +57,23 @@ pub register_there : (roots : RootSet) (t : Store) (y : Cycle) (ls : List Link) 
 register_there roots t y ls slot into m legal at lt = let all = registers_of roots t y ls slot m legal at in omega arith
 
 module _ (roots : RootSet) (y : Cycle) (ls : List Link) (slot into words : ℕ) (kind : Kind) (placement : Placement) (m : HeapMutator)
-    (at : HasMutator roots slot m) (is : placement_of words ≡ Some placement) (idle : y.is_marking ≡ false) (reg : into < length m.registers) where
+    (at : HasMutator roots slot m) (is : placement_of roots.request_words words ≡ Some placement) (idle : y.is_marking ≡ false) (reg : into < length m.registers) where
   -- the roots with a word in the register
   abbrev pub with_base : ℕ → RootSet
   with_base w = record roots { mutators = set roots.mutators slot (Some (with_word m into w)) }
 
   pub is_with_base : (after : RootSet) (w : ℕ) → SetsWord roots slot into w after → after ≡ with_base w
-  is_with_base after w sets = ap (λ gs. record after { globals = gs }) sets.0 ∙ ap (λ ms. record roots { mutators = ms }) (set_mutators roots after slot into w m at sets)
+  is_with_base after w sets = ap (λ gs. record after { globals = gs }) sets.0.globals ∙ ap (λ n. record { mutators = after.mutators; globals = roots.globals; request_words = n }) sets.0.request_words ∙ ap (λ ms. record roots { mutators = ms }) (set_mutators roots after slot into w m at sets)
 
   -- roots that are those with a word once it is set
   pub record IsReady (r : RootSet) : Type 0 where
     pub holder : HeapMutator
     pub attached : HasMutator r slot holder
+    pub limit : r.request_words ≡ roots.request_words
     pub sets : (w : ℕ) → SetsWord r slot into w (with_base w)
 
   ready_first : IsReady roots
-  ready_first = record { holder = m; attached = at; sets = λ w. (refl, record { before = m; after = with_word m into w; at = at; change = refl; only = refl }) }
+  ready_first = record { holder = m; attached = at; limit = refl; sets = λ w. (record { globals = refl; request_words = refl }, record { before = m; after = with_word m into w; at = at; change = refl; only = refl }) }
 
   attached_after : (b : ℕ) → HasMutator (with_base b) slot (with_word m into b)
   attached_after b =
@@ -84,8 +85,9 @@ module _ (roots : RootSet) (y : Cycle) (ls : List Link) (slot into words : ℕ) 
   ready_after b = record {
     holder = with_word m into b;
     attached = attached_after b;
+    limit = refl;
     sets = λ w. (
-      refl,
+      record { globals = refl; request_words = refl },
       record {
         before = with_word m into b;
         after = with_word m into w;
@@ -115,13 +117,13 @@ module _ (roots : RootSet) (y : Cycle) (ls : List Link) (slot into words : ℕ) 
   }
 
   -- one more
-  module _ (r : RootSet) (t t' : Store) (base : ℕ) (ready : IsReady r) (legal : IsLegalCore (core_of r t y ls)) (a : Allocates t y.marker.marks placement kind base t') where
+  module _ (r : RootSet) (t t' : Store) (base : ℕ) (ready : IsReady r) (legal : IsLegalCore (core_of r t y ls)) (a : Allocates t y.marker.marks placement kind base t') (free : t'.free ≡ t.free) where
     traced : IsTraced a.ready y
     traced = traced_swept t a.ready y legal.traced a.sweeps
 
     calls : IsCall (core_of r t y ls) (Mutator slot (Alloc into words kind)) Done (core_of (with_base base) t' y ls)
-    calls = allocated r (with_base base) t a.ready t' y y slot into words base kind placement ready.holder ready.attached is a.sweeps a.room a.gains (ready.sets base) (notes base)
-        (unmarked_new a.ready t' y placement kind base traced.objects a.gains) refl refl refl
+    calls = allocated r (with_base base) t a.ready t' y y slot into words base kind placement ready.holder ready.attached (ap (λ n. placement_of n words) ready.limit ∙ is) a.sweeps a.room a.gains (ready.sets base) (notes base)
+        (unmarked_new a.ready t' y placement kind base traced.objects a.gains) refl refl refl (inr free)
 
     stays_legal : IsLegalCore (core_of (with_base base) t' y ls)
     stays_legal = legal_called (core_of r t y ls) (core_of (with_base base) t' y ls) legal (traced_object a.ready t' y y placement kind base traced a.gains (notes base) refl refl)
@@ -138,14 +140,14 @@ module _ (roots : RootSet) (y : Cycle) (ls : List Link) (slot into words : ℕ) 
 
   pub leads : (t : Store) → IsLegalCore (core_of roots t y ls) → {bases : List ℕ} {t' : Store} → AllocatesEach y.marker.marks placement kind t bases t' → Leads t bases t'
   leads t legal none = record { after = roots; ready = ready_first; legal = legal; grants = begun; same = λ _. (refl, refl); last = λ n e. absurd (omega arith) }
-  leads t legal {t' = t'} (more {bases = bases} {base = base} {mid = mid} before a) =
+  leads t legal {t' = t'} (more {bases = bases} {base = base} {mid = mid} before a free) =
       let l = leads t legal before in
       let long : length (bases ++ base ∷ []) ≡ length bases + 1 = length-append bases (base ∷ []) in
       record {
         after = with_base base;
         ready = ready_after base;
-        legal = stays_legal l.after mid t' base l.ready l.legal a;
-        grants = granted l.grants (calls l.after mid t' base l.ready l.legal a) (holds base);
+        legal = stays_legal l.after mid t' base l.ready l.legal a free;
+        grants = granted l.grants (calls l.after mid t' base l.ready l.legal a free) (holds base);
         same = λ e. absurd (omega (arith, long));
         last = λ n e. ap with_base (sym (ap (λ k. get_or (bases ++ base ∷ []) k 0) (let k : n ≡ length bases = omega (arith, long) in k) ∙ get_or-append_seam bases base [] 0));
       }

@@ -1,10 +1,13 @@
 -- What the roots of a core are to the heap that it stands for.
-use Rattle.std.proofs.Common.{List, inl, ◌≡◌, ℕ, set, Some, None, refl, sym, ap, ◌∙◌, subst}
+use Rattle.std.proofs.Common.{List, inl, inr, ◌≡◌, ℕ, set, Some, None, refl, sym, ap, ◌∙◌, subst}
 use Rattle.std.specs.Prelude.{slice_get}
+use Rattle.words.specs.declared.class.Kind.{Kind}
+use Rattle.words.specs.declared.class.Placement.{Placement}
+use Rattle.words.specs.Placing.{placement_of}
 use Rattle.words.specs.declared.refusal.Refusal.{Refusal}
 use Rattle.words.specs.declared.refusal.Refusal.TheVariants.{NoSlot, Full}
 use Rattle.heap_spec.specs.declared.call.Call.{Call}
-use Rattle.heap_spec.specs.declared.call.Call.TheVariants.{Store as StoreCall, Free as FreeCall}
+use Rattle.heap_spec.specs.declared.call.Call.TheVariants.{Alloc, Store as StoreCall, Free as FreeCall}
 use Rattle.heap_spec.specs.declared.event.Event.{Event}
 use Rattle.heap_spec.specs.declared.event.Event.TheVariants.{Mutator}
 use Rattle.heap_spec.specs.declared.reply.Reply.{Reply}
@@ -18,7 +21,7 @@ use Rattle.roots.specs.Roots.{RootSet, HasMutator, HasNoMutator, with_word, with
 use Rattle.roots.proofs.Steps.{set_mutators}
 use Rattle.object_space.specs.Store.{Store}
 use Rattle.heap_core.specs.CoreContents.{CoreContents, Cycle}
-use Rattle.heap_core.specs.MutatorCalls.{IsCall, IsFullAlloc, Frees, MakesDirty, ReachesPages}
+use Rattle.heap_core.specs.MutatorCalls.{IsAllocation, IsCall, IsFullAlloc, Frees, MakesDirty, ReachesPages}
 use Rattle.object_space.specs.Kept.{is_kept}
 use Rattle.links.specs.Named.{AreNamed}
 use Rattle.object_space.specs.Stores.{Stores}
@@ -60,6 +63,11 @@ dirty_reply c event reply p (MakesDirty.store m at same) = refl
 pub dirty_event : (c : CoreContents) (event : Event) (reply : Reply) (p : ℕ) → MakesDirty c event reply p → (slot a n r : ℕ) × (event ≡ Mutator slot (StoreCall a n r))
 dirty_event c event reply p (MakesDirty.store {slot = slot} {a = a} {n = n} {r = r} m at same) = (slot, a, n, r, refl)
 
+-- an allocation that was done is one
+pub allocation_event : (c : CoreContents) (event : Event) (reply : Reply) (placement : Placement) (kind : Kind) → IsAllocation c event reply placement kind
+    → (slot d n : ℕ) × (event ≡ Mutator slot (Alloc d n kind)) × (reply ≡ Done) × (placement_of c.roots.request_words n ≡ Some placement)
+allocation_event c event reply placement kind (IsAllocation.allocation {slot = slot} {d = d} {n = n} is) = (slot, d, n, refl, refl, is)
+
 -- nor is one that was done
 pub not_done : (event : Event) → IsFullAlloc event Done → ⊥
 not_done event h = other (full_reply event Done h)
@@ -90,6 +98,7 @@ changes_beside c roots ls event reply not_full not_dirty need steps = record {
   swept = λ p h. inl h;
   forgotten = forgotten_same c (record c { roots = roots; links = ls }) refl refl refl;
   full = λ h. absurd (not_full h);
+  cuts = λ placement kind is. inr refl;
   roots_alone = λ not. (refl, refl);
 }
 
@@ -112,10 +121,11 @@ pub steps_roots : (roots roots' : RootSet) (t : Store) (y : Cycle) {ls : List Li
     → IsCall (core_of roots t y ls) event reply (core_of roots' t y ls)
 steps_roots roots roots' t y {ls = ls} event reply apart steps = quiet (core_of roots t y ls) roots' event reply apart (λ s h.
     let same : with_roots s roots ≡ s =
-    ap (λ ms. record s { mutators = ms; globals = roots.globals }) (sym h.mutators) ∙ ap (λ gs. record s { globals = gs }) (sym h.globals) in (
+    ap (λ ms. record s { mutators = ms; globals = roots.globals; request_words = roots.request_words }) (sym h.mutators)
+    ∙ ap (λ gs. record s { globals = gs; request_words = roots.request_words }) (sym h.globals) ∙ ap (λ n. record s { request_words = n }) (sym h.request_words) in (
       with_roots s roots',
       subst (λ (x : Heap). Step x event reply (with_roots s roots')) same (steps s),
-      record { mutators = refl; globals = refl; store = record { pages = h.store.pages; shows = h.store.shows }; links = h.links },
+      record { mutators = refl; globals = refl; request_words = refl; store = record { pages = h.store.pages; shows = h.store.shows }; links = h.links },
     ))
 
 -- the mutator of a slot is the heap's
@@ -144,12 +154,18 @@ pub refused : (roots : RootSet) (t : Store) (y : Cycle) {ls : List Link} (slot :
     → ((s : Heap) → Stores (is_kept t.pending y.marker.marks) t s → Acts s slot m call (Refused refusal) s) → IsCall (core_of roots t y ls) (Mutator slot call) (Refused refusal) (core_of roots t y ls)
 refused roots t y {ls = ls} slot m call refusal at apart acts = quiet (core_of roots t y ls) roots (Mutator slot call) (Refused refusal) apart (λ s h. (s, Calls.acts (attached roots t y s slot m h at) (acts s h.store), h))
 
+-- one that is refused by what the heap has that is stood for
+pub refused_here : (roots : RootSet) (t : Store) (y : Cycle) {ls : List Link} (slot : ℕ) (m : HeapMutator) (call : Call) (refusal : Refusal) → HasMutator roots slot m → (ReachesPages (Mutator slot call) (Refused refusal) → ⊥)
+    → ((s : Heap) → StandsFor (core_of roots t y ls) s → Acts s slot m call (Refused refusal) s) → IsCall (core_of roots t y ls) (Mutator slot call) (Refused refusal) (core_of roots t y ls)
+refused_here roots t y {ls = ls} slot m call refusal at apart acts = quiet (core_of roots t y ls) roots (Mutator slot call) (Refused refusal) apart (λ s h. (s, Calls.acts (attached roots t y s slot m h at) (acts s h), h))
+
 -- the roots stand for those of a heap in which a register was set
 pub stands_set : (roots roots' : RootSet) (t t' : Store) (y y' : Cycle) {ls : List Link} (s after : Heap) (slot r w : ℕ) (m : HeapMutator) → StandsFor (core_of roots t y ls) s → HasMutator roots slot m → SetsWord roots slot r w roots'
-    → after.mutators ≡ set s.mutators slot (Some (with_word m r w)) → after.globals ≡ s.globals → Stores (is_kept t'.pending y'.marker.marks) t' after → AreNamed after.objects ls after.links → StandsFor (core_of roots' t' y' ls) after
-stands_set roots roots' t t' y y' {ls = ls} s after slot r w m h at is mutators globals stores named = record {
+    → after.mutators ≡ set s.mutators slot (Some (with_word m r w)) → after.globals ≡ s.globals → after.request_words ≡ s.request_words → Stores (is_kept t'.pending y'.marker.marks) t' after → AreNamed after.objects ls after.links → StandsFor (core_of roots' t' y' ls) after
+stands_set roots roots' t t' y y' {ls = ls} s after slot r w m h at is mutators globals limit stores named = record {
   links = named;
   mutators = mutators ∙ ap (λ ms. set ms slot (Some (with_word m r w))) h.mutators ∙ sym (set_mutators roots roots' slot r w m at is);
-  globals = globals ∙ h.globals ∙ sym is.0;
+  globals = globals ∙ h.globals ∙ sym is.0.globals;
+  request_words = limit ∙ h.request_words ∙ sym is.0.request_words;
   store = stores;
 }

@@ -1,5 +1,5 @@
 -- What calls of the collector do to a core.
-use Rattle.std.specs.Prelude.{◌≡◌, ℕ, ◌+◌, ◌%◌, ◌<◌, ◌≤◌, Bool, true, false, List, [], length, count_by, Contains, Some, Result, Ok, Err, if◌then◌else◌, ◌⊎◌}
+use Rattle.std.specs.Prelude.{◌≡◌, ℕ, ◌+◌, ◌%◌, ◌<◌, ◌≤◌, Bool, true, false, List, [], ◌∷◌, length, count_by, Contains, Some, Result, Ok, Err, if◌then◌else◌, ◌⊎◌}
 use Rattle.words.specs.Bits.{Has}
 use Rattle.words.specs.declared.refusal.Refusal.{Refusal}
 use Rattle.words.specs.declared.refusal.Refusal.TheVariants.{WrongPhase, NeedsFull}
@@ -94,7 +94,7 @@ pub record TakesWords (asked : ℕ) (old : CoreContents) (n : ℕ) (new : CoreCo
   pub dirty : StaysDirty old.cycle.marker new.cycle.marker
   pub most : n ≤ asked
   pub fewer : n < asked → IsEmpty new.cycle.marker
-  pub takes : Takes (found_in old.store.states) old.store.words old.cycle.marker n new.cycle.marker
+  pub takes : Takes (found_in old.store.states) (old.store.words ∷ []) old.cycle.marker n new.cycle.marker
   pub taken : TakesOff (found_in old.store.states) old.store.words old.cycle.marker new.cycle.marker
 
 -- A page was read again, the lowest that was dirty, or none was dirty and nothing has changed.

@@ -67,6 +67,7 @@ pub data StoresWords (s : Heap) : Heap → Type 0 where
 -- The same heap but for words of objects: the same roots and links, and at each base the same object.
 pub record HasOtherWords (s s' : Heap) : Type 0 where
   pub pages : s'.pages ≡ s.pages
+  pub request_words : s'.request_words ≡ s.request_words
   pub mutators : s'.mutators ≡ s.mutators
   pub globals : s'.globals ≡ s.globals
   pub births : s'.births ≡ s.births

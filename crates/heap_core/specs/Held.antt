@@ -83,7 +83,7 @@ ActsKeepSound = (old new : CoreContents) (event : Event) (reply : Reply) → IsS
 
 -- An allocation of a length that objects may have is refused only where the slot has no mutator, or nowhere is room.
 abbrev pub FewAllocationsAreRefused : Type 0
-FewAllocationsAreRefused = (old new : CoreContents) (slot r n : ℕ) (kind : Kind) (why : Refusal) → IsSoundCore old → placement_of n ≢ None
+FewAllocationsAreRefused = (old new : CoreContents) (slot r n : ℕ) (kind : Kind) (why : Refusal) → IsSoundCore old → placement_of old.roots.request_words n ≢ None
     → IsCall old (Mutator slot (Alloc r n kind)) (Refused why) new → (why ≡ NoSlot) ⊎ (why ≡ Full)
 
 -- Each word of a Normal object that was granted is held by the register, and is 0.

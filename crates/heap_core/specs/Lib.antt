@@ -13,5 +13,9 @@ pub mod AsObject
 pub mod Held
 pub mod Legal
 pub mod DirectWrites
+pub mod BesideSteps
+pub mod Unreached
 pub mod Granted
 pub mod Many
+pub mod FreedWords
+pub mod Straight

@@ -1,5 +1,5 @@
 -- Requests that one call makes one after the other.
-use Rattle.std.specs.Prelude.{◌≡◌, ℕ, ◌≤◌, List, [], ◌∷◌, ◌++◌, Result, Ok, Err, ⊤, length, slice_index_or, take}
+use Rattle.std.specs.Prelude.{◌≡◌, ℕ, ◌<◌, ◌≤◌, List, [], ◌∷◌, ◌++◌, Result, Ok, Err, ⊤, length, slice_index_or, take}
 use Rattle.words.specs.declared.class.Kind.{Kind}
 use Rattle.words.specs.declared.refusal.Refusal.{Refusal}
 use Rattle.heap_spec.specs.declared.call.Call.TheVariants.{Alloc}
@@ -18,7 +18,7 @@ pub data Grants (slot into words : ℕ) (kind : Kind) (old : CoreContents) : Lis
 -- All requests were granted, or one was refused, which was the last.
 pub data Requests (slot into words : ℕ) (kind : Kind) (old : CoreContents) (bases : List ℕ) (most : ℕ) : Result ⊤ Refusal → CoreContents → Type 0 where
   all : {new : CoreContents} {done : ⊤} → length bases ≡ most → Grants slot into words kind old bases new → Requests slot into words kind old bases most (Ok done) new
-  refused : {mid new : CoreContents} {why : Refusal} → Grants slot into words kind old bases mid → IsCall mid (Mutator slot (Alloc into words kind)) (Refused why) new
+  refused : {mid new : CoreContents} {why : Refusal} → length bases < most → Grants slot into words kind old bases mid → IsCall mid (Mutator slot (Alloc into words kind)) (Refused why) new
       → Requests slot into words kind old bases most (Err why) new
 
 -- What was made of a row of bases: so many of them were written, from the first on, and the others are as they were.

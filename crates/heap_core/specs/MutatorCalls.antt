@@ -1,9 +1,11 @@
 -- What calls of mutators do to a core.
 use Rattle.std.specs.Prelude.{◌≡◌, ◌↔◌, ℕ, ◌⊎◌, Some, None, true, false}
 use Rattle.words.specs.declared.class.Kind.{Kind}
+use Rattle.words.specs.declared.class.Placement.{Placement}
 use Rattle.words.specs.declared.refusal.Refusal.TheVariants.{Full}
 use Rattle.words.specs.Bits.{Has}
 use Rattle.words.specs.Layout.{page_of}
+use Rattle.words.specs.Placing.{placement_of}
 use Rattle.heap_spec.specs.declared.call.Call.{Call}
 use Rattle.heap_spec.specs.declared.call.Call.TheVariants.{Store, Alloc, Free}
 use Rattle.heap_spec.specs.declared.event.Event.{Event}
@@ -16,6 +18,7 @@ use Rattle.heap_spec.specs.Steps.{address, register}
 use Rattle.block_map.specs.declared.found.Found.{Found}
 use Rattle.marker.specs.Marking.{IsMarked}
 use Rattle.roots.specs.Roots.{HasMutator}
+use Rattle.object_space.specs.Many.{HasNoneReady}
 use Rattle.object_space.specs.Store.{IsSwept}
 use Rattle.heap_core.specs.CoreContents.{CoreContents}
 use Rattle.heap_core.specs.Standing.{StandsFor, IsForgotten, objects_of}
@@ -50,6 +53,10 @@ ReachesPages Number reply = ⊥
 pub data IsFullAlloc : Event → Reply → Type 0 where
   full : {slot d n : ℕ} {kind : Kind} → IsFullAlloc (Mutator slot (Alloc d n kind)) (Refused Full)
 
+-- the event with this reply is an allocation that was done, of such a place and kind
+pub data IsAllocation (c : CoreContents) : Event → Reply → Placement → Kind → Type 0 where
+  allocation : {slot d n : ℕ} {placement : Placement} {kind : Kind} → placement_of c.roots.request_words n ≡ Some placement → IsAllocation c (Mutator slot (Alloc d n kind)) Done placement kind
+
 -- the event with this reply is a free that was done
 pub data Frees : Event → Reply → Type 0 where
   freed : {slot r : ℕ} → Frees (Mutator slot (Free r)) Done
@@ -79,7 +86,9 @@ MaySweep c Number p = ⊥
 -- comes while a cycle is marking is marked, and while none is what is marked was there and was marked. Of the pages exactly
 -- the one that it has stored to becomes dirty. Exactly a free that was done makes that a full cycle is needed. No page
 -- becomes pending, few calls sweep, and an allocation for which there was no place has left none pending. The forgotten
--- objects are those of before whose pages are still pending. Unless it reaches the pages it changes nothing but the roots.
+-- objects are those of before whose pages are still pending. An allocation takes free pages, or sweeps others, only where no
+-- page of its class and kind has a free cell and needs no sweep: else the free pages stay. Unless it reaches the pages it
+-- changes nothing but the roots.
 pub record IsCall (old : CoreContents) (event : Event) (reply : Reply) (new : CoreContents) : Type 0 where
   pub steps : IsStep (StandsFor old) event reply (StandsFor new)
   pub phase : new.cycle.is_marking ≡ old.cycle.is_marking
@@ -100,4 +109,5 @@ pub record IsCall (old : CoreContents) (event : Event) (reply : Reply) (new : Co
   pub swept : (p : ℕ) → Has old.store.pending p → Has new.store.pending p ⊎ MaySweep old event p
   pub forgotten : (w : ℕ) (f : Found) → IsForgotten new w f ↔ (IsForgotten old w f × Has new.store.pending f.page)
   pub full : IsFullAlloc event reply → IsSwept new.store
+  pub cuts : (placement : Placement) (kind : Kind) → IsAllocation old event reply placement kind → HasNoneReady old.store placement kind ⊎ (new.store.free ≡ old.store.free)
   pub roots_alone : (ReachesPages event reply → ⊥) → (new.store ≡ old.store) × (new.cycle ≡ old.cycle)

@@ -21,10 +21,11 @@ objects_of c = restrict (keeps c) (found_in c.store.states)
 abbrev pub IsForgotten : CoreContents → ℕ → Found → Type 0
 IsForgotten c w f = (found_in c.store.states w ≡ Some f) × (keeps c f ≡ false)
 
--- The core has the heap's mutators and globals, its kept objects are the heap's, and so are its links, compared by the
+-- The core has the heap's mutators, globals and limit of requests, its kept objects are the heap's, and so are its links, compared by the
 -- objects that they name.
 pub record StandsFor (c : CoreContents) (s : Heap) : Type 0 where
   pub mutators : s.mutators ≡ c.roots.mutators
   pub globals : s.globals ≡ c.roots.globals
+  pub request_words : s.request_words ≡ c.roots.request_words
   pub store : Stores (keeps c) c.store s
   pub links : AreNamed s.objects c.links s.links

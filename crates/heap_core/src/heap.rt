@@ -1,11 +1,12 @@
 //! The core, and how it is made.
-ghost use Rattle.pages.specs.Opening.{IsOpened};
-ghost use Rattle.std.specs.Prelude.{Bool, List};
+ghost use Rattle.pages.specs.Opening.{IsOpened, IsOpenedWithin};
+ghost use Rattle.std.specs.Prelude.{Bool, List, ◌≤◌};
+ghost use Rattle.words.specs.declared.limits.TheConstants.{MOST_PAGES, MOST_REQUEST_WORDS};
 ghost use Rattle.heap_spec.specs.Heap.{Heap};
 ghost use Rattle.heap_spec.specs.Sound.{IsSound};
 ghost use Rattle.heap_core.specs.CoreContents.{IsCore};
 ghost use Rattle.heap_core.specs.DirectWrites.{IsWholeCore};
-ghost use Rattle.heap_core.specs.Opening.{IsNew};
+ghost use Rattle.heap_core.specs.Opening.{IsNew, IsNewWith};
 ghost use Rattle.heap_core.specs.Standing.{StandsFor};
 
 mod beside;
@@ -29,6 +30,17 @@ use roots::{RootWords, Roots};
 use std::alloc::Global;
 use std::marker::Model;
 use words::OpenError;
+use words::limits::{MAX_PAGES, MAX_REQUEST_WORDS};
+
+/// What a heap is opened with.
+#[derive(Clone, Copy, Debug, PartialEq, Eq)]
+pub struct Limits {
+    /// Its pages.
+    pub pages: u32,
+
+    /// The most words of a request.
+    pub request_words: u64,
+}
 
 /// A heap on one thread.
 #[derive(Drop)]
@@ -64,10 +76,31 @@ impl Core {
     pub fn new(alloc: Global, pages: u32) -> Result<Core, OpenError>
         ensures { IsOpened pages result (λ core. IsNew pages core) }
     {
+        if pages > MAX_PAGES {
+            return Err(OpenError::BadPages);
+        }
+        Core::open(
+            alloc,
+            Limits {
+                pages,
+                request_words: MAX_REQUEST_WORDS,
+            },
+        )
+    }
+
+    /// The same, with limits of its own: as many pages as a heap may have, and requests as large as the heap.
+    ///
+    /// # Errors
+    /// As [`Core::new`], with [`OpenError::BadPages`] exactly for no page or more than a heap may have.
+    pub fn open(alloc: Global, limits: Limits) -> Result<Core, OpenError>
+        requires { limits.request_words ≤ MOST_REQUEST_WORDS }
+        ensures { IsOpenedWithin MOST_PAGES limits.pages result (λ core. IsNewWith limits.pages limits.request_words core) }
+    {
+        let pages = limits.pages;
         let objects = ObjectSpace::new(alloc, pages)?;
         objects.laws();
         let marker = Marker::new(alloc, pages)?;
-        let roots = Roots::new(alloc)?;
+        let roots = Roots::new(alloc, limits.request_words)?;
         let root_words = RootWords::new(alloc)?;
         Ok(Core {
             roots,

@@ -20,8 +20,8 @@
 //! finds exactly the object that it points into, the free pages are exactly those on which no allocated object lies, each mark is
 //! that of an allocated object, while a cycle is marking the dirty-page invariant holds, and where no full cycle is needed that of
 //! carried pages. `Core::stands` says that every core stands for a sound heap. The module `laws` says what words that are written
-//! past the calls are to the heap (`WritesAreStores`), and what a client knows of a word that it holds (`held_words`). The core is
-//! an object of `history`.
+//! past the calls are to the heap (`WritesAreStores`), what a client knows of a word that it holds (`held_words`), and that calls
+//! which it makes one after another are lines of one transcript (`calls_are_lines`). The core is an object of `history`.
 #![tactic(auto)]
 
 mod heap;
@@ -30,4 +30,4 @@ mod object;
 pub mod quiet;
 mod ranges;
 
-pub use heap::Core;
+pub use heap::{Core, Limits};

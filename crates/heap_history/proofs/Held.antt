@@ -64,7 +64,7 @@ acts_stay s slot m h (Acts.stored {base = b} {o = q} al reads) free base o has =
     (λ other. (o, with_at-other s.objects b _ base other ∙ has, same_object o))
     (cases_eq base b)
 acts_stay s slot m h (Acts.allocated {n = n} {kind = kind} {placement = placement} a e room) free base o has = ⊎_elim
-    (λ here. absurd (room_none s h placement kind a (placed n placement e) room o (ap s.objects (sym here) ∙ has)))
+    (λ here. absurd (room_none s h placement kind a (placed _ n placement e) room o (ap s.objects (sym here) ∙ has)))
     (λ other. (o, with_at-other s.objects a _ base other ∙ has, same_object o))
     (cases_eq base a)
 acts_stay s slot m h (Acts.freed gone) free base o has = absurd free

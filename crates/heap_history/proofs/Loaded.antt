@@ -89,7 +89,7 @@ load_is s h slot m a n w there (vacant none) = absurd (not_both s slot m there.a
 acts_leave : (s : Heap) (slot : ℕ) (m : HeapMutator) → IsSound s → {call : Call} {reply : Reply} {s' : Heap} → Acts s slot m call reply s' → LeavesWordsCall call → (base : ℕ) (o : Object) → HasObject s base o → HasObject s' base o
 acts_leave s slot m h (Acts.stored al reads) left base o has = absurd left
 acts_leave s slot m h (Acts.allocated {n = n} {kind = kind} {placement = placement} a e room) left base o has = ⊎_elim
-    (λ here. absurd (room_none s h placement kind a (placed n placement e) room o (ap s.objects (sym here) ∙ has)))
+    (λ here. absurd (room_none s h placement kind a (placed _ n placement e) room o (ap s.objects (sym here) ∙ has)))
     (λ other. with_at-other s.objects a _ base other ∙ has)
     (cases_eq base a)
 acts_leave s slot m h (Acts.freed gone) left base o has = absurd left

@@ -55,7 +55,7 @@ alloc_is s slot d n kind h few (acts {m = m} at (Acts.allocated {placement = pla
     let there : d < length m.registers = omega (arith, size) in
     let changed : HeapMutator = record m { registers = slice_set m.registers d a } in
     let long : length (replicate (length_of placement) 0) ≡ length_of placement = length-replicate (length_of placement) 0 in
-    let is = placed n placement e in
+    let is = placed _ n placement e in
     record {
       base = a;
       owned = record {
@@ -65,7 +65,7 @@ alloc_is s slot d n kind h few (acts {m = m} at (Acts.allocated {placement = pla
         there = subst (λ k. d < k) (sym (length-set m.registers d a)) there;
         holds = get_or-set_same m.registers d a 0 there;
         has = with_at-same s.objects a _ a refl;
-        size = subst (λ k. n ≤ k) (sym long) (place_holds n placement e);
+        size = subst (λ k. n ≤ k) (sym long) (place_holds _ n placement e);
         of_kind = refl;
       };
       away = λ b p has. subst (λ k. AreApart a k b (length p.words)) (sym long)

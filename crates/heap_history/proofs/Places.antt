@@ -8,6 +8,6 @@ use Rattle.words.specs.Placing.{placement_of}
 use Rattle.words.proofs.Placements.{placement_has}
 use Rattle.heap_spec.specs.Room.{length_of}
 
-pub place_holds : (n : ℕ) (placement : Placement) → placement_of n ≡ Some placement → n ≤ length_of placement
-place_holds n placement e =
-    placement_has (λ p. n ≤ length_of p) n placement e (λ class is holds. holds) (λ more few. let holds : n ≤ PAGE_WORDS * div_ceil n PAGE_WORDS = omega arith in holds)
+pub place_holds : (limit n : ℕ) (placement : Placement) → placement_of limit n ≡ Some placement → n ≤ length_of placement
+place_holds limit n placement e =
+    placement_has (λ p. n ≤ length_of p) limit n placement e (λ class is holds. holds) (λ more few. let holds : n ≤ PAGE_WORDS * div_ceil n PAGE_WORDS = omega arith in holds)

@@ -5,14 +5,14 @@ use Rattle.std.proofs.lemmas.Bool.{cases_lt}
 use Rattle.std.proofs.lemmas.Option.{get_or_from_slice_get, slice_get_within, none-some}
 use Rattle.std.proofs.lemmas.List.{length-set, length-replicate, length_push, get_or_past}
 use Rattle.std.proofs.lemmas.List.Elements.{All-set, All-replicate, All-push, All-pop, All-get_or, All-nil}
-use Rattle.words.specs.declared.limits.TheConstants.{GLOBALS, MAX_PAGES, REGISTERS, SLOTS, STACK_WORDS}
+use Rattle.words.specs.declared.limits.TheConstants.{GLOBALS, MAX_PAGES, MAX_REQUEST_WORDS, MOST_PAGES, MOST_REQUEST_WORDS, REGISTERS, SLOTS, STACK_WORDS}
 use Rattle.words.specs.declared.class.Kind.{Kind}
 use Rattle.words.specs.declared.class.Placement.{Placement}
 use Rattle.words.specs.Placing.{placement_of}
 use Rattle.heap_spec.specs.declared.call.Call.{Call}
 use Rattle.heap_spec.specs.declared.call.Call.TheVariants.{Set}
 use Rattle.heap_spec.specs.declared.reply.Reply.{Reply}
-use Rattle.heap_spec.specs.Heap.{Heap, Object, Link, Mutator, IsAttached, IsSameObject, HasObject, opening, with_at, without, loses_word}
+use Rattle.heap_spec.specs.Heap.{Heap, Object, Link, Mutator, IsAttached, IsSameObject, HasObject, opening, opening_with, with_at, without, loses_word}
 use Rattle.heap_spec.specs.Layout.{index_in}
 use Rattle.heap_spec.proofs.Links.{links_kept, links_left, links_linked, links_unlinked, left_by, same_left, cleared_words}
 use Rattle.heap_spec.specs.Room.{HasRoom, length_of}
@@ -52,6 +52,7 @@ slot_kept : (s : Heap) (slot : ℕ) (m : Option Mutator) → IsSound s → IsSlo
 slot_kept s slot m h is = record {
   some_page = h.some_page;
   few_pages = h.few_pages;
+  few_words = h.few_words;
   objects = h.objects;
   slots = length-set s.mutators slot m ∙ h.slots;
   mutators = All-set IsSlot s.mutators slot m is h.mutators;
@@ -74,7 +75,7 @@ popped_is m rest w h e =
 
 -- a sound heap with other objects and links
 objects_in : (s : Heap) (objects : ℕ → Option Object) (links : List Link) → IsSound s → AreObjects s.pages s.births objects → AreLinks (record s { objects = objects; links = links }) → IsSound (record s { objects = objects; links = links })
-objects_in s objects links h is are = record { some_page = h.some_page; few_pages = h.few_pages; objects = is; slots = h.slots; mutators = h.mutators; globals = h.globals; links = are }
+objects_in s objects links h is are = record { some_page = h.some_page; few_pages = h.few_pages; few_words = h.few_words; objects = is; slots = h.slots; mutators = h.mutators; globals = h.globals; links = are }
 
 -- a sound heap from which objects have gone
 pub without_kept : (s : Heap) (bases : List ℕ) → IsSound s → IsSound (without s bases)
@@ -85,11 +86,12 @@ without_kept s bases h = objects_in s _ _ h (objects_kept s.pages s.births s.obj
         let left = left_by s bases base p has in let same = same_left s bases base p left in
         (left.object, left.has, sym same.size, sym same.birth, subst (λ (x : Object). All IsWord x.words) left.is (cleared_words (loses_word s bases) base left.object.words (h.objects.words base left.object left.has)))
 
-alloc_kept : (s : Heap) (slot : ℕ) (m : Mutator) (d n : ℕ) (kind : Kind) (placement : Placement) (a : ℕ) → IsSound s → IsMutator m → placement_of n ≡ Some placement → HasRoom s placement kind a
+alloc_kept : (s : Heap) (slot : ℕ) (m : Mutator) (d n : ℕ) (kind : Kind) (placement : Placement) (a : ℕ) → IsSound s → IsMutator m → placement_of s.request_words n ≡ Some placement → HasRoom s placement kind a
     → IsSound (with_register (with_new s a kind placement) slot m d a)
 alloc_kept s slot m d n kind placement a h is e room = record {
   some_page = h.some_page;
   few_pages = h.few_pages;
+  few_words = h.few_words;
   objects = objects;
   slots = length-set s.mutators slot _ ∙ h.slots;
   mutators = All-set IsSlot s.mutators slot _ (record { registers = row_set _ m.registers d a is.registers fits; room = is.room; stack = is.stack }) h.mutators;
@@ -104,16 +106,16 @@ alloc_kept s slot m d n kind placement a h is e room = record {
     size = length-replicate (length_of placement) 0
 
     ne : (base : ℕ) (o : Object) → HasObject s base o → base ≢ a
-    ne base o has same = no_object_at s h placement kind a (placed n placement e) room o (subst (λ x. HasObject s x o) same has)
+    ne base o has same = no_object_at s h placement kind a (placed s.request_words n placement e) room o (subst (λ x. HasObject s x o) same has)
 
     laid : IsCell s.pages a (length_of placement) ⊎ ArePages s.pages a (length_of placement)
-    laid = room_laid s placement kind a (placed n placement e) room
+    laid = room_laid s placement kind a (placed s.request_words n placement e) room
 
     objects : AreObjects s.pages (s.births + 1) (with_at s.objects a (Some new))
     objects = objects_more s.pages s.births s.objects a new h.objects refl
         (subst (λ k. IsCell s.pages a k ⊎ ArePages s.pages a k) (sym size) laid)
         (All-replicate IsWord (length_of placement) 0 (omega arith))
-        (λ b p has ne. subst (λ k. AreApart a k b (length p.words)) (sym size) (room_apart s h placement kind a (placed n placement e) room b p has ne))
+        (λ b p has ne. subst (λ k. AreApart a k b (length p.words)) (sym size) (room_apart s h placement kind a (placed s.request_words n placement e) room b p has ne))
 
     lies : LieInHeap s.pages a (length_of placement)
     lies = ⊎_elim (cell_lies _ _ _) (pages_lie _ _ _) laid
@@ -176,6 +178,7 @@ acts_kept s slot m h is (Acts.global_got {d = d} {g = g}) word = register_kept s
 acts_kept s slot m h is (Acts.global_put {g = g} {r = r}) word = record {
   some_page = h.some_page;
   few_pages = h.few_pages;
+  few_words = h.few_words;
   objects = h.objects;
   slots = h.slots;
   mutators = h.mutators;
@@ -207,10 +210,11 @@ pub takes_out_kept : (s : Heap) (bases : List ℕ) (reply : Reply) (s' : Heap) �
 takes_out_kept s bases reply s' h takes = subst IsSound (sym takes.after) (without_kept s bases h)
 
 -- a new heap is sound
-pub opening_is : (pages : ℕ) → 1 ≤ pages → pages ≤ MAX_PAGES → IsSound (opening pages)
-opening_is pages some few = record {
+pub opening_with_is : (pages request_words : ℕ) → 1 ≤ pages → pages ≤ MOST_PAGES → request_words ≤ MOST_REQUEST_WORDS → IsSound (opening_with pages request_words)
+opening_with_is pages request_words some few words = record {
   some_page = some;
   few_pages = few;
+  few_words = words;
   objects = record {
     laid = λ base o is. absurd (none-some o is);
     words = λ base o is. absurd (none-some o is);
@@ -221,5 +225,8 @@ opening_is pages some few = record {
   slots = length-replicate {A = Option Mutator} SLOTS None;
   mutators = All-replicate IsSlot SLOTS None tt;
   globals = row_of_zeros GLOBALS;
-  links = record { each = All-nil (IsLink (opening pages)); distinct = λ i j d lt within. absurd (omega arith); few = omega arith };
+  links = record { each = All-nil (IsLink (opening_with pages request_words)); distinct = λ i j d lt within. absurd (omega arith); few = omega arith };
 }
+
+pub opening_is : (pages : ℕ) → 1 ≤ pages → pages ≤ MAX_PAGES → IsSound (opening pages)
+opening_is pages some few = opening_with_is pages MAX_REQUEST_WORDS some (omega (arith, few)) (omega arith)

@@ -20,8 +20,8 @@ abbrev pub IsPlacement : Placement → Type 0
 IsPlacement (Small class) = IsSizeClass class
 IsPlacement (Large pages) = 0 < pages
 
-pub placed : (n : ℕ) (placement : Placement) → placement_of n ≡ Some placement → IsPlacement placement
-placed n placement e = placement_has IsPlacement n placement e (λ class is holds. is) (λ more few. let some : 0 < div_ceil n PAGE_WORDS = omega arith in some)
+pub placed : (limit n : ℕ) (placement : Placement) → placement_of limit n ≡ Some placement → IsPlacement placement
+placed limit n placement e = placement_has IsPlacement limit n placement e (λ class is holds. is) (λ more few. let some : 0 < div_ceil n PAGE_WORDS = omega arith in some)
 
 -- cells and pages lie in the heap
 pub cell_lies : (pages base len : ℕ) → IsCell pages base len → LieInHeap pages base len

@@ -2,7 +2,7 @@
 use Rattle.std.specs.Prelude.{◌≡◌, ℕ, ◌+◌, ◌*◌, ◌==◌, nat_le, nat_lt, ◌&&◌, ◌||◌, not, Bool, false, Option, Some, None, option_map, List, [], ◌∷◌, length, replicate, if◌then◌else◌, slice_get, ◌++◌, flat_map, filter}
 use Rattle.std.specs.List.{list_any}
 use Rattle.words.specs.declared.class.Kind.{Kind}
-use Rattle.words.specs.declared.limits.TheConstants.{SLOTS, GLOBALS, WORD_BYTES}
+use Rattle.words.specs.declared.limits.TheConstants.{SLOTS, GLOBALS, WORD_BYTES, MAX_REQUEST_WORDS}
 use Rattle.heap_spec.specs.Layout.{PointsInto}
 
 -- An object: which allocation made it, whether the collector reads its words, and its words.
@@ -21,19 +21,24 @@ pub record Link : Type 0 where
   pub address : ℕ
   pub birth : ℕ
 
--- The heap: how many pages it has, the object at each base, the mutator at each slot, the words of the globals, how many
+-- The heap: how many pages it has, the most words of a request, the object at each base, the mutator at each slot, the words of the globals, how many
 -- allocations were granted, and the links, no two at one address, in the order in which they were made.
 pub record Heap : Type 0 where
   pub pages : ℕ
+  pub request_words : ℕ
   pub objects : ℕ → Option Object
   pub mutators : List (Option Mutator)
   pub globals : List ℕ
   pub births : ℕ
   pub links : List Link
 
--- The heap that opens: no object, no mutator, globals of 0, and no birth.
+-- A heap that opens with these limits: no object, no mutator, globals of 0, and no birth.
+abbrev pub opening_with : ℕ → ℕ → Heap
+opening_with pages request_words = record { pages = pages; request_words = request_words; objects = λ _. None; mutators = replicate SLOTS None; globals = replicate GLOBALS 0; births = 0; links = [] }
+
+-- The heap that opens where no limit is given.
 abbrev pub opening : ℕ → Heap
-opening pages = record { pages = pages; objects = λ _. None; mutators = replicate SLOTS None; globals = replicate GLOBALS 0; births = 0; links = [] }
+opening pages = opening_with pages MAX_REQUEST_WORDS
 
 -- an object has this base
 abbrev pub HasObject : Heap → ℕ → Object → Type 0

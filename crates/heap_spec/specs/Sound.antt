@@ -1,6 +1,6 @@
 -- Laws that every heap of a run keeps, and the parts of which they are made.
 use Rattle.std.specs.Prelude.{◌≡◌, ℕ, ◌+◌, ◌*◌, ◌%◌, ◌<◌, ◌≤◌, ◌≢◌, Option, Some, None, List, length, All, AllPairs, ◌⊎◌}
-use Rattle.words.specs.declared.limits.TheConstants.{WORD_BYTES, GRANULE_BYTES, PAGE_WORDS, FIRST_ADDRESS, MAX_PAGES, SLOTS, REGISTERS, STACK_WORDS, GLOBALS, MAX_LINKS}
+use Rattle.words.specs.declared.limits.TheConstants.{WORD_BYTES, GRANULE_BYTES, PAGE_WORDS, FIRST_ADDRESS, MOST_PAGES, MOST_REQUEST_WORDS, SLOTS, REGISTERS, STACK_WORDS, GLOBALS, MAX_LINKS}
 use Rattle.words.specs.declared.class.Kind.TheVariants.{PointerFree}
 use Rattle.words.specs.Classes.{IsSizeClass}
 use Rattle.words.specs.Layout.{page_start}
@@ -76,7 +76,8 @@ pub record AreLinks (s : Heap) : Type 0 where
 -- What holds of a heap in every run.
 pub record IsSound (s : Heap) : Type 0 where
   pub some_page : 1 ≤ s.pages
-  pub few_pages : s.pages ≤ MAX_PAGES
+  pub few_pages : s.pages ≤ MOST_PAGES
+  pub few_words : s.request_words ≤ MOST_REQUEST_WORDS
   pub objects : AreObjects s.pages s.births s.objects
   pub slots : length s.mutators ≡ SLOTS
   pub mutators : All IsSlot s.mutators

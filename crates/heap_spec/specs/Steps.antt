@@ -105,10 +105,10 @@ pub data Acts (s : Heap) (slot : ℕ) (m : HeapMutator) : Call → Reply → Hea
       → Acts s slot m (Store a n r) Done
       (with_object s base (Some (record o { words = slice_set o.words (index_in base (address m a n)) (register m r) })))
   -- objects
-  bad_size : {d n : ℕ} {kind : Kind} → placement_of n ≡ None → Acts s slot m (Alloc d n kind) (Refused BadSize) s
-  full : {d n : ℕ} {kind : Kind} {placement : Placement} → placement_of n ≡ Some placement → ((a : ℕ) → HasRoom s placement kind a → ⊥)
+  bad_size : {d n : ℕ} {kind : Kind} → placement_of s.request_words n ≡ None → Acts s slot m (Alloc d n kind) (Refused BadSize) s
+  full : {d n : ℕ} {kind : Kind} {placement : Placement} → placement_of s.request_words n ≡ Some placement → ((a : ℕ) → HasRoom s placement kind a → ⊥)
       → Acts s slot m (Alloc d n kind) (Refused Full) s
-  allocated : {d n : ℕ} {kind : Kind} {placement : Placement} (a : ℕ) → placement_of n ≡ Some placement → HasRoom s placement kind a
+  allocated : {d n : ℕ} {kind : Kind} {placement : Placement} (a : ℕ) → placement_of s.request_words n ≡ Some placement → HasRoom s placement kind a
       → Acts s slot m (Alloc d n kind) Done (with_register (with_new s a kind placement) slot m d a)
   free_nothing : {r : ℕ} → PointsIntoNothing s (register m r) → Acts s slot m (Free r) (Refused NoObject) s
   free_inside : {r base : ℕ} {o : Object} → PointsIntoObject s (register m r) base o → base ≢ register m r → Acts s slot m (Free r) (Refused NotBase) s

@@ -1,13 +1,13 @@
 -- Rows of one bit a granule.
 use Rattle.std.specs.Prelude.{◌≡◌, ℕ, ◌+◌, ◌*◌, ◌/◌, ◌<◌, ◌≤◌, Bool, List, length}
 use Rattle.words.specs.Bits.{members_between}
-use Rattle.words.specs.declared.limits.TheConstants.{MAX_PAGES, PAGE_GRANULES}
+use Rattle.words.specs.declared.limits.TheConstants.{MOST_PAGES, PAGE_GRANULES}
 
 -- the row has all granules of some pages, as many as a heap may have
 pub record IsOfPages (row : List Bool) : Type 0 where
   pub some : 0 < length row
   pub whole : PAGE_GRANULES * (length row / PAGE_GRANULES) ≡ length row
-  pub few : length row ≤ PAGE_GRANULES * MAX_PAGES
+  pub few : length row ≤ PAGE_GRANULES * MOST_PAGES
 
 -- how many granules of a page are marked
 abbrev pub marks_on : List Bool → ℕ → ℕ

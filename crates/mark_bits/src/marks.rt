@@ -1,13 +1,13 @@
 //! The set of marked granules, seen as one `bool` a granule of the heap.
 ghost use Rattle.std.specs.Prelude.{◌≡◌, ◌≢◌, ℕ, ◌+◌, ◌*◌, ◌/◌, ◌%◌, ◌<◌, ◌≤◌, ◌==◌, true, false, length, slice_index_or, slice_set, IfOk};
 ghost use Rattle.std.specs.Int.{bit_at};
-ghost use Rattle.words.specs.Bits.{bits, IsClear};
-ghost use Rattle.words.specs.declared.limits.TheConstants.{MAX_PAGES, PAGE_GRANULES};
+ghost use Rattle.words.specs.Bits.{bits, IsClear, IsEmptyFrom};
+ghost use Rattle.words.specs.declared.limits.TheConstants.{MOST_PAGES, PAGE_GRANULES};
 ghost use Rattle.mark_bits.specs.Granules.{marks_on};
 
 use std::alloc::{AllocError, Global};
 use std::marker::Model;
-use words::limits::{MAX_PAGES, PAGE_GRANULES};
+use words::limits::{MOST_PAGES, PAGE_GRANULES};
 use words::{BitRow, PageNo};
 
 /// A set of the granules of a heap.
@@ -31,7 +31,7 @@ impl Marks {
     /// No mark in a heap of so many pages. The error is that there is no memory.
     pub fn new(alloc: Global, pages: u32) -> Result<Marks, AllocError>
         requires some { 0 < pages }
-        requires few { pages ≤ MAX_PAGES }
+        requires few { pages ≤ MOST_PAGES }
         ensures { IfOk result (λ marks. IsClear marks (PAGE_GRANULES * pages)) }
     {
         let row = BitRow::new(alloc, (PAGE_GRANULES * u64::from(pages)) as usize)?;
@@ -41,7 +41,7 @@ impl Marks {
     /// How many granules the heap has.
     pub fn granules(&self) -> usize
         ensures count { result ≡ length self.now }
-        ensures limit { result ≤ PAGE_GRANULES * MAX_PAGES }
+        ensures limit { result ≤ PAGE_GRANULES * MOST_PAGES }
     {
         self.row.len()
     }
@@ -79,11 +79,13 @@ impl Marks {
         self.row.clear(granule);
     }
 
-    /// Takes all marks away, by whole words.
-    pub fn clear_all(&mut self)
+    /// Takes all marks away, of which none is on a page from `used` on: what is past those pages isn't written.
+    pub fn clear_all(&mut self, used: PageNo)
+        requires inside { PAGE_GRANULES * used ≤ length self.old }
+        requires none { IsEmptyFrom self.old (PAGE_GRANULES * used) }
         ensures { IsClear self.new (length self.old) }
     {
-        self.row.clear_all();
+        self.row.clear_below(PAGE_GRANULES as usize * used as usize);
     }
 
     /// The marks of the 64 granules from 64 j on, the lowest bit first.

@@ -1,5 +1,6 @@
 pub mod Closures
 pub mod Growing
+pub mod Beside
 pub mod Costs
 pub mod Spreads
 pub mod MarkWord
@@ -12,3 +13,4 @@ pub mod Mutating
 pub mod Rescanning
 pub mod Parts
 pub mod Rereading
+pub mod Keeping

@@ -1,6 +1,6 @@
 -- The part of an object that stands between two addresses, in numbers.
 use Rattle.std.proofs.Common.{◌≡◌, ℕ, ◌+◌, ◌-◌, ◌*◌, ◌/◌, ◌%◌, ◌<◌, ◌≤◌, Option, min, arith}
-use Rattle.words.specs.declared.limits.TheConstants.{GRANULE_BYTES, MAX_PAGES, WORD_BYTES}
+use Rattle.words.specs.declared.limits.TheConstants.{GRANULE_BYTES, MOST_PAGES, WORD_BYTES}
 use Rattle.block_map.specs.declared.found.Found.{Found}
 use Rattle.block_map.specs.Objects.{IsMap}
 use Rattle.block_map.specs.Walks.{IsNextObject}
@@ -32,7 +32,7 @@ part_is low high base len r stop first n a b c d e f g s k m = record {
 }
 
 -- the next object between two addresses has a part between them
-pub next_has_part : (pages : ℕ) (found : ℕ → Option Found) → IsMap pages found → pages ≤ MAX_PAGES → (low high : ℕ) (f : Found) → IsNextObject found low high f → low % WORD_BYTES ≡ 0 → high % WORD_BYTES ≡ 0
+pub next_has_part : (pages : ℕ) (found : ℕ → Option Found) → IsMap pages found → pages ≤ MOST_PAGES → (low high : ℕ) (f : Found) → IsNextObject found low high f → low % WORD_BYTES ≡ 0 → high % WORD_BYTES ≡ 0
     → HasPart low high f
 next_has_part pages found map few low high f next a b = record {
   low_aligned = a;

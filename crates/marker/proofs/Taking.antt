@@ -1,15 +1,18 @@
 -- Words are taken off the entries.
-use Rattle.std.proofs.Common.{◌≡◌, ℕ, ◌+◌, ◌*◌, ◌≤◌, List, [], length, Option, refl, sym, ◌∙◌, subst, inl, inr, ⊎_elim, arith}
+use Rattle.std.proofs.Common.{◌≡◌, ℕ, ◌+◌, ◌*◌, ◌≤◌, List, [], ◌∷◌, length, Option, refl, sym, ◌∙◌, subst, inl, inr, ⊎_elim, arith}
 use Rattle.std.proofs.lemmas.Bool.{cases_lt}
 use Rattle.words.specs.declared.limits.TheConstants.{PAGE_GRANULES}
 use Rattle.words.specs.Bits.{Has}
+use Rattle.words.specs.Layout.{granule}
 use Rattle.block_map.specs.declared.found.Found.{Found}
 use Rattle.block_map.specs.Objects.{IsMap}
 use Rattle.marker.specs.Marking.{Marking, IsMarked, StaysDirty}
 use Rattle.marker.specs.Work.{cost}
 use Rattle.marker.specs.Growth.{Traces}
+use Rattle.marker.specs.Beside.{AreBeside, TracesIn}
 use Rattle.marker.specs.Entries.{WentOn, IsReadOut, TakesOff, Takes, nothing, settled, read}
-use Rattle.marker.proofs.Growing.{below_refl, below_trans, traces_refl, traces_trans}
+use Rattle.marker.proofs.Growing.{below_refl, below_trans}
+use Rattle.marker.proofs.Beside.{beside_more, only_woven, still_one, traces_in, traces_in_all, traces_in_refl, traces_in_trans, traces_one}
 use Rattle.marker.proofs.Settling.{settled_traces, settled_cost, settled_taken}
 use Rattle.marker.proofs.Reading.{read_traces, read_cost, read_taken, read_dirty}
 
@@ -38,34 +41,73 @@ taken_trans found words a b c ab bc x y e one =
     (x e one)
 
 -- words are taken off, and then more
-pub takes_trans : (found : ℕ → Option Found) (words : List ℕ) (old mid : Marking) {n k : ℕ} {new : Marking} → Takes found words old n mid → Takes found words mid k new → Takes found words old (n + k) new
-takes_trans found words old mid {n = n} t nothing = subst (λ j. Takes found words old j mid) (let same : n ≡ n + 0 = omega arith in same) t
-takes_trans found words old mid t (settled u x) = settled (takes_trans found words old mid t u) x
-takes_trans found words old mid {n = n} t (read {n = m} {k = j} {b = b} u x) =
-    subst (λ i. Takes found words old i b) (let same : n + m + j ≡ n + (m + j) = omega arith in same) (read (takes_trans found words old mid t u) x)
+pub takes_trans : (found : ℕ → Option Found) (moments : List (List ℕ)) (old mid : Marking) {n k : ℕ} {new : Marking} → Takes found moments old n mid → Takes found moments mid k new → Takes found moments old (n + k) new
+takes_trans found moments old mid {n = n} t nothing = subst (λ j. Takes found moments old j mid) (let same : n ≡ n + 0 = omega arith in same) t
+takes_trans found moments old mid t (settled u x) = settled (takes_trans found moments old mid t u) x
+takes_trans found moments old mid {n = n} t (read {n = m} {k = j} {b = b} u x) =
+    subst (λ i. Takes found moments old i b) (let same : n + m + j ≡ n + (m + j) = omega arith in same) (read (takes_trans found moments old mid t u) x)
 
-module _ (pages : ℕ) (found : ℕ → Option Found) (map : IsMap pages found) (words : List ℕ) (old : Marking) (size : length old.marks ≡ PAGE_GRANULES * pages) where
-  pub takes_traces : {n : ℕ} {new : Marking} → Takes found words old n new → Traces found words [] old new
-  takes_traces nothing = traces_refl found words [] old
-  takes_traces (settled {a = a} {b = b} t x) = traces_trans found words [] old a b (takes_traces t) (settled_traces found a b x words)
-  takes_traces (read {k = k} {a = a} {b = b} t x) =
-      let s = takes_traces t in traces_trans found words [] old a b s (read_traces pages found map words k a b (s.marks_len ∙ size) x)
+-- Marks only come, and pages stay dirty.
+pub record Grows (old new : Marking) : Type 0 where
+  pub marks_len : length new.marks ≡ length old.marks
+  pub dirty_len : length new.dirty ≡ length old.dirty
+  pub marks : (b : ℕ) → IsMarked old b → IsMarked new b
+  pub dirty : StaysDirty old new
 
-  pub takes_cost : {n : ℕ} {new : Marking} → Takes found words old n new → cost found new + n ≤ cost found old
+module _ (pages : ℕ) (found : ℕ → Option Found) (map : IsMap pages found) (moments : List (List ℕ)) (old : Marking) (size : length old.marks ≡ PAGE_GRANULES * pages) where
+  pub takes_grows : {n : ℕ} {new : Marking} → Takes found moments old n new → Grows old new
+  takes_grows nothing = record { marks_len = refl; dirty_len = refl; marks = λ b h. h; dirty = λ p h. h }
+  takes_grows (settled {a = a} {b = b} t x) =
+      let g = takes_grows t in
+      let s = settled_traces found a b x [] in
+      record {
+        marks_len = s.marks_len ∙ g.marks_len;
+        dirty_len = s.dirty_len ∙ g.dirty_len;
+        marks = λ d h. s.marks d (g.marks d h);
+        dirty = λ p h. subst (λ r. Has r p) (sym x.dirty) (g.dirty p h);
+      }
+  takes_grows (read {k = k} {a = a} {b = b} t x) =
+      let g = takes_grows t in
+      let s = read_traces pages found map x.seen k a b (g.marks_len ∙ size) x.reads in
+      record {
+        marks_len = s.marks_len ∙ g.marks_len;
+        dirty_len = s.dirty_len ∙ g.dirty_len;
+        marks = λ d h. s.marks d (g.marks d h);
+        dirty = λ p h. read_dirty pages found map x.seen k a b (g.marks_len ∙ size) x.reads p (g.dirty p h);
+      }
+
+  -- beside writers
+  pub takes_traces : {n : ℕ} {new : Marking} → AreBeside found old.dirty moments → Takes found moments old n new → TracesIn found moments old new
+  takes_traces beside nothing = traces_in_refl found moments old beside
+  takes_traces beside (settled {a = a} {b = b} t x) =
+      let s = beside_more found old a moments (takes_grows t).dirty beside in
+      traces_in_trans found moments old a b (takes_traces beside t)
+      (traces_in_all found moments a b s (λ p h. subst (λ r. Has r p) (sym x.dirty) h) (settled_traces found a b x) (λ f e h. subst (λ y. Has y (granule f.base)) x.marks h) (λ p h. subst (λ y. Has y p) x.carried h))
+  takes_traces beside (read {k = k} {a = a} {b = b} t x) =
+      let g = takes_grows t in
+      let s = beside_more found old a moments g.dirty beside in
+      traces_in_trans found moments old a b (takes_traces beside t)
+      (traces_in found moments x.seen a b x.woven s (read_dirty pages found map x.seen k a b (g.marks_len ∙ size) x.reads) (read_traces pages found map x.seen k a b (g.marks_len ∙ size) x.reads))
+
+  pub takes_cost : {n : ℕ} {new : Marking} → Takes found moments old n new → cost found new + n ≤ cost found old
   takes_cost nothing = omega arith
   takes_cost (settled {a = a} {b = b} t x) = let p = takes_cost t in let q = settled_cost found a b x in omega arith
   takes_cost (read {k = k} {a = a} {b = b} t x) =
-      let p = takes_cost t in let q = read_cost pages found map words k a b ((takes_traces t).marks_len ∙ size) x in omega arith
+      let p = takes_cost t in let q = read_cost pages found map x.seen k a b ((takes_grows t).marks_len ∙ size) x.reads in omega arith
 
-  pub takes_taken : {n : ℕ} {new : Marking} → Takes found words old n new → TakesOff found words old new
+  pub takes_dirty : {n : ℕ} {new : Marking} → Takes found moments old n new → StaysDirty old new
+  takes_dirty t = (takes_grows t).dirty
+
+-- where nobody writes
+module _ (pages : ℕ) (found : ℕ → Option Found) (map : IsMap pages found) (words : List ℕ) (old : Marking) (size : length old.marks ≡ PAGE_GRANULES * pages) where
+  pub takes_one : {n : ℕ} {new : Marking} → Takes found (words ∷ []) old n new → Traces found words [] old new
+  takes_one {new = new} t = traces_one found words old new (takes_traces pages found map (words ∷ []) old size (still_one found words old.dirty) t)
+
+  pub takes_taken : {n : ℕ} {new : Marking} → Takes found (words ∷ []) old n new → TakesOff found words old new
   takes_taken nothing = taken_refl found words old
   takes_taken (settled {a = a} {b = b} t x) =
-      taken_trans found words old a b (takes_traces t).marks (settled_traces found a b x words).marks (takes_taken t) (settled_taken found a b x words)
+      taken_trans found words old a b (takes_grows pages found map (words ∷ []) old size t).marks (settled_traces found a b x words).marks (takes_taken t) (settled_taken found a b x words)
   takes_taken (read {k = k} {a = a} {b = b} t x) =
-      let s = (takes_traces t).marks_len ∙ size in
-      taken_trans found words old a b (takes_traces t).marks (read_traces pages found map words k a b s x).marks (takes_taken t) (read_taken pages found map words k a b s x)
-
-  pub takes_dirty : {n : ℕ} {new : Marking} → Takes found words old n new → StaysDirty old new
-  takes_dirty nothing p h = h
-  takes_dirty (settled t x) p h = subst (λ r. Has r p) (sym x.dirty) (takes_dirty t p h)
-  takes_dirty (read {k = k} {a = a} {b = b} t x) p h = read_dirty pages found map words k a b ((takes_traces t).marks_len ∙ size) x p (takes_dirty t p h)
+      let s = (takes_grows pages found map (words ∷ []) old size t).marks_len ∙ size in
+      taken_trans found words old a b (takes_grows pages found map (words ∷ []) old size t).marks (read_traces pages found map x.seen k a b s x.reads).marks (takes_taken t)
+      (subst (λ (v : List ℕ). TakesOff found v a b) (only_woven words x.seen x.woven) (read_taken pages found map x.seen k a b s x.reads))

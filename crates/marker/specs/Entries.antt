@@ -3,6 +3,7 @@ use Rattle.std.specs.Prelude.{◌≡◌, ℕ, ◌+◌, ◌<◌, ◌≤◌, Bool,
 use Rattle.words.specs.declared.class.Kind.TheVariants.{Normal}
 use Rattle.words.specs.Layout.{page_of}
 use Rattle.pages.specs.Memory.{word_at}
+use Rattle.pages.specs.Reads.{IsWoven}
 use Rattle.block_map.specs.declared.found.Found.{Found}
 use Rattle.marker.specs.declared.entry.Entry.{Entry}
 use Rattle.marker.specs.Marking.{Marking, IsMarked, IsEntry, entries, with_current, with_carried, bytes_of, word_address}
@@ -65,18 +66,24 @@ pub record ReadsOn (found : ℕ → Option Found) (words : List ℕ) (n : ℕ) (
   pub carries : CarriesPage found (bytes_of old) (words_from words object live.entry.next n) page old.carried carried
   pub new_is : new ≡ with_current (with_carried mid carried) (read_on live.entry n)
 
+-- The same, where each word is read at one of these moments.
+pub record ReadsIn (found : ℕ → Option Found) (moments : List (List ℕ)) (n : ℕ) (old new : Marking) : Type 0 where
+  pub seen : List ℕ
+  pub woven : IsWoven moments seen
+  pub reads : ReadsOn found seen n old new
+
 -- The entry that is being read is dropped, and n words of the next one, which then is being read, are done with.
-pub record ReadsNext (found : ℕ → Option Found) (words : List ℕ) (n : ℕ) (old new : Marking) : Type 0 where
+pub record ReadsNext (found : ℕ → Option Found) (moments : List (List ℕ)) (n : ℕ) (old new : Marking) : Type 0 where
   pub next : Marking
   pub settles : Settles found old next
-  pub reads : ReadsOn found words n next new
+  pub reads : ReadsIn found moments n next new
 
--- So many words are taken off the entries, each from the one that is being read; entries that have no word to read are
--- dropped.
-pub data Takes (found : ℕ → Option Found) (words : List ℕ) (old : Marking) : ℕ → Marking → Type 0 where
-  nothing : Takes found words old 0 old
-  settled : {n : ℕ} {a b : Marking} → Takes found words old n a → Settles found a b → Takes found words old n b
-  read : {n k : ℕ} {a b : Marking} → Takes found words old n a → ReadsOn found words k a b → Takes found words old (n + k) b
+-- So many words are taken off the entries, each from the one that is being read and at one of the moments; entries that have no
+-- word to read are dropped.
+pub data Takes (found : ℕ → Option Found) (moments : List (List ℕ)) (old : Marking) : ℕ → Marking → Type 0 where
+  nothing : Takes found moments old 0 old
+  settled : {n : ℕ} {a b : Marking} → Takes found moments old n a → Settles found a b → Takes found moments old n b
+  read : {n k : ℕ} {a b : Marking} → Takes found moments old n a → ReadsIn found moments k a b → Takes found moments old (n + k) b
 
 -- the entries of a stack are still where they were
 abbrev pub IsBelow : List Entry → List Entry → Type 0

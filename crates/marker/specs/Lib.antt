@@ -2,6 +2,7 @@ pub mod Marking
 pub mod Work
 pub mod Invariant
 pub mod Closure
+pub mod Beside
 pub mod Growth
 pub mod Entries
 pub mod Parts

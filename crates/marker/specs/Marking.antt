@@ -1,7 +1,7 @@
 -- What contracts see of a marker.
 use Rattle.std.specs.Prelude.{◌≡◌, ℕ, ◌+◌, ◌-◌, ◌*◌, ◌<◌, ◌≤◌, ◌++◌, Bool, List, [], length, Contains, Option, Some, None, option_to_list, ◌⊎◌}
 use Rattle.words.specs.Bits.{Has, IsClear}
-use Rattle.words.specs.declared.limits.TheConstants.{FIRST_ADDRESS, MARK_STACK_ENTRIES, MAX_PAGES, PAGE_BYTES, PAGE_GRANULES, WORD_BYTES}
+use Rattle.words.specs.declared.limits.TheConstants.{FIRST_ADDRESS, MARK_STACK_ENTRIES, MOST_PAGES, PAGE_BYTES, PAGE_GRANULES, WORD_BYTES}
 use Rattle.words.specs.Layout.{granule, page_of}
 use Rattle.block_map.specs.declared.found.Found.{Found}
 use Rattle.marker.specs.declared.entry.Entry.{Entry}
@@ -18,7 +18,7 @@ pub record Marking : Type 0 where
 -- What is true of every marker: it has a mark for each granule of its pages, and no word of the stack's entries was read.
 pub record IsConsistent (m : Marking) : Type 0 where
   pub marks : length m.marks ≡ PAGE_GRANULES * length m.dirty
-  pub few : length m.dirty ≤ MAX_PAGES
+  pub few : length m.dirty ≤ MOST_PAGES
   pub carried : length m.carried ≡ length m.dirty
   pub room : length m.stack ≤ MARK_STACK_ENTRIES
   pub unread : (e : Entry) → Contains m.stack e → e.next ≡ 0

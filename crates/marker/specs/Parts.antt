@@ -1,6 +1,6 @@
 -- The part of an object that stands between two addresses.
 use Rattle.std.specs.Prelude.{◌≡◌, ℕ, ◌+◌, ◌*◌, ◌%◌, ◌<◌, ◌≤◌}
-use Rattle.words.specs.declared.limits.TheConstants.{MAX_PAGES, WORD_BYTES}
+use Rattle.words.specs.declared.limits.TheConstants.{MOST_PAGES, WORD_BYTES}
 use Rattle.block_map.specs.declared.found.Found.{Found}
 use Rattle.block_map.specs.Objects.{IsInside, IsPlaced}
 use Rattle.marker.specs.declared.part.Part.{Part}
@@ -11,7 +11,7 @@ pub record HasPart (low high : ℕ) (f : Found) : Type 0 where
   pub low_aligned : low % WORD_BYTES ≡ 0
   pub high_aligned : high % WORD_BYTES ≡ 0
   pub pages : ℕ
-  pub few : pages ≤ MAX_PAGES
+  pub few : pages ≤ MOST_PAGES
   pub placed : IsPlaced pages f
   pub at : ℕ
   pub from : low ≤ at

@@ -1,9 +1,9 @@
 //! The marker's state, and the beginning of a cycle.
 ghost use Rattle.std.specs.Prelude.{◌≡◌, ℕ, Option, ◌*◌, ◌<◌, ◌≤◌, List, length, slice_index_or, false};
-ghost use Rattle.words.specs.declared.limits.TheConstants.{FIRST_ADDRESS, PAGE_BYTES};
-ghost use Rattle.words.specs.Bits.{members};
+ghost use Rattle.words.specs.declared.limits.TheConstants.{FIRST_ADDRESS, MOST_PAGES, PAGE_BYTES, PAGE_GRANULES};
+ghost use Rattle.words.specs.Bits.{members, IsEmptyFrom};
 ghost use Rattle.words.specs.Layout.{granule};
-ghost use Rattle.pages.specs.Opening.{IsOpened};
+ghost use Rattle.pages.specs.Opening.{IsOpenedWithin};
 ghost use Rattle.block_map.specs.declared.found.Found.{Found};
 ghost use Rattle.block_map.specs.FoundIn.{IsLawful};
 ghost use Rattle.marker.specs.Marking.{IsConsistent, IsBlank};
@@ -20,7 +20,7 @@ use pages::is_page_count;
 use std::alloc::Global;
 use std::marker::Model;
 use words::limits::{MARK_STACK_ENTRIES, PAGE_BYTES};
-use words::{BitRow, OpenError, granule_of};
+use words::{BitRow, OpenError, PageNo, granule_of};
 
 // The entries of the mark stack.
 const ENTRIES: usize = MARK_STACK_ENTRIES as usize;
@@ -57,7 +57,7 @@ pub(crate) fn heap_bytes(map: &BlockMap) -> u64
 impl Marker {
     /// A marker of a heap of so many pages, with no mark, no dirty page and no entry.
     pub fn new(alloc: Global, pages: u32) -> Result<Marker, OpenError>
-        ensures { IsOpened pages result (λ m. IsBlank pages m) }
+        ensures { IsOpenedWithin MOST_PAGES pages result (λ m. IsBlank pages m) }
     {
         if !is_page_count(pages) {
             return Err(OpenError::BadPages);
@@ -82,14 +82,16 @@ impl Marker {
         let _marks = &self.marks;
     }
 
-    /// Begins a cycle: no mark, no dirty page and no entry.
+    /// Begins a cycle: no mark, no dirty page and no entry. No mark is on a page from `used` on, and those pages cost nothing.
     #[tactic(auto, using(crate::proofs::Mutating::mutating))]
-    pub fn begin(&mut self)
+    pub fn begin(&mut self, used: PageNo)
+        requires inside { used ≤ length self.old.dirty }
+        requires unmarked { IsEmptyFrom self.old.marks (PAGE_GRANULES * used) }
         ensures blank { IsBlank (length self.old.dirty) self.new }
         ensures invariant { (found : ℕ → Option Found) (words : List ℕ) → DirtyPageInvariant found words self.new }
         ensures carried { (found : ℕ → Option Found) (words : List ℕ) → CarriedPageInvariant found words self.new }
     {
-        self.marks.clear_all();
+        self.marks.clear_all(used);
         self.dirty.clear_all();
         self.carried.clear_all();
         self.current = None;

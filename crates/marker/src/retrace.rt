@@ -1,6 +1,6 @@
 //! The reading again of dirty pages.
-ghost use Rattle.std.specs.Prelude.{◌≡◌, ℕ, ◌+◌, ◌*◌, ◌%◌, ◌<◌, ◌≤◌, [], true, false, length, slice_set, MatchOption, IfSome, IfNone};
-ghost use Rattle.words.specs.declared.limits.TheConstants.{FIRST_ADDRESS, MAX_PAGES, PAGE_BYTES, PAGE_GRANULES, PAGE_WORDS, WORD_BYTES};
+ghost use Rattle.std.specs.Prelude.{◌≡◌, ℕ, ◌+◌, ◌*◌, ◌%◌, ◌<◌, ◌≤◌, [], ◌∷◌, true, false, length, slice_set, MatchOption, IfSome, IfNone};
+ghost use Rattle.words.specs.declared.limits.TheConstants.{FIRST_ADDRESS, MOST_PAGES, PAGE_BYTES, PAGE_GRANULES, PAGE_WORDS, WORD_BYTES};
 ghost use Rattle.words.specs.declared.class.Kind.TheVariants.{Normal};
 ghost use Rattle.words.specs.Bits.{Has, HasNoBit, IsFirstBit, IsFirstFrom};
 ghost use Rattle.words.specs.Layout.{granule, page_start};
@@ -9,6 +9,7 @@ ghost use Rattle.block_map.specs.Walks.{IsNextObject};
 ghost use Rattle.block_map.specs.FoundIn.{found_in, IsLawful};
 ghost use Rattle.marker.specs.Marking.{IsClean, IsMarked, with_dirty};
 ghost use Rattle.marker.specs.Growth.{Traces};
+ghost use Rattle.marker.specs.Beside.{AreBeside, IsStill, TracesIn};
 ghost use Rattle.marker.specs.Retracing.{Rereads, RereadsObjects, Retraces};
 
 use crate::marker::{Marker, heap_bytes};
@@ -42,13 +43,17 @@ impl Marker {
     pub fn retrace(&mut self, map: &BlockMap, reader: &mut Reader) -> Option<PageNo>
         requires pages { length self.old.dirty ≡ length map.now }
         requires memory { length reader.old.words ≡ PAGE_WORDS * length map.now }
+        requires still { (p : ℕ) → IsFirstFrom self.old.dirty 0 p → IsStill (found_in map.now) reader.old.words reader.old.moments p }
         ensures page { MatchOption result (IsClean self.old × (self.new ≡ self.old)) (λ p. Retraces (found_in map.now) reader.old.words p self.old self.new) }
+        ensures beside { AreBeside (found_in map.now) self.old.dirty reader.old.moments → TracesIn (found_in map.now) reader.old.moments self.old self.new }
         ensures traces { Traces (found_in map.now) reader.old.words [] self.old self.new }
         ensures words { reader.new.words ≡ reader.old.words }
+        ensures moments { reader.new.moments ≡ reader.old.moments }
         ensures reads { reader.new.reads ≤ reader.old.reads + PAGE_WORDS }
         ensures none { IfNone result (reader.new.reads ≡ reader.old.reads) }
     {
         self.laws();
+        reader.laws();
         let page = self.take_page()?;
         let heap_bytes = heap_bytes(map);
         match map.block(page) {
@@ -61,7 +66,7 @@ impl Marker {
     // Makes the lowest dirty page clean.
     fn take_page(&mut self) -> Option<PageNo>
         ensures page { MatchOption result (IsClean self.old × (self.new ≡ self.old)) (λ p. IsFirstFrom self.old.dirty 0 p × (self.new ≡ with_dirty self.old (slice_set self.old.dirty p false))) }
-        ensures small { IfSome result (λ p. p < MAX_PAGES) }
+        ensures small { IfSome result (λ p. p < MOST_PAGES) }
     {
         let page = self.dirty.first()?;
         self.dirty.clear(page);
@@ -75,8 +80,10 @@ impl Marker {
         requires bytes { heap_bytes ≡ PAGE_BYTES * length map.now }
         requires memory { length reader.old.words ≡ PAGE_WORDS * length map.now }
         requires inside { page < length map.now }
+        requires still { IsStill (found_in map.now) reader.old.words reader.old.moments page }
         ensures rereads { Rereads (found_in map.now) reader.old.words (page_start page) (page_start (page + 1)) self.old self.new }
         ensures words { reader.new.words ≡ reader.old.words }
+        ensures moments { reader.new.moments ≡ reader.old.moments }
         ensures reads { reader.new.reads ≤ reader.old.reads + PAGE_WORDS }
     {
         self.laws();
@@ -102,9 +109,11 @@ impl Marker {
         requires bytes { heap_bytes ≡ PAGE_BYTES * length map.now }
         requires memory { length reader.old.words ≡ PAGE_WORDS * length map.now }
         requires inside { page < length map.now }
+        requires still { IsStill (found_in map.now) reader.old.words reader.old.moments page }
         requires cut { state_at map.now page ≡ cut block.now }
         ensures rereads { Rereads (found_in map.now) reader.old.words (page_start page) (page_start (page + 1)) self.old self.new }
         ensures words { reader.new.words ≡ reader.old.words }
+        ensures moments { reader.new.moments ≡ reader.old.moments }
         ensures reads { reader.new.reads ≤ reader.old.reads + PAGE_WORDS }
     {
         self.laws();
@@ -132,11 +141,13 @@ impl Marker {
         requires bytes { heap_bytes ≡ PAGE_BYTES * length map.now }
         requires memory { length reader.old.words ≡ PAGE_WORDS * length map.now }
         requires inside { page < length map.now }
+        requires still { IsStill (found_in map.now) reader.old.words reader.old.moments page }
         requires cut { state_at map.now page ≡ cut block.now }
         requires normal { block.now.kind ≡ Normal }
         requires on { (PAGE_GRANULES * page ≤ 64 * j) × (64 * (j + 1) ≤ PAGE_GRANULES * (page + 1)) }
         ensures rereads { RereadsObjects (found_in map.now) reader.old.words self.old (page_start (page + 1)) (64 * j) (64 * (j + 1)) reader.old.reads self.old reader.new.reads self.new }
         ensures words { reader.new.words ≡ reader.old.words }
+        ensures moments { reader.new.moments ≡ reader.old.moments }
     {
         self.laws();
         let marks = self.marks.word(j);
@@ -163,12 +174,14 @@ impl Marker {
         requires bytes { heap_bytes ≡ PAGE_BYTES * length map.now }
         requires memory { length reader.old.words ≡ PAGE_WORDS * length map.now }
         requires inside { page < length map.now }
+        requires still { IsStill (found_in map.now) reader.old.words reader.old.moments page }
         requires cut { state_at map.now page ≡ cut block.now }
         requires normal { block.now.kind ≡ Normal }
         requires on { (PAGE_GRANULES * page ≤ granule) × (granule < PAGE_GRANULES * (page + 1)) }
         requires marked { Has self.old.marks granule }
         ensures rereads { RereadsObjects (found_in map.now) reader.old.words self.old (page_start (page + 1)) granule (granule + 1) reader.old.reads self.old reader.new.reads self.new }
         ensures words { reader.new.words ≡ reader.old.words }
+        ensures moments { reader.new.moments ≡ reader.old.moments }
     {
         self.laws();
         let base = FIRST_ADDRESS + GRANULE_BYTES * granule as u64;
@@ -207,13 +220,14 @@ impl Marker {
         requires next { IsNextObject (found_in map.now) low high found }
         requires low { low % WORD_BYTES ≡ 0 }
         requires high { high % WORD_BYTES ≡ 0 }
-        requires one_page { (page : ℕ) × (page_start page ≤ low) × (high ≤ page_start (page + 1)) }
+        requires one_page { (page : ℕ) × (page_start page ≤ low) × (high ≤ page_start (page + 1)) × IsStill (found_in map.now) reader.old.words reader.old.moments page }
         ensures rereads { Rereads (found_in map.now) reader.old.words low result self.old self.new }
         ensures further { low < result }
         ensures inside { result ≤ found.base + WORD_BYTES * found.len }
         ensures within { result ≤ high }
         ensures aligned { result % WORD_BYTES ≡ 0 }
         ensures words { reader.new.words ≡ reader.old.words }
+        ensures moments { reader.new.moments ≡ reader.old.moments }
         ensures reads { WORD_BYTES * reader.new.reads + low ≤ WORD_BYTES * reader.old.reads + result }
     {
         self.laws();

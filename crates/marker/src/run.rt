@@ -8,7 +8,8 @@ ghost use Rattle.block_map.specs.FoundIn.{found_in, IsLawful};
 ghost use Rattle.marker.specs.Marking.{IsOutside, StaysDirty, with_carried, word_address};
 ghost use Rattle.marker.specs.Work.{cost};
 ghost use Rattle.marker.specs.Invariant.{AreRootsMarked};
-ghost use Rattle.marker.specs.Growth.{CarriesPage, MarksFirst, MarksWords, TellsFirst, TellsStray, Traces, words_from};
+ghost use Rattle.marker.specs.Beside.{MarksRow};
+ghost use Rattle.marker.specs.Growth.{MarksFirst, MarksWords, TellsFirst, TellsStray, Traces};
 
 use crate::marker::{Marker, heap_bytes};
 use block_map::{BlockMap, Found};
@@ -148,12 +149,13 @@ impl Marker {
         requires placed { IsPlaced (length map.now) found }
         requires fits { first + count ≤ found.len }
         requires one_page { (i : ℕ) → first ≤ i → i < first + count → page_of (word_address found i) ≡ page_of (word_address found first) }
-        ensures marks { MarksWords (found_in map.now) self.old (words_from reader.old.words found first count) (with_carried self.new self.old.carried) }
-        ensures carries { CarriesPage (found_in map.now) (PAGE_BYTES * length map.now) (words_from reader.old.words found first count) (page_of (word_address found first)) self.old.carried self.new.carried }
+        ensures row { MarksRow (found_in map.now) reader.old.moments found first count (PAGE_BYTES * length map.now) (page_of (word_address found first)) self.old self.new }
         ensures words { reader.new.words ≡ reader.old.words }
+        ensures moments { reader.new.moments ≡ reader.old.moments }
         ensures counted { reader.new.reads ≡ reader.old.reads + count }
     {
         self.laws();
+        reader.laws();
         let start = found.base + WORD_BYTES * u64::from(first);
         if self.mark_all(map, heap_bytes, reader.read_run(start, count)) {
             self.carry(page_of(start) as PageNo);

@@ -1,6 +1,6 @@
 //! The pages that an object covers.
 ghost use Rattle.std.specs.Prelude.{◌+◌, ◌*◌, ◌≤◌, length};
-ghost use Rattle.words.specs.declared.limits.TheConstants.{MAX_PAGES};
+ghost use Rattle.words.specs.declared.limits.TheConstants.{MOST_PAGES};
 ghost use Rattle.words.specs.Layout.{page_of};
 ghost use Rattle.block_map.specs.Objects.{IsPlaced};
 ghost use Rattle.marker.specs.Marking.{last_page};
@@ -8,14 +8,14 @@ ghost use Rattle.marker.specs.Growth.{IsDirtied};
 
 use block_map::Found;
 use dirty_pages::DirtyPages;
-use words::limits::{MAX_PAGES, WORD_BYTES};
+use words::limits::{MOST_PAGES, WORD_BYTES};
 use words::{PageNo, page_of};
 
 /// Makes the pages that an object covers dirty.
 #[tactic(auto, using(crate::proofs::Spreads::spreads))]
 pub fn dirty_object(dirty: &mut DirtyPages, found: Found)
     requires placed { IsPlaced (length dirty.old) found }
-    requires small { length dirty.old ≤ MAX_PAGES }
+    requires small { length dirty.old ≤ MOST_PAGES }
     ensures { IsDirtied dirty.old dirty.new (page_of found.base) (last_page found + 1) }
 {
     let first = page_of(found.base) as PageNo;

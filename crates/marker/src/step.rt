@@ -1,6 +1,6 @@
 //! Steps of marking: words of entries are read, at most so many a call.
-ghost use Rattle.std.specs.Prelude.{◌≡◌, ℕ, ◌+◌, ◌*◌, ◌<◌, ◌≤◌, ◌↔◌, [], true, false, length, MatchOption, IfSome, Some};
-ghost use Rattle.words.specs.declared.limits.TheConstants.{MAX_PAGES, PAGE_BYTES, PAGE_WORDS};
+ghost use Rattle.std.specs.Prelude.{◌≡◌, ℕ, ◌+◌, ◌*◌, ◌<◌, ◌≤◌, ◌↔◌, [], ◌∷◌, true, false, length, MatchOption, IfSome, Some};
+ghost use Rattle.words.specs.declared.limits.TheConstants.{MOST_PAGES, PAGE_BYTES, PAGE_WORDS};
 ghost use Rattle.block_map.specs.declared.found.Found.{Found};
 ghost use Rattle.block_map.specs.Objects.{IsPlaced};
 ghost use Rattle.block_map.specs.FoundIn.{found_in, IsLawful};
@@ -8,7 +8,8 @@ ghost use Rattle.marker.specs.declared.entry.Entry.{Entry};
 ghost use Rattle.marker.specs.Marking.{IsEmpty, StaysDirty, entries};
 ghost use Rattle.marker.specs.Work.{cost};
 ghost use Rattle.marker.specs.Growth.{Traces};
-ghost use Rattle.marker.specs.Entries.{IsSpent, IsUnread, IsLive, AreUnreadFrom, Settles, ReadsOn, Takes, TakesOff};
+ghost use Rattle.marker.specs.Beside.{AreBeside, TracesIn};
+ghost use Rattle.marker.specs.Entries.{IsSpent, IsUnread, IsLive, AreUnreadFrom, Settles, ReadsIn, Takes, TakesOff};
 
 use crate::entry::Entry;
 use crate::marker::{Marker, heap_bytes};
@@ -32,16 +33,18 @@ impl Marker {
     pub fn step(&mut self, map: &BlockMap, reader: &mut Reader, budget: u64) -> Marked
         requires pages { length self.old.dirty ≡ length map.now }
         requires memory { length reader.old.words ≡ PAGE_WORDS * length map.now }
-        ensures takes { Takes (found_in map.now) reader.old.words self.old result.read self.new }
-        ensures traces { Traces (found_in map.now) reader.old.words [] self.old self.new }
+        ensures takes { Takes (found_in map.now) reader.old.moments self.old result.read self.new }
+        ensures beside { AreBeside (found_in map.now) self.old.dirty reader.old.moments → TracesIn (found_in map.now) reader.old.moments self.old self.new }
+        ensures traces { reader.old.moments ≡ reader.old.words ∷ [] → Traces (found_in map.now) reader.old.words [] self.old self.new }
         ensures read { result.read ≤ budget }
         ensures empty { (result.empty ≡ true) ↔ IsEmpty self.new }
         ensures live { result.empty ≡ false → (f : Found) × IsLive (found_in map.now) self.new f }
         ensures fewer { result.read < budget → IsEmpty self.new }
-        ensures taken { TakesOff (found_in map.now) reader.old.words self.old self.new }
+        ensures taken { reader.old.moments ≡ reader.old.words ∷ [] → TakesOff (found_in map.now) reader.old.words self.old self.new }
         ensures dirty { StaysDirty self.old self.new }
         ensures cost { cost (found_in map.now) self.new + result.read ≤ cost (found_in map.now) self.old }
         ensures words { reader.new.words ≡ reader.old.words }
+        ensures moments { reader.new.moments ≡ reader.old.moments }
         ensures reads { reader.new.reads ≡ reader.old.reads + result.read }
     {
         self.laws();
@@ -87,7 +90,7 @@ impl Marker {
         requires known { AreUnreadFrom (found_in map.now) self.old known (entries self.old) }
         ensures settles { Settles (found_in map.now) self.old self.new }
         ensures live { MatchOption result (IsEmpty self.new) (λ f. IsLive (found_in map.now) self.new f) }
-        ensures placed { IfSome result (λ f. IsPlaced (length map.now) f × (length map.now ≤ MAX_PAGES)) }
+        ensures placed { IfSome result (λ f. IsPlaced (length map.now) f × (length map.now ≤ MOST_PAGES)) }
     {
         let Some(entry) = self.known_entry(known) else {
             return self.settle(map);
@@ -102,7 +105,7 @@ impl Marker {
         requires pages { length self.old.dirty ≡ length map.now }
         ensures settles { Settles (found_in map.now) self.old self.new }
         ensures live { MatchOption result (IsEmpty self.new) (λ f. IsLive (found_in map.now) self.new f) }
-        ensures placed { IfSome result (λ f. IsPlaced (length map.now) f × (length map.now ≤ MAX_PAGES)) }
+        ensures placed { IfSome result (λ f. IsPlaced (length map.now) f × (length map.now ≤ MOST_PAGES)) }
     {
         loop {
             if let Some(found) = self.live(map) {
@@ -119,7 +122,7 @@ impl Marker {
     pub fn unread(&self, map: &BlockMap, entry: Entry) -> Option<Found>
         requires pages { length self.now.dirty ≡ length map.now }
         ensures object { MatchOption result (IsSpent (found_in map.now) self.now entry) (λ f. IsUnread (found_in map.now) self.now entry f) }
-        ensures placed { IfSome result (λ f. IsPlaced (length map.now) f × (length map.now ≤ MAX_PAGES)) }
+        ensures placed { IfSome result (λ f. IsPlaced (length map.now) f × (length map.now ≤ MOST_PAGES)) }
     {
         self.laws();
         let found = map.find(entry.base)?;
@@ -143,7 +146,7 @@ impl Marker {
     fn live(&self, map: &BlockMap) -> Option<Found>
         requires pages { length self.now.dirty ≡ length map.now }
         ensures live { MatchOption result ((e : Entry) → self.now.current ≡ Some e → IsSpent (found_in map.now) self.now e) (λ f. IsLive (found_in map.now) self.now f) }
-        ensures placed { IfSome result (λ f. IsPlaced (length map.now) f × (length map.now ≤ MAX_PAGES)) }
+        ensures placed { IfSome result (λ f. IsPlaced (length map.now) f × (length map.now ≤ MOST_PAGES)) }
     {
         self.unread(map, self.current?)
     }
@@ -187,15 +190,16 @@ impl Marker {
         requires lawful { IsLawful map.now }
         requires bytes { heap_bytes ≡ PAGE_BYTES * length map.now }
         requires live { IsLive (found_in map.now) self.old found }
-        requires placed { IsPlaced (length map.now) found × (length map.now ≤ MAX_PAGES) }
+        requires placed { IsPlaced (length map.now) found × (length map.now ≤ MOST_PAGES) }
         requires known { AreUnreadFrom (found_in map.now) self.old known self.old.stack }
         requires memory { length reader.old.words ≡ PAGE_WORDS * length map.now }
         requires some { 0 < most }
-        ensures takes { Takes (found_in map.now) reader.old.words self.old result self.new }
+        ensures takes { Takes (found_in map.now) reader.old.moments self.old result self.new }
         ensures known { AreUnreadFrom (found_in map.now) self.new known (entries self.new) }
         ensures some { 0 < result }
         ensures most { result ≤ most }
         ensures words { reader.new.words ≡ reader.old.words }
+        ensures moments { reader.new.moments ≡ reader.old.moments }
         ensures reads { reader.new.reads ≡ reader.old.reads + result }
     {
         self.laws();
@@ -221,13 +225,14 @@ impl Marker {
         requires lawful { IsLawful map.now }
         requires bytes { heap_bytes ≡ PAGE_BYTES * length map.now }
         requires live { IsLive (found_in map.now) self.old found }
-        requires placed { IsPlaced (length map.now) found × (length map.now ≤ MAX_PAGES) }
+        requires placed { IsPlaced (length map.now) found × (length map.now ≤ MOST_PAGES) }
         requires memory { length reader.old.words ≡ PAGE_WORDS * length map.now }
         requires some { 0 < most }
-        ensures read { ReadsOn (found_in map.now) reader.old.words result self.old self.new }
+        ensures read { ReadsIn (found_in map.now) reader.old.moments result self.old self.new }
         ensures some { 0 < result }
         ensures most { result ≤ most }
         ensures words { reader.new.words ≡ reader.old.words }
+        ensures moments { reader.new.moments ≡ reader.old.moments }
         ensures reads { reader.new.reads ≡ reader.old.reads + result }
     {
         let Some(entry) = self.current else {

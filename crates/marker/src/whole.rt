@@ -1,7 +1,7 @@
 //! Objects that are read whole, one after the other. Most are small and their entries were pushed in the same step, so that
 //! a step spends its time here.
 ghost use Rattle.std.specs.Prelude.{◌≡◌, ℕ, ◌+◌, ◌*◌, ◌<◌, ◌≤◌, ◌++◌, ◌∷◌, [], List, length, true, IfSome, Some};
-ghost use Rattle.words.specs.declared.limits.TheConstants.{MAX_PAGES, PAGE_BYTES, PAGE_WORDS};
+ghost use Rattle.words.specs.declared.limits.TheConstants.{MOST_PAGES, PAGE_BYTES, PAGE_WORDS};
 ghost use Rattle.words.specs.Layout.{page_of};
 ghost use Rattle.block_map.specs.Objects.{IsPlaced};
 ghost use Rattle.block_map.specs.FoundIn.{found_in, IsLawful};
@@ -72,13 +72,14 @@ impl Marker {
         requires bytes { heap_bytes ≡ PAGE_BYTES * length map.now }
         requires top { IsOnTop (found_in map.now) self.old found }
         requires done { (e : Entry) → self.old.current ≡ Some e → IsSpent (found_in map.now) self.old e }
-        requires placed { IsPlaced (length map.now) found × (length map.now ≤ MAX_PAGES) }
+        requires placed { IsPlaced (length map.now) found × (length map.now ≤ MOST_PAGES) }
         requires one_page { (i : ℕ) → 0 ≤ i → i < 0 + found.len → page_of (word_address found i) ≡ page_of (word_address found 0) }
         requires memory { length reader.old.words ≡ PAGE_WORDS * length map.now }
-        ensures read { ReadsNext (found_in map.now) reader.old.words found.len self.old self.new }
+        ensures read { ReadsNext (found_in map.now) reader.old.moments found.len self.old self.new }
         ensures done { (e : Entry) → self.new.current ≡ Some e → IsSpent (found_in map.now) self.new e }
         ensures known { (n : ℕ) → AreUnreadFrom (found_in map.now) self.old n self.old.stack → AreUnreadFrom (found_in map.now) self.new n self.new.stack }
         ensures words { reader.new.words ≡ reader.old.words }
+        ensures moments { reader.new.moments ≡ reader.old.moments }
         ensures reads { reader.new.reads ≡ reader.old.reads + found.len }
     {
         self.laws();
@@ -107,11 +108,12 @@ impl Marker {
         requires memory { length reader.old.words ≡ PAGE_WORDS * length map.now }
         requires known { AreUnreadFrom (found_in map.now) self.old known self.old.stack }
         requires done { (e : Entry) → self.old.current ≡ Some e → IsSpent (found_in map.now) self.old e }
-        ensures takes { Takes (found_in map.now) reader.old.words self.old result self.new }
+        ensures takes { Takes (found_in map.now) reader.old.moments self.old result self.new }
         ensures known { AreUnreadFrom (found_in map.now) self.new known self.new.stack }
         ensures done { (e : Entry) → self.new.current ≡ Some e → IsSpent (found_in map.now) self.new e }
         ensures most { result ≤ most }
         ensures words { reader.new.words ≡ reader.old.words }
+        ensures moments { reader.new.moments ≡ reader.old.moments }
         ensures reads { reader.new.reads ≡ reader.old.reads + result }
     {
         self.laws();

@@ -1,12 +1,12 @@
 -- What it is to the heap that a cell is taken, that a page is cut, and that a run of pages becomes a large object.
 use Rattle.std.proofs.Common.{◌≡◌, ℕ, ◌+◌, ◌*◌, ◌/◌, ◌<◌, ◌≤◌, ◌⊎◌, Bool, true, false, List, length, get_or, set, replicate, Option, Some, refl, sym, ap, ◌∙◌, subst, arith, inl, inr, ⊎_elim, length-set, get_or-set_same, get_or-set_other}
 use Rattle.std.specs.Prelude.{◌≢◌, ◌==◌, if◌then◌else◌}
-use Rattle.std.proofs.lemmas.Bool.{cases_lt, cases_eq, true≢false}
+use Rattle.std.proofs.lemmas.Bool.{cases_lt, cases_eq}
 use Rattle.std.proofs.lemmas.List.{get_or-replicate, length-replicate}
 use Rattle.words.specs.declared.limits.TheConstants.{PAGE_WORDS}
 use Rattle.words.specs.declared.class.Kind.{Kind}
 use Rattle.words.specs.declared.class.Placement.TheVariants.{Small, Large}
-use Rattle.words.specs.Bits.{Has, IsFirstClearFrom}
+use Rattle.words.specs.Bits.{Has}
 use Rattle.words.specs.Classes.{IsSizeClass}
 use Rattle.words.specs.Layout.{page_start}
 use Rattle.heap_spec.specs.Heap.{Object}
@@ -16,14 +16,16 @@ use Rattle.pages.specs.Runs.{IsFreeRun, HasNoFreeRun, IsFilled}
 use Rattle.blocks.specs.Cells.{Cells, IsCells}
 use Rattle.blocks.proofs.Places.{class_bounds}
 use Rattle.block_map.specs.States.{PageState, free, cut, head, body, state_at, IsCut, LaidAt, IsLaid, IsSpanSet, HasCell, all_free, with_cell, large_states}
-use Rattle.block_map.specs.FreeCells.{IsFirstFree}
+use Rattle.block_map.specs.Listed.{first_object, first_on, link_on, with_taken, AreListed, HasFirst, IsListedOn}
 use Rattle.block_map.specs.Objects.{cell_object, large_object, object_on, IsMap, IsPlaced}
 use Rattle.block_map.specs.Changes.{IsAdded, IsSameMap}
 use Rattle.block_map.specs.FoundIn.{found_in, IsLawful}
 use Rattle.block_map.specs.declared.found.Found.{Found}
 use Rattle.block_map.proofs.Laid.{laid_block, laid_cell, laid_large}
 use Rattle.block_map.proofs.Lawful.{map_laws}
-use Rattle.block_map.proofs.Taking.{first_is_free}
+use Rattle.block_map.proofs.Listed.{listed_span}
+use Rattle.block_map.proofs.Unread.{listed_zeroed}
+use Rattle.marker.proofs.Keeping.{page_kept}
 use Rattle.block_map.proofs.Spans.{place_of}
 use Rattle.object_space.specs.Store.{Store, HasSoundPages, Agree, IsPendingRow}
 use Rattle.heap_view.specs.Shows.{Shows}
@@ -78,7 +80,7 @@ module _ (t : Store) (laid : IsLaid t.states) (lawful : IsLawful t.states) (clas
   cells = subst (LaidAt t.states page) place_is.is_cut (laid.each page place_is.inside)
 
   taken_laid : IsLaid states'
-  taken_laid = subst IsLaid (sym takes.became) (laid_cell t.states page cell false true laid place_is.inside (subst (λ st. HasCell st cell false) (sym place_is.is_cut) (place_is.in_row, place_is.is_free)))
+  taken_laid = subst IsLaid (sym takes.became) (laid_cell t.states page cell false true takes.next laid place_is.inside (subst (λ st. HasCell st cell false) (sym place_is.is_cut) (place_is.in_row, place_is.is_free)))
 
   some : 0 < f.len
   unfolding f
@@ -111,8 +113,11 @@ module _ (t : Store) (laid : IsLaid t.states) (lawful : IsLawful t.states) (clas
       zeroed_here : IsZeroed t.words words' (word_index f.base) f.len
       zeroed_here = subst (λ b. IsZeroed t.words words' (word_index b) (object_on page (state_at t.states page) cell).len) takes.at takes.zeroed
 
-  after_state : state_at states' page ≡ cut (record place_is.block { taken = set place_is.block.taken cell true })
-  after_state = ap (λ x. state_at x page) takes.became ∙ get_or-set_same t.states page _ free place_is.inside ∙ ap (λ st. with_cell st cell true) place_is.is_cut
+  abbrev next : ℕ
+  next = takes.next
+
+  after_state : state_at states' page ≡ cut (record place_is.block { taken = set place_is.block.taken cell true; first = next })
+  after_state = ap (λ x. state_at x page) takes.became ∙ get_or-set_same t.states page _ free place_is.inside ∙ ap (λ st. with_cell st cell true next) place_is.is_cut
 
   other_state : (p : ℕ) → p ≢ page → state_at states' p ≡ state_at t.states p
   other_state p ne = ap (λ x. state_at x p) takes.became ∙ get_or-set_other t.states page p _ free ne
@@ -142,13 +147,13 @@ module _ (t : Store) (laid : IsLaid t.states) (lawful : IsLawful t.states) (clas
       not_free : cut place_is.block ≡ free → ⊥
       not_free e = cc
 
-      cut_free : cut (record place_is.block { taken = set place_is.block.taken cell true }) ≡ free → ⊥
+      cut_free : cut (record place_is.block { taken = set place_is.block.taken cell true; first = next }) ≡ free → ⊥
       cut_free e = cc
 
       same_cells : (a b : Cells) → cut a ≡ cut b → a ≡ b
       same_cells a b e = cc
 
-      here : (b : Cells) → cut (record place_is.block { taken = set place_is.block.taken cell true }) ≡ cut b → (i : ℕ) × (get_or b.taken i false ≡ true)
+      here : (b : Cells) → cut (record place_is.block { taken = set place_is.block.taken cell true; first = next }) ≡ cut b → (i : ℕ) × (get_or b.taken i false ≡ true)
       here b e = (cell, ap (λ (x : Cells). get_or x.taken cell false) (sym (same_cells _ b e)) ∙ get_or-set_same place_is.block.taken cell true false place_is.in_row)
 
 -- a free cell of a page that was cut already
@@ -175,8 +180,8 @@ pub gains_cell : (t : Store) (class : ℕ) (kind : Kind) (page cell base : ℕ) 
 gains_cell t class kind page cell base words' states' laid lawful at takes swept = taken_gains t laid lawful class kind page cell base words' states' at takes swept
 
 -- a page that was free is cut, and its first cell is taken
-module _ (t : Store) (sound : HasSoundPages t) (laid : IsLaid t.states) (lawful : IsLawful t.states) (class : ℕ) (kind : Kind) (is_class : IsSizeClass class) (page : ℕ) (free' : List Bool)
-    (states' : List PageState) (cuts : CutsPage t.free free' t.states states' class kind page) where
+module _ (t : Store) (sound : HasSoundPages t) (laid : IsLaid t.states) (lawful : IsLawful t.states) (class : ℕ) (kind : Kind) (is_class : IsSizeClass class) (page : ℕ) (words : List ℕ) (free' : List Bool)
+    (states' : List PageState) (cuts : CutsPage t.words words t.free free' t.states states' class kind page) where
   was_free : state_at t.states page ≡ free
   was_free = sound.agree.free_in_map page (cuts.run.free page (omega arith) (omega arith))
 
@@ -184,7 +189,7 @@ module _ (t : Store) (sound : HasSoundPages t) (laid : IsLaid t.states) (lawful 
   inside = let fits = cuts.run.inside in let size = sound.agree.size in omega arith
 
   abbrev pub with_cut : Store
-  with_cut = record t { free = free'; states = states' }
+  with_cut = record t { words = words; free = free'; states = states' }
 
   pub cut_laid : IsLaid states'
   cut_laid = subst IsLaid (sym cuts.became) (laid_block t.states page class kind laid inside was_free (record { class = is_class; size = length-replicate (PAGE_WORDS / class) false }))
@@ -200,7 +205,7 @@ module _ (t : Store) (sound : HasSoundPages t) (laid : IsLaid t.states) (lawful 
 
   pub first_cell : IsFreeCell states' class kind page 0
   first_cell = record {
-    block = record { class = class; kind = kind; taken = replicate (PAGE_WORDS / class) false };
+    block = record { class = class; kind = kind; taken = replicate (PAGE_WORDS / class) false; first = 0 };
     inside = let z = size in let lt = inside in omega arith;
     is_cut = here;
     of_class = refl;
@@ -209,15 +214,8 @@ module _ (t : Store) (sound : HasSoundPages t) (laid : IsLaid t.states) (lawful 
     is_free = get_or-replicate (PAGE_WORDS / class) 0 false false (let b = class_bounds class is_class in cell_below class 0 (omega arith) (omega arith));
   }
 
-  -- the lowest free one
-  pub first_is : (cell : ℕ) → IsFirstFree (state_at states' page) cell → cell ≡ 0
-  first_is cell first = ⊎_elim
-      (λ (some : 0 < cell). absurd (true≢false (sym (all.least 0 (omega arith) some) ∙ get_or-replicate (PAGE_WORDS / class) 0 false false (let b = class_bounds class is_class in cell_below class 0 (omega arith) (omega arith)))))
-      (λ none. omega arith)
-      (cases_lt 0 cell)
-    where
-      all : IsFirstClearFrom (replicate (PAGE_WORDS / class) false) 0 cell
-      all = subst (λ st. IsFirstFree st cell) here first
+  pub first_is : first_on (state_at states' page) ≡ 0
+  first_is = ap first_on here
 
   cut_agree : Agree free' states'
   cut_agree = record {
@@ -238,7 +236,7 @@ module _ (t : Store) (sound : HasSoundPages t) (laid : IsLaid t.states) (lawful 
       cut_free : all_free class kind ≡ free → ⊥
       cut_free e = cc
 
-  module _ (base : ℕ) (words' : List ℕ) (states'' : List PageState) (takes : TakesCell t.words words' states' states'' page 0 base) (row : IsPendingRow t) where
+  module _ (base : ℕ) (words' : List ℕ) (states'' : List PageState) (takes : TakesCell words words' states' states'' page 0 base) (row : IsPendingRow t) where
     pub allocates_page : HasRoomAt t (Small class) kind base
     allocates_page keep s stores =
         subst (HasSmallRoom s class kind) same (room_of_page keep t s sound laid lawful stores class kind page (let b = class_bounds class is_class in omega arith) inside was_free)
@@ -264,7 +262,7 @@ module _ (t : Store) (sound : HasSoundPages t) (laid : IsLaid t.states) (lawful 
           found = g.found;
           added = record { before = λ w r. sym (cuts.same.same w) ∙ g.added.before w r; after = g.added.after; others = λ w n. g.added.others w n ∙ cuts.same.same w };
           zeroed = g.zeroed;
-          words = λ f i there lt. g.words f i (cuts.same.same f.base ∙ there) lt;
+          words = λ f i there lt. g.words f i (cuts.same.same f.base ∙ there) lt ∙ page_kept (length t.states) t.states t.words words page lawful.map was_free cuts.changes f i there lt;
         }
 
     pub sound_page : HasSoundPages (record t { words = words'; free = free'; states = states'' })
@@ -305,6 +303,15 @@ module _ (t : Store) (sound : HasSoundPages t) (laid : IsLaid t.states) (lawful 
       placed : IsPlaced (length states') (large_object first n kind)
       placed = (map_laws states' (laid_large t.states states' first n kind laid some_pages was span)).map.placed (page_start first) (large_object first n kind) (added.after (page_start first) (record { from = omega arith; below = omega arith }))
 
+  pub listed_large : ((k : ℕ) → first ≤ k → k < first + n → state_at t.states k ≡ free) → AreListed t.words t.states → AreListed words' states'
+  listed_large was listed = listed_zeroed t.words states' (laid_large t.states states' first n kind laid some_pages was span) words' (large_object first n kind)
+      (added.after (page_start first) (record { from = omega arith; below = omega arith })) zeroed
+      (listed_span t.words t.states states' first n (large_states first n kind) span (λ k. uncut (k == first) k) listed)
+    where
+      uncut : (b : Bool) (k : ℕ) → IsListedOn t.words k (if b then head n kind else body first)
+      uncut true k = tt
+      uncut false k = tt
+
   large_not_free : (b : Bool) → (if b then head n kind else body first) ≡ free → ⊥
   large_not_free true e = cc
   large_not_free false e = cc
@@ -336,16 +343,16 @@ module _ (t : Store) (sound : HasSoundPages t) (laid : IsLaid t.states) (lawful 
 pub no_room_large : (t : Store) (n : ℕ) (kind : Kind) → HasSoundPages t → IsLaid t.states → IsLawful t.states → HasNoFreeRun t.free n → HasNoRoom t (Large n) kind
 no_room_large t n kind sound laid lawful none s stores a = no_large_room (λ _. true) t s sound laid lawful stores (λ g. refl) n none a
 
--- the lowest free cell of a page was taken for an object
-module _ (words : List ℕ) (states states' : List PageState) (page : ℕ) (f : Found) (laid : IsLaid states) (inside : page < length states) (first : IsFirstFree (state_at states page) f.cell)
-    (became : states' ≡ set states page (with_cell (state_at states page) f.cell true)) (added : IsAdded (found_in states) (found_in states') f) (is : f ≡ object_on page (state_at states page) f.cell) where
+-- the first free cell of a page was taken for an object
+module _ (words : List ℕ) (states states' : List PageState) (page : ℕ) (f : Found) (laid : IsLaid states) (inside : page < length states) (first : HasFirst (state_at states page))
+    (became : states' ≡ set states page (with_taken words page (state_at states page))) (added : IsAdded (found_in states) (found_in states') f) (is : f ≡ first_object page (state_at states page)) where
   first_laid : IsLaid states'
-  first_laid = subst IsLaid (sym became) (laid_cell states page f.cell false true laid inside (first_is_free (state_at states page) f.cell first))
+  first_laid = subst IsLaid (sym became) (laid_cell states page (first_on (state_at states page)) false true (link_on words page (state_at states page) (first_on (state_at states page))) laid inside first)
 
   first_found : found_in states' f.base ≡ Some f
   first_found = added.after f.base (let long = some in record { from = omega arith; below = omega arith })
     where
-      by : (st : PageState) → IsFirstFree st f.cell → LaidAt states page st → 0 < (object_on page st f.cell).len
+      by : (st : PageState) → HasFirst st → LaidAt states page st → 0 < (first_object page st).len
       by free has laid = absurd has
       by (cut b) has laid = let low = (class_bounds b.class laid.class).0 in omega arith
       by (head n k) has laid = absurd has
@@ -355,17 +362,19 @@ module _ (words : List ℕ) (states states' : List PageState) (page : ℕ) (f : 
       some = subst (λ (x : Found). 0 < x.len) (sym is) (by (state_at states page) first (laid.each page inside))
 
   -- its words are the memory's
-  pub first_words : length words ≡ PAGE_WORDS * length states → IsWordAddress words f.base × (word_index f.base + f.len ≤ length words)
-  first_words long =
+  pub first_words : AreListed words states' → IsWordAddress words f.base × (word_index f.base + f.len ≤ length words)
+  first_words listed =
       let placed = (map_laws states' first_laid).map.placed f.base f first_found in
-      let aligned = placed.aligned in let above = placed.above in let below = placed.below in let some = placed.some in
-      let size : length states' ≡ length states = ap length became ∙ length-set states page _ in
+      let aligned = placed.aligned in let above = placed.above in let below = placed.below in let some = placed.some in let long = listed.size in
       (record { aligned = omega arith; above = omega arith; below = omega arith }, omega arith)
 
-  -- and they become 0
-  pub takes_first : (words' : List ℕ) → IsZeroed words words' (word_index f.base) f.len → TakesCell words words' states states' page f.cell f.base
+  -- and while they become 0 the lists stay
+  pub first_zeroed : (words' : List ℕ) → IsZeroed words words' (word_index f.base) f.len → AreListed words states' → AreListed words' states'
+  first_zeroed words' zeroed listed = listed_zeroed words states' first_laid words' f first_found zeroed listed
+
+  pub takes_first : (words' : List ℕ) → IsZeroed words words' (word_index f.base) f.len → TakesCell words words' states states' page (first_on (state_at states page)) f.base
   takes_first words' zeroed = record {
-    first = first;
+    next = link_on words page (state_at states page) (first_on (state_at states page));
     became = became;
     added = subst (IsAdded (found_in states) (found_in states')) is added;
     at = ap (λ (x : Found). x.base) is;

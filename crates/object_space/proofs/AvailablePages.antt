@@ -11,7 +11,8 @@ use Rattle.words.specs.Classes.{IsSizeClass}
 use Rattle.blocks.specs.Cells.{Cells}
 use Rattle.blocks.proofs.Places.{class_bounds}
 use Rattle.block_map.specs.States.{PageState, free, cut, head, body, state_at, HasCell, IsSpanSet, IsCut, IsBlockFor, all_free, with_cell, large_states, LaidAt, IsLaid}
-use Rattle.block_map.specs.FreeCells.{HasFree, IsFullOn}
+use Rattle.block_map.specs.FreeCells.{IsFullOn}
+use Rattle.block_map.specs.Listed.{HasFirst}
 use Rattle.block_map.proofs.Seen.{within}
 use Rattle.block_map.proofs.Spans.{place_of}
 use Rattle.object_space.specs.AvailableRows.{row_of, HasFreeCell, IsAvailable, IsReadyPage, IsWaitingPage, IsExact, AreReady, AreWaiting, IsBitSet}
@@ -276,13 +277,13 @@ available_cell states class kind page cell has is_free = by (state_at states pag
     by (body q) is has at = absurd has
 
 -- a cell is taken
-module _ (rows rows' : List (List Bool)) (states states' : List PageState) (row : List Bool) (class : ℕ) (kind : Kind) (page cell : ℕ) (exact : AreReady rows states row) (is_class : IsSizeClass class)
-    (swept : Has row page → ⊥) (at : IsFreeCell states class kind page cell) (became : states' ≡ set states page (with_cell (state_at states page) cell true)) where
+module _ (rows rows' : List (List Bool)) (states states' : List PageState) (row : List Bool) (class : ℕ) (kind : Kind) (page cell next : ℕ) (exact : AreReady rows states row) (is_class : IsSizeClass class)
+    (swept : Has row page → ⊥) (at : IsFreeCell states class kind page cell) (became : states' ≡ set states page (with_cell (state_at states page) cell true next)) where
   abbrev pub filled : Cells
-  filled = record at.block { taken = set at.block.taken cell true }
+  filled = record at.block { taken = set at.block.taken cell true; first = next }
 
   pub taken_state : state_at states' page ≡ cut filled
-  taken_state = ap (λ x. state_at x page) became ∙ get_or-set_same states page _ free at.inside ∙ ap (λ st. with_cell st cell true) at.is_cut
+  taken_state = ap (λ x. state_at x page) became ∙ get_or-set_same states page _ free at.inside ∙ ap (λ st. with_cell st cell true next) at.is_cut
 
   pub taken_size : length states' ≡ length states
   taken_size = ap length became ∙ length-set states page _
@@ -304,15 +305,15 @@ module _ (rows rows' : List (List Bool)) (states states' : List PageState) (row 
       (λ e. absurd (true≢false (sym e)))
       (λ has. absurd (available_not_full (state_at states' page) class kind has.0 full))
 
-  pub exact_taken : HasFree (state_at states' page) → AreReady rows states' row
+  pub exact_taken : HasFirst (state_at states' page) → AreReady rows states' row
   exact_taken has = ready_changed rows rows states states' row row class kind page true
       (same_bit rows class kind page true (exact.entered class kind page is_class (free_cell_offers states class kind page cell at, swept)))
       taken_size taken_other (λ p ne. refl) exact opens_before opens_after
-      (λ _. (subst (λ st. IsAvailable st class kind) (sym taken_state) (first_of (subst HasFree taken_state has)), swept))
+      (λ _. (subst (λ st. IsAvailable st class kind) (sym taken_state) (first_of (subst HasFirst taken_state has)), swept))
       (λ _. refl)
     where
-      first_of : HasFree (cut filled) → HasFreeCell filled class kind
-      first_of first = record { of_class = at.of_class; of_kind = at.of_kind; cell = first.0; in_row = first.1.inside; is_free = first.1.clear }
+      first_of : HasFirst (cut filled) → HasFreeCell filled class kind
+      first_of first = record { of_class = at.of_class; of_kind = at.of_kind; cell = next; in_row = first.0; is_free = first.1 }
 
 -- a free page is cut
 module _ (rows rows' : List (List Bool)) (states states' : List PageState) (row : List Bool) (class : ℕ) (kind : Kind) (page : ℕ) (exact : AreReady rows states row) (is_class : IsSizeClass class)
@@ -320,7 +321,7 @@ module _ (rows rows' : List (List Bool)) (states states' : List PageState) (row 
   pub cut_inside : page < length (row_of rows class kind)
   cut_inside = let long = exact.long class kind is_class in omega arith
 
-  first_free : HasFreeCell (record { class = class; kind = kind; taken = replicate (PAGE_WORDS / class) false }) class kind
+  first_free : HasFreeCell (record { class = class; kind = kind; taken = replicate (PAGE_WORDS / class) false; first = 0 }) class kind
   first_free =
       let b = class_bounds class is_class in
       let some : 0 < PAGE_WORDS / class = cell_below class 0 (omega arith) (omega arith) in
@@ -333,7 +334,7 @@ module _ (rows rows' : List (List Bool)) (states states' : List PageState) (row 
       (λ p ne. ap (λ x. state_at x p) became ∙ get_or-set_other states page p _ free ne)
       (λ p ne. refl) exact
       (subst (λ st. OffersOnly st class kind) (sym was) (free_offers class kind))
-      (subst (λ st. OffersOnly st class kind) (sym now) (cut_offers (record { class = class; kind = kind; taken = replicate (PAGE_WORDS / class) false })))
+      (subst (λ st. OffersOnly st class kind) (sym now) (cut_offers (record { class = class; kind = kind; taken = replicate (PAGE_WORDS / class) false; first = 0 })))
       (λ _. (subst (λ st. IsAvailable st class kind) (sym now) first_free, λ h. subst IsCut was (cuts page h)))
       (λ _. refl)
 

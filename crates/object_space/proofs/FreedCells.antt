@@ -6,14 +6,16 @@ use Rattle.words.specs.Bits.{Has}
 use Rattle.words.specs.declared.class.Kind.{Kind}
 use Rattle.words.specs.Classes.{IsSizeClass}
 use Rattle.blocks.specs.Cells.{Cells}
-use Rattle.block_map.specs.States.{PageState, free, cut, head, body, state_at, HasCell, IsSpanSet, IsBlockFor, with_cell, span_of}
+use Rattle.block_map.specs.States.{PageState, free, cut, head, body, state_at, HasCell, IsSpanSet, IsBlockFor, span_of}
+use Rattle.blocks.specs.Lists.{first_after_put}
 use Rattle.block_map.specs.FreeCells.{HasFree}
+use Rattle.block_map.specs.Listed.{with_put}
 use Rattle.object_space.specs.AvailableRows.{row_of, HasFreeCell, IsAvailable, IsWaitingPage, AreReady, AreWaiting, IsBitSet}
 use Rattle.object_space.proofs.AvailablePages.{BlockOnly, OffersOnly, cut_block, cut_offers, exact_same, free_block, free_offers, ready_changed, same_bit, waiting_changed}
 
 -- a cell is freed
 module _ (rows rows' : List (List Bool)) (states mid : List PageState) (row : List Bool) (page cell : ℕ) (b : Cells) (exact : AreReady rows states row) (inside : page < length states)
-    (at : HasCell (state_at states page) cell true) (became : mid ≡ set states page (with_cell (state_at states page) cell false)) (is : state_at mid page ≡ cut b) (is_class : IsSizeClass b.class) where
+    (at : HasCell (state_at states page) cell true) (became : mid ≡ set states page (with_put (state_at states page) cell)) (is : state_at mid page ≡ cut b) (is_class : IsSizeClass b.class) where
   -- the block as it was
   abbrev WasCut : Type 0
   WasCut = (a : Cells) × (state_at states page ≡ cut a) × (a.class ≡ b.class) × (a.kind ≡ b.kind) × (cell < length b.taken) × (get_or b.taken cell false ≡ false)
@@ -21,16 +23,16 @@ module _ (rows rows' : List (List Bool)) (states mid : List PageState) (row : Li
   was_cut : WasCut
   was_cut = by (state_at states page) refl at (sym is ∙ ap (λ x. state_at x page) became ∙ get_or-set_same states page _ free inside)
     where
-      by : (st : PageState) → state_at states page ≡ st → HasCell st cell true → cut b ≡ with_cell st cell false → WasCut
+      by : (st : PageState) → state_at states page ≡ st → HasCell st cell true → cut b ≡ with_put st cell → WasCut
       by free e has same = absurd has
-      by (cut a) e has same = of a (record a { taken = set a.taken cell false }) e has refl (one b (record a { taken = set a.taken cell false }) same)
+      by (cut a) e has same = of a (record a { taken = set a.taken cell false; first = first_after_put a.first cell }) e has refl (one b (record a { taken = set a.taken cell false; first = first_after_put a.first cell }) same)
         where
           one : (x y : Cells) → cut x ≡ cut y → x ≡ y
           one x y q = cc
 
-          of : (a d : Cells) → state_at states page ≡ cut a → (cell < length a.taken) × (get_or a.taken cell false ≡ true) → d ≡ record a { taken = set a.taken cell false } → b ≡ d → WasCut
+          of : (a d : Cells) → state_at states page ≡ cut a → (cell < length a.taken) × (get_or a.taken cell false ≡ true) → d ≡ record a { taken = set a.taken cell false; first = first_after_put a.first cell } → b ≡ d → WasCut
           of a d e has q same =
-              let whole : b ≡ record a { taken = set a.taken cell false } = same ∙ q in (
+              let whole : b ≡ record a { taken = set a.taken cell false; first = first_after_put a.first cell } = same ∙ q in (
                 a,
                 e,
                 sym (ap (λ (x : Cells). x.class) whole),
@@ -81,7 +83,7 @@ module _ (rows rows' : List (List Bool)) (states mid : List PageState) (row : Li
       (λ _. refl)
     where
       first_of : (a : Cells) → a.class ≡ b.class → a.kind ≡ b.kind → HasFree (cut a) → HasFreeCell a b.class b.kind
-      first_of a c k first = record { of_class = c; of_kind = k; cell = first.0; in_row = first.1.inside; is_free = first.1.clear }
+      first_of a c k first = record { of_class = c; of_kind = k; cell = first.0; in_row = first.1.0; is_free = first.1.1 }
 
   -- a pending page is not ready, whatever cells it has
   pub exact_unswept : Has row page → AreReady rows mid row

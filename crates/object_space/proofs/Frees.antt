@@ -7,14 +7,19 @@ use Rattle.std.proofs.lemmas.List.{get_or_past}
 use Rattle.words.specs.declared.limits.TheConstants.{FIRST_ADDRESS, PAGE_BYTES, PAGE_WORDS}
 use Rattle.words.specs.Bits.{IsEmptyFrom, IsFirstFrom}
 use Rattle.words.specs.declared.class.Kind.{Kind}
+use Rattle.pages.specs.Memory.{with_word_at}
 use Rattle.pages.specs.Runs.{IsFilled}
 use Rattle.blocks.specs.Cells.{Cells}
-use Rattle.block_map.specs.States.{PageState, free, cut, head, body, state_at, span_of, IsCut, IsSpanSet, HasCell, with_cell}
+use Rattle.blocks.specs.Lists.{first_after_put}
+use Rattle.block_map.specs.Listed.{with_put}
+use Rattle.block_map.specs.States.{PageState, free, cut, head, body, state_at, span_of, IsCut, IsSpanSet, HasCell}
 use Rattle.block_map.specs.Objects.{cell_object, large_object, object_on, IsObjectOn, IsObject}
 use Rattle.block_map.specs.Changes.{IsRemoved, IsSameMap, IsUncut, HasNoObject}
 use Rattle.block_map.specs.FoundIn.{found_in, IsLawful}
 use Rattle.block_map.specs.declared.found.Found.{Found}
 use Rattle.block_map.proofs.Spans.{place_of}
+use Rattle.marker.specs.Mutations.{KeepsWords}
+use Rattle.marker.proofs.Keeping.{written_kept}
 use Rattle.object_space.specs.Store.{Store, HasSoundPages, Agree, KeepsPending, IsPendingRow}
 use Rattle.object_space.specs.Rooms.{FreesCell, EmptiesCell, keeps, gives, without_cell}
 use Rattle.object_space.specs.Sweeps.{Loses}
@@ -49,12 +54,12 @@ sound_large_gone t row' states' first n sound given span = record {
 
 -- a cell of a page that keeps another object
 module _ (t : Store) (sound : HasSoundPages t) (page cell : ℕ) (b : Cells) (is : state_at t.states page ≡ cut b) (inside : page < length t.states) (states' : List PageState)
-    (put : states' ≡ set t.states page (with_cell (state_at t.states page) cell false)) where
+    (put : states' ≡ set t.states page (with_put (state_at t.states page) cell)) where
   abbrev pub emptied : Cells
-  emptied = record b { taken = set b.taken cell false }
+  emptied = record b { taken = set b.taken cell false; first = first_after_put b.first cell }
 
   pub state_after : state_at states' page ≡ cut emptied
-  state_after = ap (λ x. state_at x page) put ∙ get_or-set_same t.states page _ free inside ∙ ap (λ st. with_cell st cell false) is
+  state_after = ap (λ x. state_at x page) put ∙ get_or-set_same t.states page _ free inside ∙ ap (λ st. with_put st cell) is
 
   other : (p : ℕ) → p ≢ page → state_at states' p ≡ state_at t.states p
   other p ne = ap (λ x. state_at x p) put ∙ get_or-set_other t.states page p _ free ne
@@ -148,17 +153,11 @@ module _ (t : Store) (sound : HasSoundPages t) (page cell : ℕ) (b : Cells) (is
   size_freed (gives given span) = span.size ∙ length-set t.states page _
 
 -- and the store has lost its object
-pub loses_cell : (t : Store) (page cell : ℕ) (b : Cells) → state_at t.states page ≡ cut b → (row' : List Bool) (states' : List PageState) (pending' : List Bool) (f : Found) → f ≡ cell_object page b cell
-    → FreesCell t.free row' t.states states' page cell → KeepsPending page t.states states' t.pending pending' → Loses t f (record t { free = row'; states = states'; pending = pending' })
-loses_cell t page cell b is row' states' pending' f same freed keeps_row = record {
-  words = λ g i now lt. refl;
-  pages = size freed.pages;
-  removed = subst (IsRemoved (found_in t.states) (found_in states')) object freed.removed;
-  row_size = keeps_row.size;
-  rest = λ p ne. keeps_row.rest p (λ e. ne (e ∙ sym (ap (λ (x : Found). x.page) same)));
-  fewer = keeps_row.less;
-  pending = keeps_row.same;
-}
+pub loses_cell : (t : Store) (page cell : ℕ) (b : Cells) → state_at t.states page ≡ cut b → page < length t.states → (words' : List ℕ) (v : ℕ) (row' : List Bool) (states' : List PageState) (pending' : List Bool) (f : Found) → f ≡ cell_object page b cell
+    → IsLawful t.states → found_in t.states f.base ≡ Some f → words' ≡ with_word_at t.words (object_on page (state_at t.states page) cell).base v → FreesCell t.free row' t.states states' page cell → KeepsPending page t.states states' t.pending pending'
+    → Loses t f (record { words = words'; free = row'; states = states'; pending = pending' })
+loses_cell t page cell b is inside words' v row' states' pending' f same lawful found written freed keeps_row =
+    record { words = subst (KeepsWords (found_in states') t.words) (sym wrote) (written_kept (length t.states) (found_in t.states) (found_in states') t.words v f lawful.map found removed); pages = size freed.pages; removed = removed; row_size = keeps_row.size; rest = λ p ne. keeps_row.rest p (λ e. ne (e ∙ sym (ap (λ (x : Found). x.page) same))); fewer = keeps_row.less; pending = keeps_row.same }
   where
     size : EmptiesCell t.free row' t.states states' page cell → length states' ≡ length t.states
     size (keeps c i at bit row became) = ap length became ∙ length-set t.states page _
@@ -166,6 +165,12 @@ loses_cell t page cell b is row' states' pending' f same freed keeps_row = recor
 
     object : object_on page (state_at t.states page) cell ≡ f
     object = ap (λ st. object_on page st cell) is ∙ sym same
+
+    removed : IsRemoved (found_in t.states) (found_in states') f
+    removed = subst (IsRemoved (found_in t.states) (found_in states')) object freed.removed
+
+    wrote : words' ≡ with_word_at t.words f.base v
+    wrote = written ∙ ap (λ (x : Found). with_word_at t.words x.base v) object
 
 -- what is on the page of an object that is found
 pub on_page : (t : Store) (f : Found) → IsLawful t.states → found_in t.states f.base ≡ Some f → IsObject t.states f

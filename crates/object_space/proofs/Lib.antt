@@ -22,6 +22,8 @@ pub mod Counting
 pub mod Forgets
 pub mod FreePages
 pub mod SweptCells
+pub mod Linked
 pub mod Putting
 pub mod Along
 pub mod Many
+pub mod Freed

@@ -2,6 +2,7 @@
 use Rattle.std.proofs.Common.{◌≡◌, ℕ, ◌*◌, ◌≤◌, List, length, Some, None, sym, ap, ◌∙◌, subst}
 use Rattle.heap_spec.specs.Heap.{opening}
 use Rattle.block_map.specs.States.{PageState, AreFreePages}
+use Rattle.block_map.specs.Listed.{AreListed, IsListedOn}
 use Rattle.block_map.specs.Objects.{IsObjectOn}
 use Rattle.block_map.specs.FoundIn.{found_in}
 use Rattle.block_map.specs.declared.found.Found.{Found}
@@ -9,7 +10,7 @@ use Rattle.block_map.proofs.Laid.{laid_free}
 use Rattle.block_map.proofs.Lawful.{map_laws}
 use Rattle.object_space.specs.Store.{Store}
 use Rattle.std.specs.Prelude.{Bool}
-use Rattle.words.specs.declared.limits.TheConstants.{MAX_PAGES, PAGE_WORDS}
+use Rattle.words.specs.declared.limits.TheConstants.{MOST_PAGES, PAGE_WORDS}
 use Rattle.object_space.proofs.Kept.{kept_cases}
 use Rattle.object_space.specs.Stores.{Stores}
 
@@ -17,7 +18,7 @@ none_some : {A : Type 0} (x : A) → None ≡ Some x → ⊥
 none_some x e = cc
 
 -- all pages are free, so there is no object
-pub opens : (t : Store) (pages : ℕ) → AreFreePages t.states pages → pages ≤ MAX_PAGES → (keep : Found → Bool) → Stores keep t (opening pages)
+pub opens : (t : Store) (pages : ℕ) → AreFreePages t.states pages → pages ≤ MOST_PAGES → (keep : Found → Bool) → Stores keep t (opening pages)
 opens t pages all few keep = record {
   pages = sym all.size;
   shows = record {
@@ -33,6 +34,9 @@ opens t pages all few keep = record {
     nothing : (f : Found) → found_in t.states f.base ≡ Some f → ⊥
     nothing f is = subst (λ st. IsObjectOn st f) (all.each f.page) ((map_laws t.states (laid_free t.states pages all few)).object f.base f is).on
 
--- the memory has the words of its pages
-pub long_free : (words : List ℕ) (states : List PageState) (pages : ℕ) → AreFreePages states pages → length words ≡ PAGE_WORDS * pages → length words ≡ PAGE_WORDS * length states
-long_free words states pages all size = size ∙ ap (λ n. PAGE_WORDS * n) (sym all.size)
+-- no page is cut, so there is no list
+pub listed_free : (words : List ℕ) (states : List PageState) (pages : ℕ) → AreFreePages states pages → length words ≡ PAGE_WORDS * pages → AreListed words states
+listed_free words states pages all size = record {
+  size = size ∙ ap (λ n. PAGE_WORDS * n) (sym all.size);
+  each = λ page lt. subst (IsListedOn words page) (sym (all.each page)) tt;
+}

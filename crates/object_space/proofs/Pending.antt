@@ -3,6 +3,8 @@ use Rattle.std.proofs.Common.{◌≡◌, ℕ, ◌+◌, ◌<◌, ◌≤◌, ◌�
 use Rattle.std.specs.Prelude.{◌≢◌}
 use Rattle.std.proofs.lemmas.Bool.{cases_eq, cases_lt, false≢true}
 use Rattle.words.specs.Bits.{Has, IsClear}
+use Rattle.block_map.specs.Listed.{first_on, with_put}
+use Rattle.blocks.specs.Lists.{first_after_put}
 use Rattle.block_map.specs.States.{PageState, free, cut, head, body, state_at, IsCut, IsSpanSet, LaidAt, IsLaid, with_cell}
 use Rattle.words.specs.declared.class.Kind.{Kind}
 use Rattle.block_map.proofs.Spans.{place_of}
@@ -40,17 +42,17 @@ pending_left t row' page p inside same = record {
       (cases_eq q page);
 }
 
-cell_cut : (st : PageState) (cell : ℕ) (b : Bool) → IsCut st → IsCut (with_cell st cell b)
-cell_cut free cell b is = absurd is
-cell_cut (cut x) cell b is = tt
-cell_cut (head m k) cell b is = absurd is
-cell_cut (body q) cell b is = absurd is
+cell_cut : (st : PageState) (cell : ℕ) (b : Bool) (n : ℕ) → IsCut st → IsCut (with_cell st cell b n)
+cell_cut free cell b n is = absurd is
+cell_cut (cut x) cell b n is = tt
+cell_cut (head m k) cell b n is = absurd is
+cell_cut (body q) cell b n is = absurd is
 
 -- one cell of a page changes
-pub cut_cell : (states : List PageState) (page cell : ℕ) (b : Bool) → page < length states → (p : ℕ) → IsCut (state_at states p) → IsCut (state_at (set states page (with_cell (state_at states page) cell b)) p)
-cut_cell states page cell b inside p is = ⊎_elim
-    (λ (e : p ≡ page). subst (λ q. IsCut (state_at (set states page (with_cell (state_at states page) cell b)) q)) (sym e) (subst IsCut (sym (get_or-set_same states page (with_cell (state_at states page) cell b) free inside)) (cell_cut (state_at states page) cell b (subst (λ q. IsCut (state_at states q)) e is))))
-    (λ ne. subst IsCut (sym (get_or-set_other states page p (with_cell (state_at states page) cell b) free ne)) is)
+pub cut_cell : (states : List PageState) (page cell : ℕ) (b : Bool) (n : ℕ) → page < length states → (p : ℕ) → IsCut (state_at states p) → IsCut (state_at (set states page (with_cell (state_at states page) cell b n)) p)
+cut_cell states page cell b n inside p is = ⊎_elim
+    (λ (e : p ≡ page). subst (λ q. IsCut (state_at (set states page (with_cell (state_at states page) cell b n)) q)) (sym e) (subst IsCut (sym (get_or-set_same states page (with_cell (state_at states page) cell b n) free inside)) (cell_cut (state_at states page) cell b n (subst (λ q. IsCut (state_at states q)) e is))))
+    (λ ne. subst IsCut (sym (get_or-set_other states page p (with_cell (state_at states page) cell b n) free ne)) is)
     (cases_eq p page)
 
 -- a free page is cut
@@ -66,17 +68,17 @@ pub cut_span : (states states' : List PageState) (first n : ℕ) (state : ℕ �
 cut_span states states' first n state span were p is = ⊎_elim (λ i. absurd (subst IsCut (were p i.0 i.1) is)) (λ out. subst IsCut (sym (span.others p out)) is) (place_of first n p)
 
 -- a cell of a page is freed, and the page keeps another object
-pub pending_put : (states states' : List PageState) (page cell : ℕ) (row : List Bool) → page < length states → states' ≡ set states page (with_cell (state_at states page) cell false) → KeepsPending page states states' row row
+pub pending_put : (states states' : List PageState) (page cell : ℕ) (row : List Bool) → page < length states → states' ≡ set states page (with_put (state_at states page) cell) → KeepsPending page states states' row row
 pending_put states states' page cell row inside became = record {
   rest = λ p ne. refl;
   size = refl;
-  cut = λ cuts p h. subst (λ x. IsCut (state_at x p)) (sym became) (cut_cell states page cell false inside p (cuts p h));
+  cut = λ cuts p h. subst (λ x. IsCut (state_at x p)) (sym became) (cut_cell states page cell false (first_after_put (first_on (state_at states page)) cell) inside p (cuts p h));
   less = λ p h. h;
   same = λ w g there. refl;
 }
 
 -- and the page becomes free
-pub pending_gone : (states mid states' : List PageState) (page cell : ℕ) (row : List Bool) → page < length states → page < length row → mid ≡ set states page (with_cell (state_at states page) cell false)
+pub pending_gone : (states mid states' : List PageState) (page cell : ℕ) (row : List Bool) → page < length states → page < length row → mid ≡ set states page (with_put (state_at states page) cell)
     → IsSpanSet mid states' page 1 (λ _. free) → IsLawful states' → KeepsPending page states states' row (set row page false)
 pending_gone states mid states' page cell row inside in_row became span lawful = record {
   rest = λ p ne. get_or-set_other row page p false false ne;

@@ -1,5 +1,5 @@
 -- Objects that come one after the other, many in one call.
-use Rattle.std.specs.Prelude.{ℕ, ◌+◌, ◌*◌, Bool, List, [], ◌∷◌, ◌++◌}
+use Rattle.std.specs.Prelude.{◌≡◌, ℕ, ◌+◌, ◌*◌, Bool, List, [], ◌∷◌, ◌++◌}
 use Rattle.words.specs.declared.class.Kind.{Kind}
 use Rattle.words.specs.declared.class.Placement.{Placement}
 use Rattle.words.specs.declared.class.Placement.TheVariants.{Small, Large}
@@ -10,10 +10,10 @@ use Rattle.object_space.specs.AvailableRows.{IsReadyPage}
 use Rattle.object_space.specs.Store.{Store}
 use Rattle.object_space.specs.Sweeps.{Allocates}
 
--- Objects of one placement and kind were allocated one after the other, with these bases.
+-- Objects of one placement and kind were allocated one after the other, with these bases, and none took a free page.
 pub data AllocatesEach (marks : List Bool) (placement : Placement) (kind : Kind) (old : Store) : List ℕ → Store → Type 0 where
   none : AllocatesEach marks placement kind old [] old
-  more : {bases : List ℕ} {base : ℕ} {mid new : Store} → AllocatesEach marks placement kind old bases mid → Allocates mid marks placement kind base new
+  more : {bases : List ℕ} {base : ℕ} {mid new : Store} → AllocatesEach marks placement kind old bases mid → Allocates mid marks placement kind base new → new.free ≡ mid.free
       → AllocatesEach marks placement kind old (bases ++ base ∷ []) new
 
 -- No page is cut for the class and the kind of a request, has a free cell, and needs no sweep. A large one takes pages of its own.

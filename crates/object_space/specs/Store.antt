@@ -1,10 +1,10 @@
 -- Where the objects are, and what is true of it.
-use Rattle.std.specs.Prelude.{◌≡◌, ◌≢◌, ℕ, Some, ◌*◌, ◌<◌, true, false, Bool, List, length, slice_index_or}
-use Rattle.words.specs.declared.limits.TheConstants.{PAGE_WORDS}
+use Rattle.std.specs.Prelude.{◌≡◌, ◌≢◌, ℕ, Some, ◌<◌, true, false, Bool, List, length, slice_index_or}
 use Rattle.words.specs.Bits.{Has}
 use Rattle.heap_spec.specs.Layout.{LiesOn}
 use Rattle.blocks.specs.Cells.{Cells}
 use Rattle.block_map.specs.States.{PageState, free, cut, state_at, IsCut}
+use Rattle.block_map.specs.Listed.{AreListed}
 use Rattle.block_map.specs.FoundIn.{found_in}
 use Rattle.block_map.specs.declared.found.Found.{Found}
 use Rattle.object_space.specs.AvailableRows.{AreReady, AreWaiting}
@@ -55,11 +55,11 @@ pub record KeepsPending (page : ℕ) (states states' : List PageState) (row row'
 abbrev pub IsSwept : Store → Type 0
 IsSwept t = (page : ℕ) → Has t.pending page → ⊥
 
--- What is true of the objects of each heap: their store is sound and has the words of its pages, the rows of pages that are
--- ready and of those that wait for a sweep are exact, and the pending pages are cut.
+-- What is true of the objects of each heap: their store is sound, the lists of free cells stand in its words, the rows of
+-- pages that are ready and of those that wait for a sweep are exact, and the pending pages are cut.
 pub record IsWholeSpace (t : Store) (ready waiting : List (List Bool)) : Type 0 where
   pub sound : HasSoundPages t
-  pub long : length t.words ≡ PAGE_WORDS * length t.states
+  pub listed : AreListed t.words t.states
   pub exact : AreReady ready t.states t.pending
   pub awaited : AreWaiting waiting t.states t.pending
   pub pending : IsPendingRow t

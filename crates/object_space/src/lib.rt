@@ -6,7 +6,7 @@
 //! Five sentences are true of a space (`IsWholeSpace`), and each call keeps them:
 //!
 //! - pool and map agree on which pages are free, and each page that is cut has an allocated object (`HasSoundPages`);
-//! - the memory has the words of all pages, and no others;
+//! - the free cells of each cut page are a list through their own first words in the memory (`AreListed`);
 //! - the rows of ready pages have exactly the pages with a free cell that need no sweep, by class and kind (`AreReady`);
 //! - the rows of waiting pages have exactly the pending ones, by class and kind (`AreWaiting`);
 //! - the row of pending pages has cut pages alone (`IsPendingRow`).

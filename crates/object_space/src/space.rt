@@ -1,12 +1,14 @@
 //! The objects of a heap: their words, the pages that they lie on, and which pages are free. That the pool and the map
-//! agree on the free pages, and that the memory has the words of all pages, is kept here, and no other module touches any of
-//! the three.
-ghost use Rattle.std.specs.Prelude.{◌≡◌, ◌*◌, Bool, List, Some, length};
-ghost use Rattle.words.specs.declared.limits.TheConstants.{PAGE_WORDS};
-ghost use Rattle.words.specs.Bits.{members};
+//! agree on the free pages, and that the lists of free cells stand in the memory, is kept here, and no other module touches
+//! any of the three.
+ghost use Rattle.std.specs.Prelude.{◌≡◌, ℕ, ◌*◌, ◌<◌, ◌≤◌, Bool, List, MatchOption, Some, length};
+ghost use Rattle.words.specs.declared.limits.TheConstants.{MOST_PAGES, PAGE_WORDS};
+ghost use Rattle.words.specs.Bits.{members, IsEmptyFrom};
+ghost use Rattle.words.specs.Layout.{page_of};
 ghost use Rattle.heap_spec.specs.Heap.{opening};
 ghost use Rattle.pages.specs.Memory.{IsWordAddress, word_at, with_word_at};
-ghost use Rattle.pages.specs.Opening.{IsOpened};
+ghost use Rattle.pages.specs.FreeRuns.{IsNextRun};
+ghost use Rattle.pages.specs.Opening.{IsOpenedWithin};
 ghost use Rattle.block_map.specs.FoundIn.{found_in, IsLawful};
 ghost use Rattle.block_map.specs.States.{IsLaid};
 ghost use Rattle.block_map.specs.declared.found.Found.{Found};
@@ -33,10 +35,10 @@ use self::available_pages::AvailablePages;
 use self::page_row::PageRow;
 use block_map::{BlockMap, Found};
 use marker::Marker;
-use pages::{Memory, PagePool};
+use pages::{FreeRun, Memory, PagePool};
 use std::alloc::Global;
 use std::marker::Model;
-use words::OpenError;
+use words::{OpenError, PageNo};
 
 /// The objects of a heap.
 #[derive(Drop)]
@@ -64,7 +66,7 @@ impl Model for ObjectSpace {
 impl ObjectSpace {
     /// So many pages, with no object on them.
     pub fn new(alloc: Global, pages: u32) -> Result<ObjectSpace, OpenError>
-        ensures { IsOpened pages result (λ objects. IsSwept objects × ((keep : Found → Bool) → Stores keep objects (opening pages))) }
+        ensures { IsOpenedWithin MOST_PAGES pages result (λ objects. IsSwept objects × ((keep : Found → Bool) → Stores keep objects (opening pages))) }
     {
         let memory = Memory::new(alloc, pages)?;
         let pool = PagePool::new(alloc, pages)?;
@@ -95,8 +97,8 @@ impl ObjectSpace {
         self.map.laws();
     }
 
-    /// All that is true of every store, with what no caller has to know: the rows of the pages that have a free cell, and of
-    /// those that wait for a sweep.
+    /// All that is true of every store, with what no caller has to know: the lists of free cells, and the rows of the pages
+    /// that have one.
     #[inline]
     pub fn whole(&self)
         ensures { IsWholeStore self.now }
@@ -111,14 +113,30 @@ impl ObjectSpace {
         self.map.len()
     }
 
-    /// How many pages are free, counted by whole words.
+    /// How many pages, from the first one on, may have an object.
+    #[inline]
+    pub fn used(&self) -> u32
+        ensures inside { result ≤ length self.now.states }
+        ensures below { (w : ℕ) (f : Found) → found_in self.now.states w ≡ Some f → page_of w < result }
+    {
+        self.map.used()
+    }
+
+    /// How many pages are free. Those that may have an object are counted by whole words.
     pub fn count_free(&self) -> u32
         ensures { result ≡ members self.now.free }
     {
-        self.pool.count_free()
+        self.pool.count_free(self.map.used())
     }
 
-    /// How many pages are pending, counted by whole words.
+    /// The lowest run of free pages from a page on.
+    pub fn next_free_run(&self, low: PageNo) -> Option<FreeRun>
+        ensures { MatchOption result (IsEmptyFrom self.now.free low) (λ run. IsNextRun self.now.free low run) }
+    {
+        self.pool.next_run(low)
+    }
+
+    /// How many pages are pending. Words of the row that have none are passed over.
     pub fn count_pending(&self) -> u32
         ensures { result ≡ members self.now.pending }
     {
@@ -152,12 +170,14 @@ impl ObjectSpace {
         self.memory.read(address)
     }
 
-    /// Writes a word at an address.
+    /// Writes a word at an address of an object.
     #[inline]
     pub fn write(&mut self, address: u64, word: u64)
-        requires { IsWordAddress self.old.words address }
+        requires address { IsWordAddress self.old.words address }
+        requires object { (f : Found) × (found_in self.old.states address ≡ Some f) }
         ensures { self.new ≡ record self.old { words = with_word_at self.old.words address word } }
     {
+        self.map.laws();
         self.memory.write(address, word);
     }
 }

@@ -1,3 +1,4 @@
 pub mod Filling
 pub mod Runs
 mod Walks
+pub mod Pools

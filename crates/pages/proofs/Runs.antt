@@ -2,7 +2,7 @@
 use Rattle.std.proofs.Common.{◌≡◌, ℕ, ◌-◌, ◌<◌, ◌≤◌, Bool, true, false, List, length, get_or, sym, ap, ◌∙◌, arith, ⊎_elim}
 use Rattle.std.proofs.lemmas.Bool.{cases_lt, false≢true}
 use Rattle.words.specs.Bits.{IsEmptyFrom, IsFirstFrom, IsFullFrom, IsFirstClearFrom}
-use Rattle.pages.specs.Runs.{IsFreeRun, IsFirstFreeRun, HasNoFreeRun, IsRunEnd}
+use Rattle.pages.specs.Runs.{IsFreeRun, IsFirstFreeRun, HasNoFreeRun, IsRunEnd, AreUsedBelow}
 
 -- no n consecutive pages are free that begin before the page low
 pub record IsSearched (row : List Bool) (n low : ℕ) : Type 0 where
@@ -14,8 +14,8 @@ pub record IsSearched (row : List Bool) (n low : ℕ) : Type 0 where
 begins_free : (row : List Bool) (i n : ℕ) → 0 < n → get_or row i false ≡ false → IsFreeRun row i n → ⊥
 begins_free row i n some taken run = false≢true (sym taken ∙ run.free i (omega arith) (omega arith))
 
-pub search_start : (row : List Bool) (n : ℕ) → 0 < n → IsSearched row n 0
-search_start row n some = record { some = some; inside = omega arith; none = λ i lt run. absurd (omega arith) }
+pub search_start : (row : List Bool) (n low : ℕ) → 0 < n → AreUsedBelow row low → IsSearched row n low
+search_start row n low some used = record { some = some; inside = used.inside; none = λ i lt run. begins_free row i n some (used.used i lt) run }
 
 pub search_more : (row : List Bool) (n low first end : ℕ) → IsSearched row n low → IsFirstFrom row low first → IsRunEnd row first end → end - first < n → IsSearched row n end
 search_more row n low first end s next stop short = record {
@@ -48,15 +48,16 @@ search_end row n low s empty i run =
 pub no_pages : (row : List Bool) → IsFirstFreeRun row 0 0
 no_pages row = record { run = record { inside = omega arith; free = λ k a b. absurd (omega arith) }; lowest = λ j lt run. absurd (omega arith) }
 
-pub no_page : (row : List Bool) → IsEmptyFrom row 0 → HasNoFreeRun row 1
-no_page row empty i run = let within = run.inside in begins_free row i 1 (omega arith) (empty i (omega arith) (omega arith)) run
+pub no_page : (row : List Bool) (low : ℕ) → AreUsedBelow row low → IsEmptyFrom row low → HasNoFreeRun row 1
+no_page row low used empty i run =
+    let within = run.inside in ⊎_elim (λ before. begins_free row i 1 (omega arith) (used.used i before) run) (λ from. begins_free row i 1 (omega arith) (empty i from (omega arith)) run) (cases_lt i low)
 
-pub first_page : (row : List Bool) (i : ℕ) → IsFirstFrom row 0 i → IsFirstFreeRun row i 1
-first_page row i next =
+pub first_page : (row : List Bool) (low i : ℕ) → AreUsedBelow row low → IsFirstFrom row low i → IsFirstFreeRun row i 1
+first_page row low i used next =
     let inside = next.inside in
     record {
       run = record { inside = omega arith; free = λ k from below. let e : k ≡ i = omega arith in ap (λ m. get_or row m false) e ∙ next.member };
-      lowest = λ j lt run. begins_free row j 1 (omega arith) (next.least j (omega arith) lt) run;
+      lowest = λ j lt run. ⊎_elim (λ before. begins_free row j 1 (omega arith) (used.used j before) run) (λ from. begins_free row j 1 (omega arith) (next.least j from lt) run) (cases_lt j low);
     }
 
 pub ruleset one_page = (no_page, first_page)

@@ -2,3 +2,4 @@ pub mod Memory
 pub mod Opening
 pub mod Reads
 pub mod Runs
+pub mod FreeRuns

@@ -22,6 +22,11 @@ pub record IsFilled (old new : List Bool) (i n : ℕ) (b : Bool) : Type 0 where
   pub inside : (k : ℕ) → i ≤ k → k < i + n → slice_index_or new k false ≡ b
   pub others : (k : ℕ) → (k < i) ⊎ (i + n ≤ k) → slice_index_or new k false ≡ slice_index_or old k false
 
+-- no page below `low` is free
+pub record AreUsedBelow (row : List Bool) (low : ℕ) : Type 0 where
+  pub inside : low ≤ length row
+  pub used : (k : ℕ) → k < low → slice_index_or row k false ≡ false
+
 -- n pages, each of them free
 pub record AreAllFree (row : List Bool) (n : ℕ) : Type 0 where
   pub size : length row ≡ n

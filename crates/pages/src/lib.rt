@@ -5,11 +5,13 @@
 //!
 //! Contracts see the heap's words as a list; the reader counts its reads at no cost. `read`, `write` and `zero` say exactly
 //! which words change; `read_run` counts so many words in a row and gives each of them once, singly or by four (`Words`).
-//! `take_run` gives n consecutive free pages, and `None` exactly where there are none; `next_taken` finds those in use.
+//! `take_run` gives n consecutive free pages, and `None` exactly where there are none; `next_taken` finds those in use,
+//! and `next_run` the runs of free ones.
 #![tactic(auto)]
 
 mod count;
 mod memory;
+mod moments;
 mod opening;
 mod pool;
 mod reader;
@@ -17,7 +19,8 @@ mod run;
 
 pub use count::Count;
 pub use memory::Memory;
+pub use moments::Moments;
 pub use opening::is_page_count;
-pub use pool::PagePool;
+pub use pool::{FreeRun, PagePool};
 pub use reader::Reader;
 pub use run::Words;

@@ -1,8 +1,8 @@
 //! The words of the heap, seen as their list.
 ghost use Rattle.std.specs.Prelude.{◌≡◌, ℕ, ◌+◌, ◌*◌, ◌<◌, ◌≤◌, List, length, slice_index, slice_range, vec_len, EachIndex};
-ghost use Rattle.words.specs.declared.limits.TheConstants.{PAGE_WORDS, MAX_PAGES, FIRST_ADDRESS};
+ghost use Rattle.words.specs.declared.limits.TheConstants.{PAGE_WORDS, MOST_PAGES, FIRST_ADDRESS};
 ghost use Rattle.pages.specs.Memory.{IsWordAddress, IsZeroMemory, IsZeroed, word_index, word_at, with_word_at};
-ghost use Rattle.pages.specs.Opening.{IsOpened};
+ghost use Rattle.pages.specs.Opening.{IsOpenedWithin};
 
 use crate::opening::is_page_count;
 use std::alloc::Global;
@@ -21,7 +21,7 @@ impl Model for Memory {
 
     ghost view = { λ m. m.words.items };
 
-    ghost invariant = { λ m. vec_len m.words ≤ PAGE_WORDS * MAX_PAGES };
+    ghost invariant = { λ m. vec_len m.words ≤ PAGE_WORDS * MOST_PAGES };
 }
 
 // The index of an address's word among the words.
@@ -86,7 +86,7 @@ fn clear_eight(words: &mut [u64], first: usize)
 impl Memory {
     /// The words of so many pages, each of them 0.
     pub fn new(alloc: Global, pages: u32) -> Result<Memory, OpenError>
-        ensures { IsOpened pages result (λ m. IsZeroMemory m (PAGE_WORDS * pages)) }
+        ensures { IsOpenedWithin MOST_PAGES pages result (λ m. IsZeroMemory m (PAGE_WORDS * pages)) }
     {
         if !is_page_count(pages) {
             return Err(OpenError::BadPages);

@@ -1,59 +1,78 @@
 //! The pool of free pages, seen as the row of its pages: true is a free page.
-ghost use Rattle.std.specs.Prelude.{◌≡◌, ◌+◌, ◌%◌, ◌<◌, ◌≤◌, Bool, true, false, List, length, slice_index_or, MatchOption, IfSome, IfNone};
-ghost use Rattle.words.specs.declared.limits.TheConstants.{MAX_PAGES};
-ghost use Rattle.words.specs.Bits.{members, IsFirstClearFrom, IsFullFrom};
-ghost use Rattle.pages.specs.Opening.{IsOpened};
-ghost use Rattle.pages.specs.Runs.{IsFirstFreeRun, HasNoFreeRun, IsFilled, IsMask, IsRunEnd, AreAllFree};
+ghost use Rattle.std.specs.Prelude.{◌≡◌, ◌+◌, ◌%◌, ◌<◌, ◌≤◌, ◌⊎◌, true, false, length, slice_index_or, MatchOption, IfSome, IfNone};
+ghost use Rattle.words.specs.declared.limits.TheConstants.{MOST_PAGES};
+ghost use Rattle.words.specs.Bits.{members, IsEmptyFrom, IsFirstClearFrom, IsFullFrom};
+ghost use Rattle.pages.specs.FreeRuns.{IsNextRun};
+ghost use Rattle.pages.specs.Opening.{IsOpenedWithin};
+ghost use Rattle.pages.specs.Runs.{IsFirstFreeRun, HasNoFreeRun, IsFilled, IsMask, IsRunEnd, AreAllFree, AreUsedBelow};
 
 use crate::opening::is_page_count;
 use std::alloc::Global;
 use std::marker::Model;
 use words::{BitRow, OpenError, PageNo};
 
+/// A run of free pages.
+#[derive(Clone, Copy, Debug, PartialEq, Eq)]
+pub struct FreeRun {
+    /// Its first page.
+    pub first: PageNo,
+
+    /// How many there are before one that isn't free.
+    pub pages: u32,
+}
+
 /// Which pages of a heap are free.
 #[derive(Drop)]
 pub struct PagePool {
     free: BitRow,
+    // No page below it is free: a search begins there.
+    low: usize,
 }
 
 impl Model for PagePool {
+    ghost use Rattle.std.specs.Prelude.{◌≤◌, Bool, List, length};
+    ghost use Rattle.words.specs.declared.limits.TheConstants.{MOST_PAGES};
+    ghost use Rattle.pages.specs.Runs.{AreUsedBelow};
+
     ghost Value = { List Bool };
 
     ghost view = { λ p. p.free };
 
-    ghost invariant = { λ p. length p.free ≤ MAX_PAGES };
+    ghost invariant = { λ p. (length p.free ≤ MOST_PAGES) × AreUsedBelow p.free p.low };
 }
 
-// The lowest place of n free pages in a row. From the first free page on it looks for the first that is taken, and
+// The lowest place of n free pages in a row, of which none below `low` is free. From the first free page on it looks for the first that is taken, and
 // goes on from there if the run between them is too short: both are found by whole words of the row.
 #[tactic(auto, using(crate::proofs::Runs::searching))]
-fn find_run(row: &BitRow, n: usize) -> Option<usize>
-    requires small { length row.now ≤ MAX_PAGES }
+fn find_run(row: &BitRow, low: usize, n: usize) -> Option<usize>
+    requires small { length row.now ≤ MOST_PAGES }
+    requires used { AreUsedBelow row.now low }
     ensures { MatchOption result (HasNoFreeRun row.now n) (λ i. IsFirstFreeRun row.now i n) }
 {
     if n == 0 {
         return Some(0);
     }
     if n == 1 {
-        return find_page(row);
+        return find_page(row, low);
     }
-    let mut low = 0;
-    while let Some(first) = row.next(low) {
+    let mut from = low;
+    while let Some(first) = row.next(from) {
         let end = run_end(row, first);
         if end - first >= n {
             return Some(first);
         }
-        low = end;
+        from = end;
     }
     None
 }
 
 // The lowest free page of a row: of a run of one page the end isn't looked for.
 #[tactic(auto, using(crate::proofs::Runs::one_page))]
-fn find_page(row: &BitRow) -> Option<usize>
+fn find_page(row: &BitRow, low: usize) -> Option<usize>
+    requires { AreUsedBelow row.now low }
     ensures { MatchOption result (HasNoFreeRun row.now 1) (λ i. IsFirstFreeRun row.now i 1) }
 {
-    row.next(0)
+    row.next(low)
 }
 
 // Where the run of free pages ends that begins at `first`.
@@ -95,7 +114,7 @@ fn fill_word(row: &mut BitRow, first: usize, n: usize, free: bool)
 #[tactic(auto, using(crate::proofs::Filling::filling))]
 fn fill(row: &mut BitRow, first: usize, n: usize, free: bool)
     requires inside { first + n ≤ length row.old }
-    requires small { length row.old ≤ MAX_PAGES }
+    requires small { length row.old ≤ MOST_PAGES }
     ensures { IsFilled row.old row.new first n free }
 {
     let mut low = first;
@@ -108,33 +127,44 @@ fn fill(row: &mut BitRow, first: usize, n: usize, free: bool)
     }
 }
 
+// Below which no page is free once n pages from `first` on are taken, of which that was the lowest place.
+fn low_after(low: usize, first: usize, n: u32) -> usize
+    requires { first < MOST_PAGES }
+    ensures { (result ≡ low) ⊎ ((n ≡ 1) × (result ≡ first + 1)) }
+{
+    if n == 1 { first + 1 } else { low }
+}
+
+#[tactic(auto, using(crate::proofs::Pools::pools))]
 impl PagePool {
     /// So many pages, each of them free.
     #[tactic(auto, using(crate::proofs::Filling::filling))]
     pub fn new(alloc: Global, pages: u32) -> Result<PagePool, OpenError>
-        ensures { IsOpened pages result (λ p. AreAllFree p pages) }
+        ensures { IsOpenedWithin MOST_PAGES pages result (λ p. AreAllFree p pages) }
     {
         if !is_page_count(pages) {
             return Err(OpenError::BadPages);
         }
         let mut free = BitRow::new(alloc, pages as usize)?;
         fill(&mut free, 0, pages as usize, true);
-        Ok(PagePool { free })
+        Ok(PagePool { free, low: 0 })
     }
 
     /// The number of pages.
     pub fn len(&self) -> u32
         ensures len { result ≡ length self.now }
-        ensures small { result ≤ MAX_PAGES }
+        ensures small { result ≤ MOST_PAGES }
     {
         self.free.len() as u32
     }
 
-    /// How many pages are free, counted by whole words.
-    pub fn count_free(&self) -> u32
+    /// How many pages are free, where all from `used` on are. Those below are counted by whole words.
+    pub fn count_free(&self, used: PageNo) -> u32
+        requires inside { used ≤ length self.now }
+        requires rest { IsFullFrom self.now used }
         ensures { result ≡ members self.now }
     {
-        self.free.count(0, self.free.len())
+        self.free.count(0, used as usize) + (self.len() - used)
     }
 
     /// The lowest page from a page on that isn't free, found by whole words.
@@ -147,16 +177,31 @@ impl PagePool {
         Some(page as u32)
     }
 
+    /// The lowest run of free pages from a page on.
+    pub fn next_run(&self, low: PageNo) -> Option<FreeRun>
+        ensures { MatchOption result (IsEmptyFrom self.now low) (λ run. IsNextRun self.now low run) }
+    {
+        let Some(first) = self.free.next(low as usize) else {
+            return None;
+        };
+        let end = run_end(&self.free, first);
+        Some(FreeRun {
+            first: first as u32,
+            pages: (end - first) as u32,
+        })
+    }
+
     /// Takes n consecutive pages, the lowest that are free, and answers the first of them. `None` exactly where there
     /// are no n consecutive free pages.
     pub fn take_run(&mut self, n: u32) -> Option<PageNo>
         ensures some { IfSome result (λ i. IsFirstFreeRun self.old i n × IsFilled self.old self.new i n false) }
         ensures none { IfNone result (HasNoFreeRun self.old n × (self.new ≡ self.old)) }
     {
-        let Some(first) = find_run(&self.free, n as usize) else {
+        let Some(first) = find_run(&self.free, self.low, n as usize) else {
             return None;
         };
         fill(&mut self.free, first, n as usize, false);
+        self.low = low_after(self.low, first, n);
         Some(first as u32)
     }
 
@@ -166,5 +211,6 @@ impl PagePool {
         ensures { IsFilled self.old self.new first n true }
     {
         fill(&mut self.free, first as usize, n as usize, true);
+        self.low = self.low.min(first as usize);
     }
 }

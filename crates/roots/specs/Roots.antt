@@ -6,14 +6,15 @@ use Rattle.heap_spec.specs.declared.reply.Reply.{Reply}
 use Rattle.heap_spec.specs.Heap.{Heap, Mutator, words_of_slot}
 use Rattle.heap_spec.specs.Steps.{Step, register}
 
--- The roots: the mutator at each slot, and the words of the globals.
+-- The roots: the mutator at each slot, and the words of the globals; and the most words that a mutator may request.
 pub record RootSet : Type 0 where
   pub mutators : List (Option Mutator)
   pub globals : List ℕ
+  pub request_words : ℕ
 
 -- the roots of a heap that opens: no mutator, and globals of 0
-abbrev pub no_roots : RootSet
-no_roots = record { mutators = replicate SLOTS None; globals = replicate GLOBALS 0 }
+abbrev pub no_roots : ℕ → RootSet
+no_roots request_words = record { mutators = replicate SLOTS None; globals = replicate GLOBALS 0; request_words = request_words }
 
 -- The root words in their order: those of the attached slots, ascending, and then the globals.
 abbrev pub root_words_of : RootSet → List ℕ
@@ -65,13 +66,18 @@ pub record ChangesSlot (old : List (Option Mutator)) (slot : ℕ) (Change : Muta
   pub change : Change before after
   pub only : new ≡ slice_set old slot (Some after)
 
+-- The globals and the limit are as they were.
+pub record KeepsRest (old new : RootSet) : Type 0 where
+  pub globals : new.globals ≡ old.globals
+  pub request_words : new.request_words ≡ old.request_words
+
 -- The mutator of the slot has got this word in the register, and nothing else has changed.
 abbrev pub SetsWord : RootSet → ℕ → ℕ → ℕ → RootSet → Type 0
-SetsWord old slot r w new = (new.globals ≡ old.globals) × ChangesSlot old.mutators slot (λ before after. after ≡ with_word before r w) new.mutators
+SetsWord old slot r w new = KeepsRest old new × ChangesSlot old.mutators slot (λ before after. after ≡ with_word before r w) new.mutators
 
 -- the heap with these roots
 abbrev pub with_roots : Heap → RootSet → Heap
-with_roots s roots = record s { mutators = roots.mutators; globals = roots.globals }
+with_roots s roots = record s { mutators = roots.mutators; globals = roots.globals; request_words = roots.request_words }
 
 -- Whatever else the heap has, the event with its reply is a step of it that changes the roots, and nothing else.
 abbrev pub StepsRoots : RootSet → Event → Reply → RootSet → Type 0

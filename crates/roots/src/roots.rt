@@ -1,6 +1,7 @@
 //! The roots of a heap: how a slot's mutator is read, and how it changes.
-ghost use Rattle.std.specs.Prelude.{◌≡◌, ◌<◌, Some, None, IfSome, IfNone, IfOk, IfErr, length, slice_get, slice_index};
-ghost use Rattle.words.specs.declared.limits.TheConstants.{STACK_WORDS};
+ghost use Rattle.std.specs.Prelude.{◌≡◌, ◌<◌, ◌≤◌, Some, None, IfSome, IfNone, IfOk, IfErr, length, slice_get, slice_index};
+ghost use Rattle.words.specs.declared.limits.TheConstants.{MOST_REQUEST_WORDS, STACK_WORDS};
+ghost use Rattle.words.specs.Placing.{placement_of};
 ghost use Rattle.heap_spec.specs.Heap.{Mutator as HeapMutator};
 ghost use Rattle.roots.specs.Roots.{no_roots, HasMutator, HasNoMutator, with_word, with_pushed, PopsWord, ChangesSlot, SetsWord};
 
@@ -12,7 +13,7 @@ use std::alloc::AllocError;
 use std::array::try_from_fn;
 use std::marker::Model;
 use words::limits::{GLOBALS, SLOTS};
-use words::{Global, Refusal, Reg, Slot};
+use words::{Global, Placement, Refusal, Reg, Slot, class_of};
 
 pub(crate) type Mutators = [MutatorSlot; SLOTS as usize];
 
@@ -21,19 +22,24 @@ pub(crate) type Mutators = [MutatorSlot; SLOTS as usize];
 pub struct Roots {
     pub(crate) mutators: Mutators,
     pub(crate) globals: [u64; GLOBALS as usize],
+    request_words: u64,
 }
 
 impl Model for Roots {
+    ghost use Rattle.std.specs.Prelude.{◌≤◌};
+    ghost use Rattle.words.specs.declared.limits.TheConstants.{MOST_REQUEST_WORDS};
     ghost use Rattle.roots.specs.Roots.{RootSet};
 
     ghost Value = { RootSet };
 
-    ghost view = { λ r. record { mutators = r.mutators; globals = r.globals } };
+    ghost view = { λ r. record { mutators = r.mutators; globals = r.globals; request_words = r.request_words } };
+
+    ghost invariant = { λ r. r.request_words ≤ MOST_REQUEST_WORDS };
 }
 
 // Slots, all of them vacant.
 fn vacant_slots(alloc: std::alloc::Global) -> Result<Mutators, AllocError>
-    ensures { IfOk result (λ slots. slots ≡ no_roots.mutators) }
+    ensures { IfOk result (λ slots. slots ≡ (no_roots 0).mutators) }
 {
     let slot = |_number: usize|
         ensures { IfOk result (λ s. s ≡ None) }
@@ -66,14 +72,25 @@ fn pop_of(mutators: &mut Mutators, slot: Slot, into: Reg) -> u64
 }
 
 impl Roots {
-    /// No mutator, and globals of 0. The memory of all stacks is taken here.
-    pub fn new(alloc: std::alloc::Global) -> Result<Roots, AllocError>
-        ensures { IfOk result (λ roots. roots ≡ no_roots) }
+    /// No mutator, and globals of 0, with this limit of requests. The memory of all stacks is taken here.
+    pub fn new(alloc: std::alloc::Global, request_words: u64) -> Result<Roots, AllocError>
+        requires { request_words ≤ MOST_REQUEST_WORDS }
+        ensures { IfOk result (λ roots. roots ≡ no_roots request_words) }
     {
         Ok(Roots {
             mutators: vacant_slots(alloc)?,
             globals: [0; GLOBALS as usize],
+            request_words,
         })
+    }
+
+    /// Where a request of so many words goes; `None` exactly for none or more than the limit.
+    #[inline]
+    pub fn placement(&self, words: u64) -> Option<Placement>
+        ensures placement { result ≡ placement_of self.now.request_words words }
+        ensures few { self.now.request_words ≤ MOST_REQUEST_WORDS }
+    {
+        class_of(self.request_words, words)
     }
 
     /// The mutator attached at a slot.

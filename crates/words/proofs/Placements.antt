@@ -8,7 +8,7 @@ use Rattle.std.proofs.lemmas.Bool.{leb-true, leb-false}
 use Rattle.std.proofs.lemmas.Bool.Decides.{nat_tests}
 use Rattle.std.proofs.lemmas.Option.{same_Some, none-some}
 use Rattle.std.proofs.lemmas.List.Sums.{AllPass-from_list_all}
-use Rattle.words.specs.declared.limits.TheConstants.{MAX_REQUEST_WORDS, MAX_SMALL_WORDS, PAGE_WORDS}
+use Rattle.words.specs.declared.limits.TheConstants.{MAX_SMALL_WORDS, PAGE_WORDS}
 use Rattle.words.specs.declared.class.TheConstants.{CLASSES}
 use Rattle.words.specs.declared.class.Placement.{Placement}
 use Rattle.words.specs.declared.class.Placement.TheVariants.{Small, Large}
@@ -24,14 +24,14 @@ found P p (y ∷ ys) x all e = by (p y) refl e (found P p ys x (λ k d lt. all (
     by true t e rest = (subst P (same_Some y x e) (all 0 y (omega arith)), ap p (sym (same_Some y x e)) ∙ t)
     by false t e rest = rest e
 
-at_most : (n : ℕ) → ((n == 0) || nat_lt MAX_REQUEST_WORDS n) ≡ false → n ≤ MAX_REQUEST_WORDS
-at_most n small = grind (arith, nat_tests)
+at_most : (limit n : ℕ) → ((n == 0) || nat_lt limit n) ≡ false → n ≤ limit
+at_most limit n small = grind (arith, nat_tests)
 
 -- A request goes to what has a property where each size class that holds it has it, and so have the pages that hold it.
-pub placement_has : (P : Placement → Type 0) (n : ℕ) (placement : Placement) → placement_of n ≡ Some placement
+pub placement_has : (P : Placement → Type 0) (limit n : ℕ) (placement : Placement) → placement_of limit n ≡ Some placement
     → ((class : ℕ) → IsSizeClass class → n ≤ class → P (Small class))
-    → (MAX_SMALL_WORDS < n → n ≤ MAX_REQUEST_WORDS → P (Large (div_ceil n PAGE_WORDS))) → P placement
-placement_has P n placement is small large = outer ((n == 0) || nat_lt MAX_REQUEST_WORDS n) refl is
+    → (MAX_SMALL_WORDS < n → n ≤ limit → P (Large (div_ceil n PAGE_WORDS))) → P placement
+placement_has P limit n placement is small large = outer ((n == 0) || nat_lt limit n) refl is
   where
     classes : All IsSizeClass CLASSES
     classes = AllPass-from_list_all (λ x. list_any (λ c. c == x) CLASSES) CLASSES refl
@@ -40,11 +40,11 @@ placement_has P n placement is small large = outer ((n == 0) || nat_lt MAX_REQUE
     in_class None h e = absurd (none-some placement e)
     in_class (Some c) h e = subst P (same_Some _ _ e) (h c refl)
 
-    inner : (b : Bool) → nat_le n MAX_SMALL_WORDS ≡ b → n ≤ MAX_REQUEST_WORDS → cond b (option_map Small (find (λ c. nat_le n c) CLASSES)) (Some (Large (div_ceil n PAGE_WORDS))) ≡ Some placement → P placement
+    inner : (b : Bool) → nat_le n MAX_SMALL_WORDS ≡ b → n ≤ limit → cond b (option_map Small (find (λ c. nat_le n c) CLASSES)) (Some (Large (div_ceil n PAGE_WORDS))) ≡ Some placement → P placement
     inner true t few e = in_class _ (λ c f. let x = found IsSizeClass (λ c. nat_le n c) CLASSES c classes f in small c x.0 (leb-true n c x.1)) e
     inner false t few e = subst P (same_Some _ _ e) (large (leb-false n MAX_SMALL_WORDS t) few)
 
-    outer : (b : Bool) → ((n == 0) || nat_lt MAX_REQUEST_WORDS n) ≡ b
+    outer : (b : Bool) → ((n == 0) || nat_lt limit n) ≡ b
         → cond b None (cond (nat_le n MAX_SMALL_WORDS) (option_map Small (find (λ c. nat_le n c) CLASSES)) (Some (Large (div_ceil n PAGE_WORDS)))) ≡ Some placement → P placement
     outer true t e = absurd (none-some placement e)
-    outer false t e = inner (nat_le n MAX_SMALL_WORDS) refl (at_most n t) e
+    outer false t e = inner (nat_le n MAX_SMALL_WORDS) refl (at_most limit n t) e

@@ -1,8 +1,8 @@
 //! A row of bits, seen as the list of its bits. Its members are the places of the bits that are set.
 ghost use Rattle.std.specs.Prelude.{◌≡◌, ◌≢◌, ◌%◌, ◌==◌, ◌+◌, ◌/◌, ◌^◌, ◌<◌, ◌≤◌};
-ghost use Rattle.std.specs.Prelude.{ℕ, Bool, true, false, List, length, slice_index_or, slice_set, vec_len, IfOk, MatchOption};
+ghost use Rattle.std.specs.Prelude.{ℕ, Bool, true, false, List, length, slice_index, slice_index_or, slice_set, vec_len, EachIndex, IfOk, MatchOption};
 ghost use Rattle.std.specs.Int.{bit_at};
-ghost use Rattle.words.specs.Bits.{bit, bits, members_between, IsEmptyFrom, IsFirstFrom, IsClear, IsFullFrom, IsFirstClearFrom};
+ghost use Rattle.words.specs.Bits.{bit, bits, members_between, IsEmptyFrom, IsFirstFrom, IsClear, IsFullFrom, IsFirstClearFrom, IsZeroBelow};
 
 use crate::count::ones_of;
 use crate::scan::first_from;
@@ -22,6 +22,24 @@ impl Model for BitRow {
     ghost view = { λ s. bits s.words.items s.len };
 
     ghost invariant = { λ s. (vec_len s.words ≡ s.len / 64 + 1) × (s.len < 2 ^ 32) };
+}
+
+// Makes all words 0.
+#[inline]
+fn clear_words(words: &mut [u64])
+    ensures { EachIndex words.new (λ k. slice_index words.new k ≡ 0) }
+{
+    for word in words.iter_mut() {
+        *word = 0;
+    }
+}
+
+// Makes the first words 0.
+fn clear_first(words: &mut [u64], end: usize)
+    requires { end ≤ length words.old }
+    ensures { IsZeroBelow words.old words.new end }
+{
+    clear_words(&mut words[..end]);
 }
 
 #[tactic(auto, using(crate::proofs::Rows::rows))]
@@ -73,6 +91,16 @@ impl BitRow {
         ensures { IsClear self.new (length self.old) }
     {
         self.words.fill(0);
+    }
+
+    /// Clears all bits of a row that has none from `high` on: words past that aren't written.
+    #[tactic(auto, using(crate::proofs::Rows::cleared_below))]
+    pub fn clear_below(&mut self, high: usize)
+        requires { IsEmptyFrom self.old high }
+        ensures { IsClear self.new (length self.old) }
+    {
+        let end = high.min(self.len) / 64 + 1;
+        clear_first(&mut self.words, end);
     }
 
     /// The words, 64 bits each, lowest bits first.

@@ -1,5 +1,6 @@
 //! A row of at most 256 bits that lies in the value itself, seen as the list of its bits.
-ghost use Rattle.std.specs.Prelude.{◌≡◌, ℕ, ◌+◌, ◌*◌, ◌<◌, ◌≤◌, Bool, true, false, List, length, replicate, slice_index_or, slice_set, take, MatchOption, MatchBool};
+ghost use Rattle.std.specs.Prelude.{◌≡◌, ℕ, ◌+◌, ◌*◌, ◌/◌, ◌%◌, ◌<◌, ◌≤◌, ◌==◌, Bool, true, false, List, length, replicate, slice_index_or, slice_set, take, MatchOption, MatchBool};
+ghost use Rattle.std.specs.Int.{bit_at};
 ghost use Rattle.words.specs.declared.limits.TheConstants.{PAGE_GRANULES};
 ghost use Rattle.words.specs.Bits.{bits, members, Fills, Has, HasNoClear, IsEmptyFrom, IsFirstClearFrom, IsFirstClearIn, IsFirstFrom, IsFullBelow, IsFullRow};
 
@@ -96,6 +97,20 @@ impl CellRow {
             self.words[2] & other.words[2],
             self.words[3] & other.words[3],
         ];
+    }
+
+    /// Which of the 64 places of the word j are the row's and no members: their bits are set, the lowest first.
+    #[inline]
+    pub fn clear_word(&self, j: u16) -> u64
+        requires { j < 4 }
+        ensures { (k : ℕ) → k / 64 ≡ j → slice_index_or self.now k true ≡ (bit_at result (k % 64) == 0) }
+    {
+        let clear = !self.words[j as usize];
+        let inside = self.len.saturating_sub(64 * j);
+        if inside >= 64 {
+            return clear;
+        }
+        clear & ((1 << inside) - 1)
     }
 
     /// How many members it has.

@@ -1,11 +1,11 @@
 //! Size classes, kinds, and where a request goes.
 ghost use Rattle.std.specs.Prelude.{◌≡◌, ℕ, ◌<◌, ◌≤◌, ◌*◌, ◌/◌, Some, find, nat_le, slice_get};
 ghost use Rattle.words.specs.declared.class.TheConstants.{CLASSES};
-ghost use Rattle.words.specs.declared.limits.TheConstants.{MAX_SMALL_WORDS, PAGE_WORDS};
+ghost use Rattle.words.specs.declared.limits.TheConstants.{MAX_SMALL_WORDS, MOST_REQUEST_WORDS, PAGE_WORDS};
 ghost use Rattle.words.specs.Classes.{IsSizeClass};
 ghost use Rattle.words.specs.Placing.{placement_of};
 
-use crate::limits::{GRANULE_WORDS, MAX_REQUEST_WORDS, MAX_SMALL_WORDS, PAGE_WORDS};
+use crate::limits::{GRANULE_WORDS, MAX_SMALL_WORDS, PAGE_WORDS};
 use std::marker::Model;
 
 /// The words of each size class, from the least.
@@ -96,11 +96,12 @@ pub enum Placement {
 
 /// Where a request of so many words goes: into a cell of the least size class that holds them, and past the largest
 /// class onto pages of its own. It is named for the class, but answers a placement. `None` exactly for a request of no
-/// words or of too many.
-pub fn class_of(words: u64) -> Option<Placement>
-    ensures { result ≡ placement_of words }
+/// words or of more than the limit.
+pub fn class_of(limit: u64, words: u64) -> Option<Placement>
+    requires { limit ≤ MOST_REQUEST_WORDS }
+    ensures { result ≡ placement_of limit words }
 {
-    if words == 0 || words > MAX_REQUEST_WORDS {
+    if words == 0 || words > limit {
         return None;
     }
     if words > MAX_SMALL_WORDS {

@@ -1,4 +1,4 @@
-use Rattle.std.proofs.Common.{◌-◌}
+use Rattle.std.proofs.Common.{◌-◌, length}
 use Rattle.dirty_pages.proofs.Adding.{Ors}
 use Rattle.dirty_pages.proofs.add_words.Given as goal
 
@@ -6,4 +6,4 @@ abbrev pub invariant-loop-j : goal.invariant-loop-j
 invariant-loop-j l = Ors l.from l.fn.words l.more l.words
 
 abbrev pub decreases-loop-j : goal.decreases-loop-j
-decreases-loop-j l = 64 - l.from
+decreases-loop-j l = length l.words - l.from

@@ -1,9 +1,15 @@
 //! The calls of the collector. Each is refused with [`Refusal::WrongPhase`] exactly in the wrong phase, and then changes
 //! nothing.
-ghost use Rattle.std.specs.Prelude.{◌≡◌, true, false};
+ghost use Rattle.std.specs.Prelude.{◌≡◌, ℕ, true, false};
+ghost use Rattle.pages.specs.Reads.{AreMoments};
+ghost use Rattle.block_map.specs.FoundIn.{found_in};
+ghost use Rattle.marker.specs.Beside.{AreBeside, IsStill};
+ghost use Rattle.words.specs.Bits.{IsFirstFrom};
+ghost use Rattle.heap_core.specs.BesideSteps.{MarksBeside, RetracesBeside};
 ghost use Rattle.heap_core.specs.Collections.{IsGrantedInPhase, IsAlwaysGranted, BeginsCycle, ReadsRoots, TakesWords, RetracesPage, EndsCycle, CollectsAll, SweepsOne};
 
 use super::Core;
+use pages::Moments;
 use words::Refusal;
 
 impl Core {
@@ -21,8 +27,9 @@ impl Core {
         if self.is_marking {
             return Err(Refusal::WrongPhase);
         }
+        let used = self.objects.used();
         self.objects.sweep_all(&self.marker);
-        self.marker.begin();
+        self.marker.begin(used);
         self.is_marking = true;
         self.needs_full = false;
         Ok(())
@@ -50,6 +57,37 @@ impl Core {
         }
         let marked = self.objects.mark(&mut self.marker, most);
         Ok(marked.read)
+    }
+
+    /// Reads words of entries, at most so many, while others write on dirty pages, and answers how many. The memory is read at these
+    /// moments.
+    pub fn mark_beside(&mut self, most: u64, moments: Moments) -> Result<u64, Refusal>
+        requires moments { AreMoments self.old.store.words moments.list }
+        requires beside { AreBeside (found_in self.old.store.states) self.old.cycle.marker.dirty moments.list }
+        ensures { IsGrantedInPhase true self.old result self.new (λ n. MarksBeside most moments.list self.old n self.new) }
+    {
+        if !self.is_marking {
+            return Err(Refusal::WrongPhase);
+        }
+        let beside = self.objects.mark_beside(&mut self.marker, most, moments);
+        Ok(beside.read)
+    }
+
+    /// Reads the lowest dirty page again, on which nobody writes, while others write on other dirty pages. Answers 1, or 0 where no page
+    /// is dirty. The memory is read at these moments.
+    pub fn retrace_beside(&mut self, moments: Moments) -> Result<u64, Refusal>
+        requires moments { AreMoments self.old.store.words moments.list }
+        requires beside { AreBeside (found_in self.old.store.states) self.old.cycle.marker.dirty moments.list }
+        requires still { (p : ℕ) → IsFirstFrom self.old.cycle.marker.dirty 0 p → IsStill (found_in self.old.store.states) self.old.store.words moments.list p }
+        ensures { IsGrantedInPhase true self.old result self.new (λ n. RetracesBeside moments.list self.old n self.new) }
+    {
+        if !self.is_marking {
+            return Err(Refusal::WrongPhase);
+        }
+        let Some(_) = self.objects.retrace_beside(&mut self.marker, moments) else {
+            return Ok(0);
+        };
+        Ok(1)
     }
 
     /// Reads the lowest dirty page again. Answers 1, or 0 where no page is dirty.
@@ -87,8 +125,9 @@ impl Core {
     pub fn collect(&mut self) -> Result<u64, Refusal>
         ensures { IsAlwaysGranted result (λ n. CollectsAll self.old n self.new) }
     {
+        let used = self.objects.used();
         self.objects.sweep_all(&self.marker);
-        self.marker.begin();
+        self.marker.begin(used);
         self.roots.write_words(&mut self.root_words);
         let count = self
             .objects

@@ -5,7 +5,7 @@ ghost use Rattle.heap_core.specs.Many.{AreWritten, Grants};
 
 use super::Core;
 use heap_spec::{Call, Event, Reply};
-use words::{Kind, Refusal, Reg, Slot, class_of};
+use words::{Kind, Refusal, Reg, Slot};
 
 impl Core {
     // Objects for a request, of one page that is ready for them. None where the request is no small one or would be refused, and none
@@ -27,7 +27,7 @@ impl Core {
         let Ok(_) = self.roots.attached(slot) else {
             return 0;
         };
-        let Some(placement) = class_of(words) else {
+        let Some(placement) = self.roots.placement(words) else {
             return 0;
         };
         if self.is_marking {

@@ -14,7 +14,7 @@ use heap_spec::{Call, Event};
 use marker::Marker;
 use object_space::ObjectSpace;
 use words::limits::WORD_BYTES;
-use words::{Kind, Refusal, Reg, Slot, class_of};
+use words::{Kind, Refusal, Reg, Slot};
 
 // The kept object that a word points into, for a call that is refused where there is none.
 #[inline(always)]
@@ -127,7 +127,7 @@ impl Core {
         ensures base { IfOk result (λ base. HoldsWord self.new.roots slot into base) }
     {
         self.roots.attached(slot)?;
-        let placement = class_of(words).ok_or(Refusal::BadSize)?;
+        let placement = self.roots.placement(words).ok_or(Refusal::BadSize)?;
         let base = self
             .objects
             .allocate(&self.marker, placement, kind)

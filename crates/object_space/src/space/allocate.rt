@@ -1,9 +1,11 @@
 //! Where a new object goes: into a cell of a page that is cut for its class and kind, onto a page that is cut for it now,
 //! or onto pages of its own.
-ghost use Rattle.std.specs.Prelude.{◌≡◌, ℕ, ◌<◌, ◌⊎◌, false, IfNone, IfSome, MatchOption, length};
+ghost use Rattle.std.specs.Prelude.{◌≡◌, ℕ, ◌<◌, ◌⊎◌, Bool, List, false, IfNone, IfSome, MatchOption, length};
 ghost use Rattle.words.specs.Bits.{Has};
+ghost use Rattle.block_map.specs.Listed.{IsLinked};
 ghost use Rattle.block_map.specs.States.{state_at, IsBlockFor};
 ghost use Rattle.object_space.specs.AvailableRows.{IsAvailable};
+ghost use Rattle.object_space.specs.Many.{HasNoneReady};
 ghost use Rattle.object_space.specs.Rooms.{IsRequest, HasNoFreeCell, HasRoomAt, HasNoRoom};
 ghost use Rattle.object_space.specs.Sweeps.{Allocates, FindsNoPlace, FindsNoRoom, Gains, Sweeps};
 
@@ -60,13 +62,29 @@ impl ObjectSpace {
         None
     }
 
-    // Takes the lowest free cell of a page that has one.
+    // Makes the free cells of a page a list, if they are none.
+    #[inline(always)]
+    pub(super) fn link_page(&mut self, page: PageNo, class: Class, kind: Kind)
+        requires cell { IsAvailable (state_at self.old.states page) class kind }
+        ensures sweeps { (marks : List Bool) → Sweeps self.old marks self.new }
+        ensures cell { IsAvailable (state_at self.new.states page) class kind }
+        ensures linked { IsLinked (state_at self.new.states page) }
+        ensures pending { self.new.pending ≡ self.old.pending }
+        ensures free { self.new.free ≡ self.old.free }
+    {
+        self.map.laws();
+        self.map.link(&mut self.memory, page);
+    }
+
+    // Takes the first free cell of a page that has one and a list of them.
     #[inline(always)]
     fn take_cell(&mut self, page: PageNo, class: Class, kind: Kind) -> u64
         requires cell { IsAvailable (state_at self.old.states page) class kind }
+        requires linked { IsLinked (state_at self.old.states page) }
         requires swept { Has self.old.pending page → ⊥ }
         ensures room { HasRoomAt self.old (Placement.Small class) kind result }
         ensures gains { Gains self.old (Placement.Small class) kind result self.new }
+        ensures free { self.new.free ≡ self.old.free }
     {
         self.map.laws();
         take_cell(
@@ -80,7 +98,7 @@ impl ObjectSpace {
         )
     }
 
-    // Cuts a free page, and takes its lowest cell.
+    // Cuts a free page, and takes its first cell.
     #[inline(never)]
     fn take_page(&mut self, class: Class, kind: Kind) -> Option<u64>
         requires { HasNoFreeCell self.old.states class kind }
@@ -90,6 +108,7 @@ impl ObjectSpace {
     {
         self.map.laws();
         let Some(page) = cut_page(
+            &mut self.memory,
             &mut self.pool,
             &mut self.map,
             &mut self.ready,
@@ -139,6 +158,7 @@ impl ObjectSpace {
         let Some(page) = self.swept_page(marker, class, kind) else {
             return self.take_page(class, kind);
         };
+        self.link_page(page, class, kind);
         Some(self.take_cell(page, class, kind))
     }
 
@@ -156,18 +176,21 @@ impl ObjectSpace {
         }
     }
 
-    // The lowest free cell of the lowest page for the class and the kind that needs no sweep.
+    // The first free cell of the lowest page for the class and the kind that needs no sweep.
     #[inline(always)]
     fn take_ready(&mut self, class: Class, kind: Kind) -> Option<u64>
-        ensures room { IfSome result (λ base. HasRoomAt self.old (Placement.Small class) kind base) }
-        ensures gains { IfSome result (λ base. Gains self.old (Placement.Small class) kind base self.new) }
+        ensures allocates { (marks : List Bool) → IfSome result (λ base. Allocates self.old marks (Placement.Small class) kind base self.new) }
         ensures none { IfNone result (self.new ≡ self.old) }
+        ensures free { self.new.free ≡ self.old.free }
+        ensures unready { IfNone result (HasNoneReady self.old (Placement.Small class) kind) }
     {
         self.map.laws();
         let Some(page) = self.ready.first(class, kind) else {
             return None;
         };
-        Some(self.take_cell(page as PageNo, class, kind))
+        let page = page as PageNo;
+        self.link_page(page, class, kind);
+        Some(self.take_cell(page, class, kind))
     }
 
     // Takes a place for a new object where none is ready: it sweeps as it needs, and takes free pages.
@@ -196,7 +219,8 @@ impl ObjectSpace {
     pub fn allocate(&mut self, marker: &Marker, placement: Placement, kind: Kind) -> Option<u64>
         requires request { IsRequest placement }
         requires pages { length marker.now.dirty ≡ length self.old.states }
-        ensures { MatchOption result (FindsNoRoom self.old marker.now.marks placement kind self.new) (λ base. Allocates self.old marker.now.marks placement kind base self.new) }
+        ensures places { MatchOption result (FindsNoRoom self.old marker.now.marks placement kind self.new) (λ base. Allocates self.old marker.now.marks placement kind base self.new) }
+        ensures cuts { HasNoneReady self.old placement kind ⊎ (self.new.free ≡ self.old.free) }
     {
         self.laws();
         if let Placement::Small(class) = &placement

@@ -1,5 +1,9 @@
 //! Where many new objects of a class and kind go in one call: into cells of one page that is cut for them.
 ghost use Rattle.std.specs.Prelude.{◌≡◌, ℕ, ◌<◌, ◌≤◌, Bool, List, length, slice_index_or, take};
+ghost use Rattle.words.specs.Bits.{Has};
+ghost use Rattle.block_map.specs.Listed.{IsLinked};
+ghost use Rattle.block_map.specs.States.{state_at};
+ghost use Rattle.object_space.specs.AvailableRows.{IsAvailable};
 ghost use Rattle.object_space.specs.Many.{AllocatesEach, HasNoneReady};
 
 use super::ObjectSpace;
@@ -22,10 +26,30 @@ impl ObjectSpace {
         let Some(page) = self.ready.first(class, kind) else {
             return 0;
         };
+        if bases.len() == 0 {
+            return 0;
+        }
         let page = page as PageNo;
+        self.link_page(page, class, kind);
+        self.take_linked(page, class, kind, bases)
+    }
+
+    // Takes cells of a page that has a free one and a list of them.
+    fn take_linked(&mut self, page: PageNo, class: Class, kind: Kind, bases: &mut [u64]) -> usize
+        requires cell { IsAvailable (state_at self.old.states page) class kind }
+        requires linked { IsLinked (state_at self.old.states page) }
+        requires swept { Has self.old.pending page → ⊥ }
+        ensures size { length bases.new ≡ length bases.old }
+        ensures few { result ≤ length bases.new }
+        ensures some { 0 < length bases.new → 0 < result }
+        ensures allocates { (marks : List Bool) → AllocatesEach marks (Placement.Small class) kind self.old (take result bases.new) self.new }
+        ensures rest { (k : ℕ) → result ≤ k → slice_index_or bases.new k 0 ≡ slice_index_or bases.old k 0 }
+    {
+        self.map.laws();
         let mut row = [0u16; MOST_CELLS];
         let cells = &mut row[..bases.len().min(MOST_CELLS)];
         let count = take_cells(
+            &self.memory,
             &mut self.map,
             &mut self.ready,
             &self.pending,

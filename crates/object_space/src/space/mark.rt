@@ -1,15 +1,18 @@
 //! What the marker does with the objects: it reads them by the map and the memory.
-ghost use Rattle.std.specs.Prelude.{◌≡◌, ◌<◌, ◌≤◌, ◌↔◌, [], true, length, MatchOption};
+ghost use Rattle.std.specs.Prelude.{◌≡◌, ℕ, ◌<◌, ◌≤◌, ◌↔◌, [], ◌∷◌, true, length, MatchOption};
 ghost use Rattle.block_map.specs.FoundIn.{found_in, IsLawful};
 ghost use Rattle.marker.specs.Marking.{IsEmpty, IsClean, StaysDirty};
 ghost use Rattle.marker.specs.Invariant.{AreRootsMarked};
+ghost use Rattle.pages.specs.Reads.{AreMoments};
 ghost use Rattle.marker.specs.Growth.{MarksWords, Traces};
+ghost use Rattle.marker.specs.Beside.{AreBeside, IsStill, TracesIn};
+ghost use Rattle.words.specs.Bits.{IsFirstFrom};
 ghost use Rattle.marker.specs.Entries.{Takes, TakesOff};
 ghost use Rattle.marker.specs.Retracing.{Retraces};
 
 use super::ObjectSpace;
 use marker::{Marked, Marker};
-use pages::Reader;
+use pages::{Moments, Reader};
 use words::PageNo;
 
 impl ObjectSpace {
@@ -28,7 +31,7 @@ impl ObjectSpace {
     /// Reads at most so many words of entries.
     pub fn mark(&self, marker: &mut Marker, budget: u64) -> Marked
         requires pages { length marker.old.dirty ≡ length self.now.states }
-        ensures takes { Takes (found_in self.now.states) self.now.words marker.old result.read marker.new }
+        ensures takes { Takes (found_in self.now.states) (self.now.words ∷ []) marker.old result.read marker.new }
         ensures traces { Traces (found_in self.now.states) self.now.words [] marker.old marker.new }
         ensures read { result.read ≤ budget }
         ensures empty { (result.empty ≡ true) ↔ IsEmpty marker.new }
@@ -40,6 +43,39 @@ impl ObjectSpace {
         self.map.laws();
         let mut reader = Reader::new(&self.memory);
         marker.step(&self.map, &mut reader, budget)
+    }
+
+    /// Reads at most so many words of entries, while others write on dirty pages: the memory is read at these moments.
+    pub fn mark_beside(&self, marker: &mut Marker, budget: u64, moments: Moments) -> Marked
+        requires pages { length marker.old.dirty ≡ length self.now.states }
+        requires moments { AreMoments self.now.words moments.list }
+        requires beside { AreBeside (found_in self.now.states) marker.old.dirty moments.list }
+        ensures traces { TracesIn (found_in self.now.states) moments.list marker.old marker.new }
+        ensures read { result.read ≤ budget }
+        ensures empty { (result.empty ≡ true) ↔ IsEmpty marker.new }
+        ensures fewer { result.read < budget → IsEmpty marker.new }
+        ensures dirty { StaysDirty marker.old marker.new }
+        ensures lawful { IsLawful self.now.states }
+    {
+        self.map.laws();
+        let mut beside = Reader::beside(&self.memory, moments);
+        marker.step(&self.map, &mut beside, budget)
+    }
+
+    /// Reads the lowest dirty page again, on which nobody writes, while others write on other dirty pages: the memory is read at
+    /// these moments.
+    pub fn retrace_beside(&self, marker: &mut Marker, moments: Moments) -> Option<PageNo>
+        requires pages { length marker.old.dirty ≡ length self.now.states }
+        requires moments { AreMoments self.now.words moments.list }
+        requires beside { AreBeside (found_in self.now.states) marker.old.dirty moments.list }
+        requires still { (p : ℕ) → IsFirstFrom marker.old.dirty 0 p → IsStill (found_in self.now.states) self.now.words moments.list p }
+        ensures page { MatchOption result (IsClean marker.old × (marker.new ≡ marker.old)) (λ p. Retraces (found_in self.now.states) self.now.words p marker.old marker.new) }
+        ensures traces { TracesIn (found_in self.now.states) moments.list marker.old marker.new }
+        ensures lawful { IsLawful self.now.states }
+    {
+        self.map.laws();
+        let mut beside = Reader::beside(&self.memory, moments);
+        marker.retrace(&self.map, &mut beside)
     }
 
     /// Reads the lowest dirty page again.

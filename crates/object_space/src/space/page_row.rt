@@ -2,14 +2,14 @@
 ghost use Rattle.std.specs.Prelude.{◌≡◌, ◌<◌, ◌^◌, true, false, length, slice_index_or, slice_set, IfOk, MatchOption};
 ghost use Rattle.words.specs.Bits.{members, IsClear, IsEmptyFrom, IsFirstFrom};
 
+use dirty_pages::SummedRow;
 use std::alloc::{AllocError, Global};
 use std::marker::Model;
-use words::BitRow;
 
 /// A row of pages, seen as the row of their bits.
 #[derive(Drop)]
 pub(super) struct PageRow {
-    row: BitRow,
+    row: SummedRow,
     // The lowest member, or the number of bits where there is none.
     lowest: usize,
 }
@@ -32,7 +32,7 @@ impl PageRow {
         requires { pages < 2 ^ 32 }
         ensures { IfOk result (λ row. IsClear row pages) }
     {
-        let row = BitRow::new(alloc, pages)?;
+        let row = SummedRow::new(alloc, pages)?;
         Ok(PageRow { row, lowest: pages })
     }
 
@@ -65,11 +65,11 @@ impl PageRow {
         self.row.is_set(page)
     }
 
-    /// How many members there are, counted by whole words.
+    /// How many members there are.
     pub(super) fn count(&self) -> u32
         ensures { result ≡ members self.now }
     {
-        self.row.count(0, self.row.len())
+        self.row.count()
     }
 
     /// Enters a page.

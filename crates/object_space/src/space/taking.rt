@@ -1,10 +1,10 @@
 //! How a page is cut and a cell is taken, over the parts of the heap's objects: words, free pages, map and rows.
-ghost use Rattle.std.specs.Prelude.{◌≡◌, ◌*◌, ℕ, length, IfNone, IfSome};
-ghost use Rattle.words.specs.declared.limits.TheConstants.{PAGE_WORDS};
+ghost use Rattle.std.specs.Prelude.{◌≡◌, ℕ, IfNone, IfSome};
 ghost use Rattle.words.specs.Bits.{Has};
 ghost use Rattle.words.specs.Classes.{IsSizeClass};
 ghost use Rattle.pages.specs.Runs.{HasNoFreeRun};
 ghost use Rattle.block_map.specs.States.{state_at, IsCut};
+ghost use Rattle.block_map.specs.Listed.{first_on, AreListed, IsLinked};
 ghost use Rattle.object_space.specs.Store.{Agree};
 ghost use Rattle.object_space.specs.AvailableRows.{AreReady, IsAvailable};
 ghost use Rattle.object_space.specs.Rooms.{IsFreeCell, TakesCell, CutsPage};
@@ -17,6 +17,7 @@ use words::{Class, Kind, PageNo};
 
 /// Takes a free page, and cuts it.
 pub(super) fn cut_page(
+    memory: &mut Memory,
     pool: &mut PagePool,
     map: &mut BlockMap,
     ready: &mut AvailablePages,
@@ -25,10 +26,13 @@ pub(super) fn cut_page(
     kind: Kind,
 ) -> Option<PageNo>
     requires agree { Agree pool.old map.old }
+    requires listed { AreListed memory.old map.old }
     requires exact { AreReady ready.old map.old pending.now }
     requires pending { (p : ℕ) → Has pending.now p → IsCut (state_at map.old p) }
-    ensures some { IfSome result (λ page. CutsPage pool.old pool.new map.old map.new class kind page) }
-    ensures none { IfNone result (HasNoFreeRun pool.old 1 × (pool.new ≡ pool.old) × (map.new ≡ map.old)) }
+    ensures some { IfSome result (λ page. CutsPage memory.old memory.new pool.old pool.new map.old map.new class kind page) }
+    ensures none { IfNone result (HasNoFreeRun pool.old 1 × (memory.new ≡ memory.old) × (pool.new ≡ pool.old) × (map.new ≡ map.old)) }
+    ensures listed { AreListed memory.new map.new }
+    ensures linked { IfSome result (λ page. IsLinked (state_at map.new page)) }
     ensures exact { AreReady ready.new map.new pending.now }
     ensures class { IsSizeClass class }
 {
@@ -37,12 +41,12 @@ pub(super) fn cut_page(
     let Some(page) = pool.take_run(1) else {
         return None;
     };
-    map.cut(page, class, kind);
+    map.cut(memory, page, class, kind);
     ready.enter(class, kind, page);
     Some(page)
 }
 
-/// Takes the lowest free cell of a page that has one, and writes 0 into its words.
+/// Takes the first free cell of a page that has one and a list of them, and writes 0 into its words.
 #[inline(always)]
 pub(super) fn take_cell(
     memory: &mut Memory,
@@ -54,14 +58,17 @@ pub(super) fn take_cell(
     kind: Kind,
 ) -> u64
     requires cell { IsAvailable (state_at map.old page) class kind }
-    requires long { length memory.old ≡ PAGE_WORDS * length map.old }
+    requires linked { IsLinked (state_at map.old page) }
+    requires listed { AreListed memory.old map.old }
     requires swept { Has pending.now page → ⊥ }
     requires exact { AreReady ready.old map.old pending.now }
-    ensures takes { (cell : ℕ) × IsFreeCell map.old class kind page cell × TakesCell memory.old memory.new map.old map.new page cell result }
+    ensures cell { IsFreeCell map.old class kind page (first_on (state_at map.old page)) }
+    ensures takes { TakesCell memory.old memory.new map.old map.new page (first_on (state_at map.old page)) result }
+    ensures listed { AreListed memory.new map.new }
     ensures exact { AreReady ready.new map.new pending.now }
 {
     map.laws();
-    let Some(taken) = map.take(page) else {
+    let Some(taken) = map.take(memory, page) else {
         unreachable!();
     };
     memory.zero(taken.object.base, taken.object.len);

@@ -2,7 +2,8 @@
 ghost use Rattle.std.specs.Prelude.{◌≡◌, ◌+◌, ◌*◌, ℕ, ◌<◌, ◌≤◌, All, length, map, slice_index_or, take};
 ghost use Rattle.words.specs.declared.limits.TheConstants.{PAGE_WORDS};
 ghost use Rattle.words.specs.Bits.{Has};
-ghost use Rattle.block_map.specs.States.{state_at};
+ghost use Rattle.block_map.specs.States.{state_at, IsLaid};
+ghost use Rattle.block_map.specs.Listed.{AreListed, IsLinked};
 ghost use Rattle.block_map.specs.Takings.{TakesCells};
 ghost use Rattle.object_space.specs.AvailableRows.{AreReady, IsAvailable};
 ghost use Rattle.object_space.specs.Many.{ZeroesEach, base_of};
@@ -14,9 +15,10 @@ use pages::Memory;
 use words::limits::WORD_BYTES;
 use words::{Class, Kind, PageNo, page_start};
 
-/// Takes the lowest free cells of a page that has one, as many as there is room for, and writes them down in their order.
-/// Answers how many.
+/// Takes the first free cells of a page that has one and a list of them, as many as there is room for, and writes them down
+/// in their order. Answers how many.
 pub(super) fn take_cells(
+    memory: &Memory,
     map: &mut BlockMap,
     ready: &mut AvailablePages,
     pending: &PageRow,
@@ -26,17 +28,22 @@ pub(super) fn take_cells(
     cells: &mut [u16],
 ) -> usize
     requires cell { IsAvailable (state_at map.old page) class kind }
+    requires linked { IsLinked (state_at map.old page) }
+    requires listed { AreListed memory.now map.old }
     requires swept { Has pending.now page → ⊥ }
     requires exact { AreReady ready.old map.old pending.now }
     ensures size { length cells.new ≡ length cells.old }
     ensures few { result ≤ length cells.new }
     ensures some { 0 < length cells.new → 0 < result }
-    ensures takes { TakesCells page map.old (take result cells.new) map.new }
+    ensures listed { AreListed memory.now map.new }
+    ensures takes { TakesCells memory.now page map.old (take result cells.new) map.new }
     ensures inside { All (λ cell. cell * class + class ≤ PAGE_WORDS) (take result cells.new) }
     ensures exact { AreReady ready.new map.new pending.now }
+    ensures laid { IsLaid map.new }
 {
     map.laws();
-    let taken = map.take_many(page, cells);
+    let taken = map.take_many(memory, page, cells);
+    map.laws();
     if taken.is_full {
         ready.leave(class, kind, page);
     }

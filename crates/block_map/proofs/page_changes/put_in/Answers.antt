@@ -10,7 +10,7 @@ pub returns-clause-tells : goal.returns-clause-tells
 returns-clause-tells c =
     tells_of c.args.block.now c.args.cell _
     (subst IsSizeClass (sym c.class-class.ensures.class) c.class-class.ensures.cells.class)
-    (sym (c.class-class.ensures.class ∙ ap (λ (x : Cells). x.class) c.put.ensures))
-    (sym (c.kind-kind.ensures ∙ ap (λ (x : Cells). x.kind) c.put.ensures))
+    (sym (c.class-class.ensures.class ∙ ap (λ (x : Cells). x.class) c.put.ensures.block))
+    (sym (c.kind-kind.ensures ∙ ap (λ (x : Cells). x.kind) c.put.ensures.block))
     c.is_full-was_full.ensures
-    (subst (λ (x : Cells). MatchBool c.is_empty-is_empty.result (IsEmptyFrom x.taken 0) ((i : ℕ) × IsFirstFrom x.taken 0 i)) c.put.ensures c.is_empty-is_empty.ensures)
+    (subst (λ (x : Cells). MatchBool c.is_empty-is_empty.result (IsEmptyFrom x.taken 0) ((i : ℕ) × IsFirstFrom x.taken 0 i)) c.put.ensures.block c.is_empty-is_empty.ensures)

@@ -6,14 +6,14 @@ use Rattle.dirty_pages.proofs.DirtyPages.add.Goals as goal
 pub returns-clause-each : goal.returns-clause-each
 returns-clause-each c =
     let same : length (bits c.more.inside.words c.more.inside.len) ≡ length (bits c.self.inside.words c.self.inside.len) = ap length c.more.view_is ∙ c.requires ∙ ap length (sym c.self.view_is) in
-    rw (← c.self.view_is, ← c.more.view_is) (or_each c.self.inside.words c.more.inside.words c.add_words.new.words c.self.inside.len c.more.inside.len c.self.invariant.1 same c.add_words.ensures)
+    rw (← c.self.view_is, ← c.more.view_is) (or_each c.self.inside.words c.more.inside.words c.add_words.new.words c.self.inside.len c.more.inside.len same c.add_words.ensures)
 
 pub returns-clause-old : goal.returns-clause-old
 returns-clause-old c =
     let same : length (bits c.more.inside.words c.more.inside.len) ≡ length (bits c.self.inside.words c.self.inside.len) = ap length c.more.view_is ∙ c.requires ∙ ap length (sym c.self.view_is) in
-    rw (← c.self.view_is) (or_old c.self.inside.words c.more.inside.words c.add_words.new.words c.self.inside.len c.more.inside.len c.self.invariant.1 same c.add_words.ensures)
+    rw (← c.self.view_is) (or_old c.self.inside.words c.more.inside.words c.add_words.new.words c.self.inside.len c.more.inside.len same c.add_words.ensures)
 
 pub returns-clause-more : goal.returns-clause-more
 returns-clause-more c =
     let same : length (bits c.more.inside.words c.more.inside.len) ≡ length (bits c.self.inside.words c.self.inside.len) = ap length c.more.view_is ∙ c.requires ∙ ap length (sym c.self.view_is) in
-    rw (← c.more.view_is) (or_more c.self.inside.words c.more.inside.words c.add_words.new.words c.self.inside.len c.more.inside.len c.self.invariant.1 same c.add_words.ensures)
+    rw (← c.more.view_is) (or_more c.self.inside.words c.more.inside.words c.add_words.new.words c.self.inside.len c.more.inside.len same c.add_words.ensures)

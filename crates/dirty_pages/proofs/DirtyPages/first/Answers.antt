@@ -3,8 +3,8 @@ use Rattle.dirty_pages.proofs.DirtyPages.first.Goals as goal
 
 pub returns-then-page-self-clause-first : goal.returns-then-page-self-clause-first
 returns-then-page-self-clause-first c =
-    rw (← c.self.view_is) (first_page _ _ _ _ c.self.invariant.0 c.self.invariant.1 c.in_ok-j.ensures c.at.ensures c.at.type_inv c.if-page-self.true)
+    rw (← c.self.view_is) (first_page _ _ _ _ c.self.invariant.0 c.in_ok-j.ensures c.at.ensures c.at.type_inv c.if-page-self.true)
 
 pub returns-else-page-self-clause-first : goal.returns-else-page-self-clause-first
 returns-else-page-self-clause-first c =
-    rw (← c.self.view_is) (no_page _ _ _ _ c.self.invariant.0 c.self.invariant.1 c.in_ok-j.ensures c.at.ensures c.at.type_inv c.if-page-self.false)
+    rw (← c.self.view_is) (no_page _ _ _ _ c.self.invariant.0 c.in_ok-j.ensures c.at.ensures c.at.type_inv c.if-page-self.false)

@@ -1,4 +1,4 @@
-use Rattle.std.proofs.Common.{length, ◌∙◌, refl, arith}
+use Rattle.std.proofs.Common.{[], ◌∷◌, length, ◌∙◌, refl, sym, ap, arith}
 use Rattle.block_map.specs.FoundIn.{found_in}
 use Rattle.final_pause.proofs.Closing.{Closes, closes_step, closed, closed_reads}
 use Rattle.final_pause.proofs.alone.close_marks.Goals as goal
@@ -10,6 +10,7 @@ loop-init c =
     record {
       closes = record { traces = t; scanned = c.scan_roots.ensures.roots; less = (let a = c.scan_roots.ensures.cost in omega arith) };
       words = refl;
+      moments = refl;
     }
 
 closes : (c : After-mark_on) → Closes (found_in c.args.map.now) c.args.reader.now.words c.args.roots.now c.args.reader.now.reads c.args.marker.now c.mark_on.new.reader.reads c.mark_on.new.marker
@@ -25,6 +26,7 @@ loop-preserved c =
     record {
       closes = closes a;
       words = c.mark_on.ensures.words ∙ i.words;
+      moments = c.mark_on.ensures.moments ∙ i.moments;
     }
 
 pub returns-clause-traces : goal.returns-clause-traces
@@ -37,3 +39,6 @@ pub returns-clause-closure : goal.returns-clause-closure
 returns-clause-closure c =
     closed (length c.args.map.now) (found_in c.args.map.now) c.args.reader.now.words c.args.roots.now _ _ _ _ c.scan_roots.ensures.lawful.map c.requires.invariant (closes (goal.at.returns-clause-closure c).After-mark_on)
     c.in_default.ensures.done
+
+pub mark_on-requires-clause-one : goal.mark_on-requires-clause-one
+mark_on-requires-clause-one c = c.loop.invariant.moments ∙ c.requires.one ∙ ap (λ w. w ∷ []) (sym c.loop.invariant.words)

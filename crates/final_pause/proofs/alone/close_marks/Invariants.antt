@@ -8,6 +8,7 @@ abbrev pub invariant-loop : goal.invariant-loop
 invariant-loop l = record {
   closes : Closes (found_in l.map) l.fn.reader.words l.roots l.fn.reader.reads l.fn.marker l.reader.reads l.marker;
   words : l.reader.words ≡ l.fn.reader.words;
+  moments : l.reader.moments ≡ l.fn.reader.moments;
 }
 
 abbrev pub decreases-loop : goal.decreases-loop

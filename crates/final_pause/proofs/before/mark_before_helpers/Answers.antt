@@ -1,4 +1,4 @@
-use Rattle.std.proofs.Common.{length, ◌∙◌, arith}
+use Rattle.std.proofs.Common.{[], ◌∷◌, length, ◌∙◌, sym, ap, arith}
 use Rattle.block_map.specs.FoundIn.{found_in}
 use Rattle.marker.proofs.Growing.{traces_refl}
 use Rattle.final_pause.proofs.Closing.{Closes, closes_step, closed}
@@ -13,6 +13,7 @@ loop-more-init c =
     record {
       closes = record { traces = c.scan_roots.ensures.traces c.args.memory.now; scanned = c.scan_roots.ensures.roots; less = (let a = c.scan_roots.ensures.cost in let n = c.new-reader.ensures.none in omega arith) };
       words = c.new-reader.ensures.words;
+      one = c.new-reader.ensures.moments;
     }
 
 closes : (c : After-mark_on) → Closes (found_in c.args.map.now) c.args.memory.now c.args.roots.now 0 c.args.marker.now c.mark_on.new.reader.reads c.mark_on.new.marker
@@ -22,10 +23,10 @@ pub returns-then-has_words-clause-traces : goal.returns-then-has_words-clause-tr
 returns-then-has_words-clause-traces c = (closes (goal.at.returns-then-has_words-clause-traces c).After-mark_on).traces
 
 pub loop-more-preserved-then-is_shareable : goal.loop-more-preserved-then-is_shareable
-loop-more-preserved-then-is_shareable c = record { closes = closes (goal.at.loop-more-preserved-then-is_shareable c).After-mark_on; words = c.mark_on.ensures.words ∙ c.loop-more.invariant.words }
+loop-more-preserved-then-is_shareable c = record { closes = closes (goal.at.loop-more-preserved-then-is_shareable c).After-mark_on; words = c.mark_on.ensures.words ∙ c.loop-more.invariant.words; one = c.mark_on.ensures.moments ∙ c.loop-more.invariant.one ∙ ap (λ w. w ∷ []) (sym c.mark_on.ensures.words) }
 
 pub loop-more-preserved : goal.loop-more-preserved
-loop-more-preserved c = record { closes = closes (goal.at.loop-more-preserved c).After-mark_on; words = c.mark_on.ensures.words ∙ c.loop-more.invariant.words }
+loop-more-preserved c = record { closes = closes (goal.at.loop-more-preserved c).After-mark_on; words = c.mark_on.ensures.words ∙ c.loop-more.invariant.words; one = c.mark_on.ensures.moments ∙ c.loop-more.invariant.one ∙ ap (λ w. w ∷ []) (sym c.mark_on.ensures.words) }
 
 pub returns-clause-closure : goal.returns-clause-closure
 returns-clause-closure c = λ _.

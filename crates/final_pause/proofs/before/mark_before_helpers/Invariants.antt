@@ -1,4 +1,4 @@
-use Rattle.std.proofs.Common.{◌≡◌}
+use Rattle.std.proofs.Common.{◌≡◌, ◌∷◌, []}
 use Rattle.block_map.specs.FoundIn.{found_in}
 use Rattle.marker.specs.Work.{cost}
 use Rattle.final_pause.proofs.Closing.{Closes}
@@ -8,6 +8,7 @@ abbrev pub invariant-loop-more : goal.invariant-loop-more
 invariant-loop-more l = record {
   closes : Closes (found_in l.map) l.memory l.roots 0 l.fn.marker l.reader.reads l.marker;
   words : l.reader.words ≡ l.memory;
+  one : l.reader.moments ≡ l.reader.words ∷ [];
 }
 
 abbrev pub decreases-loop-more : goal.decreases-loop-more

@@ -1,6 +1,7 @@
-use Rattle.std.proofs.Common.{All, sym, subst, rules}
+use Rattle.std.proofs.Common.{◌≡◌, ◌∙◌, All, length, sym, subst, rules, arith}
 use Rattle.std.proofs.lemmas.List.Elements.{All-push}
 use Rattle.final_pause.specs.declared.helper.Helper.{Helper}
+use Rattle.final_pause.proofs.Numbering.{numbered_push}
 use Rattle.final_pause.specs.Serving.{IsHired}
 use Rattle.final_pause.proofs.crew.hire.Goals as goal
 
@@ -13,5 +14,6 @@ loop-i-preserved c =
       size = search rules;
       parts = search rules;
       hired = subst (All hired) (sym c.in_ok-push.ensures.items) (All-push hired c.loop-i.crew.items c.in_ok-new_helper.field-0 c.loop-i.invariant.hired c.in_ok-new_helper.ensures.hired);
-      numbered = search rules;
+      numbered = numbered_push c.loop-i.crew.items _ c.in_ok-new_helper.field-0 c.in_ok-push.ensures.items c.loop-i.invariant.numbered
+          (c.in_ok-new_helper.ensures.share ∙ sym (let ok = c.loop-i.crew.ok.0 in let is = c.loop-i.invariant.size in omega arith));
     }

@@ -2,6 +2,7 @@ use Rattle.std.proofs.Common.{◌≡◌, ◌∙◌, ℕ, true, false, List, leng
 use Rattle.words.specs.Layout.{page_of}
 use Rattle.marker.specs.Marking.{bytes_of, word_address}
 use Rattle.marker.specs.Growth.{CarriesPage, TellsStray, words_from}
+use Rattle.marker.proofs.Beside.{only_run}
 use Rattle.marker.proofs.Words.{run_page, carries_some, carries_none}
 use Rattle.final_pause.specs.Helping.{found, VisitsAll}
 use Rattle.final_pause.proofs.Growing.{lent_words, reads_run}
@@ -32,7 +33,7 @@ pub carry-requires : goal.carry-requires
 carry-requires g c =
     let p = c.args.self.now in let object = c.args.found in let r = c.requires.fits.ready in let placed = r.map.placed _ _ c.requires.object.points in
     let f = c.from.ensures in
-    let run = lent_words p.memory.now c.new-reader.result.words c.read_run.result (length p.map.now) object c.args.first c.args.count _ placed c.requires.inside r.memory (omega arith) c.read_run.ensures.run c.new-reader.ensures.words in
+    let run = lent_words p.memory.now c.new-reader.result.words c.read_run.result (length p.map.now) object c.args.first c.args.count _ placed c.requires.inside r.memory (omega arith) (only_run c.new-reader.result.words c.new-reader.result.moments _ _ _ c.new-reader.ensures.moments c.read_run.ensures.run) c.new-reader.ensures.words in
     let tells : TellsStray (found p) (bytes_of p.marker.now) (words_from p.memory.now object c.args.first c.args.count) true =
     subst (λ (ws : List ℕ). TellsStray (found p) (bytes_of p.marker.now) ws true) run (subst (TellsStray (found p) (bytes_of p.marker.now) c.read_run.result) c.if-visit_all.true c.visit_all.ensures.stray) in
     let q = c.page_of.ensures in
@@ -44,7 +45,7 @@ pub returns-then-visit_all : goal.returns-then-visit_all
 returns-then-visit_all g c =
     let p = c.args.self.now in let object = c.args.found in let r = c.requires.fits.ready in let placed = r.map.placed _ _ c.requires.object.points in
     let f = c.from.ensures in
-    let run = lent_words p.memory.now c.new-reader.result.words c.read_run.result (length p.map.now) object c.args.first c.args.count _ placed c.requires.inside r.memory (omega arith) c.read_run.ensures.run c.new-reader.ensures.words in
+    let run = lent_words p.memory.now c.new-reader.result.words c.read_run.result (length p.map.now) object c.args.first c.args.count _ placed c.requires.inside r.memory (omega arith) (only_run c.new-reader.result.words c.new-reader.result.moments _ _ _ c.new-reader.ensures.moments c.read_run.ensures.run) c.new-reader.ensures.words in
     let tells : TellsStray (found p) (bytes_of p.marker.now) (words_from p.memory.now object c.args.first c.args.count) true =
     subst (λ (ws : List ℕ). TellsStray (found p) (bytes_of p.marker.now) ws true) run (subst (TellsStray (found p) (bytes_of p.marker.now) c.read_run.result) c.if-visit_all.true c.visit_all.ensures.stray) in
     let q = c.page_of.ensures in
@@ -63,7 +64,7 @@ pub returns-else-visit_all : goal.returns-else-visit_all
 returns-else-visit_all g c =
     let p = c.args.self.now in let object = c.args.found in let r = c.requires.fits.ready in let placed = r.map.placed _ _ c.requires.object.points in
     let f = c.from.ensures in
-    let run = lent_words p.memory.now c.new-reader.result.words c.read_run.result (length p.map.now) object c.args.first c.args.count _ placed c.requires.inside r.memory (omega arith) c.read_run.ensures.run c.new-reader.ensures.words in
+    let run = lent_words p.memory.now c.new-reader.result.words c.read_run.result (length p.map.now) object c.args.first c.args.count _ placed c.requires.inside r.memory (omega arith) (only_run c.new-reader.result.words c.new-reader.result.moments _ _ _ c.new-reader.ensures.moments c.read_run.ensures.run) c.new-reader.ensures.words in
     let tells : TellsStray (found p) (bytes_of p.marker.now) (words_from p.memory.now object c.args.first c.args.count) false =
     subst (λ (ws : List ℕ). TellsStray (found p) (bytes_of p.marker.now) ws false) run (subst (TellsStray (found p) (bytes_of p.marker.now) c.read_run.result) c.if-visit_all.false c.visit_all.ensures.stray) in
     let h = c.visit_all.new.helper in
@@ -71,3 +72,8 @@ returns-else-visit_all g c =
     (subst (λ (ws : List ℕ). VisitsAll p ws c.args.helper.now c.visit_all.new.helper) run c.visit_all.ensures.visits)
     refl refl refl refl
     (carries_none (found p) (bytes_of p.marker.now) _ (page_of (word_address object c.args.first)) h.carried tells)
+
+pub overflow_cast-page_of : goal.overflow_cast-page_of
+overflow_cast-page_of g c =
+    let r = c.requires.fits.ready in let placed = r.map.placed _ _ c.requires.object.points in
+    let f = c.from.ensures in let p = placed.below in let a = placed.above in let s = r.few in let l = c.requires.inside in let q = c.page_of.ensures in omega arith

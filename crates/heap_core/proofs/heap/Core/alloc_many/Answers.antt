@@ -1,4 +1,4 @@
-use Rattle.std.proofs.Common.{◌≡◌, ◌+◌, take, ◌++◌, refl, sym, ap, ◌∙◌, subst, arith}
+use Rattle.std.proofs.Common.{◌≡◌, ◌+◌, take, ◌++◌, refl, sym, ap, ◌∙◌, subst, arith, length}
 use Rattle.std.proofs.lemmas.List.{append-nil, length-take-le}
 use Rattle.roots.proofs.Refusals.{handed_on}
 use Rattle.heap_core.specs.Many.{Grants, begun, all, refused}
@@ -32,12 +32,13 @@ returns-in_err-done c =
     let kept : take c.loop-done.done (c.split_at_mut-rest.result.0.now ++ c.alloc_some.new.bases) ≡ take c.loop-done.done c.loop-done.bases =
     ap (λ n. take n (c.split_at_mut-rest.result.0.now ++ c.alloc_some.new.bases)) (let e : c.loop-done.done ≡ c.loop-done.done + 0 = omega arith in e)
     ∙ joined_take c.loop-done.bases c.split_at_mut-rest.result.0.now c.split_at_mut-rest.result.1.now c.alloc_some.new.bases c.loop-done.done s.front s.front_len s.back a.size 0 ∙ append-nil (take c.loop-done.done c.loop-done.bases) in
+    let lt = c.loop-done-test.true in let cut = ap length kept in let whole = length-take-le c.loop-done.done c.loop-done.bases i.few in
     rw (handed_on _ _ _ c.from_residual.ensures.1 refl, count) (record {
       size = omega arith;
       few = omega arith;
       rest = λ k past. joined_rest c.loop-done.bases c.split_at_mut-rest.result.0.now c.split_at_mut-rest.result.1.now c.alloc_some.new.bases c.loop-done.done s.front s.front_len s.back a.size 0 (λ j _. a.same j) k (omega arith)
           ∙ i.rest k past;
-      made = refused (subst (λ bases. Grants c.args.slot c.args.into c.args.words c.args.kind c.args.self.now bases c.loop-done.self) (sym kept) i.granted) a.refused;
+      made = refused (omega (arith, lt, cut, whole)) (subst (λ bases. Grants c.args.slot c.args.into c.args.words c.args.kind c.args.self.now bases c.loop-done.self) (sym kept) i.granted) a.refused;
     })
 
 pub returns : goal.returns

@@ -8,7 +8,11 @@ use Rattle.heap_core.proofs.Cycling.{collects_all}
 use Rattle.heap_core.proofs.Along.{traced_along}
 use Rattle.heap_core.proofs.Tracing.{traced_ended}
 use Rattle.heap_core.proofs.Legal.{legal_collected}
+use Rattle.heap_core.proofs.Unmarked.{unmarked_past}
 use Rattle.heap_core.proofs.heap.Core.collect.Goals as goal
+
+pub begin-requires-clause-unmarked : goal.begin-requires-clause-unmarked
+begin-requires-clause-unmarked c = unmarked_past _ c.self.inside.marker _ c.self.invariant.traced.objects c.used-used.ensures.below
 
 pub returns : goal.returns
 returns c =

@@ -1,9 +1,11 @@
 use Rattle.std.proofs.Common.{refl, sym, arith}
+use Rattle.block_map.specs.FoundIn.{found_in}
+use Rattle.object_space.specs.Kept.{is_kept}
 use Rattle.heap_core.proofs.Tracing.{traced_write}
 use Rattle.heap_spec.specs.declared.call.Call.TheVariants.{Store}
 use Rattle.heap_spec.specs.declared.reply.Reply.TheVariants.{Done}
 use Rattle.heap_spec.specs.Steps.{Acts}
-use Rattle.object_space.proofs.Kept.{kept_map}
+use Rattle.object_space.proofs.Kept.{kept_cases, kept_map}
 use Rattle.roots.proofs.Refusals.{handed_on}
 use Rattle.heap_core.proofs.Roots.{refused, refused_vacant}
 use Rattle.heap_view.proofs.Shows.{is_word}
@@ -23,8 +25,15 @@ returns-in_err-find_in c = rw (← c.self.view_is, handed_on _ _ _ c.from_residu
     (refused _ _ _ _ c.in_ok-mutator.mutator.now _ _ c.in_ok-mutator.ensures.ok (λ h. h)
     (λ s h. Acts.store_nothing (rw c.address-target.ensures at c.if-target-ne0.false) (finds_nothing _ _ s _ c.in_err-find_in.ensures.lawful h (rw c.address-target.ensures at (sym c.in_err-find_in.ensures.err.1)))))
 
-pub write-requires : goal.write-requires
-write-requires c = is_word _ _ (kept_map _ _ _ c.in_ok-find_in.ensures.lawful.map) _ c.in_ok-find_in.ensures.long _ c.in_ok-find_in.field-0 (sym c.in_ok-find_in.ensures.ok) c.if-target-ne0.false
+pub write-requires-clause-address : goal.write-requires-clause-address
+write-requires-clause-address c = is_word _ _ (kept_map _ _ _ c.in_ok-find_in.ensures.lawful.map) _ c.in_ok-find_in.ensures.long _ c.in_ok-find_in.field-0 (sym c.in_ok-find_in.ensures.ok) c.if-target-ne0.false
+
+pub write-requires-clause-object : goal.write-requires-clause-object
+write-requires-clause-object c = (
+  c.in_ok-find_in.field-0,
+  (kept_cases (is_kept c.self.inside.objects.pending c.self.inside.marker.marks) (found_in c.self.inside.objects.states) c.address-target.result c.in_ok-find_in.field-0
+      (sym c.in_ok-find_in.ensures.ok)).0,
+)
 
 pub note_write-requires-clause-low : goal.note_write-requires-clause-low
 note_write-requires-clause-low c =

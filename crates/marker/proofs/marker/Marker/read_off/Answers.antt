@@ -1,11 +1,10 @@
-use Rattle.std.proofs.Common.{◌≡◌, ◌+◌, ◌∙◌, ℕ, List, [], length, subst, arith}
+use Rattle.std.proofs.Common.{◌≡◌, ◌+◌, ◌∙◌, ℕ, List, length, subst, arith}
 use Rattle.block_map.specs.FoundIn.{found_in}
-use Rattle.marker.specs.Growth.{Traces}
 use Rattle.marker.specs.Entries.{Takes, nothing, settled, read}
 use Rattle.marker.proofs.Closures.{marks_of}
 use Rattle.marker.proofs.Known.{known_on, known_left, known_taken}
 use Rattle.marker.proofs.Settling.{read_out, settles_next}
-use Rattle.marker.proofs.Taking.{takes_traces, takes_trans}
+use Rattle.marker.proofs.Taking.{Grows, takes_grows, takes_trans}
 use Rattle.marker.proofs.marker.Marker.read_off.Goals as goal
 use Rattle.marker.proofs.marker.Marker.read_off.Goals.{After-read_on-count, After-read_wholes-count}
 
@@ -13,37 +12,37 @@ pub left_in-left-requires : goal.left_in-left-requires
 left_in-left-requires c = let l = c.requires.live.unread.left in (c.requires.live.entry, c.requires.live.current, omega arith)
 
 -- the words of the entry that is being read
-first : (c : After-read_on-count) → Takes (found_in c.args.map.now) c.args.reader.now.words c.args.self.now c.read_on-count.result c.read_on-count.new.self
+first : (c : After-read_on-count) → Takes (found_in c.args.map.now) c.args.reader.now.moments c.args.self.now c.read_on-count.result c.read_on-count.new.self
 first c =
     let all : 0 + c.read_on-count.result ≡ c.read_on-count.result = omega arith in
-    subst (λ (n : ℕ). Takes (found_in c.args.map.now) c.args.reader.now.words c.args.self.now n c.read_on-count.new.self) all (read nothing c.read_on-count.ensures.read)
+    subst (λ (n : ℕ). Takes (found_in c.args.map.now) c.args.reader.now.moments c.args.self.now n c.read_on-count.new.self) all (read nothing c.read_on-count.ensures.read)
 
-traces : (c : After-read_on-count) → Traces (found_in c.args.map.now) c.args.reader.now.words [] c.args.self.now c.read_on-count.new.self
-traces c = takes_traces (length c.args.map.now) (found_in c.args.map.now) c.requires.lawful.map c.args.reader.now.words c.args.self.now (marks_of _ _ c.laws.ensures c.requires.pages) (first c)
+grows : (c : After-read_on-count) → Grows c.args.self.now c.read_on-count.new.self
+grows c = takes_grows (length c.args.map.now) (found_in c.args.map.now) c.requires.lawful.map c.args.reader.now.moments c.args.self.now (marks_of _ _ c.laws.ensures c.requires.pages) (first c)
 
 pub read_wholes-count-requires-clause-pages : goal.read_wholes-count-requires-clause-pages
-read_wholes-count-requires-clause-pages c = (traces (goal.at.read_wholes-count-requires-clause-pages c).After-read_on-count).dirty_len ∙ c.requires.pages
+read_wholes-count-requires-clause-pages c = (grows (goal.at.read_wholes-count-requires-clause-pages c).After-read_on-count).dirty_len ∙ c.requires.pages
 
 pub read_wholes-count-requires-clause-known : goal.read_wholes-count-requires-clause-known
 read_wholes-count-requires-clause-known c =
-    known_on (length c.args.map.now) (found_in c.args.map.now) c.requires.lawful.map c.args.self.now (marks_of _ _ c.laws.ensures c.requires.pages) c.args.known c.requires.known c.args.reader.now.words c.read_on-count.result c.read_on-count.new.self c.read_on-count.ensures.read
+    known_on (length c.args.map.now) (found_in c.args.map.now) c.requires.lawful.map c.args.self.now (marks_of _ _ c.laws.ensures c.requires.pages) c.args.known c.requires.known c.read_on-count.ensures.read.seen c.read_on-count.result c.read_on-count.new.self c.read_on-count.ensures.read.reads
 
 pub read_wholes-count-requires-clause-done : goal.read_wholes-count-requires-clause-done
 read_wholes-count-requires-clause-done c =
     let left = c.left_in-left.ensures c.requires.live.entry c.requires.live.current in
     let same = c.if-count-left.true in
-    read_out (found_in c.args.map.now) c.args.reader.now.words c.read_on-count.result c.args.self.now c.read_on-count.new.self c.args.found c.read_on-count.ensures.read c.requires.live (omega arith)
+    read_out (found_in c.args.map.now) c.read_on-count.ensures.read.seen c.read_on-count.result c.args.self.now c.read_on-count.new.self c.args.found c.read_on-count.ensures.read.reads c.requires.live (omega arith)
 
 -- and those of whole objects behind it
-wholes : (c : After-read_wholes-count) → Takes (found_in c.args.map.now) c.args.reader.now.words c.read_on-count.new.self c.read_wholes-count.result c.read_wholes-count.new.self
+wholes : (c : After-read_wholes-count) → Takes (found_in c.args.map.now) c.args.reader.now.moments c.read_on-count.new.self c.read_wholes-count.result c.read_wholes-count.new.self
 wholes c =
-    subst (λ (w : List ℕ). Takes (found_in c.args.map.now) w c.read_on-count.new.self c.read_wholes-count.result c.read_wholes-count.new.self) c.read_on-count.ensures.words c.read_wholes-count.ensures.takes
+    subst (λ (w : List (List ℕ)). Takes (found_in c.args.map.now) w c.read_on-count.new.self c.read_wholes-count.result c.read_wholes-count.new.self) c.read_on-count.ensures.moments c.read_wholes-count.ensures.takes
 
 pub returns-then-count-left-clause-takes : goal.returns-then-count-left-clause-takes
 returns-then-count-left-clause-takes c =
     let e = c.take_entry.ensures in
     settled
-    (takes_trans (found_in c.args.map.now) c.args.reader.now.words c.args.self.now c.read_on-count.new.self (first (goal.at.returns-then-count-left-clause-takes c).After-read_on-count) (wholes (goal.at.returns-then-count-left-clause-takes c).After-read_wholes-count))
+    (takes_trans (found_in c.args.map.now) c.args.reader.now.moments c.args.self.now c.read_on-count.new.self (first (goal.at.returns-then-count-left-clause-takes c).After-read_on-count) (wholes (goal.at.returns-then-count-left-clause-takes c).After-read_wholes-count))
     (settles_next (found_in c.args.map.now) c.read_wholes-count.new.self c.take_entry.new.self c.take_entry.result e.marks e.dirty e.carried e.taken c.read_wholes-count.ensures.done e.fewer e.none)
 
 pub returns-else-count-left-clause-takes : goal.returns-else-count-left-clause-takes
@@ -56,5 +55,5 @@ returns-then-count-left-clause-known c =
 
 pub returns-else-count-left-clause-known : goal.returns-else-count-left-clause-known
 returns-else-count-left-clause-known c =
-    known_left (length c.args.map.now) (found_in c.args.map.now) c.requires.lawful.map c.args.self.now (marks_of _ _ c.laws.ensures c.requires.pages) c.args.known c.requires.known c.args.reader.now.words c.read_on-count.result c.read_on-count.new.self c.read_on-count.ensures.read
+    known_left (length c.args.map.now) (found_in c.args.map.now) c.requires.lawful.map c.args.self.now (marks_of _ _ c.laws.ensures c.requires.pages) c.args.known c.requires.known c.read_on-count.ensures.read.seen c.read_on-count.result c.read_on-count.new.self c.read_on-count.ensures.read.reads
     c.args.found c.requires.live c.left_in-left.result c.left_in-left.ensures c.if-count-left.false

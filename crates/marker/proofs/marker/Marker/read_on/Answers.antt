@@ -15,17 +15,21 @@ returns-clause-read c =
     let n = ap (λ (x : Entry). x.next) e in
     let l = c.requires.live.unread.left in let f = c.from.ensures in let m = c.min-count.ensures in
     record {
-      object = c.args.found;
-      live = c.requires.live;
-      fits = omega arith;
-      mid = with_carried c.mark_words.new.self c.args.self.now.carried;
-      reads = subst (λ (x : Entry). MarksWords (found_in c.args.map.now) c.args.self.now (words_from c.args.reader.now.words c.args.found x.next c.min-count.result) (with_carried c.mark_words.new.self c.args.self.now.carried)) (sym e) c.mark_words.ensures.marks;
-      page = page_of (word_address c.args.found c.in-Some.entry.next);
-      one_page = λ i from below. (let p = c.requires.placed.0 in let above = p.above in let aligned = p.aligned in let on = c.min-count.ensures in omega arith);
-      carried = c.mark_words.new.self.carried;
-      carries = subst (λ (x : Entry). CarriesPage (found_in c.args.map.now) (PAGE_BYTES * length c.args.self.now.dirty) (words_from c.args.reader.now.words c.args.found x.next c.min-count.result) (page_of (word_address c.args.found c.in-Some.entry.next)) c.args.self.now.carried c.mark_words.new.self.carried) (sym e)
-          (subst (λ (k : ℕ). CarriesPage (found_in c.args.map.now) (PAGE_BYTES * k) (words_from c.args.reader.now.words c.args.found c.in-Some.entry.next c.min-count.result) (page_of (word_address c.args.found c.in-Some.entry.next)) c.args.self.now.carried c.mark_words.new.self.carried) (sym c.requires.pages) c.mark_words.ensures.carries);
-      new_is = ap (λ (m : Marking). with_current m (read_on c.in-Some.entry c.min-count.result)) c.self-2.view_is ∙ ap (λ (x : Entry). with_current c.mark_words.new.self (read_on x c.min-count.result)) (sym e);
+      seen = c.mark_words.ensures.row.seen;
+      woven = c.mark_words.ensures.row.woven;
+      reads = record {
+        object = c.args.found;
+        live = c.requires.live;
+        fits = omega arith;
+        mid = with_carried c.mark_words.new.self c.args.self.now.carried;
+        reads = subst (λ (x : Entry). MarksWords (found_in c.args.map.now) c.args.self.now (words_from c.mark_words.ensures.row.seen c.args.found x.next c.min-count.result) (with_carried c.mark_words.new.self c.args.self.now.carried)) (sym e) c.mark_words.ensures.row.marks;
+        page = page_of (word_address c.args.found c.in-Some.entry.next);
+        one_page = λ i from below. (let p = c.requires.placed.0 in let above = p.above in let aligned = p.aligned in let on = c.min-count.ensures in omega arith);
+        carried = c.mark_words.new.self.carried;
+        carries = subst (λ (x : Entry). CarriesPage (found_in c.args.map.now) (PAGE_BYTES * length c.args.self.now.dirty) (words_from c.mark_words.ensures.row.seen c.args.found x.next c.min-count.result) (page_of (word_address c.args.found c.in-Some.entry.next)) c.args.self.now.carried c.mark_words.new.self.carried) (sym e)
+            (subst (λ (k : ℕ). CarriesPage (found_in c.args.map.now) (PAGE_BYTES * k) (words_from c.mark_words.ensures.row.seen c.args.found c.in-Some.entry.next c.min-count.result) (page_of (word_address c.args.found c.in-Some.entry.next)) c.args.self.now.carried c.mark_words.new.self.carried) (sym c.requires.pages) c.mark_words.ensures.row.carries);
+        new_is = ap (λ (m : Marking). with_current m (read_on c.in-Some.entry c.min-count.result)) c.self-2.view_is ∙ ap (λ (x : Entry). with_current c.mark_words.new.self (read_on x c.min-count.result)) (sym e);
+      };
     }
 
 pub mark_words-requires-clause-one_page : goal.mark_words-requires-clause-one_page

@@ -35,34 +35,34 @@ live c =
       unread = record { object = u.object; base = refl; normal = u.normal; marked = rw (← c.drop_top.ensures.marks) at u.marked; left = u.left };
     }
 
-reads : (c : After-set_current) → ReadsOn (found_in c.args.map.now) c.args.reader.now.words c.args.found.len (next c) c.set_current.new.self
+reads : (c : After-set_current) → ReadsOn (found_in c.args.map.now) c.mark_words.ensures.row.seen c.args.found.len (next c) c.set_current.new.self
 reads c =
-    let words = c.args.reader.now.words in let f = c.args.found in let d = c.drop_top.ensures in
+    let words = c.mark_words.ensures.row.seen in let f = c.args.found in let d = c.drop_top.ensures in
     record {
       object = f;
       live = live c;
       fits = omega arith;
       mid = with_current (with_carried c.mark_words.new.self c.drop_top.new.self.carried) (entry_of f);
       reads = subst (λ (k : ℕ). MarksWords (found_in c.args.map.now) (next c) (words_from words f 0 k) (with_current (with_carried c.mark_words.new.self c.drop_top.new.self.carried) (entry_of f))) c.from.ensures
-          (words_current (found_in c.args.map.now) c.drop_top.new.self (entry_of f) c.mark_words.ensures.marks);
+          (words_current (found_in c.args.map.now) c.drop_top.new.self (entry_of f) c.mark_words.ensures.row.marks);
       page = page_of (word_address f 0);
       one_page = c.requires.one_page;
       carried = c.mark_words.new.self.carried;
       carries = subst (λ (k : ℕ). CarriesPage (found_in c.args.map.now) (PAGE_BYTES * k) (words_from words f 0 f.len) (page_of (word_address f 0)) c.drop_top.new.self.carried c.mark_words.new.self.carried) (sym c.requires.pages ∙ sym (ap length d.dirty))
-          (subst (λ (k : ℕ). CarriesPage (found_in c.args.map.now) (PAGE_BYTES * length c.args.map.now) (words_from words f 0 k) (page_of (word_address f 0)) c.drop_top.new.self.carried c.mark_words.new.self.carried) c.from.ensures c.mark_words.ensures.carries);
+          (subst (λ (k : ℕ). CarriesPage (found_in c.args.map.now) (PAGE_BYTES * length c.args.map.now) (words_from words f 0 k) (page_of (word_address f 0)) c.drop_top.new.self.carried c.mark_words.new.self.carried) c.from.ensures c.mark_words.ensures.row.carries);
       new_is = c.set_current.ensures ∙ (let all : 0 + f.len ≡ f.len = omega arith in ap (λ (n : ℕ). with_current c.mark_words.new.self (record { base = f.base; next = n })) (sym all));
     }
 
 pub returns-clause-read : goal.returns-clause-read
-returns-clause-read c = record { next = next c; settles = settles c; reads = reads c }
+returns-clause-read c = record { next = next c; settles = settles c; reads = record { seen = c.mark_words.ensures.row.seen; woven = c.mark_words.ensures.row.woven; reads = reads c } }
 
 pub returns-clause-done : goal.returns-clause-done
 returns-clause-done c =
-    read_out (found_in c.args.map.now) c.args.reader.now.words c.args.found.len (next c) c.set_current.new.self c.args.found (reads c) (live c) (omega arith)
+    read_out (found_in c.args.map.now) c.mark_words.ensures.row.seen c.args.found.len (next c) c.set_current.new.self c.args.found (reads c) (live c) (omega arith)
 
 pub returns-clause-known : goal.returns-clause-known
 returns-clause-known c n known =
     let top = c.requires.top in let d = c.drop_top.ensures in
     known_on (length c.args.map.now) (found_in c.args.map.now) c.requires.lawful.map (next c) (ap length d.marks ∙ marks_of _ _ c.laws.ensures c.requires.pages) n
     (top_taken (found_in c.args.map.now) c.args.self.now n c.args.found top (next c) d.marks (d.stack top.below (entry_of c.args.found) top.stack) known)
-    c.args.reader.now.words c.args.found.len c.set_current.new.self (reads c)
+    c.mark_words.ensures.row.seen c.args.found.len c.set_current.new.self (reads c)

@@ -7,11 +7,12 @@ use Rattle.marker.proofs.marker.Marker.read_wholes.Given as goal
 
 abbrev pub invariant-loop-found : goal.invariant-loop-found
 invariant-loop-found l = record {
-  takes : Takes (found_in l.map) l.initial.reader.words l.initial.self l.read l.self;
+  takes : Takes (found_in l.map) l.initial.reader.moments l.initial.self l.read l.self;
   known : AreUnreadFrom (found_in l.map) l.self l.known l.self.stack;
   done : (e : Entry) → l.self.current ≡ Some e → IsSpent (found_in l.map) l.self e;
   within : l.read ≤ l.most;
   words : l.reader.words ≡ l.initial.reader.words;
+  moments : l.reader.moments ≡ l.initial.reader.moments;
   reads : l.reader.reads ≡ l.initial.reader.reads + l.read;
 }
 

@@ -5,6 +5,7 @@ use Rattle.marker.specs.Marking.{word_address}
 use Rattle.marker.specs.Growth.{CarriesPage, words_from}
 use Rattle.block_map.specs.FoundIn.{found_in}
 use Rattle.marker.proofs.Closures.{at_base, marks_of}
+use Rattle.marker.proofs.Beside.{row_carries, row_marks}
 use Rattle.marker.proofs.MarkWord.{markable}
 use Rattle.marker.proofs.Rescanning.{rereads_passed, rereads_words}
 use Rattle.marker.proofs.Parts.{next_has_part}
@@ -36,16 +37,25 @@ one c i from below =
     let e = p.ends in let w = p.within in
     let low = c.requires.one_page.1 in let high = c.requires.one_page.2 in omega arith
 
+-- which is the one that is read again
+on_page : (c : goal.After-mark_words) → (i : ℕ) → c.part_between-part.result.first ≤ i → i < c.part_between-part.result.first + c.part_between-part.result.count → page_of (word_address c.args.found i) ≡ c.requires.one_page.0
+on_page c i from below =
+    let p = c.part_between-part.ensures in
+    let a = p.back i from in
+    let e = p.ends in let w = p.within in
+    let low = c.requires.one_page.1 in let high = c.requires.one_page.2 in omega arith
+
 pub returns-clause-rereads : goal.returns-clause-rereads
 returns-clause-rereads c =
     let p = c.part_between-part.ensures in
     let t : c.has_words_to_read.result ≡ true = search rules in
     let is = c.has_words_to_read.ensures.yes t in
     rereads_words (length c.args.map.now) (found_in c.args.map.now) c.requires.lawful.map c.args.reader.now.words c.args.low c.args.high c.part_between-part.result.stop _ _ _ c.args.found _ _ (one c)
-    (subst (λ (k : ℕ). CarriesPage (found_in c.args.map.now) (PAGE_BYTES * k) (words_from c.args.reader.now.words c.args.found c.part_between-part.result.first c.part_between-part.result.count) (page_of (word_address c.args.found c.part_between-part.result.first)) c.args.self.now.carried c.mark_words.new.self.carried) (sym c.requires.pages) c.mark_words.ensures.carries)
+    (subst (λ (k : ℕ). CarriesPage (found_in c.args.map.now) (PAGE_BYTES * k) (words_from c.args.reader.now.words c.args.found c.part_between-part.result.first c.part_between-part.result.count) (page_of (word_address c.args.found c.part_between-part.result.first)) c.args.self.now.carried c.mark_words.new.self.carried) (sym c.requires.pages) (row_carries (found_in c.args.map.now) c.args.reader.now.words c.args.reader.now.moments c.args.found c.part_between-part.result.first c.part_between-part.result.count _ _ c.requires.one_page.0 c.args.self.now c.mark_words.new.self c.requires.one_page.3 (at_base (length c.args.map.now) (found_in c.args.map.now) c.requires.lawful.map c.requires.next.at c.args.found c.requires.next.reads) is.0 p.fits (on_page c) c.mark_words.ensures.row))
     (marks_of _ _ c.laws.ensures c.requires.pages) c.requires.next p.inside
     (at_base (length c.args.map.now) (found_in c.args.map.now) c.requires.lawful.map c.requires.next.at c.args.found c.requires.next.reads)
-    is.0 is.1 p.fits p.reaches p.back p.ends c.mark_words.ensures.marks
+    is.0 is.1 p.fits p.reaches p.back p.ends
+    (row_marks (found_in c.args.map.now) c.args.reader.now.words c.args.reader.now.moments c.args.found c.part_between-part.result.first c.part_between-part.result.count _ _ c.requires.one_page.0 c.args.self.now c.mark_words.new.self c.requires.one_page.3 (at_base (length c.args.map.now) (found_in c.args.map.now) c.requires.lawful.map c.requires.next.at c.args.found c.requires.next.reads) is.0 p.fits (on_page c) c.mark_words.ensures.row)
 
 pub returns-clause-reads : goal.returns-clause-reads
 returns-clause-reads c =

@@ -4,6 +4,7 @@ use Rattle.words.specs.declared.limits.TheConstants.{PAGE_GRANULES, PAGE_WORDS}
 use Rattle.words.specs.declared.class.Kind.TheVariants.{Normal, PointerFree}
 use Rattle.words.specs.Layout.{page_start}
 use Rattle.marker.specs.Retracing.{Rereads, RereadsObjects}
+use Rattle.marker.proofs.Beside.{still_as}
 use Rattle.marker.proofs.Closures.{marks_of}
 use Rattle.marker.proofs.Rereading.{objects_none, objects_append, objects_fewer, objects_page, cut_begins, cut_kind}
 use Rattle.marker.proofs.Words.{words_pages, words_extends}
@@ -14,6 +15,7 @@ pub loop-j-init : goal.loop-j-init
 loop-j-init c = record {
   rereads = objects_none (found_in c.args.map.now) c.args.reader.now.words c.args.self.now (page_start (c.args.page + 1)) (PAGE_GRANULES * c.args.page) (64 * (4 * c.args.page)) c.args.reader.now.reads c.args.self.now (omega arith) (λ f e n o from below. absurd (omega arith));
   words = refl;
+  moments = refl;
 }
 
 pub reread_marked-requires-clause-pages : goal.reread_marked-requires-clause-pages
@@ -43,6 +45,7 @@ loop-j-preserved c =
           (objects_fewer (found_in c.args.map.now) c.args.reader.now.words c.loop-j.self c.args.self.now (page_start (c.args.page + 1)) (64 * c.loop-j.j) (64 * (c.loop-j.j + 1)) c.loop-j.reader.reads c.reread_marked.new.reader.reads c.loop-j.self c.reread_marked.new.self more
           (subst (λ (w : List ℕ). RereadsObjects (found_in c.args.map.now) w c.loop-j.self (page_start (c.args.page + 1)) (64 * c.loop-j.j) (64 * (c.loop-j.j + 1)) c.loop-j.reader.reads c.loop-j.self c.reread_marked.new.reader.reads c.reread_marked.new.self) i.words c.reread_marked.ensures.rereads));
       words = c.reread_marked.ensures.words ∙ i.words;
+      moments = c.reread_marked.ensures.moments ∙ i.moments;
     }
 
 -- the marks of the page are all read
@@ -73,3 +76,6 @@ none c kind =
 
 pub returns-then-eq-clause-rereads : goal.returns-then-eq-clause-rereads
 returns-then-eq-clause-rereads c = (none (goal.at.returns-then-eq-clause-rereads c).After-laws (search rules)).0
+
+pub reread_marked-requires-clause-still : goal.reread_marked-requires-clause-still
+reread_marked-requires-clause-still c = still_as _ _ _ _ _ c.args.page (sym c.loop-j.invariant.words) (sym c.loop-j.invariant.moments) c.requires.still

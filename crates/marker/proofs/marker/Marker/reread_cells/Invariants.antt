@@ -9,4 +9,5 @@ abbrev pub invariant-loop-j : goal.invariant-loop-j
 invariant-loop-j l = record {
   rereads : RereadsObjects (found_in l.map) l.initial.reader.words l.initial.self (page_start (l.page + 1)) (PAGE_GRANULES * l.page) (64 * l.j) l.initial.reader.reads l.initial.self l.reader.reads l.self;
   words : l.reader.words ≡ l.initial.reader.words;
+  moments : l.reader.moments ≡ l.initial.reader.moments;
 }

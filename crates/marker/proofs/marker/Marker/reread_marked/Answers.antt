@@ -1,9 +1,10 @@
-use Rattle.std.proofs.Common.{◌≡◌, ℕ, ◌+◌, ◌*◌, ◌/◌, ◌%◌, ◌∙◌, ◌==◌, Bool, false, get_or, List, length, refl, ap, subst, arith}
+use Rattle.std.proofs.Common.{◌≡◌, ℕ, ◌+◌, ◌*◌, ◌/◌, ◌%◌, ◌∙◌, ◌==◌, Bool, false, get_or, List, length, refl, sym, ap, subst, arith}
 use Rattle.std.specs.Int.{bit_at}
 use Rattle.words.specs.Layout.{page_start}
 use Rattle.block_map.specs.FoundIn.{found_in}
 use Rattle.marker.specs.Marking.{Marking}
 use Rattle.marker.specs.Retracing.{RereadsObjects}
+use Rattle.marker.proofs.Beside.{still_as}
 use Rattle.marker.proofs.Closures.{marks_of}
 use Rattle.marker.proofs.Rereading.{objects_none, objects_append, objects_next, objects_marked, mark_at, no_mark}
 use Rattle.marker.proofs.Words.{words_pages}
@@ -14,6 +15,7 @@ loop-i-init c = record {
   rereads = objects_none (found_in c.args.map.now) c.args.reader.now.words c.args.self.now (page_start (c.args.page + 1)) (64 * c.args.j) (64 * c.args.j + 0) c.args.reader.now.reads c.args.self.now (omega arith) (λ f e n o from below. absurd (omega arith));
   low = omega arith;
   words = refl;
+  moments = refl;
 }
 
 pub reread_at-requires-clause-pages : goal.reread_at-requires-clause-pages
@@ -37,6 +39,7 @@ loop-i-preserved c =
           (subst (λ (w : List ℕ). RereadsObjects (found_in c.args.map.now) w c.loop-i.self (page_start (c.args.page + 1)) (64 * c.args.j + c.in-Some.i) (64 * c.args.j + c.in-Some.i + 1) c.loop-i.reader.reads c.loop-i.self c.reread_at.new.reader.reads c.reread_at.new.self) i.words c.reread_at.ensures.rereads);
       low = omega arith;
       words = c.reread_at.ensures.words ∙ i.words;
+      moments = c.reread_at.ensures.moments ∙ i.moments;
     }
 
 pub returns-clause-rereads : goal.returns-clause-rereads
@@ -46,3 +49,6 @@ returns-clause-rereads c =
     c.args.reader.now.reads c.loop-i.reader.reads c.loop-i.reader.reads c.args.self.now c.loop-i.self c.loop-i.self (marks_of _ _ c.laws.ensures c.requires.pages) (omega arith) (omega arith) i.rereads
     (objects_none (found_in c.args.map.now) c.args.reader.now.words c.args.self.now (page_start (c.args.page + 1)) (64 * c.args.j + c.loop-i.low) (64 * (c.args.j + 1)) c.loop-i.reader.reads c.loop-i.self (omega arith)
     (λ f e n o from below. no_mark c.args.self.now.marks c.word-marks.result c.args.j c.loop-i.low 64 (subst (λ (r : List Bool). (k : ℕ) → k / 64 ≡ c.args.j → get_or r k false ≡ (bit_at c.word-marks.result (k % 64) == 1)) (ap (λ (m : Marking). m.marks) c.self.view_is) c.word-marks.ensures) (omega arith) c.in_default.ensures.none _ from (omega arith) o))
+
+pub reread_at-requires-clause-still : goal.reread_at-requires-clause-still
+reread_at-requires-clause-still c = still_as _ _ _ _ _ c.args.page (sym c.loop-i.invariant.words) (sym c.loop-i.invariant.moments) c.requires.still

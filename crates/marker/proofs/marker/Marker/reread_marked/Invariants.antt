@@ -9,6 +9,7 @@ invariant-loop-i l = record {
   rereads : RereadsObjects (found_in l.map) l.initial.reader.words l.initial.self (page_start (l.page + 1)) (64 * l.j) (64 * l.j + l.low) l.initial.reader.reads l.initial.self l.reader.reads l.self;
   low : l.low ≤ 64;
   words : l.reader.words ≡ l.initial.reader.words;
+  moments : l.reader.moments ≡ l.initial.reader.moments;
 }
 
 abbrev pub decreases-loop-i : goal.decreases-loop-i

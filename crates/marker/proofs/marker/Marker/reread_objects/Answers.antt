@@ -2,6 +2,7 @@ use Rattle.std.proofs.Common.{◌+◌, ◌∙◌, refl, sym, subst, List, ℕ, l
 use Rattle.words.specs.Layout.{page_start}
 use Rattle.block_map.specs.FoundIn.{found_in}
 use Rattle.marker.specs.Retracing.{Rereads}
+use Rattle.marker.proofs.Beside.{still_as}
 use Rattle.marker.proofs.Closures.{marks_of}
 use Rattle.marker.proofs.Words.{words_pages}
 use Rattle.marker.proofs.Rescanning.{rereads_none, rereads_append, rereads_end}
@@ -17,6 +18,7 @@ loop-found-init c =
       within = omega arith;
       aligned = omega arith;
       words = refl;
+      moments = refl;
       reads = omega arith;
     }
 
@@ -27,7 +29,7 @@ pub reread-address-requires-clause-pages : goal.reread-address-requires-clause-p
 reread-address-requires-clause-pages c = words_pages (found_in c.args.map.now) _ c.loop-found.invariant.rereads.marks ∙ c.requires.pages
 
 pub reread-address-requires-clause-one_page : goal.reread-address-requires-clause-one_page
-reread-address-requires-clause-one_page c = let f = c.page_start-address.ensures in (c.args.page, c.loop-found.invariant.from, omega arith)
+reread-address-requires-clause-one_page c = let f = c.page_start-address.ensures in (c.args.page, c.loop-found.invariant.from, omega arith, still_as _ _ _ _ _ c.args.page (sym c.loop-found.invariant.words) (sym c.loop-found.invariant.moments) c.requires.still)
 
 pub loop-found-preserved : goal.loop-found-preserved
 loop-found-preserved c =
@@ -43,6 +45,7 @@ loop-found-preserved c =
       within = (let a = e.within in let f = c.page_start-address.ensures in omega arith);
       aligned = e.aligned;
       words = e.words ∙ i.words;
+      moments = e.moments ∙ i.moments;
       reads = (let a = e.reads in let b = i.reads in omega arith);
     }
 

@@ -12,6 +12,7 @@ invariant-loop-found l = record {
   within : l.address ≤ page_start (l.page + 1);
   aligned : l.address % WORD_BYTES ≡ 0;
   words : l.reader.words ≡ l.initial.reader.words;
+  moments : l.reader.moments ≡ l.initial.reader.moments;
   reads : WORD_BYTES * l.reader.reads + page_start l.page ≤ WORD_BYTES * l.initial.reader.reads + l.address;
 }
 

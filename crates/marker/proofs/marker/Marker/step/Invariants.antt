@@ -7,10 +7,11 @@ use Rattle.marker.proofs.marker.Marker.step.Given as goal
 
 abbrev pub invariant-loop-found : goal.invariant-loop-found
 invariant-loop-found l = record {
-  takes : Takes (found_in l.map) l.initial.reader.words l.initial.self l.read l.self;
+  takes : Takes (found_in l.map) l.initial.reader.moments l.initial.self l.read l.self;
   known : AreUnreadFrom (found_in l.map) l.self l.known (entries l.self);
   within : l.read ≤ l.budget;
   words : l.reader.words ≡ l.initial.reader.words;
+  moments : l.reader.moments ≡ l.initial.reader.moments;
   reads : l.reader.reads ≡ l.initial.reader.reads + l.read;
 }
 

@@ -1,5 +1,5 @@
 use Rattle.std.proofs.Common.{◌≤◌, length, sym, ◌∙◌, subst}
-use Rattle.words.specs.declared.limits.TheConstants.{MAX_PAGES}
+use Rattle.words.specs.declared.limits.TheConstants.{MOST_PAGES}
 use Rattle.marker.proofs.Closures.{marks_of}
 use Rattle.marker.proofs.MarkWord.{markable}
 use Rattle.marker.proofs.marker.Marker.unread.Goals as goal
@@ -10,4 +10,4 @@ is_marked-requires-clause-inside c =
 
 pub returns-then-is_marked-clause-placed : goal.returns-then-is_marked-clause-placed
 returns-then-is_marked-clause-placed c =
-    (c.find.ensures.lawful.map.placed _ _ (sym c.find.ensures.found ∙ c.in_ok-found.was), subst (λ n. n ≤ MAX_PAGES) c.requires.pages c.laws.ensures.few)
+    (c.find.ensures.lawful.map.placed _ _ (sym c.find.ensures.found ∙ c.in_ok-found.was), subst (λ n. n ≤ MOST_PAGES) c.requires.pages c.laws.ensures.few)

@@ -16,7 +16,7 @@ invariant_of-self c =
     let size = c.self.invariant.pending.size in
     record {
       sound = record { agree = c.self.invariant.sound.agree; used = c.self.invariant.sound.used };
-      long = c.self.invariant.long;
+      listed = c.self.invariant.listed;
       exact = subst (AreReady c.leave.new.self t.states) (sym c.set.ensures)
           (ready_pending c.self.inside.ready c.leave.new.self c.self.inside.waiting c.enter.new.self t.states t.pending _ _ c.args.page c.in-Some.block.now c.in-Some.ensures c.class-class.ensures.class c.kind-kind.ensures (omega arith) c.self.invariant.exact c.leave.ensures);
       awaited = subst (AreWaiting c.enter.new.self t.states) (sym c.set.ensures)

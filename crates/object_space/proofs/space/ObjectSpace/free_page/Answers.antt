@@ -1,7 +1,7 @@
-use Rattle.std.proofs.Common.{[], ◌+◌, ◌*◌, ◌<◌, length, ap, ◌∙◌, arith, subst, sym}
-use Rattle.words.specs.declared.limits.TheConstants.{PAGE_WORDS}
+use Rattle.std.proofs.Common.{[], ◌+◌, ◌<◌, length, ap, arith, subst, sym}
 use Rattle.words.specs.Classes.{IsSizeClass}
 use Rattle.words.specs.Layout.{page_start}
+use Rattle.block_map.proofs.Listed.{listed_span}
 use Rattle.block_map.specs.Changes.{IsCleared}
 use Rattle.block_map.specs.FoundIn.{found_in}
 use Rattle.block_map.specs.States.{free, span_of, IsSpanSet}
@@ -38,7 +38,7 @@ invariant_of-self c =
     let s = sound_large_gone t c.free_block.new.pool c.free_block.new.map c.args.page 1 c.self.invariant.sound x.given one in
     record {
       sound = record { agree = s.agree; used = s.used };
-      long = c.self.invariant.long ∙ ap (λ n. PAGE_WORDS * n) (sym one.size);
+      listed = listed_span _ t.states c.free_block.new.map c.args.page 1 (λ _. free) one (λ k. tt) c.self.invariant.listed;
       exact = subst (AreReady c.free_block.new.ready c.free_block.new.map) (sym x.row)
           (exact_freed _ _ _ _ t.pending c.args.page c.in-Some.block.now c.in-Some.ensures _ _ c.class-class.ensures.class c.kind-kind.ensures one x.left c.self.invariant.exact);
       awaited = subst (AreWaiting c.free_block.new.waiting c.free_block.new.map) (sym x.row)

@@ -15,7 +15,7 @@ invariant_of-self c =
     let cell = rw c.if-not-full.true at c.is_full-full.ensures in
     record {
       sound = record { agree = c.self.invariant.sound.agree; used = c.self.invariant.sound.used };
-      long = c.self.invariant.long;
+      listed = c.self.invariant.listed;
       exact = subst (AreReady c.enter.new.self t.states) (sym c.clear.ensures)
           (ready_swept c.self.inside.ready c.enter.new.self c.self.inside.waiting c.leave.new.self t.states t.pending _ _ c.args.page c.in-Some.block.now c.in-Some.ensures c.class-class.ensures.class c.kind-kind.ensures (omega arith) c.self.invariant.exact c.enter.ensures cell);
       awaited = subst (AreWaiting c.leave.new.self t.states) (sym c.clear.ensures)
@@ -31,7 +31,7 @@ invariant_of-self-else-not-full c =
     let full = rw c.if-not-full.false at c.is_full-full.ensures in
     record {
       sound = record { agree = c.self.invariant.sound.agree; used = c.self.invariant.sound.used };
-      long = c.self.invariant.long;
+      listed = c.self.invariant.listed;
       exact = subst (AreReady c.self.inside.ready t.states) (sym c.clear.ensures)
           (ready_full c.self.inside.ready c.self.inside.ready c.self.inside.waiting c.leave.new.self t.states t.pending _ _ c.args.page c.in-Some.block.now c.in-Some.ensures c.class-class.ensures.class c.kind-kind.ensures (omega arith)
           (subst IsSizeClass (sym c.class-class.ensures.class) c.class-class.ensures.cells.class) c.self.invariant.exact full);

@@ -1,7 +1,7 @@
-use Rattle.std.proofs.Common.{◌*◌, ◌<◌, false, length, set, refl, sym, ap, ◌∙◌, subst, arith}
-use Rattle.words.specs.declared.limits.TheConstants.{PAGE_WORDS}
+use Rattle.std.proofs.Common.{◌<◌, false, length, set, refl, sym, ap, ◌∙◌, subst, arith}
 use Rattle.words.specs.Bits.{Has}
 use Rattle.block_map.specs.Changes.{IsSameMap, IsUncut}
+use Rattle.block_map.proofs.Listed.{listed_span}
 use Rattle.block_map.specs.FoundIn.{found_in}
 use Rattle.block_map.specs.States.{free, span_of, IsSpanSet}
 use Rattle.object_space.specs.AvailableRows.{AreReady, AreWaiting}
@@ -25,7 +25,7 @@ invariant_of-self c =
         agree = agree_cells t.states c.sweep.new.self c.args.page x.old x.new x.was x.is c.sweep.ensures.states t.free c.self.invariant.sound.agree;
         used = used_cells t.states c.sweep.new.self c.args.page x.old c.in-Some.block.now x.was c.in-Some.ensures c.sweep.ensures.states c.self.invariant.sound.used first.0 first.1.member;
       };
-      long = c.self.invariant.long ∙ ap (λ n. PAGE_WORDS * n) (sym (size_swept t.states c.sweep.new.self c.args.page x.old x.new x.was x.is c.sweep.ensures.states));
+      listed = c.sweep.ensures.listed t.words c.self.invariant.listed;
       exact = ready_cells t.states c.sweep.new.self c.args.page x.old x.new x.was x.is c.sweep.ensures.states _ t.pending was c.self.invariant.exact;
       awaited = waiting_cells t.states c.sweep.new.self c.args.page x.old x.new x.was x.is c.sweep.ensures.states _ t.pending x.cells.class x.cells.kind c.self.invariant.awaited;
       pending = pending_cut t (store_of t.words t.free c.sweep.new.self t.pending) c.self.invariant.pending refl
@@ -62,7 +62,7 @@ invariant_of-self-2 c =
         agree = agree_gone t.states c.sweep.new.self c.args.page x.old x.new x.was x.is c.sweep.ensures.states t.free c.free_block.new.pool c.free_block.new.map c.self.invariant.sound.agree gone.given one;
         used = used_gone t.states c.sweep.new.self c.args.page x.old x.new x.was x.is c.sweep.ensures.states t.free c.free_block.new.pool c.free_block.new.map c.self.invariant.sound.agree gone.given one c.self.invariant.sound.used;
       };
-      long = c.self.invariant.long ∙ ap (λ n. PAGE_WORDS * n) (sym (one.size ∙ size));
+      listed = listed_span _ c.sweep.new.self c.free_block.new.map c.args.page 1 (λ _. free) one (λ k. tt) (c.sweep.ensures.listed t.words c.self.invariant.listed);
       exact = subst (AreReady c.free_block.new.ready c.free_block.new.map) (sym gone.row)
           (exact_freed _ _ c.sweep.new.self c.free_block.new.map t.pending c.args.page c.in-Some.block.now c.in-Some.ensures _ _ c.class-class.ensures.class c.kind-kind.ensures one gone.left
           (ready_cells t.states c.sweep.new.self c.args.page x.old x.new x.was x.is c.sweep.ensures.states _ t.pending was c.self.invariant.exact));

@@ -1,44 +1,25 @@
-use Rattle.std.proofs.Common.{◌≡◌, ℕ, ◌<◌, List, length, take, refl, sym, ap, ◌∙◌, subst, arith}
-use Rattle.std.specs.Prelude.{min}
+use Rattle.std.proofs.Common.{arith}
 use Rattle.std.proofs.lemmas.List.{length-take-le}
 use Rattle.words.specs.declared.class.Placement.TheVariants.{Small}
 use Rattle.object_space.specs.Many.{AllocatesEach}
-use Rattle.object_space.specs.Store.{Store}
-use Rattle.object_space.proofs.Many.{allocates_each, none_ready, whole_each}
+use Rattle.object_space.proofs.Many.{each_after, none_ready}
 use Rattle.object_space.proofs.Stores.{store_of}
 use Rattle.object_space.proofs.space.ObjectSpace.take_many.Goals as goal
 
 pub returns-in_default-clause-allocates : goal.returns-in_default-clause-allocates
 returns-in_default-clause-allocates c marks = AllocatesEach.none
 
+pub returns-then-bases-eq0-clause-allocates : goal.returns-then-bases-eq0-clause-allocates
+returns-then-bases-eq0-clause-allocates c marks = AllocatesEach.none
+
 pub returns-in_default-clause-none : goal.returns-in_default-clause-none
 returns-in_default-clause-none c = λ _ _. rw (← c.self.view_is) (none_ready _ (store_of c.self.inside.memory c.self.inside.pool c.self.inside.map c.self.inside.pending) _ _ c.self.invariant.exact c.first.ensures.listed c.in_default.ensures.page)
 
-pub overflow_cast-page : goal.overflow_cast-page
-overflow_cast-page c =
-    let inside = c.in-Some.ensures.page.inside in let long = c.self.invariant.exact.long c.args.class c.args.kind c.first.ensures.listed in let few = c.laws.ensures.laid.few in omega arith
-
-pub invariant_of-self : goal.invariant_of-self
-invariant_of-self c =
-    let t : Store = store_of c.self.inside.memory c.self.inside.pool c.self.inside.map c.self.inside.pending in
-    whole_each t _ _ c.self.invariant c.args.class c.args.kind c.in-Some.page (c.self.invariant.exact.only c.args.class c.args.kind c.in-Some.page c.first.ensures.listed c.in-Some.ensures.page.member)
-    _ _ c.take_cells-count.ensures.takes _ c.write_bases.ensures.zeroes _ c.take_cells-count.ensures.exact
-
 pub returns-clause-allocates : goal.returns-clause-allocates
 returns-clause-allocates c marks =
-    let t : Store = store_of c.self.inside.memory c.self.inside.pool c.self.inside.map c.self.inside.pending in
-    let each = allocates_each t _ _ c.self.invariant c.args.class c.args.kind c.in-Some.page (c.self.invariant.exact.only c.args.class c.args.kind c.in-Some.page c.first.ensures.listed c.in-Some.ensures.page.member)
-    _ _ c.take_cells-count.ensures.takes _ c.write_bases.ensures.zeroes marks in
-    let count = length-take-le c.take_cells-count.result c.take_cells-count.new.cells c.take_cells-count.ensures.few in
-    rw (← c.self.view_is) (subst (λ bases. AllocatesEach marks (Small c.args.class) c.args.kind t bases (record t { words = c.write_bases.new.memory; states = c.take_cells-count.new.map }))
-    (sym (ap (λ n. take n c.write_bases.new.bases) (sym count) ∙ c.write_bases.ensures.bases)) each)
-
--- where there is room for a base there is room for a cell
-room_left : (most bases : ℕ) (row cells : List ℕ) → most ≡ min bases 32 → 0 < bases → length row ≡ 32 → length cells ≡ length (take most row) → 0 < length cells
-room_left most bases row cells least some long size = let taken = length-take-le most row (omega arith) in omega arith
+    each_after marks (Small c.args.class) c.args.kind _ _ _ _ (c.link_page.ensures.sweeps marks) c.link_page.ensures.free (c.take_linked.ensures.allocates marks)
+    (let few = c.take_linked.ensures.few in let size = c.take_linked.ensures.size in let ne = c.if-bases-eq0.false in let some = c.take_linked.ensures.some (omega arith) in
+    let count = length-take-le c.take_linked.result c.take_linked.new.bases few in omega arith)
 
 pub returns-clause-none : goal.returns-clause-none
-returns-clause-none c = λ some none.
-    let size = c.write_bases.ensures.size in
-    let more = c.take_cells-count.ensures.some (room_left c.min.result (length c.args.bases.now) _ c.take_cells-count.new.cells c.min.ensures (omega arith) refl c.take_cells-count.ensures.size) in
-    absurd (omega arith)
+returns-clause-none c = λ some none. absurd (let more = c.take_linked.ensures.some some in omega arith)

@@ -1,5 +1,4 @@
-use Rattle.std.proofs.Common.{◌≡◌, ℕ, ◌*◌, Bool, refl, true, sym, ap, ◌∙◌, subst, List, length, length-set, get_or-set_other, arith}
-use Rattle.words.specs.declared.limits.TheConstants.{PAGE_WORDS}
+use Rattle.std.proofs.Common.{◌≡◌, ℕ, Bool, refl, true, sym, ap, ◌∙◌, subst, List, length, length-set, get_or-set_other, arith}
 use Rattle.block_map.specs.States.{PageState, free, IsCut, state_at, all_free}
 use Rattle.object_space.proofs.Stores.{store_of}
 use Rattle.object_space.specs.Rooms.{TakesCell}
@@ -15,17 +14,18 @@ returns-in_default-clause-none c =
     rw (← c.self.view_is) (
       no_room_small _ _ _ c.self.invariant.sound c.laws.ensures.laid c.laws.ensures.lawful c.cut_page.ensures.class
           (rw (← c.self.view_is) at c.requires) none.0,
-      ap (λ p. store_of c.self.inside.memory p c.cut_page.new.map c.self.inside.pending) none.1
-          ∙ ap (λ m. store_of c.self.inside.memory c.self.inside.pool m c.self.inside.pending) none.2,
+      ap (λ w. store_of w c.cut_page.new.pool c.cut_page.new.map c.self.inside.pending) none.1
+          ∙ ap (λ p. store_of c.self.inside.memory p c.cut_page.new.map c.self.inside.pending) none.2
+          ∙ ap (λ m. store_of c.self.inside.memory c.self.inside.pool m c.self.inside.pending) none.3,
     )
 
 pub take_cell-requires-clause-cell : goal.take_cell-requires-clause-cell
 take_cell-requires-clause-cell c =
     let cuts = c.in-Some.ensures.some in
-    free_cell_offers _ _ _ _ 0 (first_cell _ c.self.invariant.sound c.laws.ensures.laid c.laws.ensures.lawful _ _ c.cut_page.ensures.class _ _ _ cuts)
+    free_cell_offers _ _ _ _ 0 (first_cell _ c.self.invariant.sound c.laws.ensures.laid c.laws.ensures.lawful _ _ c.cut_page.ensures.class _ _ _ _ cuts)
 
-pub take_cell-requires-clause-long : goal.take_cell-requires-clause-long
-take_cell-requires-clause-long c = c.self.invariant.long ∙ ap (λ n. PAGE_WORDS * n) (sym (ap length c.in-Some.ensures.some.became ∙ length-set _ _ _))
+pub take_cell-requires-clause-linked : goal.take_cell-requires-clause-linked
+take_cell-requires-clause-linked c = c.in-Some.ensures.linked
 
 apart : (states : List PageState) (row : List Bool) (page p : ℕ) → state_at states page ≡ free → IsCut (state_at states p) → p ≢ page
 apart states row page p was is e = subst IsCut (ap (state_at states) e ∙ was) is
@@ -34,14 +34,14 @@ pub invariant_of-self-2 : goal.invariant_of-self-2
 invariant_of-self-2 c =
     let cuts = c.in-Some.ensures.some in
     let page = c.in-Some.page in
-    let is = first_is _ c.self.invariant.sound c.laws.ensures.laid c.laws.ensures.lawful _ _ c.cut_page.ensures.class _ _ _ cuts _ c.take_cell.ensures.takes.2.first in
-    let takes = subst (λ i. TakesCell c.self.inside.memory c.take_cell.new.memory c.cut_page.new.map c.take_cell.new.map page i c.take_cell.result) is c.take_cell.ensures.takes.2 in
+    let is = first_is _ c.self.invariant.sound c.laws.ensures.laid c.laws.ensures.lawful _ _ c.cut_page.ensures.class _ _ _ _ cuts in
+    let takes = subst (λ i. TakesCell c.cut_page.new.memory c.take_cell.new.memory c.cut_page.new.map c.take_cell.new.map page i c.take_cell.result) is c.take_cell.ensures.takes in
     let was = c.self.invariant.sound.agree.free_in_map page (cuts.run.free page (omega arith) (omega arith)) in
     record {
-      sound = sound_page _ c.self.invariant.sound c.laws.ensures.laid c.laws.ensures.lawful _ _ c.cut_page.ensures.class _ _ _ cuts _ _ _ takes c.self.invariant.pending;
-      long = takes.zeroed.size ∙ c.self.invariant.long ∙ ap (λ n. PAGE_WORDS * n) (sym (ap length takes.became ∙ length-set _ _ _ ∙ ap length cuts.became ∙ length-set _ _ _));
+      sound = sound_page _ c.self.invariant.sound c.laws.ensures.laid c.laws.ensures.lawful _ _ c.cut_page.ensures.class _ _ _ _ cuts _ _ _ takes c.self.invariant.pending;
+      listed = c.take_cell.ensures.listed;
       pending = pending_cut _ _ c.self.invariant.pending refl (ap length takes.became ∙ length-set _ _ _ ∙ ap length cuts.became ∙ length-set _ _ _)
-          (λ p is. subst (λ (x : List PageState). IsCut (state_at x p)) (sym takes.became) (cut_cell _ page 0 true c.take_cell.ensures.takes.1.inside p
+          (λ p is. subst (λ (x : List PageState). IsCut (state_at x p)) (sym takes.became) (cut_cell _ page 0 true _ c.take_cell.ensures.cell.inside p
           (subst (λ (x : List PageState). IsCut (state_at x p)) (sym cuts.became) (cut_page _ page (all_free c.args.class c.args.kind) was p is))));
       exact = c.take_cell.ensures.exact;
       awaited = waiting_same _ _ _ _ c.self.invariant.awaited (ap length takes.became ∙ length-set _ _ _ ∙ ap length cuts.became ∙ length-set _ _ _)
@@ -53,13 +53,13 @@ invariant_of-self-2 c =
 pub returns-clause-some : goal.returns-clause-some
 returns-clause-some c =
     let cuts = c.in-Some.ensures.some in
-    let is = first_is _ c.self.invariant.sound c.laws.ensures.laid c.laws.ensures.lawful _ _ c.cut_page.ensures.class _ _ _ cuts _ c.take_cell.ensures.takes.2.first in
-    let takes = subst (λ i. TakesCell c.self.inside.memory c.take_cell.new.memory c.cut_page.new.map c.take_cell.new.map c.in-Some.page i c.take_cell.result) is c.take_cell.ensures.takes.2 in
-    rw (← c.self.view_is) (allocates_page _ c.self.invariant.sound c.laws.ensures.laid c.laws.ensures.lawful _ _ c.cut_page.ensures.class _ _ _ cuts _ _ _ takes c.self.invariant.pending)
+    let is = first_is _ c.self.invariant.sound c.laws.ensures.laid c.laws.ensures.lawful _ _ c.cut_page.ensures.class _ _ _ _ cuts in
+    let takes = subst (λ i. TakesCell c.cut_page.new.memory c.take_cell.new.memory c.cut_page.new.map c.take_cell.new.map c.in-Some.page i c.take_cell.result) is c.take_cell.ensures.takes in
+    rw (← c.self.view_is) (allocates_page _ c.self.invariant.sound c.laws.ensures.laid c.laws.ensures.lawful _ _ c.cut_page.ensures.class _ _ _ _ cuts _ _ _ takes c.self.invariant.pending)
 
 pub returns-clause-gains : goal.returns-clause-gains
 returns-clause-gains c =
     let cuts = c.in-Some.ensures.some in
-    let is = first_is _ c.self.invariant.sound c.laws.ensures.laid c.laws.ensures.lawful _ _ c.cut_page.ensures.class _ _ _ cuts _ c.take_cell.ensures.takes.2.first in
-    let takes = subst (λ i. TakesCell c.self.inside.memory c.take_cell.new.memory c.cut_page.new.map c.take_cell.new.map c.in-Some.page i c.take_cell.result) is c.take_cell.ensures.takes.2 in
-    rw (← c.self.view_is) (gains_page _ c.self.invariant.sound c.laws.ensures.laid c.laws.ensures.lawful _ _ c.cut_page.ensures.class _ _ _ cuts _ _ _ takes c.self.invariant.pending)
+    let is = first_is _ c.self.invariant.sound c.laws.ensures.laid c.laws.ensures.lawful _ _ c.cut_page.ensures.class _ _ _ _ cuts in
+    let takes = subst (λ i. TakesCell c.cut_page.new.memory c.take_cell.new.memory c.cut_page.new.map c.take_cell.new.map c.in-Some.page i c.take_cell.result) is c.take_cell.ensures.takes in
+    rw (← c.self.view_is) (gains_page _ c.self.invariant.sound c.laws.ensures.laid c.laws.ensures.lawful _ _ c.cut_page.ensures.class _ _ _ _ cuts _ _ _ takes c.self.invariant.pending)

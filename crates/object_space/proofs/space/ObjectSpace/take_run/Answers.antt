@@ -1,9 +1,9 @@
-use Rattle.std.proofs.Common.{refl, ◌*◌, sym, ap, ◌∙◌, subst, arith}
+use Rattle.std.proofs.Common.{refl, ◌*◌, ap, subst, arith}
 use Rattle.words.specs.declared.limits.TheConstants.{PAGE_WORDS}
 use Rattle.pages.specs.Memory.{IsZeroed, word_index}
 use Rattle.object_space.proofs.Stores.{store_of}
 use Rattle.object_space.proofs.Pending.{pending_cut, cut_span}
-use Rattle.object_space.proofs.Allocations.{allocates_large, gains_large, no_room_large, sound_large}
+use Rattle.object_space.proofs.Allocations.{allocates_large, gains_large, listed_large, no_room_large, sound_large}
 use Rattle.object_space.proofs.AvailablePages.{exact_large, waiting_span}
 use Rattle.block_map.specs.States.{IsCut}
 use Rattle.object_space.proofs.space.ObjectSpace.take_run.Goals as goal
@@ -29,7 +29,8 @@ invariant_of-self-2 c =
     let zeroed = subst (λ b. IsZeroed c.self.inside.memory c.zero.new.self (word_index b) (PAGE_WORDS * c.args.pages)) c.page_start-base.ensures c.zero.ensures in
     record {
       sound = sound_large _ c.self.invariant.sound c.len.ensures.laid c.len.ensures.lawful _ c.args.kind _ _ _ _ c.requires.0 run c.in-Some.ensures.some.1 c.cut_large.ensures.states c.cut_large.ensures.added zeroed;
-      long = c.zero.ensures.size ∙ c.self.invariant.long ∙ ap (λ n. PAGE_WORDS * n) (sym c.cut_large.ensures.states.size);
+      listed = listed_large _ c.self.invariant.sound c.len.ensures.laid c.len.ensures.lawful _ c.args.kind _ _ _ _ c.requires.0 run c.in-Some.ensures.some.1 c.cut_large.ensures.states c.cut_large.ensures.added zeroed
+          (λ page low high. c.self.invariant.sound.agree.free_in_map page (run.free page low high)) c.self.invariant.listed;
       pending = pending_cut _ _ c.self.invariant.pending refl c.cut_large.ensures.states.size (cut_span _ _ _ _ _ c.cut_large.ensures.states (λ page low high. c.self.invariant.sound.agree.free_in_map page (run.free page low high)));
       exact = exact_large _ _ _ _ _ _ c.args.kind c.self.invariant.exact c.cut_large.ensures.states (λ page low high. c.self.invariant.sound.agree.free_in_map page (run.free page low high));
       awaited = waiting_span _ _ _ _ _ _ _ c.self.invariant.awaited c.cut_large.ensures.states c.self.invariant.pending.cut

@@ -3,6 +3,7 @@ use Rattle.std.proofs.lemmas.Bool.{true≢false}
 use Rattle.object_space.proofs.Frees.{frees_kept, frees_last}
 use Rattle.object_space.proofs.Pending.{pending_put, pending_gone}
 use Rattle.object_space.proofs.Putting.{left, left_class, left_empty, left_allocated}
+use Rattle.block_map.proofs.Listed.{listed_span}
 use Rattle.block_map.specs.States.{IsCut, IsSpanSet, free, span_of}
 use Rattle.object_space.proofs.FreedCells.{exact_entered, exact_kept, exact_unswept, exact_uncut, awaited_kept, awaited_uncut}
 use Rattle.object_space.proofs.space.free.free_cell.Goals as goal
@@ -48,6 +49,9 @@ returns-then-left-clause-pending c =
     let x = left _ _ c.args.page c.args.cell _ _ c.requires.inside c.put-left.ensures.states c.put-left.ensures.tells.block in
     rw c.free_block.ensures.row (pending_gone _ c.put-left.new.self _ c.args.page c.args.cell _ c.requires.inside (let size = c.requires.row in let lt = c.requires.inside in omega arith) c.put-left.ensures.states
     (subst (λ n. IsSpanSet c.put-left.new.self c.free_block.new.map c.args.page n (λ _. free)) (ap span_of x.is) c.free_block.ensures.states) c.free_block.ensures.lawful)
+
+pub returns-then-left-clause-listed : goal.returns-then-left-clause-listed
+returns-then-left-clause-listed c = listed_span c.put-left.new.memory c.put-left.new.self c.free_block.new.map c.args.page _ (λ _. free) c.free_block.ensures.states (λ k. tt) c.put-left.ensures.listed
 
 pub returns-then-is_set-clause-freed : goal.returns-then-is_set-clause-freed
 returns-then-is_set-clause-freed c =

@@ -12,4 +12,4 @@ returns-then-is_empty c = acts_on _ _ _ c.in_ok-mutator.mutator.now _ _ c.in_ok-
 
 pub returns : goal.returns
 returns c = rw (← c.self.view_is)
-    (pops _ _ _ _ _ c.in_ok-mutator.mutator.now (rw (← c.self.view_is) at c.in_ok-mutator.ensures.ok) refl c.pop_of.ensures)
+    (pops _ _ _ _ _ c.in_ok-mutator.mutator.now (rw (← c.self.view_is) at c.in_ok-mutator.ensures.ok) (record { globals = refl; request_words = refl }) c.pop_of.ensures)

@@ -12,4 +12,4 @@ returns-then-is_full c = acts_on _ _ _ c.in_ok-mutator.mutator.now _ _ c.in_ok-m
 
 pub returns : goal.returns
 returns c = rw (← c.self.view_is)
-    (pushes _ _ _ _ c.in_ok-mutator.mutator.now (rw (← c.self.view_is) at c.in_ok-mutator.ensures.ok) c.if-is_full.ensures refl c.push_of.ensures)
+    (pushes _ _ _ _ c.in_ok-mutator.mutator.now (rw (← c.self.view_is) at c.in_ok-mutator.ensures.ok) c.if-is_full.ensures (record { globals = refl; request_words = refl }) c.push_of.ensures)

@@ -1,0 +1,42 @@
+use Rattle.std.proofs.Common.{◌≡◌, ◌-◌, ◌+◌, ◌*◌, subst, arith}
+use Rattle.blocks.specs.Lists.{link_of, IsFirstOrEnd, IsLinkedFrom}
+use Rattle.blocks.proofs.Lists.{free_more, free_none, free_page, linked_all, linked_none}
+use Rattle.blocks.proofs.Places.{cells_fit}
+use Rattle.blocks.proofs.list.link_free.Goals as goal
+
+pub loop-j-init : goal.loop-j-init
+loop-j-init c = (omega arith, linked_none _ c.args.taken.now 256 (let fits = cells_fit c.args.class c.requires.class in let size = c.requires.cells in omega arith), free_none _ c.args.page c.args.class c.args.taken.now)
+
+pub link_word-first-requires-clause-has : goal.link_word-first-requires-clause-has
+link_word-first-requires-clause-has c = let has = c.requires.has in let size = c.loop-j.invariant.2.size in omega arith
+
+pub link_word-first-requires-clause-word : goal.link_word-first-requires-clause-word
+link_word-first-requires-clause-word c = let some = c.loop-j-test.true in let few = c.loop-j.invariant.0 in omega arith
+
+pub link_word-first-requires-clause-linked : goal.link_word-first-requires-clause-linked
+link_word-first-requires-clause-linked c =
+    let some = c.loop-j-test.true in
+    let e : 64 * c.loop-j.j ≡ 64 * (c.loop-j.j - 1) + 64 = omega arith in
+    subst (λ n. IsLinkedFrom (link_of c.loop-j.memory c.args.page c.args.class) c.args.taken.now n c.loop-j.first) e c.loop-j.invariant.1
+
+pub loop-j-preserved : goal.loop-j-preserved
+loop-j-preserved c = (
+  let few = c.loop-j.invariant.0 in omega arith,
+  c.link_word-first.ensures.linked,
+  free_more _ _ _ c.args.page c.args.class c.args.taken.now c.loop-j.invariant.2 c.link_word-first.ensures.changes,
+)
+
+pub returns-clause-lists : goal.returns-clause-lists
+returns-clause-lists c =
+    let test = c.loop-j-test.false in
+    let e : 64 * c.loop-j.j ≡ 0 = omega arith in
+    linked_all _ c.args.taken.now c.loop-j.first (subst (λ n. IsLinkedFrom (link_of c.loop-j.memory c.args.page c.args.class) c.args.taken.now n c.loop-j.first) e c.loop-j.invariant.1)
+
+pub returns-clause-first : goal.returns-clause-first
+returns-clause-first c =
+    let test = c.loop-j-test.false in
+    let e : 64 * c.loop-j.j ≡ 0 = omega arith in
+    subst (λ n. IsFirstOrEnd c.args.taken.now n c.loop-j.first) e c.loop-j.invariant.1.lowest
+
+pub returns-clause-page : goal.returns-clause-page
+returns-clause-page c = free_page _ _ c.args.page c.args.class c.args.taken.now c.requires.class c.requires.cells c.loop-j.invariant.2

@@ -1,0 +1,45 @@
+use Rattle.std.proofs.Common.{refl, ap}
+use Rattle.marker.specs.Marking.{Marking}
+use Rattle.heap_core.specs.CoreContents.{CoreContents}
+use Rattle.heap_core.specs.Collections.{none, page}
+use Rattle.heap_core.proofs.BesideSteps.{traced_beside}
+use Rattle.heap_core.proofs.Cycling.{stands_still}
+use Rattle.heap_core.proofs.Legal.{legal_still}
+use Rattle.heap_core.proofs.heap.Core.retrace_beside.Goals as goal
+
+pub retrace_beside-requires-clause-moments : goal.retrace_beside-requires-clause-moments
+retrace_beside-requires-clause-moments c = rw (← c.self.view_is) at c.requires.moments
+
+pub retrace_beside-requires-clause-beside : goal.retrace_beside-requires-clause-beside
+retrace_beside-requires-clause-beside c = rw (← c.self.view_is) at c.requires.beside
+
+pub retrace_beside-requires-clause-still : goal.retrace_beside-requires-clause-still
+retrace_beside-requires-clause-still c = rw (← c.self.view_is) at c.requires.still
+
+pub returns-in_default : goal.returns-in_default
+returns-in_default c =
+    let with_marks : Marking → CoreContents = λ m. record { roots = c.self.inside.roots; store = c.self.inside.objects; cycle = record { marker = m; is_marking = c.self.inside.is_marking; needs_full = c.self.inside.needs_full; count = c.self.inside.count }; links = c.self.inside.links } in
+    rw (← c.self.view_is) (
+      c.if-not-self.false,
+      record {
+        on = record { stands = λ s h. stands_still _ _ (c.self.invariant.traced.swept c.if-not-self.false) s h; alone = refl; traces = c.retrace_beside.ensures.traces };
+        reads = none c.in_default.ensures.page.0 (ap with_marks c.in_default.ensures.page.1);
+      },
+    )
+
+pub invariant_of-self : goal.invariant_of-self
+invariant_of-self c = legal_still _ _ c.self.invariant (traced_beside _ _ _ _ c.self.invariant.traced (rw (← c.self.view_is) at c.requires.moments) c.retrace_beside.ensures.traces)
+    (λ s h. stands_still _ _ (c.self.invariant.traced.swept c.if-not-self.false) s h)
+
+pub invariant_of-self-2 : goal.invariant_of-self-2
+invariant_of-self-2 c = legal_still _ _ c.self.invariant (traced_beside _ _ _ _ c.self.invariant.traced (rw (← c.self.view_is) at c.requires.moments) c.retrace_beside.ensures.traces)
+    (λ s h. stands_still _ _ (c.self.invariant.traced.swept c.if-not-self.false) s h)
+
+pub returns : goal.returns
+returns c = rw (← c.self.view_is) (
+  c.if-not-self.false,
+  record {
+    on = record { stands = λ s h. stands_still _ _ (c.self.invariant.traced.swept c.if-not-self.false) s h; alone = refl; traces = c.retrace_beside.ensures.traces };
+    reads = page c.in-Some.field-0 c.in-Some.ensures.page;
+  },
+)
