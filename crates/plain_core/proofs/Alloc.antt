@@ -113,6 +113,7 @@ puts_at c roots k d e row sound fits zeroed sets m at s h = (
     pages = h.pages;
     mutators = (set_is c s h roots k d e.base m at sets).0;
     globals = (set_is c s h roots k d e.base m at sets).1;
+    request_words = (set_is c s h roots k d e.base m at sets).2;
     kept = λ g hg. ⊎_elim
         (λ old. let kept = h.kept g old in (
           kept.0,
@@ -204,32 +205,36 @@ module _ (c : PlainContents) (e : Extent) (sound : IsLaidOut c) (fits : MayBePut
   pub alloc_sound : (roots : RootSet) (row : List ℕ) (objects : List Extent) → length row ≡ length c.words → objects ≡ c.objects ++ e ∷ [] → IsLaidOut (record c { words = row; objects = objects; roots = roots })
   alloc_sound roots row objects l pushed = rw pushed (sound_after c roots e row sound fits.in_heap fits.fresh l)
 
+-- a request goes where it goes in the heap that is stood for
+pub limit_is : (c : PlainContents) (s : Heap) (n : ℕ) → StandsFor c s → placement_of s.request_words n ≡ placement_of c.roots.request_words n
+limit_is c s n h = ap (λ limit. placement_of limit n) h.request_words
+
 -- where an object was born there was room for it
-pub born_where : (c : PlainContents) → IsLaidOut c → (s : Heap) → StandsFor c s → (k d n base : ℕ) (kind : Kind) (placement : Placement) → placement_of n ≡ Some placement → {s' : Heap} → Calls s k (Alloc d n kind) Done s' → IsBornAt s base s'
+pub born_where : (c : PlainContents) → IsLaidOut c → (s : Heap) → StandsFor c s → (k d n base : ℕ) (kind : Kind) (placement : Placement) → placement_of c.roots.request_words n ≡ Some placement → {s' : Heap} → Calls s k (Alloc d n kind) Done s' → IsBornAt s base s'
     → IsPlace c.objects c.pages placement kind base
 born_where c sound s h k d n base kind placement is (acts at (Acts.allocated {placement = other} a is' room)) born =
     ⊎_elim
     (λ new. subst (IsPlace c.objects c.pages placement kind) (sym new.0)
-    (place_of c sound s h placement kind a (subst (λ p. HasRoom s p kind a) (same_Some other placement (sym is' ∙ is)) room)))
+    (place_of c sound s h placement kind a (subst (λ p. HasRoom s p kind a) (same_Some other placement (sym is' ∙ limit_is c s n h ∙ is)) room)))
     (λ old. let b = h.born base born.object old.1 in let newest = born.newest in absurd (omega (arith, b.1)))
     (after_cases s a _ base born.object born.there)
 
-pub cant_place : (c : PlainContents) → IsLaidOut c → (k d n base : ℕ) (kind : Kind) (placement : Placement) → placement_of n ≡ Some placement → (IsPlace c.objects c.pages placement kind base → ⊥) → CantAllocateAt c k d n kind base
+pub cant_place : (c : PlainContents) → IsLaidOut c → (k d n base : ℕ) (kind : Kind) (placement : Placement) → placement_of c.roots.request_words n ≡ Some placement → (IsPlace c.objects c.pages placement kind base → ⊥) → CantAllocateAt c k d n kind base
 cant_place c sound k d n base kind placement is none from s h s' calls born = none (born_where c sound s h k d n base kind placement is calls born)
 
 -- a request of no size, and one of no mutator, are granted nowhere
-pub cant_size : (c : PlainContents) (k d n base : ℕ) (kind : Kind) → placement_of n ≡ None → CantAllocateAt c k d n kind base
-cant_size c k d n base kind none from s h s' (acts at (Acts.allocated {placement = placement} a is room)) born = absurd (none-some placement (sym none ∙ is))
+pub cant_size : (c : PlainContents) (k d n base : ℕ) (kind : Kind) → placement_of c.roots.request_words n ≡ None → CantAllocateAt c k d n kind base
+cant_size c k d n base kind none from s h s' (acts at (Acts.allocated {placement = placement} a is room)) born = absurd (none-some placement (sym none ∙ sym (limit_is c s n h) ∙ is))
 
 pub cant_call : (c : PlainContents) (k d n base : ℕ) (kind : Kind) → HasNoMutator c.roots k → CantAllocateAt c k d n kind base
 cant_call c k d n base kind none from s h s' (acts {m = m} at act) born =
     absurd (none-some m (same_Some None (Some m) (sym (ap (λ ms. slice_get ms k) h.mutators ∙ none) ∙ at)))
 
 -- where size classes place objects, a place for a new one may have it
-pub may_have : (c : PlainContents) → IsLaidOut c → (n : ℕ) (kind : Kind) (placement : Placement) (e : Extent) → ArePlaced c → placement_of n ≡ Some placement → e.length ≡ length_of placement → IsPlace c.objects c.pages placement kind e.base → MayBePut c e
+pub may_have : (c : PlainContents) → IsLaidOut c → (n : ℕ) (kind : Kind) (placement : Placement) (e : Extent) → ArePlaced c → placement_of c.roots.request_words n ≡ Some placement → e.length ≡ length_of placement → IsPlace c.objects c.pages placement kind e.base → MayBePut c e
 may_have c sound n kind placement e placed is long room = record {
-  in_heap = subst (λ o. IsInHeap o c.pages e) (sym placed.0) (new_in_heap c.pages c.objects placement kind e (sized n placement is) long room);
-  fresh = new_fresh c.pages c.objects placement kind e placed.1 (sized n placement is) long room;
+  in_heap = subst (λ o. IsInHeap o c.pages e) (sym placed.0) (new_in_heap c.pages c.objects placement kind e (sized _ n placement is) long room);
+  fresh = new_fresh c.pages c.objects placement kind e placed.1 (sized _ n placement is) long room;
 }
 
 -- no object begins at a place for a new one
@@ -265,13 +270,13 @@ shares c sound s h k d a m kind placement other e same long sized room born f w 
     size : o ≡ born.object → e.length ≡ length born.object.words
     size is = long ∙ ap length_of (sym same) ∙ sym (length-replicate (length_of other) 0) ∙ ap (λ (x : Object). length x.words) is
 
-pub cant_share : (c : PlainContents) → IsLaidOut c → (k d n base : ℕ) (kind : Kind) (placement : Placement) (e : Extent) → placement_of n ≡ Some placement → e.length ≡ length_of placement → e.base ≡ base
+pub cant_share : (c : PlainContents) → IsLaidOut c → (k d n base : ℕ) (kind : Kind) (placement : Placement) (e : Extent) → placement_of c.roots.request_words n ≡ Some placement → e.length ≡ length_of placement → e.base ≡ base
     → IsPlace c.objects c.pages placement kind base → (MayBePut c e → ⊥) → CantAllocateAt c k d n kind base
 cant_share c sound k d n base kind placement e is long bases room none from s h s' (acts {m = m} at (Acts.allocated {placement = other} a is' has)) born =
     let here : IsPlace c.objects c.pages placement kind e.base = subst (IsPlace c.objects c.pages placement kind) (sym bases) room in
     none (record {
-      in_heap = subst (λ o. IsInHeap o c.pages e) (sym from) (new_in_heap c.pages c.objects placement kind e (sized n placement is) long here);
-      fresh = shares c sound s h k d a m kind placement other e (same_Some other placement (sym is' ∙ is)) long (sized n placement is) here
+      in_heap = subst (λ o. IsInHeap o c.pages e) (sym from) (new_in_heap c.pages c.objects placement kind e (sized _ n placement is) long here);
+      fresh = shares c sound s h k d a m kind placement other e (same_Some other placement (sym is' ∙ limit_is c s n h ∙ is)) long (sized _ n placement is) here
           (subst (λ b. IsBornAt s b (with_register (with_new s a kind other) k m d a)) (sym bases) born);
     })
 
@@ -280,7 +285,7 @@ pub fits_by : (c now : PlainContents) → c ≡ now → (row : List Extent) → 
 fits_by c now view row rows e inside fresh = subst (λ (x : PlainContents). MayBePut x e) view (record { in_heap = inside; fresh = subst (λ r. IsFresh r e) rows fresh })
 
 -- a request that was granted by an object
-pub put_at : (c later : PlainContents) → IsLaidOut c → (k d n base : ℕ) (kind : Kind) (placement : Placement) (e : Extent) (m : Mutator) → HasMutator c.roots k m → placement_of n ≡ Some placement → e.kind ≡ kind → e.length ≡ length_of placement
+pub put_at : (c later : PlainContents) → IsLaidOut c → (k d n base : ℕ) (kind : Kind) (placement : Placement) (e : Extent) (m : Mutator) → HasMutator c.roots k m → placement_of c.roots.request_words n ≡ Some placement → e.kind ≡ kind → e.length ≡ length_of placement
     → e.base ≡ base → IsPlace c.objects c.pages placement kind base → IsPut c k d e later → IsAllocatedAt c k d n kind base later
 put_at c later sound k d n base kind placement e m at is kinds long bases room put s h =
     let x = put m at s h in
@@ -289,12 +294,12 @@ put_at c later sound k d n base kind placement e m at is kinds long bases room p
       acts (mutator_at c s h k m at)
           (subst (λ (q : Kind). Acts s k m (Alloc d n kind) Done (with_register (with_words s e.base q e.length) k m d e.base)) (sym kinds)
           (subst (λ (l : ℕ). Acts s k m (Alloc d n kind) Done (with_register (with_words s e.base kind l) k m d e.base)) (sym long)
-          (Acts.allocated e.base is (room_of c sound s h placement kind e.base here)))),
+          (Acts.allocated e.base (limit_is c s n h ∙ is) (room_of c sound s h placement kind e.base here)))),
       subst (λ b. IsBornAt s b (heap_with s k m d e)) bases x.0,
       x.1,
     )
 
-pub put_steps : (c later : PlainContents) → IsLaidOut c → (k d n : ℕ) (kind : Kind) (placement : Placement) (e : Extent) (m : Mutator) → HasMutator c.roots k m → placement_of n ≡ Some placement → e.kind ≡ kind → e.length ≡ length_of placement
+pub put_steps : (c later : PlainContents) → IsLaidOut c → (k d n : ℕ) (kind : Kind) (placement : Placement) (e : Extent) (m : Mutator) → HasMutator c.roots k m → placement_of c.roots.request_words n ≡ Some placement → e.kind ≡ kind → e.length ≡ length_of placement
     → IsPlace c.objects c.pages placement kind e.base → IsPut c k d e later → StepsCall c k (Alloc d n kind) Done later
 put_steps c later sound k d n kind placement e m at is kinds long room put s h =
     let x = put_at c later sound k d n e.base kind placement e m at is kinds long refl room put s h in (x.0, x.1, x.3)

@@ -68,8 +68,8 @@ module _ (c : PlainContents) (k words : ℕ) (reply : Reply) where
   pub refuse_full : (m : Mutator) → HasMutator c.roots k m → reply ≡ Refused Full → MayRefuse c k words reply
   refuse_full m at is into kind s h = subst (λ r. Requests s c.origin k into words kind r s) (sym is) (by (mutator_at c s h k m at) Grants.full)
 
-  pub refuse_size : (m : Mutator) → HasMutator c.roots k m → placement_of words ≡ None → reply ≡ Refused BadSize → MayRefuse c k words reply
-  refuse_size m at none is into kind s h = subst (λ r. Requests s c.origin k into words kind r s) (sym is) (by (mutator_at c s h k m at) (Grants.bad_size none))
+  pub refuse_size : (m : Mutator) → HasMutator c.roots k m → placement_of c.roots.request_words words ≡ None → reply ≡ Refused BadSize → MayRefuse c k words reply
+  refuse_size m at none is into kind s h = subst (λ r. Requests s c.origin k into words kind r s) (sym is) (by (mutator_at c s h k m at) (Grants.bad_size (ap (λ limit. placement_of limit words) h.request_words ∙ none)))
 
   pub not_vacant : HasNoMutator c.roots k → (reply ≡ Refused NoSlot → ⊥) → CantRefuse c k words reply
   not_vacant none other into kind s s' h fair asks = go reply refl asks
@@ -78,11 +78,11 @@ module _ (c : PlainContents) (k words : ℕ) (reply : Reply) where
       go r is (by {m = m} at act) = none-some m (same_Some None (Some m) (sym (ap (λ ms. slice_get ms k) h.mutators ∙ none) ∙ at))
       go r is (vacant free) = other (sym is)
 
-  pub not_refused : (m : Mutator) → HasMutator c.roots k m → (reply ≡ Refused Full → ⊥) → (placement_of words ≡ None → reply ≡ Refused BadSize → ⊥) → CantRefuse c k words reply
+  pub not_refused : (m : Mutator) → HasMutator c.roots k m → (reply ≡ Refused Full → ⊥) → (placement_of c.roots.request_words words ≡ None → reply ≡ Refused BadSize → ⊥) → CantRefuse c k words reply
   not_refused m here other size into kind s s' h fair asks = go reply refl asks
     where
       grants : (n : Mutator) (r : Reply) {t : Heap} → r ≡ reply → Grants s c.origin k n into words kind r t → ⊥
-      grants n r is (Grants.bad_size none) = size none (sym is)
+      grants n r is (Grants.bad_size none) = size (sym (ap (λ limit. placement_of limit words) h.request_words) ∙ none) (sym is)
       grants n r is Grants.full = other (sym is)
       grants n r is (Grants.granted a l few has) = fair (sym is)
 

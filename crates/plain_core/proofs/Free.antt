@@ -161,6 +161,7 @@ module _ (c : PlainContents) (sound : IsLaidOut c) (gone rest : List Extent) (pe
       pages = h.pages;
       mutators = h.mutators;
       globals = h.globals;
+      request_words = h.request_words;
       kept = λ f hf. let old = h.kept f (was_in f hf) in (
         with_cleared (loses_word s bases) f.base old.0,
         stays_by s bases f.base old.0 old.1 (not_gone f hf),

@@ -33,7 +33,7 @@ module _ (c : PlainContents) (sound : IsLaidOut c) (own : ℕ) (e : Extent) (the
   pub kept_by_root : (root : Root) → RootsHave c.roots root e.base e.length → (s : Heap) → StandsFor c s → IsKeptBy s e.base (ByRoot root)
   kept_by_root root has s h =
       let o = object_of c sound s h e (in_row c.objects own e there) in
-      let roots : roots_of s ≡ c.roots = ap (λ ms. record { mutators = ms; globals = s.globals }) h.mutators ∙ ap (λ gs. record { mutators = c.roots.mutators; globals = gs }) h.globals in
+      let roots : roots_of s ≡ c.roots = ap (λ ms. record { mutators = ms; globals = s.globals; request_words = s.request_words }) h.mutators ∙ ap (λ gs. record { mutators = c.roots.mutators; globals = gs; request_words = s.request_words }) h.globals ∙ ap (λ n. record { mutators = c.roots.mutators; globals = c.roots.globals; request_words = n }) h.request_words in
       (o.0, o.1, subst (RootsHave (roots_of s) root e.base) (sym o.2) (subst (λ (r : RootSet). RootsHave r root e.base e.length) (sym roots) has))
 
   module _ (order : List ℕ) (marks : List Bool) (listed : IsListOf (length c.objects) order marks) (m : MarksReached c.origin (root_words_of c.roots) c.words c.objects marks) where

@@ -62,6 +62,7 @@ stores c k r n f m e sound at has reads al s h = (
     pages = h.pages;
     mutators = h.mutators;
     globals = h.globals;
+    request_words = h.request_words;
     kept = λ g hg. ⊎_elim
         (λ same. subst (λ (x : Extent). (p : Object) × HasObject after x.base p × IsShown c.origin row x p) (sound.apart e g g.base has hg (reads_base c sound e has g.base same) (reads_base c sound g hg g.base refl))
         (o', with_at-same s.objects e.base (Some o') e.base refl, record { kind = kept.2.kind; words = ap (λ xs. set xs ((a - e.base) / WORD_BYTES) v) kept.2.words ∙ sym (written_in c.origin c.words c.pages a v e sound.starts (in_heap c sound e has) reads) }))

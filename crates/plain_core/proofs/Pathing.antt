@@ -125,7 +125,7 @@ step_is step keeper base by to = ap (λ k. record { keeper = k; base = step.base
 
 module _ (c : PlainContents) (sound : IsLaidOut c) (s : Heap) (h : StandsFor c s) where
   roots_are : roots_of s ≡ c.roots
-  roots_are = ap (λ ms. record { mutators = ms; globals = s.globals }) h.mutators ∙ ap (λ gs. record { mutators = c.roots.mutators; globals = gs }) h.globals
+  roots_are = ap (λ ms. record { mutators = ms; globals = s.globals; request_words = s.request_words }) h.mutators ∙ ap (λ gs. record { mutators = c.roots.mutators; globals = gs; request_words = s.request_words }) h.globals ∙ ap (λ n. record { mutators = c.roots.mutators; globals = c.roots.globals; request_words = n }) h.request_words
 
   root_path : (own : ℕ) (step : PathStep) (e : Extent) → slice_get c.objects own ≡ Some e → IsRootStep c.roots c.objects own step → IsPath s (step ∷ []) e.base
   root_path own step e there is =

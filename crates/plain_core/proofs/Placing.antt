@@ -24,5 +24,5 @@ sized_class : (class : ℕ) → IsSizeClass class → IsSized (Small class)
 sized_class class is = let some = class_some class is in let even : class % GRANULE_WORDS ≡ 0 = class_even class is in (omega (arith, some), class_few class is, even)
 
 -- a request that goes somewhere has a size that is allowed there
-pub sized : (n : ℕ) (placement : Placement) → placement_of n ≡ Some placement → IsSized placement
-sized n placement e = placement_has IsSized n placement e (λ class is holds. sized_class class is) (λ more few. let some : 1 ≤ div_ceil n PAGE_WORDS = omega arith in some)
+pub sized : (limit n : ℕ) (placement : Placement) → placement_of limit n ≡ Some placement → IsSized placement
+sized limit n placement e = placement_has IsSized limit n placement e (λ class is holds. sized_class class is) (λ more few. let some : 1 ≤ div_ceil n PAGE_WORDS = omega arith in some)

@@ -29,6 +29,7 @@ with_stands c s h roots = record {
   pages = h.pages;
   mutators = refl;
   globals = refl;
+  request_words = refl;
   kept = h.kept;
   only = h.only;
   born = h.born;
@@ -40,7 +41,8 @@ with_stands c s h roots = record {
 pub steps_roots : (c : PlainContents) (roots : RootSet) (event : Event) (reply : Reply) → StepsRoots c.roots event reply roots → IsStep (StandsFor c) event reply (StandsFor (record c { roots = roots }))
 steps_roots c roots event reply steps s h =
     let same : with_roots s c.roots ≡ s =
-    ap (λ ms. record s { mutators = ms; globals = c.roots.globals }) (sym h.mutators) ∙ ap (λ gs. record s { globals = gs }) (sym h.globals) in
+    ap (λ ms. record s { mutators = ms; globals = c.roots.globals; request_words = c.roots.request_words }) (sym h.mutators)
+    ∙ ap (λ gs. record s { globals = gs; request_words = c.roots.request_words }) (sym h.globals) ∙ ap (λ n. record s { request_words = n }) (sym h.request_words) in
     (with_roots s roots, subst (λ (x : Heap). Step x event reply (with_roots s roots)) same (steps s), with_stands c s h roots)
 
 -- a call for a slot that has no mutator
@@ -53,8 +55,8 @@ keeps_all c k call reply m at does s h = (s, acts (mutator_at c s h k m at) (doe
 
 -- the heap's roots after a word was put into a register
 pub set_is : (c : PlainContents) (s : Heap) → StandsFor c s → (roots : RootSet) (k r w : ℕ) (m : HeapMutator) → HasMutator c.roots k m → SetsWord c.roots k r w roots
-    → (set s.mutators k (Some (with_word m r w)) ≡ roots.mutators) × (s.globals ≡ roots.globals)
-set_is c s h roots k r w m at sets = (ap (λ ms. set ms k (Some (with_word m r w))) h.mutators ∙ sym (set_mutators c.roots roots k r w m at sets), h.globals ∙ sym sets.0)
+    → (set s.mutators k (Some (with_word m r w)) ≡ roots.mutators) × (s.globals ≡ roots.globals) × (s.request_words ≡ roots.request_words)
+set_is c s h roots k r w m at sets = (ap (λ ms. set ms k (Some (with_word m r w))) h.mutators ∙ sym (set_mutators c.roots roots k r w m at sets), h.globals ∙ sym sets.0.globals, h.request_words ∙ sym sets.0.request_words)
 
 -- a call that changes no more than a register
 pub sets_register : (c : PlainContents) (roots : RootSet) (k r w : ℕ) (m : HeapMutator) (call : Call) (reply : Reply) → HasMutator c.roots k m → SetsWord c.roots k r w roots
@@ -62,5 +64,5 @@ pub sets_register : (c : PlainContents) (roots : RootSet) (k r w : ℕ) (m : Hea
 sets_register c roots k r w m call reply at sets does s h = let is = set_is c s h roots k r w m at sets in (
   with_register s k m r w,
   acts (mutator_at c s h k m at) (does s h),
-  record { pages = h.pages; mutators = is.0; globals = is.1; kept = h.kept; only = h.only; born = h.born; distinct = h.distinct; links = h.links },
+  record { pages = h.pages; mutators = is.0; globals = is.1; request_words = is.2; kept = h.kept; only = h.only; born = h.born; distinct = h.distinct; links = h.links },
 )

@@ -28,7 +28,7 @@ with_words s base kind n = record (with_object s base (Some (record { birth = s.
 -- What a request of the mutator m, attached at the slot, may answer, and the heap after it. It is granted by an object of at
 -- least so many words where that has room; refused for its size, if it has no size class; and with Full at any time.
 pub data Grants (s : Heap) (origin slot : ℕ) (m : Mutator) (into words : ℕ) (kind : Kind) : Reply → Heap → Type 0 where
-  bad_size : placement_of words ≡ None → Grants s origin slot m into words kind (Refused BadSize) s
+  bad_size : placement_of s.request_words words ≡ None → Grants s origin slot m into words kind (Refused BadSize) s
   full : Grants s origin slot m into words kind (Refused Full) s
   granted : (a n : ℕ) → words ≤ n → HasRoomAnywhere s origin n a → Grants s origin slot m into words kind Done (with_register (with_words s a kind n) slot m into a)
 

@@ -12,7 +12,7 @@ use Rattle.plain_core.specs.Reached.{links_of}
 
 -- the roots of a heap
 abbrev pub roots_of : Heap → RootSet
-roots_of s = record { mutators = s.mutators; globals = s.globals }
+roots_of s = record { mutators = s.mutators; globals = s.globals; request_words = s.request_words }
 
 -- The word of one index in another object, which is reached and whose words the collector reads, points into the object with
 -- this base and so many words.

@@ -24,12 +24,13 @@ pub record IsShown (origin : ℕ) (row : List ℕ) (e : Extent) (o : Object) : T
   pub kind : o.kind ≡ e.kind
   pub words : o.words ≡ words_at origin row e
 
--- The heap has the core's pages, its objects with their kinds and words, its mutators, its globals, and its links, compared by
+-- The heap has the core's pages, its objects with their kinds and words, its mutators, its globals, its limit of requests, and its links, compared by
 -- the objects that they name. Births are not kept, so any distinct ones from 1 up to their number fit.
 pub record StandsFor (c : PlainContents) (s : Heap) : Type 0 where
   pub pages : s.pages ≡ c.pages
   pub mutators : s.mutators ≡ c.roots.mutators
   pub globals : s.globals ≡ c.roots.globals
+  pub request_words : s.request_words ≡ c.roots.request_words
   pub kept : (e : Extent) → Contains c.objects e → (o : Object) × HasObject s e.base o × IsShown c.origin c.words e o
   pub only : (base : ℕ) (o : Object) → HasObject s base o → (e : Extent) × Contains c.objects e × (e.base ≡ base)
   pub born : (base : ℕ) (o : Object) → HasObject s base o → (1 ≤ o.birth) × (o.birth ≤ s.births)

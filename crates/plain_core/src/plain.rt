@@ -27,7 +27,7 @@ use roots::{RootWords, Roots};
 use std::alloc::Global;
 use std::marker::Model;
 use words::OpenError;
-use words::limits::{FIRST_ADDRESS, MAX_PAGES, PAGE_WORDS};
+use words::limits::{FIRST_ADDRESS, MAX_PAGES, MAX_REQUEST_WORDS, PAGE_WORDS};
 
 /// A heap core.
 #[derive(Drop)]
@@ -86,7 +86,7 @@ impl Core {
         let words = vec![in alloc; 0u64; PAGE_WORDS as usize * pages as usize]?;
         let objects = Vec::with_capacity(alloc, PAGE_WORDS as usize * pages as usize)?;
         let owners = vec![in alloc; 0u64; PAGE_WORDS as usize * pages as usize]?;
-        let roots = Roots::new(alloc)?;
+        let roots = Roots::new(alloc, MAX_REQUEST_WORDS)?;
         let root_words = RootWords::new(alloc)?;
         let listing = Listing::new(alloc, PAGE_WORDS as usize * pages as usize)?;
         let stays = vec![in alloc; true; PAGE_WORDS as usize * pages as usize]?;

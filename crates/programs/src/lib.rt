@@ -4,7 +4,8 @@
 //!
 //! `end` is the status of each fault, 2 for bad words and bad lines and 1 for any other, with its line told (`Ends`).
 //! `Fault::of_read` is `no memory` exactly where memory was refused, and else a read fault, and `Fault::of_write` likewise a
-//! write fault; `own_words` fails only with refused memory or bad words, and `takes_option` leaves other words as they are.
+//! write fault; `own_words` fails only with refused memory or bad words, and `takes_option` takes the third of four words away or
+//! leaves all as they are.
 #![tactic(auto)]
 
 mod ending;

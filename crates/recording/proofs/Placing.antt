@@ -74,7 +74,7 @@ module _ (c : CoreContents) (slot into words : ℕ) (kind : Kind) (old new : Rec
           alone = λ other w o has reads others.
               one_read _ (acts_kept s slot m sound (attached_is s slot m sound at) (Acts.allocated {d = into} {n = words} {kind = kind} {placement = p} a e room) tt) w other a o _ (has, others) (with_at-same s.objects a _ a refl, reads);
         };
-        free = room_none s sound p kind a (placed words p e) room;
+        free = room_none s sound p kind a (placed _ words p e) room;
         object = _;
         after = refl;
       }

@@ -3,6 +3,7 @@ ghost use Rattle.std.specs.Prelude.{◌≡◌, [], MatchResult};
 ghost use Rattle.words.specs.declared.limits.TheConstants.{SLOTS};
 ghost use Rattle.words.specs.declared.refusal.Refusal.TheVariants.{NoSlot};
 ghost use Rattle.heap_history.specs.Headline.{Begun, Departs, Makes};
+ghost use Rattle.heap_history.specs.Passes.{HeapPass};
 ghost use Rattle.heap_history.specs.Replies.{IsReplyKind};
 ghost use Rattle.shared.specs.Journals.{IsOf};
 ghost use Rattle.shared.specs.WhileAttached.{IsNoDetach};
@@ -63,8 +64,10 @@ impl<J: Naming> SharedHeap<J> {
         Ok(Mutator { slot, pass })
     }
 
-    /// A mutator's last call. Its slot is free from then on.
-    pub fn detach(&self, rt: &impl Wait, me: Mutator<J>) {
+    /// A mutator's last call, as [`SharedHeap::depart`], of which nothing stays. Its slot is free from then on.
+    pub fn detach(&self, rt: &impl Wait, me: Mutator<J>)
+        ensures { (past : HeapPass) × Departs J.origin me past }
+    {
         self.depart(rt, me);
     }
 

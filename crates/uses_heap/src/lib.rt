@@ -2,8 +2,8 @@
 //!
 //! # What is proved
 //!
-//! A word that is stored into a new object and loaded again is that word (`store_and_load`), and so it is after a whole cycle, in
-//! a heap of the caller's own (`keep_through_cycle`), by the laws of `heap_core`.
+//! A word that is stored into a new object and loaded again is that word (`store_and_load`), and so it is after a whole cycle
+//! (`keep_through_cycle`), by the laws of `heap_core`. What each made of the heap are its calls, line by line (`AreLines`).
 #![tactic(auto)]
 
 mod cycle;

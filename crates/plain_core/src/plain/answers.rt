@@ -13,7 +13,7 @@ use heap_spec::{Call, Reply};
 use links::is_normal;
 use roots::Mutator;
 use words::limits::WORD_BYTES;
-use words::{Global, Kind, Refusal, Reg, Slot, class_of};
+use words::{Global, Kind, Refusal, Reg, Slot};
 
 // What a push would be answered.
 fn push_answer(mutator: &Mutator) -> Reply
@@ -101,7 +101,7 @@ impl Core {
     fn alloc_answer(&self, words: u64, kind: Kind) -> Reply
         ensures { (m : HeapMutator) (into : ℕ) → MayAnswer self.now m (Call.Alloc into words kind) result }
     {
-        let Some(placement) = class_of(words) else {
+        let Some(placement) = self.roots.placement(words) else {
             return Reply::Refused(Refusal::BadSize);
         };
         let Some(_object) = place_for(

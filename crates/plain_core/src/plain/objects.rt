@@ -15,7 +15,7 @@ use crate::owners::{fill, find_in, owner_at, word_index, write_owner};
 use crate::places::place_for;
 use heap_spec::{Call, Event};
 use words::limits::WORD_BYTES;
-use words::{Kind, Refusal, Reg, Slot, class_of};
+use words::{Kind, Refusal, Reg, Slot};
 
 impl Core {
     ghost use Rattle.plain_core.specs.Standing.{StandsFor};
@@ -77,7 +77,7 @@ impl Core {
         ensures origin { self.new.origin ≡ self.old.origin }
     {
         self.mutator(slot).ok_or(Refusal::NoSlot)?;
-        let placement = class_of(words).ok_or(Refusal::BadSize)?;
+        let placement = self.roots.placement(words).ok_or(Refusal::BadSize)?;
         let object = place_for(
             self.origin,
             &self.objects,
@@ -112,7 +112,7 @@ impl Core {
         let Some(_) = self.mutator(slot) else {
             return false;
         };
-        let Some(placement) = class_of(words) else {
+        let Some(placement) = self.roots.placement(words) else {
             return false;
         };
         let Some(object) = place_at(

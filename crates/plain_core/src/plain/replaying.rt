@@ -7,7 +7,7 @@ ghost use Rattle.plain_core.specs.Answering.{CanAnswer, CanAttach, IsNoStep, Mak
 
 use super::Core;
 use heap_spec::{Call, Event, Reply};
-use words::{Refusal, Slot, class_of};
+use words::{Refusal, Slot};
 
 // Whether two replies are the same.
 fn is_same(a: &Reply, b: &Reply) -> bool
@@ -111,7 +111,7 @@ impl Core {
         if is_same(reply, &Reply::Refused(Refusal::Full)) {
             return true;
         }
-        let None = class_of(words) else {
+        let None = self.roots.placement(words) else {
             return false;
         };
         is_same(reply, &Reply::Refused(Refusal::BadSize))

@@ -1,4 +1,6 @@
-use Rattle.std.proofs.Common.{sym, ◌∙◌}
+use Rattle.std.proofs.Common.{sym, ap, ◌∙◌}
+use Rattle.words.specs.Placing.{placement_of}
+use Rattle.plain_core.specs.PlainContents.{PlainContents}
 use Rattle.plain_core.proofs.Alloc.{cant_place, cant_size, cant_call, cant_share, fits_by, put_at}
 use Rattle.plain_core.proofs.Owning.{found_by}
 use Rattle.plain_core.proofs.plain.Core.alloc_at.Goals as goal
@@ -9,12 +11,12 @@ place_at-requires-clause-found c = rw (c.deref.ensures.value, c.deref-2.ensures.
 pub returns-in_default-clause-no : goal.returns-in_default-clause-no
 returns-in_default-clause-no c refused = cant_call _ _ _ _ _ _ c.in_default.ensures.none
 
-pub returns-in_default-class_of-clause-no : goal.returns-in_default-class_of-clause-no
-returns-in_default-class_of-clause-no c refused = cant_size _ _ _ _ _ _ (sym c.class_of.ensures ∙ c.in_default-class_of.is)
+pub returns-in_default-placement-clause-no : goal.returns-in_default-placement-clause-no
+returns-in_default-placement-clause-no c refused = cant_size _ _ _ _ _ _ (sym (c.placement.ensures.placement ∙ ap (λ (x : PlainContents). placement_of x.roots.request_words c.args.words) c.self.view_is) ∙ c.in_default-placement.is)
 
 pub returns-in_default-place_at-clause-no : goal.returns-in_default-place_at-clause-no
 returns-in_default-place_at-clause-no c refused =
-    rw (← c.self.view_is) (cant_place _ c.self.invariant.0 _ _ _ _ _ c.in-Some-class_of.placement (sym c.class_of.ensures ∙ c.in-Some-class_of.is) (rw c.deref.ensures.value at c.in_default-place_at.ensures.none))
+    rw (← c.self.view_is) (cant_place _ c.self.invariant.0 _ _ _ _ _ c.in-Some-placement.placement (sym c.placement.ensures.placement ∙ c.in-Some-placement.is) (rw c.deref.ensures.value at c.in_default-place_at.ensures.none))
 
 pub may_be_put-requires-clause-found : goal.may_be_put-requires-clause-found
 may_be_put-requires-clause-found c = rw (c.deref-3.ensures.value, c.deref-4.ensures.value) (found_by _ c.self.invariant.0 _ c.self.invariant.2)
@@ -24,7 +26,7 @@ returns-then-not-may_be_put-clause-no c refused =
     let some = c.in-Some-place_at.ensures.some in
     let room = rw c.deref.ensures.value at some.3 in
     rw (← c.self.view_is)
-    (cant_share _ c.self.invariant.0 _ _ c.args.words _ _ _ c.in-Some-place_at.object (sym c.class_of.ensures ∙ c.in-Some-class_of.is) some.2 some.0 room
+    (cant_share _ c.self.invariant.0 _ _ c.args.words _ _ _ c.in-Some-place_at.object (sym c.placement.ensures.placement ∙ c.in-Some-placement.is) some.2 some.0 room
     (λ fits. c.may_be_put.ensures.no c.if-not-may_be_put.true fits.in_heap (rw c.deref-3.ensures.value fits.fresh)))
 
 pub put-requires-clause-fits : goal.put-requires-clause-fits
@@ -34,5 +36,5 @@ pub returns-clause-yes : goal.returns-clause-yes
 returns-clause-yes c done =
     let some = c.in-Some-place_at.ensures.some in
     let room = rw c.deref.ensures.value at some.3 in
-    let is = sym c.class_of.ensures ∙ c.in-Some-class_of.is in
+    let is = sym c.placement.ensures.placement ∙ c.in-Some-placement.is in
     rw (← c.self.view_is) (put_at _ _ c.self.invariant.0 _ _ c.args.words _ _ _ c.in-Some-place_at.object c.in-Some.field-0.now (rw (← c.self.view_is) at c.in-Some.ensures.some) is some.1 some.2 some.0 room (rw (← c.self.view_is) at c.put.ensures.put))
