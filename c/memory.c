@@ -3,7 +3,7 @@
  *
  * Trusted, not proved: the library's proofs take it that what these three answer is memory of so many bytes, aligned to 16 or
  * less, that nobody else uses until it is given back, and that a growth keeps the bytes that were there. And that memset
- * leaves the byte in each place: what was just mapped has 0 in each, and is not written again. */
+ * leaves the byte in each place: what was just mapped, or came from calloc, has 0 in each, and is not written again. */
 #ifndef _GNU_SOURCE
 #define _GNU_SOURCE
 #endif
@@ -41,6 +41,14 @@ static _Thread_local bool is_taken;
 /* The bytes of words that this thread has just mapped, and that nobody has touched: the kernel has them 0. */
 static _Thread_local size_t untouched;
 
+/* What the last request of this thread was given, if that was a large one: calloc has it 0. The library makes a row of zeros by a
+ * request, a memset of all of it but the last word, and a store of that, with nothing between the three, and writes no other
+ * memory as a whole. So that memset is left out, and of a large row only what is used is ever touched. With so much to spare
+ * calloc has the system map the row; what it took from its own store it would have to clear. */
+enum { LARGE = 16 * 1024, SPARE = 256 * 1024, LAST = 8 };
+static _Thread_local void *fresh;
+static _Thread_local size_t fresh_bytes;
+
 static void *first_address(void) {
     return (void *)(uintptr_t)MPHEAP_FIRST_ADDRESS;
 }
@@ -52,7 +60,7 @@ static memory answer(void *at) {
 
 /* The heap's own addresses, or null. */
 static void *map_words(size_t bytes) {
-    int flags = MAP_PRIVATE | MAP_ANONYMOUS;
+    int flags = MAP_PRIVATE | MAP_ANONYMOUS | MAP_NORESERVE;
 #ifdef MAP_FIXED_NOREPLACE
     flags |= MAP_FIXED_NOREPLACE;
 #endif
@@ -68,18 +76,24 @@ static void *map_words(size_t bytes) {
 }
 
 memory rattle_alloc(size_t bytes, size_t align) {
+    fresh = NULL;
     if (wanted != 0 && bytes == wanted && before-- == 0) return answer(map_words(bytes));
-    return answer(malloc(bytes != 0 ? bytes : align));
+    if (bytes < LARGE) return answer(malloc(bytes != 0 ? bytes : align));
+    fresh = calloc(1, bytes + SPARE);
+    fresh_bytes = bytes;
+    return answer(fresh);
 }
 
 /* The library never grows the words of a heap, so what is mapped never comes here. */
 memory rattle_realloc(void *at, size_t kept, size_t bytes, size_t align) {
     (void)kept;
+    fresh = NULL;
     return answer(realloc(at, bytes != 0 ? bytes : align));
 }
 
 void rattle_dealloc(void *at) {
     size_t bytes = at == first_address() ? atomic_exchange(&mapped, 0) : 0;
+    fresh = NULL;
     if (bytes != 0) {
         munmap(at, bytes);
     } else {
@@ -97,17 +111,21 @@ static void *set_first(int byte, size_t bytes) {
 
 /* Each new object is cleared by a call of this too, so it does nothing first but look at the address. */
 void *mpheap_memset(void *at, int byte, size_t bytes) {
-    return at == first_address() ? set_first(byte, bytes) : memset(at, byte, bytes);
+    if (at == first_address()) return set_first(byte, bytes);
+    if (at != fresh || at == NULL) return memset(at, byte, bytes);
+    fresh = NULL;
+    return byte == 0 && bytes + LAST == fresh_bytes ? at : memset(at, byte, bytes);
 }
 
 /* Whether what is mapped are the heap's words: a word that is stored into a new object stands at its address. The object and
- * its mutator go again. */
+ * its mutator go again. A heap that grants no request has no object whose words could stand elsewhere. */
 static bool has_words_there(mpheap *heap) {
     uint8_t slot = 0;
     uint64_t base = 0;
-    bool is_there = false;
     if (mpheap_attach(heap, &slot) != MPHEAP_OK) return false;
-    if (mpheap_alloc_base(heap, slot, 0, 2, &base) == MPHEAP_OK) {
+    uint32_t status = mpheap_alloc_base(heap, slot, 0, 1, &base);
+    bool is_there = status == MPHEAP_BAD_SIZE;
+    if (status == MPHEAP_OK) {
         volatile uint64_t *word = (volatile uint64_t *)(uintptr_t)base;
         mpheap_set(heap, slot, 1, ~base);
         mpheap_store(heap, slot, 0, 1, 1);
@@ -119,20 +137,20 @@ static bool has_words_there(mpheap *heap) {
 }
 
 /* Opens a heap with the request of the words' size behind so many others at the heap's addresses. */
-static uint32_t open_behind(uint32_t pages, mpheap *heap, uint32_t others) {
+static uint32_t open_behind(uint32_t pages, uint64_t request_words, mpheap *heap, uint32_t others) {
     wanted = (size_t)pages * MPHEAP_PAGE_BYTES;
     before = others;
     is_taken = false;
-    uint32_t status = mpheap_open(pages, heap);
+    uint32_t status = mpheap_open_with(pages, request_words, heap);
     wanted = 0;
     return status == MPHEAP_NO_MEMORY && is_taken ? MPHEAP_RANGE_TAKEN : status;
 }
 
-uint32_t mpheap_open_mapped(uint32_t pages, mpheap *heap) {
+uint32_t mpheap_open_mapped_with(uint32_t pages, uint64_t request_words, mpheap *heap) {
     if (atomic_load(&mapped) != 0) return MPHEAP_SECOND;
     /* Other parts of a small heap may ask for as many bytes as its words: so each such request is tried in turn. */
     for (uint32_t others = 0; others < 64; others++) {
-        uint32_t status = open_behind(pages, heap, others);
+        uint32_t status = open_behind(pages, request_words, heap, others);
         if (status != MPHEAP_OK) return status;
         if (atomic_load(&mapped) != 0 && has_words_there(heap)) return MPHEAP_OK;
         bool is_none = atomic_load(&mapped) == 0;
@@ -140,4 +158,9 @@ uint32_t mpheap_open_mapped(uint32_t pages, mpheap *heap) {
         if (is_none) break;
     }
     return MPHEAP_RANGE_TAKEN;
+}
+
+uint32_t mpheap_open_mapped(uint32_t pages, mpheap *heap) {
+    /* Too many pages are refused as none are. */
+    return mpheap_open_mapped_with(pages <= MPHEAP_MAX_PAGES ? pages : 0, MPHEAP_MAX_REQUEST_WORDS, heap);
 }

@@ -1,10 +1,11 @@
 /* mpheap.h: a proved, collected heap for programs in C and C++ (C99 or later, C++11 or later).
  *
- * A heap has 1 to 4,096 pages of 512 words of 8 bytes. Its addresses begin at MPHEAP_FIRST_ADDRESS, whatever the process
- * maps there; a heap that mpheap_open_mapped opened has its words at these very addresses, so that an address of it is a
- * pointer. Objects do not move. What keeps an object is a root word that points into it (a register or the stack of a
- * mutator, or a global), or a word of a kept object that was not allocated pointer-free: reading is conservative, so any word
- * that is the address of one of the object's bytes points into it. A variable of C is no root.
+ * A heap has 1 to 4,096 pages of 512 words of 8 bytes, or up to 1,048,576 by an open with limits of its own. Its addresses
+ * begin at MPHEAP_FIRST_ADDRESS, whatever the process maps there; a heap that mpheap_open_mapped opened has its words at
+ * these very addresses, so that an address of it is a pointer. Objects do not move. What keeps an object is a root word that
+ * points into it (a register or the stack of a mutator, or a global), or a word of a kept object that was not allocated
+ * pointer-free: reading is conservative, so any word that is the address of one of the object's bytes points into it. A
+ * variable of C is no root.
  *
  * STATUSES. Each function that answers a uint32_t and is not a figure answers a status (enum mpheap_status). 0 is done. 1 to 99
  * is a refusal of the heap: nothing of it has changed, but that a FULL has swept the pages that were still to be swept. 100 and
@@ -13,7 +14,7 @@
  * a refusal). Where a call could be refused for several reasons the first of these is told: BAD_NUMBER, NO_SLOT, then in the
  * order in which the call's own comment names them.
  *
- * MEMORY. Only the two opens ask for memory, and only they and mpheap_close touch errno. No call prints, ends the process or
+ * MEMORY. Only the opens ask for memory, and only they and mpheap_close touch errno. No call prints, ends the process or
  * calls back.
  *
  * WHAT THE CALLER OWES, and what nothing here checks:
@@ -47,7 +48,7 @@ enum mpheap_status {
     MPHEAP_MISALIGNED = 2,        /* the address is not divisible by 8 */
     MPHEAP_NO_OBJECT = 3,         /* the address points into no object */
     MPHEAP_NOT_BASE = 4,          /* the address points into an object, and is not where it begins */
-    MPHEAP_BAD_SIZE = 5,          /* 0 words, or more than MPHEAP_MAX_REQUEST_WORDS */
+    MPHEAP_BAD_SIZE = 5,          /* 0 words, or more than the heap's limit of requests */
     MPHEAP_FULL = 6,              /* no place of the heap has room */
     MPHEAP_STACK_FULL = 7,        /* the mutator's stack has MPHEAP_STACK_WORDS words */
     MPHEAP_STACK_EMPTY = 8,       /* the mutator's stack has none */
@@ -56,20 +57,22 @@ enum mpheap_status {
     MPHEAP_NOT_POINTER_FREE = 11, /* the address points into an object that is not pointer-free */
     MPHEAP_NEEDS_FULL = 12,       /* a partial cycle has no marks to begin with: a full one comes first */
     MPHEAP_BAD_NUMBER = 100,      /* a slot, register or global is out of range */
-    MPHEAP_BAD_PAGES = 101,       /* 0 pages, or more than MPHEAP_MAX_PAGES */
+    MPHEAP_BAD_PAGES = 101,       /* 0 pages, or more than the open allows */
     MPHEAP_NO_MEMORY = 102,       /* memory was refused; nothing is left of the attempt */
     MPHEAP_SECOND = 103,          /* this process has a mapped heap already */
     MPHEAP_RANGE_TAKEN = 104      /* something else is mapped where the heap's words have to stand */
 };
 
 enum {
-    MPHEAP_MAX_PAGES = 4096,
+    MPHEAP_MAX_PAGES = 4096,     /* of an open without limits of its own */
+    MPHEAP_MOST_PAGES = 1048576, /* of an open with them: 4 GiB */
     MPHEAP_PAGE_WORDS = 512,
     MPHEAP_PAGE_BYTES = 4096,
     MPHEAP_WORD_BYTES = 8,
     MPHEAP_FIRST_ADDRESS = 268435456, /* 0x10000000 */
     MPHEAP_MAX_SMALL_WORDS = 256,     /* a larger request takes whole pages, in a row */
-    MPHEAP_MAX_REQUEST_WORDS = 65536,
+    MPHEAP_MAX_REQUEST_WORDS = 65536,      /* of an open without limits of its own */
+    MPHEAP_MOST_REQUEST_WORDS = 536870912, /* of an open with them: all words of the largest heap */
     MPHEAP_SLOTS = 16,
     MPHEAP_REGISTERS = 16,
     MPHEAP_STACK_WORDS = 256,
@@ -79,12 +82,21 @@ enum {
 
 /* ---- A heap ---- */
 
-/* Opens a heap of so many pages: about 4.2 KB of memory for each, and 150 KB. BAD_PAGES, NO_MEMORY: *heap stays closed. */
+/* Opens a heap of so many pages, at most MPHEAP_MAX_PAGES: about 4.2 KB of memory for each, and 150 KB. A request has at most
+ * MPHEAP_MAX_REQUEST_WORDS words. BAD_PAGES, NO_MEMORY: *heap stays closed. */
 uint32_t mpheap_open(uint32_t pages, mpheap *heap);
+
+/* The same with limits of its own: at most MPHEAP_MOST_PAGES pages, and requests of at most so many words, which are at most
+ * MPHEAP_MOST_REQUEST_WORDS. All memory is asked for here, and none later. Beside its words a page takes about 100 bytes, of
+ * which those of a page that was never used are not touched. BAD_PAGES: of either limit; NO_MEMORY: *heap stays closed. */
+uint32_t mpheap_open_with(uint32_t pages, uint64_t request_words, mpheap *heap);
 
 /* The same, with the heap's words at their own addresses, MPHEAP_FIRST_ADDRESS and on. A process has at most one such heap at
  * a time. BAD_PAGES, SECOND, RANGE_TAKEN, NO_MEMORY: *heap stays closed, and nothing is mapped. */
 uint32_t mpheap_open_mapped(uint32_t pages, mpheap *heap);
+
+/* The same with limits of its own. The range is set aside, and a page of it takes memory once it is used. */
+uint32_t mpheap_open_mapped_with(uint32_t pages, uint64_t request_words, mpheap *heap);
 
 /* Frees all of it; *heap is then closed. */
 void mpheap_close(mpheap *heap);
@@ -231,6 +243,12 @@ uint64_t mpheap_gc_no(mpheap *heap);
 /* Whether a cycle is marking. */
 bool mpheap_is_marking(mpheap *heap);
 
+/* Whether an object that begins at this address is kept, and marked. While a cycle marks, with no page dirty and mpheap_mark having
+ * answered less than it was asked for, all is marked that the root words as mpheap_roots last read them lead to, and a finish takes
+ * exactly what isn't marked, if no root and no word changes before it. So what would go can be found, kept by a root, and given to a
+ * finalizer. */
+bool mpheap_is_marked(mpheap *heap, uint64_t base);
+
 /* ---- Figures to pace the collector by. They change nothing. ---- */
 
 /* How many pages have no object, and no cell that is still to be swept. */
@@ -241,6 +259,15 @@ uint32_t mpheap_dirty_pages(mpheap *heap);
 
 /* How many pages are still to be swept. */
 uint32_t mpheap_pending_pages(mpheap *heap);
+
+/* How many pages, from the first one on, may have an object: the others are free, and were never used. */
+uint32_t mpheap_used_pages(mpheap *heap);
+
+/* The lowest run of free pages from page `low` on, page 0 being the one at MPHEAP_FIRST_ADDRESS: whether there is one, and then
+ * its first page and how many there are before one that isn't free. The words of a free page may change until it is used: so
+ * the memory of a mapped heap's free pages may be given back to the system (madvise with MADV_DONTNEED). What is allocated
+ * there later is 0 none the less. Pages that are still to be swept aren't free yet. */
+bool mpheap_free_run(mpheap *heap, uint32_t low, uint32_t *first, uint32_t *pages);
 
 /* ---- WORDS BY POINTERS, in a heap that mpheap_open_mapped opened ----
  *
@@ -256,6 +283,28 @@ uint32_t mpheap_pending_pages(mpheap *heap);
  * mpheap_collect is enough, or one mpheap_written_all there: no word has to be told then until the next mpheap_begin.)
  * (A byte that is written is its word written. A write through a dangling pointer, into a forgotten object or a free cell,
  * may break the heap's own lists.) Such writes are then stores to the heap, as if by mpheap_store. */
+
+/* ---- Marking beside writers ----
+ *
+ * A thread may call mpheap_mark_beside while other threads write words by pointers, in the place of mpheap_mark, which wants all
+ * of them to wait. What is owed above is owed still, and besides: while the call runs, no word of an object that is not
+ * pointer-free is written but on pages that were dirty when it began (which were told since a call last cleaned them). No other
+ * call is made meanwhile. Each word that it reads is one that stood there at some moment of the call: aligned words of 8 bytes have
+ * to be written whole, as the processor does by one store. */
+
+/* What a step beside writers is asked: nothing that the program has to fill in. The library's contract names by it which words stood
+ * in the heap at each moment of the call. */
+typedef struct mpheap_asked {
+    uint64_t unread;
+} mpheap_asked;
+#define MPHEAP_ASKED { 0 }
+
+/* As mpheap_mark, beside writers. */
+uint32_t mpheap_mark_beside(mpheap *heap, uint64_t most, const mpheap_asked *asked, uint64_t *count);
+
+/* As mpheap_retrace, beside writers: and on the page that it reads, the lowest dirty one, nobody writes a word of an object that
+ * is not pointer-free. */
+uint32_t mpheap_retrace_beside(mpheap *heap, const mpheap_asked *asked, uint64_t *count);
 
 /* Tells that the word at an address will be written by a pointer: its page becomes dirty. An address outside of the heap is
  * ignored. */
@@ -274,7 +323,7 @@ static inline void mpheap_written_all(mpheap *heap, uint32_t pages) {
 
 /* The pages that need no telling now: those that were told since a call last cleaned one. mpheap_tells_anew empties it, after an
  * open and after each begin, retrace, finish and collect; then mpheap_write tells a page once, at a test of one byte for each
- * further write. */
+ * further write. It has the first MPHEAP_MAX_PAGES pages alone: a write to a page past them tells each time. */
 typedef struct mpheap_told {
     uint8_t pages[MPHEAP_MAX_PAGES];
 } mpheap_told;
@@ -286,10 +335,11 @@ static inline void mpheap_tells_anew(mpheap_told *told) {
 /* To be called before a write to a word of the mapped heap. An address outside of every heap's addresses is ignored. */
 static inline void mpheap_before_write(mpheap *heap, mpheap_told *told, const void *at) {
     uint64_t address = (uint64_t)(uintptr_t)at, page = (address - MPHEAP_FIRST_ADDRESS) / MPHEAP_PAGE_BYTES;
-    if (page < MPHEAP_MAX_PAGES && told->pages[page] == 0) {
-        mpheap_written(heap, address);
+    if (page < MPHEAP_MAX_PAGES) {
+        if (told->pages[page] != 0) return;
         told->pages[page] = 1;
     }
+    if (page < MPHEAP_MOST_PAGES) mpheap_written(heap, address);
 }
 
 /* Writes a word of the mapped heap. */

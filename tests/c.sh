@@ -4,6 +4,8 @@
 # have to have the same replies. It takes one to two minutes beside the proof of the library, and leaves nothing behind.
 set -uo pipefail
 top=$(dirname "$(dirname "$(readlink -f "${BASH_SOURCE[0]}")")")
+# shellcheck source=tests/builds.sh
+. "$top/tests/builds.sh"
 crate=$top/crates/mpheap_c
 room=$(mktemp -d)
 trap 'rm -rf "$room"' EXIT
@@ -38,25 +40,14 @@ has() {
     command -v "$1" >/dev/null 2>&1 || { echo "c: no $1 here: $2 left out" && false; }
 }
 
-# The proved library. Where rt ci was the last to prove the crates below, they lie there without rt's stamps: then this crate
-# alone is proved over them, by the very command that rt gives, so that they aren't proved again.
+# The proved library. Where rt ci was the last to prove the crates below, they lie there without rt's stamps, and aren't proved again.
 build_library() {
-    local kit uses=() below=() deps dep
-    mkdir -p "$crate/out"
-    if [ -f "$top/crates/heap_core/out/rlib/stamp" ] || [ ! -d "$top/crates/heap_core/out/rlib/heap_core.rlib" ]; then
-        (cd "$crate" && rt lib) >"$room/built" 2>&1
-        return
-    fi
-    kit=$(dirname "$(rt doc)")
-    read -ra deps < <(sed -n 's/^mpheap_c staticlib: *//p' "$top/crates.txt")
-    for dep in "${deps[@]}"; do
-        if [ -d "$top/crates/$dep" ]; then dep=$dep=$top/crates/$dep/out/rlib/$dep.rlib; else dep=$dep=$kit/rlibs/$dep.rlib; fi
-        uses+=(--extern "$dep")
-    done
-    for dep in "$top"/crates/*/out/rlib; do below+=(-L "dependency=$dep"); done
-    (cd "$crate" && "$kit/bin/rattle" build --crate-name mpheap_c --crate-type staticlib src/lib.rt --extern "std=$kit/rlibs/std.rlib" \
-        "${uses[@]}" -L "dependency=$kit/rlibs" "${below[@]}" --antt-project "$kit/rattle/logic/antt-project.json" \
-        --logic-built "$kit/logic_built" --jobs 2 --toolchain "$kit/toolchain" --backend llvm -o out/libmpheap_c.a) >"$room/built" 2>&1
+    local below=$top/crates/heap_core/out/rlib
+    if [ -d "$below/heap_core.rlib" ] && [ ! -f "$below/stamp" ]; then
+        "$top/c/library" "$top"
+    else
+        "$top/mpheap" build c
+    fi >"$room/built" 2>&1
 }
 
 # compile PROGRAM STANDARD FILE FLAGS..: a program of room, over the archive.
@@ -118,6 +109,7 @@ programs_run() {
     works "exports" compile exports c99 tests/c/exports.c "${flags[@]}"
     works "links" compile links c99 tests/c/links.c "${flags[@]}"
     works "mapped" compile mapped gnu99 tests/c/mapped.c "${flags[@]}"
+    works "limits" compile limits gnu99 tests/c/limits.c "${flags[@]}"
     works "partial" compile partial c99 tests/c/partial.c "${flags[@]}"
     works "writes" compile writes c99 tests/c/writes.c "${flags[@]}"
     works "script" compile script c99 tests/c/script.c "${flags[@]}"
@@ -128,6 +120,7 @@ programs_run() {
     counts_well "$room/exports"
     counts_well "$room/links"
     counts_well "$room/mapped"
+    counts_well "$room/limits"
     counts_well "$room/partial"
 }
 
@@ -143,6 +136,14 @@ words_are_written_by_pointers() {
     counts_well "$room/writes" 4
     sed -n 's/^writes: \(.* nodes\)/c: \1/p' "$room/out"
     counts_well "$room/writes" 4 untold
+}
+
+# A collector's thread marks beside two that write: told, no object is lost; untold, some have to be.
+words_are_written_beside_the_marker() {
+    works "beside" compile beside gnu11 tests/c/beside.c -O2 -pthread
+    counts_well "$room/beside" 4
+    sed -n 's/^beside: \(.* writes.*\)/c: \1/p' "$room/out"
+    counts_well "$room/beside" 4 untold
 }
 
 misuse_is_stopped() {
@@ -201,14 +202,15 @@ rows_have_their_replies() {
         is "row $name through C" "$(cat "$room/rows/$name.stdout")" "$("$room/script" "$pages" <"$room/rows/$name" 2>&1)"
         count=$((count + 1))
     done < <("$top/tests/rows/split" -v "room=$room/rows" "$top"/tests/rows/*.rows)
-    is "rows enough" yes "$([ $count -ge 133 ] && echo yes)"
+    is "rows enough" yes "$([ $count -ge 137 ] && echo yes)"
 }
 
-# The proved program's replies to random scripts, which it writes too, and those through C. rt ci and mpheap build make it.
+# The program's replies to random scripts, which it writes too, and those through C. Which build it is, is said in tests/builds.sh.
 random_scripts_have_the_same_replies() {
-    local program=$top/crates/mpheap/out/mpheap seed mutators steps pages differ=0
+    local program seed mutators steps pages differ=0
+    program=$(build_of mpheap)
     if [ ! -x "$program" ]; then
-        echo "c: no proved program here: 200 random scripts are left out"
+        echo "c: no build of mpheap here: 200 random scripts are left out"
         return
     fi
     while read -r seed mutators steps pages; do
@@ -251,6 +253,7 @@ programs_run -O2
 misuse_is_stopped
 valgrind_sees_nothing
 words_are_written_by_pointers
+words_are_written_beside_the_marker
 examples_have_their_replies
 rows_have_their_replies
 random_scripts_have_the_same_replies

@@ -296,6 +296,10 @@ static void a_cycle_marks_and_ends(void) {
     IS(mpheap_mark(&heap, UINT64_MAX, &word), MPHEAP_OK);
     IS(word, 1);
     IS(mpheap_dirty_pages(&heap), 0);
+    IS(mpheap_get(&heap, me, TWO, &word), MPHEAP_OK);
+    IS(mpheap_is_marked(&heap, word), 1);
+    IS(mpheap_is_marked(&heap, word + 8), 0); /* no object begins there */
+    IS(mpheap_is_marked(&heap, 0), 0);
     IS(mpheap_store(&heap, me, TWO, 0, LATER), MPHEAP_OK);
     IS(mpheap_dirty_pages(&heap), 1);
     IS(mpheap_retrace(&heap, &word), MPHEAP_OK);

@@ -20,6 +20,12 @@ void *asked_malloc(size_t bytes) {
     return malloc(bytes);
 }
 
+void *asked_calloc(size_t count, size_t bytes) {
+    if (!grants()) return NULL;
+    live++;
+    return calloc(count, bytes);
+}
+
 void *asked_realloc(void *at, size_t bytes) {
     if (!grants()) return NULL;
     if (at == NULL) live++;
@@ -64,10 +70,20 @@ static void each_request_is_refused(uint32_t (*open)(uint32_t, mpheap *), uint32
     IS(live, 0);
 }
 
+static uint32_t open_large(uint32_t pages, mpheap *heap) {
+    return mpheap_open_with(pages, MPHEAP_MOST_REQUEST_WORDS, heap);
+}
+
+static uint32_t open_large_mapped(uint32_t pages, mpheap *heap) {
+    return mpheap_open_mapped_with(pages, MPHEAP_MOST_REQUEST_WORDS, heap);
+}
+
 int main(void) {
     each_request_is_refused(mpheap_open, 16);
     each_request_is_refused(mpheap_open, MPHEAP_MAX_PAGES);
     each_request_is_refused(mpheap_open_mapped, 16);
     each_request_is_refused(mpheap_open_mapped, 1);
+    each_request_is_refused(open_large, MPHEAP_MAX_PAGES + 1);
+    each_request_is_refused(open_large_mapped, MPHEAP_MAX_PAGES + 1);
     return counts("refused");
 }

@@ -1,18 +1,23 @@
 -- What crosses to C: a status and words.
-use Rattle.std.specs.Prelude.{◌≡◌, ℕ, Bool, Option, Some, Result, Ok, Err, IfOk, ⊤}
+use Rattle.std.specs.Prelude.{◌≡◌, ℕ, ◌<◌, ◌≤◌, ◌⊎◌, Bool, true, false, length, Option, Some, Result, Ok, Err, IfOk, ⊤}
 use Rattle.words.specs.declared.refusal.Refusal.{Refusal}
-use Rattle.words.specs.Bits.{members}
+use Rattle.words.specs.Bits.{members, IsEmptyFrom}
+use Rattle.words.specs.Layout.{page_of}
 use Rattle.words.specs.Refusals.{code_of}
 use Rattle.heap_spec.specs.declared.event.Event.{Event}
 use Rattle.heap_spec.specs.declared.event.Event.TheVariants.{Attach}
 use Rattle.heap_spec.specs.Replies.{done_reply, slot_reply, word_reply, count_reply}
-use Rattle.pages.specs.Opening.{IsPageCount, IsNoPageCount}
+use Rattle.pages.specs.FreeRuns.{IsNextRun}
+use Rattle.block_map.specs.FoundIn.{found_in}
+use Rattle.pages.specs.Opening.{IsPageCount, IsNoPageCount, IsPageCountWithin, IsNoPageCountWithin}
 use Rattle.heap_core.specs.CoreContents.{CoreContents}
 use Rattle.block_map.specs.declared.found.Found.{Found}
 use Rattle.heap_core.specs.MutatorCalls.{IsCall}
 use Rattle.heap_core.specs.Granted.{granted_reply, HoldsWord}
 use Rattle.heap_core.specs.KeptAt.{IsKeptAt, KeepsNothingAt}
-use Rattle.heap_core.specs.Opening.{IsNew}
+use Rattle.heap_core.specs.Looks.{marks_at}
+use Rattle.heap_core.specs.Opening.{IsNew, IsNewWith}
+use Rattle.words.specs.declared.limits.TheConstants.{MOST_PAGES, MOST_REQUEST_WORDS}
 
 -- The status tells a result that has no word: 0 of Ok, and the refusal's code of Err.
 abbrev pub TellsDone : ℕ → Result ⊤ Refusal → Type 0
@@ -48,6 +53,12 @@ pub data IsOpenedAs (pages status : ℕ) (old new : Option CoreContents) : Type 
   bad_pages : status ≡ 101 → IsNoPageCount pages → new ≡ old → IsOpenedAs pages status old new
   memory : status ≡ 102 → IsPageCount pages → new ≡ old → IsOpenedAs pages status old new
 
+-- The same of a heap with limits of its own, of which each may be too great.
+pub data IsOpenedWith (pages request_words status : ℕ) (old new : Option CoreContents) : Type 0 where
+  opened : (c : CoreContents) → status ≡ 0 → IsPageCountWithin MOST_PAGES pages → IsNewWith pages request_words c → new ≡ Some c → IsOpenedWith pages request_words status old new
+  bad_limits : status ≡ 101 → IsNoPageCountWithin MOST_PAGES pages ⊎ (MOST_REQUEST_WORDS < request_words) → new ≡ old → IsOpenedWith pages request_words status old new
+  memory : status ≡ 102 → IsPageCountWithin MOST_PAGES pages → new ≡ old → IsOpenedWith pages request_words status old new
+
 -- The status and the slot that was written tell a result. A refused call leaves the slot as it was.
 abbrev pub TellsSlot : ℕ → ℕ → ℕ → Result ℕ Refusal → Type 0
 TellsSlot = TellsWord
@@ -80,6 +91,10 @@ HasCount count old new = (count ≡ old.cycle.count) × (new ≡ old)
 abbrev pub HasPhase : Bool → CoreContents → CoreContents → Type 0
 HasPhase phase old new = (phase ≡ old.cycle.is_marking) × (new ≡ old)
 
+-- whether an object that begins at the base is kept and marked, and nothing has changed
+abbrev pub HasMark : ℕ → Bool → CoreContents → CoreContents → Type 0
+HasMark base answer old new = (answer ≡ marks_at old base) × (new ≡ old)
+
 -- The base and the words of the kept object that the word points into were written, and nothing has changed; or it points into none,
 -- the status is that of NoObject, and they are as they were.
 pub data FindsAt (word status base_before words_before base words : ℕ) (old new : CoreContents) : Type 0 where
@@ -97,6 +112,18 @@ HasDirtyPages count old new = (count ≡ members old.cycle.marker.dirty) × (new
 -- so many are pending, and nothing has changed
 abbrev pub HasPendingPages : ℕ → CoreContents → CoreContents → Type 0
 HasPendingPages count old new = (count ≡ members old.store.pending) × (new ≡ old)
+
+-- There is a run of free pages from the page on, and its first page and number of pages were written; or there is none, and they
+-- are as they were. Nothing has changed.
+pub data TellsFreeRun (low : ℕ) (result : Bool) (first_before pages_before first pages : ℕ) (old new : CoreContents) : Type 0 where
+  found : IsNextRun old.store.free low (record { first = first; pages = pages }) → result ≡ true → new ≡ old → TellsFreeRun low result first_before pages_before first pages old new
+  nothing : IsEmptyFrom old.store.free low → result ≡ false → first ≡ first_before → pages ≡ pages_before → new ≡ old → TellsFreeRun low result first_before pages_before first pages old new
+
+-- no object has a word past so many pages, and nothing has changed
+pub record HasUsedPages (count : ℕ) (old new : CoreContents) : Type 0 where
+  pub inside : count ≤ length old.store.states
+  pub below : (w : ℕ) (f : Found) → found_in old.store.states w ≡ Some f → page_of w < count
+  pub same : new ≡ old
 
 -- An allocation that answers a status and, where it is done, the base: what the register then holds.
 abbrev pub IsBaseCall : Event → ℕ → ℕ → ℕ → ℕ → ℕ → CoreContents → CoreContents → Type 0

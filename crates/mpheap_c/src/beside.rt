@@ -1,7 +1,7 @@
 //! What stands beside the calls: words that C writes itself, and figures to pace the collector by. None of it is an event.
 ghost use Rattle.heap_core.specs.DirectWrites.{TellsWritten};
 ghost use Rattle.mpheap_c.specs.Handle.{IsOpen};
-ghost use Rattle.mpheap_c.specs.Crossing.{Holds, HasFreePages, HasDirtyPages, HasPendingPages};
+ghost use Rattle.mpheap_c.specs.Crossing.{Holds, HasFreePages, HasDirtyPages, HasPendingPages, HasUsedPages, TellsFreeRun};
 
 use crate::handle::Heap;
 
@@ -39,4 +39,34 @@ pub extern "C" fn mpheap_pending_pages(heap: &mut Heap) -> u32
     ensures { Holds (HasPendingPages result) heap.old.core heap.new.core }
 {
     heap.core().pending_pages()
+}
+
+/// The lowest run of free pages from a page on: whether there is one, its first page, and how many there are.
+#[unsafe(no_mangle)]
+pub extern "C" fn mpheap_free_run(
+    heap: &mut Heap,
+    low: u32,
+    first: &mut u32,
+    pages: &mut u32,
+) -> bool
+    requires open { IsOpen heap.old.core }
+    ensures { Holds (TellsFreeRun low result first.old pages.old first.new pages.new) heap.old.core heap.new.core }
+{
+    match heap.core().free_run(low) {
+        Some(run) => {
+            *first = run.first;
+            *pages = run.pages;
+            true
+        }
+        None => false,
+    }
+}
+
+/// How many pages, from the first one on, may have an object.
+#[unsafe(no_mangle)]
+pub extern "C" fn mpheap_used_pages(heap: &mut Heap) -> u32
+    requires open { IsOpen heap.old.core }
+    ensures { Holds (HasUsedPages result) heap.old.core heap.new.core }
+{
+    heap.core().used_pages()
 }

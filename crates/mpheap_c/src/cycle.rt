@@ -1,9 +1,16 @@
 //! The calls of the collector.
-ghost use Rattle.std.specs.Prelude.{◌≡◌, true, false};
+ghost use Rattle.std.specs.Prelude.{◌≡◌, ℕ, Some, true, false};
+ghost use Rattle.pages.specs.Reads.{AreMoments};
+ghost use Rattle.block_map.specs.FoundIn.{found_in};
+ghost use Rattle.marker.specs.Beside.{AreBeside, IsStill};
+ghost use Rattle.words.specs.Bits.{IsFirstFrom};
+ghost use Rattle.heap_core.specs.CoreContents.{CoreContents};
+ghost use Rattle.heap_core.specs.BesideSteps.{MarksBeside, RetracesBeside};
 ghost use Rattle.heap_core.specs.Collections.{IsGrantedInPhase, IsGrantedPartial, IsAlwaysGranted, BeginsCycle, BeginsPartialCycle, ReadsRoots, TakesWords, RetracesPage, EndsCycle, CollectsAll, SweepsOne};
 ghost use Rattle.mpheap_c.specs.Handle.{IsOpen};
-ghost use Rattle.mpheap_c.specs.Crossing.{Holds, TellsDoneOf, TellsWordOf, HasCount, HasPhase};
+ghost use Rattle.mpheap_c.specs.Crossing.{Holds, TellsDoneOf, TellsWordOf, HasCount, HasPhase, HasMark};
 
+use crate::asked::Asked;
 use crate::handle::Heap;
 use crate::status::{done, word_to};
 
@@ -41,6 +48,38 @@ pub extern "C" fn mpheap_mark(heap: &mut Heap, most: u64, count: &mut u64) -> u3
     ensures { Holds (TellsWordOf result count.old count.new (λ old r new. IsGrantedInPhase true old r new (λ n. TakesWords most old n new))) heap.old.core heap.new.core }
 {
     word_to(heap.core().mark(most), count)
+}
+
+/// Reads words of entries, at most so many, while others write on dirty pages, and answers how many. What the caller owes is that
+/// at all moments of the call the words of Normal objects on pages that aren't dirty are what they are at its begin.
+#[unsafe(no_mangle)]
+pub extern "C" fn mpheap_mark_beside(
+    heap: &mut Heap,
+    most: u64,
+    asked: &Asked,
+    count: &mut u64,
+) -> u32
+    requires open { IsOpen heap.old.core }
+    requires moments { (c : CoreContents) → heap.old.core ≡ Some c → AreMoments c.store.words asked.now.moments }
+    requires beside { (c : CoreContents) → heap.old.core ≡ Some c → AreBeside (found_in c.store.states) c.cycle.marker.dirty asked.now.moments }
+    ensures { Holds (TellsWordOf result count.old count.new (λ old r new. IsGrantedInPhase true old r new (λ n. MarksBeside most asked.now.moments old n new))) heap.old.core heap.new.core }
+{
+    let moments = asked.moments();
+    word_to(heap.core().mark_beside(most, moments), count)
+}
+
+/// Reads the lowest dirty page again, while others write on other dirty pages. Answers 1, or 0 where no page is dirty. What the
+/// caller owes is that of [`mpheap_mark_beside`], and that nobody writes words of Normal objects on that page.
+#[unsafe(no_mangle)]
+pub extern "C" fn mpheap_retrace_beside(heap: &mut Heap, asked: &Asked, count: &mut u64) -> u32
+    requires open { IsOpen heap.old.core }
+    requires moments { (c : CoreContents) → heap.old.core ≡ Some c → AreMoments c.store.words asked.now.moments }
+    requires beside { (c : CoreContents) → heap.old.core ≡ Some c → AreBeside (found_in c.store.states) c.cycle.marker.dirty asked.now.moments }
+    requires still { (c : CoreContents) → heap.old.core ≡ Some c → (p : ℕ) → IsFirstFrom c.cycle.marker.dirty 0 p → IsStill (found_in c.store.states) c.store.words asked.now.moments p }
+    ensures { Holds (TellsWordOf result count.old count.new (λ old r new. IsGrantedInPhase true old r new (λ n. RetracesBeside asked.now.moments old n new))) heap.old.core heap.new.core }
+{
+    let moments = asked.moments();
+    word_to(heap.core().retrace_beside(moments), count)
 }
 
 /// Reads the lowest dirty page again. Answers 1, or 0 where no page is dirty.
@@ -95,4 +134,13 @@ pub extern "C" fn mpheap_is_marking(heap: &mut Heap) -> bool
     ensures { Holds (HasPhase result) heap.old.core heap.new.core }
 {
     heap.core().is_marking()
+}
+
+/// Whether an object that begins at this address is kept, and marked. This is no event: nothing changes.
+#[unsafe(no_mangle)]
+pub extern "C" fn mpheap_is_marked(heap: &mut Heap, base: u64) -> bool
+    requires open { IsOpen heap.old.core }
+    ensures { Holds (HasMark base result) heap.old.core heap.new.core }
+{
+    heap.core().is_marked(base)
 }

@@ -1,6 +1,7 @@
 //! A handle.
 ghost use Rattle.std.specs.Prelude.{◌≡◌, Option, Some, None};
 ghost use Rattle.heap_core.specs.CoreContents.{CoreContents};
+ghost use denote.RawPtr.{null_ptr};
 ghost use Rattle.mpheap_c.specs.Handle.{core_owns, IsOpen};
 
 mod lend;
@@ -14,7 +15,7 @@ use std::ptr::null_mut;
 
 #[repr(C)]
 pub struct Heap {
-    at: *mut u8,
+    pub(crate) at: *mut u8,
     alloc: Global,
     pub ghost core: { Option CoreContents },
 }
@@ -45,9 +46,9 @@ impl Heap {
         let Heap { at: _, alloc: _ } = self;
     }
 
-    /// A closed handle, which owns nothing.
+    /// A closed handle, which owns nothing. Its address is null.
     pub fn closed(alloc: Global) -> Heap
-        ensures { result.core ≡ None }
+        ensures { (result.core ≡ None) × (result.at ≡ null_ptr) }
     {
         Heap {
             at: null_mut(),

@@ -9,6 +9,7 @@
 //! owes.
 #![tactic(auto)]
 
+mod asked;
 mod beside;
 mod cycle;
 mod handle;
