@@ -1,7 +1,8 @@
 #!/usr/bin/env bash
 # Runs the rows of tests/rows, all worked by hand: scripts beside their replies, workloads beside what is printed, lines that are none, and
 # written runs beside what is said of them. `replay`, which has a plain heap without pages, finds what `record` writes of each script
-# legal. Over proved programs (tests/cases.sh) it takes some seconds.
+# legal. Over proved programs (tests/cases.sh) it takes some seconds. Scripts, lines and workloads stand in tests of test_rows and
+# test_workloads too, and it looks whether these still say what the rows say.
 set -uo pipefail
 kind=rows
 # shellcheck source=tests/cases.sh
@@ -95,14 +96,26 @@ recorded_runs() {
     done <"$room/scripts"
 }
 
+# The files of tests that tests/rows/as_tests writes say what the rows say, and there is no other one.
+tests_in_the_language() {
+    local file
+    "$rows/as_tests" "$room/crates"
+    while read -r file; do
+        is "$file is as tests/rows/as_tests writes it" "" "$(cmp "$room/crates/$file" "$top/crates/$file" 2>&1)"
+    done < <(cd "$room/crates" && find . -name '*.rt')
+    is "files that tests/rows/as_tests writes" "$(find "$room/crates" -name '*.rt' | wc -l)" \
+        "$(find "$top/crates" -path '*/src/*.rt' -exec grep -l '^//! .* as .tests/rows/as_tests. writes it' {} + | wc -l)"
+}
+
+tests_in_the_language
 open_cases mpheap
 good_scripts
 bad_lines
 workloads
-run_cases 310
+run_cases 314
 open_cases replay
 written_runs
 run_texts
 recorded_runs
-run_cases 325
+run_cases 329
 close_cases

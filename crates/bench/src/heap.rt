@@ -41,8 +41,9 @@ fn mark_in_pause<R: Threads + Wait + Sync>(
     requires { length marker.old.dirty ≡ length space.now }
     ensures { length marker.new.dirty ≡ length marker.old.dirty }
 {
-    marker.begin();
     let map = space.map();
+    marker.laws();
+    marker.begin(map.len());
     let memory = space.memory();
     if let Some(helpers) = helpers {
         close_marks_with(rt, alloc, marker, map, memory, roots, helpers, &Open);
@@ -80,7 +81,8 @@ impl Heap {
 
     /// Begins a cycle.
     pub(crate) fn begin(&mut self) {
-        self.marker.begin();
+        self.marker.laws();
+        self.marker.begin(self.space.map().len());
     }
 
     /// Marks all that roots reach. Answers the words that were read off entries.

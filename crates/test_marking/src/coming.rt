@@ -1,10 +1,11 @@
 //! What the collector owes to an object that comes while it marks.
-ghost use Rattle.std.specs.Prelude.{◌≡◌, ℕ, ◌*◌, ◌<◌, ◌≤◌, Option, Some, length};
-ghost use Rattle.words.specs.declared.limits.TheConstants.{MAX_PAGES, PAGE_WORDS};
+ghost use Rattle.std.specs.Prelude.{◌≡◌, ℕ, ◌<◌, ◌≤◌, Option, Some, length};
+ghost use Rattle.words.specs.declared.limits.TheConstants.{MOST_PAGES};
 ghost use Rattle.block_map.specs.declared.found.Found.{Found};
 ghost use Rattle.block_map.specs.Changes.{IsAdded};
 ghost use Rattle.block_map.specs.Objects.{large_object};
 ghost use Rattle.block_map.specs.FoundIn.{found_in};
+ghost use Rattle.block_map.specs.Listed.{AreListed};
 ghost use Rattle.marker.specs.Invariant.{DirtyPageInvariant};
 
 use block_map::{BlockMap, Found};
@@ -15,9 +16,9 @@ use words::{Kind, PageNo};
 
 /// The large object that begins on a page.
 pub(crate) fn large_at(page: PageNo, pages: u32, kind: Kind) -> Found
-    requires page { page < MAX_PAGES }
+    requires page { page < MOST_PAGES }
     requires some { 0 < pages }
-    requires few { pages ≤ MAX_PAGES }
+    requires few { pages ≤ MOST_PAGES }
     ensures object { result ≡ large_object page pages kind }
     ensures some { 0 < result.len }
 {
@@ -34,10 +35,10 @@ pub(crate) fn large_at(page: PageNo, pages: u32, kind: Kind) -> Found
 pub(crate) fn receive(map: &BlockMap, memory: &mut Memory, marker: &mut Marker, found: Found)
     requires object { found_in map.now found.base ≡ Some found }
     requires pages { length marker.old.dirty ≡ length map.now }
-    requires long { length memory.old ≡ PAGE_WORDS * length map.now }
+    requires listed { AreListed memory.old map.now }
     ensures keeps { (before : ℕ → Option Found) → IsAdded before (found_in map.now) found → DirtyPageInvariant before memory.old marker.old → DirtyPageInvariant (found_in map.now) memory.new marker.new }
     ensures pages { length marker.new.dirty ≡ length map.now }
-    ensures long { length memory.new ≡ PAGE_WORDS * length map.now }
+    ensures listed { AreListed memory.new map.now }
 {
     // The laws of the map and of the marker say that the object's words are the memory's, and that it has a mark.
     let _ = map.len();

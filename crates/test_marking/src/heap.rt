@@ -33,7 +33,7 @@ impl Model for Heap {
 
 impl Heap {
     /// So many pages with no object. `None` where there is no memory, or out of range.
-    #[tactic(auto, using(fixtures::proofs::Sizes::sizes))]
+    #[tactic(auto, using(fixtures::proofs::Lists::lists))]
     pub(crate) fn open(alloc: Global, pages: u32) -> Option<Heap> {
         let Ok(map) = BlockMap::new(alloc, pages) else {
             return None;
@@ -62,20 +62,22 @@ impl Heap {
         if !self.map.is_free(page) {
             return false;
         }
-        self.map.cut(page, class, kind);
+        self.map.cut(&mut self.memory, page, class, kind);
         true
     }
 
-    /// Allocates the lowest free cell of a block: its words become 0.
-    #[tactic(auto, using(fixtures::proofs::Sizes::sizes))]
+    /// Allocates the first free cell of a block: its words become 0.
     pub(crate) fn allocate(&mut self, page: PageNo) -> Option<Found> {
         if page >= self.map.len() {
             return None;
         }
-        let Some(_) = self.map.block(page) else {
+        let Some(block) = self.map.block(page) else {
             return None;
         };
-        let Some(taken) = self.map.take(page) else {
+        if !block.is_listed() {
+            return None;
+        }
+        let Some(taken) = self.map.take(&self.memory, page) else {
             return None;
         };
         receive(&self.map, &mut self.memory, &mut self.marker, taken.object);
@@ -83,7 +85,7 @@ impl Heap {
     }
 
     /// Makes free pages one large object, whose words become 0.
-    #[tactic(auto, using(fixtures::proofs::Sizes::sizes))]
+    #[tactic(auto, using(fixtures::proofs::Lists::lists))]
     pub(crate) fn allocate_large(
         &mut self,
         first: PageNo,
@@ -104,7 +106,7 @@ impl Heap {
     }
 
     /// Writes a word of an object.
-    #[tactic(auto, using(fixtures::proofs::Sizes::sizes))]
+    #[tactic(auto, using(fixtures::proofs::Lists::lists))]
     pub(crate) fn store(&mut self, address: u64, word: u64) -> bool {
         if address % WORD_BYTES != 0 {
             return false;
@@ -133,7 +135,8 @@ impl Heap {
 
     /// Begins a cycle.
     pub(crate) fn begin(&mut self) {
-        self.marker.begin();
+        self.marker.laws();
+        self.marker.begin(self.map.len());
     }
 
     /// Marks what root words point into.

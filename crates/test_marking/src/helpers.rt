@@ -1,7 +1,7 @@
 //! Pauses with helpers: they are at work at the same time, and leave the marks that a pause without them leaves.
 use crate::scene::Scene;
 use crate::wide::widen;
-use final_pause::{AtOnce, FIRST_HELPER, Gate, Helpers};
+use final_pause::{FIRST_HELPER, Gate, Helpers, Open};
 use std::process::Abort;
 use std::sync::Wait;
 use std::sync::atomic::{AtomicU64, Ordering};
@@ -59,10 +59,6 @@ impl Gate for Meeting {
     fn after(&self, _actor: u8, _call: u32) {
         self.claims.fetch_add(1, Ordering::SeqCst);
     }
-
-    fn least_words(&self) -> u64 {
-        0
-    }
 }
 
 // An object of 200 words that points to 199 others, and beside them one object for each helper but the first.
@@ -87,7 +83,7 @@ fn meets(
     for helper in 1..roots.len() {
         roots[helper] = scene.object(199 + helper)?.base;
     }
-    let helpers = Helpers::new(number).ok_or("a number of helpers")?;
+    let helpers = Helpers::new(number).ok_or("a number of helpers")?.at_once();
     let gate = Meeting::new(number);
     scene.heap.begin();
     scene
@@ -123,10 +119,10 @@ fn closes(
 ) -> Result<(), Fail> {
     let before = scene.marked()?;
     let wanted = scene.graph.closure(scene.alloc, before.as_slice(), roots)?;
-    let helpers = Helpers::new(number).ok_or("a number of helpers")?;
+    let helpers = Helpers::new(number).ok_or("a number of helpers")?.at_once();
     scene
         .heap
-        .close_with(rt, scene.alloc, roots, helpers, &AtOnce);
+        .close_with(rt, scene.alloc, roots, helpers, &Open);
     scene.assert_marked(rt, wanted.as_slice());
     scene.assert_no_other_mark(rt);
     assert_eq!(rt; scene.heap.retrace(), None);

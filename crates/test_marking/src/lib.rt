@@ -1,10 +1,13 @@
-//! Heaps that are laid out here and marked by helpers, against plain loops over what was put there; and threads that claim marks.
+//! Heaps that are laid out here and marked by helpers, against plain loops over what was put there; threads that claim marks; and which
+//! object a word points into, by a table.
 #![tactic(auto)]
 
 #[cfg(test)]
 mod claims;
 #[cfg(test)]
 mod coming;
+#[cfg(test)]
+mod finding;
 #[cfg(test)]
 mod graph;
 #[cfg(test)]

@@ -53,17 +53,13 @@ impl Gate for Waiting {
             self.others.fetch_add(1, Ordering::SeqCst);
         }
     }
-
-    fn least_words(&self) -> u64 {
-        0
-    }
 }
 
 // All hangs from one root word, so that another helper has only what the first one offers.
 fn offers(rt: &(impl Abort + Threads + Wait + Sync), scene: &mut Scene) -> Result<(), Fail> {
     widen(rt, scene)?;
     let roots = [scene.object(0)?.base];
-    let helpers = Helpers::new(2).ok_or("two helpers")?;
+    let helpers = Helpers::new(2).ok_or("two helpers")?.at_once();
     let gate = Waiting::new();
     scene.heap.begin();
     scene

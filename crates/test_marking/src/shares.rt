@@ -117,10 +117,6 @@ impl Gate for Record {
         };
         self.note(claims.end(call));
     }
-
-    fn least_words(&self) -> u64 {
-        0
-    }
 }
 
 // Object k's base at place k of the root words, and 0 at the places that are left out.
@@ -143,7 +139,7 @@ fn close_by_two(
     second: u64,
 ) -> Result<(), Fail> {
     let roots = roots_at(scene, places)?;
-    let helpers = Helpers::new(2).ok_or("two helpers")?;
+    let helpers = Helpers::new(2).ok_or("two helpers")?.at_once();
     let gate = Record::new();
     scene
         .heap
@@ -219,10 +215,6 @@ impl Gate for Held {
             self.wait(&self.record.second, 4);
         }
     }
-
-    fn least_words(&self) -> u64 {
-        0
-    }
 }
 
 // The entry that is being read, that of the second object, the waiting one of the first, and a page lead to three objects, and all are of
@@ -248,7 +240,7 @@ fn claim_roots_first(
     for (place, number) in [(0, 5), (1, 6), (3, 2), (5, 3), (7, 4)] {
         roots[place] = scene.object(number)?.base;
     }
-    let helpers = Helpers::new(2).ok_or("two helpers")?;
+    let helpers = Helpers::new(2).ok_or("two helpers")?.at_once();
     let gate = Held {
         record: Record::new(),
     };

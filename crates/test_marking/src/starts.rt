@@ -26,10 +26,6 @@ impl Gate for Counting {
     }
 
     fn after(&self, _actor: u8, _call: u32) {}
-
-    fn least_words(&self) -> u64 {
-        Open.least_words()
-    }
 }
 
 // So many objects of a page each, and as many small ones, of which each of the large ones points to one.

@@ -3,7 +3,7 @@
 ghost use Rattle.std.specs.Prelude.{◌≡◌};
 
 use crate::serve::{reg, serve, serve_call};
-use final_pause::{AtOnce, Helpers};
+use final_pause::{Helpers, Open};
 use heap_core::Core;
 use heap_spec::answers::count;
 use heap_spec::{Call, Event, Reply};
@@ -44,7 +44,7 @@ fn make<J: Naming, R: Threads + Wait + Sync>(
     match asked {
         Asked::Alone(event) => serve(rt, heap, me, collector, event),
         Asked::WithHelpers(helpers) => {
-            count(heap.finish_with(rt, alloc, collector, helpers, &AtOnce))
+            count(heap.finish_with(rt, alloc, collector, helpers, &Open))
         }
     }
 }
@@ -146,7 +146,7 @@ fn calls(slot: Slot, global: words::Global, helpers: Helpers) -> [Asked; 25] {
 fn no_call_brings_a_mutator(rt: HostRuntime) -> Result<(), Fail> {
     let slot = Slot::new(0).ok_or("a slot")?;
     let global = words::Global::new(0).ok_or("a global")?;
-    let helpers = Helpers::new(2).ok_or("two helpers")?;
+    let helpers = Helpers::new(2).ok_or("two helpers")?.at_once();
     let opened = open(rt.alloc(), 4).ok().ok_or("a heap")?;
     check::<Brand, _>(&rt, rt.alloc(), opened, &calls(slot, global, helpers));
     Ok(())

@@ -2,7 +2,7 @@
 ghost use Rattle.std.specs.Prelude.{◌≡◌};
 
 use crate::serve::{reg, serve_call};
-use final_pause::{AtOnce, Helpers};
+use final_pause::{Helpers, Open};
 use heap_core::Core;
 use heap_core::quiet::{Mark, Roots};
 use heap_spec::{Call, Reply};
@@ -44,7 +44,7 @@ fn end<J: Naming, R: Threads + Wait + Sync>(
     helpers: &Option<Helpers>,
 ) -> Result<u64, Refusal> {
     match helpers {
-        Some(helpers) => heap.finish_with(rt, alloc, collector, *helpers, &AtOnce),
+        Some(helpers) => heap.finish_with(rt, alloc, collector, *helpers, &Open),
         None => heap.finish(rt, collector),
     }
 }
@@ -154,7 +154,7 @@ fn a_cycle_ends_alone(rt: HostRuntime) -> Result<(), Fail> {
 #[test]
 fn any_number_of_helpers_ends_it_alike(rt: HostRuntime) -> Result<(), Fail> {
     for number in 1..=MAX_HELPERS {
-        let helpers = Helpers::new(number).ok_or("helpers")?;
+        let helpers = Helpers::new(number).ok_or("helpers")?.at_once();
         let opened = open(rt.alloc(), 4).ok().ok_or("a heap")?;
         let helped = end_cycles::<Brand, _>(&rt, rt.alloc(), opened, Some(helpers));
         assert_eq!(rt; helped, WANTED, "{number} helpers");
@@ -169,7 +169,7 @@ fn refused_memory(rt: HostRuntime) -> Result<(), Fail> {
     let Ok(opened) = open(rt.alloc(), 4) else {
         return Ok(());
     };
-    let helpers = Helpers::new(2).ok_or("two helpers")?;
+    let helpers = Helpers::new(2).ok_or("two helpers")?.at_once();
     let helped = end_cycles::<Brand, _>(&rt, rt.alloc(), opened, Some(helpers));
     assert_eq!(rt; helped, WANTED);
     Ok(())

@@ -1,4 +1,4 @@
-//! The heap behind the lock, as its users see it: a worked row in one thread, mutators in threads of their own, and cycles
+//! The heap behind the lock, as its users see it: worked rows in one thread, mutators in threads of their own, and cycles
 //! beside them; and the worked example of a history.
 #![tactic(auto)]
 

@@ -1,4 +1,5 @@
-//! A worked row through a shared heap, in one thread.
+//! Worked rows through a shared heap, in one thread: those of `tests/rows` named `hidden_pointer`,
+//! `retrace_after_store`, `sweep_two_blocks` and `nothing_is_set`.
 ghost use Rattle.std.specs.Prelude.{◌≡◌};
 
 use crate::serve::{reg, serve};
@@ -75,14 +76,20 @@ fn check<J: Naming, R: Wait + Abort>(rt: &R, opened: Opened<Core>, row: &[(Event
     assert_eq!(rt; wrong, None);
 }
 
+// The row's one mutator comes, to this slot.
+fn comes(slot: Slot) -> (Event, Wanted) {
+    (Event::Attach, Wanted::Is(Reply::Slot(slot)))
+}
+
 // A call of the row's one mutator.
 fn call(slot: Slot, call: Call) -> Event {
     Event::Mutator(slot, call)
 }
 
-fn hidden_pointer(slot: Slot) -> [(Event, Wanted); 17] {
+fn hidden_pointer(slot: Slot) -> [(Event, Wanted); 18] {
     let (a, b, c) = (reg(4), reg(2), reg(1));
     [
+        comes(slot),
         (call(slot, Call::Alloc(c, 2, Kind::Normal)), OK),
         (call(slot, Call::Alloc(a, 2, Kind::Normal)), OK),
         (call(slot, Call::Alloc(b, 2, Kind::Normal)), OK),
@@ -108,5 +115,60 @@ fn the_hidden_pointer_stays(rt: HostRuntime) -> Result<(), Fail> {
     let slot = Slot::new(0).ok_or("a slot")?;
     let opened = open(rt.alloc(), PAGES).ok().ok_or("a heap")?;
     check::<Brand, _>(&rt, opened, &hidden_pointer(slot));
+    Ok(())
+}
+
+fn retrace_after_store(slot: Slot) -> [(Event, Wanted); 8] {
+    [
+        comes(slot),
+        (call(slot, Call::Alloc(reg(1), 2, Kind::Normal)), OK),
+        (Event::Begin, OK),
+        (Event::Retrace, count(0)),
+        (call(slot, Call::Store(reg(1), 0, reg(1))), OK),
+        (Event::Retrace, count(1)),
+        (Event::Retrace, count(0)),
+        (Event::Finish, count(0)),
+    ]
+}
+
+#[test]
+fn a_page_that_was_stored_to_is_retraced(rt: HostRuntime) -> Result<(), Fail> {
+    let slot = Slot::new(0).ok_or("a slot")?;
+    let opened = open(rt.alloc(), PAGES).ok().ok_or("a heap")?;
+    check::<Brand, _>(&rt, opened, &retrace_after_store(slot));
+    Ok(())
+}
+
+fn sweep_two_blocks(slot: Slot) -> [(Event, Wanted); 9] {
+    [
+        comes(slot),
+        (call(slot, Call::Alloc(reg(1), 2, Kind::Normal)), OK),
+        (call(slot, Call::Alloc(reg(1), 4, Kind::Normal)), OK),
+        (call(slot, Call::Set(reg(1), 0)), OK),
+        (Event::Begin, OK),
+        (Event::Finish, count(2)),
+        (Event::Sweep, count(1)),
+        (Event::Sweep, count(1)),
+        (Event::Sweep, count(0)),
+    ]
+}
+
+#[test]
+fn pending_pages_are_swept_one_by_one(rt: HostRuntime) -> Result<(), Fail> {
+    let slot = Slot::new(0).ok_or("a slot")?;
+    let opened = open(rt.alloc(), PAGES).ok().ok_or("a heap")?;
+    check::<Brand, _>(&rt, opened, &sweep_two_blocks(slot));
+    Ok(())
+}
+
+fn nothing_is_set(slot: Slot) -> [(Event, Wanted); 2] {
+    [comes(slot), (call(slot, Call::Get(reg(1))), word(0))]
+}
+
+#[test]
+fn a_new_mutator_has_words_of_0(rt: HostRuntime) -> Result<(), Fail> {
+    let slot = Slot::new(0).ok_or("a slot")?;
+    let opened = open(rt.alloc(), PAGES).ok().ok_or("a heap")?;
+    check::<Brand, _>(&rt, opened, &nothing_is_set(slot));
     Ok(())
 }

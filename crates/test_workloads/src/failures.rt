@@ -1,6 +1,5 @@
 //! Reads and allocations that fail.
 
-use crate::fakes::{Script, Taken};
 use crate::gates::Counts;
 use crate::runs::{Setting, mutators_of, run_read};
 use scripts::ScriptError;
@@ -10,6 +9,7 @@ use std::sync::Wait;
 use std::sync::atomic::Ordering;
 use std::test::Fail;
 use std::thread::Threads;
+use test_io::{Script, Taken};
 use workloads::{RunError, make_stress};
 
 const WORKLOAD: &str = "attach\nattach\n0 alloc 1 3 normal\ngc begin\n1 set 2 77\ngc finish\n";

@@ -47,10 +47,6 @@ impl Gate for Counts {
     fn after(&self, _actor: u8, _call: u32) {
         self.ended.fetch_add(1, Ordering::SeqCst);
     }
-
-    fn least_words(&self) -> u64 {
-        0
-    }
 }
 
 /// All actors meet before their first call: nobody alone gets past it.
@@ -80,10 +76,6 @@ impl Gate for Meeting {
     }
 
     fn after(&self, _actor: u8, _call: u32) {}
-
-    fn least_words(&self) -> u64 {
-        0
-    }
 }
 
 /// Mutators 0 and 1 meet before their first calls, and mutator 1 makes its second one after that of mutator 0.
@@ -120,10 +112,6 @@ impl Gate for TwoThreads {
         if (actor, call) == (0, 1) {
             self.put.fetch_add(1, Ordering::SeqCst);
         }
-    }
-
-    fn least_words(&self) -> u64 {
-        0
     }
 }
 
@@ -176,10 +164,6 @@ impl Gate for HeldPause {
             _ => {}
         }
     }
-
-    fn least_words(&self) -> u64 {
-        0
-    }
 }
 
 /// Mutators and the collector make their calls one at a time, in this order. Helpers aren't held back.
@@ -220,9 +204,5 @@ impl Gate for InTurn<'_> {
         if actor <= COLLECTOR_ACTOR {
             self.made.fetch_add(1, Ordering::SeqCst);
         }
-    }
-
-    fn least_words(&self) -> u64 {
-        0
     }
 }

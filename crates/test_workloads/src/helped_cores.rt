@@ -1,5 +1,5 @@
 //! Cores that are marking: by each number of helpers the pause marks what the pause alone marks, and leaves nothing to read.
-use final_pause::{AtOnce, Helpers};
+use final_pause::{Helpers, Open};
 use heap_core::Core;
 use heap_spec::{Call, Event, Reply};
 use scripts::command;
@@ -46,7 +46,7 @@ pub(crate) fn close_with(
     core: &mut Core,
     helpers: Helpers,
 ) -> Result<(), Refusal> {
-    core.close_with(rt, alloc, helpers, &AtOnce)
+    core.close_with(rt, alloc, helpers, &Open)
 }
 
 // No global points into an object any more.
@@ -99,7 +99,7 @@ fn check(
 ) -> Result<(), Fail> {
     run(helped, text)?;
     run(alone, text)?;
-    let helpers = Helpers::new(number).ok_or("a number of helpers")?;
+    let helpers = Helpers::new(number).ok_or("a number of helpers")?.at_once();
     assert_eq!(rt; close_with(rt, alloc, helped, helpers), Ok(()));
     compare(rt, helped, alone)
 }
@@ -176,7 +176,7 @@ fn check_new_partial(
 ) -> Result<(), Fail> {
     let mut helped = Core::new(alloc, PAGES).ok().ok_or("a core")?;
     let mut alone = Core::new(alloc, PAGES).ok().ok_or("a core")?;
-    let helpers = Helpers::new(number).ok_or("a number of helpers")?;
+    let helpers = Helpers::new(number).ok_or("a number of helpers")?.at_once();
     check_partial(rt, alloc, &mut helped, &mut alone, text, helpers)
 }
 
@@ -229,7 +229,7 @@ fn more_objects_than_entries_are_kept(rt: HostRuntime) -> Result<(), Fail> {
 
 #[test]
 fn helpers_wait_for_a_cycle(rt: HostRuntime) -> Result<(), Fail> {
-    let helpers = Helpers::new(2).ok_or("two helpers")?;
+    let helpers = Helpers::new(2).ok_or("two helpers")?.at_once();
     let mut core = Core::new(rt.alloc(), 1).ok().ok_or("a core")?;
     let answer = close_with(&rt, rt.alloc(), &mut core, helpers);
     assert_eq!(&rt; answer, Err(Refusal::WrongPhase));

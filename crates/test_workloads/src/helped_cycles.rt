@@ -1,7 +1,6 @@
 //! Cycles that helpers end, between the calls of one mutator: a full row of links is cleared in that event, and a page that helpers carried is
 //! read by the next cycle.
 
-use crate::fakes::Taken;
 use crate::gates::InTurn;
 use crate::runs::{Setting, run};
 use final_pause::COLLECTOR_ACTOR;
@@ -11,6 +10,7 @@ use std::sync::Wait;
 use std::sync::atomic::Ordering;
 use std::test::Fail;
 use std::thread::Threads;
+use test_io::Taken;
 use words::limits::MAX_HELPERS;
 
 const C: u8 = COLLECTOR_ACTOR;

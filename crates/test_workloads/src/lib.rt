@@ -3,9 +3,9 @@
 #![tactic(auto)]
 
 #[cfg(test)]
-mod failures;
+mod beside_cycles;
 #[cfg(test)]
-mod fakes;
+mod failures;
 #[cfg(test)]
 mod gates;
 #[cfg(test)]
@@ -21,6 +21,8 @@ mod printed;
 #[cfg(test)]
 mod raced_links;
 #[cfg(test)]
+mod random_scripts;
+#[cfg(test)]
 mod refused;
 #[cfg(test)]
 mod refused_helpers;
@@ -29,8 +31,6 @@ mod rows;
 #[cfg(test)]
 mod runs;
 #[cfg(test)]
-mod scene;
-#[cfg(test)]
 mod script_faults;
 #[cfg(test)]
 mod small_steps;
@@ -38,3 +38,7 @@ mod small_steps;
 mod std_calls;
 #[cfg(test)]
 mod turns;
+#[cfg(test)]
+mod worked;
+#[cfg(test)]
+mod workload_rows;

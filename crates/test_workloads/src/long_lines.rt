@@ -1,10 +1,9 @@
 //! Lines of 255 bytes and more.
 
-use crate::fakes::Script;
-use crate::scene::Scene;
 use scripts::ScriptError;
 use std::process::Abort;
 use std::test::Fail;
+use test_io::{Scene, Script};
 
 // A line is bad once its 256th byte was read, and the reader isn't asked again, which would fail.
 #[test]
@@ -14,7 +13,7 @@ fn line_too_long(rt: HostRuntime) -> Result<(), Fail> {
     for (most, calls) in [(1usize, 256usize), (255, 2), (256, 1)] {
         let mut input = Script::failing_at(&line, most, calls);
         let wanted = ("", Err(ScriptError::BadLine(1)));
-        scene.check(&rt, "line_too_long", 4, &mut input, wanted);
+        assert!(rt; scene.gives(4, &mut input, wanted), "line_too_long");
         assert_eq!(rt; input.calls, calls);
     }
     Ok(())
@@ -26,7 +25,7 @@ fn longest_line(rt: HostRuntime) -> Result<(), Fail> {
     let mut scene = Scene::new(rt.alloc())?;
     let mut input = Script::new(&[b'a'; 255]);
     let wanted = ("", Err(ScriptError::BadLine(1)));
-    scene.check(&rt, "longest_line", 4, &mut input, wanted);
+    assert!(rt; scene.gives(4, &mut input, wanted));
     assert_eq!(rt; input.calls, 2);
     Ok(())
 }

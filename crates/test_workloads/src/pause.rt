@@ -1,6 +1,5 @@
 //! A cycle that runs while a mutator is held back, ended with helpers that meet, and memory that is refused then.
 
-use crate::fakes::Taken;
 use crate::gates::{HeldPause, TURNS};
 use crate::runs::{Setting, run};
 use scripts::ScriptError;
@@ -10,6 +9,7 @@ use std::sync::Wait;
 use std::sync::atomic::Ordering;
 use std::test::Fail;
 use std::thread::Threads;
+use test_io::Taken;
 
 const PAGES: u32 = 4;
 

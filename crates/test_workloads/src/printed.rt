@@ -1,11 +1,11 @@
 //! Replies are printed actor by actor, to a writer that fails.
 
-use crate::fakes::Taken;
 use heap_spec::Reply;
 use scripts::ScriptError;
 use std::alloc::{AllocError, Global};
 use std::process::Abort;
 use std::test::Fail;
+use test_io::Taken;
 use words::Refusal;
 use workloads::{Lines, Replies, print_replies};
 

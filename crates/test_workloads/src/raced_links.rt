@@ -1,7 +1,6 @@
 //! Two mutators and the collector at one link. A mutator that loads the link's word has the object from then on, or the word is 0: it is
 //! never the address of an object that left. `tests/random.sh` makes the calls in whatever order comes.
 
-use crate::fakes::Taken;
 use crate::gates::InTurn;
 use crate::runs::{Setting, run};
 use final_pause::COLLECTOR_ACTOR;
@@ -11,6 +10,7 @@ use std::sync::Wait;
 use std::sync::atomic::Ordering;
 use std::test::Fail;
 use std::thread::Threads;
+use test_io::Taken;
 
 const C: u8 = COLLECTOR_ACTOR;
 

@@ -1,7 +1,6 @@
 //! Memory or threads that are refused. By itself this runs with ample memory and threads enough; `rt try --test --fail-alloc N` refuses
 //! the N-th request, and `tests/refused_threads.sh` each thread in turn.
 
-use crate::fakes::Taken;
 use crate::gates::Counts;
 use crate::runs::{Setting, run};
 use scripts::ScriptError;
@@ -10,6 +9,7 @@ use std::process::Abort;
 use std::sync::Wait;
 use std::sync::atomic::Ordering;
 use std::thread::Threads;
+use test_io::Taken;
 use words::limits::MAX_HELPERS;
 
 const SETTING: Setting = Setting {

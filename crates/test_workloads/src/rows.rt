@@ -1,6 +1,5 @@
 //! Worked rows under gates.
 
-use crate::fakes::Taken;
 use crate::gates::{Meeting, TwoThreads};
 use crate::runs::{Setting, run};
 use std::alloc::Global;
@@ -9,6 +8,7 @@ use std::sync::Wait;
 use std::sync::atomic::Ordering;
 use std::test::Fail;
 use std::thread::Threads;
+use test_io::Taken;
 
 const SETTING: Setting = Setting {
     pages: 4,

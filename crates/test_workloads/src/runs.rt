@@ -1,12 +1,12 @@
 //! A workload that is read, or run, and what was printed.
 
-use crate::fakes::{Script, Taken};
 use final_pause::{Gate, Helpers};
 use scripts::ScriptError;
 use std::alloc::Global;
 use std::process::Abort;
 use std::sync::Wait;
 use std::thread::Threads;
+use test_io::{Script, Taken};
 use words::limits::MAX_PAGES;
 use workloads::{Workload, run_workload};
 
@@ -36,7 +36,7 @@ pub fn run_read<R: Threads + Wait + Abort + Sync, G: Gate>(
 ) -> Result<(), ScriptError> {
     let Setting { pages, helpers } = setting;
     assert!(rt; 1 <= pages && pages <= MAX_PAGES);
-    let helpers = Helpers::new(helpers).expect(rt, "helpers");
+    let helpers = Helpers::new(helpers).expect(rt, "helpers").at_once();
     output.clear();
     run_workload(rt, alloc, input, output, pages, helpers, gate)
 }

@@ -1,11 +1,10 @@
 //! Reads, writes and allocations that fail.
 
-use crate::fakes::{Script, Taken};
-use crate::scene::Scene;
 use scripts::{ScriptError, run_bytes, run_script};
 use std::alloc::Global;
 use std::process::Abort;
 use std::test::Fail;
+use test_io::{Scene, Script, Taken};
 
 // A pointer that moves, while a cycle is marking, to where the marker has been.
 const SCRIPT: &str =
@@ -40,7 +39,7 @@ fn check_read_fault(rt: &impl Abort, scene: &mut Scene, most: usize, call: usize
     let lines = read.filter(|b| **b == b'\n').count();
     let mut input = Script::failing_at(SCRIPT.as_bytes(), most, call);
     let wanted = (replies_to(lines), Err(ScriptError::Read));
-    scene.check(rt, "read fault", 4, &mut input, wanted);
+    assert!(rt; scene.gives(4, &mut input, wanted));
     assert_eq!(rt; input.calls, call.saturating_add(1));
 }
 
@@ -61,7 +60,7 @@ fn short_reads(rt: HostRuntime) -> Result<(), Fail> {
     let mut scene = Scene::new(rt.alloc())?;
     for (most, calls) in READS {
         let mut input = Script::failing_at(SCRIPT.as_bytes(), most, calls);
-        scene.check(&rt, "short reads", 4, &mut input, (REPLIES, Ok(())));
+        assert!(rt; scene.gives(4, &mut input, (REPLIES, Ok(()))));
         assert_eq!(rt; input.calls, calls);
     }
     Ok(())

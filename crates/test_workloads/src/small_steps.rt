@@ -1,7 +1,6 @@
 //! Small steps of the collector between calls of a mutator: what each has read, made clean or swept is in its reply, and no call of the
 //! mutator does any of it.
 
-use crate::fakes::Taken;
 use crate::gates::InTurn;
 use crate::runs::{Setting, run};
 use final_pause::COLLECTOR_ACTOR;
@@ -11,6 +10,7 @@ use std::sync::Wait;
 use std::sync::atomic::Ordering;
 use std::test::Fail;
 use std::thread::Threads;
+use test_io::Taken;
 
 const C: u8 = COLLECTOR_ACTOR;
 

@@ -1,11 +1,11 @@
 //! Each line is answered before the next is asked for.
 ghost use Rattle.std.specs.Prelude.{None};
 
-use crate::fakes::Taken;
 use pages::Count;
 use scripts::{Failed, Sink, Source, run_script};
 use std::cell::Cell;
 use std::test::Fail;
+use test_io::Taken;
 
 // Lines with their replies.
 const TALK: [(&str, &str); 6] = [

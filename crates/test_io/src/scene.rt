@@ -3,8 +3,6 @@
 use crate::fakes::{Script, Taken};
 use scripts::{ScriptError, run_script};
 use std::alloc::{AllocError, Global};
-use std::process::Abort;
-use std::test::Fail;
 use words::limits::MAX_PAGES;
 
 /// What the scripts of a test are run with.
@@ -15,6 +13,7 @@ pub struct Scene {
 }
 
 impl Scene {
+    /// A scene of which nothing was run yet.
     pub fn new(alloc: Global) -> Result<Scene, AllocError> {
         Ok(Scene {
             alloc,
@@ -31,28 +30,14 @@ impl Scene {
         Some(run_script(self.alloc, input, &mut self.output, pages))
     }
 
-    // The answer and what was written are these.
-    fn expect(
-        &self,
-        rt: &impl Abort,
-        name: &str,
-        answer: Option<Result<(), ScriptError>>,
-        wanted: (&str, Result<(), ScriptError>),
-    ) {
-        let is_written = self.output.bytes.as_slice() == wanted.0.as_bytes();
-        assert!(rt; is_written && answer == Some(wanted.1), "{name}");
-    }
-
-    /// Runs a script on so many pages, and compares what it answers and what was written.
-    pub fn check(
+    /// Runs a script on so many pages. Whether so much was written, and this is what it answers.
+    pub fn gives(
         &mut self,
-        rt: &impl Abort,
-        name: &str,
         pages: u32,
         input: &mut Script<'_>,
         wanted: (&str, Result<(), ScriptError>),
-    ) {
+    ) -> bool {
         let answer = self.answer(pages, input);
-        self.expect(rt, name, answer, wanted);
+        self.output.bytes.as_slice() == wanted.0.as_bytes() && answer == Some(wanted.1)
     }
 }

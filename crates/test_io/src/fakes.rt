@@ -16,6 +16,7 @@ pub struct Script<'a> {
 }
 
 impl<'a> Script<'a> {
+    /// Never fails.
     pub fn new(bytes: &'a [u8]) -> Script<'a> {
         Script {
             bytes,
@@ -26,6 +27,7 @@ impl<'a> Script<'a> {
         }
     }
 
+    /// Fails at this call.
     pub fn failing_at(bytes: &'a [u8], most: usize, call: usize) -> Script<'a> {
         Script {
             bytes,
@@ -68,6 +70,7 @@ pub struct Taken {
 }
 
 impl Taken {
+    /// Takes all, and never fails but for want of memory.
     pub fn new(alloc: Global) -> Result<Taken, AllocError> {
         Taken::limited(alloc, usize::MAX, None)
     }
@@ -94,6 +97,7 @@ impl Taken {
         self.calls = 0;
     }
 
+    /// What it took, if it is text.
     pub fn text(&self) -> Option<&str> {
         str::from_utf8(self.bytes.as_slice()).ok()
     }
