@@ -15,10 +15,12 @@
 void mpgc_end_collection(bool is_full, double start)
 {
     mpgc.is_marking = false;
+    mpgc.ended++;
     mpgc_stop_closing();
     mpgc_need_full_cycle();
     CALL(GC_gc_no, mpheap_gc_no(&mpgc.heap));
     mpgc_clear_links();
+    mpgc_take_ready();
     mpgc_set_budget();
     mpgc_count_collection(is_full, start);
 }
@@ -31,6 +33,7 @@ static void end_with_roots(void)
     GRANTED(mpheap_roots(&mpgc.heap));
     GRANTED(mpheap_mark(&mpgc.heap, UINT64_MAX, &read));
     mpgc_figures.marked = read;
+    mpgc_end_marks();
     GRANTED(mpheap_finish(&mpgc.heap, &count));
 }
 
@@ -38,7 +41,6 @@ static void end_with_roots(void)
 static void collect(void)
 {
     if (mpgc.is_marking) end_with_roots();
-    mpgc_drop_runs();
     GRANTED(mpheap_begin(&mpgc.heap));
     end_with_roots();
 }
@@ -50,10 +52,12 @@ bool mpgc_collect_fully(void *unused)
     mpgc_tell_start();
     double start = mpgc_now();
     mpgc_block_signals(&old);
+    mpgc_stop_world();
     mpgc_drop_cycle();
     mpgc_open_all();
     collect();
     mpgc_end_collection(true, start);
+    mpgc_start_world();
     mpgc_restore_signals(&old);
     mpgc_tell_end();
     return true;
@@ -90,7 +94,9 @@ static bool collect_unless_at(void *stop) { return collect_unless(*(GC_stop_func
 bool mpgc_collect(GC_stop_func stop)
 {
     mpgc_enter();
-    return mpgc_from_here(collect_unless_at, &stop);
+    bool answer = mpgc_from_here(collect_unless_at, &stop);
+    mpgc_tell_ready();
+    return answer;
 }
 
 // What the last collection left to do is done, in part. Answers whether there was some.
@@ -118,5 +124,7 @@ bool mpgc_collect_a_little(void)
 {
     bool asked = true;
     mpgc_enter();
-    return mpgc_from_here(mpgc_look, &asked);
+    bool answer = mpgc_from_here(mpgc_look, &asked);
+    mpgc_tell_ready();
+    return answer;
 }

@@ -5,7 +5,7 @@
 //
 //   "Calls .. never from a signal handler that     signals are blocked in each step (signals.c)
 //   interrupted one of them"
-//   "the address was told by mpheap_written        after mpheap_begin, which cleans every page, `mpgc_tell_open`; before each
+//   "the address was told by mpheap_written        after mpheap_begin, which cleans every page, `mpgc_tell_open`; before so many
 //   first, after the last mpheap_begin,            mpheap_retrace `mpgc_close_lowest`; after mpheap_finish the layer's own object is
 //   mpheap_retrace, mpheap_finish .."              freed (spare.c): each before the program runs on
 //   the roots are as the program has them          at mpheap_finish: they are read just before, with nothing between. At mpheap_roots
@@ -14,7 +14,6 @@
 
 static void begin(void)
 {
-    mpgc_drop_runs();
     GRANTED(mpheap_begin(&mpgc.heap));
     mpgc.is_marking = true;
     mpgc_figures.marked = 0;
@@ -33,9 +32,9 @@ static void end(void)
     double start = mpgc_now();
     mpgc_drop_cycle();
     mpgc_read_roots();
+    mpgc_end_marks();
     GRANTED(mpheap_finish(&mpgc.heap, &count));
     mpgc_end_collection(false, start);
-    mpgc_tell_end();
 }
 
 static uint64_t mark(uint64_t words)
@@ -46,12 +45,17 @@ static uint64_t mark(uint64_t words)
     return read;
 }
 
-// The lowest dirty page is read again.
-static void reread(void)
+// The lowest open pages are closed, and as many dirty ones read again; or some, where none is open. Answers how many were read.
+static uint64_t reread(void)
 {
-    uint64_t count;
-    mpgc_close_lowest();
-    GRANTED(mpheap_retrace(&mpgc.heap, &count));
+    uint64_t count, read = 0;
+    for (size_t pages = mpgc_close_lowest(); pages > 0; pages--) {
+        GRANTED(mpheap_retrace(&mpgc.heap, &count));
+        read += count;
+    }
+    mpgc_tell_pinned();
+    mpgc_figures.retraces += read;
+    return read;
 }
 
 static void start(void)
@@ -71,21 +75,31 @@ static uint64_t do_piece(enum piece piece, uint64_t words)
     case BEGIN: begin(); break;
     case ROOTS: read_roots(); break;
     case MARK: return mark(words);
-    case REREAD: reread(); break;
+    case REREAD: return reread();
     case END: end(); break;
     case NO_PIECE: break;
     }
     return 0;
 }
 
-// The next step of the cycle, of about so many words where it marks. At rest one begins.
+// The next step of the cycle, of about so many words where it marks. At rest one begins. From its first piece on that reads words of the
+// program, or cleans pages, no other thread runs.
 void mpgc_go_on(uint64_t words)
 {
     sigset_t old;
+    bool was_marking = mpgc.is_marking, has_stopped = false;
     mpgc_block_signals(&old);
     enum piece piece = mpgc_first_piece();
-    while (piece != NO_PIECE) piece = mpgc_piece_after(piece, do_piece(piece, words), &words);
+    while (piece != NO_PIECE) {
+        if (piece >= BEGIN && !has_stopped) {
+            mpgc_stop_world();
+            has_stopped = true;
+        }
+        piece = mpgc_piece_after(piece, do_piece(piece, words), &words);
+    }
+    if (has_stopped) mpgc_start_world();
     mpgc_restore_signals(&old);
+    if (was_marking && !mpgc.is_marking) mpgc_tell_end();
 }
 
 // A cycle begins at once, as far as the roots.
@@ -100,7 +114,9 @@ bool mpgc_begin_cycle(void *unused)
 void mpgc_start_cycle(void)
 {
     mpgc_enter();
+    mpgc_lock();
     if (!mpgc.is_marking) (void)mpgc_from_here(mpgc_begin_cycle, NULL);
+    mpgc_unlock();
 }
 
 bool mpgc_is_marking(void) { return mpgc.is_marking; }

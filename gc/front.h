@@ -4,8 +4,9 @@
 // `struct layer` nor the calls of the core; gc/build doesn't tell them where mpheap.h lies; and the last lines here refuse them what a
 // program frees by, and says its roots and links by. So all that is left to them is what a program may do at any time, and the functions
 // below, of which each says why anyone may call it at any time. (Those that go on to the core stop the program if that is in the middle of
-// a call, as a signal's handler might be.) So a fault of theirs is a wrong figure, pace or answer, a system call that answers EFAULT, or a
-// program that is stopped, or hangs. What nothing hinders is what any C may do: write at a wrong address, or have the kernel do it.
+// a call, as a signal's handler might be.) So a fault of theirs is a wrong figure, pace or answer, a finalizer that comes too early, late
+// or never, a system call that answers EFAULT, or a program that is stopped, or hangs. What nothing hinders is what any C may do: write at
+// a wrong address, or have the kernel do it; or answer a request for an object that is read by one that isn't.
 #ifndef MPGC_FRONT_H
 #define MPGC_FRONT_H
 #define _GNU_SOURCE
@@ -23,7 +24,7 @@
 #define FIRST ((uintptr_t)0x10000000)
 #define WORD ((size_t)8)
 #define GRANULE ((size_t)16)
-#define MAX_PAGES ((size_t)4096)
+#define MAX_PAGES ((size_t)1 << 20)  // of the largest heap
 
 // What a page was last given to. A fresh one holds no object yet.
 enum page_kind { FRESH, ORDINARY, POINTER_FREE };
@@ -38,8 +39,10 @@ struct figures {
     uint64_t next;                 // words asked for at which a request looks what is due
     uint64_t marked;               // words of ordinary objects that the last collection has read
     size_t limit;                  // the most pages that the program lets the heap have
-    unsigned long cycles, full, faults;
+    unsigned long cycles, full, faults, retraces;
     double longest_cycle_end, longest_full, full_time;  // microseconds
+    unsigned long stops;                                // of other threads, with what their stopping took
+    double longest_stop, stop_time;
 };
 HIDDEN extern struct figures mpgc_figures;
 
@@ -56,27 +59,55 @@ HIDDEN void mpgc_start_cycle(void);
 // More pages are counted as the heap's, if there are: nothing is known of a page, and nothing owed for it, before an object lies there.
 HIDDEN bool mpgc_grow(size_t pages);
 
+// Words of an object that has just been made and is pointer-free are read as a descriptor says: so many bytes of it, again and again. And a
+// function that marks has this number. These add to what is read.
+enum tag { BY_LENGTH, BY_BITMAP, BY_PROC, BY_OBJECT };
+enum { MPGC_PROCS = 64, MPGC_BITMAP_PROC = 7, MPGC_PROC_BITS = 6, MPGC_TAG_BITS = 2, MPGC_TAGS = 3, MPGC_OBJECT_BIAS = 16 };
+struct bitmap { size_t bits; GC_word words[]; };
+HIDDEN void mpgc_describe(void *object, size_t step, size_t bytes, GC_word descriptor, int kind);
+HIDDEN void mpgc_set_proc(unsigned number, void *marks);
+
+// While roots are taken, which is at a cycle's end and when the roots are read, what this word points into is marked, or what the words of
+// this object point into; and then all that this leads to. To mark more is always right. At any other time these do nothing.
+HIDDEN void mpgc_mark_from(uintptr_t word);
+HIDDEN void mpgc_mark_from_words(uintptr_t base, size_t words, bool with_itself);
+HIDDEN void mpgc_mark_all(void);
+
 // Pages are told and opened: an open page that was told owes nothing.
 HIDDEN void mpgc_will_write(const void *from, size_t bytes);
+// They stay open, and count as written, until this thread says so, which others may collect meanwhile.
+HIDDEN void mpgc_wrote(void);
 
-// These only read. The object that an address points into, of what kind it is, and whether it stays whatever points into it.
+// These only read. The object that an address points into, of what kind it is, whether it stays whatever points into it, and whether it is
+// marked.
 HIDDEN bool mpgc_find(uintptr_t address, uintptr_t *base, size_t *words);
 HIDDEN enum page_kind mpgc_kind_at(uintptr_t address);
+HIDDEN int mpgc_described_kind(uintptr_t base);
+HIDDEN bool mpgc_is_marked(uintptr_t base);
 HIDDEN bool mpgc_is_uncollectable(uintptr_t base);
 
-// These too. How many pages were last given to a kind, have nothing, are to be swept, and are dirty.
+// These too. How many pages were last given to a kind, have something, have nothing, are to be swept, and are dirty.
 HIDDEN size_t mpgc_pages_of(enum page_kind kind);
+HIDDEN size_t mpgc_used_pages(void);
 HIDDEN size_t mpgc_free_pages(void);
 HIDDEN size_t mpgc_pending_pages(void);
 HIDDEN size_t mpgc_dirty_pages(void);
 
-// And these. Whether a cycle marks; the links that stand; the end of the stack.
+// And this one: words that count as asked for, and weren't given out yet.
+HIDDEN size_t mpgc_words_in_runs(void);
+
+// And these. Whether a cycle marks, and there was ever a second thread; the links that stand; this thread, if it is known, and its stack, as
+// the program or the C library says where it ends.
 HIDDEN bool mpgc_is_marking(void);
+HIDDEN bool mpgc_is_threaded(void);
+HIDDEN bool mpgc_has_lock(void);
 HIDDEN size_t mpgc_count_links(void);
+HIDDEN void *mpgc_this_thread(void);
 HIDDEN char *mpgc_stack_bottom(void);
+HIDDEN void mpgc_find_stack(const char **low, const char **bottom);
 
 // ---- What the audited files ask of the others, and rely on in nothing: any answer will do ----
-// Besides they ask GC_get_abort_func, GC_is_incremental_mode and, for figures, GC_size; read GC_dont_gc, GC_oom_fn and GC_on_heap_resize;
+// Besides they ask GC_get_abort_func, GC_is_incremental_mode and, for figures, GC_size; read GC_dont_gc and GC_on_heap_resize;
 // write GC_gc_no and GC_non_gc_bytes; and give the program's handler of faults its mask by pthread_sigmask. tests/gc.sh has the list.
 
 // names/pacing.c
@@ -97,6 +128,7 @@ HIDDEN void mpgc_drop_cycle(void);
 // names/figures.c
 HIDDEN double mpgc_now(void);
 HIDDEN void mpgc_count_collection(bool is_full, double start);
+HIDDEN void mpgc_count_stop(double took);
 
 // names/environment.c
 HIDDEN void mpgc_read_environment(void);
@@ -106,14 +138,28 @@ HIDDEN void mpgc_tell_start(void);
 HIDDEN void mpgc_tell_end(void);
 HIDDEN void *mpgc_out_of_memory(size_t bytes);
 
+// names/finalizers.c and names/toggles.c, at a cycle's end, while no other thread runs; a request; and what is freed
+HIDDEN bool mpgc_has_to_find(void);
+HIDDEN void mpgc_mark_toggled(void);
+HIDDEN void mpgc_find_ready(void);
+HIDDEN void mpgc_take_ready(void);
+HIDDEN void mpgc_tell_ready(void);
+HIDDEN void mpgc_forget_finalizer(uintptr_t base);
+
 // kernel/masks.c
 HIDDEN const sigset_t *mpgc_without_faults(const sigset_t *signals, sigset_t *room);
+
+// lock.c. A program may take the lock, and give it back.
+#undef GC_alloc_lock
+#undef GC_alloc_unlock
+SHOWN void GC_alloc_lock(void);
+SHOWN void GC_alloc_unlock(void);
 
 #ifndef MPGC_LAYER_H
 #pragma GCC poison GC_free GC_realloc GC_debug_free GC_debug_realloc GC_debug_realloc_replacement
 #pragma GCC poison GC_stackbottom GC_set_stackbottom GC_no_dls GC_set_no_dls GC_all_interior_pointers GC_set_all_interior_pointers
 #pragma GCC poison GC_add_roots GC_remove_roots GC_clear_roots GC_exclude_static_roots GC_clear_exclusion_table
-#pragma GCC poison GC_register_has_static_roots_callback
+#pragma GCC poison GC_register_has_static_roots_callback GC_push_other_roots GC_set_push_other_roots
 #pragma GCC poison GC_general_register_disappearing_link GC_register_disappearing_link GC_unregister_disappearing_link
 #pragma GCC poison GC_move_disappearing_link GC_register_long_link GC_unregister_long_link GC_move_long_link
 #endif

@@ -5,9 +5,20 @@
 // It owes the core what signals.c does: that the barrier's handler is called, and not one that could open a closed page untold.
 #include "layer.h"
 
+// What the program does on the signal by which threads are stopped: it is given back, and never called while there are threads.
+static bool swap_stopper(const struct sigaction *next, struct sigaction *old)
+{
+    static struct sigaction kept;
+    if (!mpgc.is_threaded) return false;
+    if (old) *old = kept;
+    if (next) kept = *next;
+    return true;
+}
+
 SHOWN int sigaction(int number, const struct sigaction *next, struct sigaction *old)
 {
     if (number == SIGSEGV && mpgc_swap_handler(next, old)) return 0;
+    if (number == SIGPWR && swap_stopper(next, old)) return 0;
     if (!next) return __sigaction(number, NULL, old);
     struct sigaction open = *next;
     (void)mpgc_without_faults(&next->sa_mask, &open.sa_mask);
@@ -18,6 +29,7 @@ SHOWN __sighandler_t signal(int number, __sighandler_t handler)
 {
     struct sigaction next = { .sa_handler = handler, .sa_flags = SA_RESTART }, old;
     if (number == SIGSEGV && mpgc_swap_handler(&next, &old)) return old.sa_handler;
+    if (number == SIGPWR && swap_stopper(&next, &old)) return old.sa_handler;
     return ssignal(number, handler);
 }
 

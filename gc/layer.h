@@ -1,12 +1,13 @@
-// What the audited files of libmpgc know of each other. One thread, x86-64, Linux. Trusted, and not proved.
+// What the audited files of libmpgc know of each other. x86-64, Linux, the GNU C library. Trusted, and not proved.
 //
 // Below them stands the proved heap of mpheap_c, above them a C program that knows bdwgc's gc.h, and may do what it likes. The proofs hold
-// for the program as far as these files keep what mpheap.h asks of a caller. They alone could lose an object or break memory: 1,191 lines
+// for the program as far as these files keep what mpheap.h asks of a caller. They alone could lose an object or break memory: 2,340 lines
 // of code in this folder, without blank ones and comments. Why names/ and kernel/ can't is said in front.h. This is all that they owe, in
 // the order in which they are best read, and the head of each says by which lines it pays:
 //
-//   start.c                "`heap` points to an mpheap that was opened and has not been closed since", and is opened once;
-//                          "Calls on one heap are made by one thread at a time"
+//   start.c                "`heap` points to an mpheap that was opened and has not been closed since", and is opened once
+//   lock.c world.c         "Calls on one heap are made by one thread at a time", and what another thread writes falls into none that
+//                          reads the program's words
 //   signals.c handlers.c   ".. and never from a signal handler that interrupted one of them", with CALL and GRANTED below, in which every
 //                          call stands; and a write to a closed page reaches the barrier, whatever the program does with its signals
 //   protection.c pages.c   the barrier, which is the heart of the layer: "the address was told by mpheap_written first", while a cycle
@@ -14,8 +15,10 @@
 //   spare.c                the same, while none does
 //   requests.c runs.c      "any 64-bit word may be put at any 8-aligned address of an object that is kept at that moment": what is given
 //                          out is an object that a request has just made, once, and frees are the program's
-//   roots.c                what keeps it: every word by which the program may still reach an object is a root at a collection's end
+//   roots.c threads.c      what keeps it: every word by which the program may still reach an object is a root at a collection's end,
+//   locals.c               of each thread
 //   collect.c cycle.c      the core's calls in an order that keeps the last three
+//   ending.c described.c   of objects that the core doesn't read, each word that points is a root at a cycle's end
 //   links.c                the layer's own writes to words of the program: in kept objects alone
 //
 // "Each out parameter points to a number of its own, outside of every heap": they are locals and, for runs.c, the layer's own. "malloc,
@@ -23,20 +26,47 @@
 #ifndef MPGC_LAYER_H
 #define MPGC_LAYER_H
 #include "front.h"
+#include <pthread.h>
 #include <stdatomic.h>
 #include "mpheap.h"
 
-_Static_assert(PAGE == MPHEAP_PAGE_BYTES && FIRST == MPHEAP_FIRST_ADDRESS && WORD == MPHEAP_WORD_BYTES && MAX_PAGES == MPHEAP_MAX_PAGES,
+_Static_assert(PAGE == MPHEAP_PAGE_BYTES && FIRST == MPHEAP_FIRST_ADDRESS && WORD == MPHEAP_WORD_BYTES && MAX_PAGES == MPHEAP_MOST_PAGES,
                "front.h has other measures than the core");
-#define MAX_REQUEST_WORDS ((size_t)MPHEAP_MAX_REQUEST_WORDS)
-#define BLOCK (MAX_PAGES / 64)  // pages: 64 blocks are all of the heap
-_Static_assert(MAX_PAGES % 64 == 0, "the heap isn't 64 blocks of pages");
+#define MAX_REQUEST_WORDS ((size_t)MPHEAP_MOST_REQUEST_WORDS)
+#define BLOCK ((size_t)64)       // pages that are closed and opened together, where no page's own telling is owed
+#define GROUP (MAX_PAGES / 64)  // 64 groups are all of the largest heap
+_Static_assert(MAX_PAGES % 64 == 0, "the heap isn't 64 groups of pages");
 
 #define LIKELY(x) __builtin_expect(!!(x), 1)
 
 // Small objects that one call asked for, and where those stand that are still to be given out.
-enum { RUN_GRANULES = 16, RUN_WORDS = 256, RUN_OBJECTS = 64 };
+enum { RUN_GRANULES = 16, RUN_WORDS = 256, RUN_OBJECTS = 64, PINS = 8 };
 struct run { uint64_t *next, *end, bases[RUN_OBJECTS]; };
+
+// A thread that is known (threads.c). The lock is held where one is linked or unlinked, and by who reads another's.
+enum thread_state { STARTING, RUNNING, BLOCKED, ENDED };
+struct thread {
+    struct run runs[2][RUN_GRANULES + 1];  // of each kind, and of each number of granules: the thread's own
+    struct thread *next;
+    pthread_t id;
+    uint32_t number;                       // by which the kernel knows it
+    volatile sig_atomic_t state;           // enum thread_state
+    volatile bool is_suspended;            // by the program
+    bool is_detached;                      // nobody will ask what it answers
+    unsigned holders;                      // so many are asking for it
+    unsigned goodbyes;
+    unsigned stop;                         // the last stop to which it has answered (world.c)
+    const char *volatile top;              // while it is stopped, blocked or collects: what it had is from here to the bottom
+    const char *volatile under;            // and, where `top` lies on a signal's stack: where that signal came
+    const char *low, *bottom;              // its stack
+    const char *alt_top;                   // the end of the signal's stack on which `top` lies, if it does
+    char *pointer;                         // by which its thread-local data is found (locals.c)
+    void ***keys;                          // what it has by pthread_setspecific
+    struct pages { size_t from, to; } pinned[PINS];  // pages that the kernel may write to for it
+    size_t pins;
+    void *(*start)(void *);
+    void *data;                            // what it was given, until it runs, and what it answered, when it has ended
+};
 
 // All that the layer knows of the heap, in one piece, so that the collector can leave it out of the roots.
 struct layer {
@@ -44,46 +74,91 @@ struct layer {
     uint8_t slot;                      // the mutator by which the layer allocates and frees
     bool is_marking;                   // a cycle marks
     volatile sig_atomic_t is_calling;  // a call of the core is under way
-    _Atomic uint64_t noted;            // blocks with pages that were opened under a call, and are to be told: a bit each
-    size_t size;                       // the pages that it has, of which the program is told
+    _Atomic uint64_t noted;            // groups with pages that were opened under a call, and are to be told: a bit each
+    size_t all;                        // the pages that the core has: as many as the machine allows
+    size_t size;                       // those that were ever used, of which the program is told
+    uint64_t ended;                    // so many collections have
     uint8_t kind[MAX_PAGES];           // enum page_kind
     volatile uint8_t is_closed[MAX_PAGES];
     volatile uint8_t is_noted[MAX_PAGES];
+    uint16_t pins[MAX_PAGES];          // so many threads have the kernel write there: it makes no fault, so the page stays open, and dirty
     _Atomic uint64_t uncollectable[MAX_PAGES * PAGE / GRANULE / 64];  // a bit a granule, at the bases of such objects
     atomic_size_t reserved;            // how many such bits there are, or more
-    struct run runs[2][RUN_GRANULES + 1];  // of each kind, and of each number of granules
+    struct thread first;               // the thread that opened the heap
+    struct thread *threads;            // all that are known
+    bool is_threaded;                  // there was ever a second one
 };
 HIDDEN extern struct layer mpgc;
 
 static inline bool mpgc_is_inside(uintptr_t address) { return address - FIRST < MAX_PAGES * PAGE; }
 static inline size_t mpgc_page_of(uintptr_t address) { return (address - FIRST) / PAGE; }
-static inline struct run *mpgc_run_of(size_t granules, enum page_kind kind) { return &mpgc.runs[kind == POINTER_FREE][granules]; }
 
-// start.c. The heap is open, and this is its thread: only that one is ever marked as the owner.
-HIDDEN extern _Thread_local bool mpgc_is_owner __attribute__((tls_model("initial-exec")));
+// A place in a table of so many, a power of 2.
+static inline size_t mpgc_hash(uintptr_t address, size_t room) { return address / WORD * 0x9E3779B97F4A7C15u >> 20 & (room - 1); }
+
+static inline struct run *mpgc_run_of(struct thread *thread, size_t granules, enum page_kind kind)
+{
+    return &thread->runs[kind == POINTER_FREE][granules];
+}
+
+// start.c and threads.c. The heap is open, and this thread is known, by this record.
+HIDDEN extern _Thread_local struct thread *mpgc_self __attribute__((tls_model("initial-exec")));
 HIDDEN void mpgc_open(void);
 static inline void mpgc_enter(void)
 {
-    if (!LIKELY(mpgc_is_owner)) mpgc_open();
+    if (!LIKELY(mpgc_self)) mpgc_open();
 }
+HIDDEN void mpgc_know_first(void);
+HIDDEN void mpgc_know_this(const struct GC_stack_base *base);
+HIDDEN void mpgc_scan_threads(void (*scan)(const char *from, const char *to), void (*push)(uint64_t word));
+
+// lock.c. One lock around the core and all that the layer knows; the thread that has it may take it again. Until there is a second
+// thread it is counted, and costs no more.
+HIDDEN void mpgc_lock_slowly(void);
+HIDDEN void mpgc_unlock_slowly(void);
+HIDDEN void mpgc_become_threaded(void);
+HIDDEN void mpgc_lock_in_child(void);
+HIDDEN uint32_t mpgc_my_number(void);
+HIDDEN extern _Thread_local unsigned mpgc_lock_depth __attribute__((tls_model("initial-exec")));
+static inline void mpgc_lock(void)
+{
+    if (LIKELY(!mpgc.is_threaded))
+        mpgc_lock_depth++;
+    else
+        mpgc_lock_slowly();
+}
+static inline void mpgc_unlock(void)
+{
+    if (LIKELY(!mpgc.is_threaded))
+        mpgc_lock_depth--;
+    else
+        mpgc_unlock_slowly();
+}
+
+// world.c. No other thread runs between these two, but those that are blocked (and touch no object). The lock is held, and stop and start
+// may be called again. `mpgc_make_stoppable` lets this thread be stopped.
+HIDDEN void mpgc_stop_world(void);
+HIDDEN void mpgc_start_world(void);
+HIDDEN bool mpgc_world_is_stopped(void);
+HIDDEN void mpgc_make_stoppable(void);
+HIDDEN void mpgc_wait_suspended(void);
+HIDDEN struct thread *mpgc_record_of(pthread_t id);
 
 // Every call of the core stands between these two: the fault handler then only notes a page, and it is told here.
 HIDDEN void mpgc_tell_noted(void);
 static inline void mpgc_call_begins(void)
 {
+    mpgc_lock();
     if (mpgc.is_calling) mpgc_stop("a call was made under another one: by a signal handler, or after one that jumped out of it");
     mpgc.is_calling = 1;
     atomic_signal_fence(memory_order_seq_cst);
 }
-static inline bool mpgc_call_leaves_nothing(void)
+static inline void mpgc_call_ends(void)
 {
     atomic_signal_fence(memory_order_seq_cst);
     mpgc.is_calling = 0;
-    return !atomic_load_explicit(&mpgc.noted, memory_order_relaxed);
-}
-static inline void mpgc_call_ends(void)
-{
-    if (!LIKELY(mpgc_call_leaves_nothing())) mpgc_tell_noted();
+    if (!LIKELY(!atomic_load_explicit(&mpgc.noted, memory_order_relaxed))) mpgc_tell_noted();
+    mpgc_unlock();
 }
 
 // One call, and what it answered.
@@ -103,7 +178,23 @@ static inline void mpgc_call_ends(void)
 // requests.c and runs.c
 HIDDEN void mpgc_free_in(uint64_t base);
 HIDDEN bool mpgc_fill_run(struct run *run, size_t granules, enum page_kind kind);
-HIDDEN void mpgc_drop_runs(void);
+HIDDEN void mpgc_push_runs(const struct thread *thread, void (*push)(uint64_t word));
+
+// locals.c
+HIDDEN void mpgc_scan_locals(const struct thread *thread, size_t module, size_t bytes, void (*scan)(const char *from, const char *to));
+HIDDEN void mpgc_scan_keys(const struct thread *thread, void (*scan)(const char *from, const char *to));
+HIDDEN void mpgc_set_keys(struct thread *thread);
+HIDDEN int mpgc_set_own_key(pthread_key_t key, const void *value);
+HIDDEN void mpgc_drop_keys(void);
+
+// ending.c and described.c
+HIDDEN void mpgc_end_marks(void);
+HIDDEN void mpgc_mark_words(void);
+HIDDEN bool mpgc_read_described(bool newest_first);
+HIDDEN void mpgc_reread_described(void);
+HIDDEN void mpgc_drop_described(void);
+HIDDEN void mpgc_forget_described(uintptr_t base);
+HIDDEN size_t mpgc_count_described(void);
 
 // pages.c
 HIDDEN bool mpgc_learn(uintptr_t base, size_t words, enum page_kind kind);
@@ -117,7 +208,9 @@ HIDDEN void mpgc_holds_pointer_free(size_t page);
 HIDDEN void mpgc_start_closing(void);
 HIDDEN bool mpgc_close_some(void);
 HIDDEN void mpgc_tell_open(void);
-HIDDEN void mpgc_close_lowest(void);
+HIDDEN size_t mpgc_close_lowest(void);
+HIDDEN void mpgc_tell_pinned(void);
+HIDDEN void mpgc_drop_pins(struct thread *thread);
 HIDDEN void mpgc_stop_closing(void);
 HIDDEN bool mpgc_open_some(void);
 HIDDEN void mpgc_open_all(void);
@@ -132,8 +225,10 @@ HIDDEN void mpgc_restore_signals(const sigset_t *old);
 
 // roots.c
 HIDDEN void mpgc_read_roots(void);
+HIDDEN void mpgc_take_roots(bool on);
+HIDDEN void mpgc_empty_stacks(void);
+HIDDEN bool mpgc_with_registers(bool (*work)(void *), void *data);
 HIDDEN bool mpgc_from_here(bool (*work)(void *), void *data);
-HIDDEN void mpgc_find_stack(void);
 
 // collect.c, cycle.c, spare.c and links.c. What collects runs by mpgc_from_here.
 HIDDEN bool mpgc_look(void *asked);
@@ -143,6 +238,7 @@ HIDDEN bool mpgc_begin_cycle(void *unused);
 HIDDEN void mpgc_go_on(uint64_t words);
 HIDDEN void mpgc_make_spare(void);
 HIDDEN void mpgc_need_full_cycle(void);
+HIDDEN void mpgc_decide_links(bool is_long);
 HIDDEN void mpgc_clear_links(void);
 
 #endif

@@ -1,156 +1,172 @@
-// Disappearing links: words of the program that are cleared once an object is gone. Trusted, not proved.
+// Disappearing links: words of the program that are cleared once an object is gone, as many as it likes. Trusted, not proved.
 //
-// What it has from the core, of mpheap.h: the word of a link becomes 0 in the call by which its object goes, and not before
-// (mpheap_link; clauses CollectsAll and EndsCycle). A link of the core stands in a pointer-free object, and one of bdwgc's at any word
-// of the program. So each of these has a cell, a word of an object of the layer's own, which isn't 0 and is a link to the object. Where
-// a cell is 0 once a collection has ended, the program's word is cleared, before the program runs on or anything is allocated.
+// At a cycle's end, once all is marked that will stay, a link whose object isn't marked is taken out of the table: a short one before
+// finalizers are looked for, a long one behind them (`mpgc_decide_links`). When the cycle has ended, and nothing is owed until the next
+// one, its word is cleared, before the program runs on (`mpgc_clear_links`). Both the word and the object are kept in mind hidden.
 //
 // What it owes the core, of mpheap.h:
 //
-//   "any 64-bit word may be put at any 8-aligned         a word of the program that lay in an object which is gone is left as it is,
-//   address of an object that is kept at that moment"    and its link is gone too
+//   "any 64-bit word may be put at any 8-aligned         a word of the program that lay in an object which is gone is left as it is, and
+//   address of an object that is kept at that moment"    its link is gone too
+//
+// Nothing is freed while other threads are stopped, since one of them may have the lock of `malloc`.
 #include "layer.h"
+#include <stdlib.h>
 
-enum { ROOM = MPHEAP_MAX_LINKS, AT = 0, OBJECT = 1, ROOT = 0 };  // registers, and a global of the heap
+struct link { struct link *next; GC_hidden_pointer word, object; bool is_long; };
+static struct link **chains, *to_clear, *to_free;
+static size_t count, room;
 
-// The k-th stands at the k-th cell. The address of its word is hidden, else it would keep the object in which the word lies.
-static struct link { GC_hidden_pointer hidden; bool is_there, is_long; } links[ROOM];
-static uint64_t *cells;
+static struct link **chain_of(void **word) { return &chains[mpgc_hash((uintptr_t)word, room)]; }
 
-// The layer's object of cells, which a global keeps, if there is room for it.
-static bool has_cells(void)
+static struct link **place_of(void **word, bool is_long)
 {
-    if (cells) return true;
-    uint64_t *made = GC_malloc_atomic(ROOM * WORD);
-    if (!made || !mpgc_is_inside((uintptr_t)made)) return false;
-    mpgc_call_begins();
-    mpheap_set(&mpgc.heap, mpgc.slot, AT, (uintptr_t)made);
-    mpheap_gput(&mpgc.heap, mpgc.slot, ROOT, AT);
-    mpgc_call_ends();
-    cells = made;
-    return true;
+    static struct link *none;
+    struct link **at = room == 0 ? &none : chain_of(word);
+    while (*at && ((*at)->is_long != is_long || (*at)->word != GC_HIDE_POINTER(word))) at = &(*at)->next;
+    return at;
 }
 
-static bool link_cell(size_t k, const void *object)
+static void put(struct link **list, struct link *one)
 {
-    cells[k] = 1;
-    mpgc_call_begins();
-    mpheap_set(&mpgc.heap, mpgc.slot, AT, (uintptr_t)cells);
-    mpheap_set(&mpgc.heap, mpgc.slot, OBJECT, (uintptr_t)object);
-    uint32_t status = mpheap_link(&mpgc.heap, mpgc.slot, AT, k, OBJECT);
-    mpgc_call_ends();
-    return status == MPHEAP_OK;
+    one->next = *list;
+    *list = one;
 }
 
-// The link is gone, and the program's word stays.
-static void forget(size_t k)
+static struct link *take(struct link **at)
 {
-    uint64_t count;
-    links[k].is_there = false;
-    mpgc_call_begins();
-    mpheap_set(&mpgc.heap, mpgc.slot, AT, (uintptr_t)cells);
-    mpheap_unlink(&mpgc.heap, mpgc.slot, AT, k, &count);
-    mpgc_call_ends();
+    struct link *one = *at;
+    *at = one->next;
+    return one;
 }
 
-static bool lies_in_what_is_gone(void **word)
+static void grow(void)
 {
-    uintptr_t base;
-    size_t words;
-    return mpgc_is_inside((uintptr_t)word) && !mpgc_find((uintptr_t)word, &base, &words);
+    struct link **old = chains;
+    size_t old_room = room;
+    room = room ? 2 * room : 64;
+    chains = calloc(room, sizeof *chains);
+    if (!chains) mpgc_stop("no memory for a disappearing link");
+    for (size_t k = 0; k < old_room; k++) {
+        while (old[k]) {
+            struct link *one = take(&old[k]);
+            put(chain_of(GC_REVEAL_POINTER(one->word)), one);
+        }
+    }
+    free(old);
 }
 
-void mpgc_clear_links(void)
+// Does for each link what `goes` says: it is put on the list.
+static void move_those(bool (*goes)(const struct link *one), struct link **list)
 {
-    for (size_t k = 0; k < ROOM; k++) {
-        if (!links[k].is_there) continue;
-        void **word = GC_REVEAL_POINTER(links[k].hidden);
-        if (lies_in_what_is_gone(word)) {
-            forget(k);
-        } else if (cells[k] == 0) {
-            *word = NULL;
-            links[k].is_there = false;
+    for (size_t k = 0; k < room; k++) {
+        for (struct link **at = &chains[k]; *at;) {
+            if (!goes(*at)) {
+                at = &(*at)->next;
+                continue;
+            }
+            put(list, take(at));
+            count--;
         }
     }
 }
 
-size_t mpgc_count_links(void)
+static bool is_unmarked(const struct link *one) { return !mpgc_is_marked(~one->object); }
+static bool is_short_unmarked(const struct link *one) { return !one->is_long && is_unmarked(one); }
+
+void mpgc_decide_links(bool is_long)
 {
-    size_t count = 0;
-    for (size_t k = 0; k < ROOM; k++) count += links[k].is_there;
-    return count;
+    if (count > 0) move_those(is_long ? is_unmarked : is_short_unmarked, &to_clear);
 }
 
-static size_t place_of(void **word, bool is_long)
+static bool lies_in_what_is_gone(const struct link *one)
 {
-    size_t k = 0;
-    while (k < ROOM && !(links[k].is_there && links[k].is_long == is_long && links[k].hidden == GC_HIDE_POINTER(word))) k++;
-    return k;
+    uintptr_t base, word = (uintptr_t)GC_REVEAL_POINTER(one->word);
+    size_t words;
+    return mpgc_is_inside(word) && !mpgc_find(word, &base, &words);
 }
 
-static size_t empty_place(void)
+// A cycle has ended, and the program doesn't run.
+void mpgc_clear_links(void)
 {
-    size_t k = 0;
-    while (k < ROOM && links[k].is_there) k++;
-    return k;
+    if (count > 0) move_those(lies_in_what_is_gone, &to_free);
+    while (to_clear) {
+        struct link *one = take(&to_clear);
+        if (!lies_in_what_is_gone(one)) *(void **)GC_REVEAL_POINTER(one->word) = NULL;
+        put(&to_free, one);
+    }
 }
 
-static int no_room(void)
-{
-    if (GC_oom_fn) (void)GC_oom_fn(sizeof(struct link));
-    return GC_NO_MEMORY;
-}
+size_t mpgc_count_links(void) { return count; }
 
 static int set_link(void **word, const void *object, bool is_long)
 {
-    mpgc_enter();
+    uintptr_t base;
+    size_t words;
     if (!word || (uintptr_t)word % WORD != 0) mpgc_stop("a disappearing link at what isn't the address of a word");
-    size_t k = place_of(word, is_long);
-    bool is_new = k == ROOM;
-    if (is_new) k = empty_place();
-    if (k == ROOM || !has_cells()) return no_room();
-    if (!link_cell(k, object)) mpgc_stop("a disappearing link to what isn't an object of the heap");
-    links[k] = (struct link){ GC_HIDE_POINTER(word), true, is_long };
-    return is_new ? GC_SUCCESS : GC_DUPLICATE;
+    if (!mpgc_find((uintptr_t)object, &base, &words)) mpgc_stop("a disappearing link to what isn't an object of the heap");
+    while (to_free) free(take(&to_free));
+    if (count == room) grow();
+    struct link **at = place_of(word, is_long);
+    if (*at) {
+        (*at)->object = GC_HIDE_POINTER(base);
+        return GC_DUPLICATE;
+    }
+    struct link *one = malloc(sizeof *one);
+    if (!one) return GC_NO_MEMORY;
+    *one = (struct link){ NULL, GC_HIDE_POINTER(word), GC_HIDE_POINTER(base), is_long };
+    *at = one;
+    count++;
+    return GC_SUCCESS;
 }
 
 static int remove_link(void **word, bool is_long)
 {
-    size_t k = place_of(word, is_long);
-    if (k == ROOM) return 0;
-    mpgc_enter();
-    forget(k);
+    struct link **at = place_of(word, is_long);
+    if (!*at) return 0;
+    free(take(at));
+    count--;
     return 1;
 }
 
 static int move_link(void **word, void **into, bool is_long)
 {
-    size_t k = place_of(word, is_long);
-    if (k == ROOM) return GC_NOT_FOUND;
+    struct link **at = place_of(word, is_long);
+    if (!*at) return GC_NOT_FOUND;
     if (word == into) return GC_SUCCESS;
-    if (place_of(into, is_long) != ROOM) return GC_DUPLICATE;
+    if (*place_of(into, is_long)) return GC_DUPLICATE;
     if (!into || (uintptr_t)into % WORD != 0) mpgc_stop("a disappearing link is moved to what isn't the address of a word");
-    links[k].hidden = GC_HIDE_POINTER(into);
+    struct link *one = take(at);
+    one->word = GC_HIDE_POINTER(into);
+    put(chain_of(into), one);
     return GC_SUCCESS;
 }
 
-int GC_general_register_disappearing_link(void **link, const void *object) { return set_link(link, object, false); }
+// The same under the lock.
+#define LOCKED(call) do { \
+        mpgc_enter(); \
+        mpgc_lock(); \
+        int answer_ = (call); \
+        mpgc_unlock(); \
+        return answer_; \
+    } while (0)
+
+int GC_general_register_disappearing_link(void **link, const void *object) { LOCKED(set_link(link, object, false)); }
 
 int GC_register_disappearing_link(void **link)
 {
     uintptr_t base;
     size_t words;
     if (!mpgc_find((uintptr_t)link, &base, &words)) mpgc_stop("GC_register_disappearing_link of what lies in no object of the heap");
-    return set_link(link, (void *)base, false);
+    LOCKED(set_link(link, (void *)base, false));
 }
 
-int GC_unregister_disappearing_link(void **link) { return remove_link(link, false); }
+int GC_unregister_disappearing_link(void **link) { LOCKED(remove_link(link, false)); }
 
-int GC_move_disappearing_link(void **link, void **new_link) { return move_link(link, new_link, false); }
+int GC_move_disappearing_link(void **link, void **new_link) { LOCKED(move_link(link, new_link, false)); }
 
-// Long links outlive finalizers, of which there are none here.
-int GC_register_long_link(void **link, const void *object) { return set_link(link, object, true); }
+int GC_register_long_link(void **link, const void *object) { LOCKED(set_link(link, object, true)); }
 
-int GC_unregister_long_link(void **link) { return remove_link(link, true); }
+int GC_unregister_long_link(void **link) { LOCKED(remove_link(link, true)); }
 
-int GC_move_long_link(void **link, void **new_link) { return move_link(link, new_link, true); }
+int GC_move_long_link(void **link, void **new_link) { LOCKED(move_link(link, new_link, true)); }

@@ -33,6 +33,8 @@ enum page_kind mpgc_kind_at(uintptr_t address) { return mpgc_is_inside(address) 
 
 size_t mpgc_pages_of(enum page_kind kind) { return count[kind]; }
 
+size_t mpgc_used_pages(void) { return mpgc.all - mpgc_free_pages(); }
+
 // Pages that a figure of the core counts.
 #define COUNTS(name, figure) \
     size_t name(void) \
@@ -57,7 +59,7 @@ bool mpgc_sweep_some(size_t pages)
 // The heap has at least so many pages from now on, if it may.
 bool mpgc_grow(size_t pages)
 {
-    if (pages > MAX_PAGES || pages > mpgc_figures.limit) return false;
+    if (pages > mpgc.all || pages > mpgc_figures.limit) return false;
     if (pages <= mpgc.size) return true;
     mpgc.size = pages;
     if (GC_on_heap_resize) GC_on_heap_resize(pages * PAGE);

@@ -13,29 +13,54 @@
 //   - A write to a closed page faults; `mpgc_let_write` tells the page (or notes it, under a call of the core), and only then opens it.
 //   - `mpheap_begin` cleans every page. Most were closed before it, a few at a time; `mpgc_tell_open` tells the others of ordinary
 //     objects, before the program runs on. So no page is closed in the stop of a beginning.
-//   - `mpheap_retrace` cleans the lowest dirty page and no other. Told pages are dirty, so the lowest open page of ordinary objects
-//     isn't below it: `mpgc_close_lowest` closes that one first, and all other open ones stay dirty.
+//   - `mpheap_retrace` cleans the lowest dirty page and no other. Told pages are dirty: so where the lowest open pages of ordinary
+//     objects are closed first, by `mpgc_close_lowest`, as many dirty ones lie below all that are open, and as many retraces clean
+//     none of these. The program doesn't run between them.
 //   - A page that comes to hold ordinary objects while it is open is told then (pages.c).
 //   - A page that the core itself writes to under a call faults too. It is noted, and told when the call has returned, before the
 //     program writes there.
+//   - The kernel makes no fault. Pages to which it writes for a thread are pinned meanwhile: told and open, not closed, told when a cycle
+//     has begun as all open ones are, and anew behind retraces (`mpgc_tell_pinned`).
+//
+// Why it holds beside several threads. Who tells, opens, closes or cleans a page has the lock, so these come one after the other. While a
+// cycle marks, pages are closed and cleaned only while no other thread runs (world.c). Where two threads fault on one page, the first to
+// have the lock tells and opens it; the second finds it open, and makes its write again. A thread that is stopped between its fault and its
+// handler, or waits there for the lock, hasn't written yet: what it finds afterwards is a closed page, which it tells, or an open one, which
+// was told since it was closed last. A thread that is stopped before its write faults when it goes on, if the page was closed meanwhile. So
+// each write comes after a telling behind which no call has cleaned its page. It may fall beside a call that another thread makes, but not
+// beside one that reads the program's words or cleans pages: beside one that allocates, frees, sweeps, tells or looks, which touches no
+// word of an object that the program has, and is as good before that call as behind it. And it may come between a page's opening under a
+// call and its telling at that call's end: nothing reads there meanwhile, so it is as good behind the telling.
+//
+// Of this are proved, below: what is owed (the clauses above), and that a program which pays it loses nothing, whatever it writes
+// (heap_core, the laws of direct writes). That a write beside a call is as good before or behind it is argued here, as is all that the
+// kernel does.
 //
 // Where no cycle marks nothing is owed, since a full cycle is needed then (spare.c): pages that are still closed are opened untold, by
 // blocks, at a write or a few at a time.
 #include "layer.h"
+#include <errno.h>
 #include <string.h>
 #include <sys/mman.h>
 
-// So many neighbouring pages are closed at once before one of them is read again.
-enum { RUN = 32 };
+// At most so many neighbouring pages are closed at once, and then as many dirty ones read again.
+enum { RUN = 16 };
 
 static bool is_closing;            // pages are being closed, and then a cycle begins
-static atomic_size_t lowest_open;  // while a cycle marks, no open page of ordinary objects lies below
+static atomic_size_t lowest_open;  // while a cycle marks, no open page of ordinary objects lies below, but pinned ones
 static size_t closing;             // so far pages were closed for the next cycle
 
 static void *page_start(size_t page) { return (void *)(FIRST + page * PAGE); }
 
+// A run of pages between others of the other kind is a mapping of its own, of which the kernel allows some 65,000 to a process. So from so
+// many changes on no page is closed, and pages are opened by blocks, until all are open again.
+enum { CHANGES = 16000 };
+static size_t changes;
+static bool is_crowded(void) { return changes >= CHANGES; }
+
 static void set_access(size_t page, size_t count, int access)
 {
+    changes++;
     if (mprotect(page_start(page), count * PAGE, access) != 0) mpgc_stop("the kernel refused to protect a page of the heap");
 }
 
@@ -50,18 +75,24 @@ static void tell_now(size_t page)
 static void note(size_t page)
 {
     mpgc.is_noted[page] = 1;
-    atomic_fetch_or(&mpgc.noted, (uint64_t)1 << page / BLOCK);
+    atomic_fetch_or(&mpgc.noted, (uint64_t)1 << page / GROUP);
 }
 
-// A handler may note more while this runs: each look at the blocks is one more round.
+// The first page from here on whose byte is 1, or the end.
+static size_t next_set(const volatile uint8_t *bytes, size_t from, size_t end)
+{
+    const uint8_t *first = (const uint8_t *)bytes, *found = memchr(first + from, 1, end - from);
+    return found ? (size_t)(found - first) : end;
+}
+
+// A handler may note more while this runs: each look at the groups is one more round.
 void mpgc_tell_noted(void)
 {
-    uint64_t blocks;
-    while ((blocks = atomic_exchange(&mpgc.noted, 0)) != 0) {
-        for (; blocks != 0; blocks &= blocks - 1) {
-            size_t first = (size_t)__builtin_ctzll(blocks) * BLOCK;
-            for (size_t page = first; page < first + BLOCK; page++) {
-                if (!mpgc.is_noted[page]) continue;
+    uint64_t groups;
+    while ((groups = atomic_exchange(&mpgc.noted, 0)) != 0) {
+        for (; groups != 0; groups &= groups - 1) {
+            size_t first = (size_t)__builtin_ctzll(groups) * GROUP, end = first + GROUP;
+            for (size_t page = next_set(mpgc.is_noted, first, end); page < end; page = next_set(mpgc.is_noted, page, end)) {
                 mpgc.is_noted[page] = 0;
                 if (mpgc.is_marking) tell_now(page);
             }
@@ -88,23 +119,42 @@ static void open_page(size_t page)
 static void open_block(size_t page)
 {
     size_t first = page - page % BLOCK;
+    lower_to(first);
     set_access(first, BLOCK, PROT_READ | PROT_WRITE);
     memset((void *)&mpgc.is_closed[first], 0, BLOCK);
+}
+
+// While a cycle marks.
+static void tell(size_t page)
+{
+    if (mpgc.is_calling)
+        note(page);
+    else
+        tell_now(page);
+}
+
+// Each closed page of the block is told.
+static void tell_block(size_t page)
+{
+    size_t first = page - page % BLOCK, end = first + BLOCK;
+    for (size_t at = next_set(mpgc.is_closed, first, end); at < end; at = next_set(mpgc.is_closed, at + 1, end)) tell(at);
 }
 
 // A write to this closed page is to be made: it is told first, and then the page is opened.
 void mpgc_let_write(size_t page)
 {
-    if (!mpgc.is_marking && !is_closing) {
+    bool by_block = is_crowded() || !(mpgc.is_marking || is_closing);
+    if (mpgc.is_marking && by_block) tell_block(page);
+    if (mpgc.is_marking && !by_block) tell(page);
+    if (by_block)
         open_block(page);
-        return;
-    }
-    if (mpgc.is_marking && mpgc.is_calling) note(page);
-    if (mpgc.is_marking && !mpgc.is_calling) tell_now(page);
-    open_page(page);
+    else
+        open_page(page);
 }
 
-static bool is_to_close(size_t page) { return mpgc.kind[page] == ORDINARY && !mpgc.is_closed[page]; }
+static bool is_open_ordinary(size_t page) { return mpgc.kind[page] == ORDINARY && !mpgc.is_closed[page]; }
+
+static bool is_to_close(size_t page) { return is_open_ordinary(page) && mpgc.pins[page] == 0; }
 
 // Closes the run of pages from this one on that are to be closed, of at most so many, and answers the page after it.
 static size_t close_run(size_t page, size_t most)
@@ -118,6 +168,8 @@ static size_t close_run(size_t page, size_t most)
 void mpgc_start_closing(void)
 {
     mpgc_take_faults();
+    changes = 0;
+    for (size_t page = 1; page < mpgc.size; page++) changes += mpgc.is_closed[page] != mpgc.is_closed[page - 1];
     is_closing = true;
     closing = 0;
 }
@@ -132,8 +184,9 @@ static void must_be_closing(void)
 bool mpgc_close_some(void)
 {
     must_be_closing();
-    size_t end = closing + BLOCK < mpgc.size ? closing + BLOCK : mpgc.size;
-    while (closing < end) closing = is_to_close(closing) ? close_run(closing, end - closing) : closing + 1;
+    enum { BLOCKS = 4 };
+    size_t end = closing + BLOCKS * BLOCK < mpgc.size ? closing + BLOCKS * BLOCK : mpgc.size;
+    while (closing < end) closing = is_to_close(closing) && !is_crowded() ? close_run(closing, end - closing) : closing + 1;
     return closing < mpgc.size;
 }
 
@@ -142,18 +195,43 @@ void mpgc_tell_open(void)
 {
     must_be_closing();
     for (size_t page = 0; page < mpgc.size; page++)
-        if (is_to_close(page)) tell_now(page);
+        if (is_open_ordinary(page)) tell_now(page);
     is_closing = false;
     lowest_open = 0;
 }
 
-// To be called before each mpheap_retrace, under blocked signals.
-void mpgc_close_lowest(void)
+// Does the work with each pinned page of ordinary objects that lies below the end, as often as it is pinned. Answers how many are pinned
+// once: not all that there are, but no page twice.
+static size_t each_pinned(void (*work)(size_t page), size_t end)
+{
+    size_t once = 0;
+    for (const struct thread *one = mpgc.threads; one; one = one->next) {
+        for (const struct pages *range = one->pinned; range < one->pinned + one->pins; range++) {
+            for (size_t page = range->from; page < range->to && page < end; page++) {
+                if (!is_open_ordinary(page)) continue;
+                if (work) work(page);
+                once += mpgc.pins[page] == 1;
+            }
+        }
+    }
+    return once;
+}
+
+// Closes the lowest run of open pages, under blocked signals. Answers how often mpheap_retrace may be called then: as often as pages were
+// closed, or as one likes where none was open, and for each pinned page below, which is dirty too, and read again with them. Where no more
+// may be closed, it may not be called.
+size_t mpgc_close_lowest(void)
 {
     size_t page = lowest_open;
+    if (is_crowded()) return 0;
     while (page < mpgc.size && !is_to_close(page)) page++;
-    lowest_open = page < mpgc.size ? close_run(page, RUN) : page;
+    bool is_one = page < mpgc.size;
+    lowest_open = is_one ? close_run(page, RUN) : page;
+    return (is_one ? lowest_open - page : RUN) + each_pinned(NULL, lowest_open);
 }
+
+// To be called behind these retraces, before another thread runs: the pages that they have cleaned may be some that stayed open.
+void mpgc_tell_pinned(void) { (void)each_pinned(tell_now, mpgc.size); }
 
 // No cycle marks, and none begins to.
 void mpgc_stop_closing(void) { is_closing = false; }
@@ -161,8 +239,9 @@ void mpgc_stop_closing(void) { is_closing = false; }
 // The lowest page that is closed, or the heap's end.
 static size_t lowest_closed(void)
 {
-    const uint8_t *first = (const uint8_t *)mpgc.is_closed, *closed = memchr(first, 1, mpgc.size);
-    return closed ? (size_t)(closed - first) : mpgc.size;
+    size_t page = next_set(mpgc.is_closed, 0, mpgc.size);
+    if (page == mpgc.size) changes = 0;
+    return page;
 }
 
 // Where no cycle marks: the block of the lowest closed page is opened again. Answers whether there was one.
@@ -179,7 +258,8 @@ void mpgc_open_all(void)
 {
     if (lowest_closed() == mpgc.size) return;
     set_access(0, mpgc.size, PROT_READ | PROT_WRITE);
-    memset((void *)mpgc.is_closed, 0, sizeof mpgc.is_closed);
+    memset((void *)mpgc.is_closed, 0, mpgc.size);
+    changes = 0;
 }
 
 // The cycle stands still, with every page told and open.
@@ -204,12 +284,49 @@ void mpgc_holds_pointer_free(size_t page)
     if (mpgc.is_closed[page]) open_page(page);
 }
 
+static void add_to_pins(const struct pages *pages, int count)
+{
+    for (size_t page = pages->from; page < pages->to; page++) mpgc.pins[page] = (uint16_t)(mpgc.pins[page] + count);
+}
+
+// Where there are too many, it writes as it would without: it may find a page closed.
+static void pin(size_t from, size_t to)
+{
+    if (mpgc_self->pins == PINS) return;
+    struct pages *pages = &mpgc_self->pinned[mpgc_self->pins++];
+    *pages = (struct pages){ from, to };
+    add_to_pins(pages, 1);
+}
+
+// From now on the thread's pages are as others: open, told, and to be closed before they are read. The lock is held.
+void mpgc_drop_pins(struct thread *thread)
+{
+    while (thread->pins > 0) {
+        const struct pages *pages = &thread->pinned[--thread->pins];
+        add_to_pins(pages, -1);
+        lower_to(pages->from);
+    }
+}
+
+void mpgc_wrote(void)
+{
+    if (!mpgc_self || mpgc_self->pins == 0) return;
+    int kept = errno;
+    mpgc_lock();
+    mpgc_drop_pins(mpgc_self);
+    mpgc_unlock();
+    errno = kept;
+}
+
 // Someone who makes no fault, the kernel, will write these bytes.
 void mpgc_will_write(const void *from, size_t bytes)
 {
     uintptr_t start = (uintptr_t)from, last = FIRST + mpgc.size * PAGE, end = bytes > last - start ? last : start + bytes;
-    if (!mpgc_is_owner || start >= last) return;
+    if (start >= last) return;
     if (start < FIRST) start = FIRST;
+    mpgc_lock();
     for (uintptr_t at = start & ~(PAGE - 1); at < end; at += PAGE)
         if (mpgc.is_closed[mpgc_page_of(at)]) mpgc_let_write(mpgc_page_of(at));
+    if (mpgc_self && end > start) pin(mpgc_page_of(start), mpgc_page_of(end - 1) + 1);
+    mpgc_unlock();
 }

@@ -55,12 +55,17 @@ static size_t words_of(size_t bytes)
 
 static size_t granules_of(size_t words) { return (words + GRANULE / WORD - 1) / (GRANULE / WORD); }
 
-// The next object of a run, or 0. It is asked for under a call, so that no signal handler is given the same one.
-static inline uint64_t next_of(struct run *run)
+// The next object of a run of this thread, or 0. It is passed by one instruction, when it is in a register already: so no signal handler
+// is given the same one, and the run keeps it before (mpgc_push_runs), and the register from then on. The thread may be stopped anywhere.
+__attribute__((always_inline)) static inline uint64_t next_of(struct run *run)
 {
-    mpgc_call_begins();
-    uint64_t base = run->next != run->end ? *run->next++ : 0;
-    mpgc_call_ends();
+    uint64_t *place = *(uint64_t *volatile *)&run->next, base;
+    bool is_passed;
+    do {
+        if (!LIKELY(place < *(uint64_t *volatile *)&run->end)) return 0;
+        base = *(volatile uint64_t *)place;
+        __asm__ volatile("cmpxchg %3, %1" : "+a"(place), "+m"(run->next), "=@ccz"(is_passed) : "r"(place + 1), "r"(base) : "memory");
+    } while (!LIKELY(is_passed));
     return base;
 }
 
@@ -68,8 +73,12 @@ static inline uint64_t next_of(struct run *run)
 static uint64_t take(size_t words, enum page_kind kind)
 {
     size_t granules = granules_of(words);
-    if (granules > RUN_GRANULES) return ask(words, kind);
-    struct run *run = mpgc_run_of(granules, kind);
+    if (granules > RUN_GRANULES) {
+        uint64_t alone = ask(words, kind);
+        if (alone != 0) mpgc_figures.since += words;
+        return alone;
+    }
+    struct run *run = mpgc_run_of(mpgc_self, granules, kind);
     uint64_t base = next_of(run);
     return base == 0 && mpgc_fill_run(run, granules, kind) ? next_of(run) : base;
 }
@@ -89,36 +98,23 @@ __attribute__((noinline)) static void *allocate_anew(size_t bytes, enum page_kin
 {
     mpgc_enter();
     size_t words = words_of(bytes);
+    mpgc_lock();
     if (mpgc_figures.since + words >= mpgc_figures.next) (void)mpgc_from_here(mpgc_look, NULL);
     uint64_t base = take(words, kind);
     if (base == 0) base = take_again(words, kind);
-    if (base == 0) return mpgc_out_of_memory(bytes);
-    mpgc_figures.since += words;
-    return (void *)base;
+    mpgc_unlock();
+    mpgc_tell_ready();
+    return LIKELY(base != 0) ? (void *)base : mpgc_out_of_memory(bytes);
 }
 
-__attribute__((noinline)) static void *tell_noted(uint64_t base)
-{
-    mpgc_tell_noted();
-    return (void *)base;
-}
-
-// Part of the two requests below, each with its kind: what next_of does, but so that nothing is kept over a call.
+// Part of the two requests below, each with its kind.
 __attribute__((always_inline)) static inline void *allocate(size_t bytes, enum page_kind kind)
 {
-    if (!LIKELY(mpgc_is_owner && bytes - 1 < RUN_GRANULES * GRANULE - 1)) return allocate_anew(bytes, kind);
+    struct thread *self = mpgc_self;
+    if (!LIKELY(self && bytes - 1 < RUN_GRANULES * GRANULE - 1)) return allocate_anew(bytes, kind);
     size_t words = (bytes + extra() + WORD - 1) / WORD;
-    struct run *run = mpgc_run_of(granules_of(words), kind);
-    mpgc_call_begins();
-    uint64_t *next = run->next;
-    if (!LIKELY(next != run->end && mpgc_figures.since + words < mpgc_figures.next)) {
-        mpgc_call_ends();
-        return allocate_anew(bytes, kind);
-    }
-    run->next = next + 1;
-    mpgc_figures.since += words;
-    uint64_t base = *next;
-    return LIKELY(mpgc_call_leaves_nothing()) ? (void *)base : tell_noted(base);
+    uint64_t base = next_of(mpgc_run_of(self, granules_of(words), kind));
+    return LIKELY(base != 0) ? (void *)base : allocate_anew(bytes, kind);
 }
 
 void *GC_malloc(size_t bytes) { return allocate(bytes, ORDINARY); }
@@ -130,7 +126,9 @@ static void *keep(void *object)
 {
     if (!mpgc_is_inside((uintptr_t)object)) return object;
     mpgc_set_uncollectable((uintptr_t)object, true);
+    mpgc_lock();
     GC_non_gc_bytes += GC_size(object);
+    mpgc_unlock();
     return object;
 }
 
@@ -154,13 +152,18 @@ void GC_free(void *object)
 {
     if (!object) return;
     uintptr_t base = (uintptr_t)object;
-    size_t bytes = GC_size(object);
     mpgc_enter();
+    mpgc_lock();
+    size_t bytes = GC_size(object);
     mpgc_free_in(base);
+    mpgc_forget_finalizer(base);
+    mpgc_forget_described(base);
     mpgc_figures.freed += bytes / WORD;
-    if (!mpgc_is_uncollectable(base)) return;
-    mpgc_set_uncollectable(base, false);
-    GC_non_gc_bytes -= bytes;
+    if (mpgc_is_uncollectable(base)) {
+        mpgc_set_uncollectable(base, false);
+        GC_non_gc_bytes -= bytes;
+    }
+    mpgc_unlock();
 }
 
 // What stood in the object, in a larger or much smaller one of the same kind, which stays if that one did.

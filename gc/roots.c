@@ -11,9 +11,7 @@
 // The others are the caller's to save, and lie on its stack.
 #include "layer.h"
 #include <link.h>
-#include <pthread.h>
 #include <stdlib.h>
-#include <string.h>
 
 #ifndef __x86_64__
 #error "libmpgc knows the registers of x86-64 alone"
@@ -29,7 +27,6 @@ struct ranges { struct range *at; size_t count, room; };
 
 static struct ranges added, excluded;
 static GC_has_static_roots_func is_scanned;
-static const char *stack_low, *stack_bottom, *stack_top;
 
 // The stacks that are filled.
 static uint8_t slots[ROOT_SLOTS];
@@ -67,7 +64,7 @@ static void push(uint64_t word)
 
 static void push_inside(uint64_t word)
 {
-    if (mpgc_is_inside(word)) push(word);
+    if (word - FIRST < mpgc.size * PAGE) push(word);
 }
 
 static inline uint64_t least(uint64_t a, uint64_t b) { return a < b ? a : b; }
@@ -78,7 +75,7 @@ UNCHECKED static void scan(const char *from, const char *to)
 {
     const uint64_t *word = (const uint64_t *)(((uintptr_t)from + WORD - 1) & ~(WORD - 1));
     const uint64_t *end = (const uint64_t *)((uintptr_t)to & ~(WORD - 1));
-    const size_t bytes = MAX_PAGES * PAGE;
+    const size_t bytes = mpgc.size * PAGE;
     for (; word + 4 <= end; word += 4) {
         uint64_t nearest = least(least(word[0] - FIRST, word[1] - FIRST), least(word[2] - FIRST, word[3] - FIRST));
         for (size_t k = 0; nearest < bytes && k < 4; k++) push_inside(word[k]);
@@ -112,6 +109,16 @@ static void scan_segment(const struct dl_phdr_info *object, const ElfW(Phdr) *se
     scan_static(from, to, 0);
 }
 
+// This thread's is told by the loader; of others what is there.
+static void scan_local(const struct dl_phdr_info *object, size_t bytes)
+{
+    if (object->dlpi_tls_data) scan(object->dlpi_tls_data, (const char *)object->dlpi_tls_data + bytes);
+    for (const struct thread *one = mpgc.threads; one; one = one->next) {
+        bool is_there = one->state == RUNNING || one->state == BLOCKED;
+        if (is_there && one != mpgc_self) mpgc_scan_locals(one, object->dlpi_tls_modid, bytes, scan);
+    }
+}
+
 static int scan_object(struct dl_phdr_info *object, size_t size, void *count)
 {
     bool is_main = (*(size_t *)count)++ == 0;
@@ -126,36 +133,37 @@ static int scan_object(struct dl_phdr_info *object, size_t size, void *count)
         const ElfW(Phdr) *part = &object->dlpi_phdr[k];
         bool is_data = part->p_type == PT_LOAD && (part->p_flags & PF_W) && (is_main || !GC_no_dls);
         if (is_data) scan_segment(object, part, constant);
-        bool is_local = part->p_type == PT_TLS && size >= sizeof *object && object->dlpi_tls_data;
-        if (is_local) scan(object->dlpi_tls_data, (const char *)object->dlpi_tls_data + part->p_memsz);
+        if (part->p_type == PT_TLS && size >= sizeof *object) scan_local(object, part->p_memsz);
     }
     return 0;
 }
 
-// Does the work with the registers saved, and with the stack's end where the program called in: what the layer and the core leave on the
-// stack below are no roots. Never inlined, so that the saved registers lie below all that the program has.
-__attribute__((noinline)) bool mpgc_from_here(bool (*work)(void *), void *data)
+// Does the work with the registers saved, and with the stack's top where the program called in: what the layer and the core leave on the
+// stack below are no roots. Never inlined, so that the saved registers lie below all that the program has. The program may have asked for
+// a larger stack since: so this is asked once more, before the world is stopped.
+__attribute__((noinline)) bool mpgc_with_registers(bool (*work)(void *), void *data)
 {
     uint64_t saved[6] = { 0 };
-    const char *outer = stack_top;
+    struct thread *self = mpgc_self;
+    const char *outer = self->top;
     __asm__ volatile(
         "movq %%r15, 0(%0)\n\tmovq %%r14, 8(%0)\n\tmovq %%r13, 16(%0)\n\t"
         "movq %%r12, 24(%0)\n\tmovq %%rbp, 32(%0)\n\tmovq %%rbx, 40(%0)"
         : : "r"(saved) : "memory");
-    stack_top = (const char *)saved;
+    if (self->low && (const char *)saved < self->low) mpgc_find_stack(&self->low, &self->bottom);
+    self->top = (const char *)saved;
     bool answer = work(data);
-    stack_top = outer;
+    self->top = outer;
     return answer;
 }
 
-static bool is_on_stack(void) { return stack_top < mpgc_stack_bottom() && (GC_stackbottom || stack_top >= stack_low); }
-
-// The program may have asked for a larger stack since: so this is asked once more before it stops.
-static void scan_stack(void)
+// What collects.
+bool mpgc_from_here(bool (*work)(void *), void *data)
 {
-    if (!is_on_stack()) mpgc_find_stack();
-    if (!is_on_stack()) mpgc_stop("a collection on another stack than the thread's own: see GC_set_stackbottom");
-    scan(stack_top, mpgc_stack_bottom());
+    mpgc_lock();
+    bool answer = mpgc_with_registers(work, data);
+    mpgc_unlock();
+    return answer;
 }
 
 static void scan_uncollectable(void)
@@ -163,6 +171,55 @@ static void scan_uncollectable(void)
     for (size_t k = 0; mpgc.reserved != 0 && k < mpgc.size * (PAGE / GRANULE / 64); k++)
         for (uint64_t bits = mpgc.uncollectable[k]; bits != 0; bits &= bits - 1)
             push(FIRST + (k * 64 + (size_t)__builtin_ctzll(bits)) * GRANULE);
+}
+
+// ---- What the program and the layer push besides, while roots are taken ----
+
+static bool takes_roots;
+void mpgc_take_roots(bool on) { takes_roots = on; }
+
+void mpgc_mark_from(uintptr_t word)
+{
+    if (!takes_roots || !mpgc_is_inside(word)) return;
+    mpgc_call_begins();
+    push(word);
+    mpgc_call_ends();
+}
+
+void mpgc_empty_stacks(void)
+{
+    mpgc_call_begins();
+    empty_stacks();
+    mpgc_call_ends();
+}
+
+#define PUSHES(name, words) \
+    SHOWN void name words; \
+    void name words \
+    { \
+        if (!takes_roots) return; \
+        mpgc_call_begins(); \
+        scan(from, to); \
+        mpgc_call_ends(); \
+    }
+PUSHES(GC_push_all, (void *from, void *to))
+PUSHES(GC_push_all_eager, (void *from, void *to))
+PUSHES(GC_push_conditional, (void *from, void *to, __attribute__((unused)) int all))
+
+// The program's function may call the one that it found here.
+static void push_no_others(void) { }
+SHOWN void (*GC_push_other_roots)(void) = push_no_others;
+SHOWN void GC_set_push_other_roots(void (*push_them)(void));
+void GC_set_push_other_roots(void (*push_them)(void)) { GC_push_other_roots = push_them; }
+SHOWN void (*GC_get_push_other_roots(void))(void);
+void (*GC_get_push_other_roots(void))(void) { return GC_push_other_roots; }
+
+static void push_others(void)
+{
+    takes_roots = true;
+    mpgc_reread_described();
+    if (GC_push_other_roots) GC_push_other_roots();
+    takes_roots = false;
 }
 
 // The roots are in the stacks, or, where they are more than these hold, marked. A cycle is marking, and signals are blocked.
@@ -173,32 +230,31 @@ void mpgc_read_roots(void)
     must(mpheap_set(&mpgc.heap, mpgc.slot, 0, 0));
     must(mpheap_set(&mpgc.heap, mpgc.slot, 1, 0));
     empty_stacks();
-    scan_stack();
+    mpgc_scan_threads(scan, push_inside);
     dl_iterate_phdr(scan_object, &objects);
     for (size_t k = 0; k < added.count; k++) scan(added.at[k].from, added.at[k].to);
     scan_uncollectable();
     mpgc_call_ends();
+    push_others();
 }
 
 // Where the main thread's stack began.
 extern void *__libc_stack_end;
 
-// Without /proc, as in a closed room, the C library doesn't tell where the stack may end: it is the main thread's then.
-void mpgc_find_stack(void)
+// This thread's stack. Without /proc, as in a closed room, the C library doesn't tell where the first one's may end.
+void mpgc_find_stack(const char **low, const char **bottom)
 {
     pthread_attr_t attributes;
-    void *low;
+    void *from;
     size_t size;
-    stack_low = NULL;
-    stack_bottom = __libc_stack_end;
+    *low = NULL;
+    *bottom = __libc_stack_end;
     if (pthread_getattr_np(pthread_self(), &attributes) != 0) return;
-    pthread_attr_getstack(&attributes, &low, &size);
+    pthread_attr_getstack(&attributes, &from, &size);
     pthread_attr_destroy(&attributes);
-    stack_low = low;
-    stack_bottom = (const char *)low + size;
+    *low = from;
+    *bottom = (const char *)from + size;
 }
-
-char *mpgc_stack_bottom(void) { return GC_stackbottom ? GC_stackbottom : (char *)(uintptr_t)stack_bottom; }
 
 static void add_range(struct ranges *ranges, const char *from, const char *to)
 {
@@ -216,24 +272,30 @@ static void add_range(struct ranges *ranges, const char *from, const char *to)
 void GC_add_roots(void *from, void *to)
 {
     mpgc_enter();
+    mpgc_lock();
     add_range(&added, from, to);
+    mpgc_unlock();
 }
 
 void GC_exclude_static_roots(void *from, void *to)
 {
     mpgc_enter();
+    mpgc_lock();
     add_range(&excluded, from, to);
+    mpgc_unlock();
 }
 
 void GC_remove_roots(void *from, void *to)
 {
     size_t left = 0;
     mpgc_enter();
+    mpgc_lock();
     for (size_t k = 0; k < added.count; k++) {
         bool goes = added.at[k].from >= (const char *)from && added.at[k].to <= (const char *)to;
         if (!goes) added.at[left++] = added.at[k];
     }
     added.count = left;
+    mpgc_unlock();
 }
 
 void GC_clear_roots(void) { added.count = 0; }
@@ -245,9 +307,3 @@ void GC_register_has_static_roots_callback(GC_has_static_roots_func filter) { is
 void GC_set_no_dls(int on) { GC_no_dls = on; }
 
 int GC_get_no_dls(void) { return GC_no_dls; }
-
-void GC_set_stackbottom(void *thread, const struct GC_stack_base *base)
-{
-    (void)thread;
-    GC_stackbottom = base->mem_base;
-}

@@ -1,21 +1,28 @@
-// Small objects are asked for many at a time, and then given out one by one. Trusted, not proved.
+// Small objects are asked for many at a time, by each thread for itself, and then given out one by one. Trusted, not proved.
 //
 // What it owes the core, of mpheap.h:
 //
-//   "any 64-bit word may be put at any 8-aligned         no root keeps an object before it is given out, so that a collection may take it:
-//   address of an object that is kept at that moment"    all runs are dropped when one begins (mpgc_drop_runs), and what they still had
-//                                                        is garbage. An object that comes while a cycle marks is kept by that cycle
-//   "Each out parameter points to a number of its own, outside of every heap"   the run's bases, in the layer, and a local
+//   "any 64-bit word may be put at any 8-aligned         what a run has and didn't give out is a root (mpgc_push_runs), of each thread, at
+//   address of an object that is kept at that moment"    each collection's end: so a thread may be stopped in the middle of a request
+//                                                        (requests.c), and needn't look whether a collection was since
+//   "Each out parameter points to a number of its own, outside of every heap"   locals
 //   kinds are as the page's                              mpgc_learn, for each object
 #include "layer.h"
+#include <string.h>
 
 enum { INTO = 0 };  // a register
 
-static uint64_t stamp;  // of the last fill or drop
+// No more than what may be asked for before the next look at what is due, but one.
+static size_t most_of(size_t words)
+{
+    uint64_t left = mpgc_figures.next > mpgc_figures.since ? mpgc_figures.next - mpgc_figures.since : 0;
+    size_t most = (left < RUN_WORDS ? left : RUN_WORDS) / words;
+    return most > RUN_OBJECTS ? RUN_OBJECTS : most == 0 ? 1 : most;
+}
 
 static uint64_t ask(uint64_t *bases, size_t words, enum page_kind kind)
 {
-    size_t most = RUN_WORDS / words < RUN_OBJECTS ? RUN_WORDS / words : RUN_OBJECTS;
+    size_t most = most_of(words);
     uint64_t count = 0;
     mpgc_call_begins();
     (void)(kind == ORDINARY ? mpheap_alloc_many(&mpgc.heap, mpgc.slot, INTO, words, bases, most, &count)
@@ -29,26 +36,52 @@ static bool is_known(uint64_t base, size_t words, enum page_kind kind)
     return LIKELY(mpgc.kind[mpgc_page_of(base)] == kind) || mpgc_learn(base, words, kind);
 }
 
+// These are the run's: what it had, if anything, is garbage. A handler that comes between finds it empty, and stops at its own call.
+static void publish(struct run *run, const uint64_t *bases, uint64_t count)
+{
+    mpgc_call_begins();
+    run->end = run->bases;
+    atomic_signal_fence(memory_order_seq_cst);
+    memcpy(run->bases, bases, count * sizeof *bases);
+    run->next = run->bases;
+    atomic_signal_fence(memory_order_seq_cst);
+    run->end = run->bases + count;
+    mpgc_call_ends();
+}
+
 // The run, which has none left, has objects of so many granules; or there is no room for one. The first of them that isn't known lies
-// past what the heap may use, and it goes with those behind it. If the program's GC_on_heap_resize, which mpgc_learn may call, made
-// requests or had a collection begin, then what came is garbage.
+// past what the heap may use, and it goes with those behind it. The lock is held, so that nobody else collects before they are the run's;
+// but what mpgc_learn calls, GC_on_heap_resize of the program, may: so it isn't told before.
 bool mpgc_fill_run(struct run *run, size_t granules, enum page_kind kind)
 {
+    uint64_t bases[RUN_OBJECTS];
     size_t words = granules * (GRANULE / WORD);
-    uint64_t mine = ++stamp, known = 0, count = ask(run->bases, words, kind);
-    while (known < count && is_known(run->bases[known], words, kind)) known++;
-    if (stamp != mine) return run->next != run->end;
-    for (uint64_t k = known; k < count; k++) mpgc_free_in(run->bases[k]);
-    run->next = run->bases;
-    run->end = run->bases + known;
+    uint64_t known = 0, ended = mpgc.ended, count = ask(bases, words, kind);
+    while (known < count && is_known(bases[known], words, kind)) known++;
+    if (ended != mpgc.ended) return run->next < run->end;
+    for (uint64_t k = known; k < count; k++) mpgc_free_in(bases[k]);
+    publish(run, bases, known);
+    mpgc_figures.since += known * words;
     return known > 0;
 }
 
-void mpgc_drop_runs(void)
+// Words that count as asked for, and weren't yet.
+size_t mpgc_words_in_runs(void)
 {
-    stamp++;
-    for (size_t granules = 0; granules <= RUN_GRANULES; granules++) {
-        mpgc_run_of(granules, ORDINARY)->next = mpgc_run_of(granules, ORDINARY)->end = NULL;
-        mpgc_run_of(granules, POINTER_FREE)->next = mpgc_run_of(granules, POINTER_FREE)->end = NULL;
+    size_t words = 0;
+    mpgc_lock();
+    for (const struct thread *one = mpgc.threads; one; one = one->next) {
+        const struct run *all = one->runs[0];
+        for (size_t k = 0; k < 2 * (RUN_GRANULES + 1); k++)
+            words += (size_t)(all[k].end - all[k].next) * (k % (RUN_GRANULES + 1)) * (GRANULE / WORD);
     }
+    mpgc_unlock();
+    return words;
+}
+
+void mpgc_push_runs(const struct thread *thread, void (*push)(uint64_t word))
+{
+    const struct run *all = thread->runs[0];
+    for (size_t k = 0; k < 2 * (RUN_GRANULES + 1); k++)
+        for (const uint64_t *place = all[k].next; place < all[k].end; place++) push(*place);
 }

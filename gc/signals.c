@@ -31,7 +31,8 @@ void mpgc_block_signals(sigset_t *old)
     sigfillset(&all);
     for (size_t k = 0; k < sizeof of_faults / sizeof *of_faults; k++) sigdelset(&all, of_faults[k]);
     set_signals(&all, old);
-    sigdelset(old, SIGSEGV);  // the program may have been started with it blocked
+    sigdelset(old, SIGSEGV);
+    if (mpgc.is_threaded) sigdelset(old, SIGPWR);  // the program may have been started with it blocked
 }
 
 void mpgc_restore_signals(const sigset_t *old) { set_signals(old, NULL); }
@@ -60,18 +61,43 @@ static void pass_on(int number, siginfo_t *info, void *context)
         program.sa_handler(number);
 }
 
+enum { RED_ZONE = 128 };
+
+static bool is_write(const void *context)
+{
+    enum { WRITE = 2 };  // of the bits that the processor tells of a fault
+    return ((const ucontext_t *)context)->uc_mcontext.gregs[REG_ERR] & WRITE;
+}
+
+// Where the stack was, if that wasn't a signal's.
+static const char *stack_under(const void *context)
+{
+    const ucontext_t *interrupted = context;
+    const stack_t *alt = &interrupted->uc_stack;
+    const char *at = (const char *)interrupted->uc_mcontext.gregs[REG_RSP];
+    bool is_on_alt = !(alt->ss_flags & SS_DISABLE) && at >= (const char *)alt->ss_sp && at <= (const char *)alt->ss_sp + alt->ss_size;
+    return is_on_alt ? mpgc_self->under : at - RED_ZONE;
+}
+
+// A write to a page of the heap: nothing but the barrier makes it fault. Another thread may have opened the page since: then the write is
+// done again. The lock may be another's for as long as a step of a collection: so this thread can be stopped here.
 static void on_fault(int number, siginfo_t *info, void *context)
 {
     uintptr_t address = (uintptr_t)info->si_addr;
-    bool is_ours = info->si_code == SEGV_ACCERR && mpgc_is_inside(address) && mpgc.is_closed[mpgc_page_of(address)];
-    if (!is_ours) {
+    bool is_ours = info->si_code == SEGV_ACCERR && mpgc_is_inside(address) && is_write(context);
+    if (!is_ours || !(mpgc.is_threaded || mpgc.is_closed[mpgc_page_of(address)])) {
         pass_on(number, info, context);
         return;
     }
-    if (!mpgc_is_owner) mpgc_stop("a second thread wrote into the heap: libmpgc is for programs of one thread");
+    if (!mpgc_self && !mpgc.is_threaded) mpgc_stop("a thread that nobody told of wrote into the heap: call GC_allow_register_threads first");
     int kept = errno;
+    const char *was_under = mpgc_self ? mpgc_self->under : NULL;
+    if (mpgc_self) mpgc_self->under = stack_under(context);
+    mpgc_lock();
     mpgc_figures.faults++;
-    mpgc_let_write(mpgc_page_of(address));
+    if (mpgc.is_closed[mpgc_page_of(address)]) mpgc_let_write(mpgc_page_of(address));
+    mpgc_unlock();
+    if (mpgc_self) mpgc_self->under = was_under;
     errno = kept;
 }
 
@@ -82,6 +108,7 @@ void mpgc_take_faults(void)
     struct sigaction ours = { .sa_sigaction = on_fault, .sa_flags = SA_SIGINFO | SA_ONSTACK | SA_RESTART }, old;
     bool was_installed = is_installed;
     sigfillset(&ours.sa_mask);
+    sigdelset(&ours.sa_mask, SIGPWR);
     is_installed = false;
     if (__sigaction(SIGSEGV, &ours, &old) != 0) mpgc_stop("the kernel refused a handler of faults");
     bool is_ours = was_installed && (old.sa_flags & SA_SIGINFO) && old.sa_sigaction == on_fault;

@@ -2,17 +2,13 @@
 //
 // What it owes the core, of mpheap.h:
 //
-//   "`heap` points to an mpheap that was opened and has not been closed since"   mpheap_open_mapped, clause IsOpenedAs:
+//   "`heap` points to an mpheap that was opened and has not been closed since"   mpheap_open_mapped_with, clause IsOpenedAs:
 //                                                            opened once, here, never closed, never copied
-//   "Calls on one heap are made by one thread at a time"     the thread that opens it is marked (`mpgc_is_owner`), and every other is
-//                                                            stopped
 //   its words lie where its addresses say                    mpheap_open_mapped maps them there, or the program stops
 #include "layer.h"
 #include <stdlib.h>
 
 struct layer mpgc;
-_Thread_local bool mpgc_is_owner;
-
 static bool is_open;
 
 void mpgc_stop(const char *sentence)
@@ -22,14 +18,27 @@ void mpgc_stop(const char *sentence)
     abort();
 }
 
+// As many pages as there may be, and half as many again where that is refused: a limit of the process, or a taken range. Answers them, or 0.
+static size_t open_core(void)
+{
+    enum { LEAST = 4096 };
+    size_t pages = MAX_PAGES;
+    while (pages >= LEAST && mpheap_open_mapped_with((uint32_t)pages, pages * (PAGE / WORD), &mpgc.heap) != MPHEAP_OK) pages /= 2;
+    return pages >= LEAST ? pages : 0;
+}
+
 void mpgc_open(void)
 {
-    if (is_open) mpgc_stop("a second thread called in: libmpgc is for programs of one thread");
-    is_open = mpgc_is_owner = true;
-    mpgc_find_stack();
-    if (mpheap_open_mapped((uint32_t)MAX_PAGES, &mpgc.heap) != MPHEAP_OK)
-        mpgc_stop("there is no memory at 0x10000000, where the heap's addresses begin");
+    if (is_open) {
+        mpgc_know_this(NULL);
+        return;
+    }
+    is_open = true;
+    mpgc_know_first();
+    mpgc.all = open_core();
+    if (mpgc.all == 0) mpgc_stop("there is no memory at 0x10000000, where the heap's addresses begin");
     if (mpheap_attach(&mpgc.heap, &mpgc.slot) != MPHEAP_OK) mpgc_stop("a new heap has no slot");
+    if (mpgc_figures.limit > mpgc.all) mpgc_figures.limit = mpgc.all;
     mpgc_make_spare();
     mpgc_read_environment();
 }
@@ -37,5 +46,3 @@ void mpgc_open(void)
 void GC_init(void) { mpgc_enter(); }
 
 int GC_is_init_called(void) { return is_open; }
-
-int GC_thread_is_registered(void) { return mpgc_is_owner; }

@@ -56,7 +56,11 @@ planted() {
     file=$(sed -n 's/^file: //p' "$1")
     read -ra setting <<<"$(sed -n 's/^test: //p' "$1")"
     test=${setting[0]}
-    [ "$test" = shadow ] && words=(3 300000)
+    case $test in
+        shadow) words=(3 300000) ;;
+        threads) words=(3 2) ;;
+        world) words=("$room/loaded_local.so") ;;
+    esac
     if ! awk -v "old=$(sed -n 's/^old: //p' "$1" | sed 's/\\/\\\\/g')" -v "new=$(sed -n 's/^new: //p' "$1" | sed 's/\\/\\\\/g')" '
         { at = index($0, old) }
         at { count++; $0 = substr($0, 1, at - 1) new substr($0, at + length(old)) }
@@ -80,7 +84,7 @@ planted() {
 faults_are_noticed() {
     local edit name test wanted edits=("$top"/tests/gc/planted/*.edit "$top"/tests/gc/harmless/*.edit)
     while read -r test; do
-        edit=$room/none_under_${test// /_}.edit
+        edit=$room/none_under_${test//[ =]/_}.edit
         printf '%s\n' "test: $test" "file: spare.c" "old: enum { SPARE = 2 };" "new: enum { SPARE = 2 };" >"$edit"
         edits+=("$edit")
     done < <(sed -n 's/^test: //p' "${edits[@]}" | sort -u)
@@ -120,17 +124,19 @@ grep -o '\bGC_[a-z_0-9]*(' "$top/include/mpgc/gc.h" | tr -d '(' | grep -v '^GC_a
 is "names of the header" "" "$(cat "$room/missing")"
 sed -n 's/^GC_API [^()]*[ *]\(GC_[a-z_]*\);.*/\1/p' "$top/include/mpgc/gc.h" | sort | comm -23 - "$room/names" >"$room/missing"
 is "variables of the header" "" "$(cat "$room/missing")"
+comm -23 "$top/tests/gc/names_of_bdwgc" "$room/names" >"$room/missing"
+is "names of bdwgc 8.2.2" "" "$(cat "$room/missing")"
 bdw=$(ldconfig -p | awk '/libgc\.so\.1 / {print $NF; exit}')
 if [ -n "$bdw" ]; then
-    nm -D --defined-only "$bdw" | awk '$2 == "T" {print $3}' | sort | comm -23 - "$room/names" >"$room/missing"
-    is "functions of libgc.so.1" "" "$(cat "$room/missing")"
+    nm -D --defined-only "$bdw" | awk '$3 ~ /^GC_/ {print $3}' | sort | comm -23 - "$room/names" >"$room/missing"
+    is "names of libgc.so.1" "" "$(cat "$room/missing")"
 else
-    skip libgc1 "its names"
+    skip libgc1 "its names, but for the list of those of 8.2.2"
 fi
 
 # The names and the wrapped functions reach no more of the layer than front.h declares, and the compiler refuses them what could lose an
 # object.
-grep -o '\bmpgc_[a-z_]*' "$top/gc/front.h" | sort -u >"$room/front"
+cat "$top/gc/front.h" "$top/gc/names/awaited.h" | grep -o '\bmpgc_[a-z_]*' | sort -u >"$room/front"
 for file in "$top"/gc/names/*.c "$top"/gc/kernel/*.c; do
     cc -std=c11 -O1 -fPIC -fvisibility=hidden -c "$file" -o "$room/reaching.o" 2>"$room/said"
     is "$(basename "$file") is compiled without the core" "" "$(cat "$room/said")"
@@ -146,7 +152,7 @@ for file in "$top"/gc/*.c "$top"/gc/names/*.c "$top"/gc/kernel/*.c; do
 done
 nm --defined-only "$room"/others/*.o | awk 'NF == 3 && $2 ~ /[TDBRC]/ {print $3}' | sort -u >"$room/theirs"
 is "what the audited files ask" \
-    "GC_dont_gc GC_gc_no GC_get_abort_func GC_is_incremental_mode GC_non_gc_bytes GC_on_heap_resize GC_oom_fn GC_size pthread_sigmask" \
+    "GC_dont_gc GC_gc_no GC_get_abort_func GC_is_incremental_mode GC_non_gc_bytes GC_on_heap_resize GC_size pthread_sigmask" \
     "$(nm -u "$room"/audited/*.o | awk 'NF == 2 {print $2}' | sort -u | comm -12 - "$room/theirs" | comm -23 - "$room/front" | paste -sd ' ')"
 # answered LINE: whether the compiler takes the line in a file of names.
 answered() {
@@ -174,7 +180,7 @@ is "lines of names" "$(code "$top"/gc/names/*)" "$(named "$top/docs/PROGRAMS.md"
 is "lines of wrapped functions" "$(code "$top"/gc/kernel/*)" "$(named "$top/docs/PROGRAMS.md" '\*\*wrapped functions of the C library\*\*,')"
 
 # Each function, each place of roots, and what stands round the barrier.
-for test in functions settings macros limits links roots barrier kernel signals process shadow; do
+for test in functions settings macros limits links finalizers kinds roots barrier kernel signals process shadow threads world registering; do
     "${c[@]}" "$top/tests/gc/$test.c" "-L$room" -lmpgc "-Wl,-rpath,$room" -pthread -o "$room/$test" 2>"$room/said"
     is "$test is built" "" "$(cat "$room/said")"
 done
@@ -186,6 +192,10 @@ counted macros "$room/macros"
 counted limits "$room/limits"
 counted links "$room/links"
 counted "links, in small steps" env GC_ENABLE_INCREMENTAL=1 "$room/links"
+for test in finalizers kinds registering; do
+    counted "$test" "$room/$test"
+    counted "$test, in small steps" env INCREMENTAL=1 "$room/$test"
+done
 counted roots "$room/roots"
 counted "roots, in small steps" env INCREMENTAL=1 "$room/roots"
 counted barrier "$room/barrier"
@@ -194,6 +204,10 @@ counted "signals" "$room/signals"
 "${c[@]}" -shared -fPIC "$top/tests/gc/loaded.c" -o "$room/loaded.so" 2>"$room/said"
 is "an object to be loaded is built" "" "$(cat "$room/said")"
 counted "process" "$room/process" "$room/loaded.so"
+"${c[@]}" -shared -fPIC "$top/tests/gc/loaded_local.c" -o "$room/loaded_local.so" 2>"$room/said"
+is "an object with thread-local data is built" "" "$(cat "$room/said")"
+counted "world" "$room/world" "$room/loaded_local.so"
+counted "world, in small steps" env INCREMENTAL=1 "$room/world" "$room/loaded_local.so"
 "${c[@]}" -no-pie "$top/tests/gc/process.c" "-L$room" -lmpgc "-Wl,-rpath,$room" -o "$room/fixed" 2>"$room/said"
 # The kernel puts what such a program gets by brk within a GiB behind it: in one start of some sixty where the heap has to be, of which
 # libmpgc says that it isn't free. Then it is started anew.
@@ -218,37 +232,25 @@ for test in barrier kernel signals; do
     fi
 done
 if [ -e /usr/include/gc/gc_mark.h ]; then
-    for test in functions settings macros links; do
+    for test in functions settings macros links finalizers kinds registering; do
         cc -std=c11 -O1 -w -DOTHER "$top/tests/gc/$test.c" -lgc -o "$room/${test}_bdw"
         counted "$test, over bdwgc" "$room/${test}_bdw"
     done
 else
-    skip libgc-dev "the functions, settings and links over bdwgc"
+    skip libgc-dev "the functions, settings, links, finalizers, kinds and threads over bdwgc"
 fi
 
-# A program that was written for threads is compiled, and stops with a sentence where it makes one.
-cat >"$room/threads.c" <<'C'
-#define GC_THREADS
-#include "gc.h"
-static void *body(void *data) { return data; }
-int main(void)
-{
-    pthread_t thread;
-    GC_INIT();
-    return GC_malloc(10) == 0 || pthread_create(&thread, 0, body, 0) != 0 || pthread_join(thread, 0) != 0;
-}
-C
-"${c[@]}" "$room/threads.c" "-L$room" -lmpgc "-Wl,-rpath,$room" -pthread -o "$room/threads" 2>"$room/said"
-is "a program with GC_THREADS is built" "" "$(cat "$room/said")"
-{ "$room/threads" >"$room/said" 2>&1; } 2>>"$room/said"
-is "a program with GC_THREADS" "libmpgc: GC_pthread_create: libmpgc is for programs of one thread" "$(head -n 1 "$room/said")"
+# Threads, each with lists and a shadow of them; some seconds, or as many as GC_SECONDS says.
+for setting in FULL INCREMENTAL; do
+    shadow "threads, $setting" env $setting=1 "$room/threads" 6 "${GC_SECONDS:-5}"
+done
 
 # A million random operations, with a shadow of all.
 shadow shadow env FULL=1 "$room/shadow" 1 1000000
 shadow "shadow, in small steps" env INCREMENTAL=1 "$room/shadow" 2 1000000
 
 # Faults of the layer, each of which a test has to notice.
-for file in syscalls syscalls_more syscalls_checked; do
+for file in syscalls syscalls_more syscalls_checked syscalls_threads; do
     cc -std=c11 -O1 -fvisibility=hidden -c "$top/gc/kernel/$file.c" -o "$room/$file.o"
 done
 faults_are_noticed

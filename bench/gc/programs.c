@@ -1,8 +1,8 @@
-/* Five programs for bdwgc's gc.h: one source for bdwgc and for libmpgc.
+/* Six programs for bdwgc's gc.h: one source for bdwgc and for libmpgc.
  *
- *     programs NAME ROUNDS
+ *     programs NAME ROUNDS [NODES EVERY]
  *
- * prints the milliseconds of all rounds, an answer that has to be the same over both, and the peak of the heap in kilobytes. With
+ * (the last two for `stores` alone) prints the milliseconds of all rounds, an answer that has to be the same over both, and the peak of the heap in kilobytes. With
  * -DSTOPS each request is timed instead, and the longest one is printed in microseconds: in incremental mode, steps and all. */
 #define _GNU_SOURCE
 #include <stdint.h>
@@ -211,12 +211,49 @@ static uint64_t strings(void)
     return sum;
 }
 
+/* Random stores over a heap of nodes that all live: each step has one node point to another one, and every so many steps it asks for an
+ * object that a node keeps. */
+struct node { struct node *to, *own; uint64_t number; };
+enum { CHUNK = 1000, STEPS = 3000000 };
+static uint64_t nodes, every;
+static struct node ***chunks;
+
+static struct node **place_of(uint64_t k) { return &chunks[k / CHUNK][k % CHUNK]; }
+
+static struct node *make_node(uint64_t number)
+{
+    struct node *made = ASK(sizeof *made);
+    made->number = number;
+    return made;
+}
+
+static uint64_t stores(void)
+{
+    uint64_t sum = 0;
+    chunks = ASK((nodes / CHUNK + 1) * sizeof *chunks);
+    for (uint64_t k = 0; k < nodes; k++) {
+        if (k % CHUNK == 0) chunks[k / CHUNK] = ASK(CHUNK * sizeof **chunks);
+        *place_of(k) = make_node(k);
+    }
+    for (uint64_t k = 0; k < STEPS; k++) {
+        struct node *at = *place_of(next_random() % nodes);
+        at->to = *place_of(next_random() % nodes);
+        if (k % every == 0) at->own = make_node(k);
+        sum += at->to->number + (at->own ? at->own->number : 0);
+    }
+    note_peak();
+    return sum;
+}
+
 int main(int count, char **texts)
 {
     static const struct { const char *name; uint64_t (*run)(void); } programs[] = {
-        { "gcbench", gcbench }, { "tree", tree }, { "list", list }, { "table", table }, { "strings", strings }
+        { "gcbench", gcbench }, { "tree", tree }, { "list", list }, { "table", table }, { "strings", strings },
+        { "stores", stores }
     };
     if (count < 3) return 1;
+    nodes = count > 3 ? strtoull(texts[3], NULL, 10) : 40000;
+    every = count > 4 ? strtoull(texts[4], NULL, 10) : 1;
     GC_INIT();
     for (size_t k = 0; k < sizeof programs / sizeof *programs; k++) {
         if (strcmp(programs[k].name, texts[1]) != 0) continue;

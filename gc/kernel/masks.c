@@ -1,5 +1,6 @@
-// The C library's calls by which a program blocks signals, without SIGSEGV: a write to a closed page while faults are blocked would end
-// the program, since the kernel can't hold back such a fault. Of other signals nothing is different.
+// The C library's calls by which a program blocks signals, without SIGSEGV and SIGPWR: a write to a closed page while faults are blocked
+// would end the program, since the kernel can't hold back such a fault; and by the other one threads are stopped. Of other signals nothing
+// is different.
 #include "../front.h"
 #include <errno.h>
 #include <sys/syscall.h>
@@ -13,6 +14,7 @@ const sigset_t *mpgc_without_faults(const sigset_t *signals, sigset_t *room)
     if (!signals) return NULL;
     *room = *signals;
     sigdelset(room, SIGSEGV);
+    sigdelset(room, SIGPWR);  // by which threads are stopped
     room->__val[0] &= ~(3ul << 31);
     return room;
 }
@@ -21,7 +23,9 @@ SHOWN int sigprocmask(int how, const sigset_t *restrict next, sigset_t *restrict
 {
     sigset_t room;
     mpgc_will_write(old, BYTES);
-    return (int)syscall(SYS_rt_sigprocmask, how, how == SIG_UNBLOCK ? next : mpgc_without_faults(next, &room), old, BYTES);
+    long answer = syscall(SYS_rt_sigprocmask, how, how == SIG_UNBLOCK ? next : mpgc_without_faults(next, &room), old, BYTES);
+    mpgc_wrote();
+    return (int)answer;
 }
 
 SHOWN int pthread_sigmask(int how, const sigset_t *restrict next, sigset_t *restrict old)

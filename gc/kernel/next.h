@@ -14,6 +14,13 @@
     } \
     (void)0
 
+// What the call answers, when the kernel has written what it writes.
+#define SAYS(call) do { \
+        __typeof__(call) said_ = (call); \
+        mpgc_wrote(); \
+        return said_; \
+    } while (0)
+
 // The function of this name, by which so many bytes may be written there (nothing, where `into` is null): with parameters as declared,
 // and as they are handed on.
 #define OPENS(answer, name, words, values, into, bytes) \
@@ -21,7 +28,7 @@
     { \
         NEXT(answer, name, words); \
         mpgc_will_write(into, bytes); \
-        return next values; \
+        SAYS(next values); \
     }
 
 #endif

@@ -30,14 +30,14 @@ SHOWN ssize_t readv(int file, const struct iovec *parts, int count)
 {
     NEXT(ssize_t, readv, (int, const struct iovec *, int));
     will_write_parts(parts, count);
-    return next(file, parts, count);
+    SAYS(next(file, parts, count));
 }
 
 SHOWN ssize_t preadv(int file, const struct iovec *parts, int count, off_t from)
 {
     NEXT(ssize_t, preadv, (int, const struct iovec *, int, off_t));
     will_write_parts(parts, count);
-    return next(file, parts, count, from);
+    SAYS(next(file, parts, count, from));
 }
 
 static size_t product(size_t size, size_t count) { return size != 0 && count > SIZE_MAX / size ? SIZE_MAX : size * count; }

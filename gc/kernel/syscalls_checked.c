@@ -35,5 +35,5 @@ SHOWN ssize_t __recvfrom_chk(int file, void *into, size_t bytes, size_t room, in
         mpgc_will_write(from, *length);
         mpgc_will_write(length, sizeof *length);
     }
-    return next(file, into, bytes, room, flags, from, length);
+    SAYS(next(file, into, bytes, room, flags, from, length));
 }

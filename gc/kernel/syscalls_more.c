@@ -38,7 +38,7 @@ SHOWN ssize_t recvfrom(int file, void *into, size_t bytes, int flags, __SOCKADDR
     NEXT(ssize_t, recvfrom, (int, void *, size_t, int, __SOCKADDR_ARG, socklen_t *));
     mpgc_will_write(into, bytes);
     will_write_counted(from.__sockaddr__, length);
-    return next(file, into, bytes, flags, from, length);
+    SAYS(next(file, into, bytes, flags, from, length));
 }
 
 static void will_write_message(struct msghdr *message)
@@ -54,7 +54,7 @@ SHOWN ssize_t recvmsg(int file, struct msghdr *message, int flags)
 {
     NEXT(ssize_t, recvmsg, (int, struct msghdr *, int));
     if (message) will_write_message(message);
-    return next(file, message, flags);
+    SAYS(next(file, message, flags));
 }
 
 SHOWN int recvmmsg(int file, struct mmsghdr *messages, unsigned count, int flags, struct timespec *timeout)
@@ -63,7 +63,7 @@ SHOWN int recvmmsg(int file, struct mmsghdr *messages, unsigned count, int flags
     mpgc_will_write(messages, count * sizeof *messages);
     mpgc_will_write(timeout, sizeof *timeout);
     for (unsigned k = 0; messages && k < count; k++) will_write_message(&messages[k].msg_hdr);
-    return next(file, messages, count, flags, timeout);
+    SAYS(next(file, messages, count, flags, timeout));
 }
 
 // Those that tell an address.
@@ -72,7 +72,7 @@ SHOWN int recvmmsg(int file, struct mmsghdr *messages, unsigned count, int flags
     { \
         NEXT(int, name, (int, __SOCKADDR_ARG, socklen_t *)); \
         will_write_counted(address.__sockaddr__, length); \
-        return next(file, address, length); \
+        SAYS(next(file, address, length)); \
     }
 TELLS_ADDRESS(accept)
 TELLS_ADDRESS(getsockname)
@@ -82,14 +82,14 @@ SHOWN int accept4(int file, __SOCKADDR_ARG address, socklen_t *restrict length, 
 {
     NEXT(int, accept4, (int, __SOCKADDR_ARG, socklen_t *, int));
     will_write_counted(address.__sockaddr__, length);
-    return next(file, address, length, flags);
+    SAYS(next(file, address, length, flags));
 }
 
 SHOWN int getsockopt(int file, int level, int name, void *restrict into, socklen_t *restrict length)
 {
     NEXT(int, getsockopt, (int, int, int, void *, socklen_t *));
     will_write_counted(into, length);
-    return next(file, level, name, into, length);
+    SAYS(next(file, level, name, into, length));
 }
 
 // Waiting.
@@ -105,7 +105,7 @@ SHOWN pid_t wait4(pid_t child, int *status, int flags, struct rusage *used)
     NEXT(pid_t, wait4, (pid_t, int *, int, struct rusage *));
     mpgc_will_write(status, sizeof *status);
     mpgc_will_write(used, sizeof *used);
-    return next(child, status, flags, used);
+    SAYS(next(child, status, flags, used));
 }
 
 SHOWN pid_t wait3(int *status, int flags, struct rusage *used) { return wait4(-1, status, flags, used); }
@@ -130,7 +130,7 @@ SHOWN int select(int count, fd_set *restrict to_read, fd_set *restrict to_write,
     NEXT(int, select, (int, fd_set *, fd_set *, fd_set *, struct timeval *));
     will_write_sets(to_read, to_write, others);
     mpgc_will_write(timeout, sizeof *timeout);
-    return next(count, to_read, to_write, others, timeout);
+    SAYS(next(count, to_read, to_write, others, timeout));
 }
 
 SHOWN int pselect(int count, fd_set *restrict to_read, fd_set *restrict to_write, fd_set *restrict others,
@@ -139,7 +139,7 @@ SHOWN int pselect(int count, fd_set *restrict to_read, fd_set *restrict to_write
     NEXT(int, pselect, (int, fd_set *, fd_set *, fd_set *, const struct timespec *, const sigset_t *));
     will_write_sets(to_read, to_write, others);
     sigset_t mask;
-    return next(count, to_read, to_write, others, timeout, mpgc_without_faults(blocked, &mask));
+    SAYS(next(count, to_read, to_write, others, timeout, mpgc_without_faults(blocked, &mask)));
 }
 
 SHOWN int ppoll(struct pollfd *files, nfds_t count, const struct timespec *timeout, const sigset_t *blocked)
@@ -147,7 +147,7 @@ SHOWN int ppoll(struct pollfd *files, nfds_t count, const struct timespec *timeo
     NEXT(int, ppoll, (struct pollfd *, nfds_t, const struct timespec *, const sigset_t *));
     mpgc_will_write(files, count * sizeof *files);
     sigset_t mask;
-    return next(files, count, timeout, mpgc_without_faults(blocked, &mask));
+    SAYS(next(files, count, timeout, mpgc_without_faults(blocked, &mask)));
 }
 
 SHOWN int epoll_pwait(int file, struct epoll_event *events, int most, int timeout, const sigset_t *blocked)
@@ -155,7 +155,7 @@ SHOWN int epoll_pwait(int file, struct epoll_event *events, int most, int timeou
     NEXT(int, epoll_pwait, (int, struct epoll_event *, int, int, const sigset_t *));
     if (most > 0) mpgc_will_write(events, (size_t)most * sizeof *events);
     sigset_t mask;
-    return next(file, events, most, timeout, mpgc_without_faults(blocked, &mask));
+    SAYS(next(file, events, most, timeout, mpgc_without_faults(blocked, &mask)));
 }
 
 // Times, and what the system tells of itself.
@@ -193,6 +193,7 @@ SHOWN void arc4random_buf(void *into, size_t bytes)
     NEXT(void, arc4random_buf, (void *, size_t));
     mpgc_will_write(into, bytes);
     next(into, bytes);
+    mpgc_wrote();
 }
 
 // Signals that came.
@@ -210,5 +211,5 @@ SHOWN int ioctl(int file, unsigned long number, ...)
     void *into = va_arg(rest, void *);
     va_end(rest);
     if (GC_is_heap_ptr(into)) mpgc_will_write(into, _IOC_SIZE(number) ? _IOC_SIZE(number) : PAGE);
-    return next(file, number, into);
+    SAYS(next(file, number, into));
 }

@@ -65,5 +65,3 @@ void GC_dump_named(const char *name)
 }
 
 void GC_dump(void) { GC_dump_named(NULL); }
-
-void GC_dump_finalization(void) { printf("No finalizers; %zu disappearing links\n", mpgc_count_links()); }

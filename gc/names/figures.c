@@ -23,18 +23,29 @@ void mpgc_count_collection(bool is_full, double start)
     ++*(is_full ? &all->full : &all->cycles);
 }
 
+void mpgc_count_stop(double took)
+{
+    mpgc_figures.stops++;
+    mpgc_figures.stop_time += took;
+    if (took > mpgc_figures.longest_stop) mpgc_figures.longest_stop = took;
+}
+
 GC_word GC_get_gc_no(void) { return GC_gc_no; }
 // Pages on which an object lies, or one that is still to be swept.
-size_t GC_get_memory_use(void) { return (MAX_PAGES - mpgc_free_pages()) * PAGE; }
+size_t GC_get_memory_use(void) { return mpgc_used_pages() * PAGE; }
 size_t GC_get_free_bytes(void)
 {
     size_t in_use = GC_get_memory_use();
     return in_use < GC_get_heap_size() ? GC_get_heap_size() - in_use : 0;
 }
 size_t GC_get_unmapped_bytes(void) { return 0; }
-size_t GC_get_bytes_since_gc(void) { return mpgc_figures.since * WORD; }
+size_t GC_get_bytes_since_gc(void)
+{
+    size_t left = mpgc_words_in_runs();
+    return mpgc_figures.since > left ? (mpgc_figures.since - left) * WORD : 0;
+}
 size_t GC_get_expl_freed_bytes_since_gc(void) { return mpgc_figures.freed * WORD; }
-size_t GC_get_total_bytes(void) { return (mpgc_figures.total + mpgc_figures.since) * WORD; }
+size_t GC_get_total_bytes(void) { return (mpgc_figures.total + mpgc_figures.since - mpgc_words_in_runs()) * WORD; }
 size_t GC_get_obtained_from_os_bytes(void) { return GC_get_heap_size(); }
 GC_word GC_get_non_gc_bytes(void) { return GC_non_gc_bytes; }
 void GC_set_non_gc_bytes(GC_word bytes) { GC_non_gc_bytes = bytes; }
@@ -50,7 +61,7 @@ size_t GC_get_prof_stats(struct GC_prof_stats_s *stats, size_t bytes)
 {
     struct GC_prof_stats_s all = {
         .heapsize_full = GC_get_heap_size(), .free_bytes_full = GC_get_free_bytes(),
-        .bytes_allocd_since_gc = GC_get_bytes_since_gc(), .allocd_bytes_before_gc = mpgc_figures.total * WORD,
+        .bytes_allocd_since_gc = GC_get_bytes_since_gc(), .allocd_bytes_before_gc = GC_get_total_bytes() - GC_get_bytes_since_gc(),
         .non_gc_bytes = GC_non_gc_bytes, .gc_no = GC_gc_no, .expl_freed_bytes_since_gc = GC_get_expl_freed_bytes_since_gc(),
         .obtained_from_os_bytes = GC_get_obtained_from_os_bytes(),
     };

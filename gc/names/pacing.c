@@ -11,6 +11,8 @@ enum {
     USUAL_FULL = 1536 * 1024 / WORD,    // and between full collections, whose marking costs the program more than a larger heap does
     PART = 4,                           // so many times what was kept is added, in cycles
     PART_FULL = 8,
+    LARGE = 8 * 1024 * 1024 / WORD,     // of what was kept past this, only so much
+    PART_LARGE = 3,
     USUAL_DIVISOR = 3,
     LEAST = 1024,                       // words, however full the heap is
     BETWEEN_LOOKS = 256,                // words asked for between two looks, where there is something to do
@@ -19,8 +21,6 @@ enum {
 static uint64_t budget;      // words to ask for before the next collection
 static bool is_settled;      // all pages are swept and open
 static bool is_incremental;
-
-static size_t used_pages(void) { return MAX_PAGES - mpgc_free_pages(); }
 
 // Words that the last collection left, of so many pages in use: pointer-free ones count a quarter, as they cost no marking.
 static uint64_t kept_in(size_t used)
@@ -35,26 +35,29 @@ static void set_budget_for(size_t used)
     uint64_t room = (mpgc_figures.limit > used ? mpgc_figures.limit - used : 0) * (PAGE / WORD);
     uint64_t divisor = GC_free_space_divisor ? GC_free_space_divisor : 1;
     uint64_t usual = is_incremental ? USUAL : USUAL_FULL, part = is_incremental ? PART : PART_FULL;
-    budget = (USUAL_DIVISOR * usual + part * kept_in(used)) / divisor;
+    uint64_t kept = kept_in(used), small = kept < LARGE ? kept : LARGE;
+    budget = (USUAL_DIVISOR * usual + part * small + PART_LARGE * (kept - small)) / divisor;
     uint64_t most = is_incremental ? room / 2 : room * 3 / 4;  // a cycle needs room while it marks
     if (budget > most) budget = most;
     if (budget < LEAST) budget = LEAST;
 }
 
-// After a collection. Of a page that isn't swept half counts.
+// After a collection. Of a page that isn't swept half counts. What is still to be given out will be asked for from now on.
 void mpgc_set_budget(void)
 {
-    set_budget_for(used_pages() - mpgc_pending_pages() / 2);
-    mpgc_figures.total += mpgc_figures.since;
-    mpgc_figures.since = mpgc_figures.freed = 0;
-    mpgc_figures.next = BETWEEN_LOOKS;
+    uint64_t left = mpgc_words_in_runs();
+    set_budget_for(mpgc_used_pages() - mpgc_pending_pages() / 2);
+    mpgc_figures.total += mpgc_figures.since - left;
+    mpgc_figures.since = left;
+    mpgc_figures.freed = 0;
+    mpgc_figures.next = left + BETWEEN_LOOKS;
     is_settled = false;
 }
 
 // What was asked for since is no part of what was kept.
 static void settle(void)
 {
-    size_t used = used_pages(), newer = mpgc_figures.since / (PAGE / WORD);
+    size_t used = mpgc_used_pages(), newer = mpgc_figures.since / (PAGE / WORD);
     set_budget_for(used > newer ? used - newer : 0);
 }
 

@@ -41,46 +41,8 @@ void GC_enable(void)
 }
 int GC_is_disabled(void) { return GC_dont_gc != 0; }
 
-// The stack, and calls of functions. There is one thread, so there is nothing to lock.
-int GC_get_stack_base(struct GC_stack_base *base)
-{
-    GC_init();
-    base->mem_base = mpgc_stack_bottom();
-    return GC_SUCCESS;
-}
-void *GC_get_my_stackbottom(struct GC_stack_base *base)
-{
-    static char the_thread;
-    (void)GC_get_stack_base(base);
-    return &the_thread;
-}
-void *GC_call_with_stack_base(GC_stack_base_func function, void *data)
-{
-    struct GC_stack_base base;
-    (void)GC_get_stack_base(&base);
-    return function(&base, data);
-}
-void *GC_call_with_alloc_lock(GC_fn_type function, void *data) { return function(data); }
-void *GC_call_with_gc_active(GC_fn_type function, void *data) { return function(data); }
-void *GC_do_blocking(GC_fn_type function, void *data) { return function(data); }
 void *GC_clear_stack(void *answer) { return answer; }
 void GC_noop1(GC_word word) { (void)*(volatile GC_word *)&word; }
-#undef GC_alloc_lock
-#undef GC_alloc_unlock
-GC_API void GC_alloc_lock(void);
-GC_API void GC_alloc_unlock(void);
-void GC_alloc_lock(void) { }
-void GC_alloc_unlock(void) { }
-int GC_register_my_thread(const struct GC_stack_base *base)
-{
-    (void)base;
-    GC_init();
-    return GC_DUPLICATE;
-}
-void GC_allow_register_threads(void) { }
-int GC_get_parallel(void) { return 0; }
-void GC_set_markers_count(unsigned count) { (void)count; }
-void GC_start_mark_threads(void) { }
 
 // Writes are seen by the page, and inner pointers always count.
 void GC_change_stubborn(const void *object) { (void)object; }

@@ -1,20 +1,33 @@
 // A cycle in small steps: which piece is next. It answers, and cycle.c does.
 //
-//     at rest -> pages are swept and closed, a few a step -> it begins -> roots are read -> marking -> roots again -> marking -> its end
+//     at rest -> pages are swept and closed, a few a step -> it begins -> roots are read -> marking -> dirty pages are read again ->
+//     roots again -> marking and dirty pages -> its end
 //
-// Each stop of the program is one of: some pages, the marks' beginning, the roots, some words, and the end, which reads the roots and
-// what few pages were written last.
+// Each stop of the program is one of: some pages, the marks' beginning, the roots, some words and a batch of dirty pages, and the end, which
+// reads the roots and what few pages were written last.
+//
+// How dirty pages are read again, so that it converges beside a program that writes everywhere: a batch closes as many of the lowest open
+// pages as it reads again, so that no page is closed long before it is read. A batch is six times the pages that the program made dirty
+// since the last one, and at least sixteen, or half of the last cycle's; and little is asked for between two, so that each leaves fewer
+// dirty pages than the one before it. Where no more than half a batch is dirty the roots are read once more, and then the cycle ends. And
+// behind a cycle with many faults the next one begins with its pages open, all of them dirty: none faults then before it was read again,
+// and a fault costs three times what reading a page again costs.
 #include "../front.h"
 
-// A cycle ends when few pages are dirty and the roots, read again, led to little; or after so many rounds that didn't bring it nearer.
-enum { ROUNDS = 3, ROOT_ROUNDS = 2, FEW_PAGES = 8, FEW_WORDS = 512 };
-
-// What it costs to read a page again, in words that are marked: only its marked objects are read.
-enum { RETRACE = PAGE / WORD / 8 };
+enum {
+    LEAST = 16, TIMES = 6,          // pages of a batch: at least, and for each that became dirty since the last batch
+    BETWEEN = 16,                   // words asked for between two batches
+    ROOT_ROUNDS = 2, FEW_WORDS = 512,
+    WRITTEN = 4, STILL = 64,        // pages for each fault of a cycle, behind which the next begins with open pages, and stays so
+};
 
 static enum piece next = SWEEP;  // with which a step begins
-static unsigned rounds, root_rounds;
-static size_t left_in_round, last_dirty;
+static unsigned root_rounds;
+static size_t batch, left_in_batch;
+static size_t last_dirty;        // pages, at the end of a batch in the step before this one; or all
+static unsigned long faults_before;
+static bool is_late;             // pages are read again
+static bool is_open;             // cycles begin with open pages
 static uint64_t marked;          // words, since the roots were read
 
 bool mpgc_is_in_cycle(void) { return next != SWEEP && next != START; }
@@ -22,10 +35,16 @@ bool mpgc_is_in_cycle(void) { return next != SWEEP && next != START; }
 bool mpgc_roots_are_read(void) { return next == MARK; }
 
 // Another collection has the heap now, or the cycle ends.
-void mpgc_drop_cycle(void) { next = SWEEP; }
+void mpgc_drop_cycle(void)
+{
+    next = SWEEP;
+    is_late = false;
+}
 
+// The program asked for a cycle: that one closes pages.
 void mpgc_skip_sweeping(void)
 {
+    is_open = false;
     if (next == SWEEP) next = START;
 }
 
@@ -40,18 +59,24 @@ static enum piece stop_before(enum piece piece)
 
 static void begin(void)
 {
-    rounds = root_rounds = 0;
-    left_in_round = last_dirty = 0;
+    root_rounds = 0;
+    left_in_batch = 0;
+    last_dirty = MAX_PAGES;
+    batch = batch / 2 > LEAST ? batch / 2 : LEAST;
 }
 
-// So many pages are to be read again in this round. Without a bound a cycle would never end beside a program that writes.
-static size_t next_round(void)
+// The core reads the lowest dirty page, so that batches of fewer pages than the program writes meanwhile would never come to the upper ones.
+// Of larger ones each leaves fewer dirty pages than the one before it; what is half a batch is left to the end. The first is read in any
+// case, since few pages may lead to much. A batch is kept in mind for the next cycle, or half of it.
+static size_t next_batch(void)
 {
-    if (rounds >= ROUNDS) return 0;
-    size_t dirty = mpgc_dirty_pages();
-    if (last_dirty == 0 || dirty > last_dirty * 3 / 4) rounds++;
+    size_t dirty = mpgc_dirty_pages(), newer = dirty > last_dirty ? dirty - last_dirty : 0;
+    if (newer * TIMES > batch) batch = newer * TIMES;
+    size_t few = is_late ? batch / 2 : 0;
     last_dirty = dirty;
-    return dirty <= FEW_PAGES ? 0 : dirty;
+    is_late = true;
+    if (dirty <= few) return 0;
+    return dirty < batch ? dirty : batch;
 }
 
 // All is marked that the roots and the pages read led to. What was made while the cycle marked may be named by roots alone: they are read
@@ -59,9 +84,13 @@ static size_t next_round(void)
 static enum piece roots_or_end(void)
 {
     bool is_little = root_rounds > 0 && marked <= FEW_WORDS;
-    if (is_little || root_rounds == ROOT_ROUNDS) return END;
+    size_t faults = mpgc_figures.faults - faults_before;
+    if (is_little || root_rounds == ROOT_ROUNDS) {
+        is_open = faults * (is_open ? STILL : WRITTEN) > mpgc_pages_of(ORDINARY);
+        return END;
+    }
     root_rounds++;
-    if (rounds == ROUNDS) rounds--;
+    last_dirty = MAX_PAGES;
     return ROOTS;
 }
 
@@ -70,30 +99,34 @@ static enum piece after_mark(uint64_t read, uint64_t *left)
 {
     *left -= read;
     marked += read;
-    if (*left == 0) return NO_PIECE;
-    if (left_in_round == 0) left_in_round = next_round();
-    if (left_in_round == 0) return roots_or_end();
-    left_in_round--;
-    return REREAD;
+    if (*left == 0) {
+        last_dirty = MAX_PAGES;
+        return NO_PIECE;
+    }
+    if (left_in_batch == 0) left_in_batch = next_batch();
+    return left_in_batch == 0 ? roots_or_end() : REREAD;
 }
 
-static enum piece after_reread(uint64_t *left)
+static enum piece after_reread(size_t pages)
 {
-    *left -= *left < RETRACE ? *left : RETRACE;
-    return *left == 0 ? NO_PIECE : MARK;
+    if (pages == 0) return roots_or_end();
+    left_in_batch -= pages < left_in_batch ? pages : left_in_batch;
+    last_dirty -= pages < last_dirty ? pages : last_dirty;
+    return left_in_batch == 0 ? NO_PIECE : MARK;
 }
 
 // What follows on a piece in the same step.
 enum piece mpgc_piece_after(enum piece piece, uint64_t did, uint64_t *left)
 {
+    if (is_late) mpgc_figures.next = mpgc_figures.since + BETWEEN;
     switch (piece) {
     case SWEEP: return did ? NO_PIECE : START;
-    case START: return stop_before(CLOSE);
+    case START: faults_before = mpgc_figures.faults; return stop_before(is_open ? BEGIN : CLOSE);
     case CLOSE: return did ? NO_PIECE : BEGIN;
     case BEGIN: begin(); return stop_before(ROOTS);
     case ROOTS: marked = 0; return stop_before(MARK);
     case MARK: return after_mark(did, left);
-    case REREAD: return after_reread(left);
+    case REREAD: return after_reread(did);
     default: return NO_PIECE;
     }
 }

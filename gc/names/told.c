@@ -1,5 +1,5 @@
 // What the program is told, and by which functions of its own.
-#include "../front.h"
+#include "awaited.h"
 #include <stdio.h>
 #include <string.h>
 #include <unistd.h>
@@ -33,7 +33,7 @@ static void print_message(const char *message)
 static int never(void) { return 0; }
 
 static GC_warn_proc warn = print_warning;
-static GC_abort_func tell_abort = print_message;
+SHOWN GC_abort_func GC_on_abort = print_message;
 static GC_stop_func stop_by_default = never;
 static GC_on_collection_event_proc tell_event;
 static GC_start_callback_proc tell_start;
@@ -46,6 +46,7 @@ static void tell_events(const GC_EventType *events, size_t count)
 
 void mpgc_tell_start(void)
 {
+    mpgc_ask_toggled();
     static const GC_EventType first[] = { GC_EVENT_START, GC_EVENT_MARK_START };
     tell_events(first, 2);
     if (tell_start) tell_start();
@@ -54,6 +55,7 @@ void mpgc_tell_start(void)
 void mpgc_tell_end(void)
 {
     static const GC_EventType last[] = { GC_EVENT_MARK_END, GC_EVENT_RECLAIM_START, GC_EVENT_RECLAIM_END, GC_EVENT_END };
+    mpgc_call_disclaimed();
     tell_events(last, 4);
 }
 
@@ -75,8 +77,8 @@ void GC_ignore_warn_proc(char *format, GC_word number)
     (void)format;
     (void)number;
 }
-void GC_set_abort_func(GC_abort_func tell) { tell_abort = tell; }
-GC_abort_func GC_get_abort_func(void) { return tell_abort; }
+void GC_set_abort_func(GC_abort_func tell) { GC_on_abort = tell; }
+GC_abort_func GC_get_abort_func(void) { return GC_on_abort; }
 void GC_abort_on_oom(void) { mpgc_stop("insufficient memory for the allocation"); }
 void GC_set_on_heap_resize(GC_on_heap_resize_proc tell) { GC_on_heap_resize = tell; }
 GC_on_heap_resize_proc GC_get_on_heap_resize(void) { return GC_on_heap_resize; }

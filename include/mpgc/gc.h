@@ -1,16 +1,16 @@
-/* mpgc/gc.h: the names of bdwgc's gc.h, for programs of one thread, over the proved heap of mpheap_c.
+/* mpgc/gc.h: the names of bdwgc's gc.h, over the proved heap of mpheap_c. Beside it lie gc/gc_mark.h, gc/gc_typed.h, gc/gc_disclaim.h
+ * and gc/gc_gcj.h, with bdwgc's other names.
  *
  * A program that was written for bdwgc is compiled with `-I .../include/mpgc` in place of bdwgc's folder and linked with
  * libmpgc, or run as it is with `LD_PRELOAD=libmpgc.so`. Names and meanings are those that bdwgc documents. Three groups:
  *
  *   - what is here and means the same: everything below that isn't in the other two;
  *   - what can be called and has no effect, since what it sets doesn't exist here: these are marked "no effect";
- *   - what isn't here (finalizers, threads, new kinds, marking by the program): these are marked "stops".
- *     Such a call writes a sentence to standard error and aborts. No call is silently wrong.
+ *   - what isn't here (to take a mark away, to look for leaks): these are marked "stops". Such a call writes a sentence to standard
+ *     error and aborts. No call is silently wrong.
  *
- * Memory comes in pieces of 16 bytes, is aligned to 16, and is all 0. The heap holds at most MPHEAP_MAX_PAGES pages of
- * 4,096 bytes, and one request at most MPHEAP_MAX_REQUEST_WORDS words; past that a request is out of memory. The second
- * thread that calls in is stopped with a sentence. */
+ * Memory comes in pieces of 16 bytes, is aligned to 16, and is all 0. The heap holds at most 4 GiB, or as much as the process may
+ * have; past that a request is out of memory. */
 #ifndef MPGC_GC_H
 #define MPGC_GC_H
 #define GC_H
@@ -148,7 +148,7 @@ GC_API int GC_is_disabled(void);
 #define GC_PROTECTS_STACK 8
 GC_API int GC_incremental_protection_needs(void);
 
-/* Roots besides the stack, the registers, static data and thread-local data of the one thread. */
+/* Roots besides the stack, the registers, static data and thread-local data of each thread. */
 typedef int (*GC_has_static_roots_func)(const char *file, void *start, size_t bytes);
 GC_API void GC_add_roots(void *from, void *to);
 GC_API void GC_remove_roots(void *from, void *to);
@@ -278,9 +278,9 @@ GC_API void (*GC_is_visible_print_proc)(void *p);
 #define GC_POST_DECR(x) ((x)--)
 #define GC_PTR_STORE(p, q) (*(void **)(p) = (void *)(q))
 
-/* Disappearing links: the word is cleared at the end of the collection that takes the object. An object that GC_free takes counts as
- * taken by the next collection. There is room for 64 at a time: another one answers GC_NO_MEMORY. The object has to be one of the heap,
- * else it stops; so does a word that isn't aligned. Long links are the same, since there are no finalizers. */
+/* Disappearing links, as many as there is memory for: the word is cleared at the end of the collection that takes the object, a long
+ * link's behind finalizers. An object that GC_free takes counts as taken by the next collection, unless its memory is in use again by then.
+ * The object has to be one of the heap, else it stops; so does a word that isn't aligned. */
 GC_API int GC_general_register_disappearing_link(void **link, const void *object);
 GC_API int GC_register_disappearing_link(void **link);
 GC_API int GC_unregister_disappearing_link(void **link);
@@ -289,8 +289,8 @@ GC_API int GC_register_long_link(void **link, const void *object);
 GC_API int GC_unregister_long_link(void **link);
 GC_API int GC_move_long_link(void **link, void **new_link);
 
-/* Finalizers: stops, where a function is given for an object of the heap. Without a function, or outside of the heap, the old
- * function is none, as documented. None is ever ready. */
+/* Finalizers: called once nothing reaches the object, in bdwgc's order, by a request or by GC_invoke_finalizers; or by that one alone,
+ * where GC_finalize_on_demand is set, and then the notifier is told. Outside of the heap none is registered. */
 typedef void (*GC_finalization_proc)(void *object, void *data);
 typedef void (*GC_finalizer_notifier_proc)(void);
 typedef void (*GC_await_finalize_proc)(void *object);
@@ -306,7 +306,6 @@ GC_API int GC_should_invoke_finalizers(void);
 GC_API int GC_invoke_finalizers(void);
 GC_API void GC_finalize_all(void);
 
-/* Kept and given back, with no other effect. */
 GC_API void GC_set_finalize_on_demand(int on);
 GC_API int GC_get_finalize_on_demand(void);
 GC_API void GC_set_java_finalization(int on);
@@ -315,6 +314,15 @@ GC_API void GC_set_finalizer_notifier(GC_finalizer_notifier_proc tell);
 GC_API GC_finalizer_notifier_proc GC_get_finalizer_notifier(void);
 GC_API void GC_set_await_finalize_proc(GC_await_finalize_proc tell);
 GC_API GC_await_finalize_proc GC_get_await_finalize_proc(void);
+
+/* Toggle references: before a collection the function says of each whether it stays, may go, or isn't asked for any more. */
+typedef enum { GC_TOGGLE_REF_DROP, GC_TOGGLE_REF_STRONG, GC_TOGGLE_REF_WEAK } GC_ToggleRefStatus;
+typedef GC_ToggleRefStatus (*GC_toggleref_func)(void *object);
+GC_API void GC_set_toggleref_func(GC_toggleref_func ask);
+GC_API GC_toggleref_func GC_get_toggleref_func(void);
+GC_API int GC_toggleref_add(void *object, int is_strong);
+
+/* Kept and given back, with no other effect. */
 GC_API void GC_set_dont_expand(int on);
 GC_API int GC_get_dont_expand(void);
 GC_API void GC_set_dont_precollect(int on);
@@ -424,24 +432,27 @@ GC_API void GC_debug_ptr_store_and_dirty(void *at, const void *word);
 #define GC_GENERAL_REGISTER_DISAPPEARING_LINK(link, object) GC_general_register_disappearing_link(link, object)
 #define GC_REGISTER_LONG_LINK(link, object) GC_register_long_link(link, object)
 
-/* Threads: there is one. What asks for another stops; what asks about the one answers. */
+/* Threads. Those are known that were made by the names below, or, under LD_PRELOAD and with libmpgc.so, in any way; others after
+ * GC_allow_register_threads from their first request on, or from GC_register_my_thread. */
 GC_API int GC_thread_is_registered(void);
-GC_API int GC_register_my_thread(const struct GC_stack_base *base); /* GC_DUPLICATE in the one thread; stops in any other */
-GC_API void GC_unregister_my_thread(void);                          /* stops */
+GC_API int GC_register_my_thread(const struct GC_stack_base *base);
+GC_API int GC_unregister_my_thread(void);
 GC_API void GC_allow_register_threads(void);
 GC_API int GC_get_parallel(void);
 GC_API void GC_set_markers_count(unsigned count);
 GC_API void GC_start_mark_threads(void);
 #ifdef GC_THREADS
-/* A program that asks for threads is compiled, and stops where it makes one. */
 #include <pthread.h>
 #include <signal.h>
 GC_API int GC_pthread_create(pthread_t *thread, const pthread_attr_t *attributes, void *(*start)(void *), void *data);
 GC_API int GC_pthread_join(pthread_t thread, void **answer);
 GC_API int GC_pthread_detach(pthread_t thread);
 GC_API int GC_pthread_cancel(pthread_t thread);
-GC_API void GC_pthread_exit(void *answer);
+GC_API void GC_pthread_exit(void *answer) __attribute__((noreturn));
+#ifdef _POSIX_C_SOURCE
 GC_API int GC_pthread_sigmask(int how, const sigset_t *set, sigset_t *old);
+#endif
+GC_API void GC_register_altstack(void *stack, GC_word bytes, void *altstack, GC_word altstack_bytes); /* no effect */
 #ifndef GC_NO_THREAD_REDIRECTS
 #define pthread_create GC_pthread_create
 #define pthread_join GC_pthread_join

@@ -403,22 +403,18 @@ static void second_free(void)
     GC_free(p);
 }
 static void bad_realloc(void) { keepers[0] = GC_realloc((char *)GC_malloc(64) + 8, 100); }
-static void with_finalizer(void) { GC_register_finalizer(GC_malloc(9), finalizer, NULL, NULL, NULL); }
 static void with_leaks(void) { GC_set_find_leak(1); }
 static void other_objects(void) { GC_same_obj(GC_malloc(20), GC_malloc(20)); }
-extern void GC_is_marked(void), GC_new_kind(void), GC_toggleref_add(void);
+extern void GC_clear_mark_bit(void);
 
 static NOINLINE void stops(void)
 {
     CHECK(stops_with(bad_free, "GC_free of what isn't the beginning"));
     CHECK(stops_with(second_free, "GC_free of what isn't the beginning"));
     CHECK(stops_with(bad_realloc, "GC_realloc of what isn't the beginning"));
-    CHECK(stops_with(with_finalizer, "no finalizers"));
     CHECK(stops_with(with_leaks, "GC_set_find_leak"));
     CHECK(stops_with(other_objects, "GC_same_obj"));
-    CHECK(stops_with(GC_is_marked, "GC_is_marked isn't there"));
-    CHECK(stops_with(GC_new_kind, "GC_new_kind isn't there"));
-    CHECK(stops_with(GC_toggleref_add, "GC_toggleref_add isn't there"));
+    CHECK(stops_with(GC_clear_mark_bit, "no mark can be taken away"));
     CHECK(GC_thread_is_registered() && GC_register_my_thread(NULL) == GC_DUPLICATE);
 }
 

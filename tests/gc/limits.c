@@ -30,8 +30,8 @@ static int hands_on_a_reserve(void)
     if ((char *)GC_malloc_uncollectable(huge) != reserve || wanted != huge) return 1;
     if ((char *)GC_malloc_atomic_uncollectable(huge - 7) != reserve || wanted != huge - 7) return 2;
     if ((char *)GC_realloc(GC_malloc_atomic(40), huge) != reserve) return 3;
-    if ((char *)GC_malloc_ignore_off_page(MEGABYTE) != reserve) return 4;
-    if ((char *)GC_memalign(65536, MEGABYTE) != reserve) return 6;
+    if ((char *)GC_malloc_ignore_off_page(huge / 4) != reserve) return 4;
+    if ((char *)GC_memalign(65536, huge / 4) != reserve) return 6;
     return GC_get_non_gc_bytes() == kept ? 0 : 5;
 }
 
@@ -72,6 +72,7 @@ static int long_texts_leave_errno(void)
 {
     static char text[MEGABYTE];
     static wchar_t wide[MEGABYTE / 4];
+    GC_set_max_heap_size(MEGABYTE / 2);
     GC_set_warn_proc(GC_ignore_warn_proc);
     memset(text, 'x', sizeof text - 1);
     for (size_t k = 0; k < MEGABYTE / 4 - 1; k++) wide[k] = L'x';
@@ -101,10 +102,11 @@ static int warns_each_time(void)
     return warnings == 2 ? 0 : 3;
 }
 
-/* Each size from one word to the largest request, and one byte more. */
-static int largest_request(void)
+/* Each size from one word to 64 megabytes, a byte past the end pointing into it; and no more than the program lets the heap have. */
+static int large_requests(void)
 {
-    const size_t most = 65536 * 8 - 1; /* a byte is for a pointer past the end */
+    const size_t most = (size_t)64 * MEGABYTE - 1;
+    GC_set_max_heap_size(100 * MEGABYTE);
     GC_set_warn_proc(GC_ignore_warn_proc);
     for (size_t bytes = 1; bytes <= most; bytes = bytes * 3 / 2 + 1) {
         char *p = GC_malloc(bytes);
@@ -112,7 +114,16 @@ static int largest_request(void)
         memset(p, 1, bytes);
         GC_free(p);
     }
-    return GC_malloc(most) && !GC_malloc(most + 1) && !GC_malloc_atomic(most + 1) ? 0 : 2;
+    return GC_malloc(most) && !GC_malloc(2 * most) && !GC_malloc_atomic(2 * most) ? 0 : 2;
+}
+
+/* The process may have a gigabyte of addresses: the heap is smaller then. */
+static int in_little_space(void)
+{
+    struct rlimit limit = { (rlim_t)1 << 30, (rlim_t)1 << 30 };
+    if (setrlimit(RLIMIT_AS, &limit) != 0) return 1;
+    char *p = GC_malloc(10 * MEGABYTE);
+    return p && GC_size(p) >= 10 * MEGABYTE ? 0 : 2;
 }
 
 /* A heap without a limit of the program's, however that is said. */
@@ -238,7 +249,8 @@ int main(void)
     CHECK(status_of(refuses_what_cannot_be) == 0);
     CHECK(status_of(long_texts_leave_errno) == 0);
     CHECK(status_of(warns_each_time) == 0);
-    CHECK(status_of(largest_request) == 0);
+    CHECK(status_of(large_requests) == 0);
+    CHECK(status_of(in_little_space) == 0);
     CHECK(status_of(has_no_limit) == 0);
     CHECK(status_of(has_no_limit_either) == 0);
     CHECK(status_of(cannot_grow_so_far) == 0);

@@ -165,38 +165,64 @@ static void to_no_object(void) { GC_general_register_disappearing_link(word(0), 
 static void of_no_word(void) { GC_general_register_disappearing_link((void **)((char *)weak + 4), GC_malloc(8)); }
 static void in_no_object(void) { GC_register_disappearing_link(word(0)); }
 
-static int asks;
-static void *no_reserve(size_t bytes)
-{
-    asks += bytes > 0;
-    return NULL;
-}
-
-/* 64 at a time: for another one the program's function is asked, it is refused, and changes nothing. Those of freed objects are there until the next collection. */
-static NOINLINE void there_is_room_for_64(void)
+/* What goes wrong is told, and an object that was freed has gone with the next collection. */
+static NOINLINE void refusals(void)
 {
     for (int k = 0; k < ROOM; k++) CHECK(links(k, 1) == GC_SUCCESS);
-    GC_set_oom_fn(no_reserve);
-    CHECK(links(ROOM, 1) == GC_NO_MEMORY && asks == 1 && GC_unregister_disappearing_link(word(ROOM)) == 0);
     CHECK(GC_general_register_disappearing_link(word(5), strong[6]) == GC_DUPLICATE);
-    CHECK(GC_unregister_disappearing_link(word(5)) == 1 && links(ROOM, 1) == GC_SUCCESS);
     GC_free(strong[7]);
     strong[7] = NULL;
-    CHECK(weak[7] != 0 && links(5, 1) == GC_NO_MEMORY);
+    CHECK(weak[7] != 0);
     collects();
     CHECK(weak[7] == 0 && links(7, 1) == GC_SUCCESS);
-    for (int k = 0; k <= ROOM; k++) CHECK(GC_unregister_disappearing_link(word(k)) == (k != 5));
+    for (int k = 0; k < ROOM; k++) CHECK(GC_unregister_disappearing_link(word(k)) == 1);
     CHECK(stops_with(to_no_object, "a disappearing link to what isn't an object"));
     CHECK(stops_with(of_no_word, "isn't the address of a word"));
     CHECK(stops_with(in_no_object, "lies in no object of the heap"));
 }
 #endif
 
+/* Many at a time, of which every third one is kept. */
+enum { LOTS = 20000 };
+static NOINLINE void make_lots(GC_hidden_pointer *hidden, void **kept)
+{
+    int registered = 0;
+    for (int k = 0; k < LOTS; k++) {
+        void *object = GC_malloc(16);
+        hidden[k] = GC_HIDE_POINTER(object);
+        if (k % 3 == 0) kept[k] = object;
+        registered += GC_general_register_disappearing_link((void **)&hidden[k], object) == GC_SUCCESS;
+    }
+    CHECK(registered == LOTS);
+}
+static NOINLINE void without_a_limit(void)
+{
+    static GC_hidden_pointer hidden[LOTS];
+    static void *kept[LOTS];
+    int gone = 0, is_right = 1;
+    make_lots(hidden, kept);
+    collects();
+    collects();
+    for (int k = 0; k < LOTS; k++) {
+        gone += hidden[k] == 0;
+        if (k % 3 == 0) is_right &= GC_REVEAL_POINTER(hidden[k]) == kept[k];
+    }
+    CHECK(is_right);
+    CHECK(gone >= LOTS / 3 * 2 - 20);
+    memset(kept, 0, sizeof kept);
+    collects();
+    collects();
+    gone = 0;
+    for (int k = 0; k < LOTS; k++) gone += hidden[k] == 0;
+    CHECK(gone >= LOTS - 20);
+}
+
 int main(void)
 {
     GC_INIT();
+    without_a_limit();
 #ifndef OTHER
-    there_is_room_for_64(); /* while no stray word keeps an object, and with it a link */
+    refusals(); /* while no stray word keeps an object, and with it a link */
 #endif
     objects_go();
     registrations();

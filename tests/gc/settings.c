@@ -273,14 +273,12 @@ static void out_of_room(void)
 }
 static void executable(void) { GC_set_pages_executable(1); }
 static void *volatile sink;
-static void no_thread(void) { GC_unregister_my_thread(); }
 
 static NOINLINE void stops(void)
 {
     CHECK(stops_with(with_other_abort, "told: GC_free of what"));
     CHECK(stops_with(out_of_room, "insufficient memory"));
     CHECK(stops_with(executable, "GC_set_pages_executable"));
-    CHECK(stops_with(no_thread, "GC_unregister_my_thread isn't there"));
     sink = GC_malloc_stubborn(30);
     CHECK(sink != NULL);
     GC_change_stubborn(sink);
@@ -293,6 +291,7 @@ static NOINLINE void stops(void)
     GC_atfork_parent();
     GC_atfork_child();
     GC_finalize_all();
+    CHECK(GC_unregister_my_thread() == GC_SUCCESS && !GC_thread_is_registered());
     GC_deinit();
     CHECK(GC_malloc(10) != NULL);
 }

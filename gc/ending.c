@@ -1,0 +1,59 @@
+// What is done at a cycle's end, once all is marked that the roots lead to and before what isn't marked goes: links are decided on,
+// finalizers are found, functions of the program mark. No other thread runs. Trusted, not proved.
+//
+// What it owes the core, of mpheap.h:
+//
+//   the roots are as the program has them          at mpheap_finish: they were read just before, and all that they lead to is marked by
+//                                                  mpheap_roots and mpheap_mark; what is marked is kept (clause EndsCycle.forgets). The
+//                                                  functions of the program that run here may mark more, which is always right, and
+//                                                  must write no word of the heap, as with bdwgc
+//   whether an object goes                         mpheap_is_marked, clause HasMark; no page is dirty and no word left to read then
+#include "layer.h"
+
+static bool is_ending;
+
+bool mpgc_is_marked(uintptr_t base)
+{
+    bool answer;
+    CALL(answer, mpheap_is_marked(&mpgc.heap, base));
+    return answer;
+}
+
+// All that the stacks hold and dirty pages have is marked, with all that it leads to.
+void mpgc_mark_words(void)
+{
+    uint64_t read, was_dirty = 1;
+    GRANTED(mpheap_roots(&mpgc.heap));
+    while (was_dirty == 1) {
+        GRANTED(mpheap_mark(&mpgc.heap, UINT64_MAX, &read));
+        GRANTED(mpheap_retrace(&mpgc.heap, &was_dirty));
+        mpgc_figures.marked += read;
+    }
+}
+
+// The same, with what the words of described objects lead to. Then the stacks are empty.
+void mpgc_mark_all(void)
+{
+    if (!is_ending) return;
+    mpgc_mark_words();
+    for (bool newest_first = true; mpgc_read_described(newest_first); newest_first = !newest_first) { }
+    mpgc_empty_stacks();
+}
+
+// The roots are on the stacks, or marked.
+void mpgc_end_marks(void)
+{
+    if (mpgc_count_links() == 0 && mpgc_count_described() == 0 && !mpgc_has_to_find()) return;
+    is_ending = true;
+    mpgc_take_roots(true);
+    mpgc_mark_all();
+    mpgc_mark_toggled();
+    mpgc_mark_all();
+    mpgc_decide_links(false);
+    mpgc_find_ready();
+    mpgc_mark_all();
+    mpgc_decide_links(true);
+    mpgc_drop_described();
+    mpgc_take_roots(false);
+    is_ending = false;
+}

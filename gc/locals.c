@@ -1,0 +1,69 @@
+// What a thread has for itself alone: thread-local data, and what it has set by keys. Trusted, not proved.
+//
+// What it owes the core: as roots.c, each word by which the program may still reach an object is read.
+//
+// The loader tells where this thread's data is, and not where another's. But each thread has a vector of its modules' data behind its own
+// pointer, in the same place since the first C library for threads of this kind. (Most of it lies at the end of the stack too, but not for
+// the first thread, and not what was loaded later.) Keys are in no documented place: so what is set is written down here too.
+#include "layer.h"
+#include "kernel/next.h"
+#include <sys/mman.h>
+
+struct module_data { const char *at; void *whole; };
+
+enum { KEYS = 1024 };  // PTHREAD_KEYS_MAX
+
+static _Thread_local void **keys __attribute__((tls_model("initial-exec")));
+
+void mpgc_scan_locals(const struct thread *thread, size_t module, size_t bytes, void (*scan)(const char *from, const char *to))
+{
+    const struct module_data *vector = ((struct module_data **)(void *)thread->pointer)[1];
+    if (module > (size_t)(uintptr_t)vector[-1].at) return;  // loaded since this thread last looked
+    const char *data = vector[module].at;
+    if (!data || data == (const char *)-1) return;          // not there yet
+    scan(data, data + bytes);
+}
+
+void mpgc_scan_keys(const struct thread *thread, void (*scan)(const char *from, const char *to))
+{
+    const char *all = (const char *)*thread->keys;
+    if (all) scan(all, all + KEYS * sizeof *keys);
+}
+
+// They are this thread's, whether it is known yet or not.
+void mpgc_set_keys(struct thread *thread)
+{
+    thread->pointer = __builtin_thread_pointer();
+    thread->keys = &keys;
+}
+
+// Not by malloc, which may itself set a key.
+static void **made(void)
+{
+    void *at = mmap(NULL, KEYS * sizeof *keys, PROT_READ | PROT_WRITE, MAP_PRIVATE | MAP_ANONYMOUS, -1, 0);
+    if (at == MAP_FAILED) mpgc_stop("no memory for a thread's keys");
+    return at;
+}
+
+int mpgc_set_own_key(pthread_key_t key, const void *value)
+{
+    NEXT(int, pthread_setspecific, (pthread_key_t, const void *));
+    return next(key, value);
+}
+
+SHOWN int pthread_setspecific(pthread_key_t key, const void *value)
+{
+    if (value && !keys) keys = made();
+    if (keys && key < KEYS) keys[key] = (void *)(uintptr_t)value;
+    return mpgc_set_own_key(key, value);
+}
+
+// This thread ends, and is known no more.
+void mpgc_drop_keys(void)
+{
+    if (keys) munmap(keys, KEYS * sizeof *keys);
+    keys = NULL;
+}
+
+SHOWN int tss_set(unsigned key, void *value);
+int tss_set(unsigned key, void *value) { return pthread_setspecific(key, value) == 0 ? 0 : 2; }

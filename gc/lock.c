@@ -1,0 +1,88 @@
+// One lock around the core, and around what the layer knows. Trusted, not proved.
+//
+// What it owes the core, of mpheap.h:
+//
+//   "Calls on one heap are made by one thread at a time"   every call stands between mpgc_call_begins and mpgc_call_ends, which take it
+//
+// The thread that has it may take it again, and so may a handler of its signals, at any instruction: so the word says who has it, how often
+// is counted by the thread itself, and where a handler took it and gave it away between the two the thread takes it anew. A waiting thread
+// can be stopped (world.c), since who stops it has the lock: so nobody may wait for it with that signal blocked. Until there is a second
+// thread it is counted alone.
+#include "layer.h"
+#include <linux/futex.h>
+#include <sys/syscall.h>
+#include <unistd.h>
+
+#define WAITED_FOR ((uint32_t)1 << 31)
+enum { SPINS = 100 };
+
+_Thread_local unsigned mpgc_lock_depth;
+static _Atomic uint32_t word;  // the number of the thread that has it, or 0; and whether others wait
+static _Thread_local uint32_t me __attribute__((tls_model("initial-exec")));
+
+uint32_t mpgc_my_number(void)
+{
+    if (me == 0) me = (uint32_t)syscall(SYS_gettid);
+    return me;
+}
+
+static bool is_mine(void) { return (word & ~WAITED_FOR) == mpgc_my_number(); }
+
+bool mpgc_has_lock(void) { return mpgc_lock_depth > 0; }
+
+static bool change(uint32_t from, uint32_t to) { return atomic_compare_exchange_strong(&word, &from, to); }
+
+static void wait_for_it(void)
+{
+    for (int k = 0; k < SPINS; k++) {
+        if (atomic_load_explicit(&word, memory_order_relaxed) == 0 && change(0, me)) return;
+        __builtin_ia32_pause();
+    }
+    for (;;) {
+        uint32_t seen = word;
+        if (seen == 0) {
+            if (change(0, me | WAITED_FOR)) return;
+        } else if ((seen & WAITED_FOR) || change(seen, seen | WAITED_FOR)) {
+            syscall(SYS_futex, &word, FUTEX_WAIT_PRIVATE, seen | WAITED_FOR, NULL, NULL, 0);
+        }
+    }
+}
+
+void mpgc_lock_slowly(void)
+{
+    for (;;) {
+        if (!is_mine() && !change(0, me)) wait_for_it();
+        mpgc_lock_depth++;
+        if (is_mine()) return;
+        mpgc_lock_depth--;
+    }
+}
+
+void mpgc_unlock_slowly(void)
+{
+    if (--mpgc_lock_depth > 0) return;
+    for (uint32_t seen = word; (seen & ~WAITED_FOR) == me; seen = word) {
+        if (!change(seen, 0)) continue;
+        if (seen & WAITED_FOR) syscall(SYS_futex, &word, FUTEX_WAKE_PRIVATE, 1, NULL, NULL, 0);
+        return;
+    }
+}
+
+bool mpgc_is_threaded(void) { return mpgc.is_threaded; }
+
+// There is one thread still. If it has the lock, by the depth alone, it has it in earnest from now on.
+void mpgc_become_threaded(void)
+{
+    word = mpgc_lock_depth > 0 ? mpgc_my_number() : 0;
+    mpgc.is_threaded = true;
+}
+
+// In a child, of which this is the only thread, and had the lock: its number is another one.
+void mpgc_lock_in_child(void)
+{
+    me = 0;
+    if (mpgc.is_threaded) word = mpgc_my_number();
+}
+
+void GC_alloc_lock(void) { mpgc_lock(); }
+void GC_alloc_unlock(void) { mpgc_unlock(); }

@@ -1,0 +1,259 @@
+// Finalizers: functions of the program that are called once an object isn't reached any more, and before it goes. The order is bdwgc's.
+//
+// At a cycle's end all is marked that the roots lead to. The objects in the table that aren't marked are those which nothing reaches. First
+// what they point to is marked, and not they: those that still aren't marked then are reached by no other one, and are ready. They are
+// marked too, so that the cycle's end keeps them and all that they lead to. Behind that end they are taken out of the table, and an object
+// of the heap names them until their function is called, as a program would do it: so no root is owed for them here, nor for the data.
+#include "awaited.h"
+#include <stdio.h>
+#include <stdlib.h>
+
+enum order { NORMAL, IGNORE_SELF, NO_ORDER, UNREACHABLE };
+
+// Both are objects of the heap, and the second one stays.
+struct entry {
+    struct entry *next;
+    GC_hidden_pointer hidden;  // the base
+    void *object;              // the same, once it is ready
+    void *data;
+    GC_finalization_proc function;
+    enum order order;
+};
+static struct all { struct entry **chains, *ready, **ready_end; } *all;
+
+static size_t count, room, ready_count;
+
+// What was found while no other thread runs: so there is room for it before.
+static struct asked { struct entry *entry; bool is_ready; } *asked;
+static size_t asked_room, asked_count;
+
+static uintptr_t base_of(const struct entry *one) { return ~one->hidden; }
+
+// ---- The table ----
+
+static struct entry **chain_of(uintptr_t base) { return &all->chains[base / GRANULE * 0x9E3779B97F4A7C15u >> 20 & (room - 1)]; }
+
+static struct entry **place_of(uintptr_t base)
+{
+    static struct entry *none;
+    struct entry **at = room == 0 ? &none : chain_of(base);
+    while (*at && base_of(*at) != base) at = &(*at)->next;
+    return at;
+}
+
+static struct entry *take(struct entry **at)
+{
+    struct entry *one = *at;
+    *at = one->next;
+    return one;
+}
+
+static void put(struct entry *one)
+{
+    struct entry **chain = chain_of(base_of(one));
+    one->next = *chain;
+    *chain = one;
+}
+
+static bool has_room_to_ask(void)
+{
+    if (count < asked_room) return true;
+    struct asked *larger = realloc(asked, (2 * count + 64) * sizeof *asked);
+    if (!larger) return false;
+    asked = larger;
+    asked_room = 2 * count + 64;
+    return true;
+}
+
+static bool is_started(void)
+{
+    if (!all) all = GC_malloc_uncollectable(sizeof *all);
+    if (all && !all->ready_end) all->ready_end = &all->ready;
+    return all != NULL;
+}
+
+// Room for one more. A request may collect, so the table is whole before it.
+static bool has_room(void)
+{
+    if (!is_started() || !has_room_to_ask()) return false;
+    if (count < room) return true;
+    size_t larger = room ? 2 * room : 64;
+    struct entry **made = GC_malloc(larger * sizeof *made), **old = all->chains;
+    if (!made) return room != 0;
+    size_t old_room = room;
+    all->chains = made;
+    room = larger;
+    for (size_t k = 0; k < old_room; k++)
+        while (old[k]) put(take(&old[k]));
+    return true;
+}
+
+static struct entry *make(void *object, GC_finalization_proc function, void *data, enum order order)
+{
+    struct entry *made = has_room() ? GC_malloc(sizeof *made) : NULL;
+    if (made) *made = (struct entry){ NULL, GC_HIDE_POINTER(object), NULL, data, function, order };
+    return made;
+}
+
+static void set(void *object, GC_finalization_proc function, void *data, GC_finalization_proc *old, void **old_data, enum order order)
+{
+    uintptr_t base = 0;
+    size_t words;
+    GC_init();
+    GC_alloc_lock();
+    bool is_object = mpgc_find((uintptr_t)object, &base, &words) && base == (uintptr_t)object;
+    struct entry *made = is_object && function ? make(object, function, data, order) : NULL;
+    struct entry **at = place_of(base), *was = is_object && *at && (made || !function) ? take(at) : NULL;
+    if (made) put(made);
+    count += (made != NULL) - (size_t)(was != NULL);
+    GC_alloc_unlock();
+    if (old) *old = was ? was->function : NULL;
+    if (old_data) *old_data = was ? was->data : NULL;
+    if (is_object && function && !made) (void)mpgc_out_of_memory(sizeof *made);
+}
+
+// ---- At a cycle's end ----
+
+bool mpgc_has_to_find(void) { return count > 0 || mpgc_has_toggled() || mpgc_has_disclaimed(); }
+
+static void list_unmarked(void)
+{
+    asked_count = 0;
+    for (size_t k = 0; k < room; k++)
+        for (struct entry *one = all->chains[k]; one; one = one->next)
+            if (!mpgc_is_marked(base_of(one))) asked[asked_count++] = (struct asked){ one, false };
+}
+
+static void mark_from_inside(const struct entry *one)
+{
+    uintptr_t base;
+    size_t words;
+    if (one->order == NO_ORDER || one->order == UNREACHABLE || !mpgc_find(base_of(one), &base, &words)) return;
+    mpgc_mark_from_words(base, words, one->order == NORMAL);
+}
+
+// Of those that are ready only where nothing else leads to them, or of the others: what isn't marked is ready, and marked.
+static void make_ready(bool is_last)
+{
+    for (size_t k = 0; k < asked_count; k++) {
+        const struct entry *one = asked[k].entry;
+        asked[k].is_ready |= (one->order == UNREACHABLE) == is_last && !mpgc_is_marked(base_of(one));
+    }
+    for (size_t k = 0; k < asked_count; k++)
+        if (asked[k].is_ready) mpgc_mark_from(base_of(asked[k].entry));
+    mpgc_mark_all();
+}
+
+void mpgc_find_ready(void)
+{
+    list_unmarked();
+    for (size_t k = 0; k < asked_count; k++) mark_from_inside(asked[k].entry);
+    mpgc_mark_all();
+    make_ready(false);
+    make_ready(true);
+    mpgc_find_disclaimed();
+}
+
+static void add_ready(struct entry *one)
+{
+    GC_await_finalize_proc tell = GC_get_await_finalize_proc();
+    one->object = (void *)base_of(one);
+    one->next = NULL;
+    *all->ready_end = one;
+    all->ready_end = &one->next;
+    ready_count++;
+    count--;
+    if (tell) tell(one->object);
+}
+
+// The cycle has ended, and nothing was allocated since.
+void mpgc_take_ready(void)
+{
+    for (size_t k = 0; k < asked_count; k++)
+        if (asked[k].is_ready) add_ready(take(place_of(base_of(asked[k].entry))));
+    asked_count = 0;
+    mpgc_drop_toggled();
+}
+
+// An object of the program's is freed.
+void mpgc_forget_finalizer(uintptr_t base)
+{
+    mpgc_forget_disclaimed(base);
+    struct entry **at = count == 0 ? NULL : place_of(base);
+    if (!at || !*at) return;
+    (void)take(at);
+    count--;
+}
+
+// ---- Calling them ----
+
+static struct entry *take_ready(void)
+{
+    if (ready_count == 0) return NULL;
+    struct entry *one = take(&all->ready);
+    if (!all->ready) all->ready_end = &all->ready;
+    ready_count--;
+    return one;
+}
+
+int GC_should_invoke_finalizers(void) { return ready_count > 0; }
+
+int GC_invoke_finalizers(void)
+{
+    for (int invoked = 0;; invoked++) {
+        GC_alloc_lock();
+        struct entry *volatile one = take_ready();
+        GC_alloc_unlock();
+        if (!one) return invoked;
+        one->function(one->object, one->data);
+    }
+}
+
+// Where this thread's finalizers are called, if it is there that it calls them.
+static _Thread_local char *calling_at;
+static _Thread_local GC_word told_at;
+
+// After a request or a collection. A finalizer that makes requests doesn't call others; one that was jumped out of isn't running.
+void mpgc_tell_ready(void)
+{
+    char here, *outer = calling_at;
+    if (ready_count == 0 || mpgc_has_lock() || (outer && &here < outer)) return;
+    if (!GC_finalize_on_demand) {
+        calling_at = &here;
+        (void)GC_invoke_finalizers();
+        calling_at = NULL;
+    } else if (GC_finalizer_notifier && told_at != GC_gc_no) {
+        told_at = GC_gc_no;
+        GC_finalizer_notifier();
+    }
+}
+
+void GC_finalize_all(void)
+{
+    GC_init();
+    do {
+        GC_alloc_lock();
+        for (size_t k = 0; k < room; k++)
+            while (all->chains[k]) add_ready(take(&all->chains[k]));
+        GC_alloc_unlock();
+    } while (GC_invoke_finalizers() > 0);
+}
+
+void GC_dump_finalization(void)
+{
+    printf("%zu finalizers, %zu of them ready; %zu disappearing links\n", count + ready_count, ready_count, mpgc_count_links());
+}
+
+#define FINALIZER(name, order) \
+    void name(void *object, GC_finalization_proc function, void *data, GC_finalization_proc *old, void **old_data) \
+    { \
+        set(object, function, data, old, old_data, order); \
+    }
+FINALIZER(GC_register_finalizer, NORMAL)
+FINALIZER(GC_register_finalizer_ignore_self, IGNORE_SELF)
+FINALIZER(GC_register_finalizer_no_order, NO_ORDER)
+FINALIZER(GC_register_finalizer_unreachable, UNREACHABLE)
+FINALIZER(GC_debug_register_finalizer, NORMAL)
+FINALIZER(GC_debug_register_finalizer_ignore_self, IGNORE_SELF)
+FINALIZER(GC_debug_register_finalizer_no_order, NO_ORDER)
+FINALIZER(GC_debug_register_finalizer_unreachable, UNREACHABLE)

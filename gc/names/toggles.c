@@ -1,0 +1,60 @@
+// Toggle references: before a collection a function of the program says of each of these objects whether it is to stay, may go, or isn't
+// to be asked for any more. Those that stay are marked at the cycle's end.
+#include "awaited.h"
+#include <stdlib.h>
+
+static struct toggled { GC_hidden_pointer hidden; bool is_strong; } *all;
+static size_t count, room;
+static GC_toggleref_func ask;
+
+bool mpgc_has_toggled(void) { return count > 0; }
+
+// A collection begins, and other threads still run.
+void mpgc_ask_toggled(void)
+{
+    size_t left = 0;
+    for (size_t k = 0; ask && k < count; k++) {
+        GC_ToggleRefStatus said = ask(GC_REVEAL_POINTER(all[k].hidden));
+        if (said != GC_TOGGLE_REF_DROP) all[left++] = (struct toggled){ all[k].hidden, said == GC_TOGGLE_REF_STRONG };
+    }
+    if (ask) count = left;
+}
+
+void mpgc_mark_toggled(void)
+{
+    for (size_t k = 0; k < count; k++)
+        if (all[k].is_strong) mpgc_mark_from(~all[k].hidden);
+}
+
+// A cycle has ended: what has gone isn't asked for again.
+void mpgc_drop_toggled(void)
+{
+    size_t left = 0, words;
+    uintptr_t base;
+    for (size_t k = 0; k < count; k++)
+        if (mpgc_find(~all[k].hidden, &base, &words)) all[left++] = all[k];
+    count = left;
+}
+
+static int add(const void *object, bool is_strong)
+{
+    if (count == room) {
+        struct toggled *larger = realloc(all, (2 * room + 16) * sizeof *all);
+        if (!larger) return GC_NO_MEMORY;
+        all = larger;
+        room = 2 * room + 16;
+    }
+    all[count++] = (struct toggled){ GC_HIDE_POINTER(object), is_strong };
+    return GC_SUCCESS;
+}
+
+int GC_toggleref_add(void *object, int is_strong)
+{
+    GC_alloc_lock();
+    int answer = ask ? add(object, is_strong != 0) : GC_SUCCESS;
+    GC_alloc_unlock();
+    return answer;
+}
+
+void GC_set_toggleref_func(GC_toggleref_func function) { ask = function; }
+GC_toggleref_func GC_get_toggleref_func(void) { return ask; }

@@ -1,0 +1,373 @@
+// The threads that are known: how they come and go, and what they have. Trusted, not proved.
+//
+// What it owes the core: as roots.c, each word by which the program may still reach an object is a root at a collection's end.
+//
+//   - A thread is known from before it is made until its last destructor of keys has run: so its argument is kept meanwhile by the record,
+//     and what it has by its stack and registers.
+//   - What it answered is kept until it is joined or detached.
+//   - A thread that others made (by the kernel's own call, say) is known from its first request on.
+//
+// They are as many as the program makes: the core's mutators aren't its threads. All requests go by one mutator of the layer's, under the
+// lock, and the others hold the roots of all threads while a collection reads them (roots.c).
+#include "layer.h"
+#include "kernel/next.h"
+#include <errno.h>
+#include <stdlib.h>
+#include <sys/mman.h>
+
+SHOWN int GC_pthread_create(pthread_t *thread, const pthread_attr_t *attributes, void *(*start)(void *), void *data);
+SHOWN _Noreturn void GC_pthread_exit(void *answer);
+
+_Thread_local struct thread *mpgc_self;
+
+static pthread_key_t key;
+enum { LAST_ROUND = 3 };  // of destructors of keys, of which the C library makes 4
+
+// ---- Records ----
+
+static void link_record(struct thread *record)
+{
+    record->next = mpgc.threads;
+    mpgc.threads = record;
+}
+
+static void unlink_record(struct thread *record)
+{
+    struct thread **at = &mpgc.threads;
+    mpgc_drop_pins(record);
+    while (*at && *at != record) at = &(*at)->next;
+    if (*at) *at = record->next;
+    if (record != &mpgc.first) free(record);
+}
+
+static struct thread *new_record(void)
+{
+    struct thread *record = calloc(1, sizeof *record);
+    if (!record) mpgc_stop("no memory for a thread's record");
+    return record;
+}
+
+struct thread *mpgc_record_of(pthread_t id)
+{
+    struct thread *one = mpgc.threads;
+    while (one && !pthread_equal(one->id, id)) one = one->next;
+    return one;
+}
+
+// ---- Coming ----
+
+// This thread is the record's. Its stack is asked for before the lock is taken, since the C library may take locks for it.
+static void find_this(struct thread *self, const struct GC_stack_base *base)
+{
+    mpgc_find_stack(&self->low, &self->bottom);
+    if (base) self->bottom = base->mem_base;
+    mpgc_set_keys(self);
+    self->id = pthread_self();
+    self->number = mpgc_my_number();
+}
+
+static void on_goodbye(void *record);
+
+void mpgc_know_first(void)
+{
+    find_this(&mpgc.first, NULL);
+    if (!GC_stackbottom) GC_stackbottom = (char *)(uintptr_t)mpgc.first.bottom;
+    mpgc.first.state = RUNNING;
+    link_record(&mpgc.first);
+    mpgc_self = &mpgc.first;
+    if (pthread_key_create(&key, on_goodbye) != 0) mpgc_stop("the C library has no key left");
+    (void)mpgc_set_own_key(key, &mpgc.first);
+}
+
+// The record's thread runs: what it was given is on its stack from now on. The destructor comes once it is known.
+static void *run_as(struct thread *self)
+{
+    mpgc_make_stoppable();
+    mpgc_lock();
+    void *data = self->data;
+    self->data = NULL;
+    self->state = RUNNING;
+    mpgc_self = self;
+    mpgc_unlock();
+    (void)mpgc_set_own_key(key, self);
+    return data;
+}
+
+// There will be a second thread: so the first one, which makes it, has to be stoppable too.
+static void be_threaded(void)
+{
+    if (mpgc.is_threaded) return;
+    mpgc_become_threaded();
+    mpgc_make_stoppable();
+}
+
+// A thread that nobody told of.
+void mpgc_know_this(const struct GC_stack_base *base)
+{
+    struct thread *self = new_record();
+    if (!mpgc.is_threaded) mpgc_stop("a thread that nobody told of calls in: call GC_allow_register_threads first");
+    find_this(self, base);
+    mpgc_lock();
+    link_record(self);
+    self->is_detached = true;
+    mpgc_unlock();
+    (void)run_as(self);
+}
+
+static void *begin(void *record)
+{
+    struct thread *self = record;
+    find_this(self, NULL);
+    void *data = run_as(self);
+    return self->data = self->start(data);
+}
+
+int GC_pthread_create(pthread_t *thread, const pthread_attr_t *attributes, void *(*start)(void *), void *data)
+{
+    NEXT(int, pthread_create, (pthread_t *, const pthread_attr_t *, void *(*)(void *), void *));
+    int is_detached = PTHREAD_CREATE_JOINABLE;
+    mpgc_enter();
+    be_threaded();
+    struct thread *record = new_record();
+    record->start = start;
+    record->data = data;
+    if (attributes) pthread_attr_getdetachstate(attributes, &is_detached);
+    record->is_detached = is_detached == PTHREAD_CREATE_DETACHED;
+    mpgc_lock();  // so that the new thread isn't known by a number before that is here
+    link_record(record);
+    int answer = next(&record->id, attributes, begin, record);
+    *thread = record->id;
+    if (answer != 0) unlink_record(record);
+    mpgc_unlock();
+    return answer;
+}
+
+// ---- Going ----
+
+static void unlink_if_over(struct thread *record)
+{
+    if (record->state == ENDED && record->is_detached && record->holders == 0) unlink_record(record);
+}
+
+static void forget(struct thread *self)
+{
+    mpgc_lock();
+    self->state = ENDED;
+    mpgc_self = NULL;
+    mpgc_drop_pins(self);
+    unlink_if_over(self);
+    mpgc_unlock();
+}
+
+static void become(enum thread_state state)
+{
+    mpgc_lock();
+    while (state == RUNNING && mpgc_self->is_suspended) {
+        mpgc_unlock();
+        mpgc_wait_suspended();
+        mpgc_lock();
+    }
+    mpgc_self->state = (int)state;
+    mpgc_unlock();
+}
+
+// Other destructors may still use objects: so this one comes again until the last round.
+static void on_goodbye(void *record)
+{
+    struct thread *self = record;
+    if (self != mpgc_self) return;
+    become(RUNNING);  // it may have ended in a function that GC_do_blocking called
+    if (++self->goodbyes < LAST_ROUND) {
+        (void)mpgc_set_own_key(key, self);
+        return;
+    }
+    forget(self);
+    mpgc_drop_keys();
+}
+
+void GC_pthread_exit(void *answer)
+{
+    NEXT(void, pthread_exit, (void *));
+    if (mpgc_self) mpgc_self->data = answer;
+    next(answer);
+    abort();
+}
+
+// The record stays until it is let go, though its thread may end, and may have told of itself.
+static struct thread *hold(pthread_t id)
+{
+    mpgc_lock();
+    struct thread *record = mpgc_record_of(id);
+    if (record) record->holders++;
+    mpgc_unlock();
+    return record;
+}
+
+// What the thread answered is the caller's from now on, or nobody's, if this was done; and else it stays as it was.
+static int let_go(struct thread *record, int status)
+{
+    if (!record) return status;
+    mpgc_lock();
+    record->holders--;
+    if (status == 0) record->is_detached = true;
+    unlink_if_over(record);
+    mpgc_unlock();
+    return status;
+}
+
+static void give_up(void *record) { (void)let_go(record, ECANCELED); }
+
+// The C library's function of this name, which waits for a thread: this one may be cancelled meanwhile.
+#define ENDS(shown, name, words, values) \
+    SHOWN int shown words; \
+    int shown words \
+    { \
+        NEXT(int, name, words); \
+        struct thread *record = hold(thread); \
+        int status; \
+        pthread_cleanup_push(give_up, record); \
+        status = next values; \
+        pthread_cleanup_pop(0); \
+        return let_go(record, status); \
+    }
+ENDS(GC_pthread_join, pthread_join, (pthread_t thread, void **answer), (thread, answer))
+ENDS(GC_pthread_detach, pthread_detach, (pthread_t thread), (thread))
+ENDS(pthread_tryjoin_np, pthread_tryjoin_np, (pthread_t thread, void **answer), (thread, answer))
+ENDS(pthread_timedjoin_np, pthread_timedjoin_np, (pthread_t thread, void **answer, const struct timespec *until), (thread, answer, until))
+ENDS(pthread_clockjoin_np, pthread_clockjoin_np, (pthread_t thread, void **answer, clockid_t clock, const struct timespec *until),
+     (thread, answer, clock, until))
+
+// ---- What a program says of its threads ----
+
+void GC_allow_register_threads(void)
+{
+    mpgc_enter();
+    be_threaded();
+}
+
+int GC_register_my_thread(const struct GC_stack_base *base)
+{
+    if (mpgc_self) return GC_DUPLICATE;
+    if (!GC_is_init_called()) mpgc_stop("GC_register_my_thread before GC_init");
+    mpgc_know_this(base);
+    return GC_SUCCESS;
+}
+
+int GC_unregister_my_thread(void)
+{
+    struct thread *self = mpgc_self;
+    if (!self) return GC_SUCCESS;
+    (void)mpgc_set_own_key(key, NULL);
+    self->is_detached = true;
+    forget(self);
+    return GC_SUCCESS;
+}
+
+// The first thread's is in a variable that the program may read, and write.
+static char *bottom_of(const struct thread *thread)
+{
+    return thread == &mpgc.first ? GC_stackbottom : (char *)(uintptr_t)thread->bottom;
+}
+
+void *mpgc_this_thread(void) { return mpgc_self; }
+
+char *mpgc_stack_bottom(void)
+{
+    mpgc_enter();
+    return bottom_of(mpgc_self);
+}
+
+// The thread is this one, or one that is stopped.
+void GC_set_stackbottom(void *thread, const struct GC_stack_base *base)
+{
+    struct thread *which = thread ? thread : mpgc_self;
+    if (!which || which == &mpgc.first) GC_stackbottom = base->mem_base;
+    if (which) which->bottom = base->mem_base;
+    if (which) which->low = NULL;
+}
+
+struct call { GC_fn_type function; void *data, *answer; };
+
+// All that the thread has lies above what mpgc_from_here has saved, and isn't changed before the lock was taken.
+static bool call_blocked(void *data)
+{
+    struct call *call = data;
+    enum thread_state was = (enum thread_state)mpgc_self->state;
+    become(BLOCKED);
+    call->answer = call->function(call->data);
+    become(was);
+    return true;
+}
+
+void *GC_do_blocking(GC_fn_type function, void *data)
+{
+    struct call call = { function, data, NULL };
+    mpgc_enter();
+    (void)mpgc_with_registers(call_blocked, &call);
+    return call.answer;
+}
+
+void *GC_call_with_gc_active(GC_fn_type function, void *data)
+{
+    if (!mpgc_self || mpgc_self->state != BLOCKED) return function(data);
+    become(RUNNING);
+    void *answer = function(data);
+    become(BLOCKED);
+    return answer;
+}
+
+// ---- What they have ----
+
+// The lowest place of a stack that is mapped: where the thread was on it isn't known. No page is touched.
+static const char *lowest(const char *low, const char *bottom)
+{
+    char *at = (char *)((uintptr_t)bottom & ~(PAGE - 1));
+    unsigned char answer;
+    while (at > low && mincore(at - PAGE, PAGE, &answer) == 0) at -= PAGE;
+    return at;
+}
+
+static void scan_stack(const struct thread *one, void (*scan)(const char *from, const char *to))
+{
+    const char *top = one->top, *bottom = bottom_of(one);
+    if (one->alt_top) {
+        scan(top, one->alt_top);
+        top = one->under ? one->under : lowest(one->low, bottom);
+    }
+    bool is_own = bottom == one->bottom && one->low;
+    if (top >= bottom || (is_own && top < one->low))
+        mpgc_stop("a collection on another stack than the thread's own: see GC_set_stackbottom");
+    scan(top, bottom);
+}
+
+void mpgc_scan_threads(void (*scan)(const char *from, const char *to), void (*push)(uint64_t word))
+{
+    for (const struct thread *one = mpgc.threads; one; one = one->next) {
+        push((uintptr_t)one->data);
+        if (one->state == STARTING || one->state == ENDED) continue;
+        mpgc_push_runs(one, push);
+        scan_stack(one, scan);
+        mpgc_scan_keys(one, scan);
+    }
+}
+
+// ---- fork ----
+
+static void before_fork(void) { mpgc_lock(); }
+static void in_parent(void) { mpgc_unlock(); }
+
+// The others aren't there.
+static void in_child(void)
+{
+    struct thread *one = mpgc.threads;
+    mpgc_lock_in_child();
+    if (mpgc_self) mpgc_self->number = mpgc_my_number();
+    while (one) {
+        struct thread *next = one->next;
+        if (one != mpgc_self) unlink_record(one);
+        one = next;
+    }
+    mpgc_unlock();
+}
+
+__attribute__((constructor)) static void take_forks(void) { pthread_atfork(before_fork, in_parent, in_child); }

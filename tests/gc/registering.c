@@ -1,0 +1,170 @@
+/* What a program says of its threads, against bdwgc's documented meaning, and over bdwgc (OTHER) too. */
+#define _GNU_SOURCE
+#define GC_THREADS
+#define GC_NO_THREAD_REDIRECTS
+#include <dlfcn.h>
+#include <pthread.h>
+#include <semaphore.h>
+#include <stdint.h>
+#include "gc.h"
+#include "check.h"
+
+struct node { struct node *next; uint64_t value; };
+static sem_t at_rest, may_go;
+static int (*others_create)(pthread_t *, const pthread_attr_t *, void *(*)(void *), void *);
+
+static struct node *list_of(uint64_t seed, int length)
+{
+    struct node *head = NULL;
+    for (int k = 0; k < length; k++) {
+        struct node *node = GC_malloc(sizeof *node);
+        node->value = seed + (uint64_t)k;
+        node->next = head;
+        head = node;
+    }
+    return head;
+}
+static int is_list(const struct node *node, uint64_t seed, int length)
+{
+    for (; node; node = node->next)
+        if (node->value != seed + (uint64_t)--length) return 0;
+    return length == 0;
+}
+static void collect(void)
+{
+    for (int k = 0; k < 3; k++) {
+        GC_gcollect();
+        for (int j = 0; j < 3000; j++) list_of(1, 1);
+    }
+}
+
+/* A thread that the library wasn't told of. */
+static void *unknown(void *data)
+{
+    struct GC_stack_base base;
+    CHECK(!GC_thread_is_registered());
+    CHECK(GC_get_stack_base(&base) == GC_SUCCESS);
+    CHECK((char *)base.mem_base > (char *)&base);
+    CHECK(GC_register_my_thread(&base) == GC_SUCCESS);
+    CHECK(GC_thread_is_registered());
+    CHECK(GC_register_my_thread(&base) == GC_DUPLICATE);
+    struct node *list = list_of(5, 1000);
+    sem_post(&at_rest);
+    sem_wait(&may_go);
+    CHECK(is_list(list, 5, 1000));
+    CHECK(GC_unregister_my_thread() == GC_SUCCESS);
+    CHECK(!GC_thread_is_registered());
+    return data;
+}
+static void registering(void)
+{
+    pthread_t thread;
+    CHECK(GC_thread_is_registered());
+    others_create(&thread, NULL, unknown, NULL);
+    sem_wait(&at_rest);
+    collect();
+    sem_post(&may_go);
+    pthread_join(thread, NULL);
+    collect();
+}
+
+/* Blocked, and active in between. */
+static void *active(void *data)
+{
+    struct node *list = list_of(8, 500);
+    sem_post(&at_rest);
+    sem_wait(&may_go);
+    CHECK(is_list(list, 8, 500));
+    return data;
+}
+static void *blocking(void *data)
+{
+    sem_post(&at_rest);
+    sem_wait(&may_go);
+    CHECK(GC_call_with_gc_active(active, data) == data);
+    sem_post(&at_rest);
+    sem_wait(&may_go);
+    return data;
+}
+static void *blocks(void *data)
+{
+    struct node *list = list_of(3, 1000);
+    CHECK(GC_do_blocking(blocking, data) == data);
+    CHECK(is_list(list, 3, 1000));
+    return data;
+}
+static void do_blocking(void)
+{
+    pthread_t thread;
+    GC_pthread_create(&thread, NULL, blocks, &thread);
+    for (int k = 0; k < 3; k++) {
+        sem_wait(&at_rest);
+        collect();
+        sem_post(&may_go);
+    }
+    GC_pthread_join(thread, NULL);
+}
+
+/* With the lock, and the stack's base. */
+static int is_locked;
+static void *locked(void *data)
+{
+    is_locked++;
+    return data;
+}
+static void *with_base(struct GC_stack_base *base, void *data)
+{
+    CHECK((char *)base->mem_base > (char *)&data);
+    return data;
+}
+static void calls(void)
+{
+    CHECK(GC_call_with_alloc_lock(locked, &is_locked) == &is_locked && is_locked == 1);
+    CHECK(GC_call_with_stack_base(with_base, &is_locked) == &is_locked);
+}
+
+/* Finalizers while several threads collect. */
+static _Atomic int finalized, wrong;
+static void check_list(void *object, void *data)
+{
+    wrong += !is_list(((struct node *)object)->next, (uintptr_t)data, 20);
+    finalized++;
+}
+static void *make_finalizable(void *data)
+{
+    for (int k = 0; k < 3000; k++) {
+        struct node *node = GC_malloc(sizeof *node);
+        node->next = list_of((uintptr_t)data, 20);
+        GC_register_finalizer(node, check_list, data, NULL, NULL);
+    }
+    return NULL;
+}
+static void finalizers(void)
+{
+    pthread_t all[4];
+    for (uintptr_t k = 0; k < 4; k++) GC_pthread_create(&all[k], NULL, make_finalizable, (void *)(k * 1000));
+    for (int k = 0; k < 4; k++) GC_pthread_join(all[k], NULL);
+    for (int k = 0; k < 3; k++) {
+        GC_gcollect();
+        GC_invoke_finalizers();
+    }
+    CHECK(wrong == 0);
+    CHECK(finalized >= 11900);
+    if (finalized < 11900) printf("  %d finalized\n", finalized);
+}
+
+int main(void)
+{
+    void *found = dlsym(dlopen("libc.so.6", RTLD_NOW), "pthread_create");
+    memcpy(&others_create, &found, sizeof others_create);
+    sem_init(&at_rest, 0, 0);
+    sem_init(&may_go, 0, 0);
+    GC_INIT();
+    if (getenv("INCREMENTAL")) GC_enable_incremental();
+    GC_allow_register_threads();
+    registering();
+    do_blocking();
+    calls();
+    finalizers();
+    return check_ends();
+}
