@@ -1,8 +1,9 @@
 # shellcheck shell=bash disable=SC2034,SC2154 # (whoever reads this has `kind`, and uses what is here)
 # Cases of the programs: files on which a program is run, and how it has to end. Read by tests/rows.sh and tests/programs.sh, whose
-# name for themselves is `kind`. The proved programs run that `rt ci` or `./mpheap build` left; where they aren't there, unproved
-# builds are made for the cases, of which only what they print and their statuses are compared.
+# name for themselves is `kind`. Which builds run is said in tests/builds.sh.
 top=$(dirname "$(dirname "$(readlink -f "${BASH_SOURCE[0]}")")")
+# shellcheck source=tests/builds.sh
+. "$top/tests/builds.sh"
 room=$(mktemp -d)
 trap 'rm -rf "$room"' EXIT
 trap 'exit 143' INT TERM HUP
@@ -33,29 +34,21 @@ case_is() {
     printf '%s|%s|%s\n' "$1" "$2" "$3" >>"$cases.wanted"
 }
 
-run_proved() {
-    local name status said words
+run_all_cases() {
+    local name status said words build
+    build=$(build_of "$program")
     while IFS='|' read -r name status said; do
         mapfile -t words <"$cases/$name.args"
-        "$top/crates/$program/out/$program" "${words[@]/#\{\}/"$cases/$name"}" >"$room/out" 2>"$room/err" </dev/null
+        "$build" "${words[@]/#\{\}/"$cases/$name"}" >"$room/out" 2>"$room/err" </dev/null
         is "$name: status, what is said" "$status $said" "$? $(cat "$room/err")"
         is "$name: what is printed" "" "$(cmp "$cases/$name.stdout" "$room/out" 2>&1)"
-    done <"$cases.wanted"
-}
-
-run_unproved() {
-    local name status said
-    echo "$kind: no proved $program here: an unproved build, of which only what it prints and its status are compared"
-    (cd "$top/crates/$program" && rt try --seconds 600 --cases "$cases") >"$room/out" 2>&1
-    while IFS='|' read -r name status said; do
-        is "$name" 1 "$(grep -c "^case=$name run=ended status=$status .* output=expected" "$room/out")"
     done <"$cases.wanted"
 }
 
 # run_cases LEAST: the cases of the program, of which there are so many at least.
 run_cases() {
     is "cases of $program" yes "$([ "$(wc -l <"$cases.wanted")" -ge "$1" ] && echo yes)"
-    if [ -x "$top/crates/$program/out/$program" ]; then run_proved; else run_unproved; fi
+    if is_built "$program"; then run_all_cases; fi
 }
 
 # close_cases: how many passed and failed. Its status is 0 if none failed.

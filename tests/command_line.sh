@@ -1,11 +1,11 @@
 #!/usr/bin/env bash
 # Tests of the program `mpheap` as it is called: which words it takes, which file or input it reads, what it prints and says, and with
-# which status it ends (docs/SCRIPTS.md). It takes the proved program that `rt ci` or `./mpheap build` left, and some seconds.
+# which status it ends (docs/SCRIPTS.md). Over a proved build (tests/builds.sh) it takes some seconds.
 set -uo pipefail
 kind="command line"
 # shellcheck source=tests/cases.sh
 . "$(dirname "$(readlink -f "${BASH_SOURCE[0]}")")/cases.sh"
-program=$top/crates/mpheap/out/mpheap
+program=$(build_of mpheap)
 cd "$room" || exit 1
 
 lines() { printf '%s\n' "$@"; }
@@ -90,13 +90,11 @@ random_scripts_are_written() {
     is "all steps" "0 100001" "$? $(wc -l <out)"
 }
 
-if [ -x "$program" ]; then
+if is_built mpheap; then
     scripts_are_answered
     faults_of_writing_are_told
     workloads_run_on_threads
     other_words_are_no_command
     random_scripts_are_written
-else
-    is "the proved program" there "not there: 'rt ci' or './mpheap build' makes it"
 fi
 close_cases

@@ -3,9 +3,7 @@
 # same script, from which tests/draw/run.py works out what is true, and its replies with those beside the script. The trace of that run,
 # by `draw --run`, is compared with both, and those of the written runs of tests/rows with what `replay` says of them. Of the examples
 # and of random scripts it is looked at which words each `gc mark` is said to have read (tests/draw/looked.py).
-#     tests/draw.sh [--built]
-# --built takes the programs that `rt ci` left, which takes seconds; else unproved builds are made, in one to two minutes. It
-# needs rt and Python 3, and leaves nothing behind.
+# Which builds run is said in tests/builds.sh. Over proved ones it takes seconds. It needs Python 3, and leaves nothing behind.
 set -uo pipefail
 top=$(dirname "$(dirname "$(readlink -f "${BASH_SOURCE[0]}")")")
 room=$(mktemp -d)
@@ -13,7 +11,6 @@ trap 'rm -rf "$room"' EXIT
 trap 'exit 143' INT TERM HUP
 passed=0
 failed=0
-built=${1-}
 
 # agrees WHAT COMMAND..: the command ends with 0, and otherwise what it said last is shown.
 agrees() {
@@ -42,7 +39,7 @@ case_is() {
 
 # run_cases PROGRAM CASES FOLDER: what the program prints of the cases is in the folder.
 run_cases() {
-    agrees "$1 runs over $2" "$top/tests/draw/runs.sh" "$1" "$room/$2" "$room/$3" ${built:+"$built"}
+    agrees "$1 runs over $2" "$top/tests/draw/runs.sh" "$1" "$room/$2" "$room/$3"
 }
 
 scripts_are_drawn() {
@@ -104,6 +101,6 @@ for script in "$top"/examples/*.script; do
 done
 agrees "the words that steps of marking read" python3 "$top/tests/draw/looked.py" check "$room/draw" "$room/told"
 agrees "the traces of runs" python3 "$top/tests/draw/judged.py" "$room/runs" "$room/replied" "$room/traces"
-[ -z "$built" ] || agrees "what is said of runs" is_said
+agrees "what is said of runs" is_said
 echo "draw: $passed passed, $failed failed"
 [ "$failed" = 0 ] && [ "$passed" -gt 2 ]

@@ -10,7 +10,7 @@
 # - four mutators beside a hundred cycles, ended by one helper and by four, over enough words for these to start once mutator 0 has
 #   made its objects: each load answers what was stored;
 # - 50 scripts of 3,004 lines, and 1,000 orders of calls round one object (tests/random/orders.py), are legal as they are recorded.
-# It takes the proved programs that `rt ci` or `./mpheap build` left, in some seconds, or else unproved builds; and Python 3.
+# Over proved builds (tests/builds.sh) it takes some seconds. It needs Python 3.
 set -uo pipefail
 kind=random
 # shellcheck source=tests/cases.sh

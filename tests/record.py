@@ -1,13 +1,17 @@
 #!/usr/bin/env python3
 """Histories that threads made: the workloads of tests/rows and random ones are run by `threads --record`, each run is replayed, and it has
 to be legal, to have as many lines as the history must have, and to hold each actor's lines in their order with the replies that were
-printed. What is printed has to be what stands in the rows, or laid out as without `--record`. It takes the proved programs that `rt ci`
-or `./mpheap build` left."""
+printed. What is printed has to be what stands in the rows, or laid out as without `--record`. Which builds run is said in
+tests/builds.sh."""
 import os
 import re
 import subprocess
 import sys
 import tempfile
+
+sys.dont_write_bytecode = True
+sys.path.insert(0, os.path.join(os.path.dirname(os.path.abspath(__file__)), "random"))
+from programs import build_of
 
 TOP = os.path.dirname(os.path.dirname(os.path.abspath(__file__)))
 
@@ -27,7 +31,7 @@ def judge(what, is_right, seen=""):
 
 
 def run(program, *words, status=0):
-    done = subprocess.run([os.path.join(TOP, "crates", program, "out", program), *words], stdin=subprocess.DEVNULL,
+    done = subprocess.run([build_of(program), *words], stdin=subprocess.DEVNULL,
                           capture_output=True, text=True, check=False, timeout=120)
     judge(f"{program} {' '.join(words)}", done.returncode == status, f"status {done.returncode}, {done.stderr}")
     return done

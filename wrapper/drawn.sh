@@ -1,5 +1,5 @@
 # shellcheck shell=sh disable=SC2154 # (mpheap has the other names)
-# Part of the wrapper mpheap, read by it: the page of `draw`, which is its trace joined with the page in viewer/.
+# Part of the wrapper mpheap, read by it: how a build is run, and the page of `draw`, which is its trace joined with the page in viewer/.
 
 # titled TRACE: the trace, which the program calls a script or a run, by the name of FILE, of which no character needs JSON's
 # escapes.
@@ -17,11 +17,17 @@ give() {
     fi
 }
 
-# draw_proved WORDS..: the page of a run by the proved build, with the status of that.
-draw_proved() {
-    make_room
-    "$(built draw)" "$@" >"$room/trace" <&0 &
-    wait_for_child
+# run_build BUILD WORDS..: runs it with these words, and ends with its status. The shell gives a command in the background no input but
+# by a descriptor of its own.
+run_build() {
+    if [ "$program" != draw ]; then
+        leave
+        exec "$@"
+    fi
+    [ -n "$room" ] || make_room
+    exec 3<&0
+    "$@" >"$room/trace" <&3 3<&- &
+    wait_for_child $!
     status=$?
     give "$room/trace" || no_answer "the page can't be written to standard output"
     exit "$status"

@@ -108,7 +108,7 @@ look_at_number() {
             is_multiple "$2" "$(step_of "$1")" || bad_words "'$2' is no number for '--$1': it is no multiple of $(step_of "$1")"
             ;;
     esac
-    case $1 in pages | bytes | places | from) eval "said_$1=\$2" ;; esac
+    case $1 in pages | bytes | places | from | steps) eval "said_$1=\$2" ;; esac
     option=
 }
 
@@ -170,7 +170,7 @@ look_at_range() {
 
 # Looks at all words of a command line. What is left in file_at is the place of FILE among them, 0 if there is none.
 look_at_words() {
-    command=$1 file_at=0 file='' at=0 option='' given='' are_options=yes said_pages='' said_bytes='' said_places='' said_from=''
+    command=$1 file_at=0 file='' at=0 option='' given='' are_options=yes said_pages='' said_bytes='' said_places='' said_from='' said_steps=''
     is_in "$command" "run threads stress replay record draw" || bad_words "'$1' is no command"
     if [ "$command" = replay ]; then
         look_at_replay "$@"

@@ -1,0 +1,119 @@
+#!/usr/bin/env bash
+# Tests of `./mpheap package`: the archive, unpacked in a folder, and the .deb, in a root of its own that has nothing but it, the C library and
+# the tools that its command calls: there programs run, C is linked, and LD_PRELOAD works. It needs rt, cc and dpkg-deb, and for the root
+# to be root; what isn't there is left out, and said. Where `rt ci` passed before on this machine, it takes some minutes.
+set -uo pipefail
+top=$(dirname "$(dirname "$(readlink -f "${BASH_SOURCE[0]}")")")
+room=$(mktemp -d)
+trap 'rm -rf "$room"' EXIT
+trap 'exit 143' INT TERM HUP
+passed=0
+failed=0
+
+# is WHAT WANTED SEEN
+is() {
+    if [ "$2" = "$3" ]; then
+        passed=$((passed + 1))
+    else
+        failed=$((failed + 1))
+        printf 'package: %s\n  wanted: %s\n  seen:   %s\n' "$1" "$2" "$3"
+    fi
+}
+
+# works WHAT COMMAND..: the command ends with 0.
+works() {
+    local status=0
+    "${@:2}" >"$room/said" 2>&1 || status=$?
+    is "$1" "status 0" "status $status$([ $status = 0 ] || tail -n 5 "$room/said")"
+}
+
+close() {
+    echo "package: $passed passed, $failed failed"
+    [ "$failed" = 0 ]
+    exit
+}
+
+# runs WHAT FOLDER NAME COMMAND..: the packed command, so called, answers as the tree says. It sees the folder under that name.
+runs() {
+    local what=$1 folder=$2 name=$3
+    shift 3
+    cp "$top/examples/ring.script" "$folder/ring.script"
+    is "$what: a script" "$(cat "$top/examples/ring.replies")" "$("$@" run --pages 4 <"$folder/ring.script" 2>"$room/err")"
+    is "$what: which build" "mpheap: the proved build" "$(cat "$room/err")"
+    "$@" record --pages 4 "$name/ring.script" 2>"$room/err" >"$folder/run"
+    is "$what: a run" "legal, 8 lines" "$("$@" replay --pages 4 "$name/run" 2>"$room/err")"
+    "$@" draw --pages 4 "$name/ring.script" 2>"$room/err" >"$folder/page"
+    is "$what: a page" "<!doctype html>" "$(head -n 1 "$folder/page" | tr '[:upper:]' '[:lower:]')"
+    "$@" build >"$room/said" 2>&1
+    is "$what: no build" "3 mpheap: 'build' needs the sources, and this is a package" "$? $(cat "$room/said")"
+}
+
+# SOURCES has the sums of what is packed and of what it was made from.
+sources_are_told() {
+    local papers=$1/share/doc/mpheap
+    is "the rules of proof" "$(rt version)" "$(sed -n 's/^  mpheap: //p' "$papers/SOURCES")"
+    is "wrong bodies" "$(find "$top"/crates/{words,block_map,draw}/must-fail -name '*.edit' -printf '%f\n' | sort)" \
+        "$(sed -nE 's,^  crates/(words|block_map|draw)/must-fail/,,p' "$papers/SOURCES" | sort)"
+    (cd "$1" && sed -n 's/^  \([0-9a-f]\{64\}  \.\/\)/\1/p' "$papers/SOURCES" | sha256sum --quiet -c) >"$room/said" 2>&1
+    is "the sums of what is packed" "0 " "$? $(cat "$room/said")"
+    (cd "$top" && sed -n 's/^  \([0-9a-f]\{64\}  [a-zH].*\)/\1/p' "$papers/SOURCES" | tee "$room/sums" | sha256sum --quiet -c) >"$room/said" 2>&1
+    is "the sums of the sources" "0 " "$? $(cat "$room/said")"
+    is "enough of them" yes "$([ "$(wc -l <"$room/sums")" -gt 500 ] && echo yes)"
+}
+
+# A program linked with a libgc whose requests abort: under libmpgc none comes there.
+build_programs() {
+    local c=(cc -std=c99 -O2 -Wall -Wextra -Werror -pedantic)
+    works "a libgc that aborts" "${c[@]}" -shared -fPIC -Wl,-soname,libgc.so.1 "$top/tests/package/abort.c" -o "$room/libgc.so.1"
+    works "a program for libgc" "${c[@]}" "$top/tests/package/program.c" "$room/libgc.so.1" -o "$room/program"
+    works "a program for the heap" "${c[@]}" "-I$1/include" "$top/examples/c/hello.c" "$1/lib/libmpheap.a" -o "$room/hello"
+    works "a program for libmpgc" "${c[@]}" "$top/tests/package/program.c" "-L$1/lib" -lmpgc -o "$room/linked"
+}
+
+# copied ROOT FILE..: programs with the libraries that they load.
+copied() {
+    local root=$1 file one
+    shift
+    for file in "$@"; do
+        file=$(command -v "$file")
+        for one in "$file" $(ldd "$file" | grep -o '/[^ ]*'); do
+            mkdir -p "$root$(dirname "$one")"
+            cp -Lu "$one" "$root$one"
+        done
+    done
+}
+
+in_a_root_of_its_own() {
+    local root=$room/root
+    dpkg-deb -x "$room"/mpheap_*_amd64.deb "$root"
+    ln -s usr/bin "$root/bin"
+    copied "$root" sh env dirname readlink basename sed tr cat mktemp rm mkdir ls wc tail cp mv
+    copied "$root" "$root/usr/lib/mpheap/programs/mpheap" "$root/usr/lib/libmpgc.so"
+    mkdir -p "$root/tmp" "$root/home" "$root/dev" "$root/etc"
+    mknod "$root/dev/null" c 1 3
+    cp "$room/libgc.so.1" "$root/usr/lib/"
+    cp "$room/program" "$room/hello" "$room/linked" "$root/home"
+    ldconfig -r "$root"
+    runs "in a root of its own" "$root/home" /home chroot "$root" /usr/bin/mpheap
+    is "in a root of its own: a program for the heap" "$(cat "$top/examples/c/hello.expected")" "$(chroot "$root" /home/hello)"
+    is "in a root of its own: one for libmpgc" 200100000 "$(chroot "$root" /home/linked)"
+    is "in a root of its own: LD_PRELOAD" 200100000 "$(chroot "$root" /usr/bin/env LD_PRELOAD=libmpgc.so /home/program)"
+    is "in a root of its own: without it" 134 "$({ chroot "$root" /home/program; } >"$room/said" 2>&1; echo $?)"
+}
+
+works "a build" "$top/mpheap" build
+works "a package" "$top/mpheap" package "$room"
+mkdir "$room/unpacked"
+tar xzf "$room"/mpheap-*-x86_64.tar.gz -C "$room/unpacked" || close
+folder=$(echo "$room"/unpacked/mpheap-*)
+runs "unpacked" "$room/unpacked" "$room/unpacked" env PATH=/usr/bin:/bin "$folder/bin/mpheap"
+sources_are_told "$folder"
+build_programs "$folder"
+if [ ! -e "$(echo "$room"/mpheap_*_amd64.deb)" ]; then
+    echo "package: left out: there is no dpkg-deb, and no .deb"
+elif [ "$(id -u)" != 0 ]; then
+    echo "package: left out: a root of its own, which only root can have"
+else
+    in_a_root_of_its_own
+fi
+close

@@ -1,0 +1,233 @@
+# shellcheck shell=bash disable=SC2154 # (whoever reads this has the other names)
+# Part of tests/wrapper.sh, read by it: unproved runs where no build can be kept, since rt's temporary folder is laid out otherwise than
+# the wrapper knows: then rt is given the program's words, with FILE as /dev/stdin, and all of its input.
+
+# The first run finds it out and does it in the other way; later ones know it.
+the_other_way_is_found() {
+    rm -rf "$tree"/crates/*/out
+    touch "$room/says/elsewhere"
+    echo attach >first.script
+    try_ends 0 $'mutator 0\n'
+    call run --pages 4 first.script
+    is "another layout: rt's calls" "$(lines "mpheap try -- run --pages 1 pipe" "mpheap try -- run --pages 4 /dev/stdin")" \
+        "$(calls | sed 's| /[^ ]*/pipe$| pipe|')"
+    is "another layout: replies and status" "mutator 0 0" "$out $status"
+    has "another layout: why" "made for this one run, since this rt lets none be kept" "$err"
+    call run --pages 4 first.script
+    is "another layout, again: rt's calls" "mpheap try -- run --pages 4 /dev/stdin" "$(calls)"
+    for program in replay record draw; do
+        mkdir -p "$tree/crates/$program/out/unproved"
+        cp "$room/says/version" "$tree/crates/$program/out/unproved/$program.once"
+    done
+}
+
+# What rt's own run of an unproved program can't do is said before it builds.
+limits_are_told_first() {
+    try_ends 0 $'mutator 0\n'
+    told_first "a history that is to be written" "can't write a file: 'mpheap build threads' makes" threads --pages 4 --record run first.script
+    yes "0 get 1" | head -n 530000 >long.script
+    told_first "too many replies" "'mpheap build run' makes" run --pages 4 long.script
+    head -n 160000 long.script >some.script
+    told_first "too many lines" "60 seconds, and there are 160000: 'mpheap build run' makes" run --pages 4 some.script
+    head -n 5300 long.script >some.script
+    told_first "a trace that is too long" "this one about 1060000: 'mpheap build draw' makes" draw --pages 4 some.script
+    head -n 100000 long.script >some.script
+    told_first "a recorded run that is too long" "'mpheap build record' makes" record --pages 4 some.script
+    told_first "a random script that is too long" "'mpheap build stress' makes" stress --seed 1 --mutators 1 --steps 100000
+    call run --pages 4 <some.script
+    is "fewer lines are run" "mpheap try -- run --pages 4" "$(calls)"
+    rm long.script some.script
+}
+
+# told_first WHAT WHY WORDS..
+told_first() {
+    call "${@:3}"
+    is "$1: status, rt's calls" "3 " "$status $(calls)"
+    has "$1: why" "$2" "$err"
+}
+
+words_stay_as_they_are() {
+    touch run 4 ./--pages
+    echo attach >first.script
+    try_ends 0 $'mutator 0\n'
+    call run --pages 4 first.script
+    is "words that name files" "$(lines run --pages 4 /dev/stdin)" "$(words)"
+    is "the replies" "mutator 0" "$out"
+    is "the status" 0 "$status"
+    has "an unproved build says so" "an unproved build" "$err"
+    lacks "rt's own lines are left out" "run=ended" "$err"
+    call run --pages=4 first.script
+    is "an option with its value" "$(lines run --pages=4 /dev/stdin)" "$(words)"
+    call run first.script --pages 4
+    is "FILE first" "$(lines run /dev/stdin --pages 4)" "$(words)"
+    call run --pages 4 -- first.script
+    is "FILE behind --" "$(lines run --pages 4 -- /dev/stdin)" "$(words)"
+    is "FILE behind --: its text" attach "$(input)"
+    call threads --helpers 4 --pages 4 first.script
+    is "a workload's FILE behind two options" "$(lines threads --helpers 4 --pages 4 /dev/stdin)" "$(words)"
+    is "a workload's text" attach "$(input)"
+    call stress --seed 1 --mutators 2 --steps 4
+    is "a random script has no FILE" "$(lines stress --seed 1 --mutators 2 --steps 4)" "$(words)"
+    call stress --seed 18446744073709551615 --mutators 16 --steps 80000
+    is "great numbers" "$(lines stress --seed 18446744073709551615 --mutators 16 --steps 80000)" "$(words)"
+    call run --pages 4096 first.script
+    is "the greatest heap" "$(lines run --pages 4096 /dev/stdin)" "$(words)"
+    rm run 4 ./--pages
+}
+
+# each_program_is_called_by_its_name: the programs on runs that were written down have no command among their words.
+each_program_is_called_by_its_name() {
+    local program
+    for program in record replay; do
+        try_ends 0 $'legal\n'
+        call "$program" --pages 4 first.script
+        is "$program: its crate and words" "$program try -- --pages 4 /dev/stdin" "$(calls)"
+        is "$program: its text" attach "$(input)"
+        is "$program: what it prints" legal "$out"
+        cp first.script ./--first
+        call "$program" --pages 4 --first
+        is "$program: a FILE that looks like an option" attach "$(input)"
+        rm ./--first
+    done
+}
+
+# A drawn run is the page with the trace that the program printed: joined wherever there is any line, with its status.
+a_drawn_run_is_a_page() {
+    try_ends 0 $'{"title":"a script"}\n{"c":"attach","r":"<"}\n'
+    call draw --pages 4 first.script
+    is "draw: its crate and words" "draw try -- --pages 4 /dev/stdin" "$(calls)"
+    is "draw: the page" "<!doctype html>" "$(printf '%s' "${out%%$'\n'*}" | tr '[:upper:]' '[:lower:]')"
+    has "draw: the trace is in it" '{"c":"attach","r":"\u003c"}' "$out"
+    has "draw: its title is FILE's name" '{"title":"first"}' "$out"
+    try_ends 2 $'{"c":"attach"}\n' "bad line 2"
+    call draw --pages 4 first.script
+    is "draw: the status of a bad line" 2 "$status"
+    has "draw: the lines before it are drawn" '{"c":"attach"}' "$out"
+    try_ends 1 "" "no memory"
+    call draw --pages 4 first.script
+    is "draw: no line, no page" "" "$out"
+    echo "0 get 1" >"$room/script"
+    call draw --pages 4 <"$room/script"
+    is "draw: a script from standard input" "draw try -- --pages 4 /dev/stdin|0 get 1" "$(calls)|$(input)"
+    try_ends 1 $'{"title":"a run"}\n{"c":"attach","r":"mutator 1","no":1}\n' "line 1: a mutator gets the lowest free slot"
+    mv first.script first.replay
+    call draw --pages 4 --run first.replay
+    mv first.replay first.script
+    is "draw --run: its crate and words" "draw try -- --pages 4 --run /dev/stdin" "$(calls)"
+    is "draw --run: the status of a line that is refused" 1 "$status"
+    has "draw --run: what is said of it" "line 1: a mutator gets the lowest free slot" "$err"
+    has "draw --run: the page" '{"c":"attach","r":"mutator 1","no":1}' "$out"
+    has "draw --run: its title is FILE's name" '{"title":"first"}' "$out"
+    try_ends 2 "" "no lines"
+    call draw --pages 4 --run first.script
+    is "draw --run: no run, no page" "2 " "$status $out"
+    refused 2 "draw --pages N [--run] FILE" "'draw' takes a number of pages and one FILE" draw --pages 4 a b
+    refused 2 "draw --pages N [--run] FILE" "'draw' takes a number of pages and one FILE" draw --pages 4 --runs a
+    refused 2 "record --pages N FILE" "'record' takes a number of pages and one FILE" record --pages 4 --run a
+    refused 1 "read fault" "there is no file 'not.there'" draw --pages 4 --run not.there
+}
+
+file_is_the_callers() {
+    echo "0 get 1" >args
+    call run --pages 4 args
+    is "a name that stands in the crate too" "0 get 1" "$(input)"
+    rm args
+    refused 1 "read fault" "there is no file 'args'" run --pages 4 args
+    refused 1 "read fault" "there is no file 'args'" replay --pages 4 args
+    refused 1 "read fault" "'$room' is a folder" run --pages 4 "$room"
+    mkdir "with space"
+    echo attach >"with space/a b"
+    call run --pages 4 "with space/a b"
+    is "a name with spaces" attach "$(input)"
+}
+
+input_is_read_to_its_end() {
+    status=0
+    (echo attach; sleep 2.5; echo "0 get 1") | "$wrapper" run --pages 4 >"$room/out" 2>"$room/err" || status=$?
+    is "a pipe with a pause" "$(lines attach "0 get 1")" "$(input)"
+    is "rt is given a plain file" "regular file" "$(cat "$room/seen/kind")"
+    rm -f "$room"/seen/*
+    typed=0
+    python3 - "$wrapper" <<'TYPED' >"$room/out" 2>&1 || typed=$?
+import os, pty, sys, time
+try:
+    child, end = pty.fork()
+except OSError:
+    sys.exit(77)
+if child == 0:
+    os.execv(sys.argv[1], [sys.argv[1], "run", "--pages", "4"])
+for line in (b"attach\n", b"0 get 1\n", b"\x04"):
+    time.sleep(0.5)
+    os.write(end, line)
+try:
+    while os.read(end, 4096):
+        pass
+except OSError:
+    pass
+os.waitpid(child, 0)
+TYPED
+    if [ "$typed" = 77 ]; then
+        echo "wrapper: no terminal can be made here: a typed script isn't tested"
+    else
+        is "a script typed on a terminal" "$(lines attach "0 get 1")" "$(input)"
+    fi
+    rm -f "$room"/seen/*
+    status=0
+    "$wrapper" run --pages 4 <&- >"$room/out" 2>"$room/err" || status=$?
+    is "a closed input: status" 1 "$status"
+    is "a closed input" "$(lines "mpheap: standard input is closed" "read fault")" "$(cat "$room/err")"
+}
+
+a_signal_ends_a_run() {
+    touch "$room/says/waits"
+    rm -f "$room"/seen/*
+    "$wrapper" run --pages 4 first.script >"$room/out" 2>&1 &
+    until_true test -s "$room/seen/waiting"
+    ends_at_once "a signal while rt works" $!
+    is "a signal while rt works: rt is ended" no "$(kill -0 "$(cat "$room/seen/waiting")" 2>/dev/null && echo yes || echo no)"
+    rm "$room/says/waits"
+    mkfifo "$room/slow"
+    sleep 60 >"$room/slow" &
+    local writer=$!
+    "$wrapper" run --pages 4 <"$room/slow" >"$room/out" 2>&1 &
+    until_true has_left_something
+    ends_at_once "a signal while the script is read" $!
+    kill "$writer"
+    rm "$room/slow"
+}
+
+answers_are_handed_on() {
+    try_ends 2 $'mutator 0\n' "bad line 2"
+    call run --pages 4 first.script
+    is "a bad line: status" 2 "$status"
+    is "a bad line: replies" "mutator 0" "$out"
+    is "a bad line: its line comes last" "bad line 2" "$(tail -n 1 "$room/err")"
+    try_ends 1 "" "read fault"
+    call run --pages 4 first.script
+    is "a fault: status" 1 "$status"
+    is "a fault: its line comes last" "read fault" "$(tail -n 1 "$room/err")"
+}
+
+no_answer_is_status_three() {
+    try_answers 6 "" "" "checked: no-answer: the program wrote more than 1048576 bytes" "run=no-answer proved=no"
+    call run --pages 4 first.script
+    is "no answer: status" 3 "$status"
+    is "no answer: nothing is replied" "" "$out"
+    is "no answer: one line tells it" 2 "$(wc -l <"$room/err")"
+    has "no answer: what to do" "mpheap build" "$err"
+    echo "error: a semicolon is missing" >"$room/says/error"
+    call run --pages 4 first.script
+    rm "$room/says/error"
+    is "sources that don't build: status" 3 "$status"
+    has "sources that don't build: why" "a semicolon is missing" "$err"
+    try_ends 0 $'mutator 0\n'
+    status=0
+    "$wrapper" run --pages 4 first.script >&- 2>"$room/err" || status=$?
+    is "a closed output: status" 3 "$status"
+    has "a closed output is told" "output" "$(cat "$room/err")"
+    if [ -w /dev/full ]; then
+        status=0
+        "$wrapper" run --pages 4 first.script >/dev/full 2>"$room/err" || status=$?
+        is "a full output: status" 3 "$status"
+    fi
+}

@@ -1,0 +1,102 @@
+# shellcheck shell=bash disable=SC2154 # (whoever reads this has the other names)
+# Part of tests/wrapper.sh, read by it: unproved builds, which are made once and kept as long as no source changes.
+
+# runs_kept WHAT, runs_new WHAT: a run by the build that an earlier one made, and by one that is made now.
+runs_kept() {
+    call run --pages 4 first.script
+    is "$1: the kept build" "mpheap: an unproved build, which an earlier run made of these sources: for a first look" "$(head -n 1 "$room/err")"
+    is "$1: rt builds nothing" "" "$(calls)"
+}
+
+runs_new() {
+    call run --pages 4 first.script
+    has "$1: a new build" "made now" "$(head -n 1 "$room/err")"
+    is "$1: rt builds one" "mpheap try -- run --pages 1 pipe" "$(calls | sed 's| /[^ ]*/pipe$| pipe|')"
+    is "$1: it runs" "mutator 0 0" "$out $status"
+}
+
+a_build_is_kept_by_its_sources() {
+    echo attach >first.script
+    try_ends 0 $'mutator 0\n'
+    runs_new "the first run"
+    is "the first run: its words" "$(lines run --pages 4 first.script)" "$(words)"
+    is "the first run: the caller's folder" "$PWD" "$(cat "$room/seen/folder")"
+    runs_kept "the second run"
+    is "the second run: its words" "$(lines run --pages 4 first.script)" "$(words)"
+    is "the second run: replies and status" "mutator 0 0" "$out $status"
+    echo "// more" >>"$tree/crates/elsewhere/src/lib.rt"
+    runs_kept "an edit of a crate that isn't below"
+    echo "// more" >>"$tree/crates/words/src/lib.rt"
+    runs_new "an edit of a crate below"
+    runs_kept "behind the edit"
+    sed -i '$d' "$tree/crates/words/src/lib.rt"
+    runs_new "the edit taken back"
+    sed -i 's/^words:/words may_wait=1:/' "$tree/crates.txt"
+    runs_new "an edit of a row below"
+    sed -i 's/^words may_wait=1:/words:/' "$tree/crates.txt"
+    runs_new "the row taken back"
+    echo "kit-2 logic 1" >"$room/says/version"
+    runs_new "another release of rt"
+    echo "# more" >>"$tree/crates/mpheap/out/unproved/mpheap"
+    runs_new "another program in its place"
+}
+
+a_kept_build_is_called_as_it_is() {
+    call stress --seed 18446744073709551615 --mutators 16 --steps 100000
+    is "the greatest numbers" "$(lines stress --seed 18446744073709551615 --mutators 16 --steps 100000)" "$(words)"
+    call threads --pages 4 --record run first.script
+    is "a history that is to be written" "$(lines threads --pages 4 --record run first.script)" "$(words)"
+    echo "0 get 1" | "$wrapper" run --pages 4 >"$room/out" 2>"$room/err"
+    is "a script from standard input" "0 get 1" "$(input)"
+    status=0
+    "$wrapper" run --pages 4 <&- >"$room/out" 2>"$room/err" || status=$?
+    is "a closed input" "1 read fault" "$status $(tail -n 1 "$room/err")"
+    try_ends 2 $'mutator 0\n' "bad line 2"
+    call run --pages 4 first.script
+    is "a bad line: status, replies, what is said" "2 mutator 0 bad line 2" "$status $out $(tail -n 1 "$room/err")"
+    try_ends 2 $'{"c":"attach"}\n' "bad line 2"
+    echo "0 get 1" | "$wrapper" draw --pages 4 >"$room/out" 2>"$room/err"
+    is "draw: a script from standard input" "0 get 1" "$(input)"
+    has "draw: the page" '{"c":"attach"}' "$(cat "$room/out")"
+    call draw --pages 4 first.script
+    is "draw: the kept build, with its status" "2 " "$status $(calls)"
+    is "draw: its words" "$(lines --pages 4 first.script)" "$(words)"
+    try_ends 0 $'mutator 0\n'
+}
+
+# A build that fails, or is stopped, keeps nothing and leaves nothing.
+builds_that_fail_keep_nothing() {
+    rm -rf "$tree"/crates/*/out
+    echo "error: a semicolon is missing" >"$room/says/error"
+    call run --pages 4 first.script
+    is "sources that don't build: status" 3 "$status"
+    has "sources that don't build: why" "a semicolon is missing" "$err"
+    has "sources that don't build: where" "again by 'cd $tree/crates/mpheap && rt try'" "$err"
+    rm "$room/says/error"
+    touch "$room/says/waits"
+    rm -f "$room"/seen/*
+    "$wrapper" run --pages 4 first.script >"$room/out" 2>&1 &
+    until_true test -s "$room/seen/waiting"
+    ends_at_once "a signal while rt builds" $!
+    is "a signal while rt builds: rt is ended" no "$(kill -0 "$(cat "$room/seen/waiting")" 2>/dev/null && echo yes || echo no)"
+    rm "$room/says/waits"
+    printf '#!/bin/sh\necho "// more" >>%s/crates/pages/src/lib.rt\n' "$tree" >"$room/says/first"
+    chmod +x "$room/says/first"
+    call run --pages 4 first.script
+    is "a source that changes meanwhile: status" 3 "$status"
+    rm "$room/says/first"
+    sed -i '$d' "$tree/crates/pages/src/lib.rt"
+    is "nothing is kept" "" "$(find "$tree/crates" -path '*unproved*' -type f)"
+}
+
+nothing_goes_without_rt() {
+    mkdir -p "$room/plain"
+    for tool in sh dirname readlink cat printf awk sed find sort xargs sha256sum mkdir mktemp rm tail wc cp mv mkfifo ls kill sleep tr basename; do
+        ln -sf "$(PATH=$real_path type -P "$tool")" "$room/plain/$tool"
+    done
+    status=0
+    PATH=$room/plain "$wrapper" run --pages 4 first.script >"$room/out" 2>"$room/err" || status=$?
+    is "no rt: status" 3 "$status"
+    is "no rt: one line tells it" 1 "$(wc -l <"$room/err")"
+    has "no rt: what is missing" "needs rt" "$(cat "$room/err")"
+}

@@ -1,0 +1,96 @@
+# shellcheck shell=sh disable=SC2034,SC2154 # (mpheap has the other names, and reads these)
+# Part of the wrapper mpheap, read by it: how crates are proved and built: by rt's gate, over a copy of what is wanted and no more.
+# rt proves as many crates at once as there are processors and memory, goes on with those that don't stand on one that failed, and
+# keeps on its machine what it proved, by sums, so that a later build goes on from there. It runs a program only once that is proved
+# and built, and says apart what came of each: so no answer of a program is taken for a failed proof.
+
+# prove_and_build CRATE..: proves these crates and those below them, and puts what is built of them in its place.
+prove_and_build() {
+    need_rt "a build"
+    tree=$room/tree
+    plant_tree "$@" || no_answer "the crates can't be copied to $tree"
+    total=$(needed_in "$here" "$@" | wc -l)
+    say "proves $total crates and builds $*; what was proved before isn't proved again; from nothing all take tens of minutes"
+    work="the next build goes on with what rt has kept of this one"
+    run_gate
+    work=
+    for crate in "$@"; do bring "$crate"; done
+    [ "$at" != 0 ] || { tail -n 15 "$room/told" >&2 && say "rt judged nothing: again by 'cd $here && rt ci $*'"; }
+}
+
+# plant_tree CRATE..: a copy of the files from which these are made. rt takes a folder with .git for the top of a repository.
+plant_tree() {
+    mkdir -p "$tree/.git" "$tree/crates" && cp "$here/HANDLES" "$tree" && rows_in "$here" "$@" >"$tree/crates.txt" || return
+    for crate in $(needed_in "$here" "$@"); do
+        mkdir "$tree/crates/$crate" || return
+        for part in "$here/crates/$crate"/*; do
+            case ${part##*/} in
+                out | must-fail) ;;
+                *) cp -R "$part" "$tree/crates/$crate" || return ;;
+            esac
+        done
+    done
+}
+
+run_gate() {
+    mkdir "$room/rt"
+    mkfifo "$room/telling" || no_answer "no pipe can be made in $room"
+    (cd "$tree" && TMPDIR=$room/rt exec rt ci) </dev/null >"$room/telling" 2>&1 &
+    child=$!
+    began=$(date +%s)
+    at=0
+    runs_otherwise=
+    : >"$room/told"
+    while IFS= read -r line; do
+        printf '%s\n' "$line" >>"$room/told"
+        crate=${line#rt: }
+        crate=${crate%% *}
+        tell "${crate%:}" "$line"
+    done <"$room/telling"
+    wait_for_child "$child"
+}
+
+# tell CRATE LINE: what a line of rt's says of a crate.
+tell() {
+    case $2 in
+        *": proved") ;;
+        "rt: $1 is kept: "*) tell_end "$1" "proved before, of the same sources" ;;
+        "rt: $1 proved") tell_end "$1" "proved, after $(($(date +%s) - began)) s" ;;
+        "rt: $1 NOT PROVED: its library "*) tell_end "$1" "not tried, as ${2#*: its library }" ;;
+        "rt: $1 NOT PROVED") tell_end "$1" "not proved" && show_failed "$1" ;;
+        "rt: $1: the program "* | "rt: $1: what the program "* | "rt: $1 was not run: "*) show_run "$1" "${2#rt: }" ;;
+        "rt: note: "*) say "${2#rt: note: }" ;;
+    esac
+}
+
+# tell_end CRATE WHAT
+tell_end() {
+    at=$((at + 1))
+    say "$at of $total, $1: $2"
+}
+
+# show_failed CRATE: the last lines of what rt said of its proof, where its sources are, and how its proof is tried again.
+show_failed() {
+    awk -v crate="$1" '/^== / { here = $2 == crate; next } /: proved$|^statements |^logic / { next } here' "$room/told" | tail -n 15 >&2
+    say "$1 is refused by rt, as it says above: its folder is $here/crates/$1; again by 'cd $here/crates/$1 && rt check'"
+}
+
+# show_run CRATE WHAT: the program is proved and built, and rt says WHAT of its run on the files beside it.
+show_run() {
+    say "$1 is proved and built, but runs otherwise than the files beside it say: $2"
+    say "its folder is $here/crates/$1; again by 'cd $here && rt ci $1'"
+    runs_otherwise="$runs_otherwise $1"
+}
+
+# bring CRATE: puts its build from the tree in its place, with a record of what it was made from.
+bring() {
+    grep -q "^rt: $1 \(proved$\|is kept: \)" "$room/told" || return
+    [ "$1" != mpheap_c ] || by_tools "$here/mpheap build c" "$here/c/library" "$tree" || return
+    place=$(built "$1")
+    from=$tree${place#"$here"}
+    [ -f "$from" ] || return
+    put "$from" "$place" || no_answer "$place can't be written"
+    rt version >"$place.rules"
+    record_of "$tree" "$1" "$place" >"$place.sources"
+    is_proved "$1" || say "a source of $1 changed meanwhile: build it again"
+}
