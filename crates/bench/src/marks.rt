@@ -1,8 +1,6 @@
 //! A claim and a look on a table of marks: each thread claims, then looks at, each bit of one table.
-ghost use Rattle.std.specs.Prelude.{◌≡◌, ◌+◌, ◌<◌, ◌≤◌, length, All, IfOk};
-ghost use Rattle.words.specs.declared.limits.TheConstants.{MAX_HELPERS};
-ghost use Rattle.mark_bits.specs.Tables.{view, start_of, IsOf};
-ghost use Rattle.bench.specs.Ready.{IsReady};
+ghost use Rattle.std.specs.Prelude.{◌≡◌, length, All, IfOk};
+ghost use Rattle.mark_bits.specs.Tables.{start_of, IsOf};
 
 use crate::figures::{report, since};
 use mark_bits::{Claimer, MarkTable, Marks};
@@ -20,8 +18,8 @@ const BITS: u64 = PAGE_GRANULES * MAX_PAGES as u64;
 
 fn claim_each(table: &MarkTable, granules: usize, me: &mut Claimer)
     requires granules { granules ≡ length (start_of table.now) }
-    requires ready { IsReady table.now me.old }
-    ensures { IsReady table.now me.new }
+    requires ready { IsOf table.now me.old }
+    ensures { IsOf table.now me.new }
 {
     for bit in 0..granules {
         let _won = table.claim(me, bit);
@@ -30,8 +28,8 @@ fn claim_each(table: &MarkTable, granules: usize, me: &mut Claimer)
 
 fn look_each(table: &MarkTable, granules: usize, me: &mut Claimer)
     requires granules { granules ≡ length (start_of table.now) }
-    requires ready { IsReady table.now me.old }
-    ensures { IsReady table.now me.new }
+    requires ready { IsOf table.now me.old }
+    ensures { IsOf table.now me.new }
 {
     for bit in 0..granules {
         let _set = table.is_set(me, bit);
@@ -41,8 +39,8 @@ fn look_each(table: &MarkTable, granules: usize, me: &mut Claimer)
 // Each bit is claimed, or looked at.
 fn go_over(table: &MarkTable, granules: usize, me: &mut Claimer, is_claim: bool)
     requires granules { granules ≡ length (start_of table.now) }
-    requires ready { IsReady table.now me.old }
-    ensures { IsReady table.now me.new }
+    requires ready { IsOf table.now me.old }
+    ensures { IsOf table.now me.new }
 {
     if is_claim {
         claim_each(table, granules, me);
@@ -59,12 +57,12 @@ fn go_side_by_side<R: Threads + Sync>(
     is_claim: bool,
 )
     requires granules { granules ≡ length (start_of table.now) }
-    requires crew { All (λ c. IsReady table.now c) crew.old }
-    ensures { All (λ c. IsReady table.now c) crew.new }
+    requires crew { All (λ c. IsOf table.now c) crew.old }
+    ensures { All (λ c. IsOf table.now c) crew.new }
 {
     let work = |_: usize, me: &mut Claimer|
-        requires { (granules ≡ length (start_of table.now)) × IsReady table.now me.now }
-        ensures { IsReady table.entry.now me.exit.now }
+        requires { (granules ≡ length (start_of table.now)) × IsOf table.now me.now }
+        ensures { IsOf table.entry.now me.exit.now }
     {
         go_over(table, granules, me, is_claim);
     };
@@ -78,8 +76,7 @@ fn hire(
     helpers: u8,
 ) -> Result<Vec<Claimer>, AllocError>
     requires of { IsOf table.now first.old }
-    requires parts { helpers < (view first.old).parts }
-    ensures { IfOk result (λ v. All (λ c. IsReady table.now c) v.items) }
+    ensures { IfOk result (λ v. All (λ c. IsOf table.now c) v.items) }
 {
     let mut crew = Vec::new(alloc);
     for _ in 0..helpers {
@@ -97,8 +94,8 @@ fn time_side_by_side<R: Threads + Sync + Clock>(
     is_claim: bool,
 ) -> io::Result<u128>
     requires granules { granules ≡ length (start_of table.now) }
-    requires crew { All (λ c. IsReady table.now c) crew.old }
-    ensures { All (λ c. IsReady table.now c) crew.new }
+    requires crew { All (λ c. IsOf table.now c) crew.old }
+    ensures { All (λ c. IsOf table.now c) crew.new }
 {
     let start = Instant::now(rt)?;
     go_side_by_side(rt, table, granules, crew, is_claim);
@@ -113,7 +110,7 @@ fn time_crew<R: Threads + Sync + Clock>(
     crew: &mut [Claimer],
 ) -> io::Result<(u128, u128)>
     requires granules { granules ≡ length (start_of table.now) }
-    requires crew { All (λ c. IsReady table.now c) crew.old }
+    requires crew { All (λ c. IsOf table.now c) crew.old }
 {
     let claims = time_side_by_side(rt, table, granules, crew, true)?;
     let looks = time_side_by_side(rt, table, granules, crew, false)?;
@@ -121,9 +118,7 @@ fn time_crew<R: Threads + Sync + Clock>(
 }
 
 // The same of so many helpers on a table of their own.
-fn cost<R: Threads + Sync + Clock>(rt: &R, alloc: Global, helpers: u8) -> io::Result<(u128, u128)>
-    requires { helpers ≤ MAX_HELPERS }
-{
+fn cost<R: Threads + Sync + Clock>(rt: &R, alloc: Global, helpers: u8) -> io::Result<(u128, u128)> {
     let marks = Marks::new(alloc, MAX_PAGES)?;
     let Ok((table, mut first)) = MarkTable::new(alloc, &marks) else {
         return Err(AllocError.into());
@@ -137,9 +132,7 @@ fn least_cost<R: Threads + Sync + Clock>(
     rt: &R,
     alloc: Global,
     helpers: u8,
-) -> io::Result<(u128, u128)>
-    requires { helpers ≤ MAX_HELPERS }
-{
+) -> io::Result<(u128, u128)> {
     let mut least = (u128::MAX, u128::MAX);
     for _ in 0..ROUNDS {
         let (claims, looks) = cost(rt, alloc, helpers)?;

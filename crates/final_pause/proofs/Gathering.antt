@@ -11,8 +11,9 @@ use Rattle.words.specs.Layout.{granule, page_of}
 use Rattle.mark_bits.specs.declared.claimer_view.ClaimerView.{ClaimerView}
 use Rattle.mark_bits.specs.declared.table.Claimer.{Claimer}
 use Rattle.mark_bits.specs.Tables.{view, start_of, IsOf}
-use Rattle.mark_bits.specs.Claims.{knows, joined, Gathers}
+use Rattle.mark_bits.specs.Claims.{knows, joined, Gathers, HasPart}
 use Rattle.mark_bits.proofs.Words.{shows-left, shows-right}
+use Rattle.mark_bits.proofs.Halves.{part_joined}
 use Rattle.mark_bits.proofs.Gathered.{gathered-each, gathered-start, gathered-won}
 use Rattle.block_map.specs.declared.found.Found.{Found}
 use Rattle.block_map.specs.Objects.{IsMap}
@@ -22,23 +23,29 @@ use Rattle.marker.specs.Closure.{held}
 use Rattle.marker.specs.Invariant.{AreRootsMarked, IsSettled, IsTargetMarked}
 use Rattle.marker.specs.Growth.{Traces}
 use Rattle.marker.proofs.Growing.{settled_grows}
+use Rattle.marker.proofs.Settling.{entry_in}
 use Rattle.marker.proofs.Closures.{same_object}
 use Rattle.each_law.specs.Jobs.{HaveRun}
 use Rattle.final_pause.specs.declared.helper.Helper.{Helper}
 use Rattle.final_pause.specs.declared.share.Pause.{Pause}
 use Rattle.final_pause.specs.Helping.{found, word_in, IsTargetKnown, IsWordRead}
-use Rattle.final_pause.specs.Serving.{IsReachable, IsEntryRead, IsShareRead, HasServed}
-use Rattle.final_pause.specs.Gathering.{AreNumbered, HasGathered}
+use Rattle.final_pause.specs.Dealing.{rank}
+use Rattle.final_pause.specs.Serving.{IsReachable, IsEntryRead, HasServed}
+use Rattle.final_pause.specs.Gathering.{AreNumbered, IsPlaceRead, HasGathered}
 use Rattle.final_pause.proofs.Knowing.{none_in}
 use Rattle.final_pause.proofs.Growing.{word_more}
 use Rattle.final_pause.proofs.Serving.{share_more}
 
 -- each helper was run, and each had the share of its place
-pub served_at : {p : Pause} {old new : List Helper} → HaveRun (λ a b. HasServed p a.share b) old new → AreNumbered old → (i : ℕ) (d : Helper) → i < length new → HasServed p i (get_or new i d)
+pub served_at : {p : Pause} {old new : List Helper} → HaveRun (λ a b. HasServed p a.share.place b) old new → AreNumbered old → (i : ℕ) (d : Helper) → i < length new → HasServed p i (get_or new i d)
 served_at {p} {old} {new} run numbered i d lt =
     let size = run.size in
     let lt' : i < length old = omega (arith, lt, size) in
     subst (λ (s : ℕ). HasServed p s (get_or new i d)) (numbered i d lt') (run.each i d d lt')
+
+-- what was dealt to a place stays read where more is known
+place_more : (p : Pause) (v w : ClaimerView) (c d : List Bool) → ((k : ℕ) → knows v k ≡ true → knows w k ≡ true) → ((q : ℕ) → Has c q → Has d q) → (place : ℕ) → IsPlaceRead p v c place → IsPlaceRead p w d place
+place_more p v w c d more carried place h = record { share = h.share; here = h.here; dealt = h.dealt; read = share_more p v w c d more carried h.share h.read }
 
 module _ (p : Pause) where
   -- one more helper is joined
@@ -57,10 +64,9 @@ module _ (p : Pause) where
       λ k c. subst (λ (v : ClaimerView). Contains v.won k) (sym join) (Contains-append_left (view first).won (view h.claimer).won k c) in
       let won_right : (k : ℕ) → Contains (view h.claimer).won k → Contains (view first').won k =
       λ k c. subst (λ (v : ClaimerView). Contains v.won k) (sym join) (Contains-append_right (view first).won (view h.claimer).won k c) in
-      let parts : (view first').parts ≡ (view first).parts + 1 = ap (λ (v : ClaimerView). v.parts) join ∙ ap (λ (m : ℕ). (view first).parts + m) s.serving.one in
-      let were = g.parts in record {
+      let part : HasPart (view h.claimer) (low + 1) = subst (λ (n : ℕ). HasPart (view h.claimer) (n + 1)) s.here s.serving.part in record {
         of = of;
-        parts = omega (arith, parts, were);
+        part = subst (λ (v : ClaimerView). HasPart v low) (sym join) (part_joined (view first) (view h.claimer) low g.part part);
         size = len ∙ g.size;
         carried_size = carried_len ∙ g.carried_size;
         won = λ f o m c i lt. ⊎_elim
@@ -75,8 +81,8 @@ module _ (p : Pause) where
         strays = λ q c. ⊎_elim (λ a. g.strays q a) (λ a. s.serving.strays q a) (each_carried q c);
         within = λ k c. ⊎_elim (λ a. g.within k a) (λ a. s.serving.within k a) (of_either k c);
         shares = λ n le lt. ⊎_elim
-            (λ (e : n ≡ low). subst (IsShareRead p (view first') carried') (sym e) (share_more p (view h.claimer) (view first') h.carried carried' right more_carried low s.read))
-            (λ ne. share_more p (view first) (view first') carried carried' left old_carried n (g.shares n (omega (arith, le, ne)) lt))
+            (λ (e : n ≡ low). record { share = h.share; here = s.here ∙ sym e; dealt = s.serving.fits.dealt; read = share_more p (view h.claimer) (view first') h.carried carried' right more_carried h.share s.read })
+            (λ ne. place_more p (view first) (view first') carried carried' left old_carried n (g.shares n (omega (arith, le, ne)) lt))
             (cases_eq n low);
       }
 
@@ -105,19 +111,20 @@ module _ {p : Pause} (first : Claimer) (dirty carried : List Bool) (new : Markin
 
   read_pending : (f : Found) → found p f.base ≡ Some f → f.kind ≡ Normal → IsMarked old f.base → (i : ℕ) → i < f.len → IsLeftToEntry old f.base i → IsWordRead p (view first) carried f i
   read_pending f o n m i lt q =
-      ⊎_elim
-      (λ (c : old.current ≡ Some q.entry). (g.shares 0 (omega arith) some).current refl q.entry c f o (sym q.same) n m i q.left lt)
-      (λ (c : Contains old.stack q.entry).
-      let read : IsEntryRead p (view first) carried (get_or old.stack c.0 q.entry) = (g.shares (c.0 % p.helpers) (omega arith) (mod-lt c.0 some)).entries c.0 q.entry c.1 refl in
-      subst (IsEntryRead p (view first) carried) c.2 read f o (sym q.same) n m i q.left lt)
-      q.one
+      let at = entry_in old q.entry q.one in
+      let place = g.shares (at.0 % p.helpers) (omega arith) (mod-lt at.0 some) in
+      let dealt = place.dealt.entries_of at.0 q.entry at.1 (sym place.here) in
+      let read : IsEntryRead p (view first) carried q.entry = subst (IsEntryRead p (view first) carried) (dealt.2 ∙ at.2) (place.read.entries dealt.0 _ dealt.1) in
+      read f o (sym q.same) n m i q.left lt
 
   read_dirty : (f : Found) → found p f.base ≡ Some f → f.kind ≡ Normal → IsMarked old f.base → (i : ℕ) → i < f.len → Has old.dirty (page_of (word_address f i)) → IsWordRead p (view first) carried f i
   read_dirty f o n m i lt d =
       let page : ℕ = page_of (word_address f i) in
       let inside : page < length p.map.now = (let l = has_inside old.dirty page d in omega (arith, l, pages)) in
       let above = (map.placed f.base f o).above in
-      (g.shares (page % p.helpers) (omega arith) (mod-lt page some)).pages page inside refl d f o n m i lt (omega (arith, above)) (omega (arith, above))
+      let turn : ℕ = rank old.dirty page in
+      let place = g.shares (turn % p.helpers) (omega arith) (mod-lt turn some) in
+      place.read.pages page inside (place.dealt.pages_of page d (sym place.here)) f o n m i lt (omega (arith, above)) (omega (arith, above))
 
   -- the number of pages is the same
   pages_same : length new.dirty ≡ length old.dirty
@@ -171,5 +178,6 @@ module _ {p : Pause} (first : Claimer) (dirty carried : List Bool) (new : Markin
 
   pub gathered_roots : AreRootsMarked (found p) p.roots.now new
   gathered_roots w (i, lt, e) =
-      let k : IsTargetKnown p (view first) (get_or p.roots.now i 0) = (g.shares (i % p.helpers) (omega arith) (mod-lt i some)).roots i lt refl in
+      let k : IsTargetKnown p (view first) (get_or p.roots.now i 0) =
+      let place = g.shares (i % p.helpers) (omega arith) (mod-lt i some) in place.read.roots i lt (sym place.here) in
       target w (subst (λ (n : ℕ). IsTargetKnown p (view first) n) (get_or_default p.roots.now i 0 w lt ∙ e) k)

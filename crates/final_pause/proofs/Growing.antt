@@ -48,7 +48,7 @@ module _ (p : Pause) where
   extends_refl h of = record {
     of = of;
     share = refl;
-    learns = record { parts = refl; known = λ k e. e };
+    learns = record { right = refl; known = λ k e. e };
     won = λ k c. c;
     dirty_len = refl;
     dirty = λ q h. h;
@@ -77,7 +77,7 @@ module _ (p : Pause) where
   extends_trans a b c x y = record {
     of = y.of;
     share = y.share ∙ x.share;
-    learns = record { parts = y.learns.parts ∙ x.learns.parts; known = λ k h. y.learns.known k (x.learns.known k h) };
+    learns = record { right = y.learns.right ∙ x.learns.right; known = λ k h. y.learns.known k (x.learns.known k h) };
     won = λ k h. y.won k (x.won k h);
     dirty_len = y.dirty_len ∙ x.dirty_len;
     dirty = λ q h. y.dirty q (x.dirty q h);
@@ -228,7 +228,7 @@ module _ (p : Pause) where
   extends_carried b c of cl st di sh size more = record {
     of = subst (IsOf p.table.now) (sym cl) of;
     share = sh;
-    learns = record { parts = ap (λ h. (view h).parts) cl; known = λ k e. ap (λ h. knows (view h) k) cl ∙ e };
+    learns = record { right = ap (λ h. (view h).right) cl; known = λ k e. ap (λ h. knows (view h) k) cl ∙ e };
     won = λ k h. subst (λ d. Contains (view d).won k) (sym cl) h;
     dirty_len = ap length di;
     dirty = λ q h. subst (λ d. Has d q) (sym di) h;

@@ -2,15 +2,15 @@
 use Rattle.std.proofs.Common.{◌≡◌, ℕ, ◌+◌, ◌*◌, ◌<◌, ◌≤◌, Bool, List, [], ◌∷◌, ◌++◌, true, Contains, Some, None, length, refl, sym, ap, subst, ◌∙◌, inl, inr, ⊎_elim, arith}
 use Rattle.std.specs.Prelude.{◌⊎◌}
 use Rattle.std.proofs.lemmas.Option.{same_Some}
-use Rattle.std.proofs.lemmas.Bool.{cases_lt}
+use Rattle.std.proofs.lemmas.Bool.{cases_lt, true≢false}
 use Rattle.std.proofs.lemmas.List.Elements.{Contains-append_cases, Contains-append_left, Contains-append_right}
 use Rattle.words.specs.declared.class.Kind.TheVariants.{Normal}
 use Rattle.words.specs.declared.limits.TheConstants.{WORD_BYTES}
 use Rattle.words.specs.Bits.{Has}
 use Rattle.words.specs.Layout.{granule, page_of, page_start}
 use Rattle.mark_bits.specs.declared.claimer_view.ClaimerView.{ClaimerView}
-use Rattle.mark_bits.specs.Tables.{view, IsOf}
-use Rattle.mark_bits.specs.Claims.{knows}
+use Rattle.mark_bits.specs.Tables.{view}
+use Rattle.mark_bits.specs.Claims.{doubled, knows, HasPart}
 use Rattle.block_map.specs.declared.found.Found.{Found}
 use Rattle.block_map.specs.Objects.{IsMap}
 use Rattle.marker.specs.Marking.{IsMarked, word_address}
@@ -20,12 +20,13 @@ use Rattle.marker.specs.Growth.{IsStrayPage}
 use Rattle.marker.specs.declared.entry.Entry.{Entry}
 use Rattle.marker.proofs.Closures.{at_base, is_object}
 use Rattle.marker.proofs.Rescanning.{next_is, reads_own}
-use Rattle.final_pause.specs.declared.busy.Duty.{Duty}
+use Rattle.final_pause.specs.declared.deal.Share.{Share}
 use Rattle.final_pause.specs.declared.helper.Helper.{Helper}
 use Rattle.final_pause.specs.declared.share.Pause.{Pause}
-use Rattle.final_pause.specs.Helping.{found, won_of, IsHelperOf, HelperGrows, IsWordRead, HasStrayOn, IsAwaitedBy, IsPointedInto, ClaimsOnly, IsWordOf, Visits, ReadsWords}
-use Rattle.final_pause.specs.Serving.{IsReachable, IsReachedAt, IsQueuedAt, IsServing, GoesOnServing, IsEntryRead, AreRootsRead, AreEntriesRead, IsCurrentRead, AreWordsRead, ArePagesRead, IsShareRead}
-use Rattle.final_pause.proofs.Knowing.{contains_one}
+use Rattle.final_pause.specs.Dealing.{IsDealt}
+use Rattle.final_pause.specs.Helping.{found, won_of, IsReadyPause, IsHelperOf, HelperGrows, IsWordRead, HasStrayOn, IsPointedInto, ClaimsOnly, IsWordOf, Visits, ReadsWords}
+use Rattle.final_pause.specs.Serving.{IsReachable, IsReachedAt, IsQueuedAt, IsServing, GoesOnServing, IsEntryRead, AreRootsRead, AreEntriesRead, AreWordsRead, ArePagesRead, IsShareRead, IsHired}
+use Rattle.final_pause.proofs.Knowing.{contains_one, none_in}
 use Rattle.final_pause.proofs.Growing.{target_more, word_more, awaited_more, page_more}
 
 module _ (p : Pause) where
@@ -39,11 +40,18 @@ module _ (p : Pause) where
     of = x.of;
     dirty = x.dirty_len ∙ f.dirty;
     carried = x.carried_len ∙ f.carried;
+    dealt = subst (IsDealt p.marker.now p.helpers) (sym x.share) f.dealt;
   }
 
   -- a word that a helper has read stays read as it goes on
   pub word_on : (a b : Helper) → HelperGrows p a b → (f : Found) (i : ℕ) → IsWordRead p (view a.claimer) a.carried f i → IsWordRead p (view b.claimer) b.carried f i
   word_on a b x = word_more p (view a.claimer) (view b.claimer) a.carried b.carried x.learns.known x.carried
+
+  -- a helper keeps its part of the right
+  part_on : (a b : Helper) → b.share ≡ a.share → (view b.claimer).right ≡ (view a.claimer).right → HasPart (view a.claimer) (a.share.place + 1) → HasPart (view b.claimer) (b.share.place + 1)
+  part_on a b share right part =
+      subst (λ (r : ℕ × ℕ). doubled r.0 (b.share.place + 1) ≡ doubled 1 r.1) (sym right)
+      (subst (λ (s : Share). doubled (view a.claimer).right.0 (s.place + 1) ≡ doubled 1 (view a.claimer).right.1) (sym share) part)
 
   -- a stray word of a reached Normal object makes its page one
   pub stray_on : (f : Found) → found p f.base ≡ Some f → f.kind ≡ Normal → IsReachable p f → (q : ℕ) → HasStrayOn p f q → IsStrayPage (found p) p.memory.now p.roots.now p.marker.now q
@@ -67,7 +75,7 @@ module _ (p : Pause) where
     pub serves_more : HelperGrows p a b → ((q : ℕ) → Has b.carried q → Has a.carried q ⊎ IsStrayPage (found p) p.memory.now p.roots.now p.marker.now q) → IsServing p a → IsServing p b
     serves_more x strays s = record {
       fits = fits_more a b x s.fits;
-      one = x.learns.parts ∙ s.one;
+      part = part_on a b x.share x.learns.right s.part;
       won = λ f o n c i lt. ⊎_elim
           (λ h. ⊎_elim (λ k. inl (word_on a b x f i k)) (λ w. inr (awaited_more p a b x f i w)) (s.won f o n h i lt))
           (λ h. inr (h n i lt)) (x.fresh f o c);
@@ -78,30 +86,25 @@ module _ (p : Pause) where
     }
 
   pub serves_refl : (h : Helper) → IsServing p h → GoesOnServing p h h
-  serves_refl h s = record { serving = s; share = refl; learns = record { parts = refl; known = λ k e. e }; carried = λ q h. h }
+  serves_refl h s = record { serving = s; share = refl; learns = record { right = refl; known = λ k e. e }; carried = λ q h. h }
 
-  -- whether a helper has work is no part of what it owes
-  pub serves_duty : (h : Helper) (d : Duty) → IsServing p h → GoesOnServing p h (record h { duty = d })
-  serves_duty h d s = record {
-    serving = record {
-      fits = record { ready = s.fits.ready; of = s.fits.of; dirty = s.fits.dirty; carried = s.fits.carried };
-      one = s.one;
-      won = s.won;
-      dirtied = s.dirtied;
-      strays = s.strays;
-      queued = s.queued;
-      within = s.within;
-    };
-    share = refl;
-    learns = record { parts = refl; known = λ k e. e };
-    carried = λ q h. h;
+  -- a helper that is hired owes nothing yet
+  pub serves_hired : IsReadyPause p → (h : Helper) → IsHired p.table.now p.marker.now p.helpers h → IsServing p h
+  serves_hired ready h x = record {
+    fits = record { ready = ready; of = x.of; dirty = x.dirty.size ∙ ready.pages; carried = x.carried.size ∙ ready.pages; dealt = x.dealt };
+    part = x.part;
+    won = λ f o n c i lt. absurd (none_in (won_of h) (granule f.base) x.none_won c);
+    dirtied = λ q d. absurd (true≢false (sym d ∙ x.dirty.clear q));
+    strays = λ q d. absurd (true≢false (sym d ∙ x.carried.clear q));
+    queued = λ b c. absurd (none_in h.stack.items b x.no_entry c);
+    within = λ k c. absurd (none_in (won_of h) k x.none_won c);
   }
 
   pub serves_trans : (a b c : Helper) → GoesOnServing p a b → GoesOnServing p b c → GoesOnServing p a c
   serves_trans a b c x y = record {
     serving = y.serving;
     share = y.share ∙ x.share;
-    learns = record { parts = y.learns.parts ∙ x.learns.parts; known = λ k e. y.learns.known k (x.learns.known k e) };
+    learns = record { right = y.learns.right ∙ x.learns.right; known = λ k e. y.learns.known k (x.learns.known k e) };
     carried = λ q h. y.carried q (x.carried q h);
   }
 
@@ -169,8 +172,8 @@ module _ (p : Pause) where
 
     serving_pop : IsServing p b
     serving_pop = record {
-      fits = record { ready = s.fits.ready; of = x.of; dirty = x.dirty_len ∙ (ap length dirty ∙ s.fits.dirty); carried = x.carried_len ∙ (ap length carried ∙ s.fits.carried) };
-      one = x.learns.parts ∙ (ap (λ c. (view c).parts) claimer ∙ s.one);
+      fits = record { ready = s.fits.ready; of = x.of; dirty = x.dirty_len ∙ (ap length dirty ∙ s.fits.dirty); carried = x.carried_len ∙ (ap length carried ∙ s.fits.carried); dealt = subst (IsDealt p.marker.now p.helpers) (sym (x.share ∙ share)) s.fits.dealt };
+      part = part_on a b (x.share ∙ share) (x.learns.right ∙ ap (λ c. (view c).right) claimer) s.part;
       won = λ g o n c i lt. ⊎_elim
           (λ h. ⊎_elim
           (λ k. inl (word_more p (view a.claimer) (view b.claimer) a.carried b.carried known carried_on g i k))
@@ -192,66 +195,32 @@ module _ (p : Pause) where
     serves_pop = record {
       serving = serving_pop;
       share = x.share ∙ share;
-      learns = record { parts = x.learns.parts ∙ ap (λ c. (view c).parts) claimer; known = known };
+      learns = record { right = x.learns.right ∙ ap (λ c. (view c).right) claimer; known = known };
       carried = carried_on;
     }
 
-  -- a reached Normal object comes to the stack
-  module _ (a m : Helper) (base : ℕ) (claimer : m.claimer ≡ a.claimer) (dirty : m.dirty ≡ a.dirty) (carried : m.carried ≡ a.carried) (stack : m.stack.items ≡ a.stack.items ++ base ∷ []) where
-    won_back : (k : ℕ) → Contains (won_of m) k → Contains (won_of a) k
-    won_back k c = subst (λ h. Contains (view h).won k) claimer c
-
-    won_on : (k : ℕ) → Contains (won_of a) k → Contains (won_of m) k
-    won_on k c = subst (λ h. Contains (view h).won k) (sym claimer) c
-
-    awaited_on : (f : Found) (i : ℕ) → IsAwaitedBy a f i → IsAwaitedBy m f i
-    awaited_on f i w = ⊎_elim
-        (λ d. inl (subst (λ d. Has d (page_of (word_address f i))) (sym dirty) d))
-        (λ c. inr (subst (λ l. Contains l f.base) (sym stack) (Contains-append_left a.stack.items (base ∷ []) f.base c))) w
-
-    pub serving_push : IsQueuedAt p base → IsServing p a → IsServing p m
-    serving_push q s = record {
-      fits = record { ready = s.fits.ready; of = subst (λ h. IsOf p.table.now h) (sym claimer) s.fits.of; dirty = ap length dirty ∙ s.fits.dirty; carried = ap length carried ∙ s.fits.carried };
-      one = ap (λ h. (view h).parts) claimer ∙ s.one;
-      won = λ f o n c i lt. ⊎_elim
-          (λ k. inl (word_more p (view a.claimer) (view m.claimer) a.carried m.carried (λ n e. ap (λ h. knows (view h) n) claimer ∙ e) (λ q h. subst (λ c. Has c q) (sym carried) h) f i k))
-          (λ w. inr (awaited_on f i w))
-          (s.won f o n (won_back (granule f.base) c) i lt);
-      dirtied = λ k h. page_more p a m won_on k (s.dirtied k (subst (λ d. Has d k) dirty h));
-      strays = λ k h. s.strays k (subst (λ c. Has c k) carried h);
-      queued = λ k c. ⊎_elim
-          (λ h. s.queued k h)
-          (λ h. subst (IsQueuedAt p) (contains_one base k h) q)
-          (Contains-append_cases a.stack.items (base ∷ []) k (subst (λ l. Contains l k) stack c));
-      within = λ k c. s.within k (won_back k c);
-    }
-
-  -- the roots of a share stay read where more is known
-  pub roots_more : (v w : ClaimerView) → ((k : ℕ) → knows v k ≡ true → knows w k ≡ true) → (share n : ℕ) → AreRootsRead p v share n → AreRootsRead p w share n
-  roots_more v w more share n h i lt m = target_more p v w more _ (h i lt m)
+  -- the roots of a place stay read where more is known
+  pub roots_more : (v w : ClaimerView) → ((k : ℕ) → knows v k ≡ true → knows w k ≡ true) → (place n : ℕ) → AreRootsRead p v place n → AreRootsRead p w place n
+  roots_more v w more place n h i lt m = target_more p v w more _ (h i lt m)
 
   module _ (v w : ClaimerView) (c d : List Bool) (more : (k : ℕ) → knows v k ≡ true → knows w k ≡ true) (carried : (q : ℕ) → Has c q → Has d q) where
     pub entry_more : (e : Entry) → IsEntryRead p v c e → IsEntryRead p w d e
     entry_more e h f o b k m j le ll = word_more p v w c d more carried f j (h f o b k m j le ll)
 
-    pub entries_more : (share n : ℕ) → AreEntriesRead p v c share n → AreEntriesRead p w d share n
-    entries_more share n h i e lt m = entry_more _ (h i e lt m)
-
-    pub current_more : (share : ℕ) → IsCurrentRead p v c share → IsCurrentRead p w d share
-    current_more share h z e is = entry_more e (h z e is)
+    pub entries_more : (entries : List Entry) (n : ℕ) → AreEntriesRead p v c entries n → AreEntriesRead p w d entries n
+    entries_more entries n h i e lt = entry_more _ (h i e lt)
 
     pub words_more : (low high : ℕ) → AreWordsRead p v c low high → AreWordsRead p w d low high
     words_more low high h f o b m i lt from below = word_more p v w c d more carried f i (h f o b m i lt from below)
 
-    pub pages_more : (share n : ℕ) → ArePagesRead p v c share n → ArePagesRead p w d share n
-    pages_more share n h page lt m is = words_more (page_start page) (page_start (page + 1)) (h page lt m is)
+    pub pages_more : (row : List Bool) (n : ℕ) → ArePagesRead p v c row n → ArePagesRead p w d row n
+    pages_more row n h page lt is = words_more (page_start page) (page_start (page + 1)) (h page lt is)
 
-    pub share_more : (share : ℕ) → IsShareRead p v c share → IsShareRead p w d share
+    pub share_more : (share : Share) → IsShareRead p v c share → IsShareRead p w d share
     share_more share h = record {
-      roots = roots_more v w more share _ h.roots;
-      entries = entries_more share _ h.entries;
-      current = current_more share h.current;
-      pages = pages_more share _ h.pages;
+      roots = roots_more v w more share.place _ h.roots;
+      entries = entries_more share.entries.items _ h.entries;
+      pages = pages_more share.pages _ h.pages;
     }
 
   -- words of one object that were read are those of the next object between two addresses

@@ -15,6 +15,7 @@ use Rattle.marker.specs.Marking.{Covers, bytes_of, word_address}
 use Rattle.marker.specs.Growth.{IsStray}
 use Rattle.final_pause.specs.declared.helper.Helper.{Helper}
 use Rattle.final_pause.specs.declared.share.Pause.{Pause}
+use Rattle.final_pause.specs.Dealing.{IsDealt}
 
 -- the object that a word points into
 abbrev pub found : Pause → ℕ → Option Found
@@ -50,6 +51,7 @@ pub record IsHelperOf (p : Pause) (h : Helper) : Type 0 where
   pub of : IsOf p.table.now h.claimer
   pub dirty : length h.dirty ≡ length p.map.now
   pub carried : length h.carried ≡ length p.map.now
+  pub dealt : IsDealt p.marker.now p.helpers h.share
 
 -- the object that the word points into, if any, is known to be marked
 abbrev pub IsTargetKnown : Pause → ClaimerView → ℕ → Type 0

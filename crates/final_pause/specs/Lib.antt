@@ -1,4 +1,5 @@
 pub mod Crews
+pub mod Dealing
 pub mod Helping
 pub mod Serving
 pub mod Gathering

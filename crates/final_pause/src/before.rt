@@ -1,8 +1,8 @@
 //! What the calling thread marks before any helper starts.
 //!
 //! A thread costs more than little work gains, and what hangs from one entry can't be shared. So over a small heap the calling
-//! thread marks alone. Over another it marks on until it has read some words and enough waits for each helper, or until nothing
-//! is left.
+//! thread marks alone. Over another it marks on until it has read some words and several entries wait for each helper, or until
+//! nothing is left.
 ghost use Rattle.std.specs.Prelude.{◌≡◌, ◌*◌, true, length};
 ghost use Rattle.words.specs.declared.limits.TheConstants.{PAGE_WORDS};
 ghost use Rattle.block_map.specs.FoundIn.{found_in};
@@ -24,6 +24,9 @@ const SLICE: u64 = 1_024;
 // How many dirty pages are as good to share as one entry, which may lead to any number of words.
 const DIRTY_PAGES: usize = 16;
 
+// How many entries wait for each helper at least: then no helper gets a quarter more of them than another.
+const ENTRIES_EACH: usize = 4;
+
 // Whether the pages in use have so many words.
 fn has_words(map: &BlockMap, least: u64) -> bool {
     let mut words = 0u64;
@@ -38,17 +41,17 @@ fn has_words(map: &BlockMap, least: u64) -> bool {
     words >= least
 }
 
-// Whether each of so many helpers gets some of the entries and dirty pages, and is not the only one.
+// Whether each of so many helpers gets several of the entries and dirty pages, and is not the only one.
 fn is_shareable(marker: &Marker, helpers: Helpers) -> bool {
     let number = usize::from(helpers.number());
     let entries = marker.waiting().len();
     let pages = marker.count_dirty() as usize / DIRTY_PAGES;
-    number > 1 && entries.saturating_add(pages) >= number
+    number > 1 && entries.saturating_add(pages) >= ENTRIES_EACH * number
 }
 
 /// Marks on alone, from the roots, until nothing is left to read, or enough waits for the helpers on a heap of as many words as
-/// they start for, of which a quarter is read. Where they start at once it does nothing. Answers whether nothing is left to read: then the marks are the
-/// closure of the marks before and the roots.
+/// they start for, of which a quarter is read. Where they start at once it does nothing. Answers whether nothing is left to
+/// read: then the marks are the closure of the marks before and the roots.
 pub(crate) fn mark_before_helpers(
     marker: &mut Marker,
     map: &BlockMap,

@@ -3,77 +3,89 @@ ghost use Rattle.std.specs.Prelude.{◌≡◌, ℕ, ◌+◌, ◌<◌, ◌≤◌,
 ghost use Rattle.words.specs.Bits.{Has};
 ghost use Rattle.words.specs.declared.limits.TheConstants.{MAX_HELPERS, MOST_PAGES};
 ghost use Rattle.mark_bits.specs.Tables.{view, IsOf};
-ghost use Rattle.mark_bits.specs.Claims.{joined};
+ghost use Rattle.mark_bits.specs.Claims.{joined, HasAll, HasPart};
 ghost use Rattle.final_pause.specs.declared.helper.Helper.{Helper as HelperValue};
 ghost use Rattle.final_pause.specs.Serving.{IsHired, HasServed};
 ghost use Rattle.final_pause.specs.Gathering.{AreNumbered, HasGathered};
 
-use crate::busy::{Busy, Duty};
+use crate::deal::deal;
 use crate::gate::FIRST_HELPER;
 use crate::helper::Helper;
 use crate::share::Pause;
 use arrayvec::ArrayVec;
 use dirty_pages::DirtyPages;
 use mark_bits::{Claimer, MarkTable};
+use marker::Marker;
 use std::alloc::{AllocError, Global};
 use words::limits::{MAX_HELPERS, MOST_PAGES};
 
-// A helper with nothing to do yet.
-fn new_helper<'a>(
+// The helper of one place, which has its share and has read nothing yet.
+fn new_helper(
     alloc: Global,
     table: &MarkTable,
+    marker: &Marker,
     pages: u32,
     first: &mut Claimer,
-    busy: &'a Busy,
-    share: u8,
-) -> Result<Helper<'a>, AllocError>
+    place: u8,
+    helpers: u8,
+) -> Result<Helper, AllocError>
     requires of { IsOf table.now first.old }
-    requires parts { 1 < (view first.old).parts }
-    requires pages { pages ≤ MOST_PAGES }
-    requires few { share < MAX_HELPERS }
+    requires part { HasPart (view first.old) place }
+    requires pages { pages ≡ length marker.now.dirty }
+    requires small { pages ≤ MOST_PAGES }
+    requires place { place < helpers }
+    requires few { helpers ≤ MAX_HELPERS }
     ensures of { IsOf table.now first.new }
-    ensures share { IfOk result (λ h. h.share ≡ share) }
-    ensures parts { IfOk result (λ h. (view first.new).parts + 1 ≡ (view first.old).parts) }
+    ensures place { IfOk result (λ h. h.share.place ≡ place) }
+    ensures part { IfOk result (λ h. HasPart (view first.new) (place + 1)) }
     ensures won { (view first.new).won ≡ (view first.old).won }
-    ensures hired { IfOk result (λ h. IsHired table.now pages h) }
+    ensures hired { IfOk result (λ h. IsHired table.now marker.now helpers h) }
 {
     let dirty = DirtyPages::new(alloc, pages)?;
     let carried = DirtyPages::new(alloc, pages)?;
+    let share = deal(
+        alloc,
+        marker,
+        pages,
+        usize::from(place),
+        usize::from(helpers),
+    )?;
     let claimer = table.split(first);
     Ok(Helper {
         claimer,
         stack: ArrayVec::new(),
         dirty,
         carried,
-        share: share as usize,
-        duty: Duty::new(busy),
-        actor: FIRST_HELPER + share,
+        share,
+        actor: FIRST_HELPER + place,
         call: 0,
     })
 }
 
-/// Cuts off a claimer for each helper, and takes all their memory. Each counts as having work.
-pub(crate) fn hire<'a>(
+/// Deals all that is left to read to so many helpers, cuts off a claimer for each, and takes all their memory.
+pub(crate) fn hire(
     alloc: Global,
     table: &MarkTable,
+    marker: &Marker,
     pages: u32,
     first: &mut Claimer,
-    busy: &'a Busy,
     helpers: u8,
-) -> Result<Vec<Helper<'a>>, AllocError>
+) -> Result<Vec<Helper>, AllocError>
     requires of { IsOf table.now first.old }
-    requires parts { helpers < (view first.old).parts }
-    requires pages { pages ≤ MOST_PAGES }
+    requires all { HasAll (view first.old) }
+    requires pages { pages ≡ length marker.now.dirty }
+    requires small { pages ≤ MOST_PAGES }
     requires few { helpers ≤ MAX_HELPERS }
     ensures of { IfOk result (λ v. IsOf table.now first.new) }
     ensures won { (view first.new).won ≡ (view first.old).won }
-    ensures size { IfOk result (λ v. (vec_len v ≡ helpers) × ((view first.new).parts + helpers ≡ (view first.old).parts)) }
-    ensures hired { IfOk result (λ v. All (λ h. IsHired table.now pages h) v.items) }
+    ensures size { IfOk result (λ v. vec_len v ≡ helpers) }
+    ensures part { IfOk result (λ v. HasPart (view first.new) helpers) }
+    ensures hired { IfOk result (λ v. All (λ h. IsHired table.now marker.now helpers h) v.items) }
     ensures numbered { IfOk result (λ v. AreNumbered v.items) }
 {
     let mut crew = Vec::with_capacity(alloc, helpers as usize)?;
-    for i in 0..helpers {
-        crew.push(new_helper(alloc, table, pages, first, busy, i)?)?;
+    for place in 0..helpers {
+        crew.push(new_helper(alloc, table, marker, pages, first, place, helpers)?)?;
     }
     Ok(crew)
 }
@@ -91,15 +103,15 @@ fn take_in(
     requires size { length helper.dirty ≡ length dirty.old }
     requires carried_size { length helper.carried ≡ length carried.old }
     ensures of { IsOf table.now first.new }
-    ensures joined { view first.new ≡ joined (view first.old) (view helper.entry.claimer) }
+    ensures joined { view first.new ≡ joined (view first.old) (view helper.claimer) }
     ensures size { length dirty.new ≡ length dirty.old }
-    ensures each { (q : ℕ) → Has dirty.new q → Has dirty.old q ⊎ Has helper.entry.dirty q }
+    ensures each { (q : ℕ) → Has dirty.new q → Has dirty.old q ⊎ Has helper.dirty q }
     ensures old { (q : ℕ) → Has dirty.old q → Has dirty.new q }
-    ensures more { (q : ℕ) → Has helper.entry.dirty q → Has dirty.new q }
+    ensures more { (q : ℕ) → Has helper.dirty q → Has dirty.new q }
     ensures carried_size { length carried.new ≡ length carried.old }
-    ensures each_carried { (q : ℕ) → Has carried.new q → Has carried.old q ⊎ Has helper.entry.carried q }
+    ensures each_carried { (q : ℕ) → Has carried.new q → Has carried.old q ⊎ Has helper.carried q }
     ensures old_carried { (q : ℕ) → Has carried.old q → Has carried.new q }
-    ensures more_carried { (q : ℕ) → Has helper.entry.carried q → Has carried.new q }
+    ensures more_carried { (q : ℕ) → Has helper.carried q → Has carried.new q }
 {
     let Helper {
         claimer,
@@ -107,7 +119,6 @@ fn take_in(
         dirty: more,
         carried: carried_more,
         share: _,
-        duty: _,
         actor: _,
         call: _,
     } = helper;

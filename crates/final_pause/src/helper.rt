@@ -6,7 +6,7 @@ ghost use Rattle.mark_bits.specs.Claims.{knows, LearnsMore};
 ghost use Rattle.block_map.specs.Objects.{IsPlaced};
 ghost use Rattle.final_pause.specs.Helping.{QueuesObject};
 
-use crate::busy::Duty;
+use crate::deal::Share;
 use crate::gate::Gate;
 use arrayvec::ArrayVec;
 use block_map::Found;
@@ -20,16 +20,14 @@ use words::{Kind, PageNo};
 pub(crate) const ENTRIES: usize = MARK_STACK_ENTRIES as usize;
 
 /// What one helper marks with: its claimer, the bases of the objects that it still has to read, the pages of those that
-/// found no room, the pages that it carries, its place among the helpers, whether it has work, its number for the gate, and how
-/// many claims it has made.
+/// found no room, the pages that it carries, its share, its number for the gate, and how many claims it has made.
 #[derive(Drop)]
-pub(crate) struct Helper<'a> {
+pub(crate) struct Helper {
     pub(crate) claimer: Claimer,
     pub(crate) stack: ArrayVec<u64, ENTRIES>,
     pub(crate) dirty: DirtyPages,
     pub(crate) carried: DirtyPages,
-    pub(crate) share: usize,
-    pub(crate) duty: Duty<'a>,
+    pub(crate) share: Share,
     pub(crate) actor: u8,
     pub(crate) call: u32,
 }

@@ -1,4 +1,4 @@
-//! The dirty pages of a helper's share.
+//! The dirty pages that were dealt to a helper.
 //!
 //! A helper reads of a dirty page the objects that were marked before the helpers started: whoever wins an object after that
 //! sees to its words himself, wherever it lies. So the marks that are asked here are the marker's own, which nobody changes
@@ -14,12 +14,10 @@ ghost use Rattle.mark_bits.specs.Tables.{view};
 ghost use Rattle.block_map.specs.FoundIn.{found_in};
 ghost use Rattle.block_map.specs.States.{cut, state_at};
 ghost use Rattle.block_map.specs.Walks.{IsNextObject};
-ghost use Rattle.final_pause.specs.Helping.{IsReadyPause};
-ghost use Rattle.final_pause.specs.Serving.{IsServing, GoesOnServing, AreOffered, AreWordsRead, AreObjectsRead, IsPageRead, ArePagesRead};
+ghost use Rattle.final_pause.specs.Serving.{IsServing, GoesOnServing, AreWordsRead, AreObjectsRead, IsPageRead, ArePagesRead};
 
 use crate::gate::Gate;
 use crate::helper::Helper;
-use crate::offer::{Offer, Offering};
 use crate::share::Pause;
 use block_map::{Found, object_from};
 use blocks::Block;
@@ -161,32 +159,28 @@ impl<'a> Pause<'a> {
         }
     }
 
-    // Whether the page is a dirty one of a share.
-    fn has_dirty(&self, share: usize, page: PageNo) -> bool
-        requires ready { IsReadyPause self.now }
+    // Reads a page with what it leads to, if it was dealt to the helper.
+    fn read_dealt<G: Gate>(&self, gate: &G, helper: &mut Helper, page: PageNo)
+        requires serving { IsServing self.now helper.old }
         requires inside { page < length self.now.map.now }
-        ensures { page % self.now.helpers ≡ share → Has self.now.marker.now.dirty page → result ≡ true }
+        ensures serves { GoesOnServing self.now helper.old helper.new }
+        ensures read { Has helper.old.share.pages page → IsPageRead self.now (view helper.new.claimer) helper.new.carried page }
     {
-        page as usize % self.helpers == share && self.marker.dirty_pages().is_dirty(page)
+        if !helper.share.pages.is_dirty(page) {
+            return;
+        }
+        self.read_page(gate, helper, page);
+        self.read_stack(gate, helper);
     }
 
-    /// Reads the dirty pages of the helper's share, each with what it leads to.
-    pub(crate) fn read_pages<G: Gate, J: Offering>(
-        &self,
-        gate: &G,
-        offer: &Offer<J>,
-        helper: &mut Helper,
-    )
-        requires serving { IsServing self.now helper.old }
-        requires offered { AreOffered self.now J.offered }
+    /// Reads the pages that were dealt to the helper, each with what it leads to.
+    pub(crate) fn read_pages<G: Gate>(&self, gate: &G, helper: &mut Helper)
+        requires { IsServing self.now helper.old }
         ensures serves { GoesOnServing self.now helper.old helper.new }
-        ensures read { ArePagesRead self.now (view helper.new.claimer) helper.new.carried helper.old.share (length self.now.map.now) }
+        ensures read { ArePagesRead self.now (view helper.new.claimer) helper.new.carried helper.old.share.pages (length self.now.map.now) }
     {
         for page in 0..self.map.len() {
-            if self.has_dirty(helper.share, page) {
-                self.read_page(gate, helper, page);
-                self.read_stack(gate, offer, helper);
-            }
+            self.read_dealt(gate, helper, page);
         }
     }
 }

@@ -7,16 +7,14 @@ ghost use Rattle.marker.specs.Invariant.{DirtyPageInvariant, AreRootsMarked};
 ghost use Rattle.marker.specs.Closure.{AreClosed};
 ghost use Rattle.marker.specs.Growth.{Traces};
 ghost use Rattle.each_law.specs.Jobs.{HaveRun};
-ghost use Rattle.final_pause.specs.Serving.{IsServing, AreOffered, HasServed};
+ghost use Rattle.final_pause.specs.Serving.{IsServing, HasServed};
 
 use crate::alone::close_marks;
 use crate::before::mark_before_helpers;
-use crate::busy::Busy;
 use crate::crew::{gather, hire};
 use crate::gate::Gate;
 use crate::helper::Helper;
 use crate::helpers::Helpers;
-use crate::offer::{Offer, Offering};
 use crate::share::Pause;
 use block_map::BlockMap;
 use dirty_pages::DirtyPages;
@@ -24,36 +22,34 @@ use each_law::{Law, run_each};
 use marker::Marker;
 use pages::{Memory, Reader};
 use std::alloc::{AllocError, Global};
-use std::marker::{Brand, Sync};
+use std::marker::Sync;
 use std::sync::Wait;
 use std::thread::Threads;
 
-impl<'a, 'b> Law<Helper<'b>> for Pause<'a> {
+impl<'a> Law<Helper> for Pause<'a> {
     ghost use Rattle.final_pause.specs.Serving.{HasServed};
 
-    ghost does = { λ p old new. HasServed p old.share new };
+    ghost does = { λ p old new. HasServed p old.share.place new };
 }
 
 // All helpers do their shares, the last on the calling thread and each other in a thread of its own. The error is that memory or a
 // thread could not be had.
-fn help_each<'b, R: Threads + Wait + Sync, G: Gate, J: Offering + Sync>(
+fn help_each<R: Threads + Wait + Sync, G: Gate>(
     rt: &R,
     alloc: Global,
     pause: Pause,
     gate: &G,
-    crew: Vec<Helper<'b>>,
-) -> Result<Vec<Helper<'b>>, AllocError>
-    requires crew { All (λ h. IsServing pause h) crew.items }
-    requires offered { AreOffered pause J.offered }
-    ensures { IfOk result (λ v. HaveRun (λ old new. HasServed pause.entry old.share new) crew.entry.items v.items) }
+    crew: Vec<Helper>,
+) -> Result<Vec<Helper>, AllocError>
+    requires { All (λ h. IsServing pause h) crew.items }
+    ensures { IfOk result (λ v. HaveRun (λ old new. HasServed pause.entry old.share.place new) crew.items v.items) }
 {
-    let offer = Offer::<J>::new();
     let work = |helper|
-        requires { IsServing pause helper × AreOffered pause J.offered }
-        ensures { HasServed pause.entry helper.entry.share result }
+        requires { IsServing pause helper }
+        ensures { HasServed pause.entry helper.share.place result }
     {
         let mut helper = helper;
-        pause.help(gate, &offer, &mut helper);
+        pause.help(gate, &mut helper);
         helper
     };
     run_each(rt, alloc, &pause, &work, crew)
@@ -87,15 +83,8 @@ fn mark_with_helpers<R: Threads + Wait + Sync, G: Gate>(
     let Ok(mut carried) = DirtyPages::new(alloc, map.len()) else {
         return false;
     };
-    let busy = Busy::new();
-    let Ok(crew) = hire(
-        alloc,
-        &table,
-        map.len(),
-        &mut first,
-        &busy,
-        helpers.number(),
-    ) else {
+    let number = helpers.number();
+    let Ok(crew) = hire(alloc, &table, marker, map.len(), &mut first, number) else {
         return false;
     };
     let pause = Pause {
@@ -104,9 +93,9 @@ fn mark_with_helpers<R: Threads + Wait + Sync, G: Gate>(
         map,
         memory,
         roots,
-        helpers: crew.len(),
+        helpers: usize::from(number),
     };
-    let Ok(crew) = help_each::<_, _, Brand>(rt, alloc, pause, gate, crew) else {
+    let Ok(crew) = help_each(rt, alloc, pause, gate, crew) else {
         return false;
     };
     gather(&pause, &mut first, &mut dirty, &mut carried, crew);

@@ -1,4 +1,4 @@
-//! The share of one helper: root words and entries by their places, and what they lead to.
+//! What one helper reads: its root words, the entries that were dealt to it, and what these lead to.
 ghost use Rattle.std.specs.Prelude.{◌≡◌, ℕ, ◌+◌, ◌<◌, ◌≤◌, [], ◌∷◌, true, false, Some, length};
 ghost use Rattle.mark_bits.specs.Tables.{view, start_of};
 ghost use Rattle.words.specs.Layout.{granule, page_of};
@@ -7,11 +7,10 @@ ghost use Rattle.block_map.specs.FoundIn.{found_in};
 ghost use Rattle.marker.specs.Marking.{IsOutside, bytes_of, word_address};
 ghost use Rattle.marker.specs.Growth.{TellsStray};
 ghost use Rattle.final_pause.specs.Helping.{IsReadyPause, IsObjectOf, IsHelperOf, Visits, VisitsAll, ReadsWords};
-ghost use Rattle.final_pause.specs.Serving.{IsServing, GoesOnServing, AreOffered, IsEntryRead, HasServed, AreRootsRead, AreEntriesRead, IsCurrentRead};
+ghost use Rattle.final_pause.specs.Serving.{IsServing, GoesOnServing, IsEntryRead, HasServed, AreRootsRead, AreEntriesRead};
 
 use crate::gate::Gate;
 use crate::helper::{Helper, carry, claim, queue};
-use crate::offer::{Offer, Offering};
 use block_map::{BlockMap, Found};
 use mark_bits::MarkTable;
 use marker::{Entry, Marker};
@@ -139,14 +138,14 @@ impl<'a> Pause<'a> {
         }
     }
 
-    // Marks what the root words of the helper's share point into.
+    // Marks what the root words of the helper's place point into.
     fn read_roots<G: Gate>(&self, gate: &G, helper: &mut Helper)
         requires { IsServing self.now helper.old }
         ensures serves { GoesOnServing self.now helper.old helper.new }
-        ensures roots { AreRootsRead self.now (view helper.new.claimer) helper.old.share (length self.now.roots.now) }
+        ensures roots { AreRootsRead self.now (view helper.new.claimer) helper.old.share.place (length self.now.roots.now) }
     {
         for i in 0..self.roots.len() {
-            if i % self.helpers == helper.share {
+            if i % self.helpers == helper.share.place {
                 self.visit(gate, helper, self.roots[i]);
             }
         }
@@ -165,50 +164,39 @@ impl<'a> Pause<'a> {
         self.read_words(gate, helper, found, entry.next, u64::from(count));
     }
 
-    // Reads the entry that was being read, which belongs to the first share.
-    fn read_current<G: Gate>(&self, gate: &G, helper: &mut Helper)
+    // Reads the objects on the helper's stack, and those that come there, until none is left.
+    pub(crate) fn read_stack<G: Gate>(&self, gate: &G, helper: &mut Helper)
         requires { IsServing self.now helper.old }
         ensures serves { GoesOnServing self.now helper.old helper.new }
-        ensures read { IsCurrentRead self.now (view helper.new.claimer) helper.new.carried helper.old.share }
+        ensures empty { helper.new.stack.items ≡ [] }
     {
-        if helper.share != 0 {
-            return;
+        while let Some(base) = helper.stack.pop() {
+            let found = self.map.object_at(base);
+            self.read_words(gate, helper, found, 0, u64::from(found.len));
         }
-        let Some(entry) = self.marker.current() else {
-            return;
-        };
-        self.read_entry(gate, helper, entry);
     }
 
-    // Reads the waiting entries of the helper's share, each with what it leads to.
-    fn read_entries<G: Gate, J: Offering>(&self, gate: &G, offer: &Offer<J>, helper: &mut Helper)
-        requires serving { IsServing self.now helper.old }
-        requires offered { AreOffered self.now J.offered }
+    // Reads the entries that were dealt to the helper, each with what it leads to.
+    fn read_entries<G: Gate>(&self, gate: &G, helper: &mut Helper)
+        requires { IsServing self.now helper.old }
         ensures serves { GoesOnServing self.now helper.old helper.new }
-        ensures read { AreEntriesRead self.now (view helper.new.claimer) helper.new.carried helper.old.share (length self.now.marker.now.stack) }
+        ensures read { AreEntriesRead self.now (view helper.new.claimer) helper.new.carried helper.old.share.entries.items (length helper.old.share.entries.items) }
     {
-        let waiting = self.marker.waiting();
-        for i in 0..waiting.len() {
-            if i % self.helpers == helper.share {
-                self.read_entry(gate, helper, waiting[i]);
-                self.read_stack(gate, offer, helper);
-            }
+        for i in 0..helper.share.entries.len() {
+            let entry = helper.share.entries.as_slice()[i];
+            self.read_entry(gate, helper, entry);
+            self.read_stack(gate, helper);
         }
     }
 
-    /// A helper's whole work: the root words of its share before anything else, the entries and the dirty pages of its
-    /// share, and all that these lead to. Then it reads what others offer.
-    pub(crate) fn help<G: Gate, J: Offering>(&self, gate: &G, offer: &Offer<J>, helper: &mut Helper)
-        requires serving { IsServing self.now helper.old }
-        requires offered { AreOffered self.now J.offered }
-        ensures { HasServed self.now helper.old.share helper.new }
+    /// A helper's whole work: the root words of its place before anything else, what was dealt to it, and all that these lead to.
+    pub(crate) fn help<G: Gate>(&self, gate: &G, helper: &mut Helper)
+        requires { IsServing self.now helper.old }
+        ensures { HasServed self.now helper.old.share.place helper.new }
     {
         self.read_roots(gate, helper);
-        self.read_current(gate, helper);
-        self.read_stack(gate, offer, helper);
-        self.read_entries(gate, offer, helper);
-        self.read_pages(gate, offer, helper);
-        self.read_stack(gate, offer, helper);
-        self.help_others(gate, offer, helper);
+        self.read_entries(gate, helper);
+        self.read_pages(gate, helper);
+        self.read_stack(gate, helper);
     }
 }

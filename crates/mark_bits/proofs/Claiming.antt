@@ -12,7 +12,7 @@ use Rattle.atomic_table.specs.Table.{State, Me, step, keeps, stepped, Allows}
 use Rattle.atomic_table.proofs.Lists.{at_set}
 use Rattle.mark_bits.specs.declared.claimer_view.ClaimerView.{ClaimerView}
 use Rattle.mark_bits.specs.Claims.{times, one, has}
-use Rattle.mark_bits.specs.Rule.{IsTrueOf, IsWonOnce, mask, after_claim, after_look, Finds, claimed, looked}
+use Rattle.mark_bits.specs.Rule.{IsTrueOf, IsWonOnce, scaled, mask, after_claim, after_look, Finds, claimed, looked}
 use Rattle.mark_bits.proofs.Sums.{total-set, times-here, times-else}
 use Rattle.mark_bits.proofs.Words.{claimed_words, set_here, set_else, set_up, bit_is, bit_known, same_bit, shows-word}
 
@@ -35,10 +35,13 @@ module _ (start : List Bool) (s : St) (rule : IsWonOnce start s) (id : ℕ) (v :
   moved : (i y : ℕ) (w : ClaimerView) (c : List (ℕ × Unit {0}))
       → ((k : ℕ) → bit s.words k ≡ true → bit (set s.words i y) k ≡ true)
       → ((k : ℕ) → times k w.won + one (bit s.words k) ≡ times k v.won + one (bit (set s.words i y) k))
-      → w.parts ≡ v.parts → IsTrueOf start (set s.words i y) w → IsWonOnce start (stepped s i y id c w keeps)
-  moved i y w c up even parts is = record {
+      → w.right ≡ v.right → IsTrueOf start (set s.words i y) w → IsWonOnce start (stepped s i y id c w keeps)
+  moved i y w c up even right is = record {
     size = ap (λ n. 64 * n) (length-set s.words i y) ∙ rule.size;
-    parts = let t = total-set (λ u. u.parts) s.views id v w at in let p = rule.parts in omega arith;
+    whole = λ d le.
+        let cuts = total-set (λ u. u.right.1) s.views id v w at in let same : w.right.1 ≡ v.right.1 = ap (λ (r : ℕ × ℕ). r.1) right in
+        let t = total-set (λ u. scaled d u.right) s.views id v w at in let part : scaled d w.right ≡ scaled d v.right = ap (scaled d) right in
+        let p = rule.whole d (omega arith) in omega arith;
     once = λ k. let t = total-set (λ u. times k u.won) s.views id v w at in let p = rule.once k in let e = even k in omega arith;
     views = λ j u h. ⊎_elim
         (λ (t : (j ≡ id) × (w ≡ u)). subst (IsTrueOf start (set s.words i y)) t.1 is)
@@ -47,12 +50,12 @@ module _ (start : List Bool) (s : St) (rule : IsWonOnce start s) (id : ℕ) (v :
   }
 
   -- a bit of the start is set
-  started : (k : ℕ) → 0 < v.parts → has v.start k ≡ true → bit s.words k ≡ true
+  started : (k : ℕ) → 0 < v.right.0 → has v.start k ≡ true → bit s.words k ≡ true
   started k some_part h =
       let e : has start k ≡ true = ap (λ r. has r k) (sym ((rule.views id v at).same some_part)) ∙ h in
       let p = rule.once k in let o : one (has start k) ≡ 1 = ap one e in one_true (bit s.words k) (omega arith)
 
-  finds : 0 < v.parts → (k : ℕ) → Finds v k (get_or s.words (k / 64) 0)
+  finds : 0 < v.right.0 → (k : ℕ) → Finds v k (get_or s.words (k / 64) 0)
   finds some_part k = record {
     start = λ h. bit_known s.words k (started k some_part h);
     known = λ h. bit_known s.words k ((rule.views id v at).known k h);
@@ -103,7 +106,7 @@ module _ (words : List ℕ) (k : ℕ) (inside : k / 64 < length words) (v : Clai
   evenly = ⊎_elim first_claim late_claim (cases_eq found 0)
 
 -- a claim: one fetch_or
-pub claims : (start : List Bool) (slots id : ℕ) (me : Mine) (k : ℕ) → 0 < me.0.parts → k < length start
+pub claims : (start : List Bool) (slots id : ℕ) (me : Mine) (k : ℕ) → 0 < me.0.right.0 → k < length start
     → Allows (IsWonOnce start) slots id me (k / 64) (λ n. bit_or n (mask k)) (claimed (step slots (k / 64) (mask k) 0 none) me)
 claims start slots id me k some_part lt s rule homes at small =
     let v : ClaimerView = me.0 in
@@ -127,7 +130,7 @@ claims start slots id me k some_part lt s rule homes at small =
     )
 
 -- a look at a word: one load
-pub looks : (start : List Bool) (slots id : ℕ) (me : Mine) (i : ℕ) → 0 < me.0.parts
+pub looks : (start : List Bool) (slots id : ℕ) (me : Mine) (i : ℕ) → 0 < me.0.right.0
     → Allows (IsWonOnce start) slots id me i (λ n. n) (looked (step slots i 0 0 none) me)
 looks start slots id me i some_part s rule homes at small =
     let v : ClaimerView = me.0 in

@@ -1,5 +1,5 @@
 -- The first claimer, new claimers and claimers that come back keep the rule of the table, and the last one knows all that was won.
-use Rattle.std.proofs.Common.{◌≡◌, ℕ, ◌+◌, ◌*◌, ◌<◌, Bool, List, [], ◌∷◌, length, set, refl, sym, ap, subst, arith, ⊎_elim}
+use Rattle.std.proofs.Common.{◌≡◌, ℕ, ◌+◌, ◌-◌, ◌*◌, ◌<◌, Bool, List, [], ◌∷◌, length, set, refl, sym, ap, subst, arith, ⊎_elim}
 use Rattle.std.proofs.lemmas.Bool.{false≢true}
 use mathlib.Core.Option.{some, some-ne-none}
 use lib.ListN.{get_elem?}
@@ -7,9 +7,10 @@ use Rattle.words.specs.Bits.{bit, bits}
 use Rattle.atomic_table.specs.Table.{State, opening, Splits, Joins}
 use Rattle.atomic_table.proofs.Lists.{at_set, at_snoc}
 use Rattle.mark_bits.specs.declared.claimer_view.ClaimerView.{ClaimerView}
-use Rattle.mark_bits.specs.Claims.{times, one, has, all_parts, first_view, kept_part, cut_part, joined, spent}
-use Rattle.mark_bits.specs.Rule.{IsTrueOf, IsWonOnce}
-use Rattle.mark_bits.proofs.Sums.{total-set, total-append, all_in_one, times-append}
+use Rattle.mark_bits.specs.Claims.{times, one, has, HasAll, doubled, first_view, kept_part, cut_part, joined, spent}
+use Rattle.mark_bits.specs.Rule.{IsTrueOf, IsWonOnce, scaled, total}
+use Rattle.mark_bits.proofs.Halves.{both-scaled, doubled-none, doubled-pos, doubled-zero, halves, scaled-all}
+use Rattle.mark_bits.proofs.Sums.{total-set, total-append, part_of_total, two_of_total, all_in_one, times-append}
 use Rattle.mark_bits.proofs.Words.{has-bits, shows-append}
 
 abbrev St : Type 0
@@ -19,7 +20,7 @@ St = State (Unit {0}) ClaimerView
 pub opens : (start : List Bool) (words : List ℕ) → bits words (length start) ≡ start → 64 * length words ≡ length start → IsWonOnce start (opening words [] (first_view start))
 opens start words is size = record {
   size = size;
-  parts = refl;
+  whole = λ d le. let e : doubled 1 (d - 0) ≡ doubled 1 d = ap (doubled 1) (let a : d - 0 ≡ d = omega arith in a) in omega arith;
   once = λ k. let e : one (has start k) ≡ one (bit words k) = ap one (has-bits words start k is size) in omega arith;
   views = λ id v h. ⊎_elim
       (λ q. absurd (some-ne-none v (sym q)))
@@ -28,20 +29,24 @@ opens start words is size = record {
 }
 
 -- a claimer is cut in two
-pub splits : (start : List Bool) (id : ℕ) (v : ClaimerView) → 1 < v.parts → Splits (IsWonOnce start) id v (kept_part v) (cut_part v)
-splits start id v more s rule at =
+pub splits : (start : List Bool) (id : ℕ) (v : ClaimerView) → Splits (IsWonOnce start) id v (kept_part v) (cut_part v)
+splits start id v s rule at =
     let is = rule.views id v at in
-    let kept : IsTrueOf start s.words (kept_part v) = record { same = λ q. is.same (omega arith); known = is.known; idle = λ none. absurd (omega arith) } in
-    let cut : IsTrueOf start s.words (cut_part v) = record { same = λ q. is.same (omega arith); known = is.known; idle = λ none. absurd (omega arith) } in
+    let kept : IsTrueOf start s.words (kept_part v) = record { same = is.same; known = is.known; idle = is.idle } in
+    let cut : IsTrueOf start s.words (cut_part v) = record { same = is.same; known = is.known; idle = λ none. refl } in
+    let rest : List ClaimerView = set s.views id (kept_part v) in
     record {
       size = rule.size;
-      parts =
-          let t = total-set (λ u. u.parts) s.views id v (kept_part v) at in
-          let a = total-append (λ u. u.parts) (set s.views id (kept_part v)) (cut_part v ∷ []) in
-          let p = rule.parts in omega arith;
+      whole = λ d le.
+          let cuts = total-set (λ u. u.right.1) s.views id v (kept_part v) at in
+          let more = total-append (λ u. u.right.1) rest (cut_part v ∷ []) in
+          let t = total-set (λ u. scaled d u.right) s.views id v (kept_part v) at in
+          let a = total-append (λ u. scaled d u.right) rest (cut_part v ∷ []) in
+          let p = rule.whole d (omega arith) in
+          let h = halves v.right.0 v.right.1 d (omega arith) in omega arith;
       once = λ k.
           let t = total-set (λ u. times k u.won) s.views id v (kept_part v) at in
-          let a = total-append (λ u. times k u.won) (set s.views id (kept_part v)) (cut_part v ∷ []) in
+          let a = total-append (λ u. times k u.won) rest (cut_part v ∷ []) in
           let p = rule.once k in omega arith;
       views = λ j u h. ⊎_elim
           (λ old. ⊎_elim
@@ -49,30 +54,37 @@ splits start id v more s rule at =
           (λ t. rule.views j u t.1)
           (at_set s.views id j (kept_part v) u old))
           (λ (e : cut_part v ≡ u). subst (IsTrueOf start s.words) e cut)
-          (at_snoc (set s.views id (kept_part v)) (cut_part v) u j h);
+          (at_snoc rest (cut_part v) u j h);
     }
 
 -- two claimers become one
-pub joins : (start : List Bool) (id : ℕ) (v : ClaimerView) (other : ℕ) (w : ClaimerView) → 0 < v.parts → Joins (IsWonOnce start) id v other w (joined v w) spent
+pub joins : (start : List Bool) (id : ℕ) (v : ClaimerView) (other : ℕ) (w : ClaimerView) → 0 < v.right.0 → Joins (IsWonOnce start) id v other w (joined v w) spent
 joins start id v other w some_part s rule at apart at' =
     let is = rule.views id v at in
     let old : get_elem? s.views other ≡ some w = ⊎_elim (λ t. absurd (apart t.0)) (λ t. t.1) (at_set s.views id other (joined v w) w at') in
     let is' = rule.views other w old in
     let left : IsTrueOf start s.words spent = record { same = λ q. absurd (omega arith); known = λ k q. absurd (false≢true q); idle = λ none. refl } in
+    let some' = doubled-pos v.right.0 w.right.1 some_part in
     let whole : IsTrueOf start s.words (joined v w) = record {
       same = λ q. is.same some_part;
       known = λ k q. ⊎_elim (is.known k) (is'.known k) (shows-append k v.seen w.seen q);
       idle = λ none. absurd (omega arith);
     } in
+    let rest : List ClaimerView = set s.views id (joined v w) in
     record {
       size = rule.size;
-      parts =
-          let t = total-set (λ u. u.parts) s.views id v (joined v w) at in
-          let t' = total-set (λ u. u.parts) (set s.views id (joined v w)) other w spent at' in
-          let p = rule.parts in omega arith;
+      whole = λ d le.
+          let cuts = total-set (λ u. u.right.1) s.views id v (joined v w) at in
+          let cuts' = total-set (λ u. u.right.1) rest other w spent at' in
+          let two = two_of_total (λ u. u.right.1) s.views id other v w (λ e. apart (sym e)) at old in
+          let t = total-set (λ u. scaled d u.right) s.views id v (joined v w) at in
+          let t' = total-set (λ u. scaled d u.right) rest other w spent at' in
+          let none = doubled-none (d - 0) in
+          let b = both-scaled v.right.0 v.right.1 w.right.0 w.right.1 d (omega arith) in
+          let p = rule.whole d (omega arith) in omega arith;
       once = λ k.
           let t = total-set (λ u. times k u.won) s.views id v (joined v w) at in
-          let t' = total-set (λ u. times k u.won) (set s.views id (joined v w)) other w spent at' in
+          let t' = total-set (λ u. times k u.won) rest other w spent at' in
           let a = times-append k v.won w.won in
           let p = rule.once k in omega arith;
       views = λ j u h. ⊎_elim
@@ -81,13 +93,16 @@ joins start id v other w some_part s rule at apart at' =
           (λ (r : (j ≡ id) × (joined v w ≡ u)). subst (IsTrueOf start s.words) r.1 whole)
           (λ r. rule.views j u r.1)
           (at_set s.views id j (joined v w) u t.1))
-          (at_set (set s.views id (joined v w)) other j spent u h);
+          (at_set rest other j spent u h);
     }
 
--- the claimer with all parts has won all that was won
-pub settled : (start : List Bool) (s : St) (id : ℕ) (v : ClaimerView) → IsWonOnce start s → get_elem? s.views id ≡ some v → v.parts ≡ all_parts
+-- the claimer with the whole right has won all that was won
+pub settled : (start : List Bool) (s : St) (id : ℕ) (v : ClaimerView) → IsWonOnce start s → get_elem? s.views id ≡ some v → HasAll v
     → (k : ℕ) → times k v.won + one (has start k) ≡ one (bit s.words k)
 settled start s id v rule at all k =
-    let p = rule.parts in
-    let t = all_in_one (λ u. times k u.won) (λ u. u.parts) s.views id v (λ j u h none. ap (times k) ((rule.views j u h).idle none)) at (omega arith) in
+    let d : ℕ = total (λ u. u.right.1) s.views in
+    let deep = part_of_total (λ u. u.right.1) s.views id v at in
+    let p = rule.whole d (omega arith) in
+    let mine = scaled-all v.right.0 v.right.1 d deep all in
+    let t = all_in_one (λ u. times k u.won) (λ u. scaled d u.right) s.views id v (λ j u h none. ap (times k) ((rule.views j u h).idle (doubled-zero u.right.0 (d - u.right.1) none))) at (omega arith) in
     let o = rule.once k in omega arith

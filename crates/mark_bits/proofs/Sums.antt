@@ -17,10 +17,18 @@ total-append f [] more = omega arith
 total-append f (x ∷ xs) more = let rest = total-append f xs more in omega arith
 
 -- one view is part of the sum
-part_of_total : (f : ClaimerView → ℕ) (views : List ClaimerView) (id : ℕ) (v : ClaimerView) → get_elem? views id ≡ some v → f v ≤ total f views
+pub part_of_total : (f : ClaimerView → ℕ) (views : List ClaimerView) (id : ℕ) (v : ClaimerView) → get_elem? views id ≡ some v → f v ≤ total f views
 part_of_total f [] id v e = absurd (some-ne-none v (sym e))
 part_of_total f (x ∷ xs) zero v e = let is : f x ≡ f v = ap f (some-injective x v e) in omega arith
 part_of_total f (x ∷ xs) (suc id) v e = let rest = part_of_total f xs id v e in omega arith
+
+-- two views are part of the sum
+pub two_of_total : (f : ClaimerView → ℕ) (views : List ClaimerView) (i j : ℕ) (v w : ClaimerView) → i ≢ j → get_elem? views i ≡ some v → get_elem? views j ≡ some w → f v + f w ≤ total f views
+two_of_total f [] i j v w apart e e' = absurd (some-ne-none v (sym e))
+two_of_total f (x ∷ xs) zero zero v w apart e e' = absurd (apart refl)
+two_of_total f (x ∷ xs) zero (suc j) v w apart e e' = let is : f x ≡ f v = ap f (some-injective x v e) in let rest = part_of_total f xs j w e' in omega arith
+two_of_total f (x ∷ xs) (suc i) zero v w apart e e' = let is : f x ≡ f w = ap f (some-injective x w e') in let rest = part_of_total f xs i v e in omega arith
+two_of_total f (x ∷ xs) (suc i) (suc j) v w apart e e' = let rest = two_of_total f xs i j v w (λ q. apart (ap (λ n. suc n) q)) e e' in omega arith
 
 -- f is 0 of each view of which g is 0
 abbrev IsNoneWhere : (f g : ClaimerView → ℕ) (views : List ClaimerView) → Type 0

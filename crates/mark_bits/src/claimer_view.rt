@@ -3,8 +3,8 @@ use std::collections::LinkedList;
 
 /// What a claimer knows and has won. It lives in contracts alone: no value of it is made.
 pub struct ClaimerView {
-    /// Its parts of the right to give the marks back.
-    pub parts: u64,
+    /// Its part of the right to give the marks back: so many of 2^n equal ones, and n.
+    pub right: (u64, u64),
 
     /// The marks when the table was made.
     pub start: LinkedList<bool>,

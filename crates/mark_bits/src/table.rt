@@ -1,28 +1,12 @@
 //! The marks while several threads claim them.
 //!
-//! # Who holds what, and when
-//!
-//! **Opening.** `MarkTable::new` copies the words of the marks, one bit a granule, and answers the table with
-//! one [`Claimer`], which holds every part of the right to give the marks back.
-//!
-//! **Sharing.** The table is shared by reference. Each thread has a claimer of its own, which `split` cuts off
-//! from another one with one part. A claimer has no bytes: it is what its thread knows (bits that are set) and
-//! has won (bits that it was the first to set).
-//!
-//! **Stepping.** Two kinds of atomic step touch the words, `fetch_or` in `claim` and `load` in `is_set`. Neither
-//! clears a bit, so what a claimer knows stays true whatever the others do. Neither waits or tries again.
-//!
-//! **The rule.** Between any two steps each bit that is set was set at the start or stands once in one won list,
-//! and a bit that is clear in neither.
-//!
-//! **Closing.** `join` puts a claimer's parts, knowledge and won list into another one. The claimer that has all
-//! parts again gives the marks back by `finish`. A claimer that is dropped takes its part along, and then no
-//! one can.
+//! docs/CRATES.md tells the rest: who holds what, and when.
 ghost use Rattle.std.specs.Prelude.{◌≡◌, ℕ, ◌*◌, ◌<◌, length, true, false, ◌∷◌, if◌then◌else◌, slice_index_or, IfOk, IfErr};
 ghost use Rattle.std.specs.Slots.{slots_items, slots_len, IsFull};
 ghost use Rattle.words.specs.Bits.{bit};
 ghost use Rattle.words.specs.declared.refusal.OpenError.TheVariants.{Memory};
-ghost use Rattle.mark_bits.specs.Claims.{all_parts, first_view, kept_part, cut_part, joined, knows, Gathers, LearnsMore};
+ghost use Rattle.mark_bits.specs.Claims.{first_view, kept_part, cut_part, joined, knows, Gathers, HasAll, LearnsMore};
+ghost use Rattle.mark_bits.specs.Rule.{IsClaim};
 
 use crate::claimer_view::ClaimerView;
 use crate::marks::Marks;
@@ -92,14 +76,14 @@ pub struct MarkTable {
 #[derive(Drop)]
 pub struct Claimer {
     seat: Seat<(), ClaimerView>,
-    ghost part: { 0 < seat.me.0.parts },
+    ghost part: { 0 < seat.me.0.right.0 },
     ghost no_slot: { length seat.me.1 ≡ 0 },
 }
 
 impl MarkTable {
     ghost use Rattle.mark_bits.specs.Tables.{view, start_of, IsOf};
 
-    /// A table that begins with the bits of the marks, and the claimer that has all its parts. The one error is
+    /// A table that begins with the bits of the marks, and the claimer that has all of it. The one error is
     /// [`OpenError::Memory`].
     pub fn new(alloc: Global, marks: &Marks) -> Result<(MarkTable, Claimer), OpenError>
         ensures table { IfOk result (λ made. (start_of made.0 ≡ marks.now) × IsOf made.0 made.1) }
@@ -113,7 +97,6 @@ impl MarkTable {
     /// One more claimer, which knows what this one knows and has won nothing.
     pub fn split(&self, me: &mut Claimer) -> Claimer
         requires of { IsOf self.now me.old }
-        requires parts { 1 < (view me.old).parts }
         ensures of { IsOf self.now me.new × IsOf self.now result }
         ensures me { view me.new ≡ kept_part (view me.old) }
         ensures cut { view result ≡ cut_part (view me.old) }
@@ -135,12 +118,13 @@ impl MarkTable {
         self.table.shared.join_seat::<Parts>(&mut me.seat, seat);
     }
 
-    /// Sets the bit. The answer is whether this was the first claim of a bit that was not set at the start, and
-    /// then the claimer has won it.
+    /// Sets the bit. The answer is whether it was clear at this claim's one step, and then the claimer has won it: of all claims of a
+    /// bit that was not set at the start, it is the first.
     pub fn claim(&self, me: &mut Claimer, bit: usize) -> bool
         requires of { IsOf self.now me.old }
         requires bit { bit < length (start_of self.now) }
         ensures of { IsOf self.now me.new }
+        ensures step { IsClaim (view me.old) (view me.new) bit result }
         ensures learns { LearnsMore (view me.old) (view me.new) }
         ensures known { knows (view me.new) bit ≡ true }
         ensures won { (view me.new).won ≡ (if result then bit ∷ (view me.old).won else (view me.old).won) }
@@ -175,7 +159,7 @@ impl MarkTable {
     /// Puts the bits of the table into the marks. It takes the claimer to which all others were joined.
     pub fn finish(self, claimer: Claimer, marks: &mut Marks)
         requires of { IsOf self claimer }
-        requires all { (view claimer).parts ≡ all_parts }
+        requires all { HasAll (view claimer) }
         requires size { length marks.old ≡ length (start_of self) }
         ensures gathered { Gathers (start_of self) (view claimer).won marks.new }
         ensures known { (k : ℕ) → knows (view claimer) k ≡ true → slice_index_or marks.new k false ≡ true }

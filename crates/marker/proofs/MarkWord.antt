@@ -53,10 +53,6 @@ tells_none found bytes w is = record {
   none = λ e v h. subst (IsNoStray found bytes) (sym (one_in w v h)) is;
 }
 
-pub tells_stray : (found : ℕ → Option Found) (bytes w : ℕ) → found w ≡ None → FIRST_ADDRESS ≤ w → w < FIRST_ADDRESS + bytes → TellsStray found bytes (w ∷ []) true
-tells_stray found bytes w none from below = record {
-  some = λ e. (w, (0, (let l : 0 < 1 = omega arith in l), refl), record { nothing = none; from = from; below = below });
-  none = λ e v h. absurd (false≢true (sym e));
 }
 
 pub tells_far : (pages bytes w : ℕ) (found : ℕ → Option Found) → bytes ≡ PAGE_BYTES * pages → w < 2 ^ 64 → bytes ≤ (w + (2 ^ 64 - FIRST_ADDRESS)) % 2 ^ 64 → TellsStray found (PAGE_BYTES * pages) (w ∷ []) false

@@ -3,7 +3,7 @@ ghost use Rattle.std.specs.Prelude.{◌≡◌, ◌⊎◌, ℕ, ◌<◌, ◌≤�
 ghost use Rattle.words.specs.declared.refusal.OpenError.TheVariants.{Memory};
 ghost use Rattle.words.specs.Bits.{Has};
 ghost use Rattle.mark_bits.specs.Tables.{view, start_of, IsOf};
-ghost use Rattle.mark_bits.specs.Claims.{all_parts, first_view, knows, Gathers};
+ghost use Rattle.mark_bits.specs.Claims.{first_view, knows, Gathers, HasAll};
 
 use crate::entry::Entry;
 use crate::marker::Marker;
@@ -13,7 +13,7 @@ use std::alloc::Global;
 use words::OpenError;
 
 impl Marker {
-    /// The marks as a table that several threads claim from, and the claimer that has all its parts. The one error is
+    /// The marks as a table that several threads claim from, and the claimer that has all of it. The one error is
     /// [`OpenError::Memory`].
     pub fn open_table(&self, alloc: Global) -> Result<(MarkTable, Claimer), OpenError>
         ensures table { IfOk result (λ made. (start_of made.0 ≡ self.now.marks) × IsOf made.0 made.1) }
@@ -61,7 +61,7 @@ impl Marker {
         carried: &DirtyPages,
     )
         requires of { IsOf table claimer }
-        requires all { (view claimer).parts ≡ all_parts }
+        requires all { HasAll (view claimer) }
         requires size { length (start_of table) ≡ length self.old.marks }
         requires pages { length dirty ≡ length self.old.dirty }
         requires carried { length carried.now ≡ length self.old.carried }

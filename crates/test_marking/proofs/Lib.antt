@@ -1,2 +1,3 @@
 pub mod Marked
 pub mod Newcomers
+pub mod Crew

@@ -10,7 +10,6 @@ use Rattle.block_map.specs.FoundIn.{found_in}
 use Rattle.block_map.specs.declared.found.Found.{Found}
 use Rattle.marker.specs.Marking.{Marking}
 use Rattle.marker.specs.Growth.{Traces}
-use Rattle.marker.specs.Invariant.{DirtyPageInvariant}
 use Rattle.marker.specs.Mutations.{HasNoNew, KeepsWords}
 use Rattle.marker.proofs.Mutating.{free_traced}
 use Rattle.test_marking.specs.Marked.{IsOfOneHeap}

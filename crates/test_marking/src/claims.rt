@@ -1,10 +1,10 @@
 //! Threads that claim all marks of a table side by side.
-ghost use Rattle.std.specs.Prelude.{◌≡◌, ℕ, ◌+◌, ◌<◌, ◌≤◌, true, length, All, OnOk, OnErr, IfOk, vec_len};
+ghost use Rattle.std.specs.Prelude.{◌≡◌, ℕ, ◌+◌, ◌<◌, ◌≤◌, true, length, OnOk, OnErr, IfOk, vec_len};
 ghost use Rattle.words.specs.Bits.{IsFullRow};
 ghost use Rattle.words.specs.declared.limits.TheConstants.{MAX_HELPERS};
-ghost use Rattle.mark_bits.specs.Claims.{knows};
+ghost use Rattle.mark_bits.specs.Claims.{joined, knows, HasAll, HasPart, LearnsMore};
 ghost use Rattle.mark_bits.specs.Tables.{view, start_of, IsOf};
-ghost use Rattle.test_marking.specs.Crew.{IsReady, IsDoneClaiming};
+ghost use Rattle.test_marking.specs.Crew.{Each, IsReady, IsDoneClaiming};
 
 use mark_bits::{Claimer, MarkTable, Marks};
 use std::alloc::{AllocError, Global};
@@ -26,8 +26,10 @@ struct Helper {
 // The helper claims each bit.
 fn claim_each(table: &MarkTable, granules: usize, helper: &mut Helper)
     requires granules { granules ≡ length (start_of table.now) }
-    requires ready { IsReady table.now helper.old.claimer }
-    ensures { IsDoneClaiming table.now granules helper.new.claimer }
+    requires of { IsOf table.now helper.old.claimer }
+    ensures of { IsOf table.now helper.new.claimer }
+    ensures learns { LearnsMore (view helper.old.claimer) (view helper.new.claimer) }
+    ensures all { (k : ℕ) → k < granules → knows (view helper.new.claimer) k ≡ true }
 {
     for bit in 0..granules {
         if table.claim(&mut helper.claimer, bit) {
@@ -44,13 +46,13 @@ fn claim_side_by_side<R: Threads + Sync>(
     crew: &mut [Helper],
 )
     requires granules { granules ≡ length (start_of table.now) }
-    requires crew { All (λ h. IsReady table.now h.claimer) crew.old }
-    ensures done { All (λ h. IsDoneClaiming table.now granules h.claimer) crew.new }
+    requires crew { Each (λ place h. IsReady table.now place h.claimer) crew.old }
+    ensures done { Each (λ place h. IsDoneClaiming table.now granules place h.claimer) crew.new }
     ensures len { length crew.new ≡ length crew.old }
 {
-    let work = |_: usize, helper: &mut Helper|
-        requires { (granules ≡ length (start_of table.now)) × IsReady table.now helper.now.claimer }
-        ensures { IsDoneClaiming table.entry.now granules helper.exit.now.claimer }
+    let work = |place: usize, helper: &mut Helper|
+        requires { (granules ≡ length (start_of table.now)) × IsReady table.now place helper.now.claimer }
+        ensures { IsDoneClaiming table.entry.now granules place helper.exit.now.claimer }
     {
         claim_each(table, granules, helper);
     };
@@ -65,9 +67,9 @@ fn hire(
     helpers: u8,
 ) -> Result<Vec<Helper>, AllocError>
     requires of { IsOf table.now first.old }
-    requires parts { helpers < (view first.old).parts }
+    requires all { HasAll (view first.old) }
     ensures of { IsOf table.now first.new }
-    ensures crew { IfOk result (λ v. All (λ h. IsReady table.now h.claimer) v.items × (vec_len v + (view first.new).parts ≡ (view first.old).parts) × (vec_len v ≡ helpers)) }
+    ensures crew { IfOk result (λ v. Each (λ place h. IsReady table.now place h.claimer) v.items × HasPart (view first.new) (vec_len v) × (vec_len v ≡ helpers)) }
 {
     let mut crew = Vec::new(alloc);
     for _ in 0..helpers {
@@ -80,9 +82,10 @@ fn hire(
 // Joins one helper, and answers how many of its claims were the first.
 fn take_in(table: &MarkTable, first: &mut Claimer, helper: Helper) -> usize
     requires of { IsOf table.now first.old }
-    requires done { IsDoneClaiming table.now (length (start_of table.now)) helper.claimer }
+    requires helper { IsOf table.now helper.claimer }
+    requires all { (k : ℕ) → k < length (start_of table.now) → knows (view helper.claimer) k ≡ true }
     ensures of { IsOf table.now first.new }
-    ensures parts { (view first.new).parts ≡ (view first.old).parts + 1 }
+    ensures joined { view first.new ≡ joined (view first.old) (view helper.claimer) }
     ensures known { (k : ℕ) → k < length (start_of table.now) → knows (view first.new) k ≡ true }
 {
     let Helper { claimer, wins } = helper;
@@ -93,9 +96,10 @@ fn take_in(table: &MarkTable, first: &mut Claimer, helper: Helper) -> usize
 // Joins all helpers, and answers how many claims were the first.
 fn gather(table: &MarkTable, first: &mut Claimer, mut crew: Vec<Helper>) -> usize
     requires of { IsOf table.now first.old }
-    requires crew { All (λ h. IsDoneClaiming table.now (length (start_of table.now)) h.claimer) crew.items }
+    requires part { HasPart (view first.old) (vec_len crew) }
+    requires crew { Each (λ place h. IsDoneClaiming table.now (length (start_of table.now)) place h.claimer) crew.items }
     ensures of { IsOf table.now first.new }
-    ensures parts { (view first.new).parts ≡ (view first.old).parts + vec_len crew }
+    ensures all { HasAll (view first.new) }
     ensures known { 0 < vec_len crew → (k : ℕ) → k < length (start_of table.now) → knows (view first.new) k ≡ true }
 {
     let mut wins = 0usize;

@@ -7,6 +7,8 @@ mod claims;
 #[cfg(test)]
 mod coming;
 #[cfg(test)]
+mod deals;
+#[cfg(test)]
 mod finding;
 #[cfg(test)]
 mod graph;
@@ -14,8 +16,6 @@ mod graph;
 mod heap;
 #[cfg(test)]
 mod helpers;
-#[cfg(test)]
-mod offers;
 #[cfg(test)]
 mod scene;
 #[cfg(test)]

@@ -1,5 +1,5 @@
 //! What each of two helpers claims of a pause: the objects of its own root words, before anything else, by calls numbered
-//! from 0. Those objects lead to nothing, so that no work goes from one helper to the other.
+//! from 0.
 use crate::scene::Scene;
 use final_pause::{FIRST_HELPER, Gate, Helpers};
 use std::process::Abort;
@@ -16,8 +16,8 @@ const TURNS: u64 = 10_000_000;
 
 const SECOND_HELPER: u8 = FIRST_HELPER + 1;
 
-// Pointer-free objects, and the places of root words that point into them.
-const OBJECTS: usize = 6;
+/// Pointer-free objects, and the places of root words that point into them.
+pub(crate) const OBJECTS: usize = 6;
 
 const EVEN: [bool; OBJECTS] = [true, false, true, false, true, false];
 
@@ -130,8 +130,8 @@ fn roots_at(scene: &Scene, places: [bool; OBJECTS]) -> Result<[u64; OBJECTS], Fa
     Ok(roots)
 }
 
-// In a pause over these root words the two helpers make so many claims.
-fn close_by_two(
+/// In a pause over these root words the two helpers make so many claims.
+pub(crate) fn close_by_two(
     rt: &(impl Abort + Threads + Wait + Sync),
     scene: &mut Scene,
     places: [bool; OBJECTS],
@@ -217,8 +217,8 @@ impl Gate for Held {
     }
 }
 
-// The entry that is being read, that of the second object, the waiting one of the first, and a page lead to three objects, and all are of
-// the first helper's share.
+// The waiting entry, that of the first object, and a page lead to two objects, and are dealt to the first helper; the entry that is being
+// read, that of the second object, leads to a third, and is dealt to the second.
 fn leave_work(rt: &impl Abort, scene: &mut Scene) -> Result<(), Fail> {
     let blocks = [(0, 4, Kind::Normal, 2), (1, 2, Kind::PointerFree, 5)];
     scene.lay(rt, &blocks)?;

@@ -1,9 +1,6 @@
-use Rattle.std.proofs.Common.{◌≡◌, ◌+◌, All, vec_len}
-use Rattle.mark_bits.specs.Tables.{view, IsOf}
-use Rattle.bench.specs.Ready.{IsReady}
+use Rattle.std.proofs.Common.{All}
+use Rattle.mark_bits.specs.Tables.{IsOf}
 use Rattle.bench.proofs.marks.hire.Given as goal
 
 abbrev pub invariant-loop : goal.invariant-loop
-invariant-loop l =
-    IsOf l.table l.first × All (λ c. IsReady l.table c) l.crew.items × (vec_len l.crew ≡ l.counter)
-    × (vec_len l.crew + (view l.first).parts ≡ (view l.initial.first).parts)
+invariant-loop l = IsOf l.table l.first × All (λ c. IsOf l.table c) l.crew.items

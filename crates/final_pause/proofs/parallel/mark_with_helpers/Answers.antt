@@ -26,12 +26,12 @@ gather-requires-clause-done g c = λ i d lt.
 
 pub returns-clause-traces : goal.returns-clause-traces
 returns-clause-traces g c =
-    let some : 0 < c.len-4.result = search rules in
+    let some : 0 < c.from.result = search rules in
     let k = c.take_back.ensures in
     gathered_traces c.gather.new.first c.gather.new.dirty c.gather.new.carried c.take_back.new.self c.gather.ensures c.len.ensures.lawful.map some c.in-Ok.ensures.table.0 c.requires.pages k.gathered k.known k.dirty k.carried_len k.each k.old k.more
 
 pub returns-clause-roots : goal.returns-clause-roots
 returns-clause-roots g c = λ _.
-    let some : 0 < c.len-4.result = search rules in
+    let some : 0 < c.from.result = search rules in
     let k = c.take_back.ensures in
     gathered_roots c.gather.new.first c.gather.new.dirty c.gather.new.carried c.take_back.new.self c.gather.ensures c.len.ensures.lawful.map some c.in-Ok.ensures.table.0 c.requires.pages k.gathered k.known k.dirty k.carried_len k.each k.old k.more

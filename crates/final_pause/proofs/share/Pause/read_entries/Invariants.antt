@@ -5,4 +5,4 @@ use Rattle.final_pause.proofs.share.Pause.read_entries.Given as goal
 abbrev pub invariant-loop-i : goal.invariant-loop-i
 invariant-loop-i g l =
     GoesOnServing l.self l.fn.helper l.helper
-    × AreEntriesRead l.self (view l.helper.claimer) l.helper.carried l.fn.helper.share l.i
+    × AreEntriesRead l.self (view l.helper.claimer) l.helper.carried l.fn.helper.share.entries.items l.i

@@ -5,4 +5,4 @@ use Rattle.final_pause.proofs.share.Pause.read_pages.Given as goal
 abbrev pub invariant-loop-page : goal.invariant-loop-page
 invariant-loop-page g l =
     GoesOnServing l.self l.fn.helper l.helper
-    × ArePagesRead l.self (view l.helper.claimer) l.helper.carried l.fn.helper.share l.page
+    × ArePagesRead l.self (view l.helper.claimer) l.helper.carried l.fn.helper.share.pages l.page

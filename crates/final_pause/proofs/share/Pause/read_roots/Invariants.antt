@@ -5,4 +5,4 @@ use Rattle.final_pause.proofs.share.Pause.read_roots.Given as goal
 abbrev pub invariant-loop-i : goal.invariant-loop-i
 invariant-loop-i g l =
     GoesOnServing l.self l.fn.helper l.helper
-    × AreRootsRead l.self (view l.helper.claimer) l.fn.helper.share l.i
+    × AreRootsRead l.self (view l.helper.claimer) l.fn.helper.share.place l.i

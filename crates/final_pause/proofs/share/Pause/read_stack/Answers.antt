@@ -2,7 +2,6 @@ use Rattle.std.proofs.Common.{◌∙◌, ◌∷◌, [], ℕ, List, refl, sym, ap
 use Rattle.std.specs.Prelude.{Contains}
 use Rattle.std.proofs.lemmas.List.Elements.{Contains-append_right}
 use Rattle.final_pause.specs.Helping.{found, ReadsWords}
-use Rattle.final_pause.specs.Serving.{GoesOnServing}
 use Rattle.final_pause.proofs.Serving.{serves_pop, serves_trans}
 use Rattle.final_pause.proofs.share.Pause.read_stack.Goals as goal
 
@@ -19,11 +18,3 @@ loop-base-preserved g c =
     serves_trans p c.args.helper.now h b inv
     (serves_pop p inv.serving.fits.ready.map h m b c.in-Some.base f refl refl refl refl c.in-Some.ensures.items c.object_at-found.ensures inv.serving
     (subst (λ (n : ℕ). ReadsWords p f 0 n m b) c.from.ensures c.read_words.ensures))
-
-pub offer_lowest-offered-requires : goal.offer_lowest-offered-requires
-offer_lowest-offered-requires g c =
-    let p = c.args.self.now in let h = c.loop-base.helper in let f = c.object_at-found.result in let inv = c.loop-base.invariant in
-    let m = record h { stack = c.pop.new.self } in let b = c.read_words.new.helper in
-    let s : GoesOnServing p h b = serves_pop p inv.serving.fits.ready.map h m b c.in-Some.base f refl refl refl refl c.in-Some.ensures.items c.object_at-found.ensures inv.serving
-    (subst (λ (n : ℕ). ReadsWords p f 0 n m b) c.from.ensures c.read_words.ensures) in
-    λ k r. c.requires.offered.queued k (s.serving.queued k r)

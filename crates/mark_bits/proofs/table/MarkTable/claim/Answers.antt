@@ -15,7 +15,7 @@ pub invariant_of-me : goal.invariant_of-me
 invariant_of-me c =
     let after = (c.fetch_or-found.ensures.2.1 c.args.bit refl refl).0 in
     record {
-      part = subst (λ (u : ClaimerView). 0 < u.parts) (sym after) c.args.me.now.part;
+      part = subst (λ (u : ClaimerView). 0 < u.right.0) (sym after) c.args.me.now.part;
       no_slot = ap length c.fetch_or-found.ensures.2.0 ∙ c.args.me.now.no_slot;
     }
 
@@ -27,7 +27,7 @@ returns-clause-of c =
 pub returns-clause-learns : goal.returns-clause-learns
 returns-clause-learns c =
     let after = (c.fetch_or-found.ensures.2.1 c.args.bit refl refl).0 in
-    record { parts = ap (λ (u : ClaimerView). u.parts) after; known = λ k h. ap (λ (u : ClaimerView). knows u k) after ∙ shows-more k _ _ h }
+    record { right = ap (λ (u : ClaimerView). u.right) after; known = λ k h. ap (λ (u : ClaimerView). knows u k) after ∙ shows-more k _ _ h }
 
 pub returns-clause-known : goal.returns-clause-known
 returns-clause-known c = claim_known _ _ c.args.bit _ (c.fetch_or-found.ensures.2.1 c.args.bit refl refl).0
