@@ -1,17 +1,16 @@
 -- Loops over the pages of a map, seen as their states.
-use Rattle.std.proofs.Common.{◌≡◌, ℕ, ◌+◌, ◌<◌, Bool, true, false, List, [], ◌∷◌, ◌++◌, zero, suc, length, map, set, get_or, refl, sym, ap, ◌∙◌, arith, get_or-set_same}
+use Rattle.std.proofs.Common.{◌≡◌, ℕ, ◌+◌, ◌<◌, Bool, true, false, List, [], ◌∷◌, ◌++◌, length, map, set, get_or, ap, ◌∙◌, arith, get_or-set_same}
 use Rattle.std.specs.Prelude.{MatchBool}
-use Rattle.std.proofs.lemmas.List.{map-set, get_or-map, get_or_past, length-map, length-append}
+use Rattle.std.proofs.lemmas.List.{map-set, get_or-map, length-map}
 use Rattle.block_map.specs.declared.page.Page.{Page}
 use Rattle.block_map.specs.declared.page.Page.TheVariants.{Free}
 use Rattle.block_map.specs.declared.found.Put.{Put}
 use Rattle.words.specs.Bits.{IsEmptyFrom, IsFirstClearFrom, IsFirstFrom, IsFullRow}
 use Rattle.words.specs.Classes.{IsSizeClass}
 use Rattle.blocks.specs.Cells.{Cells}
-use Rattle.blocks.specs.Lists.{IsFreeCellOf}
 use Rattle.block_map.specs.FreeCells.{HasFree, TellsOf}
-use Rattle.block_map.specs.Listed.{with_put, HasFirst}
-use Rattle.block_map.specs.States.{free, cut, state_at, AreFreePages}
+use Rattle.block_map.specs.Listed.{with_put}
+use Rattle.block_map.specs.States.{free, cut, state_at}
 use Rattle.block_map.specs.Shown.{shown}
 use Rattle.block_map.proofs.Spans.{span_start, span_more, large_here, large_else}
 
@@ -34,10 +33,5 @@ full_cases false b h = (h.0, (h.1.inside, h.1.clear))
 pub tells_of : (old : Cells) (cell : ℕ) (put : Put) → IsSizeClass put.class → old.class ≡ put.class → old.kind ≡ put.kind → MatchBool put.was_full (IsFullRow old.taken) ((i : ℕ) × IsFirstClearFrom old.taken 0 i)
     → MatchBool put.is_empty (IsEmptyFrom (set old.taken cell false) 0) ((i : ℕ) × IsFirstFrom (set old.taken cell false) 0 i) → TellsOf (cut old) (with_put (cut old) cell) put
 tells_of old cell put class of_class of_kind full empty = record { class = class; block = (of_class, of_kind); full = full_cases put.was_full old full; empty = empty }
-
--- the first cell of a list is free, or it is at its end
-pub first_cases : (full : Bool) (b : Cells) → MatchBool full (IsFullRow b.taken) (IsFreeCellOf b.taken b.first) → MatchBool full (IsFullRow b.taken) (HasFirst (cut b))
-first_cases true b h = h
-first_cases false b h = (h.inside, h.free)
 
 pub ruleset filling = (span_start, span_more, large_here, large_else)

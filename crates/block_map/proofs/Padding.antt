@@ -1,5 +1,5 @@
 -- Pages of which only the first ones are made.
-use Rattle.std.proofs.Common.{◌≡◌, ℕ, zero, suc, ◌+◌, ◌-◌, ◌*◌, ◌/◌, ◌<◌, ◌≤◌, Bool, true, Option, None, Some, List, [], ◌∷◌, ◌++◌, length, map, set, get_or, replicate, refl, sym, ap, ◌∙◌, subst, ⊎_elim, arith, length-set}
+use Rattle.std.proofs.Common.{◌≡◌, ℕ, zero, suc, ◌+◌, ◌-◌, ◌*◌, ◌/◌, ◌<◌, ◌≤◌, Bool, Option, None, Some, List, [], ◌∷◌, ◌++◌, length, map, set, get_or, replicate, refl, sym, ap, ◌∙◌, subst, ⊎_elim, arith, length-set}
 use Rattle.std.proofs.lemmas.Bool.{cases_lt}
 use Rattle.std.proofs.lemmas.Option.{none-some}
 use Rattle.std.proofs.lemmas.List.{get_or_past, get_or-replicate, get_or_append_left, get_or-append_right, length-append, length-map, length-replicate, set-append_left}
@@ -10,13 +10,12 @@ use Rattle.block_map.specs.Listed.{with_taken, IsLinked}
 use Rattle.block_map.specs.Shown.{shown, padded, IsSameStates}
 use Rattle.std.specs.Prelude.{IfSome}
 use Rattle.block_map.specs.declared.found.Taken.{Taken}
-use Rattle.block_map.proofs.Filling.{put_states, state_of}
 use Rattle.words.specs.declared.limits.TheConstants.{FIRST_ADDRESS}
 use Rattle.words.specs.Layout.{page_of}
 use Rattle.block_map.specs.FoundIn.{found_in}
 use Rattle.block_map.specs.declared.found.Found.{Found}
 use Rattle.block_map.proofs.Finding.{found_as, found_low}
-use Rattle.block_map.proofs.Seen.{within, state_read}
+use Rattle.block_map.proofs.Seen.{state_read}
 
 free_past : (n k : ℕ) → get_or (replicate n free) k free ≡ free
 free_past n k = ⊎_elim (λ lt. get_or-replicate n k free free lt) (λ past. get_or_past (replicate n free) k free (let size : length (replicate n free) ≡ n = length-replicate n free in omega (arith, size, past))) (cases_lt k n)

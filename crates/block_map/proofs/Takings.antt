@@ -49,8 +49,3 @@ pub taken_else : {words : List ℕ} {page : ℕ} {states new : List PageState} {
 taken_else TakesCells.done p ne = refl
 taken_else {words = words} {page = page} (TakesCells.next {states = states} laid at has added rest) p ne =
     taken_else rest p ne ∙ get_or-set_other states page p (with_taken words page (state_at states page)) free ne
-
--- the map was laid out before
-pub laid_before : {words : List ℕ} {page : ℕ} {states new : List PageState} {cells : List ℕ} → TakesCells words page states cells new → IsLaid new → IsLaid states
-laid_before TakesCells.done laid = laid
-laid_before (TakesCells.next laid at has added rest) after = laid

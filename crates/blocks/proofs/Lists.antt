@@ -156,9 +156,6 @@ listed_elsewhere words words' page other b cells ne changes lists = listed_kept 
 pub changes_none : (words : List ℕ) (page : ℕ) → ChangesPage words words page
 changes_none words page = record { size = refl; others = λ k out. refl }
 
-pub changes_more : (old mid new : List ℕ) (page : ℕ) → ChangesPage old mid page → ChangesPage mid new page → ChangesPage old new page
-changes_more old mid new page a b = record { size = b.size ∙ a.size; others = λ k out. b.others k out ∙ a.others k out }
-
 -- ---- free cells are linked, from the highest to the lowest
 -- a row read with places past its end as members
 read_else : (row : List Bool) (i : ℕ) → length row ≤ i → get_or row i true ≡ true
@@ -172,12 +169,6 @@ read_inside row i b is = ⊎_elim
 
 pub free_here : (row : List Bool) (i : ℕ) → get_or row i true ≡ false → IsFreeCellOf row i
 free_here row i is = let r = read_inside row i false is in record { inside = r.0; free = r.1 }
-
-full_read : (row : List Bool) (low i : ℕ) → IsFullFrom row low → low ≤ i → get_or row i true ≡ true
-full_read row low i full ge = ⊎_elim
-    (λ lt. get_or_default row i true false lt ∙ full i ge lt)
-    (λ past. read_else row i past)
-    (cases_lt i (length row))
 
 pub linked_none : (link : ℕ → ℕ) (row : List Bool) (low : ℕ) → length row ≤ low → IsLinkedFrom link row low LIST_END
 linked_none link row low past = record {

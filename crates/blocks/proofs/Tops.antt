@@ -32,9 +32,6 @@ top_is rest some fits =
     let e : t.0 ≡ 63 - leading_zeros w64 rest = (let s = t.1 in omega (arith, s)) in
     subst (IsTop rest) e (record { inside = (let s = t.1 in omega (arith, s)); low = t.2; high = t.3 })
 
-pub top_small : (rest : ℕ) → 0 < rest → rest < 2 ^ 64 → leading_zeros w64 rest ≤ 63
-top_small rest some fits = let t = leading_top 64 rest some fits in let s = t.1 in omega (arith, s)
-
 module _ (rest top : ℕ) (fits : rest < 2 ^ 64) (h : IsTop rest top) where
   quotient : rest / 2 ^ top ≡ 1
   quotient =

@@ -1,5 +1,5 @@
 -- What marking beside writers is to a run.
-use Rattle.std.proofs.Common.{◌≡◌, ℕ, zero, suc, ◌+◌, ◌*◌, ◌<◌, ◌≤◌, true, false, List, [], ◌∷◌, ◌++◌, length, get_or, set, Contains, Option, Some, None, refl, sym, ap, ◌∙◌, subst, inl, inr, ⊎_elim, arith, length-set, get_or-set_same}
+use Rattle.std.proofs.Common.{◌≡◌, ℕ, zero, suc, ◌+◌, ◌*◌, ◌<◌, ◌≤◌, true, false, List, [], ◌∷◌, ◌++◌, length, get_or, set, Contains, Option, Some, None, refl, sym, ap, ◌∙◌, subst, inr, ⊎_elim, arith, length-set, get_or-set_same}
 use Rattle.std.specs.Prelude.{Bool, All, ◌⊎◌, ◌-◌, ◌/◌}
 use Rattle.std.proofs.lemmas.Bool.{cases_Bool, cases_eq, cases_lt, false≢true}
 use Rattle.std.proofs.lemmas.List.{set-set, set-get_or}
@@ -14,10 +14,10 @@ use Rattle.heap_spec.specs.declared.call.Call.TheVariants.{Set}
 use Rattle.heap_spec.specs.declared.event.Event.TheVariants.{Mutator}
 use Rattle.heap_spec.specs.declared.reply.Reply.TheVariants.{Done}
 use Rattle.heap_spec.specs.Closure as heap
-use Rattle.heap_spec.specs.Heap.{Heap, Object, HasObject, PointsIntoObject, Mutator as HeapMutator, root_words}
+use Rattle.heap_spec.specs.Heap.{Heap, Object, Mutator as HeapMutator, root_words}
 use Rattle.heap_spec.specs.Layout.{PointsInto}
 use Rattle.heap_spec.specs.Ranges.{IsWord}
-use Rattle.heap_spec.specs.Runs.{Start, Run, Told, heap_after, Touched}
+use Rattle.heap_spec.specs.Runs.{Start, Run, Told, heap_after}
 use Rattle.heap_spec.specs.Steps.{register}
 use Rattle.heap_spec.proofs.Gaining.{attached_words}
 use Rattle.pages.specs.Memory.{IsWordAddress, word_index, word_at}
@@ -39,8 +39,8 @@ use Rattle.object_space.specs.Kept.{is_kept}
 use Rattle.object_space.specs.Store.{Store, IsSwept}
 use Rattle.object_space.proofs.Kept.{kept_cases, kept_same, nothing_pending}
 use Rattle.heap_core.specs.CoreContents.{CoreContents, Cycle, IsTraced}
-use Rattle.heap_core.specs.DirectWrites.{IsWholeCore, IsLeftOrWritten, WritesWords, with_memory}
-use Rattle.heap_core.specs.BesideSteps.{IsWrittenIn, IsBringLine, GoesOnBeside, BesideIsLines, WrittenBesideIsWrittenAfter}
+use Rattle.heap_core.specs.DirectWrites.{IsLeftOrWritten, WritesWords, with_memory}
+use Rattle.heap_core.specs.BesideSteps.{IsWrittenIn, IsBringLine, BesideIsLines, WrittenBesideIsWrittenAfter}
 use Rattle.heap_core.specs.Following.{Follows, AreLines}
 use Rattle.heap_core.specs.MutatorCalls.{IsCall}
 use Rattle.heap_core.specs.Standing.{keeps, objects_of}

@@ -1,5 +1,5 @@
 -- Words of free pages that change past the calls of a core.
-use Rattle.std.proofs.Common.{◌≡◌, ℕ, ◌+◌, ◌*◌, ◌<◌, ◌⊎◌, List, length, get_or, Some, None, sym, ap, ◌∙◌, subst, inl, inr, ⊎_elim, arith}
+use Rattle.std.proofs.Common.{◌≡◌, ℕ, ◌+◌, ◌*◌, ◌<◌, ◌⊎◌, List, length, get_or, Some, None, sym, ap, ◌∙◌, subst, ⊎_elim, arith}
 use Rattle.words.specs.Bits.{Has}
 use Rattle.words.specs.Layout.{page_of}
 use Rattle.heap_spec.specs.Heap.{Heap, Object}
@@ -19,8 +19,7 @@ use Rattle.heap_view.specs.Shows.{IsShown}
 use Rattle.heap_core.specs.CoreContents.{CoreContents}
 use Rattle.heap_core.specs.DirectWrites.{IsWholeCore}
 use Rattle.heap_core.specs.Following.{Follows}
-use Rattle.heap_core.specs.FreedWords.{with_words, ChangesFreed, FreedWordsKeepCores, FreedWordsKeepHeaps, FreedWordsKeepRuns}
-use Rattle.heap_core.specs.Held.{IsSoundCore}
+use Rattle.heap_core.specs.FreedWords.{with_words, FreedWordsKeepCores, FreedWordsKeepHeaps, FreedWordsKeepRuns}
 use Rattle.heap_core.specs.Standing.{StandsFor, keeps}
 
 no_found : (f : Found) → None ≡ Some f → ⊥

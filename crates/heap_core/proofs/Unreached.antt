@@ -1,10 +1,8 @@
 -- What isn't marked, where all is marked that is to be, is reached by no root.
-use Rattle.std.proofs.Common.{◌≡◌, ℕ, true, false, get_or, Some, ap, ◌∙◌}
+use Rattle.std.proofs.Common.{◌≡◌, ℕ, true, false, get_or, ap, ◌∙◌}
 use Rattle.std.specs.Prelude.{◌&&◌, ◌==◌, Option}
 use Rattle.std.proofs.lemmas.Bool.{eq-eqb}
 use Rattle.words.specs.Layout.{granule}
-use Rattle.heap_spec.specs.Closure.{Reached}
-use Rattle.heap_spec.specs.Heap.{Heap, Object, HasObject}
 use Rattle.heap_spec.proofs.Closures.{reached_in}
 use Rattle.block_map.specs.declared.found.Found.{Found}
 use Rattle.block_map.specs.FoundIn.{found_in}
@@ -16,8 +14,7 @@ use Rattle.heap_view.specs.Shows.{IsMarkedBirth}
 use Rattle.roots.specs.Roots.{root_words_of}
 use Rattle.heap_core.specs.CoreContents.{CoreContents}
 use Rattle.heap_core.specs.DirectWrites.{IsWholeCore}
-use Rattle.heap_core.specs.Looks.{begins_at, marks_at}
-use Rattle.heap_core.specs.Standing.{StandsFor, objects_of}
+use Rattle.heap_core.specs.Looks.{begins_at}
 use Rattle.heap_core.specs.Unreached.{UnmarkedIsUnreached}
 use Rattle.heap_core.proofs.Collecting.{all_marked}
 

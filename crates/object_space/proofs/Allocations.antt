@@ -27,9 +27,11 @@ use Rattle.block_map.proofs.Listed.{listed_span}
 use Rattle.block_map.proofs.Unread.{listed_zeroed}
 use Rattle.marker.proofs.Keeping.{page_kept}
 use Rattle.block_map.proofs.Spans.{place_of}
-use Rattle.object_space.specs.Store.{Store, HasSoundPages, Agree, IsPendingRow}
+use Rattle.object_space.specs.Store.{Store, HasSoundPages, IsPendingRow}
+use Rattle.lazy_sweep.specs.Store.{Agree}
 use Rattle.heap_view.specs.Shows.{Shows}
-use Rattle.object_space.specs.Rooms.{IsFreeCell, HasNoFreeCell, HasRoomAt, HasNoRoom, TakesCell, CutsPage}
+use Rattle.lazy_sweep.specs.AvailableRows.{IsFreeCell, HasNoFreeCell}
+use Rattle.object_space.specs.Rooms.{HasRoomAt, HasNoRoom, TakesCell, CutsPage}
 use Rattle.object_space.specs.Sweeps.{Gains}
 use Rattle.object_space.proofs.Words.{others_kept, zeroed_object}
 use Rattle.object_space.proofs.Rooms.{cell_below, room_of_cell, room_of_page, no_small_room, large_room, no_large_room}

@@ -1,17 +1,13 @@
 -- The words of links, one link after another.
 use Rattle.std.proofs.Common.{◌≡◌, ℕ, ◌+◌, ◌<◌, Bool, true, false, List, [], length, get_or, cond, take, refl, sym, ap, ◌∙◌, subst}
-use Rattle.std.specs.Prelude.{◌++◌, ◌∷◌, filter, Option, ◌||◌, ◌&&◌, ◌==◌}
+use Rattle.std.specs.Prelude.{◌++◌, ◌∷◌, filter, ◌||◌, ◌&&◌, ◌==◌}
 use Rattle.std.proofs.lemmas.List.Folds.{list_any_more}
 use Rattle.std.proofs.lemmas.List.Elements.{filter_more}
 use Rattle.pages.specs.Memory.{word_index}
-use Rattle.block_map.specs.declared.found.Found.{Found}
 use Rattle.links.specs.declared.row.Link.{Link}
 use Rattle.object_space.specs.Store.{Store}
 use Rattle.object_space.specs.Kept.{kept_in}
 use Rattle.object_space.specs.Along.{IsBesideWords, ClearsWords, TakesAlong, clears, is_cleared}
-
-pub along_none : (kept : ℕ → Option Found) (t : Store) → TakesAlong kept [] t t
-along_none kept t = record { beside = record { free = refl; states = refl; pending = refl; size = refl }; words = λ k. refl }
 
 cond_or : (a b : Bool) (z w : ℕ) → cond b z (cond a z w) ≡ cond (a || b) z w
 cond_or true true z w = refl

@@ -12,7 +12,7 @@ use Rattle.std.proofs.Math.Nat.{mul-le-mul_right, mul-le-mul_left}
 use Rattle.std.proofs.Math.Seq.{take-length}
 use Rattle.words.specs.declared.limits.TheConstants.{PAGE_WORDS, PAGE_GRANULES}
 use Rattle.words.specs.Bits.{Has, members, members_between}
-use Rattle.words.specs.Layout.{page_of, page_start, granule}
+use Rattle.words.specs.Layout.{granule}
 use Rattle.words.proofs.Classes.{class_even, class_some}
 use Rattle.words.proofs.Counts.{member_more, members_same}
 use Rattle.mark_bits.specs.Granules.{marks_on}
@@ -20,25 +20,11 @@ use Rattle.blocks.specs.Cells.{Cells, IsCells}
 use Rattle.block_map.specs.declared.found.Found.{Found}
 use Rattle.block_map.specs.FoundIn.{found_in, IsLawful}
 use Rattle.block_map.specs.Objects.{IsObject, IsObjectOn, cell_object}
-use Rattle.block_map.specs.States.{PageState, free, cut, head, body, state_at, LaidAt, IsLaid}
-use Rattle.block_map.proofs.Words.{cells_end}
+use Rattle.block_map.specs.States.{PageState, cut, state_at, LaidAt, IsLaid}
 use Rattle.marker.specs.Marking.{Marking, IsObjectGranule, AreMarksObjects}
 use Rattle.object_space.specs.Forgets.{IsUnmarkedOn, AreUnmarkedOn}
 use Rattle.object_space.proofs.Sweeping.{distinct_none, not_any}
-
--- ---- an object begins on its page
-place_on : (states : List PageState) (st : PageState) (f : Found) → LaidAt states f.page st → IsObjectOn st f → page_of f.base ≡ f.page
-place_on states free f laid on = absurd on
-place_on states (cut b) f laid on =
-    let base : f.base ≡ page_start f.page + f.cell * (8 * b.class) = ap (λ (x : Found). x.base) on.0 in
-    let size = laid.size in let some = class_some b.class laid.class in let lt = on.1 in
-    let ends = cells_end b.class f.cell (omega arith) in
-    omega (arith, base, ends)
-place_on states (head n k) f laid on = let base : f.base ≡ page_start f.page = ap (λ (x : Found). x.base) on in omega arith
-place_on states (body q) f laid on = absurd on
-
-pub begins_on : (states : List PageState) → IsLaid states → (f : Found) → IsObject states f → page_of f.base ≡ f.page
-begins_on states laid f o = place_on states (state_at states f.page) f (laid.each f.page o.page) o.on
+use Rattle.lazy_sweep.proofs.Lying.{begins_on}
 
 -- ---- products
 cell_granules : (i c : ℕ) → c % 2 ≡ 0 → i * (8 * c) ≡ 16 * (i * (c / 2))

@@ -9,7 +9,8 @@ use Rattle.block_map.specs.FoundIn.{found_in, IsLawful}
 use Rattle.block_map.specs.Objects.{cell_object, large_object}
 use Rattle.block_map.specs.States.{free, state_at, IsLaid}
 use Rattle.object_space.specs.Store.{Store, HasSoundPages, AreEmptyPages}
-use Rattle.object_space.proofs.Rooms.{free_cut, free_head, free_body, Lies, in_cell, in_large, lies_cases, large_page, Used, by_none, by_cell, by_large, used_by}
+use Rattle.lazy_sweep.proofs.Lying.{free_cut, free_head, free_body, Lies, in_cell, in_large, lies_cases, large_page}
+use Rattle.object_space.proofs.Rooms.{Used, by_none, by_cell, by_large, used_by}
 
 pub empty_pages : (t : Store) → IsLaid t.states → IsLawful t.states → HasSoundPages t → AreEmptyPages t.free t.states
 empty_pages t laid lawful sound = record {

@@ -20,7 +20,8 @@ use Rattle.block_map.specs.FoundIn.{found_in, found_large, IsLawful}
 use Rattle.block_map.specs.Objects.{IsObjectOn, IsMap, IsInside, large_object}
 use Rattle.block_map.specs.States.{PageState, free, cut, head, body, state_at, IsCut, LaidAt, IsLaid}
 use Rattle.marker.specs.Mutations.{KeepsWords}
-use Rattle.object_space.specs.Store.{Store, Agree, IsSwept, IsPendingRow}
+use Rattle.object_space.specs.Store.{Store, IsSwept, IsPendingRow}
+use Rattle.lazy_sweep.specs.Store.{Agree}
 use Rattle.object_space.specs.Sweeps.{Loses, ForgetsLazily}
 use Rattle.object_space.specs.Kept.{kept_in}
 use Rattle.object_space.specs.Forgets.{IsUnmarkedOn, AreUnmarkedOn, nothing, unswept, gone, ForgetsBases, ForgetsOn}

@@ -10,8 +10,8 @@ use Rattle.block_map.specs.States.{PageState, free, cut, head, body, state_at, H
 use Rattle.blocks.specs.Lists.{first_after_put}
 use Rattle.block_map.specs.FreeCells.{HasFree}
 use Rattle.block_map.specs.Listed.{with_put}
-use Rattle.object_space.specs.AvailableRows.{row_of, HasFreeCell, IsAvailable, IsWaitingPage, AreReady, AreWaiting, IsBitSet}
-use Rattle.object_space.proofs.AvailablePages.{BlockOnly, OffersOnly, cut_block, cut_offers, exact_same, free_block, free_offers, ready_changed, same_bit, waiting_changed}
+use Rattle.lazy_sweep.specs.AvailableRows.{row_of, HasFreeCell, IsAvailable, IsWaitingPage, AreReady, AreWaiting, IsBitSet}
+use Rattle.lazy_sweep.proofs.ExactRows.{BlockOnly, OffersOnly, cut_block, cut_offers, exact_same, free_block, free_offers, ready_changed, same_bit, waiting_changed}
 
 -- a cell is freed
 module _ (rows rows' : List (List Bool)) (states mid : List PageState) (row : List Bool) (page cell : ℕ) (b : Cells) (exact : AreReady rows states row) (inside : page < length states)

@@ -2,8 +2,7 @@
 -- object.
 use Rattle.std.proofs.Common.{◌≡◌, ℕ, ◌+◌, ◌*◌, ◌/◌, ◌<◌, ◌≤◌, ◌⊎◌, Bool, true, false, List, length, get_or, set, Option, Some, refl, sym, ap, ◌∙◌, subst, arith, ⊎_elim, length-set, get_or-set_same, get_or-set_other}
 use Rattle.std.specs.Prelude.{◌≢◌}
-use Rattle.std.proofs.lemmas.Bool.{cases_lt, cases_eq}
-use Rattle.std.proofs.lemmas.List.{get_or_past}
+use Rattle.std.proofs.lemmas.Bool.{cases_eq}
 use Rattle.words.specs.declared.limits.TheConstants.{FIRST_ADDRESS, PAGE_BYTES, PAGE_WORDS}
 use Rattle.words.specs.Bits.{IsEmptyFrom, IsFirstFrom}
 use Rattle.words.specs.declared.class.Kind.{Kind}
@@ -17,32 +16,12 @@ use Rattle.block_map.specs.Objects.{cell_object, large_object, object_on, IsObje
 use Rattle.block_map.specs.Changes.{IsRemoved, IsSameMap, IsUncut, HasNoObject}
 use Rattle.block_map.specs.FoundIn.{found_in, IsLawful}
 use Rattle.block_map.specs.declared.found.Found.{Found}
-use Rattle.block_map.proofs.Spans.{place_of}
 use Rattle.marker.specs.Mutations.{KeepsWords}
 use Rattle.marker.proofs.Keeping.{written_kept}
-use Rattle.object_space.specs.Store.{Store, HasSoundPages, Agree, KeepsPending, IsPendingRow}
+use Rattle.object_space.specs.Store.{Store, HasSoundPages, KeepsPending, IsPendingRow}
 use Rattle.object_space.specs.Rooms.{FreesCell, EmptiesCell, keeps, gives, without_cell}
 use Rattle.object_space.specs.Sweeps.{Loses}
-
--- pages that become free in the pool and in the map
-module _ (row row' : List Bool) (states states' : List PageState) (first n : ℕ) (given : IsFilled row row' first n true) (span : IsSpanSet states states' first n (λ _. free)) where
-  pub agree_given : length row ≡ length states → ((p : ℕ) → (p < first) ⊎ (first + n ≤ p) → get_or row p false ≡ true → state_at states p ≡ free)
-      → ((p : ℕ) → (p < first) ⊎ (first + n ≤ p) → p < length states → state_at states p ≡ free → get_or row p false ≡ true) → Agree row' states'
-  agree_given size to from = record {
-    size = given.size ∙ size ∙ sym span.size;
-    free_in_map = λ p is. ⊎_elim (λ h. span.inside p h.0 h.1) (λ out. span.others p out ∙ to p out (sym (given.others p out) ∙ is)) (place_of first n p);
-    free_in_pool = λ p lt is. ⊎_elim (λ h. given.inside p h.0 h.1) (λ out. given.others p out ∙ from p out (let z = span.size in omega arith) (sym (span.others p out) ∙ is)) (place_of first n p);
-  }
-
-  pub used_given : ((p : ℕ) (b : Cells) → (p < first) ⊎ (first + n ≤ p) → state_at states p ≡ cut b → (i : ℕ) × (get_or b.taken i false ≡ true))
-      → (p : ℕ) (b : Cells) → state_at states' p ≡ cut b → (i : ℕ) × (get_or b.taken i false ≡ true)
-  used_given used p b is = ⊎_elim
-      (λ h. absurd (let z : free ≡ cut b = sym (span.inside p h.0 h.1) ∙ is in no_block b z))
-      (λ out. used p b out (sym (span.others p out) ∙ is))
-      (place_of first n p)
-    where
-      no_block : (b : Cells) → free ≡ cut b → ⊥
-      no_block b z = cc
+use Rattle.lazy_sweep.proofs.GivenPages.{agree_given, no_object, used_given}
 
 -- all pages of a large object
 pub sound_large_gone : (t : Store) (row' : List Bool) (states' : List PageState) (first n : ℕ) → HasSoundPages t → IsFilled t.free row' first n true → IsSpanSet t.states states' first n (λ _. free)
@@ -119,10 +98,6 @@ removed_same found mid after f gone same = record {
 pub frees_kept : (row : List Bool) (states states' : List PageState) (page cell : ℕ) (b : Cells) → states' ≡ without_cell states page cell → state_at states' page ≡ cut b → (i : ℕ) × IsFirstFrom b.taken 0 i
     → IsRemoved (found_in states) (found_in states') (object_on page (state_at states page) cell) → FreesCell row row states states' page cell
 frees_kept row states states' page cell b became is first removed = record { pages = keeps b first.0 is first.1.member refl became; removed = removed }
-
--- no cell is allocated
-pub no_object : (row : List Bool) → IsEmptyFrom row 0 → HasNoObject row
-no_object row empty k = ⊎_elim (λ lt. empty k (omega arith) lt) (λ past. get_or_past row k false past) (cases_lt k (length row))
 
 -- the last cell of a page is freed
 pub frees_last : (row row' : List Bool) (states mid states' : List PageState) (page cell : ℕ) (b : Cells) → mid ≡ without_cell states page cell → state_at mid page ≡ cut b → IsEmptyFrom b.taken 0

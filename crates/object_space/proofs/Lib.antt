@@ -1,7 +1,4 @@
-pub mod Stores
 pub mod Tables
-pub mod AvailableRows
-pub mod Lowest
 pub mod Kept
 pub mod Words
 pub mod Changes
@@ -20,8 +17,6 @@ pub mod Sweeping
 pub mod Forgetting
 pub mod Counting
 pub mod Forgets
-pub mod FreePages
-pub mod SweptCells
 pub mod Linked
 pub mod Putting
 pub mod Along

@@ -13,12 +13,13 @@ use Rattle.block_map.specs.declared.found.Found.{Found}
 use Rattle.block_map.proofs.Unread.{cell_unread}
 use Rattle.marker.specs.Marking.{word_address}
 use Rattle.marker.specs.Mutations.{KeepsWords}
-use Rattle.object_space.specs.AvailableRows.{IsAvailable}
-use Rattle.object_space.specs.Kept.{is_kept, keep_if}
+use Rattle.lazy_sweep.specs.AvailableRows.{IsAvailable}
+use Rattle.object_space.specs.Kept.{is_kept}
+use Rattle.lazy_sweep.specs.Kept.{keep_if}
 use Rattle.object_space.specs.Store.{Store, IsWholeSpace}
 use Rattle.object_space.specs.Sweeps.{Sweeps}
 use Rattle.object_space.proofs.Pending.{pending_cut}
-use Rattle.object_space.proofs.SweptCells.{agree_cells, cut_cells, size_swept, used_cells, waiting_cells}
+use Rattle.lazy_sweep.proofs.SweptCells.{agree_cells, cut_cells, size_swept, used_cells, waiting_cells}
 
 -- what a page offers does not hang on its list
 pub offers_still : (st : PageState) (n class : ℕ) (kind : Kind) → IsAvailable st class kind → IsAvailable (with_first st n) class kind

@@ -12,33 +12,33 @@ use Rattle.words.specs.declared.class.Placement.TheVariants.{Small}
 use Rattle.words.specs.Bits.{Has, IsEmptyFrom}
 use Rattle.words.specs.Layout.{page_start}
 use Rattle.words.specs.Classes.{IsSizeClass}
-use Rattle.pages.specs.Memory.{IsWordAddress, IsZeroed, word_index}
+use Rattle.pages.specs.Memory.{IsZeroed, word_index}
 use Rattle.blocks.specs.Cells.{IsCells}
 use Rattle.block_map.specs.Changes.{IsAdded}
 use Rattle.block_map.specs.FoundIn.{found_in}
 use Rattle.block_map.specs.FreeCells.{IsFullOn}
 use Rattle.block_map.specs.Listed.{first_object, first_on, link_on, with_taken, AreListed, HasFirst}
-use Rattle.block_map.specs.Objects.{object_on}
+use Rattle.block_map.specs.Objects.{object_on, IsInside}
 use Rattle.block_map.specs.States.{PageState, free, cut, head, body, state_at, with_cell, HasCell, IsBlockFor, IsCut, IsLaid, LaidAt}
 use Rattle.block_map.specs.Takings.{TakesCells, after_take}
 use Rattle.block_map.specs.declared.found.Found.{Found}
-use Rattle.block_map.specs.Objects.{IsInside}
 use Rattle.block_map.proofs.Unread.{listed_zeroed}
 use Rattle.blocks.proofs.Places.{class_bounds}
 use Rattle.object_space.proofs.Sweeping.{read_or_not}
 use Rattle.block_map.proofs.Lawful.{map_laws}
 use Rattle.block_map.proofs.Words.{cells_end}
-use Rattle.object_space.specs.AvailableRows.{row_of, AreReady, AreWaiting, IsAvailable, IsBitSet, IsReadyPage}
+use Rattle.lazy_sweep.specs.AvailableRows.{row_of, AreReady, AreWaiting, IsAvailable, IsBitSet, IsReadyPage, IsFreeCell}
 use Rattle.object_space.specs.Many.{AllocatesEach, HasNoneReady, ZeroesEach, base_of}
-use Rattle.object_space.specs.Rooms.{IsFreeCell, TakesCell}
+use Rattle.object_space.specs.Rooms.{TakesCell}
 use Rattle.object_space.specs.Store.{HasSoundPages, IsWholeSpace, Store}
 use Rattle.object_space.specs.Sweeps.{Allocates, Sweeps}
 use Rattle.object_space.proofs.Allocations.{allocates_cell, gains_cell, sound_cell}
-use Rattle.object_space.proofs.AvailablePages.{OffersOnly, available_inside, available_not_full, ready_changed, same_bit, waiting_same}
+use Rattle.lazy_sweep.proofs.ExactRows.{OffersOnly, ready_changed, same_bit}
+use Rattle.object_space.proofs.AvailablePages.{available_inside, available_not_full, waiting_same}
 use Rattle.object_space.proofs.Pending.{pending_cut}
-use Rattle.object_space.proofs.Stores.{store_of}
+use Rattle.lazy_sweep.specs.Store.{store_of}
 use Rattle.object_space.proofs.Searching.{allocates_after}
-use Rattle.object_space.proofs.Swept.{sweeps_none}
+use Rattle.lazy_sweep.proofs.Swept.{sweeps_none}
 
 -- each of them leaves the number of pages
 pub each_pages : (marks : List Bool) (placement : Placement) (kind : Kind) (old : Store) {bases : List ℕ} {new : Store} → AllocatesEach marks placement kind old bases new → length new.states ≡ length old.states
@@ -59,15 +59,6 @@ zeroes_last len base (ZeroesEach.next first more) last = ZeroesEach.next first (
 pub zeroes_size : (len : ℕ) {words new bases : List ℕ} → ZeroesEach len words bases new → length new ≡ length words
 zeroes_size len ZeroesEach.done = refl
 zeroes_size len (ZeroesEach.next first more) = zeroes_size len more ∙ first.size
-
--- ---- words of cells become 0
--- the words of a cell are the memory's
-pub base_words : (words : List ℕ) (page class cell : ℕ) → PAGE_WORDS * page + PAGE_WORDS ≤ length words → 0 < class → cell * class + class ≤ PAGE_WORDS
-    → IsWordAddress words (base_of page class cell) × (word_index (base_of page class cell) + class ≤ length words)
-base_words words page class cell inside some fits =
-    let same : cell * (8 * class) ≡ 8 * (cell * class) = omega arith in
-    let aligned : base_of page class cell % 8 ≡ 0 = omega arith in
-    (record { aligned = aligned; above = omega arith; below = omega arith }, omega arith)
 
 -- one cell more
 pub bases_more : (f : ℕ → ℕ) (cells : List ℕ) (i : ℕ) → i < length cells → map f (take (i + 1) cells) ≡ map f (take i cells) ++ f (get_or cells i 0) ∷ []

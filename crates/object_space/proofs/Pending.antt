@@ -1,5 +1,5 @@
 -- The pages that are still to be swept stay cut while other pages change.
-use Rattle.std.proofs.Common.{◌≡◌, ℕ, ◌+◌, ◌<◌, ◌≤◌, ◌⊎◌, inl, inr, Bool, true, false, List, length, get_or, set, refl, sym, ap, ◌∙◌, subst, ⊎_elim, arith, length-set, get_or-set_same, get_or-set_other}
+use Rattle.std.proofs.Common.{◌≡◌, ℕ, ◌+◌, ◌<◌, ◌≤◌, ◌⊎◌, inl, inr, Bool, false, List, length, get_or, set, refl, sym, ap, ◌∙◌, subst, ⊎_elim, arith, length-set, get_or-set_same, get_or-set_other}
 use Rattle.std.specs.Prelude.{◌≢◌}
 use Rattle.std.proofs.lemmas.Bool.{cases_eq, cases_lt, false≢true}
 use Rattle.words.specs.Bits.{Has, IsClear}
@@ -21,26 +21,6 @@ pending_cut t t' row same size cuts = record {
 
 pub swept_row : (row : List Bool) (n : ℕ) → IsClear row n → (p : ℕ) → Has row p → ⊥
 swept_row row n clear p h = false≢true (sym (clear.clear p) ∙ h)
-
--- a page that is cut begins to wait
-pub pending_entered : (t : Store) (row' : List Bool) (page : ℕ) → IsPendingRow t → IsCut (state_at t.states page) → row' ≡ set t.pending page true → IsPendingRow (record t { pending = row' })
-pending_entered t row' page p is same = record {
-  size = ap length same ∙ length-set t.pending page true ∙ p.size;
-  cut = λ q h. ⊎_elim
-      (λ (e : q ≡ page). subst (λ x. IsCut (state_at t.states x)) (sym e) is)
-      (λ ne. p.cut q (sym (get_or-set_other t.pending page q true false ne) ∙ subst (λ r. Has r q) same h))
-      (cases_eq q page);
-}
-
--- and waits no more
-pub pending_left : (t : Store) (row' : List Bool) (page : ℕ) → IsPendingRow t → page < length t.pending → row' ≡ set t.pending page false → IsPendingRow (record t { pending = row' })
-pending_left t row' page p inside same = record {
-  size = ap length same ∙ length-set t.pending page false ∙ p.size;
-  cut = λ q h. ⊎_elim
-      (λ (e : q ≡ page). absurd (false≢true (sym (get_or-set_same t.pending page false false inside) ∙ subst (λ x. get_or (set t.pending page false) x false ≡ true) e (subst (λ r. Has r q) same h))))
-      (λ ne. p.cut q (sym (get_or-set_other t.pending page q false false ne) ∙ subst (λ r. Has r q) same h))
-      (cases_eq q page);
-}
 
 cell_cut : (st : PageState) (cell : ℕ) (b : Bool) (n : ℕ) → IsCut st → IsCut (with_cell st cell b n)
 cell_cut free cell b n is = absurd is

@@ -1,7 +1,6 @@
 -- Where a heap has room, by the pages of the store that stands for it.
-use Rattle.std.proofs.Common.{◌≡◌, ℕ, ◌+◌, ◌*◌, ◌/◌, ◌<◌, ◌≤◌, ◌⊎◌, Bool, true, false, List, length, get_or, Option, Some, None, refl, sym, ap, ◌∙◌, subst, arith, inl, inr, ⊎_elim}
-use Rattle.std.proofs.lemmas.Bool.{cases_lt, cases_eq}
-use Rattle.std.proofs.lemmas.List.{get_or_past}
+use Rattle.std.proofs.Common.{◌≡◌, ℕ, ◌+◌, ◌*◌, ◌/◌, ◌<◌, ◌≤◌, Bool, true, false, List, length, get_or, Option, Some, None, refl, sym, ap, ◌∙◌, subst, arith, inl, inr, ⊎_elim}
+use Rattle.std.proofs.lemmas.Bool.{cases_lt}
 use Rattle.std.proofs.lemmas.Option.{same_Some}
 use Rattle.std.proofs.Math.Nat.{le-div_iff_mul-le, mul-le-mul_right}
 use Rattle.words.specs.declared.limits.TheConstants.{MAX_SMALL_WORDS, PAGE_BYTES, PAGE_WORDS}
@@ -23,25 +22,8 @@ use Rattle.object_space.specs.Store.{Store, HasSoundPages}
 use Rattle.object_space.specs.Stores.{Stores}
 use Rattle.object_space.specs.Kept.{restrict}
 use Rattle.object_space.proofs.Kept.{kept_cases, kept_is}
-use Rattle.object_space.specs.Rooms.{IsFreeCell, HasNoFreeCell}
-
-pub free_cut : (b : Cells) → free ≡ cut b → ⊥
-free_cut b e = cc
-
-pub free_head : (n : ℕ) (k : Kind) → free ≡ head n k → ⊥
-free_head n k e = cc
-
-pub free_body : (q : ℕ) → free ≡ body q → ⊥
-free_body q e = cc
-
-cut_head : (b : Cells) (n : ℕ) (k : Kind) → cut b ≡ head n k → ⊥
-cut_head b n k e = cc
-
-cut_body : (b : Cells) (q : ℕ) → cut b ≡ body q → ⊥
-cut_body b q e = cc
-
-pub same_block : (a b : Cells) → cut a ≡ cut b → a ≡ b
-same_block a b e = cc
+use Rattle.lazy_sweep.specs.AvailableRows.{IsFreeCell, HasNoFreeCell}
+use Rattle.lazy_sweep.proofs.Lying.{Lies, cut_body, cut_head, free_body, free_cut, free_head, in_cell, in_large, in_row, large_page, lies_cases, same_block}
 
 -- a cell that fits on a page is one of its cells
 pub cell_below : (c i : ℕ) → 0 < c → c * (i + 1) ≤ PAGE_WORDS → i < PAGE_WORDS / c
@@ -67,43 +49,7 @@ pub none_of : {A : Type 0} (o : Option A) → ((x : A) → o ≡ Some x → ⊥)
 none_of None h = refl
 none_of (Some x) h = absurd (h x refl)
 
--- a bit that is set is one of its row
-pub in_row : (row : List Bool) (i : ℕ) → get_or row i false ≡ true → i < length row
-in_row row i is = ⊎_elim (λ lt. lt) (λ past. absurd (let none : get_or row i false ≡ false = get_or_past row i false past in let z : false ≡ true = sym none ∙ is in cc)) (cases_lt i (length row))
-
--- Where an object lies that has a byte on a page: in a cell of that page, or over consecutive pages with it among them.
-pub data Lies (states : List PageState) (f : Found) (page : ℕ) : Type 0 where
-  in_cell : (b : Cells) → state_at states page ≡ cut b → f ≡ cell_object page b f.cell → get_or b.taken f.cell false ≡ true → Lies states f page
-  in_large : (n : ℕ) (k : Kind) → state_at states f.page ≡ head n k → f.page ≤ page → page < f.page + n → f.len ≡ PAGE_WORDS * n → Lies states f page
-
 module _ (states : List PageState) (laid : IsLaid states) where
-  lies_by : (f : Found) (page : ℕ) (st : PageState) → state_at states f.page ≡ st → LaidAt states f.page st → IsObjectOn st f → LiesOn f.base f.len page → Lies states f page
-  lies_by f page free is here on lies = absurd on
-  lies_by f page (cut b) is here on lies =
-      let bounds = class_bounds b.class here.class in let some = bounds.0 in
-      let base : f.base ≡ page_start f.page + f.cell * (8 * b.class) = ap (λ (x : Found). x.base) on.0 in
-      let len : f.len ≡ b.class = ap (λ (x : Found). x.len) on.0 in
-      let size = here.size in let inside = on.1 in
-      let ends : f.cell * (8 * b.class) + 8 * b.class ≤ PAGE_BYTES = cells_end b.class f.cell (omega arith) in
-      let low = lies.0 in let high = lies.1 in
-      let same : f.page ≡ page = omega arith in
-      in_cell b (ap (state_at states) (sym same) ∙ is) (on.0 ∙ ap (λ p. cell_object p b f.cell) same) on.2
-  lies_by f page (head n k) is here on lies =
-      let base : f.base ≡ page_start f.page = ap (λ (x : Found). x.base) on in
-      let len : f.len ≡ PAGE_WORDS * n = ap (λ (x : Found). x.len) on in
-      let low = lies.0 in let high = lies.1 in
-      in_large n k is (omega arith) (omega arith) len
-  lies_by f page (body q) is here on lies = absurd on
-
-  pub lies_cases : (f : Found) (page : ℕ) → IsObject states f → LiesOn f.base f.len page → Lies states f page
-  lies_cases f page o lies = lies_by f page (state_at states f.page) refl (laid.each f.page o.page) o.on lies
-
-  -- a page of a large object is its first, or a further one
-  pub large_page : (first n : ℕ) (k : Kind) (page : ℕ) → first < length states → state_at states first ≡ head n k → first ≤ page → page < first + n → (state_at states page ≡ head n k) ⊎ (state_at states page ≡ body first)
-  large_page first n k page lt is low high =
-      let here : LaidAt states first (head n k) = subst (LaidAt states first) is (laid.each first lt) in
-      ⊎_elim (λ (e : page ≡ first). inl (ap (state_at states) e ∙ is)) (λ ne. inr (here.2 page (omega arith) high)) (cases_eq page first)
-
   -- an object lies on each page that isn't free
   pub data Used (page : ℕ) (st : PageState) : Type 0 where
     by_none : st ≡ free → Used page st

@@ -6,11 +6,7 @@ use Rattle.words.specs.declared.class.Placement.{Placement}
 use Rattle.object_space.specs.Store.{Store, IsSwept}
 use Rattle.object_space.specs.Rooms.{HasRoomAt, HasNoRoom}
 use Rattle.object_space.specs.Sweeps.{Allocates, FindsNoPlace, FindsNoRoom, Gains, Sweeps}
-use Rattle.object_space.proofs.Swept.{sweeps_more}
-
-pub if_none_map : {A : Type 0} {P Q : Type 0} (o : Option A) → (P → Q) → IfNone o P → IfNone o Q
-if_none_map None f p = f p
-if_none_map (Some x) f p = tt
+use Rattle.lazy_sweep.proofs.Swept.{sweeps_more}
 
 -- a place was looked for once pages were swept
 pub finds_place : (old ready new : Store) (marks : List Bool) (placement : Placement) (kind : Kind) (base : Option ℕ) → Sweeps old marks ready

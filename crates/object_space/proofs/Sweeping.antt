@@ -1,8 +1,7 @@
 -- What is left once objects are gone.
 use Rattle.std.proofs.Common.{◌≡◌, ℕ, ◌+◌, ◌*◌, ◌<◌, ◌⊎◌, Bool, true, false, List, [], Contains, nat_eq, Option, Some, None, refl, sym, ◌∙◌, subst, inl, inr, ⊎_elim, arith, eq-eqb, cond}
 use Rattle.std.specs.Prelude.{◌==◌}
-use Rattle.std.specs.List.{list_any}
-use Rattle.std.specs.List.{IsDistinct}
+use Rattle.std.specs.List.{list_any, IsDistinct}
 use Rattle.std.proofs.lemmas.Map.Made.{IsDistinct-from_count}
 use Rattle.std.proofs.lemmas.Bool.{cases_lt, eqb-true, cond-true, cond-false}
 use Rattle.std.proofs.lemmas.Cmp.{nat_eq_equiv}

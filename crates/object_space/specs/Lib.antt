@@ -1,5 +1,3 @@
-pub mod PageRows
-pub mod AvailableRows
 pub mod Store
 pub mod Kept
 pub mod Stores

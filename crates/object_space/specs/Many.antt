@@ -6,7 +6,7 @@ use Rattle.words.specs.declared.class.Placement.TheVariants.{Small, Large}
 use Rattle.words.specs.declared.limits.TheConstants.{WORD_BYTES}
 use Rattle.words.specs.Layout.{page_start}
 use Rattle.pages.specs.Memory.{IsZeroed, word_index}
-use Rattle.object_space.specs.AvailableRows.{IsReadyPage}
+use Rattle.lazy_sweep.specs.AvailableRows.{IsReadyPage}
 use Rattle.object_space.specs.Store.{Store}
 use Rattle.object_space.specs.Sweeps.{Allocates}
 

@@ -1,5 +1,5 @@
 -- Where the store has room, and what it is to allocate and to free.
-use Rattle.std.specs.Prelude.{◌≡◌, ℕ, ◌*◌, ◌<◌, ◌≤◌, Bool, true, false, List, length, slice_index_or, slice_set}
+use Rattle.std.specs.Prelude.{◌≡◌, ℕ, ◌*◌, ◌<◌, ◌≤◌, Bool, true, false, List, slice_index_or, slice_set}
 use Rattle.words.specs.declared.class.Kind.{Kind}
 use Rattle.words.specs.declared.class.Placement.{Placement}
 use Rattle.words.specs.declared.class.Placement.TheVariants.{Small, Large}
@@ -18,20 +18,6 @@ use Rattle.block_map.specs.States.{PageState, free, cut, state_at, all_free, wit
 use Rattle.object_space.specs.Store.{Store}
 use Rattle.block_map.specs.declared.found.Found.{Found}
 use Rattle.object_space.specs.Stores.{Stores}
-
--- the page is cut for the class and the kind, and its cell is free
-pub record IsFreeCell (states : List PageState) (class : ℕ) (kind : Kind) (page cell : ℕ) : Type 0 where
-  pub block : Cells
-  pub inside : page < length states
-  pub is_cut : state_at states page ≡ cut block
-  pub of_class : block.class ≡ class
-  pub of_kind : block.kind ≡ kind
-  pub in_row : cell < length block.taken
-  pub is_free : slice_index_or block.taken cell false ≡ false
-
--- no page that is cut for the class and the kind has a free cell
-abbrev pub HasNoFreeCell : List PageState → ℕ → Kind → Type 0
-HasNoFreeCell states class kind = (page cell : ℕ) → IsFreeCell states class kind page cell → ⊥
 
 -- The base has room in each heap whose objects are among the store's.
 abbrev pub HasRoomAt : Store → Placement → Kind → ℕ → Type 0

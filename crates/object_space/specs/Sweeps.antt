@@ -1,5 +1,5 @@
 -- Objects that go, and objects that come, as changes of the store.
-use Rattle.std.specs.Prelude.{◌≡◌, ◌↔◌, ℕ, ◌<◌, ◌≤◌, ◌≢◌, count_by, Bool, false, slice_index_or, slice_set, List, length, Contains, All, nat_eq, Option, Some}
+use Rattle.std.specs.Prelude.{◌≡◌, ◌↔◌, ℕ, ◌<◌, ◌≢◌, Bool, false, slice_index_or, List, length, Contains, All, nat_eq, Option, Some}
 use Rattle.std.specs.List.{IsDistinct}
 use Rattle.words.specs.declared.limits.TheConstants.{PAGE_WORDS}
 use Rattle.words.specs.declared.class.Kind.{Kind}
@@ -7,18 +7,17 @@ use Rattle.words.specs.declared.class.Placement.{Placement}
 use Rattle.heap_spec.specs.Room.{length_of}
 use Rattle.words.specs.Bits.{Has}
 use Rattle.words.specs.Layout.{granule}
-use Rattle.object_space.specs.Store.{IsSwept}
+use Rattle.object_space.specs.Store.{IsSwept, Store}
 use Rattle.object_space.specs.Rooms.{HasRoomAt, HasNoRoom}
 use Rattle.object_space.specs.Kept.{kept_in, IsPendingAfter}
-use Rattle.block_map.specs.Changes.{IsSameMap}
 use Rattle.block_map.specs.declared.found.Found.{Found}
 use Rattle.block_map.specs.Changes.{IsAdded, IsRemoved}
 use Rattle.block_map.specs.FoundIn.{found_in}
 use Rattle.block_map.specs.Objects.{IsMap}
 use Rattle.marker.specs.Marking.{Marking, IsMarked}
 use Rattle.marker.specs.Closure.{Closure}
-use Rattle.marker.specs.Mutations.{HasNoNew, KeepsWords, HasZeroWords}
-use Rattle.object_space.specs.Store.{Store}
+use Rattle.marker.specs.Mutations.{KeepsWords, HasZeroWords}
+pub use Rattle.lazy_sweep.specs.Sweeps.{Sweeps, SweepsAny}
 
 -- The objects with these bases are gone, and nothing else has changed.
 pub record IsWithout (found after : ℕ → Option Found) (bases : List ℕ) : Type 0 where
@@ -63,32 +62,6 @@ pub record ForgetsUnreached (old : Store) (roots : List ℕ) (marking : Marking)
   pub without : IsWithout (found_in old.states) (kept_in new.states new.pending marks) bases
   pub outside : (f : Found) → found_in old.states f.base ≡ Some f → Contains bases f.base ↔ (Closure (found_in old.states) old.words roots (IsMarked marking) f → ⊥)
   pub marked : (f : Found) → kept_in new.states new.pending marks f.base ≡ Some f → Has marks (granule f.base)
-
--- A page was swept: its unmarked objects are gone, and it is not pending any more. The words of all others stay, and
--- nothing else has changed.
-pub record SweepsPage (old : Store) (marks : List Bool) (page : ℕ) (new : Store) : Type 0 where
-  pub words : KeepsWords (found_in new.states) old.words new.words
-  pub pages : length new.states ≡ length old.states
-  pub pending : new.pending ≡ slice_set old.pending page false
-  pub others : (w : ℕ) (f : Found) → found_in old.states w ≡ Some f → f.page ≢ page → found_in new.states w ≡ Some f
-  pub marked : (w : ℕ) (f : Found) → found_in old.states w ≡ Some f → f.page ≡ page → Has marks (granule f.base) → found_in new.states w ≡ Some f
-  pub only : (w : ℕ) (f : Found) → found_in new.states w ≡ Some f → (found_in old.states w ≡ Some f) × (f.page ≡ page → Has marks (granule f.base))
-
--- one of the pending pages was swept
-abbrev pub SweepsAny : Store → List Bool → Store → Type 0
-SweepsAny old marks new = (page : ℕ) × Has old.pending page × SweepsPage old marks page new
-
--- Pages were swept: the kept objects are the same, no object has come, and those of a page that is still pending are all
--- there. The words of the objects that are left stay.
-pub record Sweeps (old : Store) (marks : List Bool) (new : Store) : Type 0 where
-  pub before : IsMap (length old.states) (found_in old.states)
-  pub words : KeepsWords (found_in new.states) old.words new.words
-  pub pages : length new.states ≡ length old.states
-  pub same : IsSameMap (kept_in old.states old.pending marks) (kept_in new.states new.pending marks)
-  pub less : HasNoNew (found_in old.states) (found_in new.states)
-  pub waiting : (w : ℕ) (f : Found) → found_in old.states w ≡ Some f → Has new.pending f.page → found_in new.states w ≡ Some f
-  pub fewer : (page : ℕ) → Has new.pending page → Has old.pending page
-  pub number : count_by (λ b. b) new.pending ≤ count_by (λ b. b) old.pending
 
 -- Once pages were swept as it needed, a place was taken for an object.
 pub record Allocates (old : Store) (marks : List Bool) (placement : Placement) (kind : Kind) (base : ℕ) (new : Store) : Type 0 where

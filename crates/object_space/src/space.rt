@@ -19,21 +19,17 @@ ghost use Rattle.object_space.specs.Stores.{Stores};
 mod allocate;
 mod allocate_many;
 mod along;
-mod available_pages;
 mod close;
 mod forget;
 mod free;
-mod free_page;
 mod looks;
 mod mark;
-mod page_row;
 mod sweep;
 mod taking;
 mod taking_many;
 
-use self::available_pages::AvailablePages;
-use self::page_row::PageRow;
 use block_map::{BlockMap, Found};
+use lazy_sweep::{AvailablePages, Sweeper};
 use marker::Marker;
 use pages::{FreeRun, Memory, PagePool};
 use std::alloc::Global;
@@ -48,9 +44,8 @@ pub struct ObjectSpace {
     map: BlockMap,
     // The pages with a free cell that need no sweep.
     ready: AvailablePages,
-    // The pending pages, by class and kind, and all of them.
-    waiting: AvailablePages,
-    pending: PageRow,
+    // The pending pages.
+    sweeper: Sweeper,
 }
 
 impl Model for ObjectSpace {
@@ -58,9 +53,9 @@ impl Model for ObjectSpace {
 
     ghost Value = { Store };
 
-    ghost view = { λ o. record { words = o.memory; free = o.pool; states = o.map; pending = o.pending } };
+    ghost view = { λ o. record { words = o.memory; free = o.pool; states = o.map; pending = o.sweeper.pending } };
 
-    ghost invariant = { λ o. IsWholeSpace (record { words = o.memory; free = o.pool; states = o.map; pending = o.pending }) o.ready o.waiting };
+    ghost invariant = { λ o. IsWholeSpace (record { words = o.memory; free = o.pool; states = o.map; pending = o.sweeper.pending }) o.ready o.sweeper.waiting };
 }
 
 impl ObjectSpace {
@@ -72,15 +67,13 @@ impl ObjectSpace {
         let pool = PagePool::new(alloc, pages)?;
         let map = BlockMap::new(alloc, pages)?;
         let ready = AvailablePages::new(alloc, pages)?;
-        let waiting = AvailablePages::new(alloc, pages)?;
-        let pending = PageRow::new(alloc, pages as usize)?;
+        let sweeper = Sweeper::new(alloc, pages)?;
         Ok(ObjectSpace {
             memory,
             pool,
             map,
             ready,
-            waiting,
-            pending,
+            sweeper,
         })
     }
 
@@ -136,11 +129,11 @@ impl ObjectSpace {
         self.pool.next_run(low)
     }
 
-    /// How many pages are pending. Words of the row that have none are passed over.
+    /// How many pages are pending.
     pub fn count_pending(&self) -> u32
         ensures { result ≡ members self.now.pending }
     {
-        self.pending.count()
+        self.sweeper.pending()
     }
 
     /// The kept object that a word points into. On a pending page only marked objects are kept.
@@ -155,7 +148,7 @@ impl ObjectSpace {
         let Some(found) = self.map.find(word) else {
             return None;
         };
-        if self.pending.is_set(found.page as usize) && !marker.is_marked(found.base) {
+        if self.sweeper.is_pending(found.page) && !marker.is_marked(found.base) {
             return None;
         }
         Some(found)

@@ -2,9 +2,9 @@
 use Rattle.std.proofs.Common.{◌≡◌, ℕ, zero, suc, min, ◌+◌, ◌-◌, ◌*◌, ◌<◌, ◌≤◌, ◌⊎◌, Bool, true, false, List, length, get_or, take, refl, sym, ap, ◌∙◌, subst, ⊎_elim, arith, inl, inr}
 use Rattle.std.proofs.Math.Seq.{take-length}
 use Rattle.std.proofs.lemmas.Bool.{cases_lt}
-use Rattle.words.specs.Bits.{members, members_between, IsFullFrom, IsClear}
+use Rattle.words.specs.Bits.{members, members_between, IsFullFrom}
 use Rattle.words.proofs.Counts.{member_more}
-use Rattle.pages.specs.Runs.{IsFreeRun, IsFirstFreeRun, IsFilled, AreUsedBelow}
+use Rattle.pages.specs.Runs.{IsFirstFreeRun, IsFilled, AreUsedBelow}
 
 pub used_none : (row : List Bool) → AreUsedBelow row 0
 used_none row = record { inside = omega arith; used = λ k lt. absurd (omega (arith, lt)) }

@@ -15,6 +15,8 @@ impl Model for Count {
     ghost also_owns = { λ _. ftrue };
 }
 
+unsafe impl Send for Count {}
+
 impl Count {
     /// The count 0.
     #[inline]

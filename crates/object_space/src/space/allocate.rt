@@ -1,12 +1,12 @@
 //! Where a new object goes: into a cell of a page that is cut for its class and kind, onto a page that is cut for it now,
 //! or onto pages of its own.
-ghost use Rattle.std.specs.Prelude.{◌≡◌, ℕ, ◌<◌, ◌⊎◌, Bool, List, false, IfNone, IfSome, MatchOption, length};
+ghost use Rattle.std.specs.Prelude.{◌≡◌, ◌⊎◌, Bool, List, IfNone, IfSome, MatchOption, length};
 ghost use Rattle.words.specs.Bits.{Has};
 ghost use Rattle.block_map.specs.Listed.{IsLinked};
-ghost use Rattle.block_map.specs.States.{state_at, IsBlockFor};
-ghost use Rattle.object_space.specs.AvailableRows.{IsAvailable};
+ghost use Rattle.block_map.specs.States.{state_at};
+ghost use Rattle.lazy_sweep.specs.AvailableRows.{IsAvailable, HasNoFreeCell};
 ghost use Rattle.object_space.specs.Many.{HasNoneReady};
-ghost use Rattle.object_space.specs.Rooms.{IsRequest, HasNoFreeCell, HasRoomAt, HasNoRoom};
+ghost use Rattle.object_space.specs.Rooms.{IsRequest, HasRoomAt, HasNoRoom};
 ghost use Rattle.object_space.specs.Sweeps.{Allocates, FindsNoPlace, FindsNoRoom, Gains, Sweeps};
 
 use super::ObjectSpace;
@@ -16,33 +16,6 @@ use words::limits::PAGE_WORDS;
 use words::{Class, Kind, PageNo, Placement, page_start};
 
 impl ObjectSpace {
-    // The lowest pending page that is cut for the class and the kind.
-    #[inline]
-    fn pending_for(&self, class: Class, kind: Kind) -> Option<PageNo>
-        ensures some { IfSome result (λ page. Has self.now.pending page × (page < length self.now.states)) }
-        ensures none { IfNone result ((page : ℕ) → Has self.now.pending page → IsBlockFor (state_at self.now.states page) class kind → ⊥) }
-    {
-        self.map.laws();
-        let Some(page) = self.waiting.first(class, kind) else {
-            return None;
-        };
-        Some(page as PageNo)
-    }
-
-    // The lowest page with a free cell for the class and the kind that is not pending, or else the lowest pending one for
-    // them.
-    fn page_for(&self, class: Class, kind: Kind) -> Option<PageNo>
-        ensures inside { IfSome result (λ page. page < length self.now.states) }
-        ensures some { IfSome result (λ page. Has self.now.pending page ⊎ IsAvailable (state_at self.now.states page) class kind) }
-        ensures none { IfNone result (HasNoFreeCell self.now.states class kind) }
-    {
-        self.map.laws();
-        let Some(page) = self.ready.first(class, kind) else {
-            return self.pending_for(class, kind);
-        };
-        Some(page as PageNo)
-    }
-
     // A page with a free cell for the class and the kind that is not pending. Pending pages for them are swept
     // first, one by one.
     #[inline(always)]
@@ -52,14 +25,14 @@ impl ObjectSpace {
         ensures some { IfSome result (λ page. IsAvailable (state_at self.new.states page) class kind × (Has self.new.pending page → ⊥)) }
         ensures none { IfNone result (HasNoFreeCell self.new.states class kind) }
     {
-        self.laws();
-        while let Some(page) = self.page_for(class, kind) {
-            if !self.pending.is_set(page as usize) {
-                return Some(page);
-            }
-            self.sweep_page(marker, page);
-        }
-        None
+        self.sweeper.sweep_for(
+            &mut self.pool,
+            &mut self.map,
+            &mut self.ready,
+            marker,
+            class,
+            kind,
+        )
     }
 
     // Makes the free cells of a page a list, if they are none.
@@ -91,7 +64,7 @@ impl ObjectSpace {
             &mut self.memory,
             &mut self.map,
             &mut self.ready,
-            &self.pending,
+            &self.sweeper,
             page,
             class,
             kind,
@@ -112,7 +85,7 @@ impl ObjectSpace {
             &mut self.pool,
             &mut self.map,
             &mut self.ready,
-            &self.pending,
+            &self.sweeper,
             class,
             kind,
         ) else {
@@ -122,7 +95,7 @@ impl ObjectSpace {
             &mut self.memory,
             &mut self.map,
             &mut self.ready,
-            &self.pending,
+            &self.sweeper,
             page,
             class,
             kind,

@@ -3,7 +3,7 @@ ghost use Rattle.std.specs.Prelude.{◌≡◌, ℕ, ◌<◌, ◌≤◌, Bool, Li
 ghost use Rattle.words.specs.Bits.{Has};
 ghost use Rattle.block_map.specs.Listed.{IsLinked};
 ghost use Rattle.block_map.specs.States.{state_at};
-ghost use Rattle.object_space.specs.AvailableRows.{IsAvailable};
+ghost use Rattle.lazy_sweep.specs.AvailableRows.{IsAvailable};
 ghost use Rattle.object_space.specs.Many.{AllocatesEach, HasNoneReady};
 
 use super::ObjectSpace;
@@ -52,7 +52,7 @@ impl ObjectSpace {
             &self.memory,
             &mut self.map,
             &mut self.ready,
-            &self.pending,
+            &self.sweeper,
             page,
             class,
             kind,

@@ -35,9 +35,8 @@ impl ObjectSpace {
         if unmarked > 0 {
             let class = block.class();
             let kind = block.kind();
-            self.pending.set(page as usize);
-            self.ready.leave(class, kind, page);
-            self.waiting.enter(class, kind, page);
+            self.sweeper
+                .make_pending(&self.map, &mut self.ready, page, class, kind);
         }
         unmarked
     }

@@ -8,16 +8,14 @@ ghost use Rattle.block_map.specs.FoundIn.{found_in, IsLawful};
 ghost use Rattle.block_map.specs.Listed.{first_on, AreListed};
 ghost use Rattle.block_map.specs.States.{free, head, state_at, HasCell, IsLaid, IsSpanSet};
 ghost use Rattle.block_map.specs.Objects.{large_object, object_on};
-ghost use Rattle.object_space.specs.AvailableRows.{AreReady, AreWaiting};
+ghost use Rattle.lazy_sweep.specs.AvailableRows.{AreReady, AreWaiting};
 ghost use Rattle.object_space.specs.Store.{KeepsPending};
 ghost use Rattle.object_space.specs.Rooms.{FreesCell};
 ghost use Rattle.object_space.specs.Sweeps.{Loses};
 
 use super::ObjectSpace;
-use super::available_pages::AvailablePages;
-use super::free_page::free_block;
-use super::page_row::PageRow;
 use block_map::{BlockMap, Found};
+use lazy_sweep::{AvailablePages, Sweeper};
 use pages::{Memory, PagePool};
 use words::PageNo;
 use words::limits::PAGE_WORDS;
@@ -29,33 +27,30 @@ fn free_cell(
     pool: &mut PagePool,
     map: &mut BlockMap,
     ready: &mut AvailablePages,
-    waiting: &mut AvailablePages,
-    pending: &mut PageRow,
+    sweeper: &mut Sweeper,
     page: PageNo,
     cell: u16,
 )
     requires inside { page < length map.old }
     requires cell { HasCell (state_at map.old page) cell true }
     requires size { length pool.old ≡ length map.old }
-    requires exact { AreReady ready.old map.old pending.old }
-    requires waiting { AreWaiting waiting.old map.old pending.old }
-    requires row { length pending.old ≡ length map.old }
+    requires exact { AreReady ready.old map.old sweeper.old.pending }
+    requires waiting { AreWaiting sweeper.old.waiting map.old sweeper.old.pending }
+    requires row { length sweeper.old.pending ≡ length map.old }
     requires listed { AreListed memory.old map.old }
     ensures memory { memory.new ≡ with_word_at memory.old (object_on page (state_at map.old page) cell).base (first_on (state_at map.old page)) }
     ensures listed { AreListed memory.new map.new }
     ensures freed { FreesCell pool.old pool.new map.old map.new page cell }
-    ensures exact { AreReady ready.new map.new pending.new }
-    ensures waiting { AreWaiting waiting.new map.new pending.new }
-    ensures pending { KeepsPending page map.old map.new pending.old pending.new }
+    ensures exact { AreReady ready.new map.new sweeper.new.pending }
+    ensures waiting { AreWaiting sweeper.new.waiting map.new sweeper.new.pending }
+    ensures pending { KeepsPending page map.old map.new sweeper.old.pending sweeper.new.pending }
 {
     let left = map.put(memory, page, cell);
     if left.is_empty {
-        free_block(
-            pool, map, ready, waiting, pending, page, left.class, left.kind,
-        );
+        sweeper.free_block(pool, map, ready, page, left.class, left.kind);
         return;
     }
-    if pending.is_set(page as usize) {
+    if sweeper.is_pending(page) {
         return;
     }
     if left.was_full {
@@ -93,8 +88,7 @@ impl ObjectSpace {
                 &mut self.pool,
                 &mut self.map,
                 &mut self.ready,
-                &mut self.waiting,
-                &mut self.pending,
+                &mut self.sweeper,
                 page,
                 found.cell,
             ),

@@ -5,12 +5,11 @@ ghost use Rattle.words.specs.Bits.{Has};
 ghost use Rattle.block_map.specs.States.{state_at, IsLaid};
 ghost use Rattle.block_map.specs.Listed.{AreListed, IsLinked};
 ghost use Rattle.block_map.specs.Takings.{TakesCells};
-ghost use Rattle.object_space.specs.AvailableRows.{AreReady, IsAvailable};
+ghost use Rattle.lazy_sweep.specs.AvailableRows.{AreReady, IsAvailable};
 ghost use Rattle.object_space.specs.Many.{ZeroesEach, base_of};
 
-use super::available_pages::AvailablePages;
-use super::page_row::PageRow;
 use block_map::BlockMap;
+use lazy_sweep::{AvailablePages, Sweeper};
 use pages::Memory;
 use words::limits::WORD_BYTES;
 use words::{Class, Kind, PageNo, page_start};
@@ -21,7 +20,7 @@ pub(super) fn take_cells(
     memory: &Memory,
     map: &mut BlockMap,
     ready: &mut AvailablePages,
-    pending: &PageRow,
+    sweeper: &Sweeper,
     page: PageNo,
     class: Class,
     kind: Kind,
@@ -30,15 +29,15 @@ pub(super) fn take_cells(
     requires cell { IsAvailable (state_at map.old page) class kind }
     requires linked { IsLinked (state_at map.old page) }
     requires listed { AreListed memory.now map.old }
-    requires swept { Has pending.now page → ⊥ }
-    requires exact { AreReady ready.old map.old pending.now }
+    requires swept { Has sweeper.now.pending page → ⊥ }
+    requires exact { AreReady ready.old map.old sweeper.now.pending }
     ensures size { length cells.new ≡ length cells.old }
     ensures few { result ≤ length cells.new }
     ensures some { 0 < length cells.new → 0 < result }
     ensures listed { AreListed memory.now map.new }
     ensures takes { TakesCells memory.now page map.old (take result cells.new) map.new }
     ensures inside { All (λ cell. cell * class + class ≤ PAGE_WORDS) (take result cells.new) }
-    ensures exact { AreReady ready.new map.new pending.now }
+    ensures exact { AreReady ready.new map.new sweeper.now.pending }
     ensures laid { IsLaid map.new }
 {
     map.laws();

@@ -1,6 +1,7 @@
 use Rattle.std.proofs.Common.{◌+◌, length, sym, ap, subst, arith}
 use Rattle.words.specs.Bits.{Has}
-use Rattle.object_space.specs.Store.{Agree, Store}
+use Rattle.lazy_sweep.specs.Store.{Agree}
+use Rattle.object_space.specs.Store.{Store}
 use Rattle.object_space.proofs.Forgets.{HasForgotten, forgotten_none, forgotten_more, forgotten_to, forgotten_all}
 use Rattle.object_space.proofs.space.ObjectSpace.forget_lazily.Goals as goal
 

@@ -1,10 +1,9 @@
-use Rattle.std.proofs.Common.{length, ◌≡◌, true, false, get_or, ap, sym, ◌∙◌, arith}
+use Rattle.std.proofs.Common.{length, ◌≡◌, true, false, get_or, ap, sym, ◌∙◌, arith, refl}
 use Rattle.std.proofs.lemmas.List.{append-nil}
 use Rattle.links.specs.declared.row.Link.{Link}
 use Rattle.object_space.specs.Kept.{kept_in}
 use Rattle.object_space.specs.Along.{stays}
 use Rattle.object_space.proofs.Along.{kept_beside, kept_more, along_more}
-use Rattle.std.proofs.Common.{refl}
 use Rattle.object_space.proofs.space.ObjectSpace.keep_links.Goals as goal
 use Rattle.object_space.proofs.space.ObjectSpace.keep_links.Goals.{then-keep_link, else-keep_link}
 

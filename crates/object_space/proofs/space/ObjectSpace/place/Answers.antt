@@ -1,5 +1,5 @@
 use Rattle.object_space.proofs.Searching.{finds_place}
-use Rattle.object_space.proofs.Swept.{sweeps_none}
+use Rattle.lazy_sweep.proofs.Swept.{sweeps_none}
 use Rattle.object_space.proofs.space.ObjectSpace.place.Goals as goal
 
 pub returns-in-Large : goal.returns-in-Large

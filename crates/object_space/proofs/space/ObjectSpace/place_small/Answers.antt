@@ -1,5 +1,5 @@
 use Rattle.object_space.proofs.Searching.{finds_place}
-use Rattle.object_space.proofs.Swept.{sweeps_more}
+use Rattle.lazy_sweep.proofs.Swept.{sweeps_more}
 use Rattle.object_space.proofs.space.ObjectSpace.place_small.Goals as goal
 
 pub returns-in_default : goal.returns-in_default

@@ -4,7 +4,7 @@ use Rattle.block_map.proofs.Listed.{listed_span}
 use Rattle.block_map.specs.Listed.{first_on}
 use Rattle.block_map.specs.States.{free, state_at}
 use Rattle.object_space.specs.Store.{Store}
-use Rattle.object_space.proofs.Stores.{store_of}
+use Rattle.lazy_sweep.specs.Store.{store_of}
 use Rattle.object_space.proofs.Frees.{on_page, in_block, large_here, sound_freed, sound_large_gone, loses_cell, loses_large, pending_row, size_freed}
 use Rattle.object_space.proofs.Pending.{pending_large, large_uncut}
 use Rattle.object_space.proofs.AvailablePages.{exact_large_gone, waiting_span}
@@ -12,24 +12,24 @@ use Rattle.object_space.proofs.space.ObjectSpace.release.Goals as goal
 
 pub block-requires : goal.block-requires
 block-requires c =
-    (on_page (store_of c.self.inside.memory c.self.inside.pool c.self.inside.map c.self.inside.pending) c.args.found (rw (← c.self.view_is) at c.requires.lawful) (rw (← c.self.view_is) at c.requires.found)).page
+    (on_page (store_of c.self.inside.memory c.self.inside.pool c.self.inside.map c.self.inside.sweeper.pending) c.args.found (rw (← c.self.view_is) at c.requires.lawful) (rw (← c.self.view_is) at c.requires.found)).page
 
 pub free_cell-requires-clause-cell : goal.free_cell-requires-clause-cell
 free_cell-requires-clause-cell c =
-    let t : Store = store_of c.self.inside.memory c.self.inside.pool c.self.inside.map c.self.inside.pending in
+    let t : Store = store_of c.self.inside.memory c.self.inside.pool c.self.inside.map c.self.inside.sweeper.pending in
     let o = on_page t c.args.found (rw (← c.self.view_is) at c.requires.lawful) (rw (← c.self.view_is) at c.requires.found) in
     (in_block t c.args.found c.in-Some.field-0.now o c.in-Some.ensures).1
 
 pub free_large-requires-clause-large : goal.free_large-requires-clause-large
 free_large-requires-clause-large c =
-    let t : Store = store_of c.self.inside.memory c.self.inside.pool c.self.inside.map c.self.inside.pending in
+    let t : Store = store_of c.self.inside.memory c.self.inside.pool c.self.inside.map c.self.inside.sweeper.pending in
     let l = large_here t c.args.found (rw (← c.self.view_is) at c.requires.lawful) (rw (← c.self.view_is) at c.requires.found) c.in-None.ensures in
     let size = c.self.invariant.sound.agree.size in let ends = l.3 in
     (l.0, l.1, l.2, omega arith)
 
 pub invariant_of-self : goal.invariant_of-self
 invariant_of-self c =
-    let t : Store = store_of c.self.inside.memory c.self.inside.pool c.self.inside.map c.self.inside.pending in
+    let t : Store = store_of c.self.inside.memory c.self.inside.pool c.self.inside.map c.self.inside.sweeper.pending in
     let o = on_page t c.args.found (rw (← c.self.view_is) at c.requires.lawful) (rw (← c.self.view_is) at c.requires.found) in
     let x = sound_freed t c.self.invariant.sound c.args.found.page c.args.found.cell c.in-Some.field-0.now c.in-Some.ensures o.page c.free_cell.new.pool c.free_cell.new.map c.free_cell.ensures.freed.pages in
     record {
@@ -42,7 +42,7 @@ invariant_of-self c =
 
 pub invariant_of-self-in-None : goal.invariant_of-self-in-None
 invariant_of-self-in-None c =
-    let t : Store = store_of c.self.inside.memory c.self.inside.pool c.self.inside.map c.self.inside.pending in
+    let t : Store = store_of c.self.inside.memory c.self.inside.pool c.self.inside.map c.self.inside.sweeper.pending in
     let l = large_here t c.args.found (rw (← c.self.view_is) at c.requires.lawful) (rw (← c.self.view_is) at c.requires.found) c.in-None.ensures in
     let ends = l.3 in let some = l.2 in
     record {
@@ -56,15 +56,15 @@ invariant_of-self-in-None c =
 
 pub returns-in-Some : goal.returns-in-Some
 returns-in-Some c =
-    let t : Store = store_of c.self.inside.memory c.self.inside.pool c.self.inside.map c.self.inside.pending in
+    let t : Store = store_of c.self.inside.memory c.self.inside.pool c.self.inside.map c.self.inside.sweeper.pending in
     let o = on_page t c.args.found (rw (← c.self.view_is) at c.requires.lawful) (rw (← c.self.view_is) at c.requires.found) in
     rw (← c.self.view_is)
-    (loses_cell t c.args.found.page c.args.found.cell c.in-Some.field-0.now c.in-Some.ensures o.page c.free_cell.new.memory (first_on (state_at t.states c.args.found.page)) c.free_cell.new.pool c.free_cell.new.map c.free_cell.new.pending c.args.found
+    (loses_cell t c.args.found.page c.args.found.cell c.in-Some.field-0.now c.in-Some.ensures o.page c.free_cell.new.memory (first_on (state_at t.states c.args.found.page)) c.free_cell.new.pool c.free_cell.new.map c.free_cell.new.sweeper.pending c.args.found
     (in_block t c.args.found c.in-Some.field-0.now o c.in-Some.ensures).0 (rw (← c.self.view_is) at c.requires.lawful) (rw (← c.self.view_is) at c.requires.found) c.free_cell.ensures.memory c.free_cell.ensures.freed c.free_cell.ensures.pending)
 
 pub returns-in-None : goal.returns-in-None
 returns-in-None c =
-    let t : Store = store_of c.self.inside.memory c.self.inside.pool c.self.inside.map c.self.inside.pending in
+    let t : Store = store_of c.self.inside.memory c.self.inside.pool c.self.inside.map c.self.inside.sweeper.pending in
     let l = large_here t c.args.found (rw (← c.self.view_is) at c.requires.lawful) (rw (← c.self.view_is) at c.requires.found) c.in-None.ensures in
     rw (← c.self.view_is)
     (loses_large t c.args.found c.free_large.new.pool c.free_large.new.map l.0 (c.args.found.len / PAGE_WORDS) l.4 c.free_large.ensures.map (c.free_large.ensures.removed l.0 l.1))

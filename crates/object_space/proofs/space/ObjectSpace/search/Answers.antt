@@ -1,6 +1,6 @@
 use Rattle.std.proofs.Common.{arith}
 use Rattle.object_space.proofs.Searching.{allocates_after, no_place_after}
-use Rattle.object_space.proofs.Swept.{sweeps_none}
+use Rattle.lazy_sweep.proofs.Swept.{sweeps_none}
 use Rattle.object_space.proofs.space.ObjectSpace.search.Goals as goal
 
 pub loop-kind-init : goal.loop-kind-init

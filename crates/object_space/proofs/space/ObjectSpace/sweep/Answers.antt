@@ -1,9 +1,14 @@
-use Rattle.std.proofs.Common.{arith}
-use Rattle.object_space.proofs.Swept.{sweeps_page}
+use Rattle.object_space.proofs.Swept.{sound_of, whole_of}
 use Rattle.object_space.proofs.space.ObjectSpace.sweep.Goals as goal
 
-pub returns-clause-sweeps : goal.returns-clause-sweeps
-returns-clause-sweeps c = sweeps_page _ _ _ _ c.sweep_page.ensures.lawful.map (rw (← c.self.view_is) c.in-Some.ensures.member) c.sweep_page.ensures.sweeps
+pub step-requires-clause-sound : goal.step-requires-clause-sound
+step-requires-clause-sound c = sound_of c.self.inside.memory c.self.inside.pool c.self.inside.map c.self.inside.ready c.self.inside.sweeper c.self.invariant
 
-pub overflow_cast-page : goal.overflow_cast-page
-overflow_cast-page c = let inside = c.in-Some.ensures.inside in let size = c.self.invariant.pending.size in let few = c.laws.ensures.laid.few in omega arith
+pub invariant_of-self : goal.invariant_of-self
+invariant_of-self c = whole_of c.self.inside.memory c.step.new.pool c.step.new.map c.step.new.ready c.step.new.self c.step.ensures.sweeps.sound (c.step.ensures.sweeps.lists c.self.inside.memory c.self.invariant.listed)
+
+pub returns-clause-sweeps : goal.returns-clause-sweeps
+returns-clause-sweeps c = rw (← c.self.view_is) (c.step.ensures.sweeps.sweeps c.self.inside.memory)
+
+pub returns-clause-page : goal.returns-clause-page
+returns-clause-page c = λ is. rw (← c.self.view_is) (c.step.ensures.page is c.self.inside.memory)

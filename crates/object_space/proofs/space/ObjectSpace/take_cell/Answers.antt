@@ -17,7 +17,7 @@ invariant_of-self c =
           (λ p is. subst (λ (x : List PageState). IsCut (state_at x p)) (sym c.take_cell.ensures.takes.became) (cut_cell _ c.args.page _ true _ cell.inside p is));
       exact = c.take_cell.ensures.exact;
       awaited = waiting_same _ _ _ _ c.self.invariant.awaited (ap length c.take_cell.ensures.takes.became ∙ length-set _ _ _)
-          (λ p h. ap (λ x. state_at x p) c.take_cell.ensures.takes.became ∙ get_or-set_other _ c.args.page p _ free (λ e. swept (subst (Has c.self.inside.pending) e h)));
+          (λ p h. ap (λ x. state_at x p) c.take_cell.ensures.takes.became ∙ get_or-set_other _ c.args.page p _ free (λ e. swept (subst (Has c.self.inside.sweeper.pending) e h)));
     }
 
 pub returns-clause-room : goal.returns-clause-room

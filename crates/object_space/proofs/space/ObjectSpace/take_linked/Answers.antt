@@ -5,18 +5,18 @@ use Rattle.words.specs.declared.class.Placement.TheVariants.{Small}
 use Rattle.object_space.specs.Many.{AllocatesEach}
 use Rattle.object_space.specs.Store.{Store}
 use Rattle.object_space.proofs.Many.{allocates_each, whole_each}
-use Rattle.object_space.proofs.Stores.{store_of}
+use Rattle.lazy_sweep.specs.Store.{store_of}
 use Rattle.object_space.proofs.space.ObjectSpace.take_linked.Goals as goal
 
 pub invariant_of-self : goal.invariant_of-self
 invariant_of-self c =
-    let t : Store = store_of c.self.inside.memory c.self.inside.pool c.self.inside.map c.self.inside.pending in
+    let t : Store = store_of c.self.inside.memory c.self.inside.pool c.self.inside.map c.self.inside.sweeper.pending in
     whole_each t _ _ c.self.invariant c.args.class c.args.kind c.args.page (rw (← c.self.view_is) at c.requires.cell, rw (← c.self.view_is) at c.requires.swept)
     _ _ c.take_cells-count.ensures.takes _ c.write_bases.ensures.zeroes _ c.take_cells-count.ensures.laid c.take_cells-count.ensures.listed c.take_cells-count.ensures.exact
 
 pub returns-clause-allocates : goal.returns-clause-allocates
 returns-clause-allocates c marks =
-    let t : Store = store_of c.self.inside.memory c.self.inside.pool c.self.inside.map c.self.inside.pending in
+    let t : Store = store_of c.self.inside.memory c.self.inside.pool c.self.inside.map c.self.inside.sweeper.pending in
     let each = allocates_each t _ _ c.self.invariant c.args.class c.args.kind c.args.page (rw (← c.self.view_is) at c.requires.cell, rw (← c.self.view_is) at c.requires.swept)
     _ _ c.take_cells-count.ensures.takes _ c.write_bases.ensures.zeroes marks in
     let count = length-take-le c.take_cells-count.result c.take_cells-count.new.cells c.take_cells-count.ensures.few in

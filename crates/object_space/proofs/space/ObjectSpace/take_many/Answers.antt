@@ -3,7 +3,7 @@ use Rattle.std.proofs.lemmas.List.{length-take-le}
 use Rattle.words.specs.declared.class.Placement.TheVariants.{Small}
 use Rattle.object_space.specs.Many.{AllocatesEach}
 use Rattle.object_space.proofs.Many.{each_after, none_ready}
-use Rattle.object_space.proofs.Stores.{store_of}
+use Rattle.lazy_sweep.specs.Store.{store_of}
 use Rattle.object_space.proofs.space.ObjectSpace.take_many.Goals as goal
 
 pub returns-in_default-clause-allocates : goal.returns-in_default-clause-allocates
@@ -13,7 +13,7 @@ pub returns-then-bases-eq0-clause-allocates : goal.returns-then-bases-eq0-clause
 returns-then-bases-eq0-clause-allocates c marks = AllocatesEach.none
 
 pub returns-in_default-clause-none : goal.returns-in_default-clause-none
-returns-in_default-clause-none c = λ _ _. rw (← c.self.view_is) (none_ready _ (store_of c.self.inside.memory c.self.inside.pool c.self.inside.map c.self.inside.pending) _ _ c.self.invariant.exact c.first.ensures.listed c.in_default.ensures.page)
+returns-in_default-clause-none c = λ _ _. rw (← c.self.view_is) (none_ready _ (store_of c.self.inside.memory c.self.inside.pool c.self.inside.map c.self.inside.sweeper.pending) _ _ c.self.invariant.exact c.first.ensures.listed c.in_default.ensures.page)
 
 pub returns-clause-allocates : goal.returns-clause-allocates
 returns-clause-allocates c marks =

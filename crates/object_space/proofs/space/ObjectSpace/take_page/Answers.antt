@@ -1,11 +1,12 @@
 use Rattle.std.proofs.Common.{◌≡◌, ℕ, Bool, refl, true, sym, ap, ◌∙◌, subst, List, length, length-set, get_or-set_other, arith}
 use Rattle.block_map.specs.States.{PageState, free, IsCut, state_at, all_free}
-use Rattle.object_space.proofs.Stores.{store_of}
+use Rattle.lazy_sweep.specs.Store.{store_of}
 use Rattle.object_space.specs.Rooms.{TakesCell}
 use Rattle.object_space.proofs.Pending.{pending_cut, cut_cell, cut_page}
 use Rattle.object_space.proofs.Allocations.{allocates_page, first_cell, first_is, gains_page, no_room_small, sound_page}
 use Rattle.std.specs.Prelude.{◌≢◌}
-use Rattle.object_space.proofs.AvailablePages.{free_cell_offers, waiting_same}
+use Rattle.lazy_sweep.proofs.ExactRows.{free_cell_offers}
+use Rattle.object_space.proofs.AvailablePages.{waiting_same}
 use Rattle.object_space.proofs.space.ObjectSpace.take_page.Goals as goal
 
 pub returns-in_default-clause-none : goal.returns-in_default-clause-none
@@ -14,9 +15,9 @@ returns-in_default-clause-none c =
     rw (← c.self.view_is) (
       no_room_small _ _ _ c.self.invariant.sound c.laws.ensures.laid c.laws.ensures.lawful c.cut_page.ensures.class
           (rw (← c.self.view_is) at c.requires) none.0,
-      ap (λ w. store_of w c.cut_page.new.pool c.cut_page.new.map c.self.inside.pending) none.1
-          ∙ ap (λ p. store_of c.self.inside.memory p c.cut_page.new.map c.self.inside.pending) none.2
-          ∙ ap (λ m. store_of c.self.inside.memory c.self.inside.pool m c.self.inside.pending) none.3,
+      ap (λ w. store_of w c.cut_page.new.pool c.cut_page.new.map c.self.inside.sweeper.pending) none.1
+          ∙ ap (λ p. store_of c.self.inside.memory p c.cut_page.new.map c.self.inside.sweeper.pending) none.2
+          ∙ ap (λ m. store_of c.self.inside.memory c.self.inside.pool m c.self.inside.sweeper.pending) none.3,
     )
 
 pub take_cell-requires-clause-cell : goal.take_cell-requires-clause-cell
@@ -46,7 +47,7 @@ invariant_of-self-2 c =
       exact = c.take_cell.ensures.exact;
       awaited = waiting_same _ _ _ _ c.self.invariant.awaited (ap length takes.became ∙ length-set _ _ _ ∙ ap length cuts.became ∙ length-set _ _ _)
           (λ p h.
-          let ne = apart c.self.inside.map c.self.inside.pending page p was (c.self.invariant.pending.cut p h) in
+          let ne = apart c.self.inside.map c.self.inside.sweeper.pending page p was (c.self.invariant.pending.cut p h) in
           ap (λ x. state_at x p) takes.became ∙ get_or-set_other _ page p _ free ne ∙ ap (λ x. state_at x p) cuts.became ∙ get_or-set_other _ page p _ free ne);
     }
 

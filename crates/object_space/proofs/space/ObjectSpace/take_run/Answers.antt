@@ -1,7 +1,7 @@
 use Rattle.std.proofs.Common.{refl, ◌*◌, ap, subst, arith}
 use Rattle.words.specs.declared.limits.TheConstants.{PAGE_WORDS}
 use Rattle.pages.specs.Memory.{IsZeroed, word_index}
-use Rattle.object_space.proofs.Stores.{store_of}
+use Rattle.lazy_sweep.specs.Store.{store_of}
 use Rattle.object_space.proofs.Pending.{pending_cut, cut_span}
 use Rattle.object_space.proofs.Allocations.{allocates_large, gains_large, listed_large, no_room_large, sound_large}
 use Rattle.object_space.proofs.AvailablePages.{exact_large, waiting_span}
@@ -11,7 +11,7 @@ use Rattle.object_space.proofs.space.ObjectSpace.take_run.Goals as goal
 pub returns-in_default-clause-none : goal.returns-in_default-clause-none
 returns-in_default-clause-none c = rw (← c.self.view_is) (
   no_room_large _ _ c.args.kind c.self.invariant.sound c.len.ensures.laid c.len.ensures.lawful c.in_default.ensures.none.0,
-  ap (λ p. store_of c.self.inside.memory p c.self.inside.map c.self.inside.pending) c.in_default.ensures.none.1,
+  ap (λ p. store_of c.self.inside.memory p c.self.inside.map c.self.inside.sweeper.pending) c.in_default.ensures.none.1,
 )
 
 pub cut_large-requires-clause-inside : goal.cut_large-requires-clause-inside

@@ -35,14 +35,14 @@ returns-then-left-clause-exact c =
     let x = left _ _ c.args.page c.args.cell _ _ c.requires.inside c.put-left.ensures.states c.put-left.ensures.tells.block in
     exact_uncut _ _ _ _ _ _ c.args.cell _ c.requires.exact c.requires.inside c.requires.cell c.put-left.ensures.states x.is
     (left_class _ _ _ _ _ _ x c.put-left.ensures.tells.class) _ _ _ x.of_class x.of_kind c.free_block.ensures.states _
-    (λ p ne. ap (λ r. get_or r p false) c.free_block.ensures.row ∙ get_or-set_other c.args.pending.now c.args.page p false false ne) c.free_block.ensures.left
+    (λ p ne. ap (λ r. get_or r p false) c.free_block.ensures.row ∙ get_or-set_other c.args.sweeper.now.pending c.args.page p false false ne) c.free_block.ensures.left
 
 pub returns-then-left-clause-waiting : goal.returns-then-left-clause-waiting
 returns-then-left-clause-waiting c =
     let x = left _ _ c.args.page c.args.cell _ _ c.requires.inside c.put-left.ensures.states c.put-left.ensures.tells.block in
     awaited_uncut c.args.ready.now c.args.ready.now _ _ _ _ c.args.cell _ c.requires.exact c.requires.inside c.requires.cell c.put-left.ensures.states x.is
     (left_class _ _ _ _ _ _ x c.put-left.ensures.tells.class) _ _ c.requires.waiting _ _ _ x.of_class x.of_kind c.free_block.ensures.states _
-    (λ p ne. ap (λ r. get_or r p false) c.free_block.ensures.row ∙ get_or-set_other c.args.pending.now c.args.page p false false ne) c.free_block.ensures.awaited
+    (λ p ne. ap (λ r. get_or r p false) c.free_block.ensures.row ∙ get_or-set_other c.args.sweeper.now.pending c.args.page p false false ne) c.free_block.ensures.awaited
 
 pub returns-then-left-clause-pending : goal.returns-then-left-clause-pending
 returns-then-left-clause-pending c =
@@ -53,25 +53,25 @@ returns-then-left-clause-pending c =
 pub returns-then-left-clause-listed : goal.returns-then-left-clause-listed
 returns-then-left-clause-listed c = listed_span c.put-left.new.memory c.put-left.new.self c.free_block.new.map c.args.page _ (λ _. free) c.free_block.ensures.states (λ k. tt) c.put-left.ensures.listed
 
-pub returns-then-is_set-clause-freed : goal.returns-then-is_set-clause-freed
-returns-then-is_set-clause-freed c =
+pub returns-then-is_pending-clause-freed : goal.returns-then-is_pending-clause-freed
+returns-then-is_pending-clause-freed c =
     let x = left _ _ c.args.page c.args.cell _ _ c.requires.inside c.put-left.ensures.states c.put-left.ensures.tells.block in
     frees_kept _ _ _ _ _ _ c.put-left.ensures.states x.is (left_allocated _ _ _ _ _ _ x (rw c.if-left.false at c.put-left.ensures.tells.empty)) c.put-left.ensures.removed
 
-pub returns-then-is_set-clause-exact : goal.returns-then-is_set-clause-exact
-returns-then-is_set-clause-exact c =
+pub returns-then-is_pending-clause-exact : goal.returns-then-is_pending-clause-exact
+returns-then-is_pending-clause-exact c =
     let x = left _ _ c.args.page c.args.cell _ _ c.requires.inside c.put-left.ensures.states c.put-left.ensures.tells.block in
     exact_unswept _ c.args.ready.now _ _ _ _ c.args.cell _ c.requires.exact c.requires.inside c.requires.cell c.put-left.ensures.states x.is
-    (left_class _ _ _ _ _ _ x c.put-left.ensures.tells.class) (sym c.is_set.ensures ∙ c.if-is_set.true)
+    (left_class _ _ _ _ _ _ x c.put-left.ensures.tells.class) (sym c.is_pending.ensures ∙ c.if-is_pending.true)
 
-pub returns-then-is_set-clause-waiting : goal.returns-then-is_set-clause-waiting
-returns-then-is_set-clause-waiting c =
+pub returns-then-is_pending-clause-waiting : goal.returns-then-is_pending-clause-waiting
+returns-then-is_pending-clause-waiting c =
     let x = left _ _ c.args.page c.args.cell _ _ c.requires.inside c.put-left.ensures.states c.put-left.ensures.tells.block in
     awaited_kept c.args.ready.now c.args.ready.now _ _ _ _ c.args.cell _ c.requires.exact c.requires.inside c.requires.cell c.put-left.ensures.states x.is
-    (left_class _ _ _ _ _ _ x c.put-left.ensures.tells.class) c.args.waiting.now c.args.waiting.now c.requires.waiting
+    (left_class _ _ _ _ _ _ x c.put-left.ensures.tells.class) c.args.sweeper.now.waiting c.args.sweeper.now.waiting c.requires.waiting
 
-pub returns-then-is_set-clause-pending : goal.returns-then-is_set-clause-pending
-returns-then-is_set-clause-pending c = pending_put _ _ c.args.page c.args.cell _ c.requires.inside c.put-left.ensures.states
+pub returns-then-is_pending-clause-pending : goal.returns-then-is_pending-clause-pending
+returns-then-is_pending-clause-pending c = pending_put _ _ c.args.page c.args.cell _ c.requires.inside c.put-left.ensures.states
 
 pub returns-then-left-2-clause-freed : goal.returns-then-left-2-clause-freed
 returns-then-left-2-clause-freed c =
@@ -82,13 +82,13 @@ pub returns-then-left-2-clause-exact : goal.returns-then-left-2-clause-exact
 returns-then-left-2-clause-exact c =
     let x = left _ _ c.args.page c.args.cell _ _ c.requires.inside c.put-left.ensures.states c.put-left.ensures.tells.block in
     exact_entered _ _ _ _ _ _ c.args.cell _ c.requires.exact c.requires.inside c.requires.cell c.put-left.ensures.states x.is
-    (left_class _ _ _ _ _ _ x c.put-left.ensures.tells.class) _ _ x.of_class x.of_kind (λ h. true≢false (sym h ∙ sym c.is_set.ensures ∙ c.if-is_set.false)) c.enter.ensures
+    (left_class _ _ _ _ _ _ x c.put-left.ensures.tells.class) _ _ x.of_class x.of_kind (λ h. true≢false (sym h ∙ sym c.is_pending.ensures ∙ c.if-is_pending.false)) c.enter.ensures
 
 pub returns-then-left-2-clause-waiting : goal.returns-then-left-2-clause-waiting
 returns-then-left-2-clause-waiting c =
     let x = left _ _ c.args.page c.args.cell _ _ c.requires.inside c.put-left.ensures.states c.put-left.ensures.tells.block in
     awaited_kept c.args.ready.now c.args.ready.now _ _ _ _ c.args.cell _ c.requires.exact c.requires.inside c.requires.cell c.put-left.ensures.states x.is
-    (left_class _ _ _ _ _ _ x c.put-left.ensures.tells.class) c.args.waiting.now c.args.waiting.now c.requires.waiting
+    (left_class _ _ _ _ _ _ x c.put-left.ensures.tells.class) c.args.sweeper.now.waiting c.args.sweeper.now.waiting c.requires.waiting
 
 pub returns-then-left-2-clause-pending : goal.returns-then-left-2-clause-pending
 returns-then-left-2-clause-pending c = pending_put _ _ c.args.page c.args.cell _ c.requires.inside c.put-left.ensures.states
@@ -102,13 +102,13 @@ pub returns-else-left-2-clause-exact : goal.returns-else-left-2-clause-exact
 returns-else-left-2-clause-exact c =
     let x = left _ _ c.args.page c.args.cell _ _ c.requires.inside c.put-left.ensures.states c.put-left.ensures.tells.block in
     exact_kept _ c.args.ready.now _ _ _ _ c.args.cell _ c.requires.exact c.requires.inside c.requires.cell c.put-left.ensures.states x.is
-    (left_class _ _ _ _ _ _ x c.put-left.ensures.tells.class) (rw c.if-left-2.false at c.put-left.ensures.tells.full) (λ h. true≢false (sym h ∙ sym c.is_set.ensures ∙ c.if-is_set.false))
+    (left_class _ _ _ _ _ _ x c.put-left.ensures.tells.class) (rw c.if-left-2.false at c.put-left.ensures.tells.full) (λ h. true≢false (sym h ∙ sym c.is_pending.ensures ∙ c.if-is_pending.false))
 
 pub returns-else-left-2-clause-waiting : goal.returns-else-left-2-clause-waiting
 returns-else-left-2-clause-waiting c =
     let x = left _ _ c.args.page c.args.cell _ _ c.requires.inside c.put-left.ensures.states c.put-left.ensures.tells.block in
     awaited_kept c.args.ready.now c.args.ready.now _ _ _ _ c.args.cell _ c.requires.exact c.requires.inside c.requires.cell c.put-left.ensures.states x.is
-    (left_class _ _ _ _ _ _ x c.put-left.ensures.tells.class) c.args.waiting.now c.args.waiting.now c.requires.waiting
+    (left_class _ _ _ _ _ _ x c.put-left.ensures.tells.class) c.args.sweeper.now.waiting c.args.sweeper.now.waiting c.requires.waiting
 
 pub returns-else-left-2-clause-pending : goal.returns-else-left-2-clause-pending
 returns-else-left-2-clause-pending c = pending_put _ _ c.args.page c.args.cell _ c.requires.inside c.put-left.ensures.states

@@ -1,0 +1,10 @@
+pub mod AvailableRows
+pub mod Lowest
+pub mod ExactRows
+pub mod Lying
+pub mod GivenPages
+pub mod Kept
+pub mod Pending
+pub mod Swept
+pub mod FreePages
+pub mod SweptCells

@@ -1,0 +1,56 @@
+-- The row of the pending pages, as a page is entered and left.
+use Rattle.std.proofs.Common.{◌≡◌, ℕ, ◌<◌, Bool, true, false, List, length, get_or, set, refl, sym, ap, ◌∙◌, subst, ⊎_elim, length-set, get_or-set_same, get_or-set_other}
+use Rattle.std.proofs.lemmas.Bool.{cases_eq, false≢true}
+use Rattle.words.specs.Bits.{Has, IsFirstClearFrom, IsFullRow}
+use Rattle.words.specs.Classes.{IsSizeClass}
+use Rattle.words.specs.declared.class.Kind.{Kind}
+use Rattle.blocks.specs.Cells.{Cells}
+use Rattle.block_map.specs.States.{PageState, free, cut, head, body, state_at, IsBlockFor, IsCut}
+use Rattle.lazy_sweep.specs.AvailableRows.{AreReady, AreWaiting, IsBitSet}
+use Rattle.lazy_sweep.specs.Sound.{AreExactRows, Unswept}
+use Rattle.lazy_sweep.proofs.ExactRows.{ready_full, ready_pending, ready_swept, waiting_pending, waiting_swept}
+
+-- the block of a page that is cut for a class and a kind
+pub block_of : (st : PageState) (class : ℕ) (kind : Kind) → IsBlockFor st class kind → (b : Cells) × (st ≡ cut b) × (class ≡ b.class) × (kind ≡ b.kind)
+block_of free class kind is = absurd is
+block_of (cut b) class kind is = (b, refl, sym is.0, sym is.1)
+block_of (head n k) class kind is = absurd is
+block_of (body first) class kind is = absurd is
+
+-- one page of the row changes: a page that is cut begins to wait, or one waits no more
+cut_entered : (states : List PageState) (row : List Bool) (page : ℕ) → ((p : ℕ) → Has row p → IsCut (state_at states p)) → IsCut (state_at states page) → (p : ℕ) → Has (set row page true) p → IsCut (state_at states p)
+cut_entered states row page cuts is p h = ⊎_elim
+    (λ (e : p ≡ page). subst (λ x. IsCut (state_at states x)) (sym e) is)
+    (λ ne. cuts p (sym (get_or-set_other row page p true false ne) ∙ h))
+    (cases_eq p page)
+
+cut_left : (states : List PageState) (row : List Bool) (page : ℕ) → ((p : ℕ) → Has row p → IsCut (state_at states p)) → page < length row → (p : ℕ) → Has (set row page false) p → IsCut (state_at states p)
+cut_left states row page cuts inside p h = ⊎_elim
+    (λ (e : p ≡ page). absurd (false≢true (sym (get_or-set_same row page false false inside) ∙ subst (λ x. get_or (set row page false) x false ≡ true) e h)))
+    (λ ne. cuts p (sym (get_or-set_other row page p false false ne) ∙ h))
+    (cases_eq p page)
+
+-- a page of this block begins to wait for a sweep, or needs none any more
+module _ (states : List PageState) (ready ready' : List (List Bool)) (old new : Unswept) (class : ℕ) (kind : Kind) (page : ℕ) (b : Cells)
+    (is : state_at states page ≡ cut b) (of_class : class ≡ b.class) (of_kind : kind ≡ b.kind) (inside : page < length old.pending) (rows : AreExactRows states ready old) where
+  pub rows_pending : new.pending ≡ set old.pending page true → IsBitSet ready ready' class kind page false → IsBitSet old.waiting new.waiting class kind page true → AreExactRows states ready' new
+  rows_pending row left entered = record {
+    exact = subst (AreReady ready' states) (sym row) (ready_pending ready ready' old.waiting new.waiting states old.pending class kind page b is of_class of_kind inside rows.exact left);
+    awaited = subst (AreWaiting new.waiting states) (sym row) (waiting_pending ready ready' old.waiting new.waiting states old.pending class kind page b is of_class of_kind inside rows.awaited entered);
+    size = ap length row ∙ length-set old.pending page true ∙ rows.size;
+    cut = λ p h. cut_entered states old.pending page rows.cut (subst IsCut (sym is) tt) p (subst (λ r. Has r p) row h);
+  }
+
+  left_row : new.pending ≡ set old.pending page false → AreReady ready' states (set old.pending page false) → IsBitSet old.waiting new.waiting class kind page false → AreExactRows states ready' new
+  left_row row exact left = record {
+    exact = subst (AreReady ready' states) (sym row) exact;
+    awaited = subst (AreWaiting new.waiting states) (sym row) (waiting_swept ready ready' old.waiting new.waiting states old.pending class kind page b is of_class of_kind inside rows.awaited left);
+    size = ap length row ∙ length-set old.pending page false ∙ rows.size;
+    cut = λ p h. cut_left states old.pending page rows.cut inside p (subst (λ r. Has r p) row h);
+  }
+
+  pub rows_swept : new.pending ≡ set old.pending page false → IsBitSet ready ready' class kind page true → IsBitSet old.waiting new.waiting class kind page false → (i : ℕ) × IsFirstClearFrom b.taken 0 i → AreExactRows states ready' new
+  rows_swept row entered left cell = left_row row (ready_swept ready ready' old.waiting new.waiting states old.pending class kind page b is of_class of_kind inside rows.exact entered cell) left
+
+  pub rows_full : ready' ≡ ready → new.pending ≡ set old.pending page false → IsBitSet old.waiting new.waiting class kind page false → IsSizeClass class → IsFullRow b.taken → AreExactRows states ready' new
+  rows_full same row left is_class full = left_row row (subst (λ r. AreReady r states (set old.pending page false)) (sym same) (ready_full ready ready old.waiting new.waiting states old.pending class kind page b is of_class of_kind inside is_class rows.exact full)) left

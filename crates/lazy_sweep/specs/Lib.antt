@@ -1,0 +1,6 @@
+pub mod PageRows
+pub mod AvailableRows
+pub mod Store
+pub mod Kept
+pub mod Sweeps
+pub mod Sound

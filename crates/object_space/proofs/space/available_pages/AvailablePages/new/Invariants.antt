@@ -1,6 +1,0 @@
-use Rattle.std.proofs.Common.{◌≡◌, vec_len}
-use Rattle.object_space.proofs.AvailableRows.{AllClear}
-use Rattle.object_space.proofs.space.available_pages.AvailablePages.new.Given as goal
-
-abbrev pub invariant-loop : goal.invariant-loop
-invariant-loop l = (vec_len l.rows ≡ l.counter) × AllClear l.rows.items l.counter l.pages
